@@ -1,6 +1,6 @@
 -- Counts of inodes in worlds with overlays. An overlay uses the directories of its layers, and of its upper layer's
 -- tree the inodes that are its objects: the kernel's overlayfs document, "upper and lower" and "multiple lower layers".
-use Rattle.std.specs.Prelude.{All, List, false, filter_map, flat_map, is_some, nat_eq, not, true, ℕ, ◌+◌, ◌++◌, ◌||◌, ◌≡◌, ◌≢◌}
+use Rattle.std.specs.Prelude.{All, Bool, List, [], false, filter, filter_map, flat_map, is_some, nat_eq, not, true, ℕ, ◌+◌, ◌++◌, ◌||◌, ◌≡◌, ◌≢◌}
 use Rattle.std.specs.List.{list_all}
 use Rattle.vt_spec.specs.FileTree.{FileTree}
 use Rattle.vt_spec.specs.Fits.{Fits}
@@ -60,15 +60,36 @@ UsesAreSweptBesideOverlays =
     → IsCounted (settled nat_eq after) (filesystem_numbered nat_eq (settled nat_eq after) filesystem)
     (exchanged filesystem gained lost inodes)
 
--- Where filesystems come and go, a filesystem that stays gets what those that come use, and loses what those use that
--- go: directories of layers, and upper objects.
-abbrev pub FilesystemsAreUses : Type 0
-FilesystemsAreUses =
+-- Where overlays come and go, and plain filesystems come and go beside them, a filesystem that stays gets what the
+-- overlays use that come, and loses what those use that go: directories of layers, and upper objects.
+abbrev pub OverlaysAreUses : Type 0
+OverlaysAreUses =
     (world after : World ℕ) (gained lost front back : List (Filesystem ℕ)) (filesystem : ℕ)
     → after.mounts ≡ world.mounts → all_locations after ≡ all_locations world
-    → world.filesystems ≡ front ++ (lost ++ back) → after.filesystems ≡ front ++ (gained ++ back)
+    → filter is_overlay world.filesystems ≡ front ++ (lost ++ back)
+    → filter is_overlay after.filesystems ≡ front ++ (gained ++ back)
     → filesystem_numbered nat_eq after filesystem ≡ filesystem_numbered nat_eq world filesystem
     → Exchanges (flat_map used_by_filesystem gained) (flat_map used_by_filesystem lost) filesystem world after
+
+-- So where those go that do not pass a test,
+abbrev pub OverlaysTakeTheirUses : Type 0
+OverlaysTakeTheirUses =
+    (world after : World ℕ) (stays : Filesystem ℕ → Bool) (filesystem : ℕ)
+    → after.mounts ≡ world.mounts → all_locations after ≡ all_locations world
+    → filter is_overlay after.filesystems ≡ filter stays (filter is_overlay world.filesystems)
+    → filesystem_numbered nat_eq after filesystem ≡ filesystem_numbered nat_eq world filesystem
+    → Exchanges []
+    (flat_map used_by_filesystem (filter (λ merged. not (stays merged)) (filter is_overlay world.filesystems)))
+    filesystem world after
+
+-- and where plain filesystems come and go alone, nothing is exchanged.
+abbrev pub PlainOnesUseNothing : Type 0
+PlainOnesUseNothing =
+    (world after : World ℕ) (filesystem : ℕ)
+    → after.mounts ≡ world.mounts → all_locations after ≡ all_locations world
+    → filter is_overlay after.filesystems ≡ filter is_overlay world.filesystems
+    → filesystem_numbered nat_eq after filesystem ≡ filesystem_numbered nat_eq world filesystem
+    → Exchanges [] [] filesystem world after
 
 -- Counts depend neither on change numbers nor on the order of the numbers beside trees, overlays or not.
 abbrev pub AnySameWorldsCountAlike : Type 0

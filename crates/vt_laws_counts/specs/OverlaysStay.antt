@@ -1,6 +1,6 @@
 -- Which filesystems live in a world with overlays, and that the sweep leaves overlays whose inodes all have names: the
 -- kernel's overlayfs document, "multiple lower layers"; umount(2).
-use Rattle.std.specs.Prelude.{All, [], false, filter, flat_map, if◌then◌else◌, nat_eq, nat_lt, true, ℕ, ◌||◌, ◌≡◌}
+use Rattle.std.specs.Prelude.{All, List, [], false, filter, flat_map, if◌then◌else◌, nat_eq, nat_lt, true, ℕ, ◌+◌, ◌++◌, ◌||◌, ◌≡◌}
 use Rattle.vt_spec.specs.Machine.Invariants.{IsWorld}
 use Rattle.vt_spec.specs.Machine.Locked.{of_overlay}
 use Rattle.vt_spec.specs.Machine.Settled.{filesystem_lives, has_layer_on, is_mounted, settled}
@@ -10,17 +10,19 @@ use Rattle.vt_laws_letting_go.specs.Keeping.{has_only_named}
 use Rattle.vt_laws_letting_go.specs.OneByOne.{let_go_filesystem, without_filesystem}
 use Rattle.vt_laws_letting_go.specs.TreesOverlays.{in_use_of}
 
--- how many layers overlays have in a filesystem,
-abbrev pub layer_count : World ℕ → ℕ → ℕ
-layer_count world number =
-    times (λ layer. nat_eq number layer.filesystem) (flat_map (of_overlay [] layers_of) world.filesystems)
+-- how many layers some overlays have in a filesystem,
+abbrev pub layers_among : ℕ → List (Filesystem ℕ) → ℕ
+layers_among number overlays =
+    times (λ layer. nat_eq number layer.filesystem) (flat_map (of_overlay [] layers_of) overlays)
 
--- and how many of them are of overlays that are mounted
+-- how many all have there,
+abbrev pub layer_count : World ℕ → ℕ → ℕ
+layer_count world number = layers_among number world.filesystems
+
+-- and how many those have that are mounted
 abbrev pub mounted_layer_count : World ℕ → ℕ → ℕ
 mounted_layer_count world number =
-    times (λ layer. nat_eq number layer.filesystem)
-    (flat_map (of_overlay [] layers_of)
-    (filter (λ merged. is_mounted nat_eq world merged.number) world.filesystems))
+    layers_among number (filter (λ merged. is_mounted nat_eq world merged.number) world.filesystems)
 
 -- A filesystem lives while mounts show it, or mounted overlays have layers in it.
 abbrev pub LivesWhileCounted : Type 0
@@ -64,6 +66,22 @@ abbrev pub AllLayersAreMounted : Type 0
 AllLayersAreMounted =
     (world : World ℕ) (number : ℕ) → IsWorld nat_eq world
     → mounted_layer_count world number ≡ layer_count world number
+
+-- Overlays that come and go are as many layers more and less,
+abbrev pub OverlaysUseFilesystems : Type 0
+OverlaysUseFilesystems =
+    (world after : World ℕ) (gained lost front back : List (Filesystem ℕ)) (number : ℕ)
+    → filter is_overlay world.filesystems ≡ front ++ (lost ++ back)
+    → filter is_overlay after.filesystems ≡ front ++ (gained ++ back)
+    → layer_count world number + layers_among number gained ≡ layer_count after number + layers_among number lost
+
+-- and where those are left that are mounted, their layers are the layers of mounted overlays.
+abbrev pub LayersLeftAreMounted : Type 0
+LayersLeftAreMounted =
+    (world after : World ℕ) (number : ℕ)
+    → filter is_overlay after.filesystems
+    ≡ filter (λ merged. is_mounted nat_eq world merged.number) (filter is_overlay world.filesystems)
+    → layer_count after number ≡ mounted_layer_count world number
 
 -- each inode of each overlay is the root, or has a name: without an upper layer none loses its name
 abbrev pub OverlaysAreNamed : World ℕ → Type 0

@@ -1,7 +1,7 @@
 //! Counts in worlds with overlays: inodes of plain trees beside overlays, filesystems in which overlays have layers,
 //! and overlays that stay.
-ghost use Rattle.vt_laws_counts.specs.BesideOverlays.{AnySameWorldsCountAlike, CountedChangesAreSweptBesideOverlays, CountsFollowChangesBesideOverlays, FilesystemsAreUses, NamesKeepAllBesideOverlays, NewTreeIsCountedBesideOverlays, NoUpperIsInAny, OnlyFilesChangeBesideOverlays, OtherCountsStayBesideOverlays, UsesAreExchangedBesideOverlays, UsesAreSweptBesideOverlays};
-ghost use Rattle.vt_laws_counts.specs.OverlaysStay.{AllLayersAreMounted, FilesystemGoesAtZeroBesideOverlays, LivesWhileCounted, LivesWhileMounted, NamedOverlayStays, NamedOverlaysStay, OverlaysAreMounted, OverlaysAreNoLayers};
+ghost use Rattle.vt_laws_counts.specs.BesideOverlays.{AnySameWorldsCountAlike, CountedChangesAreSweptBesideOverlays, CountsFollowChangesBesideOverlays, NamesKeepAllBesideOverlays, NewTreeIsCountedBesideOverlays, NoUpperIsInAny, OnlyFilesChangeBesideOverlays, OtherCountsStayBesideOverlays, OverlaysAreUses, OverlaysTakeTheirUses, PlainOnesUseNothing, UsesAreExchangedBesideOverlays, UsesAreSweptBesideOverlays};
+ghost use Rattle.vt_laws_counts.specs.OverlaysStay.{AllLayersAreMounted, FilesystemGoesAtZeroBesideOverlays, LayersLeftAreMounted, LivesWhileCounted, LivesWhileMounted, NamedOverlayStays, NamedOverlaysStay, OverlaysAreMounted, OverlaysAreNoLayers, OverlaysUseFilesystems};
 
 /// `uses_are_exchanged` in a world with overlays, of a filesystem in which none has its upper layer afterwards
 /// (`one_by_one`, `swept`). Where no overlay has an upper layer, none has one in any filesystem (`none`).
@@ -11,10 +11,20 @@ pub fn uses_are_exchanged_beside_overlays()
     ensures none { NoUpperIsInAny }
 {}
 
-/// Where filesystems come and go, and mounts and locations are the same, a filesystem that stays gets the uses of those
-/// that come, and loses the uses of those that go: directories of layers, and upper objects.
-pub fn filesystems_are_uses()
-    ensures { FilesystemsAreUses }
+/// Where overlays come and go, and mounts and locations are the same, a filesystem that stays gets the uses of those
+/// that come, and loses the uses of those that go (`lists`): directories of layers, and upper objects. So where those
+/// go that do not pass a `test`. Where `plain` filesystems come and go alone, nothing is exchanged.
+pub fn overlays_are_uses()
+    ensures lists { OverlaysAreUses }
+    ensures test { OverlaysTakeTheirUses }
+    ensures plain { PlainOnesUseNothing }
+{}
+
+/// Overlays that come and go are as many layers more and less in the counts of layers (`layers`). Where those are left
+/// that are mounted, that is the count of layers that mounted overlays had (`left`).
+pub fn overlays_count_as_layers()
+    ensures layers { OverlaysUseFilesystems }
+    ensures left { LayersLeftAreMounted }
 {}
 
 /// `changes_are_counted` and `counted_inodes_are_the_world` of a plain filesystem, in every world, overlays or not

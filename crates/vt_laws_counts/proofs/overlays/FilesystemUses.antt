@@ -1,5 +1,5 @@
 -- What filesystems use: directories of layers, and upper objects.
-use Rattle.std.proofs.Common.{◌≡◌, refl, sym, ap, ◌∙◌, ℕ, ◌+◌, nat_eq, Bool, true, false, true≢false, cond, ◌&&◌, List, [], ◌∷◌, ◌++◌, map, filter, flat_map, Option, Some, None, is_some, arith}
+use Rattle.std.proofs.Common.{◌≡◌, refl, sym, ap, ◌∙◌, ℕ, ◌+◌, nat_eq, Bool, true, false, true≢false, cond, not, ◌&&◌, List, [], ◌∷◌, ◌++◌, map, filter, flat_map, Option, Some, None, is_some, arith}
 use Rattle.std.specs.Prelude.{All, filter_map, option_to_list}
 use Rattle.std.specs.List.{cons_option, list_any}
 use Rattle.std.proofs.lemmas.Bool.{or_parts}
@@ -7,19 +7,19 @@ use Rattle.vt_spec.specs.Lists.{holds_of}
 use Rattle.vt_spec.specs.Machine.Locked.{of_overlay, overlay_or}
 use Rattle.vt_spec.specs.Machine.Mounts.{root_of}
 use Rattle.vt_spec.specs.Machine.Settled.{has_layer_on, layers_in, located_in, named_in, objects_of_overlay}
-use Rattle.vt_spec.specs.Machine.World.{Filesystem, Layer, Overlay, World, filesystem_numbered, layers_of, upper_object}
+use Rattle.vt_spec.specs.Machine.World.{Filesystem, Layer, Overlay, World, all_locations, filesystem_numbered, is_overlay, layers_of, upper_object}
 use Rattle.vt_spec.proofs.Lists.{filter_none}
 use Rattle.vt_laws_letting_go.specs.Counts.{inode_uses, times}
 use Rattle.vt_laws_letting_go.specs.InUse.{has_upper_in}
 use Rattle.vt_laws_letting_go.specs.OneByOne.{Inode}
 use Rattle.vt_laws_letting_go.specs.Overlays.{uppers_in, used_by_filesystem}
-use Rattle.vt_laws_letting_go.proofs.Lists.{all_from_among, among-from_flat_map, among_from_all, fails, none_passes}
+use Rattle.vt_laws_letting_go.proofs.Lists.{all_from_among, among-from_flat_map, among_from_all, fails, flat_map-filter, flat_map_none, none_passes}
 use Rattle.vt_laws_letting_go.proofs.sweeps.InUse.{layers_on}
 use Rattle.vt_laws_letting_go.proofs.sweeps.UpperUses.{times_append}
 use Rattle.vt_laws_counts.proofs.counting.Entries.{one_if}
 use Rattle.vt_laws_counts.proofs.counting.Times.{times_in}
-use Rattle.vt_laws_counts.specs.BesideOverlays.{FilesystemsAreUses, HasNoUpperIn, NewTreeIsCountedBesideOverlays, NoUpperIsInAny}
-use Rattle.vt_laws_counts.specs.Using.{is_inode}
+use Rattle.vt_laws_counts.specs.BesideOverlays.{HasNoUpperIn, NewTreeIsCountedBesideOverlays, NoUpperIsInAny, OverlaysAreUses, OverlaysTakeTheirUses, PlainOnesUseNothing}
+use Rattle.vt_laws_counts.specs.Using.{Exchanges, is_inode}
 use Rattle.vt_laws_counts.proofs.using.Places.{count_in, new_tree_counts}
 use Rattle.vt_laws_counts.proofs.using.Swept.{found_number, no_objects_in, uses_split}
 
@@ -203,8 +203,35 @@ module _ (k n : ℕ) where
       let two = times_append (is_inode k n) (used_by_filesystem first) (flat_map used_by_filesystem rest) in
       omega arith
 
-pub filesystems_are_uses : FilesystemsAreUses
-filesystems_are_uses world after gained lost front back k mounts locations were are same = record {
+-- What overlays use is all that filesystems use.
+plain_use_none : (g : Filesystem ℕ) → is_overlay g ≡ false → used_by_filesystem g ≡ []
+plain_use_none g e =
+    (λ i. map (λ (layer : Layer ℕ). (layer.filesystem, layer.directory)) (layers g.overlay e i)
+    ++ flat_map (λ number. objects g.overlay e number i) g.files.numbers)
+    ∙ flat_map_none (λ (number : ℕ). []) g.files.numbers (λ number m. refl)
+  where
+    layers : (o : Option (Overlay ℕ)) → is_some o ≡ false → overlay_or [] layers_of o ≡ []
+    layers None h = refl
+    layers (Some overlay) h = absurd (true≢false h)
+
+    objects : (o : Option (Overlay ℕ)) → is_some o ≡ false → (number : ℕ) → overlay_or [] (uppers_in number) o ≡ []
+    objects None h number = refl
+    objects (Some overlay) h number = absurd (true≢false h)
+
+used_by_overlays : (list : List (Filesystem ℕ))
+    → flat_map used_by_filesystem (filter is_overlay list) ≡ flat_map used_by_filesystem list
+used_by_overlays list = flat_map-filter is_overlay used_by_filesystem list plain_use_none
+
+-- Where overlays come and go, by the uses that all have
+exchanged_by : (world after : World ℕ) (gained lost : List Inode) (k : ℕ)
+    → after.mounts ≡ world.mounts → all_locations after ≡ all_locations world
+    → ((n : ℕ) → times (is_inode k n) (flat_map used_by_filesystem (filter is_overlay world.filesystems))
+    + times (is_inode k n) gained
+    ≡ times (is_inode k n) (flat_map used_by_filesystem (filter is_overlay after.filesystems))
+    + times (is_inode k n) lost)
+    → filesystem_numbered nat_eq after k ≡ filesystem_numbered nat_eq world k
+    → Exchanges gained lost k world after
+exchanged_by world after gained lost k mounts locations exchange same = record {
   same = same;
   uses = λ n.
       let now : inode_uses after (filesystem_numbered nat_eq after k) n ≡ inode_uses after f n =
@@ -213,10 +240,12 @@ filesystems_are_uses world after gained lost front back k mounts locations were 
       let two = split after n in
       let here : located after n ≡ located world n = (λ i. count_in (mounts i) f.number n
       (locations i ++ map root_of (mounts i) ++ filter_map (λ mount. mount.mount_point) (mounts i))) in
-      let before : used world n ≡ used_by (front ++ (lost ++ back)) n = ap (λ l. used_by l n) were in
-      let then : used after n ≡ used_by (front ++ (gained ++ back)) n = ap (λ l. used_by l n) are in
-      let a = taken_apart k n front (lost ++ back) in let b = taken_apart k n lost back in
-      let c = taken_apart k n front (gained ++ back) in let d = taken_apart k n gained back in
+      let before : used world n ≡ used_by (filter is_overlay world.filesystems) n =
+      ap (times (is_inode k n)) (sym (used_by_overlays world.filesystems)) in
+      let then : used after n ≡ used_by (filter is_overlay after.filesystems) n =
+      ap (times (is_inode k n)) (sym (used_by_overlays after.filesystems)) in
+      let all : used_by (filter is_overlay world.filesystems) n + times (is_inode k n) gained
+      ≡ used_by (filter is_overlay after.filesystems) n + times (is_inode k n) lost = exchange n in
       omega arith;
 }
   where
@@ -245,6 +274,70 @@ filesystems_are_uses world after gained lost front back k mounts locations were 
         ap (λ m. times_in n (flat_map (objects_of_overlay nat_eq m) some.filesystems))
         (found_number world.filesystems k) in
         omega arith
+
+pub overlays_are_uses : OverlaysAreUses
+overlays_are_uses world after gained lost front back k mounts locations were are same =
+    exchanged_by world after (flat_map used_by_filesystem gained) (flat_map used_by_filesystem lost) k mounts locations
+    (λ n.
+    let before : used n (filter is_overlay world.filesystems) ≡ used n (front ++ (lost ++ back)) =
+    ap (used n) were in
+    let then : used n (filter is_overlay after.filesystems) ≡ used n (front ++ (gained ++ back)) = ap (used n) are in
+    let a = taken_apart k n front (lost ++ back) in let b = taken_apart k n lost back in
+    let c = taken_apart k n front (gained ++ back) in let d = taken_apart k n gained back in
+    omega arith)
+    same
+  where
+    used : ℕ → List (Filesystem ℕ) → ℕ
+    used n list = times (is_inode k n) (flat_map used_by_filesystem list)
+
+pub overlays_take_their_uses : OverlaysTakeTheirUses
+overlays_take_their_uses world after stays k mounts locations are same =
+    exchanged_by world after []
+    (flat_map used_by_filesystem (filter (λ merged. not (stays merged)) (filter is_overlay world.filesystems))) k mounts
+    locations
+    (λ n.
+    let then : used n (filter is_overlay after.filesystems)
+    ≡ used n (filter stays (filter is_overlay world.filesystems)) = ap (used n) are in
+    let all = both n (filter is_overlay world.filesystems) in
+    let none : times (is_inode k n) [] ≡ 0 = refl in
+    omega arith)
+    same
+  where
+    used : ℕ → List (Filesystem ℕ) → ℕ
+    used n list = times (is_inode k n) (flat_map used_by_filesystem list)
+
+    -- what stays and what goes uses what all use
+    both : (n : ℕ) (list : List (Filesystem ℕ))
+        → used n list ≡ used n (filter stays list) + used n (filter (λ merged. not (stays merged)) list)
+    both n [] = refl
+    both n (first ∷ rest) =
+        times_append (is_inode k n) (used_by_filesystem first) (flat_map used_by_filesystem rest)
+        ∙ by (stays first) (both n rest)
+      where
+        by : (b : Bool)
+            → used n rest ≡ used n (filter stays rest) + used n (filter (λ merged. not (stays merged)) rest)
+            → times (is_inode k n) (used_by_filesystem first) + used n rest
+            ≡ used n (cond b (first ∷ filter stays rest) (filter stays rest))
+            + used n (cond (not b) (first ∷ filter (λ merged. not (stays merged)) rest)
+            (filter (λ merged. not (stays merged)) rest))
+        by true later =
+            let e = later in
+            let here : used n (first ∷ filter stays rest)
+            ≡ times (is_inode k n) (used_by_filesystem first) + used n (filter stays rest) =
+            times_append (is_inode k n) (used_by_filesystem first) (flat_map used_by_filesystem (filter stays rest)) in
+            omega arith
+        by false later =
+            let e = later in
+            let here : used n (first ∷ filter (λ merged. not (stays merged)) rest)
+            ≡ times (is_inode k n) (used_by_filesystem first) + used n (filter (λ merged. not (stays merged)) rest) =
+            times_append (is_inode k n) (used_by_filesystem first)
+            (flat_map used_by_filesystem (filter (λ merged. not (stays merged)) rest)) in
+            omega arith
+
+pub plain_ones_use_nothing : PlainOnesUseNothing
+plain_ones_use_nothing world after k mounts locations are same =
+    exchanged_by world after [] [] k mounts locations
+    (λ n. ap (λ l. times (is_inode k n) (flat_map used_by_filesystem l) + 0) (sym are)) same
 
 pub new_tree_is_counted_beside_overlays : NewTreeIsCountedBesideOverlays
 new_tree_is_counted_beside_overlays world number root apart one own outside =

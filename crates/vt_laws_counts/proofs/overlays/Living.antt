@@ -1,5 +1,5 @@
 -- Which filesystems live, overlays among them.
-use Rattle.std.proofs.Common.{◌≡◌, refl, sym, ap, ◌∙◌, ⊎_elim, inl, inr, ℕ, nat_eq, nat_lt, eqb-true, Bool, true, false, true≢false, cond, not, ◌&&◌, ◌||◌, List, [], ◌∷◌, ◌++◌, filter, flat_map, Option, Some, None, is_some}
+use Rattle.std.proofs.Common.{◌≡◌, refl, sym, ap, ◌∙◌, ⊎_elim, inl, inr, ℕ, ◌+◌, nat_eq, nat_lt, eqb-true, Bool, true, false, true≢false, cond, not, ◌&&◌, ◌||◌, List, [], ◌∷◌, ◌++◌, filter, flat_map, Option, Some, None, is_some, arith}
 use Rattle.std.specs.List.{list_all, list_any}
 use Rattle.std.proofs.lemmas.Bool.{and_parts, not-true, or_cases}
 use Rattle.std.proofs.lemmas.List.Folds.{list_any-append}
@@ -10,12 +10,13 @@ use Rattle.vt_spec.specs.Machine.Settled.{filesystem_lives, has_layer_on, is_mou
 use Rattle.vt_spec.specs.Machine.World.{Filesystem, Layer, Overlay, World, filesystem_numbered, is_overlay, layers_of}
 use Rattle.vt_laws_letting_go.specs.Counts.{times}
 use Rattle.vt_laws_letting_go.specs.OneByOne.{without_filesystem}
-use Rattle.vt_laws_letting_go.proofs.Lists.{Among, all_from_among, any_counted, among_from_all, none_passes, passes}
+use Rattle.vt_laws_letting_go.proofs.Lists.{Among, all_from_among, any_counted, among_from_all, flat_map-filter, none_passes, passes}
 use Rattle.vt_laws_letting_go.proofs.sweeps.InUse.{layers_on}
 use Rattle.vt_laws_letting_go.proofs.sweeps.LookedUp.{filesystem_is_looked_up}
 use Rattle.vt_laws_letting_go.proofs.sweeps.OfWorlds.{all_in_use, found_filesystem}
+use Rattle.vt_laws_letting_go.proofs.sweeps.UpperUses.{times_append}
 use Rattle.vt_laws_letting_go.proofs.sweeps.UsesCounted.{mounted_while_counted}
-use Rattle.vt_laws_counts.specs.OverlaysStay.{AllLayersAreMounted, FilesystemGoesAtZeroBesideOverlays, HasNoLayerIn, LivesWhileCounted, LivesWhileMounted, OverlaysAreMounted, OverlaysAreNoLayers, mounted_layer_count}
+use Rattle.vt_laws_counts.specs.OverlaysStay.{AllLayersAreMounted, FilesystemGoesAtZeroBesideOverlays, HasNoLayerIn, LayersLeftAreMounted, LivesWhileCounted, LivesWhileMounted, OverlaysAreMounted, OverlaysAreNoLayers, OverlaysUseFilesystems, layer_count, layers_among, mounted_layer_count}
 
 module _ (world : World ℕ) (number : ℕ) where
   abbrev is_there : Layer ℕ → Bool
@@ -156,3 +157,74 @@ all_layers_are_mounted world number is =
         by false e later =
             later ∙ ap (λ l. l ++ flat_map (of_overlay [] layers_of) rest)
             (sym (no_layers first.overlay (plain (is_overlay first) refl e)))
+
+-- Layers are of overlays.
+
+no_layers_of_plain : (g : Filesystem ℕ) → is_overlay g ≡ false → of_overlay [] layers_of g ≡ []
+no_layers_of_plain g e = by g.overlay e
+  where
+    by : (o : Option (Overlay ℕ)) → is_some o ≡ false → overlay_or [] layers_of o ≡ []
+    by None h = refl
+    by (Some overlay) h = absurd (true≢false h)
+
+of_overlays : (number : ℕ) (list : List (Filesystem ℕ))
+    → layers_among number (filter is_overlay list) ≡ layers_among number list
+of_overlays number list =
+    ap (times (λ (layer : Layer ℕ). nat_eq number layer.filesystem))
+    (flat_map-filter is_overlay (of_overlay [] layers_of) list no_layers_of_plain)
+
+among_both : (number : ℕ) (one other : List (Filesystem ℕ))
+    → layers_among number (one ++ other) ≡ layers_among number one + layers_among number other
+among_both number [] other = omega arith
+among_both number (first ∷ rest) other =
+    let later = among_both number rest other in
+    let a = times_append (λ (layer : Layer ℕ). nat_eq number layer.filesystem) (of_overlay [] layers_of first)
+    (flat_map (of_overlay [] layers_of) (rest ++ other)) in
+    let b = times_append (λ (layer : Layer ℕ). nat_eq number layer.filesystem) (of_overlay [] layers_of first)
+    (flat_map (of_overlay [] layers_of) rest) in
+    omega arith
+
+pub overlays_use_filesystems : OverlaysUseFilesystems
+overlays_use_filesystems world after gained lost front back number were are =
+    let before : layer_count world number ≡ layers_among number (front ++ (lost ++ back)) =
+    sym (of_overlays number world.filesystems) ∙ ap (layers_among number) were in
+    let then : layer_count after number ≡ layers_among number (front ++ (gained ++ back)) =
+    sym (of_overlays number after.filesystems) ∙ ap (layers_among number) are in
+    let a = among_both number front (lost ++ back) in let b = among_both number lost back in
+    let c = among_both number front (gained ++ back) in let d = among_both number gained back in
+    omega arith
+
+pub layers_left_are_mounted : LayersLeftAreMounted
+layers_left_are_mounted world after number are =
+    sym (of_overlays number after.filesystems)
+    ∙ ap (layers_among number) are
+    ∙ ap (layers_among number) (turned world.filesystems)
+    ∙ of_overlays number (filter mounted world.filesystems)
+  where
+    mounted : Filesystem ℕ → Bool
+    mounted merged = is_mounted nat_eq world merged.number
+
+    turned : (list : List (Filesystem ℕ))
+        → filter mounted (filter is_overlay list) ≡ filter is_overlay (filter mounted list)
+    turned [] = refl
+    turned (first ∷ rest) = by (is_overlay first) (mounted first) refl refl (turned rest)
+      where
+        by : (a b : Bool) → is_overlay first ≡ a → mounted first ≡ b
+            → filter mounted (filter is_overlay rest) ≡ filter is_overlay (filter mounted rest)
+            → filter mounted (cond a (first ∷ filter is_overlay rest) (filter is_overlay rest))
+            ≡ filter is_overlay (cond b (first ∷ filter mounted rest) (filter mounted rest))
+        by true true e f later =
+            ap (λ x. cond x (first ∷ filter mounted (filter is_overlay rest))
+            (filter mounted (filter is_overlay rest))) f
+            ∙ ap (λ l. first ∷ l) later
+            ∙ sym (ap (λ x. cond x (first ∷ filter is_overlay (filter mounted rest))
+            (filter is_overlay (filter mounted rest))) e)
+        by true false e f later =
+            ap (λ x. cond x (first ∷ filter mounted (filter is_overlay rest))
+            (filter mounted (filter is_overlay rest))) f
+            ∙ later
+        by false true e f later =
+            later
+            ∙ sym (ap (λ x. cond x (first ∷ filter is_overlay (filter mounted rest))
+            (filter is_overlay (filter mounted rest))) e)
+        by false false e f later = later
