@@ -1,15 +1,16 @@
 -- The world that a permit leaves where no overlay has an upper layer.
-use Rattle.std.specs.Prelude.{nat_eq, ℕ}
+use Rattle.std.specs.Prelude.{Some, nat_eq, true, ℕ, ◌≡◌}
 use Rattle.vt_spec.specs.Lists.{Fresh}
 use Rattle.vt_spec.specs.Machine.Apply.{apply}
 use Rattle.vt_spec.specs.Machine.Invariants.{IsWorld, OverlayInvariants}
 use Rattle.vt_spec.specs.Machine.Permits.{Permit}
 use Rattle.vt_spec.specs.Machine.SameWorlds.{SameWorlds}
-use Rattle.vt_spec.specs.Machine.World.{Task, World}
+use Rattle.vt_spec.specs.Machine.World.{Overlay, Task, World, filesystem_numbered, is_overlay}
 use Rattle.vt_laws_worlds.specs.Worlds.Kept.{IsUnderWay}
 use Rattle.vt_laws_counts.specs.BesideOverlays.{OverlaysHaveNoUpper}
 use Rattle.vt_laws_counts.specs.OverlaysStay.{OverlaysAreNamed}
 use Rattle.vt_laws_permits.specs.Left.{IsGiven, left_by}
+use Rattle.vt_laws_overlay_permits.specs.LockedOverScripts.{LowersStay}
 
 -- The permit that a call other than the mount of an overlay is given leaves a world in which none has one,
 abbrev pub GivenPermitsGiveNoUpper : Type 0
@@ -41,3 +42,13 @@ SameGivesNoUpper =
     (world : World ℕ) (fresh : Fresh ℕ) (task : Task ℕ) (permit : Permit ℕ) (other : World ℕ)
     → IsWorld nat_eq world → OverlaysHaveNoUpper world → IsGiven fresh world task permit
     → SameWorlds (left_by fresh world task permit) other → IsWorld nat_eq other × OverlaysHaveNoUpper other
+
+-- An overlay that is left, with an upper layer or without, has the layers that it had. Every path leads from each lower
+-- layer's directory where it led, to what is as it was.
+abbrev pub GivenPermitsLeaveLowers : Type 0
+GivenPermitsLeaveLowers =
+    (world : World ℕ) (fresh : Fresh ℕ) (task : Task ℕ) (permit : Permit ℕ) (number : ℕ) (overlay : Overlay ℕ)
+    → IsWorld nat_eq world → IsGiven fresh world task permit
+    → (filesystem_numbered nat_eq world number).overlay ≡ Some overlay
+    → is_overlay (filesystem_numbered nat_eq (left_by fresh world task permit) number) ≡ true
+    → LowersStay world (left_by fresh world task permit) number overlay
