@@ -1,3 +1,4 @@
 -- What the proofs of src/kept.rt use.
 pub mod OverlaysLeft
 pub mod OverlaysSwept
+pub mod TreesStay

@@ -1,12 +1,15 @@
 //! What permits and the sweep leave of overlays.
-ghost use Rattle.vt_laws_overlays_stay.specs.Kept.{MountedOverlaysStay, PermitsLeaveOverlays, PlainWorldsHaveNoOverlays, SameWorldsHaveNoUpperAlike, SweepsGiveNoUpper, SweepsKeepNames};
+ghost use Rattle.vt_laws_overlays_stay.specs.Kept.{MountedOverlayStays, MountedOverlaysStay, PermitsLeaveOverlays, PlainWorldsHaveNoOverlays, SameWorldsHaveNoUpperAlike, SeenTreesStay, SweepsGiveNoUpper, SweepsKeepNames};
 
 /// A permit that is given in a world with all invariants, in which no overlay has an upper layer, leaves all overlays
 /// as they were, in their order (`unswept`). After the sweep those are left that are `mounted`, as they were, if all
-/// their inodes have names.
+/// their inodes have names; so each that is left (`one`). Its tree and its real objects are then found along the paths
+/// of its layers as they were (`seen`).
 pub fn overlays_without_an_upper_layer_stay()
     ensures unswept { PermitsLeaveOverlays }
     ensures mounted { MountedOverlaysStay }
+    ensures one { MountedOverlayStays }
+    ensures seen { SeenTreesStay }
 {}
 
 /// The sweep gives no overlay an upper layer (`upper`), and leaves none an inode without a name, if none had one
