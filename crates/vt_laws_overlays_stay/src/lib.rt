@@ -13,3 +13,4 @@
 pub mod in_use;
 pub mod kept;
 pub mod left;
+pub mod named;
