@@ -1,5 +1,5 @@
 //! What permits and the sweep leave of overlays.
-ghost use Rattle.vt_laws_overlays_stay.specs.Kept.{MountedOverlayStays, MountedOverlaysStay, PermitsLeaveOverlays, PlainWorldsHaveNoOverlays, SameWorldsHaveNoUpperAlike, SeenTreesStay, SweepsGiveNoUpper, SweepsKeepNames};
+ghost use Rattle.vt_laws_overlays_stay.specs.Kept.{MountedOverlayStays, MountedOverlaysStay, NumbersRiseStill, PermitsLeaveOverlays, PlainWorldsHaveNoOverlays, SameWorldsHaveNoUpperAlike, SeenTreesStay, SweepsGiveNoUpper, SweepsKeepNames};
 
 /// A permit that is given in a world with all invariants, in which no overlay has an upper layer, leaves all overlays
 /// as they were, in their order (`unswept`). After the sweep those are left that are `mounted`, as they were, if all
@@ -10,6 +10,12 @@ pub fn overlays_without_an_upper_layer_stay()
     ensures mounted { MountedOverlaysStay }
     ensures one { MountedOverlayStays }
     ensures seen { SeenTreesStay }
+{}
+
+/// Where the numbers of filesystems rise in the order of their list, whatever overlays there are, they rise after a
+/// permit, before the sweep and after it. The number that a new filesystem would get is greater than all.
+pub fn numbers_of_filesystems_rise_still()
+    ensures { NumbersRiseStill }
 {}
 
 /// The sweep gives no overlay an upper layer (`upper`), and leaves none an inode without a name, if none had one

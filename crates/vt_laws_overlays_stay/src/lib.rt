@@ -14,3 +14,4 @@ pub mod in_use;
 pub mod kept;
 pub mod left;
 pub mod named;
+pub mod weaving;

@@ -1,0 +1,2 @@
+-- What the proofs of src/weaving.rt use.
+pub mod WovenLists
