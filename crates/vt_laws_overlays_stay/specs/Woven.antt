@@ -1,8 +1,16 @@
 -- Filesystems in the order of their numbers, of which plain ones and overlays are kept apart: the two lists are woven.
 use Rattle.std.specs.Prelude.{All, Bool, List, [], false, filter, find, if◌then◌else◌, nat_eq, nat_lt, not, true, ℕ, ◌&&◌, ◌∷◌, ◌≡◌}
 use Rattle.std.specs.List.{list_all}
+use Rattle.vt_spec.specs.Lists.{Fresh}
+use Rattle.vt_spec.specs.Machine.Invariants.{IsWorld}
+use Rattle.vt_spec.specs.Machine.NewMounts.{plain_filesystem}
+use Rattle.vt_spec.specs.Machine.Permits.{Permit}
 use Rattle.vt_spec.specs.Machine.SameWorlds.{SameFilesystems}
-use Rattle.vt_spec.specs.Machine.World.{Filesystem}
+use Rattle.vt_spec.specs.Machine.Settled.{is_mounted}
+use Rattle.vt_spec.specs.Machine.World.{Filesystem, Task, World, is_overlay}
+use Rattle.vt_laws_counts.specs.BesideOverlays.{OverlaysHaveNoUpper}
+use Rattle.vt_laws_counts.specs.OverlaysStay.{OverlaysAreNamed}
+use Rattle.vt_laws_permits.specs.Left.{IsGiven, left_by}
 
 -- a filesystem put in before the first one whose number is not smaller
 abbrev pub put_in : Filesystem ℕ → List (Filesystem ℕ) → List (Filesystem ℕ)
@@ -68,3 +76,16 @@ PlainOnesAreFound =
     → All (λ filesystem. nat_eq number filesystem.number ≡ false) overlays
     → find (λ filesystem. nat_eq number filesystem.number) (woven plain overlays)
     ≡ find (λ filesystem. nat_eq number filesystem.number) plain
+
+-- A world whose filesystems are plain ones and overlays, woven, none of which has an upper layer or an inode without a
+-- name: what a given permit leaves is woven of the plain ones that are left and of the overlays that are mounted.
+abbrev pub LeftWorldsAreWoven : Type 0
+LeftWorldsAreWoven =
+    (world : World ℕ) (fresh : Fresh ℕ) (task : Task ℕ) (permit : Permit ℕ) (plain overlays : List (Filesystem ℕ))
+    → IsWorld nat_eq world → OverlaysHaveNoUpper world → OverlaysAreNamed world → IsGiven fresh world task permit
+    → world.filesystems ≡ woven plain overlays → ArePartedBy is_overlay plain overlays
+    → are_rising overlays ≡ true → are_rising (woven plain overlays) ≡ true
+    → list_all (λ filesystem. nat_lt filesystem.number (plain_filesystem nat_eq fresh).number) world.filesystems ≡ true
+    → (left_by fresh world task permit).filesystems
+    ≡ woven (filter (λ filesystem. not (is_overlay filesystem)) (left_by fresh world task permit).filesystems)
+    (filter (λ merged. is_mounted nat_eq (left_by fresh world task permit) merged.number) overlays)

@@ -5,6 +5,7 @@
 //! |---|---|
 //! | no upper layer (`OverlaysHaveNoUpper`) | no overlay of the world has one; so each is read-only (the kernel's overlayfs document, "multiple lower layers") |
 //! | named (`OverlaysAreNamed`) | each inode of each overlay is the root, or has a name |
+//! | woven (`woven`) | plain filesystems and overlays that are kept apart, put together in the order of their numbers |
 //! | given (`IsGiven`) | a call of a task that exists, other than the mount of an overlay, is given the permit; the numbers handed in are unused |
 //!
 //! Each public function is a theorem of the written policy, and does nothing.

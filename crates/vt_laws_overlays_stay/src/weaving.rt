@@ -1,5 +1,5 @@
 //! Plain filesystems and overlays that are kept apart, woven by their numbers.
-ghost use Rattle.vt_laws_overlays_stay.specs.Woven.{PlainOnesAreFound, RisingListsAreWoven, WovenListsAreAlike, WovenListsAreFailing, WovenListsAreFiltered, WovenListsArePassing, WovenListsPassAll};
+ghost use Rattle.vt_laws_overlays_stay.specs.Woven.{LeftWorldsAreWoven, PlainOnesAreFound, RisingListsAreWoven, WovenListsAreAlike, WovenListsAreFailing, WovenListsAreFiltered, WovenListsArePassing, WovenListsPassAll};
 
 /// A list whose numbers rise, taken apart by a test, is woven again (`rising`). Two lists that are woven are taken
 /// apart by a test that the one passes (`passing`) and the other fails (`failing`); the numbers of the one that passes
@@ -17,4 +17,11 @@ pub fn woven_lists_have_both()
     ensures all { WovenListsPassAll }
     ensures alike { WovenListsAreAlike }
     ensures found { PlainOnesAreFound }
+{}
+
+/// In a world with all invariants, whose filesystems are plain ones and overlays, woven by rising numbers, a permit
+/// leaves the plain ones that are left and the overlays that are mounted, woven. No overlay has an upper layer or an
+/// inode without a name, and the number that a new filesystem would get is greater than all.
+pub fn worlds_that_are_left_are_woven()
+    ensures { LeftWorldsAreWoven }
 {}
