@@ -1,11 +1,9 @@
 -- A permit leaves overlays without an upper layer as they are: such an overlay is read-only (the kernel's overlayfs
 -- document, "multiple lower layers").
-use Rattle.std.specs.Prelude.{Option, Some, filter, nat_eq, nat_lt, true, ℕ, ◌≡◌}
-use Rattle.std.specs.List.{list_all}
+use Rattle.std.specs.Prelude.{Option, Some, filter, nat_eq, true, ℕ, ◌≡◌}
 use Rattle.vt_spec.specs.Lists.{Fresh}
 use Rattle.vt_spec.specs.Machine.Apply.{apply}
 use Rattle.vt_spec.specs.Machine.Invariants.{IsWorld}
-use Rattle.vt_spec.specs.Machine.NewMounts.{plain_filesystem}
 use Rattle.vt_spec.specs.Machine.Permits.{Permit}
 use Rattle.vt_spec.specs.Machine.SameWorlds.{SameWorlds}
 use Rattle.vt_spec.specs.Machine.Settled.{is_mounted, settled}
@@ -15,6 +13,7 @@ use Rattle.vt_laws_counts.specs.BesideOverlays.{OverlaysHaveNoUpper}
 use Rattle.vt_laws_counts.specs.OverlaysStay.{OverlaysAreNamed}
 use Rattle.vt_laws_merging.specs.MergedTrees.{IsNamedBy}
 use Rattle.vt_laws_permits.specs.Left.{IsGiven, left_by}
+use Rattle.vt_laws_overlays_stay.specs.Left.{MakesTheGreatest}
 use Rattle.vt_laws_overlays_stay.specs.Woven.{are_rising}
 use Rattle.vt_laws_seen.specs.TreesSeen.{AreNoLarger, real_seen, tree_seen}
 
@@ -59,13 +58,11 @@ SeenTreesStay =
     × (real_seen another other longer (left_by fresh world task permit) overlay
     ≡ real_seen number_of held longest world overlay)
 
--- Where the numbers of filesystems rise, whatever overlays there are, and a new one would get a greater number than
--- all, they rise before the sweep and after it.
+-- Where the numbers of filesystems rise, whatever overlays there are, they rise before the sweep and after it.
 abbrev pub NumbersRiseStill : Type 0
 NumbersRiseStill =
     (world : World ℕ) (fresh : Fresh ℕ) (task : Task ℕ) (permit : Permit ℕ) → IsWorld nat_eq world
-    → IsGiven fresh world task permit → are_rising world.filesystems ≡ true
-    → list_all (λ filesystem. nat_lt filesystem.number (plain_filesystem nat_eq fresh).number) world.filesystems ≡ true
+    → IsGiven fresh world task permit → are_rising world.filesystems ≡ true → MakesTheGreatest fresh world permit
     → (are_rising (apply nat_eq fresh world task permit).world.filesystems ≡ true)
     × (are_rising (left_by fresh world task permit).filesystems ≡ true)
 

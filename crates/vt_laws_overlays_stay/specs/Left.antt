@@ -1,9 +1,14 @@
 -- The world that a permit leaves where no overlay has an upper layer.
-use Rattle.std.specs.Prelude.{Some, nat_eq, true, ℕ, ◌≡◌}
+use Rattle.std.specs.Prelude.{Some, nat_eq, nat_lt, true, ℕ, ◌≡◌}
+use Rattle.std.specs.List.{list_all}
+use Rattle.vt_spec.specs.Language.Calls.{MountFlags}
 use Rattle.vt_spec.specs.Lists.{Fresh}
 use Rattle.vt_spec.specs.Machine.Apply.{apply}
 use Rattle.vt_spec.specs.Machine.Invariants.{IsWorld, OverlayInvariants}
+use Rattle.vt_spec.specs.Machine.Mounts.{Location}
+use Rattle.vt_spec.specs.Machine.NewMounts.{plain_filesystem}
 use Rattle.vt_spec.specs.Machine.Permits.{Permit}
+use Rattle.vt_spec.specs.Machine.Permits.Permit.{ToMountPlain}
 use Rattle.vt_spec.specs.Machine.SameWorlds.{SameWorlds}
 use Rattle.vt_spec.specs.Machine.World.{Overlay, Task, World, filesystem_numbered, is_overlay}
 use Rattle.vt_laws_worlds.specs.Worlds.Kept.{IsUnderWay}
@@ -11,6 +16,12 @@ use Rattle.vt_laws_counts.specs.BesideOverlays.{OverlaysHaveNoUpper}
 use Rattle.vt_laws_counts.specs.OverlaysStay.{OverlaysAreNamed}
 use Rattle.vt_laws_permits.specs.Left.{IsGiven, left_by}
 use Rattle.vt_laws_overlay_permits.specs.LockedOverScripts.{LowersStay}
+
+-- the permit makes no filesystem, or one with a greater number than all
+abbrev pub MakesTheGreatest : Fresh ℕ → World ℕ → Permit ℕ → Type 0
+MakesTheGreatest fresh world permit =
+    (place : Location ℕ) (flags : MountFlags) → permit ≡ ToMountPlain place flags
+    → list_all (λ filesystem. nat_lt filesystem.number (plain_filesystem nat_eq fresh).number) world.filesystems ≡ true
 
 -- The permit that a call other than the mount of an overlay is given leaves a world in which none has one,
 abbrev pub GivenPermitsGiveNoUpper : Type 0

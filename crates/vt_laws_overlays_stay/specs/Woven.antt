@@ -3,13 +3,13 @@ use Rattle.std.specs.Prelude.{All, Bool, List, [], false, filter, find, if◌the
 use Rattle.std.specs.List.{list_all}
 use Rattle.vt_spec.specs.Lists.{Fresh}
 use Rattle.vt_spec.specs.Machine.Invariants.{IsWorld}
-use Rattle.vt_spec.specs.Machine.NewMounts.{plain_filesystem}
 use Rattle.vt_spec.specs.Machine.Permits.{Permit}
 use Rattle.vt_spec.specs.Machine.SameWorlds.{SameFilesystems}
 use Rattle.vt_spec.specs.Machine.Settled.{is_mounted}
 use Rattle.vt_spec.specs.Machine.World.{Filesystem, Task, World, is_overlay}
 use Rattle.vt_laws_counts.specs.BesideOverlays.{OverlaysHaveNoUpper}
 use Rattle.vt_laws_counts.specs.OverlaysStay.{OverlaysAreNamed}
+use Rattle.vt_laws_overlays_stay.specs.Left.{MakesTheGreatest}
 use Rattle.vt_laws_permits.specs.Left.{IsGiven, left_by}
 
 -- a filesystem put in before the first one whose number is not smaller
@@ -84,8 +84,7 @@ LeftWorldsAreWoven =
     (world : World ℕ) (fresh : Fresh ℕ) (task : Task ℕ) (permit : Permit ℕ) (plain overlays : List (Filesystem ℕ))
     → IsWorld nat_eq world → OverlaysHaveNoUpper world → OverlaysAreNamed world → IsGiven fresh world task permit
     → world.filesystems ≡ woven plain overlays → ArePartedBy is_overlay plain overlays
-    → are_rising overlays ≡ true → are_rising (woven plain overlays) ≡ true
-    → list_all (λ filesystem. nat_lt filesystem.number (plain_filesystem nat_eq fresh).number) world.filesystems ≡ true
+    → are_rising overlays ≡ true → are_rising (woven plain overlays) ≡ true → MakesTheGreatest fresh world permit
     → (left_by fresh world task permit).filesystems
     ≡ woven (filter (λ filesystem. not (is_overlay filesystem)) (left_by fresh world task permit).filesystems)
     (filter (λ merged. is_mounted nat_eq (left_by fresh world task permit) merged.number) overlays)

@@ -13,7 +13,7 @@ pub fn overlays_without_an_upper_layer_stay()
 {}
 
 /// Where the numbers of filesystems rise in the order of their list, whatever overlays there are, they rise after a
-/// permit, before the sweep and after it. The number that a new filesystem would get is greater than all.
+/// permit, before the sweep and after it. A filesystem that the permit makes gets a greater number than all.
 pub fn numbers_of_filesystems_rise_still()
     ensures { NumbersRiseStill }
 {}

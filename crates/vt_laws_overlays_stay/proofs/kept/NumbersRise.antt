@@ -27,6 +27,7 @@ use Rattle.vt_laws_worlds.proofs.worlds.FitPermitsNamed.{all_permits_fit}
 use Rattle.vt_laws_worlds.proofs.worlds.PermitsSeen.{gone_on}
 use Rattle.vt_laws_worlds.proofs.worlds.SeenTrees.{numbers-replaced}
 use Rattle.vt_laws_overlays_stay.specs.Kept.{NumbersRiseStill}
+use Rattle.vt_laws_overlays_stay.specs.Left.{MakesTheGreatest}
 use Rattle.vt_laws_overlays_stay.specs.Woven.{are_rising}
 use Rattle.vt_laws_overlays_stay.proofs.weaving.WovenLists.{rising_filtered}
 
@@ -69,8 +70,7 @@ one_more (first ∷ rest) new rising greater =
         (list_all (λ f. nat_lt first.number f.number) others) all in
         λ i. parts.0 i && appended others parts.1 less i
 
-module _ (world : World ℕ) (fresh : Fresh ℕ) (task : Task ℕ) (rising : are_rising world.filesystems ≡ true)
-    (greater : list_all (λ f. nat_lt f.number (plain_filesystem nat_eq fresh).number) world.filesystems ≡ true) where
+module _ (world : World ℕ) (fresh : Fresh ℕ) (task : Task ℕ) (rising : are_rising world.filesystems ≡ true) where
   abbrev after : Permit ℕ → World ℕ
   after permit = (apply nat_eq fresh world task permit).world
 
@@ -113,45 +113,45 @@ module _ (world : World ℕ) (fresh : Fresh ℕ) (task : Task ℕ) (rising : are
   writing file offset [] = rising
   writing file offset (byte ∷ bytes) = changing fresh world refl file _
 
-  pub rising_then : (permit : Permit ℕ) → NamesWhatIsThere world task permit
+  pub rising_then : (permit : Permit ℕ) → MakesTheGreatest fresh world permit → NamesWhatIsThere world task permit
       → are_rising (after permit).filesystems ≡ true
-  rising_then (ToChange location change) fits = changing fresh world refl location change
-  rising_then (ToMake directory name node) fits =
+  rising_then (ToChange location change) greatest fits = changing fresh world refl location change
+  rising_then (ToMake directory name node) greatest fits =
       changing (odds fresh) world refl directory (Make directory.node name (evens fresh 0) node)
-  rising_then (ToRemoveDirectory parent name directory) fits =
+  rising_then (ToRemoveDirectory parent name directory) greatest fits =
       changing fresh (without_mounts_on nat_eq world directory)
       (filesystems-taken_away world (gone_on world directory)) parent (Remove parent.node name directory.node)
-  rising_then (ToRename from old to new object replaced) fits =
+  rising_then (ToRename from old to new object replaced) greatest fits =
       changing fresh (without_replaced nat_eq world replaced)
       (filesystems-without_replaced world replaced) from
       (Move from.node old to.node new object.node)
-  rising_then (ToOpen file access) fits = copying (is_copied_up nat_eq world file access) file
-  rising_then (ToOpenNew directory name node access) fits =
+  rising_then (ToOpen file access) greatest fits = copying (is_copied_up nat_eq world file access) file
+  rising_then (ToOpenNew directory name node access) greatest fits =
       changing (odds fresh) world refl directory (Make directory.node name (evens fresh 0) node)
-  rising_then (ToWritePart file offset bytes) fits = writing file offset bytes
-  rising_then ToExit fits =
+  rising_then (ToWritePart file offset bytes) greatest fits = writing file offset bytes
+  rising_then ToExit greatest fits =
       same_list (after ToExit).filesystems (filesystems-taken_away (without_task world task.name) _)
-  rising_then ToUnshare fits =
+  rising_then ToUnshare greatest fits =
       same_list (after ToUnshare).filesystems (filesystems-taken_away (unshared nat_eq world fresh task) _)
-  rising_then (ToEnterNamespace namespace) fits =
+  rising_then (ToEnterNamespace namespace) greatest fits =
       same_list (after (ToEnterNamespace namespace)).filesystems
       (filesystems-taken_away (namespace_entered nat_eq world task namespace) _)
-  rising_then (ToMountPlain place flags) fits =
-      one_more world.filesystems (plain_filesystem nat_eq fresh) rising greater
-  rising_then (ToMountOverlay place overlay flags) fits = absurd fits
-  rising_then (ToUnmount mount) fits =
+  rising_then (ToMountPlain place flags) greatest fits =
+      one_more world.filesystems (plain_filesystem nat_eq fresh) rising (greatest place flags refl)
+  rising_then (ToMountOverlay place overlay flags) greatest fits = absurd fits
+  rising_then (ToUnmount mount) greatest fits =
       same_list (after (ToUnmount mount)).filesystems
       (filesystems-taken_away world (going nat_eq world (mount_numbered nat_eq world mount)))
-  rising_then (ToUnmountLazily mount) fits =
+  rising_then (ToUnmountLazily mount) greatest fits =
       same_list (after (ToUnmountLazily mount)).filesystems (lazy_is_of_mounts world mount).filesystems
-  rising_then (ToSetType mount word recursive) fits =
+  rising_then (ToSetType mount word recursive) greatest fits =
       same_list (after (ToSetType mount word recursive)).filesystems
       (types_are_of_mounts world fresh mount word recursive).filesystems
-  rising_then permit fits = rising
+  rising_then permit greatest fits = rising
 
 pub numbers_rise_still : NumbersRiseStill
-numbers_rise_still world fresh task permit is given rising greater =
-    let applied = rising_then world fresh task rising greater permit
+numbers_rise_still world fresh task permit is given rising greatest =
+    let applied = rising_then world fresh task rising permit greatest
     (all_permits_fit world fresh task given.call permit is given.serves given.called given.no_overlay
     given.judged).names in
     (applied, swept (apply nat_eq fresh world task permit).world applied)
