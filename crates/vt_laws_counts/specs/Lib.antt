@@ -5,3 +5,5 @@ pub mod Using
 pub mod Going
 pub mod Sweeping
 pub mod Looking
+pub mod BesideOverlays
+pub mod OverlaysStay

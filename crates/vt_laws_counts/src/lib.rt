@@ -10,8 +10,8 @@
 //! | an exchange (`Exchanges`) | from one world to the next the inodes of a filesystem get the uses of one list and lose those of another, as often as they stand there; the filesystem stays |
 //! | exchanged inodes (`exchanged`) | each that gains is pinned, then each that loses is unpinned |
 //!
-//! What does not ask for plain filesystems holds in worlds with overlays too. But overlays use inodes of their layers,
-//! and such uses are not exchanged here.
+//! What does not ask for plain filesystems holds in worlds with overlays too. What does has a twin in `overlays`: there
+//! overlays that come and go use the directories of their layers.
 //!
 //! Each public function is a theorem of the written policy, and does nothing.
 #![tactic(auto)]
@@ -19,4 +19,5 @@
 pub mod changing;
 pub mod going;
 pub mod looking;
+pub mod overlays;
 pub mod using;

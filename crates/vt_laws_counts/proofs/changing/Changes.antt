@@ -6,7 +6,7 @@ use Rattle.vt_spec.specs.FileTree.{FileTree}
 use Rattle.vt_spec.specs.Language.Changes as Changes
 use Rattle.vt_spec.specs.Language.Changes.{Change, content_with_mark, node_with_attr, node_with_mark, node_with_parent}
 use Rattle.vt_spec.specs.Language.Changes.Change.{AddName, CopyUp, Make, Move, Remove, SetAttr, SetBytes, SetMark}
-use Rattle.vt_spec.specs.Lists.{Fresh, is_among}
+use Rattle.vt_spec.specs.Lists.{Fresh, any_pair, is_among}
 use Rattle.vt_spec.specs.Machine.Filesystems.{filesystem_changed, with_change, with_files}
 use Rattle.vt_spec.specs.Machine.Mounts.{Location}
 use Rattle.vt_spec.specs.Machine.Settled.{settled}
@@ -15,18 +15,18 @@ use Rattle.vt_spec.specs.Fits.{Fits, MayReplace}
 use Rattle.vt_spec.specs.Inodes.{Inodes, changed, node_in, tree_of, with_changed, without_replaced}
 use Rattle.vt_spec.specs.Tree.{Node, entries_in, entry_named, is_directory_node, node_with_bytes, node_with_entry}
 use Rattle.vt_laws_letting_go.specs.InUse.{AllInUse, IsListedTree, is_inode_used}
-use Rattle.vt_laws_letting_go.specs.OneByOne as LettingGo
 use Rattle.vt_laws_letting_go.specs.TreeChanges.{with_tree}
-use Rattle.vt_laws_letting_go.proofs.Lists.{Among, among_from_all, fails}
+use Rattle.vt_laws_letting_go.proofs.Lists.{Among, among_from_all}
 use Rattle.vt_laws_letting_go.proofs.sweeps.OfWorlds.{all_in_use, worlds_have_trees}
 use Rattle.vt_laws_counts.proofs.counting.Counts.{other_if}
 use Rattle.vt_laws_counts.proofs.counting.Entries.{one_if}
 use Rattle.vt_laws_counts.proofs.counting.Times.{times_in}
 use Rattle.vt_laws_counts.specs.Changing.{CountsFollowChanges, IsChange, LinksWhatIsThere, OnlyFilesChange, OtherCountsStay, after_change, filesystem_of}
+use Rattle.vt_laws_counts.specs.BesideOverlays.{CountsFollowChangesBesideOverlays, IsChangeOfPlain, OnlyFilesChangeBesideOverlays, OtherCountsStayBesideOverlays}
 use Rattle.vt_laws_counts.specs.Counted.{IsCounted}
 use Rattle.vt_laws_counts.proofs.changing.NameCounts as Names
 use Rattle.vt_laws_counts.proofs.using.Swept as Swept
-use Rattle.vt_laws_counts.proofs.using.Swept.{base_of, counted_start, found_is, plain_of, there_if_counted}
+use Rattle.vt_laws_counts.proofs.using.Swept.{base_of, counted_start, found_is, there_if_counted}
 use Rattle.vt_laws_counts.proofs.changing.TreeCounts.{IsStart, IsTallied, linked, rewritten}
 use Rattle.vt_spec.proofs.NodeChanges.{entries-node_with_attr, entries-node_with_mark}
 use Rattle.vt_spec.proofs.Nodes.{entries-node_with_bytes}
@@ -143,7 +143,7 @@ module _ (base : ℕ → ℕ) (files : FileTree ℕ) (inodes : Inodes ℕ) (root
 -- The world
 
 module _ (fresh : Fresh ℕ) (world : World ℕ) (location : Location ℕ) (inodes : Inodes ℕ) (change : Change ℕ)
-    (is : IsChange world location inodes change) where
+    (is : IsChangeOfPlain world location inodes change) where
   abbrev pub number : ℕ
   number = filesystem_of world location
 
@@ -156,8 +156,8 @@ module _ (fresh : Fresh ℕ) (world : World ℕ) (location : Location ℕ) (inod
   pub in_use : AllInUse world
   in_use = all_in_use world is.in_world
 
-  pub plain : LettingGo.IsPlain world
-  plain = plain_of world is.plain
+  pub one : any_pair (λ (a b : Filesystem ℕ). nat_eq a.number b.number) world.filesystems ≡ false
+  one = is.in_world.files.one_filesystem
 
   pub filesystem_there : is_among nat_eq number (map (λ f. f.number) world.filesystems) ≡ true
   filesystem_there = there_if_counted world number inodes is.counted
@@ -171,7 +171,7 @@ module _ (fresh : Fresh ℕ) (world : World ℕ) (location : Location ℕ) (inod
 
   pub start : IsStart (base_of world old) old.files.tree.node old.files.numbers inodes
   start =
-      counted_start world old inodes plain tree
+      counted_start world old inodes tree
       (among_from_all (λ f. list_all (is_inode_used world f) f.files.numbers
       ≡ true) world.filesystems in_use.inodes old old_there) is.counted
 
@@ -179,18 +179,15 @@ module _ (fresh : Fresh ℕ) (world : World ℕ) (location : Location ℕ) (inod
   new_tallied = tallied (base_of world old) old.files inodes is.counted.root start change is.fits is.links
 
   abbrev pub done : World ℕ
-  done = Swept.done world number files in_use plain filesystem_there
+  done = Swept.done world number files in_use one is.plain filesystem_there
 
   abbrev pub left : FileTree ℕ
-  left = Swept.swept world number files in_use plain filesystem_there
+  left = Swept.swept world number files in_use one is.plain filesystem_there
 
   -- before the sweep
   pub raw_is : with_change nat_eq fresh world location change ≡ with_tree world number files
-  raw_is = by old.overlay no_overlay
+  raw_is = by old.overlay is.plain
     where
-      no_overlay : is_some old.overlay ≡ false
-      no_overlay = fails is_overlay world.filesystems plain old old_there
-
       by : (o : Option (Overlay ℕ)) → is_some o ≡ false
           → filesystem_changed nat_eq fresh world old o change ≡ with_tree world number files
       by None e = refl
@@ -199,10 +196,10 @@ module _ (fresh : Fresh ℕ) (world : World ℕ) (location : Location ℕ) (inod
   pub after_is : after_change fresh world location change ≡ done
   after_is =
       ap (settled nat_eq) raw_is
-      ∙ Swept.settled_is world number files in_use plain filesystem_there new_tallied.once
+      ∙ Swept.settled_is world number files in_use one is.plain filesystem_there new_tallied.once
 
   found : filesystem_numbered nat_eq done number ≡ with_files old left
-  found = Swept.found_done world number files in_use plain filesystem_there new_tallied.once
+  found = Swept.found_done world number files in_use one is.plain filesystem_there new_tallied.once
 
   mounts_same : (after : World ℕ) → after ≡ done
       → filesystem_at nat_eq after location ≡ filesystem_numbered nat_eq after number
@@ -215,13 +212,13 @@ module _ (fresh : Fresh ℕ) (world : World ℕ) (location : Location ℕ) (inod
 
   pub counted_then : IsCounted done (with_files old left) (changed nat_eq inodes change)
   counted_then =
-      Swept.counted_done world number files in_use plain filesystem_there (changed nat_eq inodes change)
+      Swept.counted_done world number files in_use one is.plain filesystem_there (changed nat_eq inodes change)
       (root_is (base_of world old) old.files inodes is.counted.root start change)
       (root_of_files (base_of world old) old.files inodes is.counted.root start change) new_tallied
 
   pub left_times : (n : ℕ) → times_in n left.numbers ≡ cond (is_some ((changed nat_eq inodes change).inode n)) 1 0
   left_times =
-      Swept.times_left world number files in_use plain filesystem_there (changed nat_eq inodes change)
+      Swept.times_left world number files in_use one is.plain filesystem_there (changed nat_eq inodes change)
       (root_is (base_of world old) old.files inodes is.counted.root start change)
       (root_of_files (base_of world old) old.files inodes is.counted.root start change) new_tallied
 
@@ -237,14 +234,43 @@ module _ (fresh : Fresh ℕ) (world : World ℕ) (location : Location ℕ) (inod
       (filesystem_numbered nat_eq (after_change fresh world location change) other) counts
   others other counts apart counted =
       subst (λ w. IsCounted w (filesystem_numbered nat_eq w other) counts) (sym after_is)
-      (Swept.others_stay world number files in_use plain filesystem_there other counts apart counted)
+      (Swept.others_stay world number files in_use one is.plain filesystem_there other counts apart counted)
+
+pub only_files_change_beside_overlays : OnlyFilesChangeBesideOverlays
+only_files_change_beside_overlays fresh world location inodes change is =
+    only_files fresh world location inodes change is
+
+pub counts_follow_changes_beside_overlays : CountsFollowChangesBesideOverlays
+counts_follow_changes_beside_overlays fresh world location inodes change is =
+    counts_follow fresh world location inodes change is
+
+pub other_counts_stay_beside_overlays : OtherCountsStayBesideOverlays
+other_counts_stay_beside_overlays fresh world location inodes change is other counts apart counted =
+    others fresh world location inodes change is other counts apart counted
+
+-- In a world of plain filesystems each location is in a plain one.
+pub is_change_of_plain : (world : World ℕ) (location : Location ℕ) (inodes : Inodes ℕ) (change : Change ℕ)
+    → IsChange world location inodes change → IsChangeOfPlain world location inodes change
+is_change_of_plain world location inodes change is = record {
+  in_world = is.in_world;
+  plain = among_from_all (λ f. is_overlay f ≡ false) world.filesystems is.plain
+      (filesystem_at nat_eq world location)
+      (found_is world.filesystems (filesystem_of world location)
+      (there_if_counted world (filesystem_of world location) inodes is.counted));
+  counted = is.counted;
+  fits = is.fits;
+  links = is.links;
+}
 
 pub only_files_change : OnlyFilesChange
-only_files_change fresh world location inodes change is = only_files fresh world location inodes change is
+only_files_change fresh world location inodes change is =
+    only_files fresh world location inodes change (is_change_of_plain world location inodes change is)
 
 pub counts_follow_changes : CountsFollowChanges
-counts_follow_changes fresh world location inodes change is = counts_follow fresh world location inodes change is
+counts_follow_changes fresh world location inodes change is =
+    counts_follow fresh world location inodes change (is_change_of_plain world location inodes change is)
 
 pub other_counts_stay : OtherCountsStay
 other_counts_stay fresh world location inodes change is other counts apart counted =
-    others fresh world location inodes change is other counts apart counted
+    others fresh world location inodes change (is_change_of_plain world location inodes change is) other counts apart
+    counted

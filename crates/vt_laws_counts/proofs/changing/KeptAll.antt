@@ -6,13 +6,15 @@ use Rattle.vt_spec.specs.FileTree.{FileTree}
 use Rattle.vt_spec.specs.Language.Changes as Changes
 use Rattle.vt_spec.specs.Language.Changes.{Change, node_with_attr, node_with_mark}
 use Rattle.vt_spec.specs.Language.Changes.Change.{AddName, CopyUp, Make, Move, Remove, SetAttr, SetBytes, SetMark}
-use Rattle.vt_spec.specs.Lists.{is_among}
+use Rattle.vt_spec.specs.Lists.{any_pair, is_among}
+use Rattle.vt_spec.specs.Machine.World.{Filesystem}
 use Rattle.vt_spec.specs.Fits.{Fits}
 use Rattle.vt_spec.specs.Inodes.{Inode, Inodes, changed, node_in, pinned, used_once_more, with_changed}
 use Rattle.vt_spec.specs.Tree.{Node, node_with_bytes, node_with_entry}
 use Rattle.vt_laws_letting_go.specs.TreeChanges.{with_tree}
 use Rattle.vt_laws_letting_go.proofs.Lists.{all_pass, is_among_numbers}
 use Rattle.vt_laws_counts.proofs.counting.Times.{among_times, times_in}
+use Rattle.vt_laws_counts.specs.BesideOverlays.{NamesKeepAllBesideOverlays}
 use Rattle.vt_laws_counts.specs.Changing.{NamesKeepAll, TakesNoName}
 use Rattle.vt_laws_counts.proofs.changing.Changes as After
 use Rattle.vt_laws_counts.proofs.changing.NameCounts as Names
@@ -72,10 +74,11 @@ module _ (base : ℕ → ℕ) (files : FileTree ℕ) (inodes : Inodes ℕ)
       (node_with_mark opaque) start.same refl (λ some. (_, refl)) n
   nodes_same (CopyUp object) fits none n = start.same n
 
-pub names_keep_all : NamesKeepAll
-names_keep_all fresh world location inodes change is keeps =
+pub names_keep_all_beside_overlays : NamesKeepAllBesideOverlays
+names_keep_all_beside_overlays fresh world location inodes change is keeps =
     After.after_is fresh world location inodes change is
-    ∙ ap (with_tree world number) (sym (Swept.all_kept world number files in_use plain there tallied_once all_used))
+    ∙ ap (with_tree world number)
+    (sym (Swept.all_kept world number files in_use one is.plain there tallied_once all_used))
     ∙ sym (After.raw_is fresh world location inodes change is)
   where
     number : ℕ
@@ -87,8 +90,8 @@ names_keep_all fresh world location inodes change is keeps =
     in_use : Rattle.vt_laws_letting_go.specs.InUse.AllInUse world
     in_use = After.in_use fresh world location inodes change is
 
-    plain : Rattle.vt_laws_letting_go.specs.OneByOne.IsPlain world
-    plain = After.plain fresh world location inodes change is
+    one : any_pair (λ (a b : Filesystem ℕ). nat_eq a.number b.number) world.filesystems ≡ false
+    one = is.in_world.files.one_filesystem
 
     there : is_among nat_eq number (Rattle.std.specs.Prelude.map (λ f. f.number) world.filesystems) ≡ true
     there = After.filesystem_there fresh world location inodes change is
@@ -103,18 +106,19 @@ names_keep_all fresh world location inodes change is keeps =
     tallied_once : (n : ℕ) → times_in n files.numbers ≡ cond (is_some (files.tree.node n)) 1 0
     tallied_once = (After.new_tallied fresh world location inodes change is).once
 
-    is_used : (n : ℕ) → is_among nat_eq n (Swept.used world number files in_use plain there)
+    is_used : (n : ℕ) → is_among nat_eq n (Swept.used world number files in_use one is.plain there)
         ≡ is_some ((changed nat_eq inodes change).inode n)
     is_used =
-        Swept.used_there world number files in_use plain there (changed nat_eq inodes change)
+        Swept.used_there world number files in_use one is.plain there (changed nat_eq inodes change)
         (After.root_is (base_of world
         (After.old fresh world location inodes change is)) before inodes is.counted.root begins change)
         (After.root_of_files (base_of world
         (After.old fresh world location inodes change is)) before inodes is.counted.root begins change)
         (After.new_tallied fresh world location inodes change is)
 
-    all_used : list_all (λ n. is_among nat_eq n (Swept.used world number files in_use plain there)) files.numbers ≡ true
-    all_used = all_pass (λ n. is_among nat_eq n (Swept.used world number files in_use plain there)) files.numbers
+    all_used : list_all (λ n. is_among nat_eq n (Swept.used world number files in_use one is.plain there)) files.numbers
+        ≡ true
+    all_used = all_pass (λ n. is_among nat_eq n (Swept.used world number files in_use one is.plain there)) files.numbers
         (λ n m. is_used n ∙ sym (is_some-node_in ((changed nat_eq inodes change).inode n))
         ∙ ap is_some (nodes_same (base_of world
         (After.old fresh world location inodes change is)) before inodes begins change is.fits
@@ -125,3 +129,8 @@ names_keep_all fresh world location inodes change is keeps =
         stands : (n : ℕ) (b : Bool) → times_in n files.numbers ≡ cond b 1 0 → 1 ≤ times_in n files.numbers → b ≡ true
         stands n true e some = refl
         stands n false e some = absurd (omega arith)
+
+pub names_keep_all : NamesKeepAll
+names_keep_all fresh world location inodes change is keeps =
+    names_keep_all_beside_overlays fresh world location inodes change
+    (After.is_change_of_plain world location inodes change is) keeps

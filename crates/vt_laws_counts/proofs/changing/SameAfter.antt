@@ -6,6 +6,7 @@ use Rattle.vt_spec.specs.Machine.SameWorlds.{SameFilesystem, SameFilesystems, Sa
 use Rattle.vt_spec.specs.Machine.World.{Filesystem, filesystem_numbered, replaced_if_numbered}
 use Rattle.vt_spec.specs.Inodes.{changed, node_in}
 use Rattle.vt_laws_letting_go.specs.TreeChanges.{with_tree}
+use Rattle.vt_laws_counts.specs.BesideOverlays.{CountedChangesAreSweptBesideOverlays}
 use Rattle.vt_laws_counts.specs.Changing.{CountedChangesAreSwept, filesystem_of}
 use Rattle.vt_laws_counts.proofs.changing.Changes as Changes
 use Rattle.vt_laws_counts.proofs.Listed.{among_by_times, same_numbers_are_permuted}
@@ -28,8 +29,8 @@ same_filesystems one other number same (first ∷ rest) = (
     by true = same
     by false = same_filesystem_itself first
 
-pub counted_changes_are_swept : CountedChangesAreSwept
-counted_changes_are_swept fresh world location inodes change is files tree once lists =
+pub counted_changes_are_swept_beside_overlays : CountedChangesAreSweptBesideOverlays
+counted_changes_are_swept_beside_overlays fresh world location inodes change is files tree once lists =
     subst (SameWorlds (with_tree world (filesystem_of world location) files))
     (sym (Changes.after_is fresh world location inodes change is)) (record {
       mounts = refl;
@@ -66,3 +67,8 @@ counted_changes_are_swept fresh world location inodes change is files tree once 
             → is_some (node_in o) ≡ is_some o
         there Rattle.std.specs.Prelude.None = refl
         there (Rattle.std.specs.Prelude.Some inode) = refl
+
+pub counted_changes_are_swept : CountedChangesAreSwept
+counted_changes_are_swept fresh world location inodes change is files tree once lists =
+    counted_changes_are_swept_beside_overlays fresh world location inodes change
+    (Changes.is_change_of_plain world location inodes change is) files tree once lists

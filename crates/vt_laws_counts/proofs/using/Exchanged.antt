@@ -1,33 +1,33 @@
 -- Inodes that get some uses and lose some.
-use Rattle.std.proofs.Common.{◌≡◌, refl, sym, ap, subst, ◌∙◌, ⊎_elim, inl, inr, ℕ, ◌+◌, ◌≤◌, nat_eq, eqb-true, Bool, true, false, true≢false, cond, not, ◌&&◌, ◌||◌, List, [], ◌∷◌, map, filter, find, Option, Some, None, is_some, unwrap_or, arith}
+use Rattle.std.proofs.Common.{◌≡◌, refl, sym, ap, subst, ◌∙◌, ⊎_elim, inl, inr, ℕ, ◌+◌, ◌≤◌, nat_eq, eqb-true, Bool, true, false, true≢false, cond, not, ◌&&◌, ◌||◌, List, [], ◌∷◌, ◌++◌, map, filter, find, flat_map, Option, Some, None, is_some, unwrap_or, arith}
 use Rattle.std.specs.List.{list_all}
 use Rattle.std.proofs.lemmas.Bool.{and_parts, or_cases}
 use Rattle.std.proofs.lemmas.Bool.Decides.{eqb_tells}
 use Rattle.vt_spec.specs.FileTree.{targets_in}
-use Rattle.vt_spec.specs.Lists.{folded, is_among}
-use Rattle.vt_spec.specs.Machine.Settled.{named_in, used_in}
-use Rattle.vt_spec.specs.Machine.World.{Filesystem, World, filesystem_numbered, no_filesystem}
+use Rattle.vt_spec.specs.Lists.{folded, holds_of, is_among}
+use Rattle.vt_spec.specs.Machine.Locked.{of_overlay, overlay_or}
+use Rattle.vt_spec.specs.Machine.Settled.{layers_in, located_in, named_in, objects_of_overlay, used_in}
+use Rattle.vt_spec.specs.Machine.World.{Filesystem, Overlay, World, filesystem_numbered, is_overlay, layers_of, no_filesystem}
 use Rattle.vt_spec.specs.Inodes.{Inodes, node_in}
 use Rattle.vt_spec.specs.Inodes as Trees
 use Rattle.vt_spec.specs.Tree.{Node}
 use Rattle.vt_laws_letting_go.specs.Counts.{inode_uses, times}
-use Rattle.vt_laws_letting_go.specs.InUse.{HasTrees, InodesInUse, IsListedTree, is_inode_used}
+use Rattle.vt_laws_letting_go.specs.InUse.{HasTrees, InodesInUse, IsListedTree, has_upper_in, is_inode_used}
 use Rattle.vt_laws_letting_go.specs.OneByOne.{Inode, is_inode_among, let_go_inode, let_go_inode_of, let_go_inodes, without_inode}
-use Rattle.vt_laws_letting_go.specs.OneByOne as LettingGo
 use Rattle.vt_laws_letting_go.proofs.sweeps.InUse.{unused_are_empty}
-use Rattle.vt_laws_letting_go.proofs.Lists.{Among, among_from_all, flat_map-filter, flat_map_alike, passes}
+use Rattle.vt_laws_letting_go.proofs.Lists.{Among, all_from_among, among-from_map, among_from_all, flat_map-filter, flat_map-map, flat_map_alike, passes}
 use Rattle.vt_laws_counts.proofs.counting.Counts as Counts
 use Rattle.vt_laws_counts.proofs.counting.Counts.{counted_pinned, counted_some, some_inode}
 use Rattle.vt_laws_counts.proofs.counting.Entries.{one_if}
 use Rattle.vt_laws_counts.proofs.counting.Times.{among_times, as_long, times_filter, times_in}
+use Rattle.vt_laws_counts.specs.BesideOverlays.{HasNoUpperIn, UsesAreExchangedBesideOverlays}
 use Rattle.vt_laws_counts.specs.Counted.{IsCounted, IsPlain}
 use Rattle.vt_laws_counts.specs.Using.{AreThere, Exchanges, ExchangesTurn, UsesAreExchanged, exchanged, is_inode, pinned_if, unpinned_if}
 use Rattle.vt_laws_counts.proofs.Listed.{no_repeats}
-use Rattle.vt_laws_counts.proofs.using.Swept.{base_of, found_is, found_number, plain_of, plain_uses_are, start_counts, there_if_counted, there_if_some}
+use Rattle.vt_laws_counts.proofs.using.Swept.{found_is, found_number, no_objects_in, start_counts, there_if_counted, there_if_some}
 use Rattle.vt_laws_counts.proofs.changing.TreeCounts.{other_uses, unpinned_counts}
 use Rattle.std.proofs.Math.Bool.{or-false}
 use Rattle.vt_spec.proofs.Inodes.{is_some-node_in, node_in-none, uses_in-none}
-use Rattle.vt_laws_letting_go.proofs.sweeps.Inodes.{number-step, plain-step}
 
 -- one if the test passes
 abbrev pub one_when : Bool → ℕ
@@ -174,19 +174,57 @@ used_or_zero world filesystem n b e none =
     (e ∙ none)
 
 -- One inode is looked at
-module _ (world : World ℕ) (inode : Inode) (plain : LettingGo.IsPlain world) where
+module _ (world : World ℕ) (inode : Inode) where
   abbrev next : World ℕ
   next = let_go_inode world inode
 
   abbrev step : Filesystem ℕ → Filesystem ℕ
   step = let_go_inode_of world inode
 
-  module _ (k : ℕ) (f : Filesystem ℕ) (is : f.number ≡ k) (empty : EmptyUnused world f) (stand : StandOnce f) where
+  -- it leaves filesystems their numbers and their overlays
+  number_step : (g : Filesystem ℕ) → (step g).number ≡ g.number
+  number_step g = by (nat_eq g.number inode.0 && not (is_inode_used world g inode.1))
+    where
+      by : (b : Bool) → (cond b (record g { files = without_inode inode.1 g.files }) g).number ≡ g.number
+      by true = refl
+      by false = refl
+
+  overlay_step : (g : Filesystem ℕ) → (step g).overlay ≡ g.overlay
+  overlay_step g = by (nat_eq g.number inode.0 && not (is_inode_used world g inode.1))
+    where
+      by : (b : Bool) → (cond b (record g { files = without_inode inode.1 g.files }) g).overlay ≡ g.overlay
+      by true = refl
+      by false = refl
+
+  no_upper_step : (k : ℕ) → HasNoUpperIn k world → HasNoUpperIn k next
+  no_upper_step k apart =
+      all_from_among (λ merged. has_upper_in k merged ≡ false) next.filesystems (λ g m.
+      let from = among-from_map step world.filesystems g m in
+      ap (has_upper_in k) from.2
+      ∙ ap (overlay_or false (λ overlay. holds_of (λ layer. nat_eq k layer.filesystem) overlay.upper))
+      (overlay_step from.0)
+      ∙ among_from_all (λ merged. has_upper_in k merged ≡ false) world.filesystems apart from.0 from.1)
+
+  layers_step : (k : ℕ) → layers_in nat_eq next k ≡ layers_in nat_eq world k
+  layers_step k =
+      ap (λ layers. map (λ layer. layer.directory) (filter (λ layer. nat_eq k layer.filesystem) layers))
+      (flat_map-map step (of_overlay [] layers_of) world.filesystems
+      (λ g. ap (overlay_or [] layers_of) (overlay_step g)))
+
+  module _ (k : ℕ) (f : Filesystem ℕ) (is : f.number ≡ k) (apart : HasNoUpperIn k world) (empty : EmptyUnused world f)
+      (stand : StandOnce f) where
     abbrev gone_f : Filesystem ℕ
     gone_f = record f { files = without_inode inode.1 f.files }
 
+    objects_same : flat_map (objects_of_overlay nat_eq f.number) next.filesystems
+        ≡ flat_map (objects_of_overlay nat_eq f.number) world.filesystems
+    objects_same =
+        no_objects_in f.number next (subst (λ m. HasNoUpperIn m next) (sym is) (no_upper_step k apart))
+        ∙ sym (no_objects_in f.number world (subst (λ m. HasNoUpperIn m world) (sym is) apart))
+
     same_uses : (n : ℕ) → inode_uses next f n ≡ inode_uses world f n
-    same_uses n = plain_uses_are next (plain-step world inode plain) f n ∙ sym (plain_uses_are world plain f n)
+    same_uses n = λ i. times (nat_eq n) (f.files.tree.root ∷ (named_in f.files ++ located_in nat_eq world f.number
+        ++ layers_step f.number i ++ objects_same i))
 
     among_one : (n : ℕ) → is_inode_among k n (inode ∷ []) ≡ (nat_eq k inode.0 && nat_eq n inode.1)
     among_one n = or-false (nat_eq k inode.0 && nat_eq n inode.1)
@@ -221,9 +259,8 @@ module _ (world : World ℕ) (inode : Inode) (plain : LettingGo.IsPlain world) w
     -- it goes
     left_without : nat_eq k inode.0 ≡ true → inode_uses world f inode.1 ≡ 0 → IsLeft k world f (inode ∷ []) next gone_f
     left_without here zero_uses = record {
-      uses = λ n. plain_uses_are next (plain-step world inode plain) gone_f n
-          ∙ ap (λ l. base_of world f n + times_in n l) named
-          ∙ sym (plain_uses_are world plain f n);
+      uses = λ n. (λ i. times (nat_eq n) (f.files.tree.root ∷ (named i ++ located_in nat_eq world f.number
+          ++ layers_step f.number i ++ objects_same i)));
       used = λ n some. ⊎_elim
           (λ t. absurd (let none : inode_uses world f n ≡ 0 = ap (inode_uses world f) t.1 ∙ zero_uses in omega arith))
           (λ t. ap (λ b. cond b None (f.files.tree.node n)) t.0)
@@ -281,12 +318,12 @@ module _ (world : World ℕ) (inode : Inode) (plain : LettingGo.IsPlain world) w
             ≡ false = ap (λ b. b && not (is_inode_used world f inode.1)) e in
             subst (λ b. IsLeft k world f (inode ∷ []) next (cond b gone_f f)) (sym not_so) (left_same not_so)
 
-all_left : (k : ℕ) (world : World ℕ) (lost : List Inode) → LettingGo.IsPlain world
+all_left : (k : ℕ) (world : World ℕ) (lost : List Inode) → HasNoUpperIn k world
     → is_among nat_eq k (map (λ f. f.number) world.filesystems) ≡ true
     → EmptyUnused world (filesystem_numbered nat_eq world k) → StandOnce (filesystem_numbered nat_eq world k)
     → IsLeft k world (filesystem_numbered nat_eq world k) lost (let_go_inodes world lost)
     (filesystem_numbered nat_eq (let_go_inodes world lost) k)
-all_left k world [] plain there empty stand = record {
+all_left k world [] apart there empty stand = record {
   uses = λ n. refl;
   used = λ n some. refl;
   gone = λ n zero_uses among. absurd (true≢false (sym among));
@@ -294,9 +331,9 @@ all_left k world [] plain there empty stand = record {
   root = refl;
   once = stand;
 }
-all_left k world (inode ∷ rest) plain there empty stand =
-    then_left (all_left k (let_go_inode world inode) rest (plain-step world inode plain)
-    (ap (is_among nat_eq k) (numbers_mapped (step world inode plain) (number-step world inode plain) world.filesystems)
+all_left k world (inode ∷ rest) apart there empty stand =
+    then_left (all_left k (let_go_inode world inode) rest (no_upper_step world inode k apart)
+    (ap (is_among nat_eq k) (numbers_mapped (step world inode) (number_step world inode) world.filesystems)
     ∙ there)
     (λ n none. empty_left n (sym (first_left.uses n) ∙ none)) first_left.once)
   where
@@ -309,8 +346,8 @@ all_left k world (inode ∷ rest) plain there empty stand =
     first_left : IsLeft k world f (inode ∷ []) (let_go_inode world inode) f1
     first_left =
         subst (IsLeft k world f (inode ∷ []) (let_go_inode world inode))
-        (sym (found_mapped (step world inode plain) (number-step world inode plain) world.filesystems k there))
-        (one_left world inode plain k f (found_number world.filesystems k) empty stand)
+        (sym (found_mapped (step world inode) (number_step world inode) world.filesystems k there))
+        (one_left world inode k f (found_number world.filesystems k) apart empty stand)
 
     among_one : (n : ℕ) (b : Bool) → is_inode k n inode ≡ b → is_inode_among k n (inode ∷ []) ≡ b
     among_one n true e = ap (λ b. b || false) e
@@ -354,7 +391,7 @@ all_left k world (inode ∷ rest) plain there empty stand =
 -- Together
 
 module _ (world after : World ℕ) (gained lost : List Inode) (k : ℕ) (inodes : Inodes ℕ) (trees : HasTrees world)
-    (in_use : InodesInUse world) (plain : IsPlain after)
+    (in_use : InodesInUse world) (apart : HasNoUpperIn k after)
     (exchange : Exchanges gained lost k world after)
     (counted : IsCounted world (filesystem_numbered nat_eq world k) inodes)
     (gains : AreThere k inodes gained) where
@@ -416,7 +453,7 @@ module _ (world after : World ℕ) (gained lost : List Inode) (k : ℕ) (inodes 
   left : IsLeft k after f lost last f_last
   left =
       subst (λ g. IsLeft k after g lost last f_last) exchange.same
-      (all_left k after lost (plain_of after plain) there_after
+      (all_left k after lost apart there_after
       (subst (EmptyUnused after) (sym exchange.same) empty_then) (subst StandOnce (sym exchange.same) once_f))
 
   node_last : (n : ℕ) → node_in ((exchanged k gained lost inodes).inode n) ≡ f_last.files.tree.node n
@@ -466,9 +503,25 @@ module _ (world after : World ℕ) (gained lost : List Inode) (k : ℕ) (inodes 
       few n true e = omega arith
       few n false e = omega arith
 
+pub uses_are_exchanged_beside_overlays : UsesAreExchangedBesideOverlays
+uses_are_exchanged_beside_overlays world after gained lost filesystem inodes trees in_use apart exchange counted gains =
+    counted_last world after gained lost filesystem inodes trees in_use apart exchange counted gains
+
+-- A world of plain filesystems has no upper layers.
+pub plain_apart : (number : ℕ) (world : World ℕ) → IsPlain world → HasNoUpperIn number world
+plain_apart number world plain =
+    all_from_among (λ merged. has_upper_in number merged ≡ false) world.filesystems (λ f m.
+    by f.overlay (among_from_all (λ g. is_overlay g ≡ false) world.filesystems plain f m))
+  where
+    by : (o : Option (Overlay ℕ)) → is_some o ≡ false
+        → overlay_or false (λ overlay. holds_of (λ layer. nat_eq number layer.filesystem) overlay.upper) o ≡ false
+    by None e = refl
+    by (Some overlay) e = cc
+
 pub uses_are_exchanged : UsesAreExchanged
 uses_are_exchanged world after gained lost filesystem inodes trees in_use plain exchange counted gains =
-    counted_last world after gained lost filesystem inodes trees in_use plain exchange counted gains
+    counted_last world after gained lost filesystem inodes trees in_use (plain_apart filesystem after plain) exchange
+    counted gains
 
 pub exchanges_turn : ExchangesTurn
 exchanges_turn world after gained lost filesystem exchange =

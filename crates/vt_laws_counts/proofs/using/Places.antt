@@ -21,9 +21,8 @@ use Rattle.vt_laws_counts.proofs.counting.Entries.{one_if}
 use Rattle.vt_laws_counts.proofs.counting.Times.{times_in}
 use Rattle.vt_laws_counts.specs.Counted.{IsCounted}
 use Rattle.vt_laws_counts.specs.Going.{LocationsUseMounts, MountsUseFilesystems}
-use Rattle.vt_laws_counts.specs.Using.{ExchangesFollow, MountIsPlaced, OthersUseNothing, LocationsAreUses, MountsAreUses, NewTreeIsCounted, OpeningIsCounted, is_inode, is_on, one_counted, places_of, root_counted}
-use Rattle.vt_laws_counts.proofs.using.Swept.{base_of, found_number, plain_of, plain_uses_are, uses_split}
-use Rattle.vt_laws_counts.proofs.changing.TreeCounts.{uses_of}
+use Rattle.vt_laws_counts.specs.Using.{ExchangesFollow, MountIsPlaced, OthersUseNothing, LocationsAreUses, MountsAreUses, NewTreeIsCounted, OpeningIsCounted, is_inode, is_on, is_outside, one_counted, places_of, root_counted}
+use Rattle.vt_laws_counts.proofs.using.Swept.{found_number, plain_of, uses_split}
 use Rattle.vt_laws_letting_go.proofs.sweeps.UpperUses.{times_append}
 use Rattle.vt_spec.proofs.Worlds.{mount_in-among, number-mount_in}
 use Rattle.vt_laws_letting_go.proofs.sweeps.Inodes.{no_objects_of}
@@ -374,16 +373,17 @@ others_use_nothing world after k plain plain_after mounts locations same = recor
   same = same;
   uses = λ n.
       let f = filesystem_numbered nat_eq world k in
-      let one = plain_uses_are world (plain_of world plain) f n in
-      let two = plain_uses_are after (plain_of after plain_after) f n in
       let there : inode_uses after (filesystem_numbered nat_eq after k) n ≡ inode_uses after f n =
       ap (λ g. inode_uses after g n) same in
-      let here : base_of after f n ≡ base_of world f n
-      = (λ i. one_if n f.files.tree.root + count_in (mounts i) f.number n
-      (locations i ++ map root_of (mounts i) ++ filter_map (λ mount. mount.mount_point) (mounts i))) in
-      let whole : uses_of (base_of after f) f.files.tree.node f.files.numbers n
-      ≡ uses_of (base_of world f) f.files.tree.node f.files.numbers n
-      = ap (λ m. m + times_in n (named_in f.files)) here in
+      let here : inode_uses after f n ≡ inode_uses world f n
+      = (λ i. times (nat_eq n) (f.files.tree.root ∷ (named_in f.files
+      ++ map (λ location. location.node)
+      (filter (shown (mounts i) f.number n)
+      (locations i ++ map root_of (mounts i) ++ filter_map (λ mount. mount.mount_point) (mounts i)))
+      ++ (no_layers_of after (plain_of after plain_after) f.number
+      ∙ sym (no_layers_of world (plain_of world plain) f.number)) i
+      ++ (no_objects_of after (plain_of after plain_after) f.number
+      ∙ sym (no_objects_of world (plain_of world plain) f.number)) i))) in
       omega arith;
 }
 
@@ -411,9 +411,15 @@ mounts_use_filesystems world after gained lost front back was is number =
     ∙ (λ i. times (λ (mount : Mount ℕ). nat_eq number mount.filesystem) (sym is i) + times
     (λ (mount : Mount ℕ). nat_eq number mount.filesystem) lost)
 
--- A new tree
-pub new_tree_is_counted : NewTreeIsCounted
-new_tree_is_counted world number root plain one own outside = record {
+-- A new tree, where no overlay has a layer in it
+pub new_tree_counts : (world : World ℕ) (number root : ℕ) → layers_in nat_eq world number ≡ []
+    → flat_map (objects_of_overlay nat_eq number) world.filesystems ≡ []
+    → any_pair (λ (a b : Mount ℕ). nat_eq a.number b.number) world.mounts ≡ false
+    → list_all (λ mount. not (nat_eq number mount.filesystem) || nat_eq root mount.root) world.mounts ≡ true
+    → list_all (is_outside world number)
+    (all_locations world ++ filter_map (λ mount. mount.mount_point) world.mounts) ≡ true
+    → IsCounted world (new_plain nat_eq number root) (one_counted root (1 + mounts_showing world number))
+new_tree_counts world number root no_layers no_objects one own outside = record {
   root = refl;
   node = λ n. nodes n (nat_eq n root);
   uses = λ n. uses n;
@@ -488,9 +494,9 @@ new_tree_is_counted world number root plain one own outside = record {
         (cond b (Some (record { attr = root_attr; content = new_directory root })) None) ++ []))
         (eq-eqb root root refl) in
         let layers : times_in n (layers_in nat_eq world number) ≡ 0 =
-        ap (times_in n) (no_layers_of world (plain_of world plain) number) in
+        ap (times_in n) no_layers in
         let objects : times_in n (flat_map (objects_of_overlay nat_eq number) world.filesystems)
-        ≡ 0 = ap (times_in n) (no_objects_of world (plain_of world plain) number) in
+        ≡ 0 = ap (times_in n) no_objects in
         let a : times_in n (located_in nat_eq world number) ≡ count_in world.mounts number n
         (locs ++ tops) + count_in world.mounts number n points =
         count_append world.mounts number n (locs ++ tops) points in
@@ -511,6 +517,11 @@ new_tree_is_counted world number root plain one own outside = record {
             ≡ cond b 1 0 + cond b (mounts_showing world number) 0
         by true e = refl
         by false e = refl
+
+pub new_tree_is_counted : NewTreeIsCounted
+new_tree_is_counted world number root plain one own outside =
+    new_tree_counts world number root (no_layers_of world (plain_of world plain) number)
+    (no_objects_of world (plain_of world plain) number) one own outside
 
 -- The opening world
 pub opening_is_counted : OpeningIsCounted

@@ -1,31 +1,32 @@
 -- Counted inodes after the sweep at the end of a call.
-use Rattle.std.proofs.Common.{◌≡◌, refl, sym, ap, subst, ◌∙◌, ℕ, ◌+◌, ◌≤◌, nat_eq, Bool, true, false, cond, not, List, [], map, filter, None, is_some, arith}
+use Rattle.std.proofs.Common.{◌≡◌, refl, sym, ap, subst, ◌∙◌, ℕ, ◌≤◌, nat_eq, Bool, true, false, cond, not, List, [], ◌∷◌, ◌++◌, length, map, filter, flat_map, None, is_some, arith}
 use Rattle.std.specs.List.{list_all}
 use Rattle.vt_spec.specs.FileTree.{targets_in}
-use Rattle.vt_spec.specs.Lists.{is_among}
-use Rattle.vt_spec.specs.Machine.Settled.{filesystem_lives, named_in, only_used_of, settled, used_in, without_dead_groups, without_dead_inodes, without_dead_mounts}
-use Rattle.vt_spec.specs.Machine.World.{Filesystem, World, filesystem_numbered, is_overlay}
+use Rattle.vt_spec.specs.Lists.{any_pair, is_among}
+use Rattle.vt_spec.specs.Machine.Locked.{of_overlay}
+use Rattle.vt_spec.specs.Machine.Settled.{filesystem_lives, layers_in, located_in, named_in, objects_of_overlay, only_used, only_used_by, only_used_of, settled, used_in, without_dead_groups, without_dead_in, without_dead_mounts}
+use Rattle.vt_spec.specs.Machine.World.{Filesystem, World, filesystem_numbered, is_overlay, layers_of}
 use Rattle.vt_spec.specs.Inodes.{Inodes, node_in, uses_in}
-use Rattle.vt_laws_letting_go.specs.Counts.{inode_uses}
-use Rattle.vt_laws_letting_go.specs.InUse.{HasTrees, InodesInUse}
+use Rattle.vt_laws_letting_go.specs.Counts.{inode_uses, times}
+use Rattle.vt_laws_letting_go.specs.InUse.{HasTrees, InodesInUse, has_upper_in}
 use Rattle.vt_laws_letting_go.specs.OneByOne.{Inode}
-use Rattle.vt_laws_letting_go.specs.OneByOne as LettingGo
-use Rattle.vt_laws_letting_go.proofs.sweeps.InUse.{number-left, overlay-left}
-use Rattle.vt_laws_letting_go.proofs.sweeps.Inodes.{left_of_plain, plain_sweep, without_those}
-use Rattle.vt_laws_letting_go.proofs.Lists.{all_from_among, among-from_filter, among-from_map, among_from_all, fails, flat_map-filter, flat_map_alike, none_passes}
+use Rattle.vt_laws_letting_go.proofs.sweeps.InUse.{after_first, after_second, first_layers, layers-second, number-first, number-left, number-second, overlay-left, upper-left}
+use Rattle.vt_laws_letting_go.proofs.sweeps.Inodes.{left_of_plain, without_those}
+use Rattle.vt_laws_letting_go.proofs.Lists.{all_from_among, among-from_filter, among-from_map, among_from_all, flat_map-filter, flat_map-map, flat_map_alike}
 use Rattle.vt_laws_counts.proofs.counting.Times.{among_times, as_long, times_among, times_filter, times_in}
-use Rattle.vt_laws_counts.specs.Counted.{IsCounted, IsPlain}
+use Rattle.vt_laws_counts.specs.BesideOverlays.{HasNoUpperIn, UsesAreSweptBesideOverlays}
+use Rattle.vt_laws_counts.specs.Counted.{IsCounted}
 use Rattle.vt_laws_counts.specs.Sweeping.{UsesAreSwept}
 use Rattle.vt_laws_counts.specs.Using.{AreThere, Exchanges, exchanged}
 use Rattle.vt_laws_counts.proofs.using.Exchanged as Exchanged
-use Rattle.vt_laws_counts.proofs.using.Exchanged.{found_mapped, root_pinned, root_unpinned}
+use Rattle.vt_laws_counts.proofs.using.Exchanged.{found_mapped, numbers_mapped, root_pinned, root_unpinned}
 use Rattle.vt_laws_counts.proofs.Listed.{no_repeats}
-use Rattle.vt_laws_counts.proofs.using.Swept.{base_of, found_is, plain_of, plain_uses_are}
+use Rattle.vt_laws_counts.proofs.using.Swept.{found_number, no_objects_in}
 use Rattle.vt_spec.proofs.Inodes.{node_in-none, node_in_is_there, uses_in-none}
 use Rattle.vt_laws_letting_go.specs.TreesOverlays.{in_use_of}
 
 module _ (world after : World ℕ) (gained lost : List Inode) (k : ℕ) (inodes : Inodes ℕ) (trees : HasTrees world)
-    (in_use : InodesInUse world) (plain : IsPlain after)
+    (in_use : InodesInUse world) (apart : HasNoUpperIn k after)
     (exchange : Exchanges gained lost k world (in_use_of after))
     (counted : IsCounted world (filesystem_numbered nat_eq world k) inodes)
     (gains : AreThere k inodes gained) where
@@ -35,19 +36,20 @@ module _ (world after : World ℕ) (gained lost : List Inode) (k : ℕ) (inodes 
   abbrev lives : World ℕ
   lives = in_use_of after
 
-  plain_living : IsPlain lives
-  plain_living = all_from_among (λ g. is_overlay g ≡ false) lives.filesystems (λ g m.
-      among_from_all (λ h. is_overlay h ≡ false) after.filesystems plain g
+  apart_living : HasNoUpperIn k lives
+  apart_living = all_from_among (λ g. has_upper_in k g ≡ false) lives.filesystems (λ g m.
+      among_from_all (λ g. has_upper_in k g ≡ false) after.filesystems apart g
       (among-from_filter (filesystem_lives nat_eq (without_dead_mounts nat_eq after)) after.filesystems g m).0)
 
   abbrev used : List ℕ
   used = used_in nat_eq lives f
 
-  abbrev step : Filesystem ℕ → Filesystem ℕ
-  step g = only_used_of nat_eq (used_in nat_eq lives g) g
+  -- first inodes of overlays go, then those of plain trees
+  abbrev first : World ℕ
+  first = without_dead_in nat_eq is_overlay lives
 
   abbrev swept : World ℕ
-  swept = record lives { filesystems = map step lives.filesystems }
+  swept = without_dead_in nat_eq (λ g. not (is_overlay g)) first
 
   abbrev result : Inodes ℕ
   result = exchanged k gained lost inodes
@@ -55,33 +57,87 @@ module _ (world after : World ℕ) (gained lost : List Inode) (k : ℕ) (inodes 
   abbrev f_last : Filesystem ℕ
   f_last = without_those (λ n. not (is_among nat_eq n used)) f
 
-  plain_f : is_overlay f ≡ false
-  plain_f =
-      ap is_overlay (sym exchange.same)
-      ∙ fails is_overlay lives.filesystems (plain_of lives plain_living) (filesystem_numbered nat_eq lives k)
-      (found_is lives.filesystems k
-      (Exchanged.there_after world lives gained lost k inodes trees in_use plain_living exchange counted
-      gains))
+  -- no upper layer comes
+  upper_used : (some : World ℕ) (chosen : Bool) (g : Filesystem ℕ)
+      → has_upper_in k (only_used nat_eq some chosen g) ≡ has_upper_in k g
+  upper_used some true g = upper-left (used_in nat_eq some g) g k
+      (list_all (λ n. is_among nat_eq n (used_in nat_eq some g)) g.files.numbers)
+  upper_used some false g = refl
 
-  plain_swept : LettingGo.IsPlain swept
-  plain_swept = none_passes is_overlay swept.filesystems (λ g m.
-      let from = among-from_map step lives.filesystems g m in
-      ap is_overlay from.2 ∙ overlay-left (used_in nat_eq lives from.0) from.0
-      (list_all (λ n. is_among nat_eq n (used_in nat_eq lives from.0)) from.0.files.numbers)
-      ∙ fails is_overlay lives.filesystems (plain_of lives plain_living) from.0 from.1)
+  apart_in : (some : World ℕ) (chosen : Filesystem ℕ → Bool) → HasNoUpperIn k some
+      → HasNoUpperIn k (without_dead_in nat_eq chosen some)
+  apart_in some chosen so = all_from_among (λ g. has_upper_in k g ≡ false)
+      (without_dead_in nat_eq chosen some).filesystems (λ g m.
+      let from = among-from_map (λ h. only_used nat_eq some (chosen h) h) some.filesystems g m in
+      ap (has_upper_in k) from.2 ∙ upper_used some (chosen from.0) from.0
+      ∙ among_from_all (λ g. has_upper_in k g ≡ false) some.filesystems so from.0 from.1)
 
-  found : filesystem_numbered nat_eq swept k ≡ f_last
+  number_used : (some : World ℕ) (chosen : Bool) (g : Filesystem ℕ)
+      → (only_used nat_eq some chosen g).number ≡ g.number
+  number_used some true g = number-left (used_in nat_eq some g) g
+      (list_all (λ n. is_among nat_eq n (used_in nat_eq some g)) g.files.numbers)
+  number_used some false g = refl
+
+  -- layers stay
+  layers_swept : layers_in nat_eq swept k ≡ layers_in nat_eq lives k
+  layers_swept =
+      ap (λ layers. map (λ layer. layer.directory) (filter (λ layer. nat_eq k layer.filesystem) layers))
+      (flat_map-map (after_second after) (of_overlay [] layers_of) first.filesystems (layers-second after))
+      ∙ first_layers after k
+
+  -- of the filesystem are left the inodes in use
+  f_number : f.number ≡ k
+  f_number = found_number world.filesystems k
+
+  used_first : used_in nat_eq first f ≡ used
+  used_first = λ i. f.files.tree.root ∷ (named_in f.files ++ located_in nat_eq lives f.number
+      ++ first_layers after f.number i
+      ++ (ap (λ m. flat_map (objects_of_overlay nat_eq m) first.filesystems) f_number
+      ∙ no_objects_in k first (apart_in lives is_overlay apart_living)
+      ∙ sym (no_objects_in k lives apart_living)
+      ∙ ap (λ m. flat_map (objects_of_overlay nat_eq m) lives.filesystems) (sym f_number)) i)
+
+  left_so : after_second after (after_first after f) ≡ only_used_of nat_eq used f
+  left_so = by (is_overlay f) refl
+    where
+      by : (b : Bool) → is_overlay f ≡ b → after_second after (after_first after f) ≡ only_used_of nat_eq used f
+      by true e =
+          ap (after_second after) (ap (λ b. only_used nat_eq lives b f) e)
+          ∙ ap (λ b. only_used nat_eq first (not b) (only_used_of nat_eq used f))
+          (overlay-left used f (list_all (λ n. is_among nat_eq n used) f.files.numbers) ∙ e)
+      by false e =
+          ap (after_second after) (ap (λ b. only_used nat_eq lives b f) e)
+          ∙ ap (λ b. only_used nat_eq first (not b) f) e
+          ∙ ap (λ u. only_used_of nat_eq u f) used_first
+
+  there_first : is_among nat_eq k (map (λ g. g.number) first.filesystems) ≡ true
+  there_first =
+      ap (is_among nat_eq k) (numbers_mapped (after_first after) (number-first after) lives.filesystems)
+      ∙ Exchanged.there_after world lives gained lost k inodes trees in_use apart_living exchange counted gains
+
+  found : filesystem_numbered nat_eq swept k ≡ only_used_of nat_eq used f
   found =
-      found_mapped step (λ g. number-left (used_in nat_eq lives g) g
-      (list_all (λ n. is_among nat_eq n (used_in nat_eq lives g)) g.files.numbers)) lives.filesystems k
-      (Exchanged.there_after world lives gained lost k inodes trees in_use plain_living exchange counted gains)
-      ∙ ap step exchange.same
-      ∙ left_of_plain used f
-      (Exchanged.tree world lives gained lost k inodes trees in_use plain_living exchange counted gains).numbers
-      plain_f
+      found_mapped (after_second after) (number-second after) first.filesystems k there_first
+      ∙ ap (after_second after)
+      (found_mapped (after_first after) (number-first after) lives.filesystems k
+      (Exchanged.there_after world lives gained lost k inodes trees in_use apart_living exchange counted gains)
+      ∙ ap (after_first after) exchange.same)
+      ∙ left_so
+
+  files_left : (only_used_of nat_eq used f).files ≡ f_last.files
+  files_left =
+      aside (list_all (λ n. is_among nat_eq n used) f.files.numbers)
+      ∙ ap (λ (g : Filesystem ℕ). g.files)
+      (left_of_plain used (record f { overlay = None })
+      (Exchanged.tree world lives gained lost k inodes trees in_use apart_living exchange counted gains).numbers refl)
+    where
+      aside : (b : Bool)
+          → (only_used_by nat_eq b used f).files ≡ (only_used_by nat_eq b used (record f { overlay = None })).files
+      aside true = refl
+      aside false = refl
 
   counts : Rattle.vt_laws_counts.proofs.counting.Counts.IsCounted (inode_uses lives f) f.files.tree.node result
-  counts = Exchanged.counted_then world lives gained lost k inodes trees in_use plain_living exchange counted gains
+  counts = Exchanged.counted_then world lives gained lost k inodes trees in_use apart_living exchange counted gains
 
   used_times : (n : ℕ) → times_in n used ≡ uses_in (result.inode n)
   used_times n = sym (counts.uses_are n)
@@ -135,7 +191,7 @@ module _ (world after : World ℕ) (gained lost : List Inode) (k : ℕ) (inodes 
     where
       by : (b : Bool) → is_some (result.inode n) ≡ b → cond (not (not b)) (times_in n f.files.numbers) 0 ≡ cond b 1 0
       by true e =
-          Exchanged.once_f world lives gained lost k inodes trees in_use plain_living exchange counted gains n
+          Exchanged.once_f world lives gained lost k inodes trees in_use apart_living exchange counted gains n
           ∙ ap (λ b. cond b 1 0) (ap is_some (counts.kept n e) ∙ node_in_is_there (result.inode n) e)
       by false e = refl
 
@@ -153,12 +209,31 @@ module _ (world after : World ℕ) (gained lost : List Inode) (k : ℕ) (inodes 
         ∙ root_pinned k f.files.tree.node gained inodes ∙ counted.root;
     node = node_last;
     uses = λ n.
-        counts.uses_are n ∙ plain_uses_are lives (plain_of lives plain_living) f n
-        ∙ ap (λ l. base_of lives f n + times_in n l) (sym named)
-        ∙ sym (plain_uses_are swept plain_swept f_last n);
+        counts.uses_are n
+        ∙ (λ i. times (nat_eq n) (f.files.tree.root ∷ (sym named i ++ located_in nat_eq lives f.number
+        ++ (ap (layers_in nat_eq lives) f_number ∙ sym layers_swept ∙ ap (layers_in nat_eq swept) (sym f_number)) i
+        ++ (ap (λ m. flat_map (objects_of_overlay nat_eq m) lives.filesystems) f_number
+        ∙ no_objects_in k lives apart_living
+        ∙ sym (no_objects_in k swept
+        (apart_in first (λ g. not (is_overlay g)) (apart_in lives is_overlay apart_living)))
+        ∙ ap (λ m. flat_map (objects_of_overlay nat_eq m) swept.filesystems) (sym f_number)) i)));
     count = counts.as_many ∙ as_long counts.list f_last.files.numbers (λ n. counts.listed n ∙ sym (times_last n));
     once = no_repeats f_last.files.numbers few;
   }
+
+  -- counts are of the files
+  counted_files : IsCounted swept (only_used_of nat_eq used f) result
+  counted_files = record {
+    root = counted_swept.root ∙ ap (λ files. files.tree.root) (sym files_left);
+    node = λ n. counted_swept.node n ∙ ap (λ files. files.tree.node n) (sym files_left);
+    uses = λ n. counted_swept.uses n
+        ∙ (λ i. inode_uses swept (record f_last { number = numbered i; files = sym files_left i }) n);
+    count = counted_swept.count ∙ ap (λ files. length files.numbers) (sym files_left);
+    once = ap (λ files. any_pair nat_eq files.numbers) files_left ∙ counted_swept.once;
+  }
+    where
+      numbered : f.number ≡ (only_used_of nat_eq used f).number
+      numbered = sym (number-left used f (list_all (λ n. is_among nat_eq n used) f.files.numbers))
 
   -- groups do not use inodes
   grouped : (some : World ℕ) → IsCounted some (filesystem_numbered nat_eq some k) result
@@ -167,12 +242,13 @@ module _ (world after : World ℕ) (gained lost : List Inode) (k : ℕ) (inodes 
   grouped some is = record { root = is.root; node = is.node; uses = is.uses; count = is.count; once = is.once }
 
   counted_settled : IsCounted (settled nat_eq after) (filesystem_numbered nat_eq (settled nat_eq after) k) result
-  counted_settled =
-      grouped (without_dead_inodes nat_eq lives)
-      (subst (λ w. IsCounted w (filesystem_numbered nat_eq w k) result)
-      (sym (plain_sweep lives (plain_of lives plain_living)))
-      (subst (λ g. IsCounted swept g result) (sym found) counted_swept))
+  counted_settled = grouped swept (subst (λ g. IsCounted swept g result) (sym found) counted_files)
+
+pub uses_are_swept_beside_overlays : UsesAreSweptBesideOverlays
+uses_are_swept_beside_overlays world after gained lost filesystem inodes trees in_use apart exchange counted gains =
+    counted_settled world after gained lost filesystem inodes trees in_use apart exchange counted gains
 
 pub uses_are_swept : UsesAreSwept
 uses_are_swept world after gained lost filesystem inodes trees in_use plain exchange counted gains =
-    counted_settled world after gained lost filesystem inodes trees in_use plain exchange counted gains
+    counted_settled world after gained lost filesystem inodes trees in_use
+    (Exchanged.plain_apart filesystem after plain) exchange counted gains

@@ -3,30 +3,31 @@ use Rattle.std.proofs.Common.{◌≡◌, ◌≢◌, refl, sym, ap, subst, ◌∙
 use Rattle.std.specs.List.{list_all}
 use Rattle.std.proofs.lemmas.Bool.{or_cases}
 use Rattle.vt_spec.specs.FileTree.{FileTree, targets_in}
-use Rattle.vt_spec.specs.Lists.{is_among}
+use Rattle.vt_spec.specs.Lists.{any_pair, is_among}
 use Rattle.vt_spec.specs.Machine.Filesystems.{with_files}
-use Rattle.vt_spec.specs.Machine.Settled.{layers_in, located_in, named_in, objects_of_overlay, only_among, only_used, only_used_by, real_among, settled, used_in, without_dead_groups, without_dead_in, without_dead_inodes}
-use Rattle.vt_spec.specs.Machine.World.{Filesystem, Overlay, World, filesystem_numbered, is_overlay, no_filesystem, replaced_if_numbered}
+use Rattle.vt_spec.specs.Machine.Locked.{of_overlay, overlay_or}
+use Rattle.vt_spec.specs.Machine.Settled.{filesystem_lives, layers_in, located_in, named_in, objects_of_overlay, only_among, only_used, only_used_by, real_among, settled, used_in, without_dead_filesystems, without_dead_groups, without_dead_in, without_dead_inodes, without_dead_mounts}
+use Rattle.vt_spec.specs.Machine.World.{Filesystem, Overlay, World, filesystem_numbered, is_overlay, layers_of, no_filesystem, replaced_if_numbered}
 use Rattle.vt_spec.specs.Inodes.{Inode, Inodes, node_in, uses_in}
 use Rattle.vt_spec.specs.Tree.{Node}
 use Rattle.vt_laws_letting_go.specs.Counts.{inode_uses, times}
-use Rattle.vt_laws_letting_go.specs.InUse.{AllInUse, IsListedTree, is_inode_used}
+use Rattle.vt_laws_letting_go.specs.InUse.{AllInUse, IsListedTree, has_upper_in, is_inode_used}
 use Rattle.vt_laws_letting_go.specs.OneByOne as LettingGo
 use Rattle.vt_laws_letting_go.specs.TreeChanges.{with_tree}
-use Rattle.vt_laws_letting_go.proofs.sweeps.InUse.{UnusedAreEmpty, groups_stay, named-left}
-use Rattle.vt_laws_letting_go.proofs.Lists.{Among, all_pass, among-from_map, among_from_all, among_numbers, fails, map_same, none_passes, or_first, passes}
-use Rattle.vt_laws_letting_go.proofs.leaving.PlacesLeft.{no_layers_of}
+use Rattle.vt_laws_letting_go.proofs.sweeps.InUse.{UnusedAreEmpty, filesystems_stay, groups_stay, mounts_stay, named-left, no_objects, no_upper_objects}
+use Rattle.vt_laws_letting_go.proofs.Lists.{Among, all_pass, among-from_map, among_from_all, among_numbers, flat_map-step, flat_map_none, none_passes, passes}
 use Rattle.vt_laws_counts.proofs.counting.Counts as Counts
 use Rattle.vt_laws_counts.proofs.counting.Counts.{one_if-itself}
 use Rattle.vt_laws_counts.proofs.counting.Entries.{named_by, one_if}
 use Rattle.vt_laws_counts.proofs.counting.Times.{among_times, as_long, times_among, times_append, times_filter, times_in}
 use Rattle.vt_laws_counts.specs.Counted.{IsCounted, IsPlain}
+use Rattle.vt_laws_counts.specs.BesideOverlays.{HasNoUpperIn}
 use Rattle.vt_laws_counts.proofs.Listed.{no_repeats, once_or_none}
 use Rattle.vt_laws_counts.proofs.changing.TreeCounts.{IsStart, IsTallied, other_uses, uses_of}
 use Rattle.vt_spec.proofs.Inodes.{is_some-node_in, node_in-none, node_in_is_there, uses_in-none}
-use Rattle.vt_laws_letting_go.proofs.sweeps.Inodes.{no_objects_of}
 use Rattle.vt_spec.proofs.Lists.{map_alike, map_twice}
-use Rattle.vt_laws_letting_go.proofs.leaving.TreesChanged.{plain_after, plain_old, same_living}
+use Rattle.vt_laws_letting_go.proofs.leaving.TreesWithOverlays.{lives_alike}
+use Rattle.vt_laws_letting_go.proofs.sweeps.OfWorlds.{found_filesystem}
 
 pub plain_of : (world : World ℕ) → IsPlain world → LettingGo.IsPlain world
 plain_of world plain = none_passes is_overlay world.filesystems
@@ -62,22 +63,26 @@ uses_split world f n =
     objects : List ℕ
     objects = flat_map (objects_of_overlay nat_eq f.number) world.filesystems
 
--- In a world of plain filesystems an inode is used as the root, by names, and at locations.
+-- Names aside: the root, locations, layers, and objects of overlays.
 
 abbrev pub base_of : World ℕ → Filesystem ℕ → ℕ → ℕ
-base_of world filesystem n = one_if n filesystem.files.tree.root + times_in n
-    (located_in nat_eq world filesystem.number)
+base_of world filesystem n = one_if n filesystem.files.tree.root +
+    ((times_in n (located_in nat_eq world filesystem.number)
+    + times_in n (layers_in nat_eq world filesystem.number))
+    + times_in n (flat_map (objects_of_overlay nat_eq filesystem.number) world.filesystems))
 
-pub plain_uses_are : (world : World ℕ) → LettingGo.IsPlain world → (filesystem : Filesystem ℕ) (n : ℕ)
+pub uses_are : (world : World ℕ) (filesystem : Filesystem ℕ) (n : ℕ)
     → inode_uses world filesystem n
     ≡ uses_of (base_of world filesystem) filesystem.files.tree.node filesystem.files.numbers n
-plain_uses_are world plain filesystem n =
-    let split = uses_split world filesystem n in
-    let none : times_in n (layers_in nat_eq world filesystem.number) ≡ 0 =
-    ap (times_in n) (no_layers_of world plain filesystem.number) in
-    let nothing : times_in n (flat_map (objects_of_overlay nat_eq filesystem.number) world.filesystems) ≡ 0 =
-    ap (times_in n) (no_objects_of world plain filesystem.number) in
-    omega arith
+uses_are world filesystem n = let split = uses_split world filesystem n in omega arith
+
+-- where no overlay has its upper layer in a filesystem, none has objects there
+pub no_objects_in : (number : ℕ) (world : World ℕ) → HasNoUpperIn number world
+    → flat_map (objects_of_overlay nat_eq number) world.filesystems ≡ []
+no_objects_in number world apart =
+    flat_map_none (objects_of_overlay nat_eq number) world.filesystems
+    (λ f m. no_upper_objects world number f
+    (among_from_all (λ merged. has_upper_in number merged ≡ false) world.filesystems apart f m))
 
 -- Filesystems by their numbers
 
@@ -165,7 +170,7 @@ found_number (first ∷ rest) number = by (nat_eq number first.number) refl (fou
     by true e later = sym (eqb-true number first.number e)
     by false e later = later
 
-not_found : (filesystems : List (Filesystem ℕ)) (number : ℕ)
+pub not_found : (filesystems : List (Filesystem ℕ)) (number : ℕ)
     → is_among nat_eq number (map (λ f. f.number) filesystems) ≡ false
     → unwrap_or (find (λ f. nat_eq number f.number) filesystems) (no_filesystem number) ≡ no_filesystem number
 not_found [] number none = refl
@@ -237,16 +242,16 @@ start_counts world filesystem inodes tree used counted = record {
     same_there n = sym (is_some-node_in (inodes.inode n)) ∙ ap is_some (counted.node n)
 
 -- The counted inodes before a change
-pub counted_start : (world : World ℕ) (filesystem : Filesystem ℕ) (inodes : Inodes ℕ) → LettingGo.IsPlain world
+pub counted_start : (world : World ℕ) (filesystem : Filesystem ℕ) (inodes : Inodes ℕ)
     → IsListedTree filesystem.files
     → list_all (is_inode_used world filesystem) filesystem.files.numbers ≡ true → IsCounted world filesystem inodes
     → IsStart (base_of world filesystem) filesystem.files.tree.node filesystem.files.numbers inodes
-counted_start world filesystem inodes plain tree used counted = record {
+counted_start world filesystem inodes tree used counted = record {
   tallied = record {
     counted = other_uses (inode_uses world filesystem)
         (uses_of (base_of world filesystem) filesystem.files.tree.node filesystem.files.numbers)
         filesystem.files.tree.node inodes
-        (plain_uses_are world plain filesystem) (start_counts world filesystem inodes tree used counted);
+        (uses_are world filesystem) (start_counts world filesystem inodes tree used counted);
     once = λ n. once_or_none n filesystem.files.numbers counted.once ∙ ap (λ b. cond b 1 0) (tree.numbers n);
   };
   same = counted.node;
@@ -254,7 +259,9 @@ counted_start world filesystem inodes plain tree used counted = record {
 }
 
 -- The sweep
-module _ (world : World ℕ) (number : ℕ) (files : FileTree ℕ) (in_use : AllInUse world) (plain : LettingGo.IsPlain world)
+module _ (world : World ℕ) (number : ℕ) (files : FileTree ℕ) (in_use : AllInUse world)
+    (one : any_pair (λ (a b : Filesystem ℕ). nat_eq a.number b.number) world.filesystems ≡ false)
+    (plain : is_overlay (filesystem_numbered nat_eq world number) ≡ false)
     (there : is_among nat_eq number (map (λ f. f.number) world.filesystems) ≡ true) where
   abbrev pub old : Filesystem ℕ
   old = filesystem_numbered nat_eq world number
@@ -274,32 +281,105 @@ module _ (world : World ℕ) (number : ℕ) (files : FileTree ℕ) (in_use : All
   abbrev pub done : World ℕ
   done = with_tree world number swept
 
-  no_overlays : without_dead_in nat_eq is_overlay raw ≡ raw
-  no_overlays =
-      ap (λ filesystems. record raw { filesystems = filesystems })
-      (map_same (λ f. only_used nat_eq raw (is_overlay f) f) raw.filesystems
-      (λ f m. ap (λ b. only_used nat_eq raw b f) (fails is_overlay raw.filesystems
-      (plain_after world number files in_use plain there) f m)))
+  -- the one of that number is the old one
+  is_old : (f : Filesystem ℕ) → Among f world.filesystems → nat_eq old.number f.number ≡ true → f ≡ old
+  is_old f m e =
+      sym (found_filesystem world.filesystems one f m)
+      ∙ ap (filesystem_numbered nat_eq world)
+      (sym (eqb-true old.number f.number e) ∙ found_number world.filesystems number)
+
+  -- each keeps its number and its overlay
+  number_kept : (some : FileTree ℕ) (f : Filesystem ℕ) → Among f world.filesystems
+      → (replaced_if_numbered nat_eq (with_files old some) f).number ≡ f.number
+  number_kept some f m = by (nat_eq old.number f.number) refl
+    where
+      by : (b : Bool) → nat_eq old.number f.number ≡ b → (cond b (with_files old some) f).number ≡ f.number
+      by true e = eqb-true old.number f.number e
+      by false e = refl
+
+  overlay_kept : (some : FileTree ℕ) (f : Filesystem ℕ) → Among f world.filesystems
+      → (replaced_if_numbered nat_eq (with_files old some) f).overlay ≡ f.overlay
+  overlay_kept some f m = by (nat_eq old.number f.number) refl
+    where
+      by : (b : Bool) → nat_eq old.number f.number ≡ b → (cond b (with_files old some) f).overlay ≡ f.overlay
+      by true e = ap (λ (g : Filesystem ℕ). g.overlay) (sym (is_old f m e))
+      by false e = refl
+
+  layers_kept : (some : FileTree ℕ) (k : ℕ)
+      → layers_in nat_eq (with_tree world number some) k ≡ layers_in nat_eq world k
+  layers_kept some k =
+      ap (λ layers. map (λ layer. layer.directory) (filter (λ layer. nat_eq k layer.filesystem) layers))
+      (flat_map-step (replaced_if_numbered nat_eq (with_files old some)) (of_overlay [] layers_of) world.filesystems
+      (λ f m. ap (overlay_or [] layers_of) (overlay_kept some f m)))
+
+  objects_kept : (some : FileTree ℕ) (k : ℕ)
+      → flat_map (objects_of_overlay nat_eq k) (with_tree world number some).filesystems
+      ≡ flat_map (objects_of_overlay nat_eq k) world.filesystems
+  objects_kept some k =
+      flat_map-step (replaced_if_numbered nat_eq (with_files old some)) (objects_of_overlay nat_eq k) world.filesystems
+      (λ f m. by f m (nat_eq old.number f.number) refl)
+    where
+      by : (f : Filesystem ℕ) → Among f world.filesystems → (b : Bool) → nat_eq old.number f.number ≡ b
+          → objects_of_overlay nat_eq k (cond b (with_files old some) f) ≡ objects_of_overlay nat_eq k f
+      by f m true e =
+          no_objects world k (with_files old some) plain
+          ∙ sym (no_objects world k f (ap is_overlay (is_old f m e) ∙ plain))
+      by f m false e = refl
+
+  -- so no mount and no filesystem goes
+  same_living : without_dead_filesystems nat_eq (without_dead_mounts nat_eq raw) ≡ raw
+  same_living =
+      ap (without_dead_filesystems nat_eq) (mounts_stay raw in_use.mounts)
+      ∙ filesystems_stay raw
+      (all_pass (filesystem_lives nat_eq raw) raw.filesystems (λ g m.
+      let from = among-from_map (replaced_if_numbered nat_eq new) world.filesystems g m in
+      ap (filesystem_lives nat_eq raw) from.2
+      ∙ lives_alike world (replaced_if_numbered nat_eq new) (number_kept files)
+      (λ f n. ap (overlay_or [] layers_of) (overlay_kept files f n)) from.0 from.1
+      ∙ passes (filesystem_lives nat_eq world) world.filesystems in_use.filesystems from.0 from.1))
 
   -- inodes of other filesystems stay
   used_same : (some : FileTree ℕ) (f : Filesystem ℕ)
       → used_in nat_eq (with_tree world number some) f ≡ used_in nat_eq world f
   used_same some f = λ i. f.files.tree.root ∷ (named_in f.files ++ located_in nat_eq world f.number
-      ++ (no_layers_of (with_tree world number some) (plain_after world number some in_use plain there) f.number
-      ∙ sym (no_layers_of world plain f.number)) i
-      ++ (no_objects_of (with_tree world number some) (plain_after world number some in_use plain there) f.number
-      ∙ sym (no_objects_of world plain f.number)) i)
+      ++ layers_kept some f.number i ++ objects_kept some f.number i)
+
+  base_same : (some : FileTree ℕ) (n : ℕ) → base_of (with_tree world number some) old n ≡ base_of world old n
+  base_same some n = λ i. one_if n old.files.tree.root +
+      ((times_in n (located_in nat_eq world old.number) + times_in n (layers_kept some old.number i))
+      + times_in n (objects_kept some old.number i))
+
+  -- what was there is used still
+  all_used : (f : Filesystem ℕ) → Among f world.filesystems
+      → list_all (λ n. is_among nat_eq n (used_in nat_eq raw f)) f.files.numbers ≡ true
+  all_used f m =
+      ap (λ u. list_all (λ n. is_among nat_eq n u) f.files.numbers) (used_same files f)
+      ∙ among_from_all (λ g. list_all (is_inode_used world g) g.files.numbers
+      ≡ true) world.filesystems in_use.inodes f m
+
+  stays_chosen : (chosen : Bool) (f : Filesystem ℕ) → Among f world.filesystems → only_used nat_eq raw chosen f ≡ f
+  stays_chosen true f m = ap (λ b. only_used_by nat_eq b (used_in nat_eq raw f) f) (all_used f m)
+  stays_chosen false f m = refl
+
+  -- nothing of an overlay goes
+  no_overlays : without_dead_in nat_eq is_overlay raw ≡ raw
+  no_overlays =
+      ap (λ filesystems. record raw { filesystems = filesystems })
+      (map_twice (λ f. only_used nat_eq raw (is_overlay f) f) (replaced_if_numbered nat_eq new) world.filesystems
+      ∙ map_alike (λ f. only_used nat_eq raw (is_overlay (replaced_if_numbered nat_eq new f))
+      (replaced_if_numbered nat_eq new f)) (replaced_if_numbered nat_eq new) world.filesystems
+      (λ f m. by f m (nat_eq old.number f.number)))
+    where
+      by : (f : Filesystem ℕ) → Among f world.filesystems → (b : Bool)
+          → only_used nat_eq raw (is_overlay (cond b new f)) (cond b new f) ≡ cond b new f
+      by f m true = ap (λ b. only_used nat_eq raw b new) plain
+      by f m false = stays_chosen (is_overlay f) f m
 
   abbrev step : Filesystem ℕ → Filesystem ℕ
   step f = only_used nat_eq raw (not (is_overlay f)) f
 
   stays : (f : Filesystem ℕ) → Among f world.filesystems → step f ≡ f
-  stays f m =
-      ap (λ b. only_used nat_eq raw (not b) f) (fails is_overlay world.filesystems plain f m)
-      ∙ ap (λ b. only_used_by nat_eq b (used_in nat_eq raw f) f)
-      (ap (λ u. list_all (λ n. is_among nat_eq n u) f.files.numbers) (used_same files f)
-      ∙ among_from_all (λ g. list_all (is_inode_used world g) g.files.numbers
-      ≡ true) world.filesystems in_use.inodes f m)
+  stays f m = stays_chosen (not (is_overlay f)) f m
 
   module _ (once : (n : ℕ) → times_in n files.numbers ≡ cond (is_some (files.tree.node n)) 1 0) where
     -- where all are used, all are kept
@@ -330,7 +410,7 @@ module _ (world : World ℕ) (number : ℕ) (files : FileTree ℕ) (in_use : All
             (passes (λ n. is_among nat_eq n used) files.numbers all))
 
     step_new : step new ≡ with_files old swept
-    step_new = ap (λ b. only_used nat_eq raw (not b) new) (plain_old world number files in_use plain there)
+    step_new = ap (λ b. only_used nat_eq raw (not b) new) plain
         ∙ by (list_all (λ n. is_among nat_eq n used) files.numbers) refl
       where
         no_real : (o : Option (Overlay ℕ)) → is_some o ≡ false → option_map (real_among nat_eq used) o ≡ o
@@ -343,7 +423,7 @@ module _ (world : World ℕ) (number : ℕ) (files : FileTree ℕ) (in_use : All
         by false e = λ i. record old {
           files = swept;
           overlay =
-              no_real old.overlay (plain_old world number files in_use plain there) i;
+              no_real old.overlay plain i;
         }
 
     inodes_swept : without_dead_in nat_eq (λ f. not (is_overlay f)) raw ≡ done
@@ -362,7 +442,7 @@ module _ (world : World ℕ) (number : ℕ) (files : FileTree ℕ) (in_use : All
     pub settled_is : settled nat_eq raw ≡ done
     settled_is =
         ap (λ w. without_dead_groups nat_eq (without_dead_inodes nat_eq w))
-        (same_living world number files in_use plain there)
+        same_living
         ∙ ap (λ w. without_dead_groups nat_eq (without_dead_in nat_eq (λ f. not (is_overlay f)) w)) no_overlays
         ∙ ap (without_dead_groups nat_eq) inodes_swept
         ∙ groups_stay done in_use.groups
@@ -392,13 +472,18 @@ module _ (world : World ℕ) (number : ℕ) (files : FileTree ℕ) (in_use : All
   module _ (inodes : Inodes ℕ) (root : inodes.root ≡ files.tree.root)
       (root_same : files.tree.root ≡ old.files.tree.root)
       (tallied : IsTallied (base_of world old) files.tree.node files.numbers inodes) where
+    -- the uses but by names, with another root
+    abbrev base_from : World ℕ → ℕ → ℕ → ℕ
+    base_from some root n = one_if n root +
+        ((times_in n (located_in nat_eq some old.number) + times_in n (layers_in nat_eq some old.number))
+        + times_in n (flat_map (objects_of_overlay nat_eq old.number) some.filesystems))
+
     used_times : (n : ℕ) → uses_in (inodes.inode n) ≡ times_in n used
     used_times n =
         tallied.counted.uses_are n
-        ∙ ap (λ r. (one_if n r + times_in n (located_in nat_eq world old.number)) + times_in n
-        (named_by files.tree.node files.numbers))
-        (sym root_same)
-        ∙ sym (plain_uses_are raw (plain_after world number files in_use plain there) new n)
+        ∙ ap (λ m. m + times_in n (named_by files.tree.node files.numbers)) (sym (base_same files n))
+        ∙ ap (λ r. uses_of (base_from raw r) files.tree.node files.numbers n) (sym root_same)
+        ∙ sym (uses_are raw new n)
 
     pub used_there : (n : ℕ) → is_among nat_eq n used ≡ is_some (inodes.inode n)
     used_there n = by (is_some (inodes.inode n)) refl
@@ -446,9 +531,9 @@ module _ (world : World ℕ) (number : ℕ) (files : FileTree ℕ) (in_use : All
       node = node_left;
       uses = λ n.
           tallied.counted.uses_are n
-          ∙ (λ i. (one_if n (sym root_same i) + times_in n (located_in nat_eq world old.number)) + times_in n
-          (sym (named-left used new unused_empty false) i))
-          ∙ sym (plain_uses_are done (plain_after world number swept in_use plain there) (with_files old swept) n);
+          ∙ ap (λ m. m + times_in n (named_by files.tree.node files.numbers)) (sym (base_same swept n))
+          ∙ (λ i. base_from done (sym root_same i) n + times_in n (sym (named-left used new unused_empty false) i))
+          ∙ sym (uses_are done (with_files old swept) n);
       count = tallied.counted.as_many
           ∙ as_long tallied.counted.list swept.numbers (λ n. tallied.counted.listed n ∙ sym (times_left n));
       once = no_repeats swept.numbers few;

@@ -1,0 +1,2 @@
+-- What the proofs of src/in_use.rt use.
+pub mod NamedBefore

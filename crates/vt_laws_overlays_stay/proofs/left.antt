@@ -1,0 +1,3 @@
+-- What the proofs of src/left.rt use.
+pub mod Given
+pub mod Lowers

@@ -1,0 +1,2 @@
+-- What the proofs of src/named.rt use.
+pub mod SeenNames

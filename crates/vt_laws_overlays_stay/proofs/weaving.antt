@@ -1,0 +1,3 @@
+-- What the proofs of src/weaving.rt use.
+pub mod LeftWoven
+pub mod WovenLists
