@@ -352,7 +352,7 @@ pub fn explain(
     format: Format,
 ) -> Result<String, AllocError>
     ensures { OnOk result (HasNumbers (kernel_world kernel.old)
-        → IsLeftBy (version_of version) (kernel_world kernel.old) line.text.now (kernel_world kernel.new)) }
+        → IsLeftBy (version_of version) (kernel_world kernel.old) line.entry.text.now (kernel_world kernel.new)) }
 {
     let asked = Asked {
         version,

@@ -41,8 +41,8 @@ impl Openings {
         found
     }
 
-    // Makes a call, and notes what it opens.
-    fn note(&mut self, kernel: &mut Kernel, task: TaskName, call: Call) -> Result<(), AllocError>
+    // Makes a call, and records what it opens.
+    fn record(&mut self, kernel: &mut Kernel, task: TaskName, call: Call) -> Result<(), AllocError>
         requires { needs_no_layers (call_of call) ≡ true }
     {
         if let Ok(Answer::Opened(descriptor)) = kernel.call(&task, call) {
@@ -57,8 +57,8 @@ impl Openings {
     }
 }
 
-// Notes what the lines open, which are made in a world.
-fn note_lines(
+// Records what the lines open, which are made in a world.
+fn record_lines(
     version: Version,
     alloc: Global,
     kernel: &mut Kernel,
@@ -69,9 +69,12 @@ fn note_lines(
         lines: 0,
     };
     let mut rest = script;
-    while let Some((text, after)) = first_line(rest) {
+    for _ in 0..u64::MAX {
+        let Some((text, after)) = first_line(rest) else {
+            return Ok(openings);
+        };
         if let Ok(Line::Call(task, call)) = Line::parse_as(version, alloc, text) {
-            openings.note(kernel, task, call)?;
+            openings.record(kernel, task, call)?;
         }
         openings.lines = openings.lines.saturating_add(1);
         rest = after;
@@ -84,8 +87,8 @@ pub fn openings_of(version: Version, alloc: Global, script: &[u8]) -> Result<Ope
     let Ok(mut kernel) = Kernel::opening(alloc) else {
         return Err(AllocError);
     };
-    let noted = note_lines(version, alloc, &mut kernel, script);
+    let recorded = record_lines(version, alloc, &mut kernel, script);
     // By a call: the proof of a function that drops a world itself takes minutes.
     drop(kernel);
-    noted
+    recorded
 }
