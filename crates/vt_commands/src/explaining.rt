@@ -36,32 +36,22 @@ fn no_call(alloc: Global, line: u64, nearest: Option<u64>) -> Result<String, Fau
     told.map_err(out_of_memory)
 }
 
-// Explains a line in the world that a run of the script has before it.
+// Explains the line of this number of a script, in the world that a run of the script has before it.
 fn explained(
     alloc: Global,
     options: Options,
     script: &[u8],
-    before: u64,
-    text: &[u8],
+    number: u64,
+    line: Numbered<'_>,
 ) -> Result<(String, u64), Fault>
     ensures { IfErr result (λ fault. comes_before_output fault ≡ false) }
 {
-    let line = options.line.saturating_sub(before);
-    let mut reached = match reached_before::<Kernel>(options.version, alloc, script, line) {
+    let mut reached = match reached_before::<Kernel>(options.version, alloc, script, number) {
         Ok(reached) => reached,
         Err(fault) => return Err(Fault::Run(fault)),
     };
-    let numbered = Numbered {
-        number: options.line,
-        text,
-    };
-    let outcome = explain_line(
-        options.version,
-        alloc,
-        &mut reached.world,
-        numbered,
-        options.format,
-    );
+    let world = &mut reached.world;
+    let outcome = explain_line(options.version, alloc, world, line, options.format);
     let refused = reached.refused;
     // By a call: the proof of a function that drops a world itself takes minutes.
     drop(reached);
@@ -83,16 +73,21 @@ fn explain_script<R: Eprint + AllocGlobal, W: Write>(
     ensures { IfErr result (λ fault. comes_before_output fault ≡ false) }
 {
     let alloc = rt.alloc();
-    let line = options.line.saturating_sub(before);
-    let found = line_at(alloc, script, line).map_err(out_of_memory)?;
-    if let Some(text) = found {
+    let number = options.line.saturating_sub(before);
+    let found = line_at(alloc, script, number).map_err(out_of_memory)?;
+    if let Some((before, text)) = found {
         if is_spoken(options.version, alloc, text) {
-            let (told, refused) = explained(alloc, options, script, before, text)?;
+            let line = Numbered {
+                number: options.line,
+                text,
+                before,
+            };
+            let (told, refused) = explained(alloc, options, script, number, line)?;
             count_refused(rt, name, refused);
             return hand_on(output, told.as_bytes());
         }
     }
-    let nearest = nearest_call(options.version, alloc, script, line);
+    let nearest = nearest_call(options.version, alloc, script, number);
     let nearest = match nearest {
         Some(nearest) => Some(nearest.saturating_add(before)),
         None => None,

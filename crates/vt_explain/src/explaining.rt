@@ -1,13 +1,20 @@
 //! A line of a script explained, and answered.
-ghost use Rattle.std.specs.Prelude.{◌≡◌, true};
+ghost use Rattle.std.specs.Prelude.{◌≡◌, true, OnOk, Result};
+ghost use Rattle.vt_spec.specs.declared.errors.Deny.{Deny};
 ghost use Rattle.vt_spec.specs.Language.Script.{needs_no_layers};
+ghost use Rattle.vt_request.specs.declared.answer.Answer.{Answer};
 ghost use Rattle.vt_request.specs.Requests.{call_of};
+ghost use Rattle.vt_line.specs.Versions.{version_of};
+ghost use Rattle.vt_answers.specs.Ends.{Ends, HasNumbers};
+ghost use Rattle.vt_script.specs.Session.{IsLeftBy};
+ghost use Rattle.vt_calls.specs.KernelValue.{kernel_world};
 
 use crate::asked::{PathAsked, paths_of};
 use crate::changes::{Sides, changes};
 use crate::holders::{Look, holders};
 use crate::known::{Known, known_mounts};
 use crate::names;
+use crate::opened::openings_of;
 use crate::report::Format;
 use crate::walked::{View, path_walked};
 use serde_json::Value;
@@ -30,16 +37,18 @@ use vt_spec::errors::{Deny, Rule};
 /// How much of an answer is kept at a time.
 const PIECE: usize = 4096;
 
-/// A line of a file, with its number there, from 1.
+/// A line of a file, with its number there, from 1, and the lines of its script before it.
 #[derive(Clone, Copy)]
 pub struct Numbered<'a> {
     pub number: u64,
     pub text: &'a [u8],
+    pub before: &'a [u8],
 }
 
 // A line that is explained, and how.
 #[derive(Clone, Copy)]
 struct Asked<'a> {
+    version: Version,
     alloc: Global,
     line: Numbered<'a>,
     format: Format,
@@ -264,12 +273,15 @@ fn push_holders(
 ) -> Result<(), AllocError> {
     let places = Places::new(asked.alloc, world)?;
     let groups = world.peers()?;
+    let openings = openings_of(asked.version, asked.alloc, asked.line.before)?;
     let look = Look {
         alloc: asked.alloc,
         world,
         places: &places,
         mounts: before.mounts.as_slice(),
         groups: groups.as_slice(),
+        openings: &openings,
+        line: asked.line.number,
         namespace,
     };
     push_held(asked, &look, call, before.first, text)?;
@@ -310,6 +322,8 @@ fn explain_call(
     call: Call,
 ) -> Result<String, AllocError>
     requires { needs_no_layers (call_of call) ≡ true }
+    ensures { OnOk result ((outcome : Result Answer Deny)
+        × Ends kernel_world kernel.old name.now (call_of call) outcome kernel.new) }
 {
     let before = told_before(asked, kernel.world(), name, &call)?;
     let kind = call.kind();
@@ -327,7 +341,7 @@ fn explain_call(
     Ok(text)
 }
 
-/// Explains a line in the world before it, and answers it: the world is then the one behind the line.
+/// Explains a line in the world before it, and answers it: the world is then the one that a run has behind the line.
 ///
 /// Of a line without an answer nothing is told.
 pub fn explain(
@@ -336,8 +350,12 @@ pub fn explain(
     kernel: &mut Kernel,
     line: Numbered<'_>,
     format: Format,
-) -> Result<String, AllocError> {
+) -> Result<String, AllocError>
+    ensures { OnOk result (HasNumbers (kernel_world kernel.old)
+        → IsLeftBy (version_of version) (kernel_world kernel.old) line.entry.text.now (kernel_world kernel.new)) }
+{
     let asked = Asked {
+        version,
         alloc,
         line,
         format,

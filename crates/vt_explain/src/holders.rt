@@ -1,12 +1,13 @@
 //! Who holds what is busy: tasks with roots, directories and open files on a mount, and mounts that stand there.
 use crate::known::{Known, find};
 use crate::names;
+use crate::opened::Openings;
 use crate::receiving::receives;
 use crate::report::{Heads, Section};
 use std::alloc::{AllocError, Global};
 use vt_location::{Location, MountId, NamespaceId};
 use vt_ns::World;
-use vt_request::{CallKind, PeerLine, TypeLine};
+use vt_request::{Access, CallKind, PeerLine, TypeLine};
 use vt_show::places::Places;
 use vt_tasks::Task;
 
@@ -24,6 +25,10 @@ pub struct Look<'a> {
     pub places: &'a Places<'a>,
     pub mounts: &'a [Known],
     pub groups: &'a [PeerLine],
+    /// What the lines before opened.
+    pub openings: &'a Openings,
+    /// The number of the line that is explained.
+    pub line: u64,
     /// The namespace whose mounts alone keep a name from being removed, or none where all do.
     pub namespace: Option<NamespaceId>,
 }
@@ -70,6 +75,20 @@ fn push_use(
     )
 }
 
+// How an open file of a task is told: its number, its access, and the line that opened it.
+fn file_words(
+    look: &Look<'_>,
+    task: &Task,
+    number: u8,
+    access: Access,
+) -> Result<String, AllocError> {
+    let access = names::access(access);
+    match look.openings.line_of(&task.name, number, look.line) {
+        Some(line) => format!(in look.alloc; "open {number} {access}, line {line}"),
+        None => format!(in look.alloc; "open {number} {access}"),
+    }
+}
+
 // Adds the open files of a task on a mount.
 fn push_files(
     look: &Look<'_>,
@@ -81,8 +100,7 @@ fn push_files(
     for number in 0..=u8::MAX {
         if let Some(file) = task.descriptors.get(number) {
             if !written || file.access.writes() {
-                let access = names::access(file.access);
-                let what = format!(in look.alloc; "open {number} {access}")?;
+                let what = file_words(look, task, number, file.access)?;
                 push_use(look, section, busy, task, what.as_str(), file.location)?;
             }
         }

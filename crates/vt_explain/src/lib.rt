@@ -9,6 +9,7 @@ mod holders;
 mod known;
 mod lines;
 mod names;
+mod opened;
 mod receiving;
 mod report;
 mod rights;

@@ -4,12 +4,17 @@ use vt_line::line::Line;
 use vt_lines::lines::{first_line, lines_before};
 use vt_script::Version;
 
-/// The line of this number, from 1, without its newline.
-pub fn line_at(alloc: Global, text: &[u8], number: u64) -> Result<Option<&[u8]>, AllocError> {
-    let before = lines_before(alloc, text, number)?;
-    let rest = text.get(before.len()..).unwrap_or_default();
+/// The lines before the one of this number, from 1, and that line without its newline.
+pub fn line_at(
+    alloc: Global,
+    text: &[u8],
+    number: u64,
+) -> Result<Option<(&[u8], &[u8])>, AllocError> {
+    let length = lines_before(alloc, text, number)?.len();
+    let before = text.get(..length).unwrap_or(text);
+    let rest = text.get(length..).unwrap_or_default();
     match first_line(rest) {
-        Some((line, _rest)) => Ok(Some(line)),
+        Some((line, _rest)) => Ok(Some((before, line))),
         None => Ok(None),
     }
 }

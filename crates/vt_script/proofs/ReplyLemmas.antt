@@ -1,5 +1,5 @@
 -- One line is answered by its step.
-use Rattle.std.proofs.Common.{◌≡◌, ◌⊎◌, ℕ, ◌≤◌, ◌<◌, Bool, true, false, List, length, Option, Some, None, Result, Ok, Err, refl, sym, ap, ◌∙◌, subst, nat_eq, nat_lt, inl, inr, arith, IfErr, IfOk, IsSomeAnd}
+use Rattle.std.proofs.Common.{◌≡◌, ◌⊎◌, ℕ, ◌≤◌, ◌<◌, Bool, true, false, List, [], length, Option, Some, None, Result, Ok, Err, refl, sym, ap, ◌∙◌, subst, nat_eq, nat_lt, inl, inr, arith, IfErr, IfOk, IsSomeAnd}
 use Rattle.std.proofs.lemmas.Bool.Decides.{nat_tests}
 use Rattle.std.proofs.lemmas.List.{take_all}
 use Rattle.vt_spec.specs.declared.errors.Deny.{Deny}
@@ -37,7 +37,7 @@ use Rattle.vt_line.specs.Lines.{IsSilent, IsSpoken}
 use Rattle.vt_permits.specs.Allocating as calls
 use Rattle.vt_answers.specs.Ends.{Ends, HasNumbers, Meets}
 use Rattle.vt_script.specs.Refused.{TakesMemory}
-use Rattle.vt_script.specs.Session.{IsHanded, Replied, Replies, step_of}
+use Rattle.vt_script.specs.Session.{IsHanded, IsLeftBy, Replied, Replies, step_of}
 
 -- a line that is not too long is kept whole
 pub kept_whole : (line : List ℕ) (kept : LineSoFar) → Holds line kept → kept.overlong ≡ false → kept.bytes ≡ line
@@ -237,3 +237,53 @@ module _ {W : Type 0} (version : Version) (sink : Ghosts W) where
   replies_direct r world line number directive (Err deny) x y some spoken asks told memory wrote =
       replies_denied r world line number None deny x y some (subst (λ asked. IsSomeAnd asked TakesMemory) (sym asks) tt)
       (step_refused version world line spoken ∙ ap (λ d. Answered (denied world d)) (sym memory)) wrote
+
+-- The world that a line leaves, whatever is told of it
+
+-- a sink that tells nothing
+abbrev nowhere : Ghosts Unit
+nowhere = record { tells = λ _. ⊥; written = λ _. []; failures = λ _. 0 }
+
+abbrev done : Result Unit Unit
+done = Ok tt
+
+untold : (text : List ℕ) → Wrote nowhere tt tt text
+untold text = record { still_tells = λ tells. tells; appended = λ tells. absurd tells; failures_kept = refl }
+
+module _ (version : Version) where
+  left_by : (old new : World ℕ) (line : List ℕ) → Replied nowhere version old line 0 new tt tt
+      → IsLeftBy version old line new
+  left_by old new line replied = (replied.handed, replied.serves, replied.world)
+
+  -- a line without an answer
+  pub silent_leaves : (world : World ℕ) (line : List ℕ) → HasNumbers world → IsSilent line
+      → IsLeftBy version world line world
+  silent_leaves world line some silent =
+      left_by world world line (replied_silent version nowhere world line 0 tt some silent)
+
+  -- a line that is no request, or was refused memory
+  pub unread_leaves : (world : World ℕ) (line : List ℕ) (deny : Deny) → HasNumbers world
+      → (deny ≡ denial S1) ⊎ (deny ≡ denial S5)
+      → (deny ≡ denial S1 → (longest_line < length line) ⊎ (IsSpoken line × (request_of (marks version) line ≡ None)))
+      → (deny ≡ denial S5 → IsSpoken line × IsSomeAnd (request_of (marks version) line) words.TakesMemory)
+      → IsLeftBy version world line world
+  unread_leaves world line deny some refused bad memory =
+      left_by world world line (replies_unread version nowhere done world line 0 deny tt tt some refused bad
+      memory (untold (reply_line 0 (Err deny))))
+
+  -- a directive
+  pub direct_leaves : (world : World ℕ) (line : List ℕ) (directive : Directive) (answer : Result Answer Deny)
+      → HasNumbers world → IsSpoken line → request_of (marks version) line ≡ Some (Asking directive)
+      → IfOk answer (λ answer. (directed nat_eq world directive).answer ≡ Ok (answer_of answer))
+      → IfErr answer (λ deny. deny ≡ denial S5) → IsLeftBy version world line world
+  direct_leaves world line directive answer some spoken asks told memory =
+      left_by world world line (replies_direct version nowhere done world line 0 directive answer tt tt some
+      spoken asks told memory (untold (reply_line 0 (result_of answer))))
+
+  -- a call
+  pub call_leaves : {V : Type 0} (seen : V → World ℕ) (old new : V) (line : List ℕ) (task : TaskName) (call : Call)
+      (answer : Result Answer Deny) → IsSpoken line → request_of (marks version) line ≡ Some (Calling task call)
+      → Ends seen old task call answer new → IsLeftBy version (seen old) line (seen new)
+  call_leaves seen old new line task call answer spoken asks ends =
+      left_by (seen old) (seen new) line (replies_call version nowhere seen done old new line 0 task call
+      answer tt tt spoken asks ends (untold (reply_line 0 (result_of answer))))

@@ -53,6 +53,12 @@ abbrev pub step_of : Version → World ℕ → List ℕ → Option Allotment →
 step_of version world line handed =
     line_step nat_eq (marks version) world line (option_map (λ allotment. allotment.new) handed)
 
+-- the step of a line leaves this world, but for change numbers and the order of numbers beside trees
+abbrev pub IsLeftBy : Version → World ℕ → List ℕ → World ℕ → Type 0
+IsLeftBy version old line new =
+    (handed : Option Allotment) × IsHanded version old line handed
+    × SameWorlds (step_world old (step_of version old line handed)) new
+
 -- what may be told of the last line
 pub record IsLast (old : Moment) (text : List ℕ) : Type 0 where
   pub refused : List Bool

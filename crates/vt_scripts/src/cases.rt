@@ -59,9 +59,13 @@ fn explained(
             number = number.saturating_add(1);
         }
     }
-    let line = line_at(alloc, script, number)?.unwrap_or_default();
+    let (before, text) = line_at(alloc, script, number)?.unwrap_or_default();
     let mut reached = reached_before::<Kernel>(version, alloc, script, number)?;
-    let numbered = Numbered { number, text: line };
+    let numbered = Numbered {
+        number,
+        text,
+        before,
+    };
     let outcome = explain(version, alloc, &mut reached.world, numbered, format);
     // By a call: the proof of a function that drops a world itself takes minutes.
     drop(reached);

@@ -1,0 +1,94 @@
+//! The lines that opened files.
+ghost use Rattle.std.specs.Prelude.{◌≡◌, true};
+ghost use Rattle.vt_spec.specs.Language.Script.{needs_no_layers};
+ghost use Rattle.vt_request.specs.Requests.{call_of};
+
+use std::alloc::{AllocError, Global};
+use vt_calls::Kernel;
+use vt_line::line::Line;
+use vt_lines::lines::first_line;
+use vt_request::{Answer, Call, TaskName};
+use vt_script::{Calls, Version};
+
+// A descriptor that a line opened.
+#[derive(Drop)]
+struct Opening {
+    task: TaskName,
+    descriptor: u8,
+    // How many lines of the script are before it.
+    before: u64,
+}
+
+/// The descriptors that the lines of a script opened, in the order of the lines.
+#[derive(Drop)]
+pub struct Openings {
+    all: Vec<Opening>,
+    // How many lines the script has.
+    lines: u64,
+}
+
+impl Openings {
+    /// The line that opened what a descriptor of a task is after the script, where the line after the script has this
+    /// number.
+    pub fn line_of(&self, task: &TaskName, descriptor: u8, number: u64) -> Option<u64> {
+        let first = number.saturating_sub(self.lines);
+        let mut found = None;
+        for opening in &self.all {
+            if opening.descriptor == descriptor && opening.task == *task {
+                found = Some(first.saturating_add(opening.before));
+            }
+        }
+        found
+    }
+
+    // Makes a call, and records what it opens.
+    fn record(&mut self, kernel: &mut Kernel, task: TaskName, call: Call) -> Result<(), AllocError>
+        requires { needs_no_layers (call_of call) ≡ true }
+    {
+        if let Ok(Answer::Opened(descriptor)) = kernel.call(&task, call) {
+            let before = self.lines;
+            self.all.push(Opening {
+                task,
+                descriptor,
+                before,
+            })?;
+        }
+        Ok(())
+    }
+}
+
+// Records what the lines open, which are made in a world.
+fn record_lines(
+    version: Version,
+    alloc: Global,
+    kernel: &mut Kernel,
+    script: &[u8],
+) -> Result<Openings, AllocError> {
+    let mut openings = Openings {
+        all: Vec::new(alloc),
+        lines: 0,
+    };
+    let mut rest = script;
+    for _ in 0..u64::MAX {
+        let Some((text, after)) = first_line(rest) else {
+            return Ok(openings);
+        };
+        if let Ok(Line::Call(task, call)) = Line::parse_as(version, alloc, text) {
+            openings.record(kernel, task, call)?;
+        }
+        openings.lines = openings.lines.saturating_add(1);
+        rest = after;
+    }
+    Ok(openings)
+}
+
+/// What the lines of a script open. They are made once more, in a world of their own.
+pub fn openings_of(version: Version, alloc: Global, script: &[u8]) -> Result<Openings, AllocError> {
+    let Ok(mut kernel) = Kernel::opening(alloc) else {
+        return Err(AllocError);
+    };
+    let recorded = record_lines(version, alloc, &mut kernel, script);
+    // By a call: the proof of a function that drops a world itself takes minutes.
+    drop(kernel);
+    recorded
+}
