@@ -96,7 +96,7 @@ layers_kept world true x = by (list_all (λ n. is_among nat_eq n (used_in nat_eq
     by true = refl
     by false = of x.overlay
 
-changes_kept : (world : World ℕ) (chosen : Bool) (x : Filesystem ℕ)
+pub changes_kept : (world : World ℕ) (chosen : Bool) (x : Filesystem ℕ)
     → change_layers (only_used nat_eq world chosen x) ≡ change_layers x
 changes_kept world false x = refl
 changes_kept world true x = by (list_all (λ n. is_among nat_eq n (used_in nat_eq world x)) x.files.numbers)

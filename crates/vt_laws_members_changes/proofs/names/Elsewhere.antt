@@ -59,7 +59,7 @@ module _ (world : World ℕ) (names : List TaskName) (is : IsWorld nat_eq world)
           (eq-eqb number (mount_at nat_eq world point).filesystem (sym shows)))
           ∙ nobody))
 
-  -- of a plain filesystem these are its own
+  -- of a plain filesystem the points of a directory are its own
   pub plain_points : (directory : Location ℕ) → (filesystem_at nat_eq world directory).overlay ≡ None
       → used_alone nat_eq world names (filesystem_at nat_eq world directory).number ≡ true → (point : ℕ × ℕ)
       → Among point (points_of nat_eq world directory) → used_alone nat_eq world names point.0 ≡ true
@@ -68,14 +68,10 @@ module _ (world : World ℕ) (names : List TaskName) (is : IsWorld nat_eq world)
       (λ more. absurd (subst (λ o. Among point (overlay_or [] (λ (overlay : Overlay ℕ).
       upper_points world (filesystem_at nat_eq world directory) overlay directory.node) o)) plain more)) m
 
-  -- so none stands there, if none of the caller's does, nor one of another namespace of theirs
-  module _ (task : Task ℕ) (directory : Location ℕ)
-      (alone : (point : ℕ × ℕ) → Among point (points_of nat_eq world directory)
-      → used_alone nat_eq world names point.0 ≡ true)
-      (in_own : is_mount_point_in nat_eq (looks_of nat_eq world) task.namespace directory ≡ false)
-      (elsewhere : mounted_elsewhere world names task (Some directory) ≡ false) where
-    own_here : (mount : Mount ℕ) → Among mount (mounts_on nat_eq world directory) → (n : ℕ) → mount.namespace ≡ Some n
-        → is_own_namespace nat_eq world names n ≡ true
+  module _ (directory : Location ℕ) (alone : (point : ℕ × ℕ) → Among point (points_of nat_eq world directory)
+      → used_alone nat_eq world names point.0 ≡ true) where
+    pub own_here : (mount : Mount ℕ) → Among mount (mounts_on nat_eq world directory) → (n : ℕ)
+        → mount.namespace ≡ Some n → is_own_namespace nat_eq world names n ≡ true
     own_here mount m n placed =
         let from = among-from_filter (λ (x : Mount ℕ). list_any (λ (point : ℕ × ℕ).
         is_point nat_eq world point.0 point.1 x) (points_of nat_eq world directory)) world.mounts mount m in
@@ -95,6 +91,12 @@ module _ (world : World ℕ) (names : List TaskName) (is : IsWorld nat_eq world)
             (and_parts (nat_eq point.node at.1) (nat_eq (mount_at nat_eq world point).filesystem at.0) h).1)
             n placed
 
+  -- so none stands there, if none of the caller's does, nor one of another namespace of theirs
+  module _ (task : Task ℕ) (directory : Location ℕ)
+      (alone : (point : ℕ × ℕ) → Among point (points_of nat_eq world directory)
+      → used_alone nat_eq world names point.0 ≡ true)
+      (in_own : is_mount_point_in nat_eq (looks_of nat_eq world) task.namespace directory ≡ false)
+      (elsewhere : mounted_elsewhere world names task (Some directory) ≡ false) where
     pub none_anywhere : is_mount_point_anywhere (looks_of nat_eq world) directory ≡ false
     none_anywhere =
         none_from_among (λ (mount : Mount ℕ). is_some mount.namespace) (mounts_on nat_eq world directory)
@@ -110,7 +112,7 @@ module _ (world : World ℕ) (names : List TaskName) (is : IsWorld nat_eq world)
             absurd (true≢false
             (sym (any_from_among (stands_elsewhere world names task) (mounts_on nat_eq world directory) mount m
             (ap (holds_of (λ k. is_own_namespace nat_eq world names k && not (nat_eq task.namespace k))) placed
-            ∙ (λ i. own_here mount m n placed i && not (e i)))) ∙ elsewhere))
+            ∙ (λ i. own_here directory alone mount m n placed i && not (e i)))) ∙ elsewhere))
 
         by : (mount : Mount ℕ) → Among mount (mounts_on nat_eq world directory) → (o : Option ℕ) → mount.namespace ≡ o
             → is_some mount.namespace ≡ false

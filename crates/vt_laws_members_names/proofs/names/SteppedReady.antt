@@ -5,14 +5,14 @@ use Rattle.std.specs.List.{list_any}
 use Rattle.vt_spec.specs.Language.Calls.{TaskName}
 use Rattle.vt_spec.specs.Lists.{is_among}
 use Rattle.vt_spec.specs.Machine.Locked.{of_overlay}
-use Rattle.vt_spec.specs.Machine.Sealed.{change_layers, used_filesystems}
+use Rattle.vt_spec.specs.Machine.Sealed.{change_layers}
 use Rattle.vt_spec.specs.Machine.Settled.{has_layer_on}
 use Rattle.vt_spec.specs.Machine.World.{Filesystem, Layer, World, is_overlay, layers_of}
 use Rattle.vt_spec.proofs.Lists.{Among, among-from_map, pair-map}
 use Rattle.vt_spec.proofs.Options.{none_from_not_some}
 use Rattle.vt_laws_letting_go.specs.TreesOverlays.{with_filesystems}
 use Rattle.vt_laws_letting_go.proofs.sweeps.InUse.{layers_on}
-use Rattle.vt_laws_members_changes.proofs.files.FilesChanged.{lowers_in, lowers_with_layers, used_with_layers}
+use Rattle.vt_laws_members_changes.proofs.files.FilesChanged.{lowers_in, lowers_later, used_later}
 use Rattle.vt_laws_members_changes.proofs.letting_go.Ready.{AllNamed, Alone, IsCut, NoOthers, Ready}
 
 -- Filesystems keep their numbers and layers. What the set does not use stays, and what changes it uses alone.
@@ -37,9 +37,6 @@ module _ (a : World ℕ) (set : List TaskName) (used : List ℕ) (lowers : List 
 
   number_was : (y x : Filesystem ℕ) → y ≡ step x → y.number ≡ x.number
   number_was y x e = ap (λ (f : Filesystem ℕ). f.number) e ∙ theirs.numbered x
-
-  kept_here : (x : Filesystem ℕ) → is_among nat_eq x.number (used_filesystems nat_eq a set) ≡ false → step x ≡ x
-  kept_here x e = theirs.kept x (ap (is_among nat_eq x.number) (sym it.used_are) ∙ e)
 
   layered_was : (n : ℕ) (x : Filesystem ℕ) → Among x a.filesystems → has_layer_on nat_eq n (step x) ≡ true
       → has_layer_on nat_eq n x ≡ true
@@ -101,8 +98,8 @@ module _ (a : World ℕ) (set : List TaskName) (used : List ℕ) (lowers : List 
 
   pub stepped_ready : Ready later set used lowers
   stepped_ready = record {
-    used_are = used_with_layers a set step theirs.numbered theirs.changing theirs.lowering kept_here ∙ it.used_are;
-    lowers_are = lowers_with_layers a set step theirs.numbered theirs.changing theirs.lowering kept_here
+    used_are = used_later a set step theirs.numbered theirs.changing ∙ it.used_are;
+    lowers_are = lowers_later a set step theirs.numbered theirs.lowering
         ∙ it.lowers_are;
     one = it.one;
     lives = it.lives;
