@@ -1,5 +1,5 @@
 -- After the lines of a script, the world has all invariants, and no number of a later line.
-use Rattle.std.proofs.Common.{◌≡◌, refl, subst, ℕ, nat_eq, List, [], ◌∷◌, Some, length, ◌+◌, ◌≤◌, ◌*◌, ◌/◌, arith}
+use Rattle.std.proofs.Common.{refl, subst, ℕ, nat_eq, List, [], ◌∷◌, Some, length, ◌+◌, ◌≤◌, ◌*◌, ◌/◌, arith}
 use Rattle.std.specs.Prelude.{nat_lt}
 use Rattle.std.proofs.lemmas.Bool.{le-ltb}
 use Rattle.vt_spec.specs.Language.Limits.{longest_line}
