@@ -3,4 +3,5 @@ pub mod AnsweredAlike
 pub mod Called
 pub mod CallsAlike
 pub mod LineNumbers
+pub mod Standing
 pub mod UsedThere

@@ -1,5 +1,5 @@
 -- Which calls give others no foothold, and which end alike in every world (profile).
-use Rattle.std.specs.Prelude.{Bool, List, false, map, nat_eq, true, ℕ, ◌≡◌, ◌||◌}
+use Rattle.std.specs.Prelude.{Bool, List, false, map, nat_eq, true, ℕ, ◌≡◌}
 use Rattle.vt_spec.specs.Language.Calls.{Call, TaskName, same_name}
 use Rattle.vt_spec.specs.Language.Calls.Call.{Bind, Chdir, Chroot, Close, Drop, Exit, Fork, Lazy, MountOverlay, MountPlain, MoveMount, Remount, Rename, Rmdir, SetType, Setns, Umask, Umount, Unshare}
 use Rattle.vt_spec.specs.Language.Script.{Grammar}

@@ -1,4 +1,5 @@
 pub mod Calls
 pub mod Footholds
 pub mod PermitFootholds
+pub mod SameSets
 pub mod Scripts

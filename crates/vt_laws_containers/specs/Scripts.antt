@@ -11,7 +11,7 @@ use Rattle.vt_spec.specs.Lists.{is_among}
 use Rattle.vt_spec.specs.Machine.Invariants.{IsWorld}
 use Rattle.vt_spec.specs.Machine.Outcomes.{Outcome}
 use Rattle.vt_spec.specs.Machine.Policy.{policy}
-use Rattle.vt_spec.specs.Machine.Run.{Serves, numbers_for}
+use Rattle.vt_spec.specs.Machine.Run.{Serves, first_world, numbers_for, world_from}
 use Rattle.vt_spec.specs.Machine.Sealed.{sealed}
 use Rattle.vt_spec.specs.Machine.World.{World}
 use Rattle.vt_laws_rules.specs.Numbers.{KeepsTo}
@@ -149,3 +149,16 @@ SetsAreAnsweredAsAlone =
     → StaysSealed at (map (asked grammar) lines)
     → EachEndsAlike true at (map (asked grammar) lines) → EachEndsAlike false at (map (asked grammar) lines)
     → own_answers true at (map (asked grammar) lines) ≡ own_answers false at (map (asked grammar) lines)
+
+-- where a run stands after these lines of a script, from the opening world on, with a set of tasks
+abbrev pub stand_after : Grammar → List (List ℕ) → List TaskName → Stand
+stand_after grammar lines names =
+    record { number = 1 + length lines; world = world_from grammar first_world 1 lines; names = names }
+
+-- There the world has all invariants, and none of the numbers that are handed to later lines.
+abbrev pub SealedSetsStandSo : Type 0
+SealedSetsStandSo =
+    (grammar : Grammar) (lines : List (List ℕ)) (names : List TaskName)
+    → are_all_called (stand_after grammar lines names).world names ≡ true
+    → sealed nat_eq (stand_after grammar lines names).world names ≡ true
+    → IsSealedOffAt (stand_after grammar lines names)

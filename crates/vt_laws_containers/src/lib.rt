@@ -4,4 +4,5 @@
 #![tactic(auto)]
 
 pub mod footholds;
+pub mod same;
 pub mod scripts;

@@ -137,7 +137,8 @@ module _ (world left : World ℕ) (names set : List TaskName) (others : OthersAs
     free = λ number of alone. alone;
   }
 
-  direct_was : (number : ℕ) → Among number (used_directly nat_eq last set) → Among number (used_directly nat_eq left set)
+  direct_was : (number : ℕ) → Among number (used_directly nat_eq last set)
+      → Among number (used_directly nat_eq left set)
   direct_was number m =
       ⊎_elim
       (λ shown. among-append_left mounted located number

@@ -90,7 +90,8 @@ module _ (world : World ℕ)
         → ChangesFiles world (filesystem_changed nat_eq fresh world its o change)
     by None e = record {
       same = refl;
-      placed = replaced_placed (with_files its (changed nat_eq its.files change)) number its_number refl world.filesystems
+      placed =
+          replaced_placed (with_files its (changed nat_eq its.files change)) number its_number refl world.filesystems
           (λ f m. (f, m, refl, refl));
     }
     by (Some overlay) e = over overlay e overlay.upper

@@ -1,16 +1,16 @@
--- Others beside a sealed set, as a set of their own in the world without its tasks: they have their namespaces and mounts
--- for themselves, too.
+-- Others beside a sealed set, as a set of their own in the world without its tasks: they have their namespaces and
+-- mounts for themselves, too.
 use Rattle.std.proofs.Common.{◌≡◌, refl, sym, ap, subst, ◌∙◌, ◌⊎◌, inl, inr, ⊎_elim, ℕ, nat_eq, Bool, true, false, cond, true≢false, List, [], ◌∷◌, Option, Some, None, filter, map, not, ◌||◌, eq-eqb, eqb-true}
-use Rattle.std.specs.Prelude.{All, option_to_list}
+use Rattle.std.specs.Prelude.{option_to_list}
 use Rattle.std.specs.List.{list_all, list_any}
 use Rattle.std.proofs.lemmas.Bool.{and_parts, false_from_ne_true, not-true}
 use Rattle.vt_spec.specs.Language.Calls.{TaskName, same_name}
-use Rattle.vt_spec.specs.Lists.{holds_of, is_among}
+use Rattle.vt_spec.specs.Lists.{holds_of}
 use Rattle.vt_spec.specs.Machine.Invariants.{MountInvariants, Stands, is_listed}
 use Rattle.vt_spec.specs.Machine.Invariants.Stands.{at_root, on_parent}
 use Rattle.vt_spec.specs.Machine.Mounts.{Location, Mount, group_of}
 use Rattle.vt_spec.specs.Machine.Namespaces.{has_tasks}
-use Rattle.vt_spec.specs.Machine.Sealed.{holds_all_tasks, is_at, is_member_task, is_own_mount, is_own_namespace, locations, members, no_outsider_on_mounts, other_mounts, outsiders, own_mounts, receives_events_of, roots_and_directories, share_events, shares_no_events}
+use Rattle.vt_spec.specs.Machine.Sealed.{is_at, is_member_task, is_own_mount, is_own_namespace, locations, members, other_mounts, outsiders, own_mounts, receives_events_of, roots_and_directories, share_events}
 use Rattle.vt_spec.specs.Machine.World.{Namespace, Task, World, locations_of, mount_at, mount_numbered}
 use Rattle.vt_spec.proofs.Lists.{Among, all_from_among, among-filter, among-flat_map, among-from_filter, among-from_flat_map, among-from_map, among-map, among_from_all, among_from_list_all, any_among, any_from_among, list_all_from_among}
 use Rattle.vt_spec.proofs.Worlds.{same_name_itself}
@@ -137,8 +137,8 @@ module _ (world : World ℕ) (names : List TaskName) (apart : IsApart world name
   placed_listed mount m n e =
       (and_parts (is_listed nat_eq world n) true
       (sym (ap (λ o. list_all (is_listed nat_eq world) (option_to_list o)) e)
-      ∙ among_from_list_all (λ (x : Mount ℕ). list_all (is_listed nat_eq world) (option_to_list x.namespace)) world.mounts
-      apart.is.namespaces.mounts_listed mount m)).0
+      ∙ among_from_list_all (λ (x : Mount ℕ). list_all (is_listed nat_eq world) (option_to_list x.namespace))
+      world.mounts apart.is.namespaces.mounts_listed mount m)).0
 
   own_is_other : own_mounts nat_eq mirror their_names ≡ other_mounts nat_eq world names
   own_is_other =

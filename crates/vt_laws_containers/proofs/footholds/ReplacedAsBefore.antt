@@ -1,5 +1,5 @@
 -- Where mounts of a sealed set get other flags or mount points, others are as they were.
-use Rattle.std.proofs.Common.{◌≡◌, refl, sym, ap, subst, ◌∙◌, ◌⊎◌, inl, inr, ⊎_elim, ℕ, nat_eq, Bool, true, false, cond, true≢false, List, [], ◌∷◌, ◌++◌, Option, Some, None, Ok, filter, find, map, not, eq-eqb, eqb-true}
+use Rattle.std.proofs.Common.{◌≡◌, refl, sym, ap, subst, ◌∙◌, ◌⊎◌, inl, inr, ⊎_elim, ℕ, nat_eq, Bool, true, false, cond, true≢false, List, [], ◌∷◌, Option, Some, None, Ok, filter, find, map, not, eq-eqb, eqb-true}
 use Rattle.std.specs.Prelude.{unwrap_or}
 use Rattle.std.specs.List.{list_all, list_any}
 use Rattle.std.proofs.lemmas.Bool.{not-true}
@@ -15,9 +15,9 @@ use Rattle.vt_spec.specs.Machine.Namespaces.{pivoted_location, pivoted_mount, pi
 use Rattle.vt_spec.specs.Machine.Permits.{Permit}
 use Rattle.vt_spec.specs.Machine.Permits.Permit.{ToPivot, ToSetFlags}
 use Rattle.vt_spec.specs.Machine.Run.{Serves}
-use Rattle.vt_spec.specs.Machine.Sealed.{is_member_task, is_own_mount, is_own_namespace, locations, members, other_mounts, outsiders, own_mounts, sealed, share_events, used_directly}
+use Rattle.vt_spec.specs.Machine.Sealed.{is_member_task, is_own_namespace, locations, members, other_mounts, outsiders, own_mounts, sealed, share_events, used_directly}
 use Rattle.vt_spec.specs.Machine.World.{Task, World, locations_of, mount_at, mount_numbered, task_called, with_mounts}
-use Rattle.vt_spec.proofs.Lists.{Among, among-append, among-append_left, among-append_right, among-filter, among-flat_map, among-from_filter, among-from_flat_map, among-from_map, among-map, any_from_among, map_alike}
+use Rattle.vt_spec.proofs.Lists.{Among, among-append, among-append_left, among-append_right, among-flat_map, among-from_filter, among-from_flat_map, among-from_map, among-map, any_from_among, map_alike}
 use Rattle.vt_spec.proofs.Worlds.{found_or_none, number-mount_in}
 use Rattle.vt_spec.proofs.Options.{none_is_some}
 use Rattle.vt_laws_letting_go.proofs.Lists.{filter-map}
@@ -35,7 +35,7 @@ use Rattle.vt_laws_sealed.proofs.outsiders.OtherMounts.{namespace_outside}
 use Rattle.vt_laws_sealed.proofs.outsiders.Raising.{all-map_same}
 use Rattle.vt_laws_members.proofs.judging.Grounds.{IsTheirs}
 use Rattle.vt_laws_members.proofs.judging.MountTrees.{own_theirs}
-use Rattle.vt_laws_members.proofs.judging.SeenInPart.{directory_theirs, root_theirs, theirs_directly}
+use Rattle.vt_laws_members.proofs.judging.SeenInPart.{theirs_directly}
 use Rattle.vt_laws_members_changes.specs.Changes.{IsCallOfTheirs}
 use Rattle.vt_laws_members_changes.proofs.looks.Told.{member_called}
 use Rattle.vt_laws_members_changes.proofs.tasks.Rights.{any_mapped}
@@ -130,7 +130,8 @@ module _ (world : World ℕ) (names : List TaskName) (is : IsWorld nat_eq world)
   no_events : ShareNone (share_events nat_eq world) (map change (own_mounts nat_eq world names))
       (other_mounts nat_eq world names) ≡ true
   no_events =
-      all-map_same (λ own. list_all (λ other. not (share_events nat_eq world own other)) (other_mounts nat_eq world names))
+      all-map_same
+      (λ own. list_all (λ other. not (share_events nat_eq world own other)) (other_mounts nat_eq world names))
       (λ own. list_all (λ other. not (share_events nat_eq world own other)) (other_mounts nat_eq world names)) change
       (own_mounts nat_eq world names)
       (λ own. ap (λ kind. list_all (λ (other : Mount ℕ). not (share_by kind other.propagation))
@@ -227,7 +228,8 @@ module _ (world : World ℕ) (names : List TaskName) (name : TaskName) (call : C
       ∙ caller_ours) ∙ other)
 
   -- mount(2) with MS_REMOUNT and MS_BIND
-  flags_before : (number : ℕ) (flags : MountFlags) → judge_in nat_eq fresh world task call ≡ Ok (ToSetFlags number flags)
+  flags_before : (number : ℕ) (flags : MountFlags)
+      → judge_in nat_eq fresh world task call ≡ Ok (ToSetFlags number flags)
       → Before world names name call it few fresh serves task called (ToSetFlags number flags)
   flags_before number flags judged =
       let for = permits_are_for_their_calls fresh world task call (ToSetFlags number flags) judged in
@@ -462,7 +464,8 @@ module _ (world : World ℕ) (names : List TaskName) (name : TaskName) (call : C
     pivot_before =
         kept world names name call it few fresh serves task called (ToPivot new put) judged refl
         (apply nat_eq fresh world task (ToPivot new put)).world
-        (replaced_as_before world names it.is it.sealed_off change pivot_replaces (map turned world.tasks) turned_beside)
+        (replaced_as_before world names it.is it.sealed_off change pivot_replaces (map turned world.tasks)
+        turned_beside)
 
   of_replacing : (permit : Permit ℕ) → judge_in nat_eq fresh world task call ≡ Ok permit
       → is_of_replacing permit ≡ true → Before world names name call it few fresh serves task called permit

@@ -1,9 +1,8 @@
 -- Where mounts of a sealed set are taken away, others are as they were.
-use Rattle.std.proofs.Common.{◌≡◌, refl, sym, ap, subst, ◌∙◌, ◌⊎◌, inl, inr, ⊎_elim, ℕ, nat_eq, Bool, true, false, cond, true≢false, List, [], ◌∷◌, ◌++◌, Option, Some, None, filter, map, not, ◌&&◌, ◌+◌, eq-eqb, eqb-true, arith}
+use Rattle.std.proofs.Common.{◌≡◌, refl, sym, ap, subst, ◌∙◌, ◌⊎◌, inl, ⊎_elim, ℕ, nat_eq, Bool, true, false, true≢false, List, [], ◌∷◌, Option, Some, None, filter, map, not, ◌&&◌, ◌+◌, eq-eqb, eqb-true, arith}
 use Rattle.std.specs.Prelude.{option_to_list}
 use Rattle.std.specs.List.{list_all, list_any}
 use Rattle.std.proofs.lemmas.Bool.{and_parts, false_from_ne_true, not-true}
-use Rattle.std.proofs.lemmas.Option.{same_Some}
 use Rattle.vt_spec.specs.Language.Calls.{TaskName}
 use Rattle.vt_spec.specs.Lists.{holds_of}
 use Rattle.vt_spec.specs.Machine.Detach.{after_going, is_going, taken_away}
@@ -11,10 +10,9 @@ use Rattle.vt_spec.specs.Machine.Invariants.{IsWorld, is_listed}
 use Rattle.vt_spec.specs.Machine.Mounts.{Location, Mount}
 use Rattle.vt_spec.specs.Machine.Receives.{lost_a_group, regrouped_by}
 use Rattle.vt_spec.specs.Machine.Sealed.{is_member_task, is_own_mount, is_own_namespace, locations, members, other_mounts, outsiders, own_mounts, sealed, share_events, used_directly}
-use Rattle.vt_spec.specs.Machine.World.{Filesystem, Namespace, Task, World, all_locations, locations_of, mount_at, mount_numbered, with_mounts}
+use Rattle.vt_spec.specs.Machine.World.{Namespace, Task, World, all_locations, locations_of, mount_at, mount_numbered, with_mounts}
 use Rattle.vt_spec.proofs.Lists.{Among, among-append, among-append_left, among-append_right, among-filter, among-flat_map, among-from_filter, among-from_flat_map, among-from_map, among-map, among_from_list_all, any_from_among, is_among_numbers, list_all_from_among}
-use Rattle.vt_spec.proofs.Options.{none_is_some}
-use Rattle.vt_spec.proofs.Worlds.{filesystems-taken_away, found_or_none}
+use Rattle.vt_spec.proofs.Worlds.{filesystems-taken_away}
 use Rattle.vt_laws_mounts.specs.Mounts.Attaching.{OneNumberAMount, is_mount}
 use Rattle.vt_laws_mounts.specs.Mounts.Invariants.{OneNumberEach}
 use Rattle.vt_laws_mounts.proofs.mounts.MountsReplaced.{found_itself}
@@ -31,7 +29,7 @@ use Rattle.vt_laws_sealed.proofs.outsiders.StandingApart.{NothingNew, StandsApar
 use Rattle.vt_laws_sealed.proofs.outsiders.Staying.{LeavesApart}
 use Rattle.vt_laws_sealed.proofs.outsiders.TakingAway.{one_taken, taken_from, taken_leaves_apart}
 use Rattle.vt_laws_containers.proofs.footholds.AsBefore.{OthersAsBefore}
-use Rattle.vt_laws_containers.proofs.footholds.Mirror.{ShareNone, all_there, filter_alike, mirror, mirror_owns, mirror_stands, none_there, none_turned, ours_if_not_out, ours_is_not_out, out, out_if_not_ours, own_out, placed_listed, their_names}
+use Rattle.vt_laws_containers.proofs.footholds.Mirror.{ShareNone, filter_alike, mirror, mirror_owns, mirror_stands, none_there, none_turned, ours_if_not_out, ours_is_not_out, out, out_if_not_ours, own_out, placed_listed, their_names}
 
 -- Mounts and groups are taken away alike, whatever tasks there are.
 pub taken_mounts : (world : World ℕ) (tasks : List (Task ℕ)) (gone : List ℕ)
@@ -122,8 +120,8 @@ module _ (world : World ℕ) (names set : List TaskName) (is : IsWorld nat_eq wo
   stands : StandsApart beside others_names NothingNew
   stands = mirror_stands world names apart NothingNew (λ mount group m is_in new. new)
 
-  none_out : (t : Task ℕ) → Among t (filter (λ (x : Task ℕ). not (is_member_task others_names x)) (out world names apart))
-      → ⊥
+  none_out : (t : Task ℕ)
+      → Among t (filter (λ (x : Task ℕ). not (is_member_task others_names x)) (out world names apart)) → ⊥
   none_out t m = subst (Among t) (none_there world names apart) m
 
   moved : OthersMove beside others_names (out world names apart) namespaces
@@ -269,7 +267,8 @@ module _ (world : World ℕ) (names set : List TaskName) (is : IsWorld nat_eq wo
   -- a location of others is on none of their mounts
   not_on_own : (location : Location ℕ) → Among location (locations (outsiders world names))
       → holds_of own_left (mount_at nat_eq left location).namespace ≡ false
-  not_on_own location m = by (mount_at nat_eq left location).namespace refl (mount_at nat_eq world location).namespace refl
+  not_on_own location m =
+      by (mount_at nat_eq left location).namespace refl (mount_at nat_eq world location).namespace refl
     where
       view : (own : ℕ) → is_in own (mount_at nat_eq world location) ≡ true
           → is_in own (mount_at nat_eq left location) ≡ true

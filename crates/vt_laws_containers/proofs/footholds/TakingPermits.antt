@@ -5,7 +5,7 @@ use Rattle.std.specs.List.{list_all, list_any}
 use Rattle.std.proofs.lemmas.Bool.{and_from, and_parts, false_from_ne_true, not-false, not-true}
 use Rattle.vt_spec.specs.Language.Calls.{Call, TaskName, same_name}
 use Rattle.vt_spec.specs.Language.Calls.Call.{Exit, Setns}
-use Rattle.vt_spec.specs.Lists.{Fresh, holds_of, is_among}
+use Rattle.vt_spec.specs.Lists.{Fresh, holds_of}
 use Rattle.vt_spec.specs.Machine.Apply.{apply}
 use Rattle.vt_spec.specs.Machine.Detach.{going, is_going, taken_away}
 use Rattle.vt_spec.specs.Machine.Invariants.{IsWorld, is_listed}
@@ -19,7 +19,6 @@ use Rattle.vt_spec.specs.Machine.Run.{Serves}
 use Rattle.vt_spec.specs.Machine.Sealed.{is_member_task, is_own_namespace, locations, members, outsiders}
 use Rattle.vt_spec.specs.Machine.Settled.{is_located, mount_lives, settled}
 use Rattle.vt_spec.specs.Machine.World.{Namespace, Task, World, locations_of, mount_numbered, replaced_if_called, task_called, without_task}
-use Rattle.vt_spec.proofs.Found.{found_among}
 use Rattle.vt_spec.proofs.Lists.{Among, among-filter, among-flat_map, among-from_filter, among-from_flat_map, among-from_map, among_from_list_all, among_numbers, any_among, any_from_among}
 use Rattle.vt_spec.proofs.Options.{none_is_some}
 use Rattle.vt_spec.proofs.Worlds.{found_or_none}
@@ -32,7 +31,7 @@ use Rattle.vt_laws_worlds.proofs.worlds.CallsKept.{name_found}
 use Rattle.vt_laws_worlds.proofs.worlds.FitPermitsNamed.{all_permits_fit}
 use Rattle.vt_laws_part.specs.Seals.{IsApart}
 use Rattle.vt_laws_part.proofs.seals.ByPart.{apart_if_sealed}
-use Rattle.vt_laws_sealed.proofs.outsiders.StandingApart.{NothingNew, StandsApart}
+use Rattle.vt_laws_sealed.proofs.outsiders.StandingApart.{NothingNew}
 use Rattle.vt_laws_sealed.proofs.outsiders.TakingAway.{namespaces_taken_away}
 use Rattle.vt_laws_sealed.proofs.outsiders.Unmounting.{others_go}
 use Rattle.vt_laws_members.proofs.judging.Grounds.{IsTheirs}
@@ -45,7 +44,7 @@ use Rattle.vt_laws_members_changes.proofs.looks.Told.{member_called}
 use Rattle.vt_laws_containers.specs.PermitFootholds.{DetachingGivesNoFoothold, is_of_detaching}
 use Rattle.vt_laws_containers.proofs.footholds.AsBefore.{OthersAsBefore}
 use Rattle.vt_laws_containers.proofs.footholds.Granting.{EndsInAWorld}
-use Rattle.vt_laws_containers.proofs.footholds.Mirror.{mirror, mirror_stands, side, ours_is_not_out, out, own_out, placed_listed, their_names}
+use Rattle.vt_laws_containers.proofs.footholds.Mirror.{mirror, mirror_stands, side, ours_is_not_out, own_out, placed_listed, their_names}
 use Rattle.vt_laws_containers.proofs.footholds.TakenAsBefore.{TakesOwn, taken_as_before, taken_mounts, taken_tasks}
 use Rattle.vt_laws_containers.proofs.footholds.TasksAsBefore.{others_unmoved}
 use Rattle.vt_laws_containers.proofs.footholds.TasksPermits.{Before, kept, permit_out}
@@ -171,13 +170,14 @@ module _ (world : World ℕ) (names : List TaskName) (name : TaskName) (call : C
     ended_takes : TakesOwn world names set it.is tasks (filter (has_tasks nat_eq before) world.namespaces) gone
     ended_takes = record {
       going = λ number h.
-          let from = among-from_map (λ (mount : Mount ℕ). mount.number) (filter (is_in_ended nat_eq before) world.mounts)
-          number (among_numbers gone number h) in
+          let from = among-from_map (λ (mount : Mount ℕ). mount.number)
+          (filter (is_in_ended nat_eq before) world.mounts) number (among_numbers gone number h) in
           let at = among-from_filter (is_in_ended nat_eq before) world.mounts from.0 from.1 in
           let its_space = ended_ours from.0 at.0 at.1 in (
             its_space.0,
             ap (λ (x : Mount ℕ). x.namespace)
-                (ap (mount_numbered nat_eq world) from.2 ∙ found_itself world.mounts it.is.mounts.one_number from.0 at.0)
+                (ap (mount_numbered nat_eq world) from.2
+                ∙ found_itself world.mounts it.is.mounts.one_number from.0 at.0)
                 ∙ its_space.1,
             its_space.2,
           );
@@ -197,8 +197,8 @@ module _ (world : World ℕ) (names : List TaskName) (name : TaskName) (call : C
 
     pub ended_as_before : OthersAsBefore world (namespaces_ended nat_eq (record world { tasks = tasks })) names set
     ended_as_before =
-        taken_as_before world names set it.is it.sealed_off tasks (filter (has_tasks nat_eq before) world.namespaces) gone
-        ended_takes
+        taken_as_before world names set it.is it.sealed_off tasks (filter (has_tasks nat_eq before) world.namespaces)
+        gone ended_takes
 
 -- _exit(2)
 module _ (world : World ℕ) (names : List TaskName) (name : TaskName) (it : IsCallOfTheirs world names name Exit)
@@ -334,8 +334,8 @@ module _ (world : World ℕ) (names : List TaskName) (name : TaskName) (call : C
       (apply nat_eq fresh world task (ToUnmount number)).world
       (gone_as_before (going nat_eq world (mount_numbered nat_eq world number)) [] (umount_goes number placed)
       (λ mount m n e.
-      let of = tasked_later world (taken_away nat_eq world (going nat_eq world (mount_numbered nat_eq world number))) name
-      [] ends mount m n e in (
+      let of = tasked_later world (taken_away nat_eq world (going nat_eq world (mount_numbered nat_eq world number)))
+      name [] ends mount m n e in (
         of.0,
         subst (Among of.0) (taken_tasks world world.tasks
             (going nat_eq world (mount_numbered nat_eq world number))) of.1,

@@ -83,7 +83,8 @@ module _ (world : World ℕ) (names set : List TaskName) (is : IsWorld nat_eq wo
     tasks = (λ i. list_all (λ (t : Task ℕ). not (beside.own t.namespace i)) (beside.others i)) ∙ apart.tasks;
     events = (λ i. list_all (λ own. list_all (λ other. not (share_events nat_eq world own other))
         (others_by (λ n. beside.own n i))) (owned_by (λ n. beside.own n i))) ∙ apart.events;
-    places = (λ i. list_all (λ location. not (holds_of (λ n. beside.own n i) (mount_at nat_eq world location).namespace))
+    places = (λ i. list_all (λ location.
+        not (holds_of (λ n. beside.own n i) (mount_at nat_eq world location).namespace))
         (locations (beside.others i))) ∙ apart.locations;
     filesystems = beside.files;
     direct = λ number m. inl (direct_was number m);
@@ -227,8 +228,8 @@ module _ (world : World ℕ) (names : List TaskName) (name : TaskName) (call : C
   others_are =
       filter_append (λ (t : Task ℕ). not (is_member_task set t)) (map replaced world.tasks) (child ∷ [])
       ∙ ap (λ l. l ++ filter (λ (t : Task ℕ). not (is_member_task set t)) (child ∷ []))
-      (filter_changed (λ (t : Task ℕ). not (is_member_task set t)) (λ (t : Task ℕ). not (is_member_task names t)) replaced
-      world.tasks (λ t m. ap not (member_alike t m)))
+      (filter_changed (λ (t : Task ℕ). not (is_member_task set t)) (λ (t : Task ℕ). not (is_member_task names t))
+      replaced world.tasks (λ t m. ap not (member_alike t m)))
       ∙ ap (λ b. map replaced (outsiders world names) ++ cond (not b) (child ∷ []) []) child_member
       ∙ append_none (map replaced (outsiders world names))
       ∙ map_itself replaced (outsiders world names) (λ t m.

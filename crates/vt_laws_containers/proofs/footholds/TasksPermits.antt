@@ -263,15 +263,16 @@ module _ (world : World ℕ) (names : List TaskName) (name : TaskName) (call : C
       (change_changes_files world it.is.files.one_filesystem (odds fresh) directory
       (Make directory.node entry (evens fresh 0) node)))
   of_files (ToOpen file access) judged e =
-      opened_before _ (copy_changes_files world it.is.files.one_filesystem (is_copied_up nat_eq world file access) fresh file)
+      opened_before _
+      (copy_changes_files world it.is.files.one_filesystem (is_copied_up nat_eq world file access) fresh file)
       file access (opened_there file access judged)
   of_files (ToOpenNew directory entry node access) judged e =
       opened_before _ (change_changes_files world it.is.files.one_filesystem (odds fresh) directory
       (Make directory.node entry (evens fresh 0) node))
       (record { mount = directory.mount; node = evens fresh 0 }) access
       (theirs_from world names it.is.mounts directory.mount
-      (granted_theirs world names it.is it.sealed_off task member fresh call (ToOpenNew directory entry node access) judged
-      directory (Make directory.node entry (evens fresh 0) node) refl tt))
+      (granted_theirs world names it.is it.sealed_off task member fresh call (ToOpenNew directory entry node access)
+      judged directory (Make directory.node entry (evens fresh 0) node) refl tt))
   of_files (ToWritePart file offset bytes) judged e =
       kept (ToWritePart file offset bytes) judged refl
       (apply nat_eq fresh world task (ToWritePart file offset bytes)).world

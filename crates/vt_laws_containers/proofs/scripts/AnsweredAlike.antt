@@ -120,7 +120,9 @@ module _ (number : ℕ) (full lone : World ℕ) (names : List TaskName) (both : 
     where
       same_answer : of_full.answer ≡ of_lone.answer
       same_answer =
-          full_ends.answer ∙ ap (λ world. (policy nat_eq fresh world name call).answer) both.parts ∙ sym lone_ends.answer
+          full_ends.answer
+          ∙ ap (λ world. (policy nat_eq fresh world name call).answer) both.parts
+          ∙ sym lone_ends.answer
 
       abbrev left : List TaskName
       left = grown names name call of_lone.answer

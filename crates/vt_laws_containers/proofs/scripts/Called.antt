@@ -163,7 +163,8 @@ pub exit_if : (call : Call) → is_exit call ≡ true → call ≡ Exit
 exit_if Exit e = refl
 exit_if call e = absurd (true≢false (sym e))
 
-pub left_all : (names : List TaskName) (name : TaskName) (call : Call) → is_exit call ≡ false → left names name call ≡ names
+pub left_all : (names : List TaskName) (name : TaskName) (call : Call) → is_exit call ≡ false
+    → left names name call ≡ names
 left_all names name Exit e = absurd (true≢false e)
 left_all names name call e = refl
 

@@ -1,9 +1,8 @@
 -- Calls that end alike in every world, and the scripts of these.
-use Rattle.std.proofs.Common.{◌≡◌, refl, sym, ap, subst, ◌∙◌, ℕ, nat_eq, nat_lt, Bool, true, false, cond, true≢false, List, [], ◌∷◌, Option, Some, None, Ok, Err, length, map, ◌||◌}
-use Rattle.std.specs.Prelude.{is_ok, ⊤}
+use Rattle.std.proofs.Common.{◌≡◌, refl, sym, ap, ◌∙◌, ℕ, nat_eq, Bool, true, false, true≢false, List, [], ◌∷◌, Option, Some, None, Ok, Err, map, ◌||◌}
+use Rattle.std.specs.Prelude.{is_ok}
 use Rattle.vt_spec.specs.Language.Calls.{Call, ForkWords, TaskName, same_name}
-use Rattle.vt_spec.specs.Language.Calls.Call.{Bind, Chdir, Chroot, Close, Drop, Exec, Exit, Fork, Lazy, ListMounts, Ls, Lstat, MountOverlay, MountPlain, MoveMount, Pread, Read, Readlink, Remount, Rename, Rmdir, SetType, Setns, Stat, Umask, Umount, Unshare}
-use Rattle.vt_spec.specs.Language.Script.{Grammar}
+use Rattle.vt_spec.specs.Language.Calls.Call.{Bind, Chdir, Chroot, Close, Drop, Exit, Fork, Lazy, MountOverlay, MountPlain, MoveMount, Remount, Rename, Rmdir, SetType, Setns, Umask, Umount, Unshare}
 use Rattle.vt_spec.specs.Lists.{Fresh, is_among}
 use Rattle.vt_spec.specs.Machine.Judge.{Judgement, fork_permit, judge_in}
 use Rattle.vt_spec.specs.Machine.Permits.{Permit}
@@ -30,10 +29,10 @@ use Rattle.vt_laws_members_changes.proofs.tasks.Rights.{drops_end_alike, umasks_
 use Rattle.vt_laws_containers.specs.Calls.{AlwaysEndsAlike, CallsGiveNoFoothold, RunsEndAlike, SetsOfTheseCallsAreAnsweredAsAlone, TheseAlwaysEndAlike, ends_alike_always, keeps_others_out}
 use Rattle.vt_laws_containers.specs.Footholds.{GivesNoFoothold}
 use Rattle.vt_laws_containers.specs.PermitFootholds.{is_of_detaching, is_of_files, is_of_replacing, is_of_tasks}
-use Rattle.vt_laws_containers.specs.Scripts.{Along, Asked, EachEndsAlike, EndsInThePart, KeepsOthersOut, Stand, asked, next}
+use Rattle.vt_laws_containers.specs.Scripts.{Along, Asked, EachEndsAlike, Stand, asked, next}
 use Rattle.vt_laws_containers.proofs.footholds.ReplacedAsBefore.{replacing_gives_no_foothold}
 use Rattle.vt_laws_containers.proofs.footholds.TakingPermits.{detaching_gives_no_foothold}
-use Rattle.vt_laws_containers.proofs.footholds.TasksPermits.{denials_give_no_foothold, files_give_no_foothold, looks_give_no_foothold, tasks_give_no_foothold}
+use Rattle.vt_laws_containers.proofs.footholds.TasksPermits.{denials_give_no_foothold, files_give_no_foothold, tasks_give_no_foothold}
 use Rattle.vt_laws_containers.proofs.scripts.AnsweredAlike.{AreFew, lines_are_few, sets_are_answered_as_alone}
 
 -- By the permit
@@ -127,7 +126,8 @@ module _ (world : World ℕ) (names : List TaskName) (name : TaskName) (call : C
       judged_by task e (Err deny) judged =
           denials_give_no_foothold world names name call it fresh
           (ap (λ found. is_ok (ran name call world fresh found).answer) e
-          ∙ ap (λ judgement. is_ok (run_by world names name call it fresh fresh world fresh task judgement).answer) judged
+          ∙ ap (λ judgement. is_ok (run_by world names name call it fresh fresh world fresh task judgement).answer)
+          judged
           ∙ refused (only_looks call))
         where
           refused : (b : Bool) → is_ok (finished_by nat_eq (b || true) world name [] (denied world deny)).answer ≡ false
@@ -159,15 +159,16 @@ each_fork_ends_alike : (world : World ℕ) (names : List TaskName) (name : TaskN
 each_fork_ends_alike world names name words it fresh other = by (task_called world name) refl
   where
     judged : (task : Task ℕ) → task_called world name ≡ Some task → (judgement : Judgement ℕ)
-        → judge_in nat_eq fresh world task (Fork words) ≡ judgement → EndsAlike world names name (Fork words) fresh other
+        → judge_in nat_eq fresh world task (Fork words) ≡ judgement
+        → EndsAlike world names name (Fork words) fresh other
     judged task e (Ok permit) j =
         forks_end_alike world names name words it task e fresh other (child_credentials task.credentials words)
         (granted_fork fresh world task words permit j)
     judged task e (Err deny) j =
         denials_end_alike world names name (Fork words) it fresh other
         (ap (λ found. is_ok (ran name (Fork words) world fresh found).answer) e
-        ∙ ap (λ judgement. is_ok (run_by world names name (Fork words) it fresh other world fresh task judgement).answer)
-        j)
+        ∙ ap (λ judgement.
+        is_ok (run_by world names name (Fork words) it fresh other world fresh task judgement).answer) j)
 
     by : (found : Option (Task ℕ)) → task_called world name ≡ found
         → EndsAlike world names name (Fork words) fresh other
@@ -234,7 +235,8 @@ runs_end_alike others at grammar lines always =
     each_so others (map (asked grammar) lines) (lines_are_few grammar lines) at always
 
 along_these : (others : Bool) (calls : List Asked) (at : Stand)
-    → Along (λ here name call. is_among same_name name here.names ≡ true → ends_alike_always call ≡ true) others at calls
+    → Along (λ here name call. is_among same_name name here.names ≡ true → ends_alike_always call ≡ true) others at
+    calls
     → Along (λ here name call. is_among same_name name here.names ≡ true → AlwaysEndsAlike call) others at calls
 along_these others [] at these = tt
 along_these others (None ∷ calls) at these = (tt, along_these others calls (next others at None) these.1)

@@ -1,14 +1,15 @@
 -- The numbers that a line is handed are not in use, and after its call the world has no number of a later line.
-use Rattle.std.proofs.Common.{◌≡◌, sym, ap, ◌∙◌, ℕ, zero, suc, nat_eq, Bool, false, true≢false, ◌+◌, ◌≤◌, ◌||◌, eq-eqb, eqb-true, ne_eqb, arith}
+use Rattle.std.proofs.Common.{◌≡◌, sym, ap, ◌∙◌, ℕ, zero, suc, nat_eq, Bool, false, true≢false, List, Some, ◌+◌, ◌≤◌, ◌||◌, eq-eqb, eqb-true, ne_eqb, arith}
 use Rattle.std.proofs.lemmas.Bool.{false_from_ne_true, or_left, or_right}
 use Rattle.vt_spec.specs.Language.Calls.{Call, TaskName}
 use Rattle.vt_spec.specs.Lists.{is_among}
 use Rattle.vt_spec.specs.Machine.Policy.{policy}
-use Rattle.vt_spec.specs.Machine.Run.{Serves, numbers_for, numbers_in_use}
+use Rattle.vt_spec.specs.Language.Script.{Grammar}
+use Rattle.vt_spec.specs.Machine.Run.{Serves, line_step, numbers_for, numbers_in_use, step_world}
 use Rattle.vt_spec.specs.Machine.World.{World}
-use Rattle.vt_laws_rules.specs.Numbers.{LeavesOutTwo}
+use Rattle.vt_laws_rules.specs.Numbers.{IsSuppliedFrom, KeepsTo, LeavesOutTwo}
 use Rattle.vt_laws_rules.proofs.numbers.Rows.{col, col-spread, row, row-spread, spread_for}
-use Rattle.vt_laws_rules.proofs.numbers.Supports.{calls_keep_to_numbers, used_numbers_are_named}
+use Rattle.vt_laws_rules.proofs.numbers.Supports.{calls_keep_to_numbers, lines_keep_to_numbers, used_numbers_are_named}
 use Rattle.vt_laws_containers.specs.Scripts.{HasEarlierNumbers}
 
 -- what a line is handed stands in its row, each number at a place of its own
@@ -45,26 +46,42 @@ module _ (line : ℕ) (world : World ℕ) (has : HasEarlierNumbers (suc line) wo
   abbrev named_now : ℕ → Bool
   named_now number = has.named number || nat_eq (row number) (suc line)
 
-  numbers_left_here : (name : TaskName) (call : Call)
-      → HasEarlierNumbers (suc line + 1) (policy nat_eq (numbers_for (suc line)) world name call).world
-  numbers_left_here name call = record {
+  -- a world that keeps to all numbers to which this world keeps, if those of the line are among them
+  row_added : (after : World ℕ)
+      → ((named : ℕ → Bool) → KeepsTo named world → IsSuppliedFrom named (numbers_for (suc line)) → KeepsTo named after)
+      → HasEarlierNumbers (suc line + 1) after
+  row_added after keeps = record {
     named = named_now;
     keeps =
-        calls_keep_to_numbers named_now (numbers_for (suc line)) world name call
+        keeps named_now
         (λ renaming leaves.
-        has.keeps renaming (λ number is. leaves number (or_left (has.named number) (nat_eq (row number) (suc line)) is)))
-        (λ place. or_right (has.named (numbers_for (suc line) place)) (nat_eq (row (numbers_for (suc line) place)) (suc line))
-        (eq-eqb (row (numbers_for (suc line) place)) (suc line) (row_of line place)));
-    later = λ after place less. by after place less;
+        has.keeps renaming (λ number is.
+        leaves number (or_left (has.named number) (nat_eq (row number) (suc line)) is)))
+        (λ place. or_right (has.named (numbers_for (suc line) place))
+        (nat_eq (row (numbers_for (suc line) place)) (suc line)) (eq-eqb (row (numbers_for (suc line) place)) (suc line) (row_of line place)));
+    later = λ other place less. by other place less;
   }
     where
-      by : (after place : ℕ) → suc line + 1 ≤ after → named_now (numbers_for after place) ≡ false
+      by : (other place : ℕ) → suc line + 1 ≤ other → named_now (numbers_for other place) ≡ false
       by zero place less = absurd (omega (arith, less))
-      by (suc after) place less =
-          ap (λ b. b || nat_eq (row (numbers_for (suc after) place)) (suc line))
-          (has.later (suc after) place (omega (arith, less)))
-          ∙ ap (λ r. nat_eq r (suc line)) (row_of after place)
-          ∙ ne_eqb (suc after) (suc line) (λ e. omega (arith, less, e))
+      by (suc other) place less =
+          ap (λ b. b || nat_eq (row (numbers_for (suc other) place)) (suc line))
+          (has.later (suc other) place (omega (arith, less)))
+          ∙ ap (λ r. nat_eq r (suc line)) (row_of other place)
+          ∙ ne_eqb (suc other) (suc line) (λ e. omega (arith, less, e))
+
+  numbers_left_here : (name : TaskName) (call : Call)
+      → HasEarlierNumbers (suc line + 1) (policy nat_eq (numbers_for (suc line)) world name call).world
+  numbers_left_here name call =
+      row_added (policy nat_eq (numbers_for (suc line)) world name call).world
+      (λ named keeps supplied. calls_keep_to_numbers named (numbers_for (suc line)) world name call keeps supplied)
+
+  line_numbers_here : (grammar : Grammar) (text : List ℕ)
+      → HasEarlierNumbers (suc line + 1)
+      (step_world world (line_step nat_eq grammar world text (Some (numbers_for (suc line)))))
+  line_numbers_here grammar text =
+      row_added (step_world world (line_step nat_eq grammar world text (Some (numbers_for (suc line)))))
+      (λ named keeps supplied. lines_keep_to_numbers named grammar (numbers_for (suc line)) world text keeps supplied)
 
 -- Lines are counted from 1.
 pub serves_line : (number : ℕ) (world : World ℕ) → 1 ≤ number → HasEarlierNumbers number world
@@ -77,6 +94,13 @@ pub numbers_left : (number : ℕ) (world : World ℕ) (name : TaskName) (call : 
     → HasEarlierNumbers (number + 1) (policy nat_eq (numbers_for number) world name call).world
 numbers_left zero world name call counted has = absurd (omega (arith, counted))
 numbers_left (suc line) world name call counted has = numbers_left_here line world has name call
+
+pub line_numbers_left : (number : ℕ) (grammar : Grammar) (world : World ℕ) (text : List ℕ) → 1 ≤ number
+    → HasEarlierNumbers number world
+    → HasEarlierNumbers (number + 1)
+    (step_world world (line_step nat_eq grammar world text (Some (numbers_for number))))
+line_numbers_left zero grammar world text counted has = absurd (omega (arith, counted))
+line_numbers_left (suc line) grammar world text counted has = line_numbers_here line world has grammar text
 
 pub numbers_passed : (number : ℕ) (world : World ℕ) → HasEarlierNumbers number world
     → HasEarlierNumbers (number + 1) world

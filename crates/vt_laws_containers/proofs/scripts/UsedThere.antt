@@ -87,7 +87,8 @@ module _ (world : World ℕ) (names : List TaskName) (is : IsWorld nat_eq world)
       (among-append (used_directly nat_eq world names)
       (flat_map (λ n. change_layers (filesystem_numbered nat_eq world n)) (used_directly nat_eq world names)) number
       (among-from_each_once (used_directly nat_eq world names
-      ++ flat_map (λ n. change_layers (filesystem_numbered nat_eq world n)) (used_directly nat_eq world names)) number m))
+      ++ flat_map (λ n. change_layers (filesystem_numbered nat_eq world n)) (used_directly nat_eq world names))
+      number m))
 
 pub used_is_there : (world : World ℕ) (names : List TaskName) → IsWorld nat_eq world → (number : ℕ)
     → Contains (used_filesystems nat_eq world names) number

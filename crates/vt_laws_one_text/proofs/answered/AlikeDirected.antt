@@ -96,7 +96,7 @@ module _ (one other : World ℕ) (same : Alike one (with_mounts_of one other)) (
   abbrev second : World ℕ
   second = with_mounts_of one other
 
-  members_alike : Each SameTask (members one names) (members second names)
+  pub members_alike : Each SameTask (members one names) (members second names)
   members_alike =
       each_filter SameTask (is_member_task names) (is_member_task names)
       (λ a b alike. ap (is_member_task names) alike) one.tasks other.tasks same.tasks
@@ -106,13 +106,13 @@ module _ (one other : World ℕ) (same : Alike one (with_mounts_of one other)) (
       each_filter SameTask (λ task. not (is_member_task names task)) (λ task. not (is_member_task names task))
       (λ a b alike. ap (λ task. not (is_member_task names task)) alike) one.tasks other.tasks same.tasks
 
-  own_same : is_own_namespace nat_eq one names ≡ is_own_namespace nat_eq second names
+  pub own_same : is_own_namespace nat_eq one names ≡ is_own_namespace nat_eq second names
   own_same = λ i namespace.
       each_any SameTask (λ task. nat_eq namespace task.namespace) (λ task. nat_eq namespace task.namespace)
       (λ a b alike. ap (λ task. nat_eq namespace task.namespace) alike) (members one names) (members second names)
       members_alike i
 
-  places_same : (ones others : List (Task ℕ)) → Each SameTask ones others → locations ones ≡ locations others
+  pub places_same : (ones others : List (Task ℕ)) → Each SameTask ones others → locations ones ≡ locations others
   places_same ones others each =
       each_flat SameTask locations_of locations_of (λ a b alike. ap locations_of alike) ones others each
 
@@ -153,7 +153,7 @@ module _ (one other : World ℕ) (same : Alike one (with_mounts_of one other)) (
       list_all (λ (location : Location ℕ). not (holds_of (own_same i) (mount_at nat_eq one location).namespace))
       (places_same (outsiders one names) (outsiders second names) outsiders_alike i)
 
-  directly_same : used_directly nat_eq one names ≡ used_directly nat_eq second names
+  pub directly_same : used_directly nat_eq one names ≡ used_directly nat_eq second names
   directly_same = λ i.
       map (λ (mount : Mount ℕ). mount.filesystem) (own_by (own_same i))
       ++ map (λ (location : Location ℕ). (mount_at nat_eq one location).filesystem)
@@ -166,7 +166,7 @@ module _ (one other : World ℕ) (same : Alike one (with_mounts_of one other)) (
       (option_to_list overlay.upper ++ option_to_list overlay.work)))
       (found_alike one second same number).overlay
 
-  used_same : used_filesystems nat_eq one names ≡ used_filesystems nat_eq second names
+  pub used_same : used_filesystems nat_eq one names ≡ used_filesystems nat_eq second names
   used_same = λ i.
       each_once nat_eq (directly_same i ++ flat_map (λ number. layers_at number i) (directly_same i))
 
@@ -219,7 +219,7 @@ module _ (one other : World ℕ) (same : Alike one (with_mounts_of one other)) (
       && on_mounts_same i
       && list_all (λ filesystem. alone_same filesystem i || locked_same filesystem i) (used_same i)
 
-sealed_alike : (names : List TaskName) (one other : World ℕ) → Alike one other
+pub sealed_alike : (names : List TaskName) (one other : World ℕ) → Alike one other
     → sealed nat_eq one names ≡ sealed nat_eq other names
 sealed_alike names one other same =
     mounts_of_one (λ world. Alike one world → sealed nat_eq one names ≡ sealed nat_eq world names) one other same

@@ -51,10 +51,10 @@ objects_by filesystem merged overlay =
     then filter_map (λ number. upper_object (overlay.real number)) merged.files.numbers else []
 
 -- the numbers in use are the same in another order
-abbrev SameAmong : List ℕ → List ℕ → Type 0
+abbrev pub SameAmong : List ℕ → List ℕ → Type 0
 SameAmong used again = (number : ℕ) → is_among nat_eq number used ≡ is_among nat_eq number again
 
-among_alike : (one other : FileTree ℕ) → SameFiles one other → (used again : List ℕ) → SameAmong used again
+pub among_alike : (one other : FileTree ℕ) → SameFiles one other → (used again : List ℕ) → SameAmong used again
     → SameFiles (only_among nat_eq used one) (only_among nat_eq again other)
 among_alike one other same used again among = record {
   tree = λ i. record {

@@ -85,7 +85,7 @@ module _ (one other : World ℕ) (same : Alike one other) where
       (overlays_alike one.filesystems other.filesystems same.filesystems)
 
   -- What lies or counts under a layer: that is told by the trees, and by which upper objects there are.
-  lies_same : (filesystem object : ℕ) (layer : Layer ℕ)
+  pub lies_same : (filesystem object : ℕ) (layer : Layer ℕ)
       → lies_in_layer nat_eq one filesystem object layer ≡ lies_in_layer nat_eq other filesystem object layer
   lies_same filesystem object layer =
       ap (λ b. nat_eq filesystem layer.filesystem && b)

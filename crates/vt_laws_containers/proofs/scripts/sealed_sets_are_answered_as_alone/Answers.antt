@@ -1,5 +1,6 @@
 use Rattle.vt_laws_containers.proofs.scripts.AnsweredAlike.{sets_are_answered_as_alone}
 use Rattle.vt_laws_containers.proofs.scripts.CallsAlike.{runs_end_alike, sets_of_these_calls_are_answered_as_alone}
+use Rattle.vt_laws_containers.proofs.scripts.Standing.{sealed_sets_stand_so}
 use Rattle.vt_laws_containers.proofs.scripts.sealed_sets_are_answered_as_alone.Goals as goal
 
 pub returns-clause-alone : goal.returns-clause-alone
@@ -10,3 +11,6 @@ returns-clause-runs c = runs_end_alike
 
 pub returns-clause-these : goal.returns-clause-these
 returns-clause-these c = sets_of_these_calls_are_answered_as_alone
+
+pub returns-clause-after_lines : goal.returns-clause-after_lines
+returns-clause-after_lines c = sealed_sets_stand_so

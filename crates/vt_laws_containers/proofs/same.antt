@@ -1,0 +1,3 @@
+-- What the proofs of src/same.rt use.
+pub mod PartsAlike
+pub mod SetsTheSame
