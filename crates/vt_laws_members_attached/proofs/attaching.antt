@@ -4,7 +4,11 @@ pub mod Binding
 pub mod CopiesAlike
 pub mod Destination
 pub mod GrownPart
+pub mod GrownReady
 pub mod KnownMasters
+pub mod MovedAlike
+pub mod MovedGrows
+pub mod Moving
 pub mod PartGrows
 pub mod PartServes
 pub mod PlainMounting

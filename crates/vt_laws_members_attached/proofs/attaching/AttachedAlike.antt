@@ -117,7 +117,8 @@ module _ (world : World ℕ) (names : List TaskName) (is : IsWorld nat_eq world)
 
   abbrev with_made : (ℕ → Option ℕ) → ℕ → Option ℕ
   with_made above =
-      folded (masters_with nat_eq) above (made world names is sealed_off new_ones unused place there own new false origins)
+      folded (masters_with nat_eq) above (made world names is sealed_off new_ones unused place there own new false
+      origins)
 
   pub grows : Grows world names up added new_ones (with_made world.master)
   grows =
@@ -137,7 +138,8 @@ module _ (world : World ℕ) (names : List TaskName) (is : IsWorld nat_eq world)
       ∙ push_keeps world names is sealed_off new_ones unused place there own new false origins
       (λ (x : Mount ℕ). source_of x.propagation) (λ x at. refl) old.0) ∙ e)))
       (λ more. let of = of_copies world names is sealed_off new_ones unused place there own new false origins y more in
-      copy_known world names is sealed_off new_ones unused place there own new false origins new_groups sources of.0 of.2
+      copy_known world names is sealed_off new_ones unused place there own new false origins new_groups sources of.0
+      of.2
       of.3 g (ap (λ (x : Mount ℕ). source_of x.propagation) (sym of.4) ∙ e))
       (own_how world names up added new_ones (with_made world.master) grows y m mine))
 
@@ -154,9 +156,11 @@ module _ (world : World ℕ) (names : List TaskName) (is : IsWorld nat_eq world)
 
   pub copies_alike : (name : TaskName)
       → part_of nat_eq (numbers_raised nat_eq world name []
-      (attached_by nat_eq (base world names is sealed_off new_ones unused place there own) new place false origins)) names
+      (attached_by nat_eq (base world names is sealed_off new_ones unused place there own) new place false origins))
+      names
       ≡ part_of nat_eq (numbers_raised nat_eq (part_of nat_eq world names) name []
-      (attached_by nat_eq (base_part world names is sealed_off new_ones unused place there own) new place false origins))
+      (attached_by nat_eq (base_part world names is sealed_off new_ones unused place there own) new place false
+      origins))
       names
   copies_alike name =
       ap (λ w. part_of nat_eq (numbers_raised nat_eq world name [] w) names) (as_grown world)

@@ -1,5 +1,5 @@
 -- Each mount(2) with MS_BIND, recursive or not, ends in the part as in the world.
-use Rattle.std.proofs.Common.{◌≡◌, refl, sym, ap, subst, ◌∙◌, inl, ⊎_elim, ℕ, zero, suc, nat_eq, Bool, true, false, List, [], ◌++◌, Option, Some, None, Ok, Err, append-nil, filter, length, not}
+use Rattle.std.proofs.Common.{◌≡◌, refl, sym, ap, subst, ◌∙◌, inl, ⊎_elim, ℕ, zero, suc, nat_eq, Bool, true, false, List, [], Option, Some, None, Ok, Err, filter, length, not}
 use Rattle.std.specs.Prelude.{IfOk, is_ok}
 use Rattle.std.specs.List.{list_any}
 use Rattle.std.proofs.lemmas.Bool.{or_parts}
@@ -43,7 +43,7 @@ use Rattle.vt_laws_members_changes.proofs.part.SettledPart.{part_in_use}
 use Rattle.vt_laws_members_changes.proofs.tasks.Denied.{denial_ends_alike, run_by, same_judgement, unnamed_ends_alike}
 use Rattle.vt_laws_members_attached.specs.Attaching.{BindsEndAlike}
 use Rattle.vt_laws_members_attached.proofs.attaching.AttachedAlike.{copies_alike}
-use Rattle.vt_laws_members_attached.proofs.attaching.CopiesAlike.{base, base_part, parts, parts_alike}
+use Rattle.vt_laws_members_attached.proofs.attaching.CopiesAlike.{base, base_part, no_new_ones, parts, parts_alike}
 use Rattle.vt_laws_members_attached.proofs.attaching.Destination.{at_destination, at_source, locations_stand_there, mounts_stand_there, placed, placed_there, there}
 use Rattle.vt_laws_members_attached.proofs.attaching.PushedUp.{ShowTheirs}
 use Rattle.vt_laws_members_attached.proofs.attaching.Unused.{group_new}
@@ -58,10 +58,12 @@ module _ (world : World ℕ) (names : List TaskName) (is : IsWorld nat_eq world)
   abbrev Binds : Permit ℕ → Type 0
   Binds permit =
       (from : Location ℕ) × (here : Location ℕ) × (permit ≡ ToBind from here recursive)
-      × (is_theirs world names from.mount ≡ true) × own_at from × (is_theirs world names here.mount ≡ true) × own_at here
+      × (is_theirs world names from.mount ≡ true) × own_at from × (is_theirs world names here.mount ≡ true)
+      × own_at here
 
   binds_there : (fresh : Fresh ℕ) (source path : List ℕ) → IfOk
-      (bind_permit nat_eq (one world names is sealed_off task member) (overfills nat_eq fresh world task) task source path
+      (bind_permit nat_eq (one world names is sealed_off task member)
+      (overfills nat_eq fresh world task) task source path
       recursive) Binds
   unfolding bind_permit
   binds_there fresh source path =
@@ -71,7 +73,8 @@ module _ (world : World ℕ) (names : List TaskName) (is : IsWorld nat_eq world)
       (λ from. and_then (walk_end (destination_walk nat_eq (one world names is sealed_off task member) task path))
       (λ here. attach_permit
       (bind_rules nat_eq (one world names is sealed_off task member) task from.location here.location)
-      (overfills nat_eq fresh world task) (ToBind from.location here.location recursive))) (at_source world names is sealed_off task member source)
+      (overfills nat_eq fresh world task) (ToBind from.location here.location recursive)))
+      (at_source world names is sealed_off task member source)
       (λ from at.
       of_walk (StandsHere world names is sealed_off task member) Binds
       (destination_walk nat_eq (one world names is sealed_off task member) task path)
@@ -239,22 +242,19 @@ module _ (world : World ℕ) (names : List TaskName) (name : TaskName) (source p
       (mounts_stand_there world names it.is it.sealed_off) (locations_stand_there world names it.is)
       (placed_there world names it.is it.sealed_off here here_theirs own))
 
-  -- a world without new filesystems
-  without : (w : World ℕ) → w ≡ record w { filesystems = w.filesystems ++ [] }
-  without w = sym (ap (λ l. record w { filesystems = l }) (append-nil w.filesystems))
-
   abbrev attached_to : List (Mount ℕ) → World ℕ → World ℕ
   attached_to mounts w = attach nat_eq w fresh here false mounts
 
   now_so : now ≡ attached_by nat_eq (base world names it.is
       it.sealed_off [] unused here here_there own) new here false origins
-  now_so = ap (attached_to origins) (without world)
+  now_so = ap (attached_to origins) (no_new_ones world)
 
-  there_so : now_there ≡ attached_by nat_eq (base_part world names it.is it.sealed_off [] unused here here_there own) new
+  there_so : now_there ≡ attached_by nat_eq
+      (base_part world names it.is it.sealed_off [] unused here here_there own) new
       here false origins
   there_so =
       ap (λ l. attached_to l part) (bind_alike world names it.is from recursive from_theirs)
-      ∙ ap (attached_to origins) (without part)
+      ∙ ap (attached_to origins) (no_new_ones part)
       ∙ ap (λ l. attached_by nat_eq (base_part world names it.is it.sealed_off [] unused here here_there own)
       (copies_from nat_eq fresh l origins) here false origins)
       (parts_alike world names it.is it.sealed_off [] unused here here_there own)
@@ -270,7 +270,8 @@ module _ (world : World ℕ) (names : List TaskName) (name : TaskName) (source p
   bind_ends : EndsAlike world names name (Bind source path recursive) fresh fresh
   bind_ends =
       subst (λ p. EndAlike
-      (grown names name (Bind source path recursive) (policy nat_eq fresh world name (Bind source path recursive)).answer)
+      (grown names name (Bind source path recursive) (policy nat_eq fresh world name
+      (Bind source path recursive)).answer)
       (policy nat_eq fresh world name (Bind source path recursive)) p) (sym second)
       (subst (λ o. EndAlike (grown names name (Bind source path recursive) o.answer) o
       (granted Done (numbers_raised nat_eq part name [] now_there))) (sym first)

@@ -1,5 +1,5 @@
 -- Copies that are attached at a mount of theirs, at its receivers and what they push up, are the same in the part.
-use Rattle.std.proofs.Common.{◌≡◌, refl, sym, ap, subst, ◌∙◌, inl, inr, ⊎_elim, ℕ, nat_eq, Bool, true, false, cond, List, [], ◌∷◌, ◌++◌, Option, Some, None, filter, find, flat_map, is_some, map, not, ◌&&◌}
+use Rattle.std.proofs.Common.{◌≡◌, refl, sym, ap, subst, ◌∙◌, inl, inr, ⊎_elim, ℕ, nat_eq, Bool, true, false, cond, List, [], ◌∷◌, ◌++◌, Option, Some, None, append-nil, filter, find, flat_map, is_some, map, not, ◌&&◌}
 use Rattle.std.specs.Prelude.{option_map}
 use Rattle.std.specs.List.{filter_map, list_any}
 use Rattle.vt_spec.specs.FileTree.{is_directory_under}
@@ -33,6 +33,10 @@ group_source (Shared h) g e = e
 group_source (Slave h) g e = none_is_some g e
 group_source Private g e = none_is_some g e
 group_source Unbindable g e = none_is_some g e
+
+-- a world without new filesystems
+pub no_new_ones : (w : World ℕ) → w ≡ record w { filesystems = w.filesystems ++ [] }
+no_new_ones w = sym (ap (λ l. record w { filesystems = l }) (append-nil w.filesystems))
 
 -- masters that agree on a group still do, with the same new ones
 pub masters_agree : (made : List (ℕ × Option ℕ)) (m n : ℕ → Option ℕ) (g : ℕ) → m g ≡ n g
@@ -218,7 +222,8 @@ module _ (world : World ℕ) (names : List TaskName) (is : IsWorld nat_eq world)
         by (Some g) e =
             let heard = heard_part p n g (group_source p.propagation g e) in
             ap (λ k. when (not (is_member_of nat_eq g destination)) (image nat_eq new destination twig g, k))
-            (ap (nearest_image nat_eq base_part new parts destination twig) (master_same world names is sealed_off g heard)
+            (ap (nearest_image nat_eq base_part new parts destination twig)
+            (master_same world names is sealed_off g heard)
             ∙ above g heard (world.master g) refl)
 
     pub all_made_alike : all_groups_made nat_eq base_part new tree parts ≡ made

@@ -59,7 +59,8 @@ module _ (world : World ℕ) (names : List TaskName) (is : IsWorld nat_eq world)
 
   pub locations_stand_there : LocationsStand part
   locations_stand_there =
-      list_all_from_among (λ (l : Location ℕ). is_among nat_eq l.mount (numbers part)) (all_locations part) located_there
+      list_all_from_among (λ (l : Location ℕ). is_among nat_eq l.mount (numbers part))
+      (all_locations part) located_there
 
   module _ (sealed_off : sealed nat_eq world names ≡ true) where
     pub mounts_stand_there : MountsStand part

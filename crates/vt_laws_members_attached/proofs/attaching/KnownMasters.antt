@@ -61,7 +61,8 @@ module _ (world : World ℕ) (names : List TaskName) (is : IsWorld nat_eq world)
       → source_of (type_at new (group_of destination.propagation) o) ≡ Some g → Known g
   twig_known o m g = by (group_of destination.propagation) o.propagation refl
     where
-      by : (at : Option ℕ) (kind : Propagation ℕ) → o.propagation ≡ kind → source_of (type_at new at o) ≡ Some g → Known g
+      by : (at : Option ℕ) (kind : Propagation ℕ) → o.propagation ≡ kind → source_of (type_at new at o) ≡ Some g
+          → Known g
       by None kind e h = sources o m g h
       by (Some group) (Shared k) e h =
           sources o m g (ap source_of e
@@ -102,7 +103,8 @@ module _ (world : World ℕ) (names : List TaskName) (is : IsWorld nat_eq world)
       subst Known (same_Some (image nat_eq new destination (its_twig o) group) g h) (image_known o m group)
   type_known o m (Slave master) g h = by (find (has_members nat_eq at_parts) (groups_up at_base master)) h
     where
-      by : (k : Option ℕ) → source_of (slave_of_heir (option_map (image nat_eq new destination (its_twig o)) k)) ≡ Some g
+      by : (k : Option ℕ) → source_of (slave_of_heir (option_map (image nat_eq new destination (its_twig o)) k))
+          ≡ Some g
           → Known g
       by None e = none_is_some g e
       by (Some group) e =

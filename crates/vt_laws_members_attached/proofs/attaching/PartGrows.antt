@@ -11,7 +11,8 @@ use Rattle.vt_laws_part.proofs.part.PartOfPart.{is_own, keep, kept_how, same_dir
 use Rattle.vt_laws_members_attached.proofs.attaching.Destination.{located_there}
 use Rattle.vt_laws_members_attached.proofs.attaching.GrownPart.{Grows, is_new}
 
-module _ (world : World ℕ) (names : List TaskName) (is : IsWorld nat_eq world) (change : Mount ℕ → Mount ℕ) (added : List (Mount ℕ))
+module _ (world : World ℕ) (names : List TaskName) (is : IsWorld nat_eq world) (change : Mount ℕ → Mount ℕ)
+    (added : List (Mount ℕ))
     (new : List (Filesystem ℕ)) (master master_too : ℕ → Option ℕ)
     (it : Grows world names change added new master) where
   abbrev part : World ℕ

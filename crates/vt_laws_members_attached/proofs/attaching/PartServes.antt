@@ -59,7 +59,8 @@ module _ (world : World ℕ) (names : List TaskName) where
       (of_filesystem n y.0 y.1 y.2))
       (among-append (flat_map used_by_mount part.mounts) (flat_map used_by_filesystem part.filesystems) n front)))
       (λ back. let k = among-from_map (λ (k : Namespace ℕ). k.number) part.namespaces n back in
-      let listed = among-from_filter (λ (k : Namespace ℕ). is_own_namespace nat_eq world names k.number) world.namespaces
+      let listed = among-from_filter (λ (k : Namespace ℕ). is_own_namespace nat_eq world names k.number)
+      world.namespaces
       k.0 k.1 in
       among-append_right (flat_map used_by_mount world.mounts ++ flat_map used_by_filesystem world.filesystems)
       (map (λ (k : Namespace ℕ). k.number) world.namespaces) n

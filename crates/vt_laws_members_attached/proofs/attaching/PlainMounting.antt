@@ -53,7 +53,8 @@ module _ (world : World ℕ) (names : List TaskName) (is : IsWorld nat_eq world)
       × (is_own world names (members world names) (mount_at nat_eq world here) ≡ true)
 
   mounts_there : (fresh : Fresh ℕ) (path : List ℕ) → IfOk
-      (mount_plain_permit nat_eq (one world names is sealed_off task member) (overfills nat_eq fresh world task) task path
+      (mount_plain_permit nat_eq (one world names is sealed_off task member)
+      (overfills nat_eq fresh world task) task path
       flags) Mounts
   unfolding mount_plain_permit
   mounts_there fresh path =
@@ -61,7 +62,8 @@ module _ (world : World ℕ) (names : List TaskName) (is : IsWorld nat_eq world)
       (of_walk (StandsHere world names is sealed_off task member) Mounts
       (destination_walk nat_eq (one world names is sealed_off task member) task path)
       (λ here. attach_permit (new_mount_rules nat_eq (one world names is sealed_off task member) task here.location)
-      (overfills nat_eq fresh world task) (ToMountPlain here.location flags)) (at_destination world names is sealed_off task member path)
+      (overfills nat_eq fresh world task) (ToMountPlain here.location flags))
+      (at_destination world names is sealed_off task member path)
       (λ here on. of_passed Mounts
       (new_mount_rules nat_eq (one world names is sealed_off task member) task here.location
       (overfills nat_eq fresh world task (ToMountPlain here.location flags)))
@@ -100,7 +102,8 @@ module _ (world : World ℕ) (names : List TaskName) (name : TaskName) (path : L
   unused n used = ap (λ b. b || false) (used_unlike world names it.is fresh serves n used 0)
 
   abbrev new : Copies ℕ
-  new = copies_from nat_eq (odds fresh) (parts world names it.is it.sealed_off (new_one ∷ []) unused here here_there own) origins
+  new = copies_from nat_eq (odds fresh) (parts world names it.is it.sealed_off
+      (new_one ∷ []) unused here here_there own) origins
 
   shows : ShowTheirs world names it.is it.sealed_off (new_one ∷ []) unused here here_there own new false origins
   shows = record {
@@ -165,7 +168,8 @@ module _ (world : World ℕ) (names : List TaskName) (name : TaskName) (path : L
   parts_same : part_of nat_eq (numbers_raised nat_eq world name [] now) names
       ≡ part_of nat_eq (numbers_raised nat_eq part name [] now_there) names
   parts_same =
-      copies_alike world names it.is it.sealed_off (new_one ∷ []) unused here here_there own new origins new_groups sources
+      copies_alike world names it.is it.sealed_off
+      (new_one ∷ []) unused here here_there own new origins new_groups sources
       shows name
       ∙ sym (ap (λ w. part_of nat_eq (numbers_raised nat_eq part name [] w) names) same_numbers)
 

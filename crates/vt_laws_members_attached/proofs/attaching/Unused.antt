@@ -82,7 +82,8 @@ module _ (world : World ℕ) (names : List TaskName) (is : IsWorld nat_eq world)
           (option_to_list overlay.upper ++ option_to_list overlay.work) n h in
           subst IsListed (sym layer.2)
           (listed_by layer.0.filesystem layer.0.directory
-          (layer_directory world names is (filesystem_numbered nat_eq world d) (overlay_there world names is d overlay e)
+          (layer_directory world names is (filesystem_numbered nat_eq world d)
+          (overlay_there world names is d overlay e)
           layer.0
           (subst (λ o. Among layer.0 (overlay_or [] layers_of o)) (sym e)
           (among-append_left (option_to_list overlay.upper ++ option_to_list overlay.work) overlay.lowers layer.0
@@ -120,7 +121,8 @@ module _ (world : World ℕ) (names : List TaskName) (is : IsWorld nat_eq world)
     pub group_new : (k : ℕ) → world.master (fresh k) ≡ None
     group_new k =
         (all_in_use world is).groups (fresh k)
-        (none_from_among (is_member_of nat_eq (fresh k)) world.mounts (λ m n. by m n (is_member_of nat_eq (fresh k) m) refl))
+        (none_from_among (is_member_of nat_eq (fresh k)) world.mounts (λ m n. by m n (is_member_of nat_eq
+        (fresh k) m) refl))
       where
         sourced : (m : Mount ℕ) → source_of m.propagation ≡ Some (fresh k) → Among (fresh k) (used_by_mount m)
         sourced m e = inr (subst (λ o. Among (fresh k) (option_to_list o)) (sym e) (inl refl))
