@@ -60,7 +60,8 @@ module _ (world : World ℕ) (names : List TaskName) (name : TaskName) (path : L
   new_layers = all_used world names it.is it.sealed_off task member its.places its.all
 
   abbrev later : World ℕ
-  later = now world names it.is it.sealed_off fresh serves its.here its.on its.own new_one refl new_layers new_named flags
+  later =
+      now world names it.is it.sealed_off fresh serves its.here its.on its.own new_one refl new_layers new_named flags
 
   abbrev later_there : World ℕ
   later_there =
