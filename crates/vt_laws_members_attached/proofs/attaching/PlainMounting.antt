@@ -1,11 +1,10 @@
 -- Each mount(2) of a new plain filesystem ends in the part as in the world.
 use Rattle.std.proofs.Common.{◌≡◌, refl, sym, ap, subst, ◌∙◌, inl, inr, ⊎_elim, ℕ, nat_eq, true, false, List, [], ◌∷◌, Option, Some, None, Ok, Err, ◌||◌, eq-eqb}
 use Rattle.std.specs.Prelude.{IfOk, is_ok}
-use Rattle.std.specs.List.{list_any}
 use Rattle.vt_spec.specs.Language.Answers.Answer.{Done}
 use Rattle.vt_spec.specs.Language.Calls.{MountFlags, TaskName}
 use Rattle.vt_spec.specs.Language.Calls.Call.{MountPlain}
-use Rattle.vt_spec.specs.Lists.{Fresh, is_among, odds}
+use Rattle.vt_spec.specs.Lists.{Fresh, odds}
 use Rattle.vt_spec.specs.Machine.Apply.{overfills}
 use Rattle.vt_spec.specs.Machine.Attach.{Copies, attached_by, copies_from}
 use Rattle.vt_spec.specs.Machine.Invariants.{IsWorld}
@@ -19,7 +18,7 @@ use Rattle.vt_spec.specs.Machine.Permits.Permit.{ToMountPlain}
 use Rattle.vt_spec.specs.Machine.Policy.{numbers_raised, policy}
 use Rattle.vt_spec.specs.Machine.Rules.Mounting.{admin_rules, destination_walk, new_mount_rules}
 use Rattle.vt_spec.specs.Machine.Run.{Serves}
-use Rattle.vt_spec.specs.Machine.Sealed.{members, part_of, sealed, used_filesystems}
+use Rattle.vt_spec.specs.Machine.Sealed.{members, part_of, sealed}
 use Rattle.vt_spec.specs.Machine.World.{Filesystem, Task, World, layers_of, mount_at, task_called}
 use Rattle.vt_spec.proofs.Lists.{Among}
 use Rattle.vt_spec.proofs.Options.{none_is_some}
@@ -38,7 +37,7 @@ use Rattle.vt_laws_members_changes.proofs.part.SettledPart.{part_in_use}
 use Rattle.vt_laws_members_changes.proofs.tasks.Denied.{denial_ends_alike, run_by, same_judgement, unnamed_ends_alike}
 use Rattle.vt_laws_members_attached.specs.Attaching.{PlainMountsEndAlike}
 use Rattle.vt_laws_members_attached.proofs.attaching.AttachedAlike.{copies_alike}
-use Rattle.vt_laws_members_attached.proofs.attaching.CopiesAlike.{base_part, parts, parts_alike}
+use Rattle.vt_laws_members_attached.proofs.attaching.CopiesAlike.{Attachment, base_part, parts, parts_alike}
 use Rattle.vt_laws_members_attached.proofs.attaching.Destination.{at_destination, locations_stand_there, mounts_stand_there, placed, placed_there, there}
 use Rattle.vt_laws_members_attached.proofs.attaching.PushedUp.{ShowTheirs}
 use Rattle.vt_laws_members_attached.proofs.attaching.Unused.{filesystem_unlike, group_new, used_unlike}
@@ -88,24 +87,27 @@ module _ (world : World ℕ) (names : List TaskName) (name : TaskName) (path : L
   theirs : IsTheirs world names it.is.mounts here.mount
   theirs = theirs_from world names it.is.mounts here.mount on
 
-  here_there : Among (mount_at nat_eq world here) world.mounts
-  here_there = there world names it.is it.sealed_off here theirs own
-
   abbrev new_one : Filesystem ℕ
   new_one = plain_filesystem nat_eq fresh
 
   abbrev origins : List (Mount ℕ)
   origins = new_mount new_one.number new_one.files.tree.root flags ∷ []
 
-  unused : (n : ℕ) → is_among nat_eq n (used_filesystems nat_eq world names) ≡ true
-      → list_any (λ (f : Filesystem ℕ). nat_eq n f.number) (new_one ∷ []) ≡ false
-  unused n used = ap (λ b. b || false) (used_unlike world names it.is fresh serves n used 0)
+  abbrev at : Attachment world names
+  at = record {
+    is = it.is;
+    sealed_off = it.sealed_off;
+    new_ones = new_one ∷ [];
+    unused = λ n used. ap (λ b. b || false) (used_unlike world names it.is fresh serves n used 0);
+    place = here;
+    there = there world names it.is it.sealed_off here theirs own;
+    own = own;
+  }
 
   abbrev new : Copies ℕ
-  new = copies_from nat_eq (odds fresh) (parts world names it.is it.sealed_off
-      (new_one ∷ []) unused here here_there own) origins
+  new = copies_from nat_eq (odds fresh) (parts world names at) origins
 
-  shows : ShowTheirs world names it.is it.sealed_off (new_one ∷ []) unused here here_there own new false origins
+  shows : ShowTheirs world names at new false origins
   shows = record {
     shown = λ o m. inr (⊎_elim (λ same. ap (λ (x : Mount ℕ). nat_eq x.filesystem new_one.number || false) same
         ∙ ap (λ b. b || false) (eq-eqb new_one.number new_one.number refl)) (λ none. absurd none) m);
@@ -158,18 +160,17 @@ module _ (world : World ℕ) (names : List TaskName) (name : TaskName) (path : L
 
   -- the numbers are handed out to the same parts
   same_numbers : now_there ≡ attached_by nat_eq
-      (base_part world names it.is it.sealed_off (new_one ∷ []) unused here here_there own) new here false origins
+      (base_part world names at) new here false origins
   same_numbers =
       ap (λ l. attached_by nat_eq
-      (base_part world names it.is it.sealed_off (new_one ∷ []) unused here here_there own)
+      (base_part world names at)
       (copies_from nat_eq (odds fresh) l origins) here false origins)
-      (parts_alike world names it.is it.sealed_off (new_one ∷ []) unused here here_there own)
+      (parts_alike world names at)
 
   parts_same : part_of nat_eq (numbers_raised nat_eq world name [] now) names
       ≡ part_of nat_eq (numbers_raised nat_eq part name [] now_there) names
   parts_same =
-      copies_alike world names it.is it.sealed_off
-      (new_one ∷ []) unused here here_there own new origins new_groups sources
+      copies_alike world names at new origins new_groups sources
       shows name
       ∙ sym (ap (λ w. part_of nat_eq (numbers_raised nat_eq part name [] w) names) same_numbers)
 

@@ -73,7 +73,8 @@ slave_was new ToUnbindable kind g e = none_is_some g e
 
 -- who becomes shared was so, or has a new group
 shared_was : (new : ℕ) (word : TypeWord) (kind : Propagation ℕ) (g : ℕ)
-    → group_of (type_after new word kind) ≡ Some g → (source_of kind ≡ Some g) ⊎ ((takes_groups word ≡ true) × (new ≡ g))
+    → group_of (type_after new word kind) ≡ Some g
+    → (source_of kind ≡ Some g) ⊎ ((takes_groups word ≡ true) × (new ≡ g))
 shared_was new ToShared (Shared h) g e = inl e
 shared_was new ToShared (Slave h) g e = inr (refl, same_Some new g e)
 shared_was new ToShared Private g e = inr (refl, same_Some new g e)
