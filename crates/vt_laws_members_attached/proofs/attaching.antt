@@ -9,6 +9,7 @@ pub mod KnownMasters
 pub mod MovedAlike
 pub mod MovedGrows
 pub mod Moving
+pub mod NewFilesystem
 pub mod PartGrows
 pub mod PartServes
 pub mod PlainMounting

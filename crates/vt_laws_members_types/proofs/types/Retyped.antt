@@ -27,6 +27,7 @@ use Rattle.vt_laws_part.proofs.groups.ReceiversAlike.{member_group, own_member, 
 use Rattle.vt_laws_part.proofs.part.PartOfPart.{keep, kept_how}
 use Rattle.vt_laws_members.proofs.judging.Grounds.{numbered}
 use Rattle.vt_laws_members_changes.proofs.letting_go.Heard.{IsHeard, above_heard, apart, heard_by_own, master_same, own_in_part, part_source, up_heard}
+use Rattle.vt_laws_members_types.specs.TypeChanges.{takes_groups}
 use Rattle.vt_laws_members_types.proofs.types.Inherited.{between, kind_left, master_left, master_left_so, source_from}
 use Rattle.vt_laws_members_types.proofs.types.TypesLeft.{AreTypedAlike}
 
@@ -72,17 +73,29 @@ slave_was new ToUnbindable kind g e = none_is_some g e
 
 -- who becomes shared was so, or has a new group
 shared_was : (new : ℕ) (word : TypeWord) (kind : Propagation ℕ) (g : ℕ)
-    → group_of (type_after new word kind) ≡ Some g → (source_of kind ≡ Some g) ⊎ (new ≡ g)
+    → group_of (type_after new word kind) ≡ Some g
+    → (source_of kind ≡ Some g) ⊎ ((takes_groups word ≡ true) × (new ≡ g))
 shared_was new ToShared (Shared h) g e = inl e
-shared_was new ToShared (Slave h) g e = inr (same_Some new g e)
-shared_was new ToShared Private g e = inr (same_Some new g e)
-shared_was new ToShared Unbindable g e = inr (same_Some new g e)
+shared_was new ToShared (Slave h) g e = inr (refl, same_Some new g e)
+shared_was new ToShared Private g e = inr (refl, same_Some new g e)
+shared_was new ToShared Unbindable g e = inr (refl, same_Some new g e)
 shared_was new ToSlave (Shared h) g e = none_is_some g e
 shared_was new ToSlave (Slave h) g e = none_is_some g e
 shared_was new ToSlave Private g e = none_is_some g e
 shared_was new ToSlave Unbindable g e = none_is_some g e
 shared_was new ToPrivate kind g e = none_is_some g e
 shared_was new ToUnbindable kind g e = none_is_some g e
+
+-- the type does not depend on the number of a group that is not taken
+same_after : (a b : ℕ) (word : TypeWord) (kind : Propagation ℕ) → takes_groups word ≡ false
+    → type_after a word kind ≡ type_after b word kind
+same_after a b ToShared kind e = absurd (true≢false e)
+same_after a b ToSlave (Shared h) e = refl
+same_after a b ToSlave (Slave h) e = refl
+same_after a b ToSlave Private e = refl
+same_after a b ToSlave Unbindable e = refl
+same_after a b ToPrivate kind e = refl
+same_after a b ToUnbindable kind e = refl
 
 master_source : (kind : Propagation ℕ) (g : ℕ) → master_after kind ≡ Some g → source_of kind ≡ Some g
 master_source (Shared h) g e = none_is_some g e
@@ -138,10 +151,36 @@ module _ (fresh : Fresh ℕ) (word : TypeWord) (named : List (Mount ℕ)) where
       old_kept (with_master nat_eq a (number_for m.number) (master_after m.propagation)) g old rest
       ∙ ap (λ b. cond b (master_after m.propagation) (a g)) (old (index_of nat_eq named m.number))
 
+-- a number that a mount's group or master has is none of those handed in
+unlike : (w : World ℕ) (supply : Fresh ℕ) → Serves nat_eq w supply → (m : Mount ℕ) → Among m w.mounts → (g : ℕ)
+    → source_of m.propagation ≡ Some g → (k : ℕ) → nat_eq g (supply k) ≡ false
+unlike w supply serves m n g e k =
+    false_from_ne_true (nat_eq g (supply k)) (λ same.
+    true≢false (sym (ap (λ i. list_any (nat_eq i) (numbers_in_use w)) (sym (eqb-true g (supply k) same))
+    ∙ is_among_numbers (numbers_in_use w) g
+    (mount_uses w m n g (inr (subst (λ o. Among g (option_to_list o)) (sym e) (inl refl))))) ∙ serves.unused k))
+
+-- the group of this number is new
+abbrev pub IsNewGroup : Fresh ℕ → TypeWord → ℕ → Type 0
+IsNewGroup fresh word g = (takes_groups word ≡ true) × (k : ℕ) × (fresh k ≡ g)
+
+-- it has no master yet
+new_none : (world : World ℕ) → IsWorld nat_eq world → (fresh : Fresh ℕ)
+    → Serves nat_eq world fresh → (k : ℕ) → world.master (fresh k) ≡ None
+new_none world is fresh serves k =
+    (all_in_use world is).groups (fresh k) (false_from_ne_true (has_members nat_eq world.mounts (fresh k)) (λ h.
+    let y = any_among (is_member_of nat_eq (fresh k)) world.mounts h in
+    true≢false (sym (eq-eqb (fresh k) (fresh k) refl) ∙ unlike world fresh serves y.0 y.1 (fresh k)
+    (source_from y.0.propagation (fresh k) (member_group (fresh k) y.0 y.2)) k)))
+
 module _ (world : World ℕ) (names : List TaskName) (is : IsWorld nat_eq world)
     (sealed_off : sealed nat_eq world names ≡ true) (fresh : Fresh ℕ) (serves : Serves nat_eq world fresh)
     (word : TypeWord) (named : List (Mount ℕ))
-    (named_own : (m : Mount ℕ) → Among m named → Among m (own_mounts nat_eq world names)) where
+    (named_own : (m : Mount ℕ) → Among m named → Among m (own_mounts nat_eq world names))
+    (masters_there : ℕ → Option ℕ)
+    (kept_there : (g : ℕ) → IsHeard world names is sealed_off g
+    → masters_there g ≡ (part_of nat_eq world names).master g)
+    (agree : (g : ℕ) → IsNewGroup fresh word g → masters_there g ≡ new_masters fresh word named world g) where
   abbrev part : World ℕ
   part = part_of nat_eq world names
 
@@ -167,7 +206,7 @@ module _ (world : World ℕ) (names : List TaskName) (is : IsWorld nat_eq world)
   t = retyped_between fresh word named world
 
   abbrev t_part : World ℕ
-  t_part = retyped_between fresh word named part
+  t_part = between part kind masters_there
 
   abbrev has : World ℕ → ℕ → Bool
   has w g = has_members nat_eq w.mounts g
@@ -243,44 +282,26 @@ module _ (world : World ℕ) (names : List TaskName) (is : IsWorld nat_eq world)
 
   -- Groups of before and their masters
   heard_old : (g : ℕ) → Heard g → (k : ℕ) → nat_eq g (fresh k) ≡ false
-  heard_old g heard k =
-      false_from_ne_true (nat_eq g (fresh k)) (λ same.
+  heard_old g heard =
       let own = own_member world names is.mounts events g heard.0 heard.1 in
-      true≢false (sym (ap (λ n. list_any (nat_eq n) (numbers_in_use world)) (sym (eqb-true g (fresh k) same))
-      ∙ is_among_numbers (numbers_in_use world) g (used own.0 (in_world own.0 own.1) g
-      (source_from own.0.propagation g (member_group g own.0 own.2)))) ∙ serves.unused k))
-    where
-      used : (m : Mount ℕ) → Among m world.mounts → (g : ℕ) → source_of m.propagation ≡ Some g
-          → Among g (numbers_in_use world)
-      used m n g e =
-          mount_uses world m n g (inr (subst (λ o. Among g (option_to_list o)) (sym e) (inl refl)))
+      unlike world fresh serves own.0 (in_world own.0 own.1) g
+      (source_from own.0.propagation g (member_group g own.0 own.2))
 
-  -- a group of theirs, or one without a master
+  -- a group of theirs, or a new one
   abbrev IsGroup : ℕ → Type 0
-  IsGroup g = Heard g ⊎ (world.master g ≡ None)
-
-  new_group : (k : ℕ) → IsGroup (fresh k)
-  new_group k =
-      inr ((all_in_use world is).groups (fresh k) (false_from_ne_true (has_members nat_eq world.mounts (fresh k)) (λ h.
-      let y = any_among (is_member_of nat_eq (fresh k)) world.mounts h in
-      true≢false (sym (is_among_numbers (numbers_in_use world) (fresh k) (mount_uses world y.0 y.1 (fresh k)
-      (inr (subst (λ o. Among (fresh k) (option_to_list o))
-      (sym (source_from y.0.propagation (fresh k) (member_group (fresh k) y.0 y.2))) (inl refl)))))
-      ∙ serves.unused k))))
-
-  base_alike : (g : ℕ) → IsGroup g → part.master g ≡ world.master g
-  base_alike g group =
-      ⊎_elim (master_same world names is sealed_off g)
-      (λ none. ap (cond (list_any (is_member_of nat_eq g) owns) (world.master g)) (sym none)
-      ∙ by (list_any (is_member_of nat_eq g) owns)) group
-    where
-      by : (b : Bool) → cond b (world.master g) (world.master g) ≡ world.master g
-      by true = refl
-      by false = refl
+  IsGroup g = Heard g ⊎ IsNewGroup fresh word g
 
   base_heard : (g above : ℕ) → IsGroup g → world.master g ≡ Some above → Heard above
   base_heard g above group e =
-      ⊎_elim (above_heard world names is sealed_off above g e) (λ none. none_is_some above (sym none ∙ e)) group
+      ⊎_elim (above_heard world names is sealed_off above g e) (λ new. none_is_some above
+      (sym (ap world.master (sym new.2) ∙ new_none world is fresh serves new.1) ∙ e)) group
+
+  masters_agree : (g : ℕ) → IsGroup g → masters_there g ≡ t.master g
+  masters_agree g group =
+      ⊎_elim
+      (λ heard. kept_there g heard ∙ master_same world names is sealed_off g heard
+      ∙ sym (old_kept fresh word named world.master g (heard_old g heard) named))
+      (agree g) group
 
   -- the masters of groups after are heard
   heard_from : (a : ℕ → Option ℕ) (g above : ℕ) → (a g ≡ Some above → Heard above) → (list : List (Mount ℕ))
@@ -306,9 +327,9 @@ module _ (world : World ℕ) (names : List TaskName) (is : IsWorld nat_eq world)
   up_part : (g : ℕ) → Heard g → groups_up t_part g ≡ groups_up world g
   up_part g heard =
       ap (λ n. chain n t_part.master g) (length-map part.mounts changed)
-      ∙ chain_alike part.master t_part.master Heard
+      ∙ chain_alike part.master masters_there Heard
       (λ a b e p. above_heard world names is sealed_off b a (sym (master_same world names is sealed_off a p) ∙ e) p)
-      (λ a p. old_kept fresh word named part.master a (heard_old a p) named) (length part.mounts) g heard
+      kept_there (length part.mounts) g heard
       ∙ same_up world names is.mounts events g heard.0 heard.1
 
   heir_alike : (o : Option ℕ) → ((g : ℕ) → o ≡ Some g → Heard g) → heir nat_eq t_part o ≡ heir nat_eq t o
@@ -367,7 +388,7 @@ module _ (world : World ℕ) (names : List TaskName) (is : IsWorld nat_eq world)
       by : (b : Bool) → group_of (kind_by fresh word named b m) ≡ Some g → IsGroup g
       by true e =
           ⊎_elim (λ was. inl (heard_by_own world names is sealed_off m own g was))
-          (λ new. subst IsGroup new (new_group (index_of nat_eq named m.number)))
+          (λ new. inr (new.0, index_of nat_eq named m.number, new.1))
           (shared_was (numbers_by nat_eq fresh named m.number) word m.propagation g e)
       by false e = inl (heard_by_own world names is sealed_off m own g (source_from m.propagation g e))
 
@@ -394,19 +415,83 @@ module _ (world : World ℕ) (names : List TaskName) (is : IsWorld nat_eq world)
       by Unbindable f e = none_is_some g e
 
   pub retyped_alike : AreTypedAlike world names is sealed_off
-      (kind_left world kind (new_masters fresh word named world))
-      (kind_left part kind (new_masters fresh word named part))
-      (master_left world kind (new_masters fresh word named world))
-      (master_left part kind (new_masters fresh word named part))
+      (kind_left world kind (new_masters fresh word named world)) (kind_left part kind masters_there)
+      (master_left world kind (new_masters fresh word named world)) (master_left part kind masters_there)
   retyped_alike = record {
     types = λ m n place. ⊎_elim
         (λ own. own_alike m (among-filter (is_own_mount nat_eq world names) world.mounts m n own))
         (nowhere_alike m n) place;
     masters = λ m own g e.
         let its = group_after m own g e in
-        master_left_so part kind (new_masters fresh word named part) g its.2
-        ∙ ap (heir nat_eq t_part) (new_alike fresh word named part.master world.master g (base_alike g its.0) named)
+        master_left_so part kind masters_there g its.2
+        ∙ ap (heir nat_eq t_part) (masters_agree g its.0)
         ∙ heir_alike (t.master g)
         (λ above f. heard_from world.master g above (base_heard g above its.0) named named_own f)
         ∙ sym (master_left_so world kind (new_masters fresh word named world) g its.1);
   }
+
+-- The numbers that are handed in
+module _ (world : World ℕ) (names : List TaskName) (is : IsWorld nat_eq world)
+    (sealed_off : sealed nat_eq world names ≡ true) (fresh : Fresh ℕ) (serves : Serves nat_eq world fresh)
+    (word : TypeWord) (named : List (Mount ℕ))
+    (named_own : (m : Mount ℕ) → Among m named → Among m (own_mounts nat_eq world names)) where
+  abbrev there : World ℕ
+  there = part_of nat_eq world names
+
+  abbrev taken : Mount ℕ → Propagation ℕ
+  taken = new_kind fresh word named
+
+  old_there : (supply : Fresh ℕ) → ((m : Mount ℕ) → Among m (own_mounts nat_eq world names) → (g : ℕ)
+      → source_of m.propagation ≡ Some g → (k : ℕ) → nat_eq g (supply k) ≡ false)
+      → (g : ℕ) → IsHeard world names is sealed_off g → new_masters supply word named there g ≡ there.master g
+  old_there supply unlike_own g heard =
+      let own = own_member world names is.mounts (apart world names is sealed_off).events g heard.0 heard.1 in
+      old_kept supply word named there.master g
+      (unlike_own own.0 own.1 g (source_from own.0.propagation g (member_group g own.0 own.2))) named
+
+  -- one supply for both
+  new_agree : (g : ℕ) → IsNewGroup fresh word g
+      → new_masters fresh word named there g ≡ new_masters fresh word named world g
+  new_agree g new =
+      new_alike fresh word named there.master world.master g
+      (ap (cond (list_any (is_member_of nat_eq g) (own_mounts nat_eq world names)) (world.master g)) (sym none)
+      ∙ by (list_any (is_member_of nat_eq g) (own_mounts nat_eq world names))) named
+    where
+      none : world.master g ≡ None
+      none = ap world.master (sym new.2) ∙ new_none world is fresh serves new.1
+
+      by : (b : Bool) → cond b (world.master g) (world.master g) ≡ world.master g
+      by true = refl
+      by false = refl
+
+  pub alike_by_one : AreTypedAlike world names is sealed_off
+      (kind_left world taken (new_masters fresh word named world))
+      (kind_left there taken (new_masters fresh word named there))
+      (master_left world taken (new_masters fresh word named world))
+      (master_left there taken (new_masters fresh word named there))
+  alike_by_one =
+      retyped_alike world names is sealed_off fresh serves word named named_own (new_masters fresh word named there)
+      (old_there fresh (λ m own. unlike world fresh serves m
+      (among-from_filter (is_own_mount nat_eq world names) world.mounts m own).0)) new_agree
+
+  -- two supplies, where no group is taken
+  module _ (other : Fresh ℕ) (serves_there : Serves nat_eq (part_of nat_eq world names) other)
+      (no_groups : takes_groups word ≡ false) where
+    pub same_kind : (m : Mount ℕ) → new_kind other word named m ≡ taken m
+    same_kind m = by (is_named fresh word named m)
+      where
+        by : (b : Bool) → kind_by other word named b m ≡ kind_by fresh word named b m
+        by true =
+            same_after (numbers_by nat_eq other named m.number) (numbers_by nat_eq fresh named m.number) word
+            m.propagation no_groups
+        by false = refl
+
+    pub alike_by_any : AreTypedAlike world names is sealed_off
+        (kind_left world taken (new_masters fresh word named world))
+        (kind_left there taken (new_masters other word named there))
+        (master_left world taken (new_masters fresh word named world))
+        (master_left there taken (new_masters other word named there))
+    alike_by_any =
+        retyped_alike world names is sealed_off fresh serves word named named_own (new_masters other word named there)
+        (old_there other (λ m own. unlike there other serves_there m (own_in_part world names is sealed_off m own)))
+        (λ g new. absurd (true≢false (sym new.0 ∙ no_groups)))

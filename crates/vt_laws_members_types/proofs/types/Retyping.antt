@@ -8,7 +8,7 @@ use Rattle.vt_spec.specs.Language.Calls.Call.{SetType}
 use Rattle.vt_spec.specs.Lists.{Fresh, holds_of}
 use Rattle.vt_spec.specs.Machine.Invariants.{IsWorld}
 use Rattle.vt_spec.specs.Machine.Judge.{Judgement, judge_in, type_permit}
-use Rattle.vt_spec.specs.Machine.Mounts.{Location, Mount, children, mount_tree, numbers_by, tree_from}
+use Rattle.vt_spec.specs.Machine.Mounts.{Location, Mount, Propagation, children, mount_tree, numbers_by, tree_from}
 use Rattle.vt_spec.specs.Machine.Outcomes.{granted}
 use Rattle.vt_spec.specs.Machine.Permits.{Permit}
 use Rattle.vt_spec.specs.Machine.Permits.Permit.{ToSetType}
@@ -38,10 +38,10 @@ use Rattle.vt_laws_members_changes.proofs.tasks.Denied.{denial_ends_alike, run_b
 use Rattle.vt_laws_members_changes.proofs.letting_go.Moving.{StandsHere, at_directory, one}
 use Rattle.vt_laws_members_changes.proofs.letting_go.Umounting.{of_passed}
 use Rattle.vt_laws_members_changes.proofs.part.SettledPart.{part_in_use}
-use Rattle.vt_laws_members_types.specs.TypeChanges.{TypesEndAlike}
+use Rattle.vt_laws_members_types.specs.TypeChanges.{OtherTypesEndAlike, TypesEndAlike, takes_groups}
 use Rattle.vt_laws_members_types.proofs.types.Inherited.{kind_left, master_left, settled_so}
-use Rattle.vt_laws_members_types.proofs.types.Retyped.{new_kind, new_masters, retyped_alike, retyped_so}
-use Rattle.vt_laws_members_types.proofs.types.TypesLeft.{types_left}
+use Rattle.vt_laws_members_types.proofs.types.Retyped.{alike_by_any, alike_by_one, new_kind, new_masters, retyped_so, same_kind}
+use Rattle.vt_laws_members_types.proofs.types.TypesLeft.{AreTypedAlike, types_left}
 
 -- The world after a change of types and the sweep
 module _ (w : World ℕ) (all : AllInUse w) (fresh : Fresh ℕ) (word : TypeWord) (named : List (Mount ℕ)) where
@@ -136,57 +136,67 @@ module _ (world : World ℕ) (names : List TaskName) (is : IsWorld nat_eq world)
 module _ (world : World ℕ) (names : List TaskName) (name : TaskName) (path : List ℕ) (word : TypeWord)
     (recursive : Bool)
     (it : IsCallOfTheirs world names name (SetType path word recursive)) (task : Task ℕ)
-    (called : task_called world name ≡ Some task) (fresh : Fresh ℕ) (serves : Serves nat_eq world fresh)
+    (called : task_called world name ≡ Some task) (fresh other : Fresh ℕ)
     (here : Location ℕ) (on : is_theirs world names here.mount ≡ true)
     (own : is_own world names (members world names) (mount_at nat_eq world here) ≡ true)
     (judged : judge_in nat_eq fresh world task (SetType path word recursive)
-    ≡ Ok (ToSetType here.mount word recursive))
-  where
-    abbrev there : World ℕ
-    there = part_of nat_eq world names
+    ≡ Ok (ToSetType here.mount word recursive)) where
+  abbrev there : World ℕ
+  there = part_of nat_eq world names
 
-    abbrev mount_of : Mount ℕ
-    mount_of = mount_numbered nat_eq world here.mount
+  abbrev mount_of : Mount ℕ
+  mount_of = mount_numbered nat_eq world here.mount
 
-    theirs : IsTheirs world names it.is.mounts here.mount
-    theirs = theirs_from world names it.is.mounts here.mount on
+  theirs : IsTheirs world names it.is.mounts here.mount
+  theirs = theirs_from world names it.is.mounts here.mount on
 
-    its_own : Among mount_of (own_mounts nat_eq world names)
-    its_own =
-        among-filter (is_own_mount nat_eq world names) world.mounts mount_of
-        (subst (λ m. Among m world.mounts) (sym (its_mount world names it.is.mounts here.mount theirs)) theirs.1) own
+  its_own : Among mount_of (own_mounts nat_eq world names)
+  its_own =
+      among-filter (is_own_mount nat_eq world names) world.mounts mount_of
+      (subst (λ m. Among m world.mounts) (sym (its_mount world names it.is.mounts here.mount theirs)) theirs.1) own
 
-    abbrev named : List (Mount ℕ)
-    named = named_mounts nat_eq world here.mount recursive
+  abbrev pub named : List (Mount ℕ)
+  named = named_mounts nat_eq world here.mount recursive
 
-    abbrev now : World ℕ
-    now = after_types world (all_in_use world it.is) fresh word named
+  pub all_own : (m : Mount ℕ) → Among m named → Among m (own_mounts nat_eq world names)
+  all_own = named_own world names it.is here.mount theirs its_own recursive
 
+  abbrev kind : Mount ℕ → Propagation ℕ
+  kind = new_kind fresh word named
+
+  abbrev now : World ℕ
+  now = after_types world (all_in_use world it.is) fresh word named
+
+  module _ (kind_there : Mount ℕ → Propagation ℕ) (masters_there : ℕ → Option ℕ)
+      (settled_there : settled nat_eq (retyped nat_eq there (numbers_by nat_eq other named) word named)
+      ≡ with_changed there (λ m. record m { propagation = kind_there m }) masters_there)
+      (typed : AreTypedAlike world names it.is it.sealed_off
+      (kind_left world kind (new_masters fresh word named world)) kind_there
+      (master_left world kind (new_masters fresh word named world)) masters_there) where
     abbrev now_there : World ℕ
-    now_there = after_types there (part_in_use world names it.is it.sealed_off) fresh word named
+    now_there = with_changed there (λ m. record m { propagation = kind_there m }) masters_there
 
     first : policy nat_eq fresh world name (SetType path word recursive)
         ≡ granted Done (numbers_raised nat_eq world name [] now)
     first =
         ap (ran name (SetType path word recursive) world fresh) called
-        ∙ ap (run_by world names name (SetType path word recursive) it fresh fresh world fresh task) judged
+        ∙ ap (run_by world names name (SetType path word recursive) it fresh other world fresh task) judged
         ∙ ap (λ w. granted Done (numbers_raised nat_eq world name [] w))
         (types_settled world (all_in_use world it.is) fresh word named)
 
-    second : policy nat_eq fresh there name (SetType path word recursive)
+    second : policy nat_eq other there name (SetType path word recursive)
         ≡ granted Done (numbers_raised nat_eq there name [] now_there)
     second =
-        ap (ran name (SetType path word recursive) there fresh)
+        ap (ran name (SetType path word recursive) there other)
         (same_caller world names it.is it.sealed_off name it.theirs ∙ called)
-        ∙ ap (run_by world names name (SetType path word recursive) it fresh fresh there fresh task)
-        (sym (same_judgement world names name (SetType path word recursive) it fresh fresh task called) ∙ judged)
+        ∙ ap (run_by world names name (SetType path word recursive) it fresh other there other task)
+        (sym (same_judgement world names name (SetType path word recursive) it fresh other task called) ∙ judged)
         ∙ ap (λ l. granted Done (numbers_raised nat_eq there name []
-        (settled nat_eq (retyped nat_eq there (numbers_by nat_eq fresh l) word l))))
+        (settled nat_eq (retyped nat_eq there (numbers_by nat_eq other l) word l))))
         (named_alike world names it.is here.mount theirs its_own recursive)
-        ∙ ap (λ w. granted Done (numbers_raised nat_eq there name [] w))
-        (types_settled there (part_in_use world names it.is it.sealed_off) fresh word named)
+        ∙ ap (λ w. granted Done (numbers_raised nat_eq there name [] w)) settled_there
 
-    type_alike : EndsAlike world names name (SetType path word recursive) fresh fresh
+    pub type_alike : EndsAlike world names name (SetType path word recursive) fresh other
     type_alike =
         subst (λ p. EndAlike
         (grown names name (SetType path word recursive)
@@ -197,33 +207,72 @@ module _ (world : World ℕ) (names : List TaskName) (name : TaskName) (path : L
         (record {
           answer = refl;
           part = types_left world names it.is it.sealed_off
-              (kind_left world (new_kind fresh word named) (new_masters fresh word named world))
-              (kind_left there (new_kind fresh word named) (new_masters fresh word named there))
-              (master_left world (new_kind fresh word named) (new_masters fresh word named world))
-              (master_left there (new_kind fresh word named) (new_masters fresh word named there))
-              (retyped_alike world names it.is it.sealed_off fresh serves word named
-              (named_own world names it.is here.mount theirs its_own recursive)) name;
+              (kind_left world kind (new_masters fresh word named world)) kind_there
+              (master_left world kind (new_masters fresh word named world)) masters_there typed name;
         }))
 
-pub types_end_alike : TypesEndAlike
-types_end_alike world names name path word recursive it fresh serves = by (task_called world name) refl
-  where
-    judged_by : (task : Task ℕ) (member : Among task (members world names)) → task_called world name ≡ Some task
-        → (j : Judgement ℕ) → judge_in nat_eq fresh world task (SetType path word recursive) ≡ j
-        → IfOk j (SetsType world names it.is it.sealed_off task member word recursive)
-        → EndsAlike world names name (SetType path word recursive) fresh fresh
-    judged_by task member e (Ok permit) judged its =
-        type_alike world names name path word recursive it task e fresh serves its.0 its.2 its.3 (judged ∙ ap Ok its.1)
-    judged_by task member e (Err deny) judged its =
-        denial_ends_alike world names name (SetType path word recursive) it fresh fresh
-        (ap (λ o. is_ok (ran name (SetType path word recursive) world fresh o).answer) e
-        ∙ ap (λ j. is_ok
-        (run_by world names name (SetType path word recursive) it fresh fresh world fresh task j).answer) judged)
+  pub by_one : Serves nat_eq world fresh → fresh ≡ other
+      → EndsAlike world names name (SetType path word recursive) fresh other
+  by_one serves same =
+      type_alike
+      (kind_left there kind (new_masters fresh word named there))
+      (master_left there kind (new_masters fresh word named there))
+      (ap (λ supply. settled nat_eq (retyped nat_eq there (numbers_by nat_eq supply named) word named)) (sym same)
+      ∙ types_settled there (part_in_use world names it.is it.sealed_off) fresh word named)
+      (alike_by_one world names it.is it.sealed_off fresh serves word named all_own)
 
-    by : (o : Option (Task ℕ)) → task_called world name ≡ o
-        → EndsAlike world names name (SetType path word recursive) fresh fresh
-    by None e = unnamed_ends_alike world names name (SetType path word recursive) it fresh fresh e
-    by (Some task) e =
-        let member = member_called world names it.is it.sealed_off name it.theirs task e in
-        judged_by task member e (judge_in nat_eq fresh world task (SetType path word recursive)) refl
-        (sets_type world names it.is it.sealed_off task member word recursive path)
+  pub by_any : Serves nat_eq world fresh → Serves nat_eq there other → takes_groups word ≡ false
+      → EndsAlike world names name (SetType path word recursive) fresh other
+  by_any serves serves_there no_groups =
+      type_alike
+      (kind_left there kind (new_masters other word named there))
+      (master_left there kind (new_masters other word named there))
+      (types_settled there (part_in_use world names it.is it.sealed_off) other word named
+      ∙ (λ i. with_changed there
+      (λ m. record m { propagation = kind_left there (λ x. same x i) (new_masters other word named there) m })
+      (master_left there (λ x. same x i) (new_masters other word named there))))
+      (alike_by_any world names it.is it.sealed_off fresh serves word named all_own other serves_there no_groups)
+    where
+      same : (m : Mount ℕ) → new_kind other word named m ≡ kind m
+      same = same_kind world names it.is it.sealed_off fresh serves word named all_own other serves_there no_groups
+
+-- A call, granted or refused
+module _ (world : World ℕ) (names : List TaskName) (name : TaskName) (path : List ℕ) (word : TypeWord)
+    (recursive : Bool) (it : IsCallOfTheirs world names name (SetType path word recursive)) (fresh other : Fresh ℕ)
+    (ends : (task : Task ℕ) → task_called world name ≡ Some task
+    → (here : Location ℕ) → is_theirs world names here.mount ≡ true
+    → is_own world names (members world names) (mount_at nat_eq world here) ≡ true
+    → judge_in nat_eq fresh world task (SetType path word recursive) ≡ Ok (ToSetType here.mount word recursive)
+    → EndsAlike world names name (SetType path word recursive) fresh other) where
+  judged_by : (task : Task ℕ) (member : Among task (members world names)) → task_called world name ≡ Some task
+      → (j : Judgement ℕ) → judge_in nat_eq fresh world task (SetType path word recursive) ≡ j
+      → IfOk j (SetsType world names it.is it.sealed_off task member word recursive)
+      → EndsAlike world names name (SetType path word recursive) fresh other
+  judged_by task member e (Ok permit) judged its = ends task e its.0 its.2 its.3 (judged ∙ ap Ok its.1)
+  judged_by task member e (Err deny) judged its =
+      denial_ends_alike world names name (SetType path word recursive) it fresh other
+      (ap (λ o. is_ok (ran name (SetType path word recursive) world fresh o).answer) e
+      ∙ ap (λ j. is_ok
+      (run_by world names name (SetType path word recursive) it fresh other world fresh task j).answer) judged)
+
+  all_end : (o : Option (Task ℕ)) → task_called world name ≡ o
+      → EndsAlike world names name (SetType path word recursive) fresh other
+  all_end None e = unnamed_ends_alike world names name (SetType path word recursive) it fresh other e
+  all_end (Some task) e =
+      let member = member_called world names it.is it.sealed_off name it.theirs task e in
+      judged_by task member e (judge_in nat_eq fresh world task (SetType path word recursive)) refl
+      (sets_type world names it.is it.sealed_off task member word recursive path)
+
+pub types_end_alike : TypesEndAlike
+types_end_alike world names name path word recursive it fresh serves =
+    all_end world names name path word recursive it fresh fresh
+    (λ task e here on own judged.
+    by_one world names name path word recursive it task e fresh fresh here on own judged serves refl)
+    (task_called world name) refl
+
+pub other_types_end_alike : OtherTypesEndAlike
+other_types_end_alike world names name path word recursive it no_groups fresh other serves serves_there =
+    all_end world names name path word recursive it fresh other
+    (λ task e here on own judged.
+    by_any world names name path word recursive it task e fresh other here on own judged serves serves_there no_groups)
+    (task_called world name) refl
