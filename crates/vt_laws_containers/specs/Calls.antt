@@ -1,7 +1,7 @@
 -- Which calls give others no foothold, and which end alike in every world (profile).
 use Rattle.std.specs.Prelude.{Bool, List, false, map, nat_eq, true, ℕ, ◌≡◌}
 use Rattle.vt_spec.specs.Language.Calls.{Call, TaskName, same_name}
-use Rattle.vt_spec.specs.Language.Calls.Call.{Bind, Chdir, Chroot, Close, Drop, Exit, Fork, Lazy, MountOverlay, MountPlain, MoveMount, Remount, Rename, Rmdir, SetType, Setns, Umask, Umount, Unshare}
+use Rattle.vt_spec.specs.Language.Calls.Call.{Bind, Chdir, Chroot, Close, Drop, Exit, Fork, MountOverlay, MountPlain, MoveMount, Remount, SetType, Setns, Umask, Umount, Unshare}
 use Rattle.vt_spec.specs.Language.Script.{Grammar}
 use Rattle.vt_spec.specs.Lists.{Fresh, is_among}
 use Rattle.vt_spec.specs.Machine.Policy.{only_looks}
@@ -14,9 +14,6 @@ use Rattle.vt_laws_containers.specs.Scripts.{Along, EachEndsAlike, IsSealedOffAt
 
 -- The calls of which it is proved that they give others no foothold: all but these.
 abbrev pub keeps_others_out : Call → Bool
-keeps_others_out (Rmdir path) = false
-keeps_others_out (Rename old new) = false
-keeps_others_out (Lazy path) = false
 keeps_others_out (MountPlain path flags) = false
 keeps_others_out (MountOverlay path words flags) = false
 keeps_others_out (Bind source path recursive) = false

@@ -22,8 +22,8 @@ pub fn sealed_sets_are_answered_as_alone()
     ensures after_lines { SealedSetsStandSo }
 {}
 
-/// Every call of theirs but `rmdir`, `rename`, `lazy`, `mount`, `bind`, `move`, `type` and `unshare` gives others no
-/// foothold, granted or refused (`footholds`). Those that `ends_alike_always` names end in the part of the set as in
+/// Every call of theirs but `mount`, `bind`, `move`, `type` and `unshare` gives others no foothold, granted or refused
+/// (`footholds`). Those that `ends_alike_always` names end in the part of the set as in
 /// the world, too, in every world in which they are calls of theirs (`ends`).
 pub fn many_calls_of_theirs_end_alike()
     ensures footholds { CallsGiveNoFoothold }

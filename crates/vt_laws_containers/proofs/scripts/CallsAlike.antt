@@ -2,7 +2,7 @@
 use Rattle.std.proofs.Common.{◌≡◌, refl, sym, ap, ◌∙◌, ℕ, nat_eq, Bool, true, false, true≢false, List, [], ◌∷◌, Option, Some, None, Ok, Err, map, ◌||◌}
 use Rattle.std.specs.Prelude.{is_ok}
 use Rattle.vt_spec.specs.Language.Calls.{Call, ForkWords, TaskName, same_name}
-use Rattle.vt_spec.specs.Language.Calls.Call.{Bind, Chdir, Chroot, Close, Drop, Exit, Fork, Lazy, MountOverlay, MountPlain, MoveMount, Remount, Rename, Rmdir, SetType, Setns, Umask, Umount, Unshare}
+use Rattle.vt_spec.specs.Language.Calls.Call.{Bind, Chdir, Chroot, Close, Drop, Exit, Fork, MountOverlay, MountPlain, MoveMount, Remount, SetType, Setns, Umask, Umount, Unshare}
 use Rattle.vt_spec.specs.Lists.{Fresh, is_among}
 use Rattle.vt_spec.specs.Machine.Judge.{Judgement, fork_permit, judge_in}
 use Rattle.vt_spec.specs.Machine.Permits.{Permit}
@@ -28,8 +28,9 @@ use Rattle.vt_laws_members_changes.proofs.tasks.Forking.{forks_end_alike}
 use Rattle.vt_laws_members_changes.proofs.tasks.Rights.{drops_end_alike, umasks_end_alike}
 use Rattle.vt_laws_containers.specs.Calls.{AlwaysEndsAlike, CallsGiveNoFoothold, RunsEndAlike, SetsOfTheseCallsAreAnsweredAsAlone, TheseAlwaysEndAlike, ends_alike_always, keeps_others_out}
 use Rattle.vt_laws_containers.specs.Footholds.{GivesNoFoothold}
-use Rattle.vt_laws_containers.specs.PermitFootholds.{is_of_detaching, is_of_files, is_of_replacing, is_of_tasks}
+use Rattle.vt_laws_containers.specs.PermitFootholds.{is_of_detaching, is_of_files, is_of_removing, is_of_replacing, is_of_tasks}
 use Rattle.vt_laws_containers.specs.Scripts.{Along, Asked, EachEndsAlike, Stand, asked, next}
+use Rattle.vt_laws_containers.proofs.footholds.RemovingPermits.{removing_gives_no_foothold}
 use Rattle.vt_laws_containers.proofs.footholds.ReplacedAsBefore.{replacing_gives_no_foothold}
 use Rattle.vt_laws_containers.proofs.footholds.TakingPermits.{detaching_gives_no_foothold}
 use Rattle.vt_laws_containers.proofs.footholds.TasksPermits.{denials_give_no_foothold, files_give_no_foothold, tasks_give_no_foothold}
@@ -66,6 +67,10 @@ module _ (world : World ℕ) (names : List TaskName) (name : TaskName) (call : C
     of_replacing permit judged is =
         replacing_gives_no_foothold world names name call it few fresh serves task called permit judged is
 
+    of_removing : (permit : Permit ℕ) → Judged permit → is_of_removing permit ≡ true → None_given
+    of_removing permit judged is =
+        removing_gives_no_foothold world names name call it few fresh serves task called permit judged is
+
     by_permit : (permit : Permit ℕ) → Judged permit → None_given
     by_permit Allowed judged = of_tasks Allowed judged refl
     by_permit (ToList directory) judged = of_tasks (ToList directory) judged refl
@@ -75,11 +80,9 @@ module _ (world : World ℕ) (names : List TaskName) (name : TaskName) (call : C
     by_permit (ToChange location change) judged = of_files (ToChange location change) judged refl
     by_permit (ToMake directory entry node) judged = of_files (ToMake directory entry node) judged refl
     by_permit (ToRemoveDirectory parent entry directory) judged =
-        let for = permits_are_for_their_calls fresh world task call (ToRemoveDirectory parent entry directory) judged in
-        never (Rmdir for.0) for.1 refl
+        of_removing (ToRemoveDirectory parent entry directory) judged refl
     by_permit (ToRename from old to new object replaced) judged =
-        let for = permits_are_for_their_calls fresh world task call (ToRename from old to new object replaced) judged in
-        never (Rename for.0 for.1) for.2 refl
+        of_removing (ToRename from old to new object replaced) judged refl
     by_permit (ToOpen file access) judged = of_files (ToOpen file access) judged refl
     by_permit (ToOpenNew directory entry node access) judged =
         of_files (ToOpenNew directory entry node access) judged refl
@@ -107,9 +110,7 @@ module _ (world : World ℕ) (names : List TaskName) (name : TaskName) (call : C
         let for = permits_are_for_their_calls fresh world task call (ToMove mount place) judged in
         never (MoveMount for.0 for.1) for.2 refl
     by_permit (ToUnmount mount) judged = of_detaching (ToUnmount mount) judged refl
-    by_permit (ToUnmountLazily mount) judged =
-        let for = permits_are_for_their_calls fresh world task call (ToUnmountLazily mount) judged in
-        never (Lazy for.0) for.1 refl
+    by_permit (ToUnmountLazily mount) judged = of_removing (ToUnmountLazily mount) judged refl
     by_permit (ToSetFlags mount flags) judged = of_replacing (ToSetFlags mount flags) judged refl
     by_permit (ToSetType mount word recursive) judged =
         let for = permits_are_for_their_calls fresh world task call (ToSetType mount word recursive) judged in
@@ -192,9 +193,6 @@ module _ (world : World ℕ) (names : List TaskName) (name : TaskName) (fresh : 
   ends call e it = looks_end_alike world names name call it e fresh fresh
 
   keeps_out : (call : Call) → ends_alike_always call ≡ true → keeps_others_out call ≡ true
-  keeps_out (Rmdir path) e = e
-  keeps_out (Rename old new) e = e
-  keeps_out (Lazy path) e = e
   keeps_out (MountPlain path flags) e = e
   keeps_out (MountOverlay path words flags) e = e
   keeps_out (Bind source path recursive) e = e
