@@ -30,7 +30,7 @@ pub fn calls_of_theirs_that_make_names_end_alike()
 /// used in both or in none, and what lost its last use goes in both.
 ///
 /// Where mounts of theirs are taken away with a directory see `removals_of_theirs_detach_alike` of
-/// `vt_laws_members_detached`; of overlays see `vt_laws_members_names`.
+/// `vt_laws_members_detached`, and of overlays `vt_laws_members_names`.
 pub fn calls_of_theirs_that_take_names_end_alike()
     ensures unlink { UnlinksEndAlike }
     ensures rmdir { RmdirsEndAlike }

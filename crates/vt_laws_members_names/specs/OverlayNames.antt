@@ -1,6 +1,6 @@
 -- Calls of tasks of a sealed set that make, give and take names through overlays, in the world and in the part of the
 -- set (profile).
-use Rattle.std.specs.Prelude.{Bool, List, Ok, Option, Some, false, nat_eq, true, ℕ, ◌≡◌}
+use Rattle.std.specs.Prelude.{Bool, List, Ok, Option, Some, nat_eq, true, ℕ, ◌≡◌}
 use Rattle.vt_spec.specs.Language.Calls.{Access, Call, Creation, TaskName}
 use Rattle.vt_spec.specs.Language.Calls.Call.{LinkTo, MakeWhiteout, Mkdir, Opaque, OpenFile, Rename, Rmdir, SymlinkAt, Unlink, Write}
 use Rattle.vt_spec.specs.Lists.{Fresh}
@@ -11,7 +11,7 @@ use Rattle.vt_spec.specs.Machine.Run.{Serves}
 use Rattle.vt_spec.specs.Machine.World.{Task, World, filesystem_at, is_overlay, task_called}
 use Rattle.vt_spec.specs.Tree.{Node}
 use Rattle.vt_laws_members_changes.specs.Changes.{EndsAlike, IsCallOfTheirs}
-use Rattle.vt_laws_members_changes.specs.NameChanges.{EndsAlikeByOne, mounted_elsewhere}
+use Rattle.vt_laws_members_changes.specs.NameChanges.{EndsAlikeByOne}
 use Rattle.vt_laws_members_changes.specs.OverlayEdits.{OverlayChangeEndsAlike}
 
 -- Each call that sets the opaque mark does in the part what it does in the world, and through an overlay it is refused
@@ -78,7 +78,7 @@ OverlayUnlinksEndAlike =
     (world : World ℕ) (names : List TaskName) (name : TaskName) (path : List ℕ)
     → OverlayChangeEndsAlike world names name (Unlink path)
 
--- So does rmdir(2), if no mount of theirs of another namespace stands on the directory,
+-- So does rmdir(2), whatever mounts stand on the directory,
 abbrev pub OverlayRmdirsEndAlike : Type 0
 OverlayRmdirsEndAlike =
     (world : World ℕ) (names : List TaskName) (name : TaskName) (path : List ℕ)
@@ -86,11 +86,9 @@ OverlayRmdirsEndAlike =
     → (fresh : Fresh ℕ) → Serves nat_eq world fresh
     → (parent : Location ℕ) (entry : List ℕ) (directory : Location ℕ)
     → judge_in nat_eq fresh world task (Rmdir path) ≡ Ok (ToRemoveDirectory parent entry directory)
-    → is_overlay (filesystem_at nat_eq world parent) ≡ true
-    → mounted_elsewhere world names task (Some directory) ≡ false
-    → EndsAlikeByOne world names name (Rmdir path) fresh
+    → is_overlay (filesystem_at nat_eq world parent) ≡ true → EndsAlikeByOne world names name (Rmdir path) fresh
 
--- and rename(2), if none stands on what it replaces.
+-- and rename(2), whatever mounts stand on what it replaces.
 abbrev pub OverlayRenamesEndAlike : Type 0
 OverlayRenamesEndAlike =
     (world : World ℕ) (names : List TaskName) (name : TaskName) (old new : List ℕ)
@@ -98,5 +96,4 @@ OverlayRenamesEndAlike =
     → (fresh : Fresh ℕ) → Serves nat_eq world fresh → (from : Location ℕ) (entry : List ℕ) (to : Location ℕ)
     (entry_new : List ℕ) (object : Location ℕ) (replaced : Option (Location ℕ))
     → judge_in nat_eq fresh world task (Rename old new) ≡ Ok (ToRename from entry to entry_new object replaced)
-    → is_overlay (filesystem_at nat_eq world from) ≡ true → mounted_elsewhere world names task replaced ≡ false
-    → EndsAlikeByOne world names name (Rename old new) fresh
+    → is_overlay (filesystem_at nat_eq world from) ≡ true → EndsAlikeByOne world names name (Rename old new) fresh

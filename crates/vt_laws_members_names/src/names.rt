@@ -38,8 +38,8 @@ pub fn calls_of_theirs_that_make_names_through_overlays_end_alike()
 /// no lower layer. So each inode of them is used in both or in none. What lost its last use goes in both, first from
 /// the overlay, then from the upper layer.
 ///
-/// Of `rmdir` and `rename` this asks that no mount of another namespace of theirs stands on what is removed or replaced
-/// (`mounted_elsewhere`), nor on its upper directory.
+/// Mounts of other namespaces of theirs that stand on what is removed or replaced, or on its upper directory, are
+/// detached with all that stands on them, the same ones in both.
 pub fn calls_of_theirs_that_take_names_through_overlays_end_alike()
     ensures unlink { OverlayUnlinksEndAlike }
     ensures rmdir { OverlayRmdirsEndAlike }

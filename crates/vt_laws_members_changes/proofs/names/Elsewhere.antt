@@ -59,7 +59,7 @@ module _ (world : World ℕ) (names : List TaskName) (is : IsWorld nat_eq world)
           (eq-eqb number (mount_at nat_eq world point).filesystem (sym shows)))
           ∙ nobody))
 
-  -- of a plain filesystem these are its own
+  -- of a plain filesystem the points of a directory are its own
   pub plain_points : (directory : Location ℕ) → (filesystem_at nat_eq world directory).overlay ≡ None
       → used_alone nat_eq world names (filesystem_at nat_eq world directory).number ≡ true → (point : ℕ × ℕ)
       → Among point (points_of nat_eq world directory) → used_alone nat_eq world names point.0 ≡ true
@@ -68,11 +68,10 @@ module _ (world : World ℕ) (names : List TaskName) (is : IsWorld nat_eq world)
       (λ more. absurd (subst (λ o. Among point (overlay_or [] (λ (overlay : Overlay ℕ).
       upper_points world (filesystem_at nat_eq world directory) overlay directory.node) o)) plain more)) m
 
-  -- what stands there is in a namespace of theirs, if in any
   module _ (directory : Location ℕ) (alone : (point : ℕ × ℕ) → Among point (points_of nat_eq world directory)
       → used_alone nat_eq world names point.0 ≡ true) where
-    pub own_here : (mount : Mount ℕ) → Among mount (mounts_on nat_eq world directory) → (n : ℕ) → mount.namespace ≡ Some n
-        → is_own_namespace nat_eq world names n ≡ true
+    pub own_here : (mount : Mount ℕ) → Among mount (mounts_on nat_eq world directory) → (n : ℕ)
+        → mount.namespace ≡ Some n → is_own_namespace nat_eq world names n ≡ true
     own_here mount m n placed =
         let from = among-from_filter (λ (x : Mount ℕ). list_any (λ (point : ℕ × ℕ).
         is_point nat_eq world point.0 point.1 x) (points_of nat_eq world directory)) world.mounts mount m in

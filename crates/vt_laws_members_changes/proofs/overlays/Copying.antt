@@ -257,49 +257,53 @@ module _ (fresh : Fresh ℕ) (world : World ℕ) (names : List TaskName) (locati
   made_of stack f =
       merge_changed nat_eq fresh stack (record { files = merged.files; real = overlay.real; upper = f.files }) change
 
-  abbrev made_by : Filesystem ℕ → Merge ℕ → List (Filesystem ℕ)
-  made_by f merge =
+  abbrev made_by : World ℕ → Filesystem ℕ → Merge ℕ → List (Filesystem ℕ)
+  made_by w f merge =
       map (replaced_if_numbered nat_eq (with_files f merge.upper))
       (map (replaced_if_numbered nat_eq (record merged {
         files = merge.files;
         overlay = Some (record overlay { real = merge.real });
-      })) part.filesystems)
+      })) w.filesystems)
 
-  layer_found : filesystem_numbered nat_eq part upper.filesystem ≡ layer
+  pub layer_found : filesystem_numbered nat_eq part upper.filesystem ≡ layer
   layer_found = found world names upper.filesystem layer_used
-
-  -- so it is in the part, if it makes the same there
-  pub stepped_if_made : made_of (stack_of nat_eq part overlay upper) layer
-      ≡ made_of (stack_of nat_eq world overlay upper) layer
-      → with_change nat_eq fresh part location change ≡ with_filesystems part step
-  stepped_if_made same =
-      ap (λ f. filesystem_changed nat_eq fresh part f f.overlay change) (sym alike)
-      ∙ ap (λ o. filesystem_changed nat_eq fresh part merged o change) can.overlay_there
-      ∙ ap (λ u. overlay_changed nat_eq fresh part merged overlay u change) can.upper_there
-      ∙ ap (λ f. record part { filesystems = made_by f (made_of (stack_of nat_eq part overlay upper) f) }) layer_found
-      ∙ ap (λ merge. record part { filesystems = made_by layer merge }) same
-      ∙ ap (λ list. record part { filesystems = list })
-      (map_twice (replaced_if_numbered nat_eq layer_later) (replaced_if_numbered nat_eq merged_later) part.filesystems)
-
-  pub stepped_in_part : Copies change → with_change nat_eq fresh part location change ≡ with_filesystems part step
-  stepped_in_part copies =
-      stepped_if_made
-      (by_no_layer fresh (stack_of nat_eq part overlay upper) (stack_of nat_eq world overlay upper)
-      (record { files = merged.files; real = overlay.real; upper = layer.files }) change copies)
 
   abbrev pub both_numbers : List ℕ
   both_numbers = merged.number ∷ layer.number ∷ []
 
+  -- so it is in each world that shows the two, if it makes the same there
+  module _ (w : World ℕ) (shows : filesystem_at nat_eq w location ≡ merged)
+      (has : filesystem_numbered nat_eq w upper.filesystem ≡ layer) where
+    pub stepped_if_made : made_of (stack_of nat_eq w overlay upper) layer
+        ≡ made_of (stack_of nat_eq world overlay upper) layer
+        → with_change nat_eq fresh w location change ≡ with_filesystems w step
+    stepped_if_made same =
+        ap (λ f. filesystem_changed nat_eq fresh w f f.overlay change) shows
+        ∙ ap (λ o. filesystem_changed nat_eq fresh w merged o change) can.overlay_there
+        ∙ ap (λ u. overlay_changed nat_eq fresh w merged overlay u change) can.upper_there
+        ∙ ap (λ f. record w { filesystems = made_by w f (made_of (stack_of nat_eq w overlay upper) f) }) has
+        ∙ ap (λ merge. record w { filesystems = made_by w layer merge }) same
+        ∙ ap (λ list. record w { filesystems = list })
+        (map_twice (replaced_if_numbered nat_eq layer_later) (replaced_if_numbered nat_eq merged_later) w.filesystems)
+
+    pub numbers_if_seen : changed_at nat_eq w location ≡ both_numbers
+    numbers_if_seen =
+        ap (λ f. numbers_of_change nat_eq w f f.overlay) shows
+        ∙ ap (numbers_of_change nat_eq w merged) can.overlay_there
+        ∙ ap (numbers_over nat_eq w merged) can.upper_there
+        ∙ ap (λ (f : Filesystem ℕ). merged.number ∷ f.number ∷ []) has
+
+  pub stepped_in_part : Copies change → with_change nat_eq fresh part location change ≡ with_filesystems part step
+  stepped_in_part copies =
+      stepped_if_made part (sym alike) layer_found
+      (by_no_layer fresh (stack_of nat_eq part overlay upper) (stack_of nat_eq world overlay upper)
+      (record { files = merged.files; real = overlay.real; upper = layer.files }) change copies)
+
   pub numbers_in_world : changed_at nat_eq world location ≡ both_numbers
-  numbers_in_world =
-      ap (numbers_of_change nat_eq world merged) can.overlay_there ∙ ap (numbers_over nat_eq world merged) can.upper_there
+  numbers_in_world = numbers_if_seen world refl refl
 
   pub numbers_in_part : changed_at nat_eq part location ≡ both_numbers
-  numbers_in_part =
-      ap (λ f. numbers_of_change nat_eq part f f.overlay) (sym alike)
-      ∙ ap (numbers_of_change nat_eq part merged) can.overlay_there
-      ∙ ap (numbers_over nat_eq part merged) can.upper_there
-      ∙ ap (λ (f : Filesystem ℕ). merged.number ∷ f.number ∷ []) layer_found
+  numbers_in_part = numbers_if_seen part (sym alike) layer_found
 
   -- with their change numbers raised
   abbrev pub moved_on : Filesystem ℕ → Filesystem ℕ

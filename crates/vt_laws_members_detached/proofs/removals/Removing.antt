@@ -119,7 +119,8 @@ module _ (world : World ℕ) (names : List TaskName) (name : TaskName) (call : C
   only_own : (mount : Mount ℕ) → Among mount (mounts_on nat_eq world gone) → (n : ℕ) → mount.namespace ≡ Some n
       → is_own_namespace nat_eq world names n ≡ true
   only_own =
-      own_here world names it.is gone (plain_points world names it.is gone
+      own_here world names it.is gone
+      (plain_points world names it.is gone
       (ap (λ (f : Filesystem ℕ). f.overlay) one_filesystem ∙ no_overlay old.overlay plain)
       (ap (λ (f : Filesystem ℕ). used_alone nat_eq world names f.number) one_filesystem
       ∙ ap (used_alone nat_eq world names)
@@ -205,7 +206,7 @@ module _ (world : World ℕ) (names : List TaskName) (name : TaskName) (call : C
       })))
 
 -- what a permit names is there
-names_there : (world : World ℕ) (names : List TaskName) (name : TaskName) (call : Call)
+pub names_there : (world : World ℕ) (names : List TaskName) (name : TaskName) (call : Call)
     → IsCallOfTheirs world names name call → (task : Task ℕ) → task_called world name ≡ Some task → (permit : Permit ℕ)
     → mounts_overlay call ≡ false
     → judge_in nat_eq (unused_numbers world) world task call ≡ Ok permit → NamesWhatIsThere world task permit

@@ -120,10 +120,12 @@ module _ (world : World ℕ) (names : List TaskName) (is : IsWorld nat_eq world)
         (⊎_elim (λ root. inl root)
         (λ rest. ⊎_elim (λ directory. inr (inl directory)) (λ none. absurd none) rest) task.2))))
 
-    pub still_used : is_among nat_eq number (used_filesystems nat_eq here names) ≡ true
-    still_used =
-        used_directly_used here names number
-        (⊎_elim by_mount
+    pub still_direct : Among number (used_directly nat_eq here names)
+    still_direct =
+        ⊎_elim by_mount
         (λ stood.
         let at = any_among (λ (l : Location ℕ). nat_eq l.mount on.0.number) (roots_and_directories theirs) stood.1 in
-        by_task at.0 at.1 (eqb-true at.0.mount on.0.number at.2)) on.3)
+        by_task at.0 at.1 (eqb-true at.0.mount on.0.number at.2)) on.3
+
+    pub still_used : is_among nat_eq number (used_filesystems nat_eq here names) ≡ true
+    still_used = used_directly_used here names number still_direct

@@ -62,21 +62,19 @@ tasks_stay world names is sealed_off = record {
   others = λ l m. m;
 }
 
--- so ends a granted change of filesystems
-stepped_run : (w : World ℕ) (name : TaskName) (call : Call) (supply : Fresh ℕ) (location : Location ℕ)
-    (change : Change ℕ)
-    (step : Filesystem ℕ → Filesystem ℕ) (numbers : List ℕ) → only_looks call ≡ false
+-- so ends a granted change of filesystems, before which mounts may go
+pub stepped_run : (before w : World ℕ) (name : TaskName) (call : Call) (supply : Fresh ℕ) (location : Location ℕ)
+    (change : Change ℕ) (step : Filesystem ℕ → Filesystem ℕ) (numbers : List ℕ) → only_looks call ≡ false
     → with_change nat_eq supply w location change ≡ with_filesystems w step → changed_at nat_eq w location ≡ numbers
-    → finished nat_eq w name call (changed_at nat_eq w location)
+    → finished nat_eq before name call (changed_at nat_eq w location)
     (granted Done (with_change nat_eq supply w location change))
-    ≡ granted Done (numbers_raised nat_eq w name numbers (settled nat_eq (with_filesystems w step)))
-stepped_run w name call supply location change step numbers looks made listed =
-    ap (λ b. finished_by nat_eq (b || false) w name (changed_at nat_eq w location)
+    ≡ granted Done (numbers_raised nat_eq before name numbers (settled nat_eq (with_filesystems w step)))
+stepped_run before w name call supply location change step numbers looks made listed =
+    ap (λ b. finished_by nat_eq (b || false) before name (changed_at nat_eq w location)
     (granted Done (with_change nat_eq supply w location change))) looks
-    ∙ ap (λ l. granted Done (numbers_raised nat_eq w name l
-    (settled nat_eq (with_change nat_eq supply w location change))))
-    listed
-    ∙ ap (λ v. granted Done (numbers_raised nat_eq w name numbers (settled nat_eq v))) made
+    ∙ ap (λ l. granted Done (numbers_raised nat_eq before name l
+    (settled nat_eq (with_change nat_eq supply w location change)))) listed
+    ∙ ap (λ v. granted Done (numbers_raised nat_eq before name numbers (settled nat_eq v))) made
 
 -- A granted call by which a name comes or goes through an overlay
 module _ (world : World ℕ) (names : List TaskName) (name : TaskName) (call : Call)
@@ -135,10 +133,10 @@ module _ (world : World ℕ) (names : List TaskName) (name : TaskName) (call : C
           part.tasks
           (tasks_stay world names it.is it.sealed_off) (same_members world names)
           (λ t m. (among-from_filter (is_member_task names) world.tasks t m).1) direct task found fresh Done stays
-          (one ∙ stepped_run world name call supply location change _ _ looks
+          (one ∙ stepped_run world world name call supply location change _ _ looks
           (changed_in_world world names name call it supply location change overlay upper may direct alike)
           (listed_in_world world names name call it supply location change overlay upper may direct alike))
-          (two ∙ stepped_run part name call supply location change _ _ looks
+          (two ∙ stepped_run part part name call supply location change _ _ looks
           (changed_in_part world names name call it supply location change overlay upper may direct alike)
           (listed_in_part world names name call it supply location change overlay upper may direct alike))
 

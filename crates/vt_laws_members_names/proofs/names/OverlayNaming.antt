@@ -31,7 +31,7 @@ use Rattle.vt_laws_members_changes.proofs.letting_go.PartReady.{no_others_there}
 use Rattle.vt_laws_members_changes.proofs.letting_go.Ready.{Alone}
 use Rattle.vt_laws_members_changes.proofs.letting_go.WorldReady.{alone}
 use Rattle.vt_laws_members_changes.proofs.looks.Told.{ran}
-use Rattle.vt_laws_members_changes.proofs.overlays.Copying.{both_numbers, numbers_in_part, numbers_in_world, overlays_stay, step, step_kept, step_numbered, stepped_if_made, stepped_in_world, upper_in_use}
+use Rattle.vt_laws_members_changes.proofs.overlays.Copying.{both_numbers, layer_found, made_of, numbers_in_part, numbers_in_world, overlays_stay, step, step_kept, step_numbered, stepped_if_made, stepped_in_world, upper_in_use}
 use Rattle.vt_laws_members_names.proofs.names.LayersAlike.{AllAlike, ViewsAlike, made_same}
 use Rattle.vt_laws_members_names.proofs.names.SteppedAlike.{living, living_part, stepped_ends}
 use Rattle.vt_laws_members_names.proofs.names.SteppedReady.{ChangesTheirs}
@@ -120,12 +120,12 @@ module _ (world : World ℕ) (names : List TaskName) (name : TaskName) (call : C
   two_number : two.number ≡ upper.filesystem
   two_number = found_numbered upper.filesystem world.filesystems
 
-  one_alone : used_alone nat_eq world names one.number ≡ true
+  pub one_alone : used_alone nat_eq world names one.number ≡ true
   one_alone =
       ap (used_alone nat_eq world names) one_number
       ∙ merged_alone world names it.is it.sealed_off number overlay can.overlay_there direct
 
-  two_alone : used_alone nat_eq world names two.number ≡ true
+  pub two_alone : used_alone nat_eq world names two.number ≡ true
   two_alone =
       ap (used_alone nat_eq world names) two_number
       ∙ upper_alone world names it.is it.sealed_off number overlay can.overlay_there direct upper can.upper_there
@@ -161,7 +161,7 @@ module _ (world : World ℕ) (names : List TaskName) (name : TaskName) (call : C
     changes x false e false f =
         inl (step_kept supply world names location change overlay upper it.is can direct alike x e f)
 
-    theirs : ChangesTheirs w names used moved
+    pub theirs : ChangesTheirs w names used moved
     theirs = record {
       numbered = step_numbered supply world names location change overlay upper it.is can direct alike;
       layers = stays [] layers_of (λ real. refl);
@@ -187,11 +187,18 @@ module _ (world : World ℕ) (names : List TaskName) (name : TaskName) (call : C
   pub changed_in_world : with_change nat_eq supply world location change ≡ with_filesystems world moved
   changed_in_world = stepped_in_world supply world names location change overlay upper it.is can direct alike
 
+  pub made_in_part : made_of supply world names location change overlay upper it.is can direct alike
+      (stack_of nat_eq part overlay upper) two
+      ≡ made_of supply world names location change overlay upper it.is can direct alike
+      (stack_of nat_eq world overlay upper) two
+  made_in_part =
+      made_same (stack_of nat_eq part overlay upper) (stack_of nat_eq world overlay upper) refl refl lowers_same supply
+      (record { files = one.files; real = overlay.real; upper = two.files }) change
+
   pub changed_in_part : with_change nat_eq supply part location change ≡ with_filesystems part moved
   changed_in_part =
-      stepped_if_made supply world names location change overlay upper it.is can direct alike
-      (made_same (stack_of nat_eq part overlay upper) (stack_of nat_eq world overlay upper) refl refl lowers_same supply
-      (record { files = one.files; real = overlay.real; upper = two.files }) change)
+      stepped_if_made supply world names location change overlay upper it.is can direct alike part (sym alike)
+      (layer_found supply world names location change overlay upper it.is can direct alike) made_in_part
 
   pub listed_in_world : changed_at nat_eq world location ≡ numbers
   listed_in_world = numbers_in_world supply world names location change overlay upper it.is can direct alike

@@ -1,94 +1,56 @@
 -- Where filesystems change that a sealed set uses alone, the world and the part leave it one part.
-use Rattle.std.proofs.Common.{◌≡◌, sym, ap, subst, ◌∙◌, refl, ℕ, nat_eq, eqb-true, Bool, true, false, cond, true≢false, List, Some, Ok, filter, map}
-use Rattle.std.specs.List.{list_any}
+use Rattle.std.proofs.Common.{◌≡◌, sym, ap, subst, ◌∙◌, refl, ℕ, nat_eq, true, List, Some, Ok, filter, map}
 use Rattle.vt_spec.specs.Language.Answers.{Answer}
 use Rattle.vt_spec.specs.Language.Calls.{Call, TaskName}
 use Rattle.vt_spec.specs.Lists.{Fresh, is_among}
-use Rattle.vt_spec.specs.Machine.Filesystems.{raised, raised_if_changed}
+use Rattle.vt_spec.specs.Machine.Filesystems.{raised_if_changed}
 use Rattle.vt_spec.specs.Machine.Outcomes.{granted}
 use Rattle.vt_spec.specs.Machine.Policy.{numbers_raised, policy, raised_task}
-use Rattle.vt_spec.specs.Machine.Sealed.{change_layers, is_member_task, own_lowers, part_of, used_filesystems}
+use Rattle.vt_spec.specs.Machine.Sealed.{is_member_task, is_own_namespace, own_lowers, part_of, used_filesystems}
 use Rattle.vt_spec.specs.Machine.Settled.{settled, without_dead_mounts}
-use Rattle.vt_spec.specs.Machine.World.{Filesystem, Layer, Task, World, task_called}
-use Rattle.vt_spec.proofs.Lists.{Among, any_among}
+use Rattle.vt_spec.specs.Machine.World.{Filesystem, Layer, Namespace, Task, World, task_called}
+use Rattle.vt_spec.proofs.Lists.{Among}
 use Rattle.vt_laws_letting_go.specs.InUse.{AllInUse}
 use Rattle.vt_laws_letting_go.specs.TreesOverlays.{with_filesystems}
 use Rattle.vt_laws_letting_go.proofs.sweeps.OfWorlds.{all_in_use}
 use Rattle.vt_laws_members_changes.specs.Changes.{EndAlike, EndsAlike, IsCallOfTheirs, grown}
-use Rattle.vt_laws_members_changes.proofs.files.FilesChanged.{lowers_in, part_with_layers}
+use Rattle.vt_laws_members_changes.proofs.files.FilesChanged.{part_with_layers}
 use Rattle.vt_laws_members_changes.proofs.letting_go.Changed.{LetsGo, sees_less}
-use Rattle.vt_laws_members_changes.proofs.letting_go.Ends.{private_in_part, private_in_world, raised_members, raised_sees}
+use Rattle.vt_laws_members_changes.proofs.letting_go.Ends.{private_in_part, private_in_world, raised_members}
 use Rattle.vt_laws_members_changes.proofs.letting_go.LessSeen.{less_used}
 use Rattle.vt_laws_members_changes.proofs.letting_go.PartReady.{part_ready}
 use Rattle.vt_laws_members_changes.proofs.letting_go.Raised.{DetachedArePrivate, swept_raised}
 use Rattle.vt_laws_members_changes.proofs.letting_go.Ready.{Ready}
 use Rattle.vt_laws_members_changes.proofs.letting_go.SeeLess.{now_less, part_of_less}
-use Rattle.vt_laws_members_changes.proofs.letting_go.Sweep.{part_of_settled, swept_of, used_of_settled}
+use Rattle.vt_laws_members_changes.proofs.letting_go.Sweep.{part_of_settled, swept_of}
 use Rattle.vt_laws_members_changes.proofs.letting_go.WorldReady.{world_ready}
 use Rattle.vt_laws_members_changes.proofs.looks.Told.{ran, same_caller}
 use Rattle.vt_laws_members_changes.proofs.part.SettledPart.{part_in_use}
-use Rattle.vt_laws_members_changes.proofs.tasks.Retasked.{retasked}
+use Rattle.vt_laws_members_names.proofs.names.Raising.{raised_part}
 use Rattle.vt_laws_members_names.proofs.names.SteppedReady.{ChangesTheirs, stepped_ready}
 
--- A world after the last step, whose sweep keeps what these tasks use
+-- A world after the last step, in which mounts stay
 module _ (before : World ℕ) (in_use : AllInUse before) (private_ones : DetachedArePrivate before) (set : List TaskName)
     (tasks : List (Task ℕ)) (step : Filesystem ℕ → Filesystem ℕ) (name : TaskName) (numbers used : List ℕ)
     (lowers : List (Layer ℕ))
     (ready : Ready (without_dead_mounts nat_eq (with_filesystems (record before { tasks = tasks }) step)) set used
     lowers)
     (theirs : (n : ℕ) → Among n numbers → is_among nat_eq n used ≡ true) where
-  abbrev pub changed : World ℕ
+  abbrev changed : World ℕ
   changed = with_filesystems (record before { tasks = tasks }) step
 
-  abbrev pub raise : Filesystem ℕ → Filesystem ℕ
-  raise = raised_if_changed nat_eq numbers
-
-  abbrev left : World ℕ
-  left = record (with_filesystems (settled nat_eq changed) raise) {
-    tasks = map (raised_task name) tasks;
-    change = raised before.change;
-  }
-
-  numbers_so : numbers_raised nat_eq before name numbers (settled nat_eq changed) ≡ left
-  numbers_so i = record left {
-    namespaces = ap (λ (w : World ℕ). w.namespaces) (swept_raised before in_use private_ones name tasks) i;
-  }
-
-  raise_keeps : {A : Type 0} (what : Filesystem ℕ → A)
-      → ((x : Filesystem ℕ) → what (record x { change = raised x.change }) ≡ what x) → (x : Filesystem ℕ)
-      → what (raise x) ≡ what x
-  raise_keeps {A} what same x = by (list_any (λ n. nat_eq n x.number) numbers)
-    where
-      by : (b : Bool) → what (cond b (record x { change = raised x.change }) x) ≡ what x
-      by true = same x
-      by false = refl
-
-  raise_kept : (x : Filesystem ℕ) → is_among nat_eq x.number (used_filesystems nat_eq (settled nat_eq changed) set)
-      ≡ false
-      → raise x ≡ x
-  raise_kept x unused = by (list_any (λ n. nat_eq n x.number) numbers) refl
-    where
-      by : (b : Bool) → list_any (λ n. nat_eq n x.number) numbers ≡ b
-          → cond b (record x { change = raised x.change }) x ≡ x
-      by true e =
-          let at = any_among (λ n. nat_eq n x.number) numbers e in
-          absurd (true≢false (sym (theirs at.0 at.1)
-          ∙ ap (λ n. is_among nat_eq n used) (eqb-true at.0 x.number at.2)
-          ∙ ap (is_among nat_eq x.number) (sym (used_of_settled changed set used lowers ready)) ∙ unused))
-      by false e = refl
-
-  pub part_of_raised : part_of nat_eq (numbers_raised nat_eq before name numbers (settled nat_eq changed)) set
-      ≡ record (with_filesystems (part_of nat_eq (settled nat_eq changed) set) raise) {
+  part_of_raised : part_of nat_eq (numbers_raised nat_eq before name numbers (settled nat_eq changed)) set
+      ≡ record (with_filesystems (part_of nat_eq (settled nat_eq changed) set) (raised_if_changed nat_eq numbers)) {
         tasks = filter (is_member_task set) (map (raised_task name) tasks);
       }
   part_of_raised =
-      ap (λ w. part_of nat_eq w set) numbers_so
-      ∙ retasked (with_filesystems (settled nat_eq changed) raise) set set (map (raised_task name) tasks)
-      (raised before.change)
-      (raised_sees (with_filesystems (settled nat_eq changed) raise) set name (raised before.change))
-      ∙ ap (λ (w : World ℕ). record w { tasks = filter (is_member_task set) (map (raised_task name) tasks) })
-      (part_with_layers (settled nat_eq changed) set raise (raise_keeps (λ (x : Filesystem ℕ). x.number) (λ x. refl))
-      (λ x m. raise_keeps change_layers (λ y. refl) x) (λ x m. raise_keeps lowers_in (λ y. refl) x) raise_kept)
+      raised_part changed set used lowers ready numbers theirs before name
+      ∙ (λ i. record (with_filesystems (part_of nat_eq (settled nat_eq changed) set)
+      (raised_if_changed nat_eq numbers)) {
+        namespaces = filter (λ (n : Namespace ℕ). is_own_namespace nat_eq changed set n.number)
+            (ap (λ (w : World ℕ). w.namespaces) (swept_raised before in_use private_ones name tasks) i);
+        tasks = filter (is_member_task set) (map (raised_task name) tasks);
+      })
 
 -- The world and the part
 module _ (world : World ℕ) (names set : List TaskName) (name : TaskName) (call : Call)

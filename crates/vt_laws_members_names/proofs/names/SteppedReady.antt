@@ -1,10 +1,11 @@
--- A world of which a set sees the sweep by its part alone is still one after filesystems that the set uses alone change.
+-- A world of which a set sees the sweep by its part alone is still one after filesystems that the set uses alone
+-- change.
 use Rattle.std.proofs.Common.{◌≡◌, sym, ap, subst, ◌∙◌, ◌⊎◌, inl, inr, ⊎_elim, ℕ, nat_eq, true, false, List, [], None, is_some}
 use Rattle.std.specs.List.{list_any}
 use Rattle.vt_spec.specs.Language.Calls.{TaskName}
 use Rattle.vt_spec.specs.Lists.{is_among}
 use Rattle.vt_spec.specs.Machine.Locked.{of_overlay}
-use Rattle.vt_spec.specs.Machine.Sealed.{change_layers, used_filesystems}
+use Rattle.vt_spec.specs.Machine.Sealed.{change_layers}
 use Rattle.vt_spec.specs.Machine.Settled.{has_layer_on}
 use Rattle.vt_spec.specs.Machine.World.{Filesystem, Layer, World, is_overlay, layers_of}
 use Rattle.vt_spec.proofs.Lists.{Among, among-from_map, pair-map}
@@ -37,9 +38,6 @@ module _ (a : World ℕ) (set : List TaskName) (used : List ℕ) (lowers : List 
   number_was : (y x : Filesystem ℕ) → y ≡ step x → y.number ≡ x.number
   number_was y x e = ap (λ (f : Filesystem ℕ). f.number) e ∙ theirs.numbered x
 
-  kept_here : (x : Filesystem ℕ) → is_among nat_eq x.number (used_filesystems nat_eq a set) ≡ false → step x ≡ x
-  kept_here x e = theirs.kept x (ap (is_among nat_eq x.number) (sym it.used_are) ∙ e)
-
   layered_was : (n : ℕ) (x : Filesystem ℕ) → Among x a.filesystems → has_layer_on nat_eq n (step x) ≡ true
       → has_layer_on nat_eq n x ≡ true
   layered_was n x m h =
@@ -61,7 +59,8 @@ module _ (a : World ℕ) (set : List TaskName) (used : List ℕ) (lowers : List 
         nobody_still from.0.number y.number (sym (number_was y from.0 from.2))
         (alone.overlays from.0 from.1
         (layered_was n from.0 from.1
-        (subst (λ f. has_layer_on nat_eq n f ≡ true) from.2 (subst (λ i. has_layer_on nat_eq i y ≡ true) (sym same) has))));
+        (subst (λ f. has_layer_on nat_eq n f ≡ true) from.2
+        (subst (λ i. has_layer_on nat_eq i y ≡ true) (sym same) has))));
   }
 
   plain_still : (y merged : Filesystem ℕ) → Among y later.filesystems → Among merged later.filesystems
@@ -100,7 +99,8 @@ module _ (a : World ℕ) (set : List TaskName) (used : List ℕ) (lowers : List 
   pub stepped_ready : Ready later set used lowers
   stepped_ready = record {
     used_are = used_later a set step theirs.numbered theirs.changing ∙ it.used_are;
-    lowers_are = lowers_later a set step theirs.numbered theirs.lowering ∙ it.lowers_are;
+    lowers_are = lowers_later a set step theirs.numbered theirs.lowering
+        ∙ it.lowers_are;
     one = it.one;
     lives = it.lives;
     located = it.located;
