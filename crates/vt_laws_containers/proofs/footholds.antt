@@ -2,8 +2,10 @@
 pub mod AsBefore
 pub mod EndsAsBefore
 pub mod FilesGoOn
+pub mod GoneAsBefore
 pub mod Granting
 pub mod Mirror
+pub mod RemovingPermits
 pub mod ReplacedAsBefore
 pub mod TakenAsBefore
 pub mod TakingPermits

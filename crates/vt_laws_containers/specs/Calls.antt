@@ -1,10 +1,9 @@
--- Which calls give others no foothold, and which end alike in every world (profile).
+-- Which calls give others no foothold, and so end alike in every world (profile).
 use Rattle.std.specs.Prelude.{Bool, List, false, map, nat_eq, true, ℕ, ◌≡◌}
 use Rattle.vt_spec.specs.Language.Calls.{Call, TaskName, same_name}
-use Rattle.vt_spec.specs.Language.Calls.Call.{Bind, Chdir, Chroot, Close, Drop, Exit, Fork, Lazy, MountOverlay, MountPlain, MoveMount, Remount, Rename, Rmdir, SetType, Setns, Umask, Umount, Unshare}
+use Rattle.vt_spec.specs.Language.Calls.Call.{Bind, MountOverlay, MountPlain, MoveMount, SetType, Unshare}
 use Rattle.vt_spec.specs.Language.Script.{Grammar}
 use Rattle.vt_spec.specs.Lists.{Fresh, is_among}
-use Rattle.vt_spec.specs.Machine.Policy.{only_looks}
 use Rattle.vt_spec.specs.Machine.Run.{Serves}
 use Rattle.vt_spec.specs.Machine.World.{World}
 use Rattle.vt_laws_trees.specs.Trees.Limits.{names_few_groups}
@@ -14,9 +13,6 @@ use Rattle.vt_laws_containers.specs.Scripts.{Along, EachEndsAlike, IsSealedOffAt
 
 -- The calls of which it is proved that they give others no foothold: all but these.
 abbrev pub keeps_others_out : Call → Bool
-keeps_others_out (Rmdir path) = false
-keeps_others_out (Rename old new) = false
-keeps_others_out (Lazy path) = false
 keeps_others_out (MountPlain path flags) = false
 keeps_others_out (MountOverlay path words flags) = false
 keeps_others_out (Bind source path recursive) = false
@@ -51,27 +47,14 @@ RunsEndAlike =
     (others : Bool) (at : Stand) (grammar : Grammar) (lines : List (List ℕ))
     → TheirCallsAlwaysEndAlike others at grammar lines → EachEndsAlike others at (map (asked grammar) lines)
 
--- the calls of which it is proved
-abbrev pub ends_alike_always : Call → Bool
-ends_alike_always (Umask mode) = true
-ends_alike_always (Drop which) = true
-ends_alike_always (Fork words) = true
-ends_alike_always (Close descriptor) = true
-ends_alike_always (Chdir path) = true
-ends_alike_always (Chroot path) = true
-ends_alike_always Exit = true
-ends_alike_always (Setns name) = true
-ends_alike_always (Umount path) = true
-ends_alike_always (Remount path flags) = true
-ends_alike_always call = only_looks call
-
+-- So does each call but those few.
 abbrev pub TheseAlwaysEndAlike : Type 0
-TheseAlwaysEndAlike = (call : Call) → ends_alike_always call ≡ true → AlwaysEndsAlike call
+TheseAlwaysEndAlike = (call : Call) → keeps_others_out call ≡ true → AlwaysEndsAlike call
 
 -- each call of theirs that a run makes is one of these
 abbrev pub TheirCallsAreOfThese : (others : Bool) → Stand → Grammar → List (List ℕ) → Type 0
 TheirCallsAreOfThese others at grammar lines =
-    Along (λ here name call. is_among same_name name here.names ≡ true → ends_alike_always call ≡ true) others at
+    Along (λ here name call. is_among same_name name here.names ≡ true → keeps_others_out call ≡ true) others at
     (map (asked grammar) lines)
 
 -- A set that makes no other calls has the answers that it has alone.

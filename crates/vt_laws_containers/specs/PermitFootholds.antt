@@ -4,7 +4,7 @@ use Rattle.vt_spec.specs.Language.Calls.{Call, TaskName}
 use Rattle.vt_spec.specs.Lists.{Fresh}
 use Rattle.vt_spec.specs.Machine.Judge.{judge_in}
 use Rattle.vt_spec.specs.Machine.Permits.{Permit}
-use Rattle.vt_spec.specs.Machine.Permits.Permit.{Allowed, ToChange, ToClose, ToEnterNamespace, ToExit, ToFork, ToList, ToListMounts, ToMake, ToOpen, ToOpenNew, ToPivot, ToRead, ToReadPart, ToSetCredentials, ToSetDirectory, ToSetFlags, ToSetRoot, ToSetUmask, ToStat, ToUnmount, ToWritePart}
+use Rattle.vt_spec.specs.Machine.Permits.Permit.{Allowed, ToChange, ToClose, ToEnterNamespace, ToExit, ToFork, ToList, ToListMounts, ToMake, ToOpen, ToOpenNew, ToPivot, ToRead, ToReadPart, ToRemoveDirectory, ToRename, ToSetCredentials, ToSetDirectory, ToSetFlags, ToSetRoot, ToSetUmask, ToStat, ToUnmount, ToUnmountLazily, ToWritePart}
 use Rattle.vt_spec.specs.Machine.Policy.{only_looks, policy}
 use Rattle.vt_spec.specs.Machine.Run.{Serves}
 use Rattle.vt_spec.specs.Machine.World.{Task, World, task_called}
@@ -83,3 +83,14 @@ is_of_replacing permit = false
 
 abbrev pub ReplacingGivesNoFoothold : Type 0
 ReplacingGivesNoFoothold = GrantsGiveNoFoothold is_of_replacing
+
+-- a permit to remove or to replace a directory, or to detach a mount, with all mounts that stand on it: rmdir(2),
+-- rename(2), umount2(2)
+abbrev pub is_of_removing : Permit ℕ → Bool
+is_of_removing (ToRemoveDirectory parent name directory) = true
+is_of_removing (ToRename from old to new object replaced) = true
+is_of_removing (ToUnmountLazily mount) = true
+is_of_removing permit = false
+
+abbrev pub RemovingGivesNoFoothold : Type 0
+RemovingGivesNoFoothold = GrantsGiveNoFoothold is_of_removing

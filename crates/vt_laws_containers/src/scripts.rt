@@ -12,9 +12,8 @@ ghost use Rattle.vt_laws_containers.specs.Scripts.{SealedSetsStandSo, SetsAreAns
 /// and none of others one of theirs. Both runs hand each line the same numbers, its row of `numbers_for`, and the world
 /// has none of them before. So it stands after the lines of any script, from the opening world on (`after_lines`).
 ///
-/// Calls that do both in every world do so along each run (`runs`). So it is of sets that make no calls but these
-/// (`these`): calls that only look, `umask`, `drop`, `fork`, `close`, `chdir`, `chroot`, `exit`, `setns`, `umount` and
-/// `remount`, granted or refused (`ends_alike_always`).
+/// Calls that do both in every world do so along each run (`runs`). All calls do but `mount`, `bind`, `move`, `type` and
+/// `unshare` (`keeps_others_out`), so it holds of all sets that make none of these (`these`).
 pub fn sealed_sets_are_answered_as_alone()
     ensures alone { SetsAreAnsweredAsAlone }
     ensures runs { RunsEndAlike }
@@ -22,9 +21,8 @@ pub fn sealed_sets_are_answered_as_alone()
     ensures after_lines { SealedSetsStandSo }
 {}
 
-/// Every call of theirs but `rmdir`, `rename`, `lazy`, `mount`, `bind`, `move`, `type` and `unshare` gives others no
-/// foothold, granted or refused (`footholds`). Those that `ends_alike_always` names end in the part of the set as in
-/// the world, too, in every world in which they are calls of theirs (`ends`).
+/// Every call of theirs but `mount`, `bind`, `move`, `type` and `unshare` gives others no foothold, granted or refused
+/// (`footholds`). It ends in the part of the set as in the world, too (`ends`), as every call does.
 pub fn many_calls_of_theirs_end_alike()
     ensures footholds { CallsGiveNoFoothold }
     ensures ends { TheseAlwaysEndAlike }

@@ -29,7 +29,7 @@ use Rattle.vt_laws_members_changes.proofs.looks.Granted.{IsLook, looked}
 use Rattle.vt_laws_members_changes.proofs.looks.Told.{member_called, ran}
 use Rattle.vt_laws_containers.specs.Footholds.{GivesNoFoothold, LeavesOthersOut}
 use Rattle.vt_laws_containers.proofs.footholds.AsBefore.{OthersAsBefore, leaves_others_out}
-use Rattle.vt_laws_containers.proofs.footholds.EndsAsBefore.{raised_as_before, swept_as_before}
+use Rattle.vt_laws_containers.proofs.footholds.EndsAsBefore.{raised_as_before}
 use Rattle.vt_laws_containers.proofs.footholds.TasksAsBefore.{tasks_as_before, tasks_beside}
 
 -- the world itself
@@ -119,11 +119,11 @@ module _ (world : World ℕ) (names : List TaskName) (name : TaskName) (call : C
       IsWorld nat_eq (numbers_raised nat_eq world name (filesystems_changed nat_eq world permit)
       (settled nat_eq (apply nat_eq fresh world task permit).world))
 
-  -- what a granted call is permitted leaves others as they were
+  -- what a granted call is permitted leaves others as they were, after the sweep
   abbrev pub Permits : Type 0
   Permits = (task : Task ℕ) → task_called world name ≡ Some task → (permit : Permit ℕ)
       → judge_in nat_eq fresh world task call ≡ Ok permit → EndsInAWorld task permit
-      → OthersAsBefore world (apply nat_eq fresh world task permit).world names
+      → OthersAsBefore world (settled nat_eq (apply nat_eq fresh world task permit).world) names
       (grown names name call (apply nat_eq fresh world task permit).answer)
 
   pub granted_out : only_looks call ≡ false → Permits → GivesNoFoothold world names name call fresh
@@ -141,14 +141,14 @@ module _ (world : World ℕ) (names : List TaskName) (name : TaskName) (call : C
           (leaves_others_out world after_call names set it.is after_is
           (subst (λ w. OthersAsBefore world w names set) (sym did.left)
           (raised_as_before world (settled nat_eq done) names set
-          (swept_as_before world done names set
-          (permits did.task did.called did.permit did.judged (subst (IsWorld nat_eq) did.left after_is))) world name
+          (permits did.task did.called did.permit did.judged (subst (IsWorld nat_eq) did.left after_is)) world name
           (filesystems_changed nat_eq world did.permit) it.theirs)))
 
   -- which is one
   pub one_permit : (task : Task ℕ) → task_called world name ≡ Some task → (permit : Permit ℕ)
       → judge_in nat_eq fresh world task call ≡ Ok permit
-      → (EndsInAWorld task permit → OthersAsBefore world (apply nat_eq fresh world task permit).world names
+      → (EndsInAWorld task permit
+      → OthersAsBefore world (settled nat_eq (apply nat_eq fresh world task permit).world) names
       (grown names name call (apply nat_eq fresh world task permit).answer))
       → Permits
   one_permit task called permit judged before other called_too given judged_too =
@@ -160,7 +160,7 @@ module _ (world : World ℕ) (names : List TaskName) (name : TaskName) (call : C
     where
       Leaves : Task ℕ → Permit ℕ → Type 0
       Leaves t p =
-          EndsInAWorld t p → OthersAsBefore world (apply nat_eq fresh world t p).world names
+          EndsInAWorld t p → OthersAsBefore world (settled nat_eq (apply nat_eq fresh world t p).world) names
           (grown names name call (apply nat_eq fresh world t p).answer)
 
       same_permit : (a b : Permit ℕ) → Path (Result (Permit ℕ) Deny) (Ok a) (Ok b) → a ≡ b

@@ -50,7 +50,7 @@ use Rattle.vt_laws_containers.proofs.footholds.TasksAsBefore.{others_unmoved}
 use Rattle.vt_laws_containers.proofs.footholds.TasksPermits.{Before, kept, permit_out}
 
 -- In a world that a call leaves a namespace with a mount has a task, and had it before the sweep.
-tasked_later : (before left : World ℕ) (name : TaskName) (changed : List ℕ)
+pub tasked_later : (before left : World ℕ) (name : TaskName) (changed : List ℕ)
     → IsWorld nat_eq (numbers_raised nat_eq before name changed (settled nat_eq left)) → (mount : Mount ℕ)
     → Among mount left.mounts → (n : ℕ) → mount.namespace ≡ Some n
     → (t : Task ℕ) × Among t left.tasks × (t.namespace ≡ n)

@@ -13,6 +13,7 @@ use Rattle.vt_spec.specs.Machine.Permits.Permit.{Allowed, ToChange, ToClose, ToE
 use Rattle.vt_spec.specs.Machine.Policy.{only_looks}
 use Rattle.vt_spec.specs.Machine.Run.{Serves}
 use Rattle.vt_spec.specs.Machine.Sealed.{members}
+use Rattle.vt_spec.specs.Machine.Settled.{settled}
 use Rattle.vt_spec.specs.Machine.World.{Descriptor, Filesystem, Task, World, replaced_if_called, task_called}
 use Rattle.vt_spec.specs.Language.Changes.Change.{Make}
 use Rattle.vt_spec.proofs.Lists.{Among, among-from_filter, among-from_map, among-map}
@@ -30,6 +31,7 @@ use Rattle.vt_laws_members_changes.proofs.tasks.Opening.{OpensOn, opens_theirs}
 use Rattle.vt_laws_containers.specs.Footholds.{GivesNoFoothold}
 use Rattle.vt_laws_containers.specs.PermitFootholds.{DenialsGiveNoFoothold, FilesGiveNoFoothold, LooksGiveNoFoothold, TasksGiveNoFoothold, is_of_files, is_of_tasks}
 use Rattle.vt_laws_containers.proofs.footholds.AsBefore.{GoesOn, OthersAsBefore}
+use Rattle.vt_laws_containers.proofs.footholds.EndsAsBefore.{swept_as_before}
 use Rattle.vt_laws_containers.proofs.footholds.FilesGoOn.{ChangesFiles, change_changes_files, copy_changes_files, write_changes_files}
 use Rattle.vt_laws_containers.proofs.footholds.Granting.{EndsInAWorld, as_itself, granted_out, looks_out, one_permit, refused_out}
 use Rattle.vt_laws_containers.proofs.footholds.TasksAsBefore.{caller_beside, child_beside, tasks_as_before, tasks_beside}
@@ -91,7 +93,7 @@ module _ (world : World ℕ) (names : List TaskName) (name : TaskName) (call : C
           (sym (ap (judge_in nat_eq fresh world task) (exit_if call e)) ∙ judged) ∙ other))
       by false e = refl
 
-  stays : (permit : Permit ℕ) → judge_in nat_eq fresh world task call ≡ Ok permit → ends_task permit ≡ false
+  pub stays : (permit : Permit ℕ) → judge_in nat_eq fresh world task call ≡ Ok permit → ends_task permit ≡ false
       → left names name call ≡ names
   stays permit judged other = left_all names name call (no_exit permit judged other)
 
@@ -226,7 +228,7 @@ module _ (world : World ℕ) (names : List TaskName) (name : TaskName) (call : C
   of_tasks permit judged e = absurd (true≢false (sym e))
 
   -- Files
-  changed_before : (w : World ℕ) → ChangesFiles world w → OthersAsBefore world w names names
+  pub changed_before : (w : World ℕ) → ChangesFiles world w → OthersAsBefore world w names names
   changed_before w changes =
       subst (λ v. OthersAsBefore world v names names) (sym changes.same)
       (tasks_as_before world names names it.is it.sealed_off world.tasks w.filesystems
@@ -280,17 +282,28 @@ module _ (world : World ℕ) (names : List TaskName) (name : TaskName) (call : C
       (write_changes_files world it.is.files.one_filesystem fresh file offset bytes))
   of_files permit judged e = absurd (true≢false (sym e))
 
-  -- by the one permit of the call
-  pub permit_out : (permit : Permit ℕ) → judge_in nat_eq fresh world task call ≡ Ok permit
-      → (EndsInAWorld world names name call it fresh serves few task permit → Before permit)
+  -- by the one permit of the call, whose world is swept
+  pub swept_out : (permit : Permit ℕ) → judge_in nat_eq fresh world task call ≡ Ok permit
+      → (EndsInAWorld world names name call it fresh serves few task permit
+      → OthersAsBefore world (settled nat_eq (apply nat_eq fresh world task permit).world) names
+      (grown names name call (apply nat_eq fresh world task permit).answer))
       → GivesNoFoothold world names name call fresh
-  permit_out permit judged before = by (only_looks call) refl
+  swept_out permit judged before = by (only_looks call) refl
     where
       by : (b : Bool) → only_looks call ≡ b → GivesNoFoothold world names name call fresh
       by true e = looks_out world names name call it fresh e
       by false e =
           granted_out world names name call it fresh serves few e
           (one_permit world names name call it fresh serves few task called permit judged before)
+
+  -- or before the sweep
+  pub permit_out : (permit : Permit ℕ) → judge_in nat_eq fresh world task call ≡ Ok permit
+      → (EndsInAWorld world names name call it fresh serves few task permit → Before permit)
+      → GivesNoFoothold world names name call fresh
+  permit_out permit judged before =
+      swept_out permit judged (λ ends.
+      swept_as_before world (apply nat_eq fresh world task permit).world names
+      (grown names name call (apply nat_eq fresh world task permit).answer) (before ends))
 
 pub looks_give_no_foothold : LooksGiveNoFoothold
 looks_give_no_foothold world names name call it fresh looks = looks_out world names name call it fresh looks

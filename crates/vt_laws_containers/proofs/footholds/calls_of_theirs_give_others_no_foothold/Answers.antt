@@ -1,3 +1,4 @@
+use Rattle.vt_laws_containers.proofs.footholds.RemovingPermits.{removing_gives_no_foothold}
 use Rattle.vt_laws_containers.proofs.footholds.ReplacedAsBefore.{replacing_gives_no_foothold}
 use Rattle.vt_laws_containers.proofs.footholds.TakingPermits.{detaching_gives_no_foothold}
 use Rattle.vt_laws_containers.proofs.footholds.TasksPermits.{denials_give_no_foothold, files_give_no_foothold, looks_give_no_foothold, tasks_give_no_foothold}
@@ -20,3 +21,6 @@ returns-clause-detaching c = detaching_gives_no_foothold
 
 pub returns-clause-replacing : goal.returns-clause-replacing
 returns-clause-replacing c = replacing_gives_no_foothold
+
+pub returns-clause-removing : goal.returns-clause-removing
+returns-clause-removing c = removing_gives_no_foothold

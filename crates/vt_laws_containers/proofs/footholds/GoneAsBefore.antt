@@ -1,0 +1,184 @@
+-- Mounts of a set that go, and files that change, leave others as they were.
+use Rattle.std.proofs.Common.{◌≡◌, refl, sym, ap, subst, ◌∙◌, inl, inr, ℕ, nat_eq, Bool, true, false, cond, true≢false, List, [], ◌∷◌, Option, Some, None, filter, find, length, map, ◌||◌, eq-eqb, eqb-true}
+use Rattle.std.specs.Prelude.{option_map, unwrap_or}
+use Rattle.std.specs.List.{list_any}
+use Rattle.std.proofs.lemmas.Bool.{false_from_ne_true}
+use Rattle.vt_spec.specs.Language.Calls.{Call, TaskName}
+use Rattle.vt_spec.specs.Lists.{Fresh, chain, holds_of, is_among, last_or}
+use Rattle.vt_spec.specs.Machine.Detach.{after_going, is_going, mount_point_of_parent, taken_away}
+use Rattle.vt_spec.specs.Machine.Mounts.{Location, Mount, detached, no_mount}
+use Rattle.vt_spec.specs.Machine.Receives.{lost_a_group, regrouped, regrouped_by}
+use Rattle.vt_spec.specs.Machine.Run.{Serves}
+use Rattle.vt_spec.specs.Machine.Sealed.{is_own_namespace}
+use Rattle.vt_spec.specs.Machine.World.{Task, World, mount_at, mount_numbered, task_called, with_mounts}
+use Rattle.vt_spec.proofs.Lists.{Among, among-from_filter, any_among, any_from_among, is_among_numbers, among_numbers}
+use Rattle.vt_laws_mounts.proofs.mounts.MountsReplaced.{found_itself}
+use Rattle.vt_laws_trees.specs.Trees.Limits.{names_few_groups}
+use Rattle.vt_laws_members_changes.specs.Changes.{IsCallOfTheirs}
+use Rattle.vt_laws_containers.proofs.footholds.AsBefore.{OthersAsBefore}
+use Rattle.vt_laws_containers.proofs.footholds.EndsAsBefore.{going_on}
+use Rattle.vt_laws_containers.proofs.footholds.FilesGoOn.{ChangesFiles}
+use Rattle.vt_laws_containers.proofs.footholds.TakingPermits.{gone_as_before}
+
+-- Files that change after something else
+pub files_as_before : (world base left : World ℕ) (names set : List TaskName) → OthersAsBefore world base names set
+    → ChangesFiles base left → OthersAsBefore world left names set
+files_as_before world base left names set others changes =
+    subst (λ w. OthersAsBefore world w names set) (sym changes.same) (record {
+      others = others.others;
+      mounts = others.mounts;
+      shown = others.shown;
+      tasks = others.tasks;
+      events = others.events;
+      places = others.places;
+      filesystems = λ f m.
+          let was = changes.placed f m in
+          going_on world names was.0 f (sym was.2) was.3 (others.filesystems was.0 was.1);
+      direct = others.direct;
+    })
+
+-- Of the numbers that go only those of mounts matter.
+kept_among : (test : ℕ → Bool) (number : ℕ) → test number ≡ true → (list : List ℕ)
+    → is_among nat_eq number (filter test list) ≡ is_among nat_eq number list
+kept_among test number e [] = refl
+kept_among test number e (x ∷ rest) = by (test x) refl (kept_among test number e rest)
+  where
+    by : (b : Bool) → test x ≡ b → is_among nat_eq number (filter test rest) ≡ is_among nat_eq number rest
+        → is_among nat_eq number (cond b (x ∷ filter test rest) (filter test rest))
+        ≡ (nat_eq number x || is_among nat_eq number rest)
+    by true f later = ap (λ b. nat_eq number x || b) later
+    by false f later =
+        later
+        ∙ ap (λ b. b || is_among nat_eq number rest)
+        (sym (false_from_ne_true (nat_eq number x)
+        (λ h. true≢false (sym e ∙ ap test (eqb-true number x h) ∙ f))))
+
+none_among : (test : ℕ → Bool) (number : ℕ) → test number ≡ false → (list : List ℕ)
+    → is_among nat_eq number (filter test list) ≡ false
+none_among test number e [] = refl
+none_among test number e (x ∷ rest) = by (test x) refl (none_among test number e rest)
+  where
+    by : (b : Bool) → test x ≡ b → is_among nat_eq number (filter test rest) ≡ false
+        → is_among nat_eq number (cond b (x ∷ filter test rest) (filter test rest)) ≡ false
+    by true f later =
+        ap (λ b. b || is_among nat_eq number (filter test rest))
+        (false_from_ne_true (nat_eq number x)
+        (λ h. true≢false (sym f ∙ sym (ap test (eqb-true number x h)) ∙ e)))
+        ∙ later
+    by false f later = later
+
+maps_alike : (f g : Mount ℕ → Mount ℕ) (list : List (Mount ℕ)) → ((x : Mount ℕ) → Among x list → f x ≡ g x)
+    → map f list ≡ map g list
+maps_alike f g [] same = refl
+maps_alike f g (x ∷ rest) same =
+    ap (λ y. y ∷ map f rest) (same x (inl refl))
+    ∙ ap (λ l. g x ∷ l) (maps_alike f g rest (λ y m. same y (inr m)))
+
+none_found : (p : Mount ℕ → Bool) (list : List (Mount ℕ)) → list_any p list ≡ false → find p list ≡ None
+none_found p [] h = refl
+none_found p (x ∷ rest) h = by (p x) refl (none_found p rest)
+  where
+    by : (b : Bool) → p x ≡ b → (list_any p rest ≡ false → find p rest ≡ None) → find p (x ∷ rest) ≡ None
+    by true e later = absurd (true≢false (sym (ap (λ b. b || list_any p rest) e) ∙ h))
+    by false e later =
+        ap (λ b. cond b (Some x) (find p rest)) e
+        ∙ later (sym (ap (λ b. b || list_any p rest) e) ∙ h)
+
+module _ (world : World ℕ) (gone : List ℕ) where
+  abbrev pub is_mount : ℕ → Bool
+  is_mount number = list_any (λ (mount : Mount ℕ). nat_eq number mount.number) world.mounts
+
+  abbrev pub gone_there : List ℕ
+  gone_there = filter is_mount gone
+
+  parent_same : (point : Location ℕ)
+      → mount_point_of_parent nat_eq world gone_there point ≡ mount_point_of_parent nat_eq world gone point
+  parent_same point = by (is_mount point.mount) refl
+    where
+      none_there : is_mount point.mount ≡ false → (b : Bool)
+          → Path (Option (Location ℕ)) None (cond b (mount_at nat_eq world point).mount_point None)
+      none_there e true =
+          sym (ap (λ (o : Option (Mount ℕ)). (unwrap_or o (no_mount point.mount)).mount_point)
+          (none_found (λ (mount : Mount ℕ). nat_eq point.mount mount.number) world.mounts e))
+      none_there e false = refl
+
+      by : (b : Bool) → is_mount point.mount ≡ b
+          → mount_point_of_parent nat_eq world gone_there point ≡ mount_point_of_parent nat_eq world gone point
+      by true e =
+          ap (λ b. cond b (mount_at nat_eq world point).mount_point None) (kept_among is_mount point.mount e gone)
+      by false e =
+          ap (λ b. cond b (mount_at nat_eq world point).mount_point None) (none_among is_mount point.mount e gone)
+          ∙ none_there e (is_going nat_eq gone point.mount)
+
+  after_same : (mount : Mount ℕ) → Among mount world.mounts
+      → after_going nat_eq world gone_there mount ≡ after_going nat_eq world gone mount
+  after_same mount m = λ i.
+      cond (kept_among is_mount mount.number
+      (any_from_among (λ (x : Mount ℕ). nat_eq mount.number x.number) world.mounts mount m
+      (eq-eqb mount.number mount.number refl)) gone i)
+      (detached mount)
+      (record mount {
+        mount_point = option_map (λ point.
+            last_or point (chain (length world.mounts) (λ l. parent_same l i) point)) mount.mount_point;
+      })
+
+  pub taken_there : taken_away nat_eq world gone_there ≡ taken_away nat_eq world gone
+  taken_there =
+      ap (λ list. regrouped nat_eq (with_mounts world list))
+      (maps_alike (after_going nat_eq world gone_there) (after_going nat_eq world gone) world.mounts after_same)
+
+  pub taken_filesystems : (taken_away nat_eq world gone).filesystems ≡ world.filesystems
+  taken_filesystems =
+      by (list_any (lost_a_group nat_eq (with_mounts world (map (after_going nat_eq world gone) world.mounts)))
+      (map (after_going nat_eq world gone) world.mounts))
+    where
+      by : (b : Bool)
+          → (regrouped_by nat_eq b (with_mounts world (map (after_going nat_eq world gone) world.mounts))).filesystems
+          ≡ world.filesystems
+      by true = refl
+      by false = refl
+
+-- Mounts of theirs that go
+module _ (world : World ℕ) (names : List TaskName) (name : TaskName) (call : Call)
+    (it : IsCallOfTheirs world names name call) (few : names_few_groups call ≡ true)
+    (fresh : Fresh ℕ) (serves : Serves nat_eq world fresh)
+    (task : Task ℕ) (called : task_called world name ≡ Some task) where
+  abbrev ours : ℕ → Bool
+  ours = is_own_namespace nat_eq world names
+
+  placed_by : (mount : Mount ℕ) → holds_of ours mount.namespace ≡ true
+      → (n : ℕ) × (mount.namespace ≡ Some n) × (ours n ≡ true)
+  placed_by mount h = by mount.namespace refl h
+    where
+      by : (o : Option ℕ) → mount.namespace ≡ o → holds_of ours o ≡ true
+          → (n : ℕ) × (mount.namespace ≡ Some n) × (ours n ≡ true)
+      by None e own = absurd (true≢false (sym own))
+      by (Some n) e own = (n, e, own)
+
+  pub own_gone_before : (gone : List ℕ)
+      → ((mount : Mount ℕ) → Among mount world.mounts → is_going nat_eq gone mount.number ≡ true
+      → holds_of ours mount.namespace ≡ true)
+      → ((mount : Mount ℕ) → Among mount (taken_away nat_eq world gone).mounts → (n : ℕ) → mount.namespace ≡ Some n
+      → (t : Task ℕ) × Among t world.tasks × (t.namespace ≡ n))
+      → OthersAsBefore world (taken_away nat_eq world gone) names names
+  own_gone_before gone own tasked =
+      subst (λ w. OthersAsBefore world w names names) (taken_there world gone)
+      (gone_as_before world names name call it few fresh serves task called (gone_there world gone) [] goes
+      (λ mount m n e.
+      tasked mount (subst (λ (w : World ℕ). Among mount w.mounts) (taken_there world gone) m) n e))
+    where
+      goes : (number : ℕ) → is_going nat_eq (gone_there world gone) number ≡ true
+          → (n : ℕ) × ((mount_numbered nat_eq world number).namespace ≡ Some n) × (ours n ≡ true)
+      goes number h =
+          let from = among-from_filter (is_mount world gone) gone number
+          (among_numbers (gone_there world gone) number h) in
+          let at = any_among (λ (mount : Mount ℕ). nat_eq number mount.number) world.mounts from.1 in
+          let same : number ≡ at.0.number = eqb-true number at.0.number at.2 in
+          let its = placed_by at.0 (own at.0 at.1
+          (ap (is_going nat_eq gone) (sym same) ∙ is_among_numbers gone number from.0)) in (
+            its.0,
+            ap (λ (x : Mount ℕ). x.namespace)
+                (ap (mount_numbered nat_eq world) same ∙ found_itself world.mounts it.is.mounts.one_number at.0 at.1)
+                ∙ its.1,
+            its.2,
+          )

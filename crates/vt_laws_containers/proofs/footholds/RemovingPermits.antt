@@ -1,0 +1,262 @@
+-- Removals, renames and lazy unmounts of theirs give others no foothold: all mounts that go are theirs.
+use Rattle.std.proofs.Common.{◌≡◌, refl, sym, ap, subst, ◌∙◌, ⊎_elim, ℕ, nat_eq, eq-eqb, true, false, true≢false, List, [], Option, Some, None, Ok}
+use Rattle.std.specs.Prelude.{is_some}
+use Rattle.vt_spec.specs.Language.Calls.{Call, TaskName}
+use Rattle.vt_spec.specs.Language.Changes.{Change}
+use Rattle.vt_spec.specs.Language.Changes.Change.{Move, Remove}
+use Rattle.vt_spec.specs.Lists.{Fresh, any_pair, folded, holds_of}
+use Rattle.vt_spec.specs.Machine.Apply.{apply, overfills}
+use Rattle.vt_spec.specs.Machine.Detach.{is_going, lazily_unmounted, mounts_on, points_of, taken_away, unmounted_if_there, without_mounts_on}
+use Rattle.vt_spec.specs.Machine.Filesystems.{with_change}
+use Rattle.vt_spec.specs.Machine.Invariants.{IsWorld, MountInvariants}
+use Rattle.vt_spec.specs.Machine.Judge.{judge_in}
+use Rattle.vt_spec.specs.Machine.Locked.{is_locked_at}
+use Rattle.vt_spec.specs.Machine.Looks.{looks_of}
+use Rattle.vt_spec.specs.Machine.Mounts.{Location, Mount}
+use Rattle.vt_spec.specs.Machine.Permits.{Permit}
+use Rattle.vt_spec.specs.Machine.Permits.Permit.{ToRemoveDirectory, ToRename, ToUnmountLazily}
+use Rattle.vt_spec.specs.Machine.Policy.{numbers_raised}
+use Rattle.vt_spec.specs.Machine.Rules.Conditions.{is_mount_point_in}
+use Rattle.vt_spec.specs.Machine.Run.{Serves}
+use Rattle.vt_spec.specs.Machine.Sealed.{is_own_namespace, members, part_of, used_alone}
+use Rattle.vt_spec.specs.Machine.Settled.{settled}
+use Rattle.vt_spec.specs.Machine.World.{Filesystem, Overlay, Task, World, filesystem_at, filesystem_numbered, is_overlay, mount_at, mount_numbered, task_called}
+use Rattle.vt_spec.proofs.Lists.{Among}
+use Rattle.vt_spec.proofs.Options.{none_is_some}
+use Rattle.vt_spec.proofs.Worlds.{found_or_none}
+use Rattle.vt_laws_rules.proofs.given.GivenPermits.{permits_are_for_their_calls}
+use Rattle.vt_laws_rules.proofs.given.Inversion.{calls_are_granted}
+use Rattle.vt_laws_trees.specs.Trees.Calls.{mounts_overlay}
+use Rattle.vt_laws_trees.specs.Trees.Limits.{names_few_groups}
+use Rattle.vt_laws_letting_go.proofs.SweptBetween.{settled_without_groups}
+use Rattle.vt_laws_mounts.proofs.ends.EndingLazy.{IsUnderWay, begun}
+use Rattle.vt_laws_mounts.proofs.ends.EndingOrder.{taken_in_turn}
+use Rattle.vt_laws_worlds.proofs.worlds.CallsKept.{name_found}
+use Rattle.vt_laws_worlds.proofs.worlds.FitPermitsNamed.{all_permits_fit}
+use Rattle.vt_laws_overlay_permits.specs.Asked.{change_asked}
+use Rattle.vt_laws_part.proofs.part.PartOfPart.{is_own}
+use Rattle.vt_laws_members.proofs.judging.Grounds.{theirs_from}
+use Rattle.vt_laws_members.specs.Judging.{is_theirs}
+use Rattle.vt_laws_members.proofs.judging.MountPoints.{in_own}
+use Rattle.vt_laws_members.proofs.judging.SeenInPart.{OnTheirs, theirs_directly}
+use Rattle.vt_laws_members_changes.specs.Changes.{IsCallOfTheirs, left}
+use Rattle.vt_laws_members_changes.proofs.files.OneFilesystem.{found_numbered}
+use Rattle.vt_laws_members_changes.proofs.letting_go.PartMounts.{part_mounts}
+use Rattle.vt_laws_members_changes.proofs.looks.Told.{member_called}
+use Rattle.vt_laws_members_changes.proofs.names.Elsewhere.{own_here, plain_points}
+use Rattle.vt_laws_members_changes.proofs.names.GrantedNames.{Names}
+use Rattle.vt_laws_members_changes.proofs.names.NamesEnding.{naming_alone}
+use Rattle.vt_laws_members_changes.proofs.names.RemovalsEnding.{removed_free, replaced_free}
+use Rattle.vt_laws_members_names.proofs.names.OverlayRemovals.{points_alone}
+use Rattle.vt_laws_members_detached.proofs.lazily.Order.{same_turns, turns_own}
+use Rattle.vt_laws_members_detached.proofs.lazily.Turns.{SameButGroups, TookAway, events_alike, took, took_none}
+use Rattle.vt_laws_members_detached.proofs.removals.Going.{going_with, own_go}
+use Rattle.vt_laws_containers.specs.Footholds.{GivesNoFoothold}
+use Rattle.vt_laws_containers.specs.PermitFootholds.{RemovingGivesNoFoothold, is_of_removing}
+use Rattle.vt_laws_containers.proofs.footholds.AsBefore.{OthersAsBefore}
+use Rattle.vt_laws_containers.proofs.footholds.EndsAsBefore.{swept_as_before}
+use Rattle.vt_laws_containers.proofs.footholds.FilesGoOn.{ChangesFiles, change_changes_files}
+use Rattle.vt_laws_containers.proofs.footholds.GoneAsBefore.{files_as_before, own_gone_before, taken_filesystems}
+use Rattle.vt_laws_containers.proofs.footholds.Granting.{EndsInAWorld}
+use Rattle.vt_laws_containers.proofs.footholds.TakenAsBefore.{taken_tasks}
+use Rattle.vt_laws_containers.proofs.footholds.TakingPermits.{tasked_later}
+use Rattle.vt_laws_containers.proofs.footholds.TasksPermits.{Before, changed_before, kept, permit_out, stays, swept_out}
+
+module _ (world : World ℕ) (names : List TaskName) (name : TaskName) (call : Call)
+    (it : IsCallOfTheirs world names name call) (few : names_few_groups call ≡ true)
+    (fresh : Fresh ℕ) (serves : Serves nat_eq world fresh)
+    (task : Task ℕ) (called : task_called world name ≡ Some task) where
+  member : Among task (members world names)
+  member = member_called world names it.is it.sealed_off name it.theirs task called
+
+  -- what goes is on the mount of its directory, not locked, and no mount of the caller's namespace is on it
+  abbrev IsFree : Location ℕ → Location ℕ → Type 0
+  IsFree gone location =
+      (is_theirs world names gone.mount ≡ true) × (is_locked_at nat_eq world gone ≡ false)
+      × (is_mount_point_in nat_eq (looks_of nat_eq world) task.namespace gone ≡ false) × (gone.mount ≡ location.mount)
+
+  -- A change by which a directory goes, with the mounts on it
+  module _ (permit : Permit ℕ) (judged : judge_in nat_eq fresh world task call ≡ Ok permit)
+      (same_set : left names name call ≡ names) (gone location : Location ℕ) (change : Change ℕ)
+      (asks : change_asked fresh world permit ≡ Some (location, change)) (names_it : Names change)
+      (free : IsFree gone location) where
+    on : OnTheirs world names it.is gone
+    on = theirs_from world names it.is.mounts gone.mount free.0
+
+    one_filesystem : filesystem_at nat_eq world gone ≡ filesystem_at nat_eq world location
+    one_filesystem = ap (λ m. filesystem_numbered nat_eq world (mount_numbered nat_eq world m).filesystem) free.3
+
+    plain_alone : is_overlay (filesystem_at nat_eq world location) ≡ false
+        → used_alone nat_eq world names (filesystem_at nat_eq world gone).number ≡ true
+    plain_alone plain =
+        ap (λ (f : Filesystem ℕ). used_alone nat_eq world names f.number) one_filesystem
+        ∙ ap (used_alone nat_eq world names)
+        (found_numbered (mount_at nat_eq world location).filesystem world.filesystems)
+        ∙ naming_alone world names name call it fresh fresh fresh serves task called same_set permit judged location
+        change asks names_it plain
+
+    points_own : (point : ℕ × ℕ) → Among point (points_of nat_eq world gone)
+        → used_alone nat_eq world names point.0 ≡ true
+    points_own = by (filesystem_at nat_eq world gone).overlay refl
+      where
+        by : (o : Option (Overlay ℕ)) → (filesystem_at nat_eq world gone).overlay ≡ o → (point : ℕ × ℕ)
+            → Among point (points_of nat_eq world gone) → used_alone nat_eq world names point.0 ≡ true
+        by None e =
+            plain_points world names it.is gone e
+            (plain_alone (ap is_overlay (sym one_filesystem) ∙ ap is_some e))
+        by (Some overlay) e =
+            points_alone world names it.is it.sealed_off gone overlay e (theirs_directly world names it.is gone on)
+
+    only_own : (mount : Mount ℕ) → Among mount (mounts_on nat_eq world gone) → (n : ℕ) → mount.namespace ≡ Some n
+        → is_own_namespace nat_eq world names n ≡ true
+    only_own = own_here world names it.is gone points_own
+
+    abbrev list : List ℕ
+    list = going_with world names it.is gone on only_own
+
+    abbrev base : World ℕ
+    base = without_mounts_on nat_eq world gone
+
+    abbrev done : World ℕ
+    done = with_change nat_eq fresh base location change
+
+    changes : ChangesFiles base done
+    changes =
+        change_changes_files base
+        (subst (λ fs. any_pair (λ (a b : Filesystem ℕ). nat_eq a.number b.number) fs ≡ false)
+        (sym (taken_filesystems world list)) it.is.files.one_filesystem) fresh location change
+
+    pub removed_before : (changed : List ℕ) → IsWorld nat_eq (numbers_raised nat_eq world name changed (settled nat_eq done))
+        → OthersAsBefore world done names names
+    removed_before changed ends =
+        files_as_before world base done names names
+        (own_gone_before world names name call it few fresh serves task called list
+        (own_go world names it.is gone on only_own) (λ mount m n e.
+        let of = tasked_later world done name changed ends mount
+        (subst (Among mount) (sym (ap (λ (w : World ℕ). w.mounts) changes.same)) m) n e in (
+          of.0,
+          subst (Among of.0) (ap (λ (w : World ℕ). w.tasks) changes.same ∙ taken_tasks world world.tasks list) of.1,
+          of.2,
+        ))) changes
+
+  removes_before : (parent : Location ℕ) (entry : List ℕ) (directory : Location ℕ)
+      → judge_in nat_eq fresh world task call ≡ Ok (ToRemoveDirectory parent entry directory)
+      → EndsInAWorld world names name call it fresh serves few task (ToRemoveDirectory parent entry directory)
+      → Before world names name call it few fresh serves task called (ToRemoveDirectory parent entry directory)
+  removes_before parent entry directory judged ends =
+      kept world names name call it few fresh serves task called (ToRemoveDirectory parent entry directory) judged refl
+      (apply nat_eq fresh world task (ToRemoveDirectory parent entry directory)).world
+      (removed_before (ToRemoveDirectory parent entry directory) judged
+      (stays world names name call it few fresh serves task called (ToRemoveDirectory parent entry directory) judged refl)
+      directory parent (Remove parent.node entry directory.node) refl tt
+      (removed_free world names it.is it.sealed_off task member fresh call (ToRemoveDirectory parent entry directory)
+      (calls_are_granted nat_eq (looks_of nat_eq world) (overfills nat_eq fresh world task) task call
+      (ToRemoveDirectory parent entry directory) judged) parent entry directory refl) _ ends)
+
+  renames_before : (from : Location ℕ) (old : List ℕ) (to : Location ℕ) (new : List ℕ) (object : Location ℕ)
+      (replaced : Option (Location ℕ))
+      → judge_in nat_eq fresh world task call ≡ Ok (ToRename from old to new object replaced)
+      → EndsInAWorld world names name call it fresh serves few task (ToRename from old to new object replaced)
+      → Before world names name call it few fresh serves task called (ToRename from old to new object replaced)
+  renames_before from old to new object None judged ends =
+      kept world names name call it few fresh serves task called (ToRename from old to new object None) judged refl
+      (apply nat_eq fresh world task (ToRename from old to new object None)).world
+      (changed_before world names name call it few fresh serves task called
+      (apply nat_eq fresh world task (ToRename from old to new object None)).world
+      (change_changes_files world it.is.files.one_filesystem fresh from
+      (Move from.node old to.node new object.node)))
+  renames_before from old to new object (Some gone) judged ends =
+      kept world names name call it few fresh serves task called (ToRename from old to new object (Some gone)) judged
+      refl (apply nat_eq fresh world task (ToRename from old to new object (Some gone))).world
+      (removed_before (ToRename from old to new object (Some gone)) judged
+      (stays world names name call it few fresh serves task called (ToRename from old to new object (Some gone)) judged
+      refl) gone from (Move from.node old to.node new object.node) refl tt
+      (replaced_free world names it.is it.sealed_off task member fresh call
+      (ToRename from old to new object (Some gone))
+      (calls_are_granted nat_eq (looks_of nat_eq world) (overfills nat_eq fresh world task) task call
+      (ToRename from old to new object (Some gone)) judged) from old to new object gone refl) _ ends)
+
+  -- umount(2) with MNT_DETACH
+  module _ (number : ℕ) (judged : judge_in nat_eq fresh world task call ≡ Ok (ToUnmountLazily number)) where
+    abbrev part : World ℕ
+    part = part_of nat_eq world names
+
+    abbrev in_part : MountInvariants nat_eq part
+    in_part = part_mounts world names it.is it.sealed_off
+
+    abbrev detached_ones : World ℕ
+    detached_ones = lazily_unmounted nat_eq world number
+
+    in_callers : (mount_numbered nat_eq world number).namespace ≡ Some task.namespace
+    in_callers =
+        let for = permits_are_for_their_calls fresh world task call (ToUnmountLazily number) judged in
+        (all_permits_fit world fresh task call (ToUnmountLazily number) it.is serves
+        (ap (task_called world) (sym (name_found world name task called)) ∙ called)
+        (ap mounts_overlay for.1) judged).names.0
+
+    is_there : Among (mount_numbered nat_eq world number) world.mounts
+    is_there =
+        ⊎_elim (λ m. m)
+        (λ none. none_is_some task.namespace (sym (ap (λ (m : Mount ℕ). m.namespace) none) ∙ in_callers))
+        (found_or_none world.mounts number)
+
+    is_its : is_own world names (members world names) (mount_numbered nat_eq world number) ≡ true
+    is_its =
+        in_own world names it.is task member (mount_numbered nat_eq world number)
+        (ap (holds_of (nat_eq task.namespace)) in_callers ∙ eq-eqb task.namespace task.namespace refl)
+
+    all_gone : (gone : List ℕ)
+        × ((m : Mount ℕ) → Among m world.mounts → is_going nat_eq gone m.number ≡ true
+        → is_own world names (members world names) m ≡ true)
+        × TookAway world detached_ones gone
+        × TookAway part (folded (unmounted_if_there nat_eq) part (taken_in_turn world number)) gone
+    all_gone =
+        events_alike world names it.is it.sealed_off number (taken_in_turn world number) world part []
+        (begun world it.is.mounts number)
+        (subst (IsUnderWay part in_part number part)
+        (same_turns world names it.is it.sealed_off number is_there is_its) (begun part in_part number))
+        (λ m n none. absurd (true≢false (sym none))) (took_none world it.is.mounts) (took_none part in_part)
+        (turns_own world names it.is it.sealed_off number is_there is_its)
+
+    same : SameButGroups detached_ones (taken_away nat_eq world all_gone.0)
+    same = took world detached_ones all_gone.0 all_gone.2
+
+    same_swept : settled nat_eq (taken_away nat_eq world all_gone.0) ≡ settled nat_eq detached_ones
+    same_swept =
+        sym (settled_without_groups (taken_away nat_eq world all_gone.0))
+        ∙ sym (ap (settled nat_eq) same)
+        ∙ settled_without_groups detached_ones
+
+    taken_before : EndsInAWorld world names name call it fresh serves few task (ToUnmountLazily number)
+        → OthersAsBefore world (taken_away nat_eq world all_gone.0) names names
+    taken_before ends =
+        own_gone_before world names name call it few fresh serves task called all_gone.0 all_gone.1 (λ mount m n e.
+        let of = tasked_later world detached_ones name [] ends mount
+        (subst (Among mount) (sym (ap (λ (w : World ℕ). w.mounts) same)) m) n e in (
+          of.0,
+          subst (Among of.0) (ap (λ (w : World ℕ). w.tasks) same ∙ taken_tasks world world.tasks all_gone.0) of.1,
+          of.2,
+        ))
+
+    lazy_out : GivesNoFoothold world names name call fresh
+    lazy_out =
+        swept_out world names name call it few fresh serves task called (ToUnmountLazily number) judged (λ ends.
+        kept world names name call it few fresh serves task called (ToUnmountLazily number) judged refl
+        (settled nat_eq detached_ones)
+        (subst (λ w. OthersAsBefore world w names names) same_swept
+        (swept_as_before world (taken_away nat_eq world all_gone.0) names names (taken_before ends))))
+
+  by_permit : (permit : Permit ℕ) → judge_in nat_eq fresh world task call ≡ Ok permit → is_of_removing permit ≡ true
+      → GivesNoFoothold world names name call fresh
+  by_permit (ToRemoveDirectory parent entry directory) judged e =
+      permit_out world names name call it few fresh serves task called (ToRemoveDirectory parent entry directory) judged
+      (removes_before parent entry directory judged)
+  by_permit (ToRename from old to new object replaced) judged e =
+      permit_out world names name call it few fresh serves task called (ToRename from old to new object replaced) judged
+      (renames_before from old to new object replaced judged)
+  by_permit (ToUnmountLazily number) judged e = lazy_out number judged
+  by_permit permit judged e = absurd (true≢false (sym e))
+
+pub removing_gives_no_foothold : RemovingGivesNoFoothold
+removing_gives_no_foothold world names name call it few fresh serves task called permit judged is_one =
+    by_permit world names name call it few fresh serves task called permit judged is_one
