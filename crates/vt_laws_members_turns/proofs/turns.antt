@@ -1,0 +1,2 @@
+-- What the proofs of src/turns.rt use.
+pub mod EachTurn

@@ -1,0 +1,56 @@
+-- Turns of the tasks of a sealed set, whatever they call (profile).
+use Rattle.std.specs.Prelude.{Bool, List, Option, Result, Some, false, nat_eq, true, ℕ, ◌≡◌}
+use Rattle.vt_spec.specs.declared.errors.Deny.{Deny}
+use Rattle.vt_spec.specs.Language.Answers.{Answer}
+use Rattle.vt_spec.specs.Language.Calls.{TaskName, same_name}
+use Rattle.vt_spec.specs.Language.Calls.Call.{Setns}
+use Rattle.vt_spec.specs.Language.Script.Who.{Someone}
+use Rattle.vt_spec.specs.Lists.{Fresh, first_of_list, is_among}
+use Rattle.vt_spec.specs.Machine.Run.{Serves}
+use Rattle.vt_spec.specs.Machine.Sealed.{sealed}
+use Rattle.vt_spec.specs.Machine.Turns.{Item, Queued, Reply, Sched, queue_of, turn}
+use Rattle.vt_spec.specs.Machine.Turns.Item.{Asks, Calls}
+use Rattle.vt_laws_members_changes.specs.Changes.{grown}
+use Rattle.vt_laws_sealed_turns.specs.MembersTurns.{HasCallsUnderWay, TurnsAlikeFor}
+use Rattle.vt_laws_sealed_turns.specs.OutsidersTurns.{IsFirst}
+
+abbrev pub is_directive : Item → Bool
+is_directive (Asks directive) = true
+is_directive item = false
+
+-- the set after an item is answered: the one that a call leaves
+abbrev pub grown_by : List TaskName → TaskName → Item → Result Answer Deny → List TaskName
+grown_by names name (Calls call) answer = grown names name call answer
+grown_by names name item answer = names
+
+-- the set after a turn whose queue has this first item, by its reply
+abbrev pub grown_after : List TaskName → TaskName → Option Queued → Option Reply → List TaskName
+grown_after names name (Some first) (Some reply) = grown_by names name first.item reply.answer
+grown_after names name first reply = names
+
+-- the set that a turn of one of its tasks leaves
+abbrev pub set_left : Sched ℕ → List TaskName → TaskName → Option (Fresh ℕ) → List TaskName
+set_left sched names name fresh =
+    grown_after names name (first_of_list (queue_of sched.queues (Someone name)))
+    (turn nat_eq sched (Someone name) fresh).reply
+
+-- a turn of a task of a sealed set, by numbers that are not in use, of no directive and of no call that enters a
+-- namespace of others
+pub record IsTurnOfTheirs (sched : Sched ℕ) (names : List TaskName) (name : TaskName) (fresh : Option (Fresh ℕ))
+    : Type 0 where
+  pub has : HasCallsUnderWay sched
+  pub sealed_off : sealed nat_eq sched.world names ≡ true
+  pub theirs : is_among same_name name names ≡ true
+  pub among_them : (member : TaskName) → IsFirst sched (Someone name) (Setns member)
+      → is_among same_name member names ≡ true
+  pub no_directive : (first : Queued) → first_of_list (queue_of sched.queues (Someone name)) ≡ Some first
+      → is_directive first.item ≡ false
+  pub serves : (given : Fresh ℕ) → fresh ≡ Some given → Serves nat_eq sched.world given
+
+-- It goes in their part as in the world: it has the same reply, if any, and leaves the same of the set that its call
+-- leaves.
+abbrev pub EachTurnOfTheirsIsOfTheirPart : Type 0
+EachTurnOfTheirsIsOfTheirPart =
+    (sched : Sched ℕ) (names : List TaskName) (name : TaskName) (fresh : Option (Fresh ℕ))
+    → IsTurnOfTheirs sched names name fresh
+    → TurnsAlikeFor sched names (set_left sched names name fresh) name fresh
