@@ -1,1 +1,2 @@
+pub mod LayersValue
 pub mod OptionValue
