@@ -1,2 +1,3 @@
 pub mod OptionLemmas
+pub mod RuleLemmas
 pub mod WalkLemmas

@@ -1,2 +1,3 @@
+pub mod LayerConditions
 pub mod LayersValue
 pub mod OptionValue
