@@ -1,3 +1,4 @@
+pub mod JudgeLemmas
 pub mod OptionLemmas
 pub mod RuleLemmas
 pub mod WalkLemmas
