@@ -1,0 +1,201 @@
+-- Layers that options name, and mounts of overlays judged by them.
+use Rattle.std.proofs.Common.{◌≡◌, ◌≤◌, inl, inr, ℕ, Bool, true, false, [], ◌∷◌, Result, Ok, Err, Option, None, Some, length, take, nat_eq, refl, sym, ap, ◌∙◌, arith, length-take-le}
+use Rattle.std.specs.Prelude.{List, is_some, nat_lt, not, ◌&&◌}
+use Rattle.std.proofs.lemmas.Bool.Decides.{nat_tests}
+use Rattle.std.proofs.lemmas.List.{take_all}
+use Rattle.vt_spec.specs.declared.errors.Deny.{Deny}
+use Rattle.vt_spec.specs.declared.errors.Rule.TheVariants.{K1, M9, O2, S5}
+use Rattle.vt_spec.specs.Errors.{Rules, and_then, denial, unless}
+use Rattle.vt_spec.specs.Language.Calls.{MountFlags, OverlayWords}
+use Rattle.vt_spec.specs.Language.Limits.{most_lowers}
+use Rattle.vt_spec.specs.Lists.{is_empty_list, rest_of}
+use Rattle.vt_spec.specs.Machine.Judge.{Judgement, mount_overlay_permit, overlay_permit_by}
+use Rattle.vt_spec.specs.Machine.Looks.{Looks}
+use Rattle.vt_spec.specs.Machine.Mounts.{Location}
+use Rattle.vt_spec.specs.Machine.Permits.{Permit}
+use Rattle.vt_spec.specs.Machine.Permits.Permit.{ToMountOverlay as MeansToMount}
+use Rattle.vt_spec.specs.Machine.Rules.Conditions.{lacks}
+use Rattle.vt_spec.specs.Machine.Rules.Mounting.{LayerLocations, destination_walk, has_single_lower, layer_rules, layers_walked, new_mount_rules, overlay_at}
+use Rattle.vt_spec.specs.Machine.Walking.{Here, walk_end}
+use Rattle.vt_spec.specs.Machine.World.{Task}
+use Rattle.vt_spec.specs.Rights.{cap_sys_admin}
+use Rattle.vt_spec.proofs.Refusals.{unless-let_through, unless-refused}
+use Rattle.vt_rules.proofs.Rows.{skipped, stopped}
+use Rattle.vt_walk.specs.WalkValue.{location_end}
+use Rattle.vt_layers.specs.LayersValue.{first_layers, with_first_lowers}
+use Rattle.vt_layers.specs.MountValue.{JudgesOverlay, layers_named}
+use Rattle.vt_layers.specs.declared.walks.TheConstants.{KEPT_LOWERS}
+
+-- O2 by the fourth row
+fourth_row : {A : Type 0} (e1 e2 e3 e4 : Bool) (rows : Rules) (answer : Result A Deny) → e4 ≡ true
+    → unless ((e1, O2) ∷ (e2, O2) ∷ (e3, O2) ∷ (e4, O2) ∷ rows) answer ≡ Err (denial O2)
+fourth_row true e2 e3 e4 rows answer e = refl
+fourth_row false true e3 e4 rows answer e = refl
+fourth_row false false true e4 rows answer e = refl
+fourth_row false false false true rows answer e = refl
+fourth_row false false false false rows answer e = absurd cc
+
+too_long : (n : ℕ) → nat_lt most_lowers n ≡ true → KEPT_LOWERS ≤ n
+too_long n e = grind (arith, nat_tests)
+
+short_enough : (n : ℕ) → nat_lt most_lowers n ≡ false → n ≤ KEPT_LOWERS
+short_enough n e = grind (arith, nat_tests)
+
+module _ (looks : Looks ℕ) (task : Task ℕ) where
+  abbrev Layers : Type 0
+  Layers = LayerLocations ℕ
+
+  -- the rules of layers
+  abbrev pub ruled : {A : Type 0} → Layers → Result A Deny → Result A Deny
+  ruled layers answer = unless (layer_rules nat_eq looks layers (overlay_at looks task layers)) answer
+
+  too_many : {A : Type 0} (layers : Layers) (answer : Result A Deny)
+      → nat_lt most_lowers (length layers.lowers) ≡ true → ruled layers answer ≡ Err (denial O2)
+  too_many layers answer e =
+      fourth_row (is_empty_list layers.lowers) (has_single_lower layers.lowers && not (is_some layers.upper))
+      (is_some layers.upper && not (is_some layers.work)) (nat_lt most_lowers (length layers.lowers))
+      (rest_of (rest_of (rest_of (rest_of (layer_rules nat_eq looks layers (overlay_at looks task layers))))))
+      answer e
+
+  -- the first lower layers are ruled as all are
+  ruled-first : (layers : Layers) {A : Type 0} (answer : Result A Deny)
+      → ruled (with_first_lowers layers) answer ≡ ruled layers answer
+  ruled-first layers answer = by_length (nat_lt most_lowers (length layers.lowers)) refl where
+    by_length : (long : Bool) → nat_lt most_lowers (length layers.lowers) ≡ long
+        → ruled (with_first_lowers layers) answer ≡ ruled layers answer
+    by_length true e =
+        let size : length (take KEPT_LOWERS layers.lowers) ≡ KEPT_LOWERS = length-take-le KEPT_LOWERS layers.lowers
+        (too_long (length layers.lowers) e) in
+        let long : nat_lt most_lowers (length (take KEPT_LOWERS layers.lowers)) ≡ true = rw size refl in
+        too_many (with_first_lowers layers) answer long ∙ sym (too_many layers answer e)
+    by_length false e =
+        ap (λ lowers. ruled (record layers { lowers = lowers }) answer)
+        (take_all KEPT_LOWERS layers.lowers (short_enough (length layers.lowers) e))
+
+  -- and those that pass are all
+  first-all : (layers : Layers) → Ok tt ≡ ruled {A = Unit {0}} layers (Ok tt) → with_first_lowers layers ≡ layers
+  first-all layers e = by_length (nat_lt most_lowers (length layers.lowers)) refl where
+    by_length : (long : Bool) → nat_lt most_lowers (length layers.lowers) ≡ long → with_first_lowers layers ≡ layers
+    by_length true h =
+        let refused : ruled {A = Unit {0}} layers (Ok tt) ≡ Err (denial O2) = too_many layers (Ok tt) h in absurd cc
+    by_length false h =
+        ap (λ lowers. record layers { lowers = lowers })
+        (take_all KEPT_LOWERS layers.lowers (short_enough (length layers.lowers) h))
+
+  -- what is answered of options
+  pub named-refused : (words : OverlayWords) (deny : Deny)
+      → Err deny ≡ first_layers (layers_walked nat_eq looks task words)
+      → Err deny ≡ layers_named looks task (Some words)
+  named-refused words deny e = by_walk (layers_walked nat_eq looks task words) e where
+    by_walk : (walked : Result Layers Deny) → Err deny ≡ first_layers walked
+        → Err deny ≡ and_then walked (λ layers. ruled layers (Ok layers))
+    by_walk (Ok layers) e = absurd cc
+    by_walk (Err other) e = cc
+
+  pub named-ruled_out : (words : OverlayWords) (first : Layers) (deny : Deny)
+      → Ok first ≡ first_layers (layers_walked nat_eq looks task words)
+      → Err deny ≡ ruled {A = Unit {0}} first (Ok tt)
+      → Err deny ≡ layers_named looks task (Some words)
+  named-ruled_out words first deny e refused = by_walk (layers_walked nat_eq looks task words) e where
+    by_walk : (walked : Result Layers Deny) → Ok first ≡ first_layers walked
+        → Err deny ≡ and_then walked (λ layers. ruled layers (Ok layers))
+    by_walk (Ok layers) e =
+        let same : first ≡ with_first_lowers layers = cc in
+        sym (unless-refused (layer_rules nat_eq looks layers (overlay_at looks task layers)) tt (Ok layers) deny
+        (sym (ruled-first layers (Ok tt)) ∙ ap (λ all. ruled all (Ok tt)) (sym same) ∙ sym refused))
+    by_walk (Err other) e = absurd cc
+
+  pub named-passed : (words : OverlayWords) (first : Layers)
+      → Ok first ≡ first_layers (layers_walked nat_eq looks task words)
+      → Ok tt ≡ ruled {A = Unit {0}} first (Ok tt)
+      → Ok first ≡ layers_named looks task (Some words)
+  named-passed words first e passes = by_walk (layers_walked nat_eq looks task words) e where
+    by_walk : (walked : Result Layers Deny) → Ok first ≡ first_layers walked
+        → Ok first ≡ and_then walked (λ layers. ruled layers (Ok layers))
+    by_walk (Ok layers) e =
+        let same : first ≡ with_first_lowers layers = cc in
+        let all : Ok tt ≡ ruled {A = Unit {0}} layers (Ok tt) =
+        passes ∙ ap (λ first. ruled first (Ok tt)) same ∙ ruled-first layers (Ok tt) in
+        let rows = layer_rules nat_eq looks layers (overlay_at looks task layers) in
+        ap Ok (same ∙ first-all layers all) ∙ sym (unless-let_through rows (Ok layers) all)
+    by_walk (Err other) e = absurd cc
+
+  -- what a mount of an overlay is asked, once it is known where
+  module _ (overfills : Permit ℕ → Bool) (path : List ℕ) (options : Option OverlayWords) (flags : MountFlags) where
+    abbrev judged : Judgement ℕ
+    judged = mount_overlay_permit nat_eq looks overfills task path options flags
+
+    abbrev asked : Location ℕ → Layers → Judgement ℕ
+    asked place layers =
+        let permit = MeansToMount place (overlay_at looks task layers) flags in
+        unless (new_mount_rules nat_eq looks task place (overfills permit)) (Ok permit)
+
+    by_layers : (place : Location ℕ) (options : Option OverlayWords)
+        → overlay_permit_by nat_eq looks overfills task place options flags
+        ≡ and_then (layers_named looks task options) (asked place)
+    by_layers place None = refl
+    by_layers place (Some words) = by_walk (layers_walked nat_eq looks task words) where
+      by_rules : {A B : Type 0} (rows : Rules) (a : A) (next : A → Result B Deny)
+          → unless rows (next a) ≡ and_then (unless rows (Ok a)) next
+      by_rules [] a next = refl
+      by_rules ((true, rule) ∷ rows) a next = refl
+      by_rules ((false, rule) ∷ rows) a next = by_rules rows a next
+
+      by_walk : (walked : Result Layers Deny)
+          → and_then walked (λ layers. ruled layers (asked place layers))
+          ≡ and_then (and_then walked (λ layers. ruled layers (Ok layers))) (asked place)
+      by_walk (Ok layers) =
+          by_rules (layer_rules nat_eq looks layers (overlay_at looks task layers)) layers (asked place)
+      by_walk (Err deny) = refl
+
+    pub without_capability : lacks task cap_sys_admin ≡ true → judged ≡ Err (denial K1)
+    unfolding mount_overlay_permit
+    without_capability e = stopped _ K1 [] _ e
+
+    abbrev destined : Result (Here ℕ) Deny
+    destined = walk_end (destination_walk nat_eq looks task path)
+
+    pub nowhere : (deny : Deny) → lacks task cap_sys_admin ≡ false → Err deny ≡ location_end destined
+        → judged ≡ Err deny
+    unfolding mount_overlay_permit
+    nowhere deny e refused = skipped _ K1 [] _ e ∙ by_end destined refused where
+      by_end : (end : Result (Here ℕ) Deny) → Err deny ≡ location_end end
+          → and_then end (λ here. overlay_permit_by nat_eq looks overfills task here.location options flags) ≡ Err deny
+      by_end (Ok here) refused = absurd cc
+      by_end (Err other) refused = cc
+
+    placed : (place : Location ℕ) → lacks task cap_sys_admin ≡ false → Ok place ≡ location_end destined
+        → judged ≡ and_then (layers_named looks task options) (asked place)
+    unfolding mount_overlay_permit
+    placed place e there = skipped _ K1 [] _ e ∙ by_end destined there ∙ by_layers place options where
+      by_end : (end : Result (Here ℕ) Deny) → Ok place ≡ location_end end
+          → and_then end (λ here. overlay_permit_by nat_eq looks overfills task here.location options flags)
+          ≡ overlay_permit_by nat_eq looks overfills task place options flags
+      by_end (Ok here) there =
+          let same : here.location ≡ place = cc in
+          ap (λ at. overlay_permit_by nat_eq looks overfills task at options flags) same
+      by_end (Err other) there = absurd cc
+
+    pub without_layers : (place : Location ℕ) (deny : Deny) → lacks task cap_sys_admin ≡ false
+        → Ok place ≡ location_end destined → Err deny ≡ layers_named looks task options → judged ≡ Err deny
+    without_layers place deny e there refused =
+        placed place e there ∙ ap (λ named. and_then named (asked place)) (sym refused)
+
+    pub left : (place : Location ℕ) (layers : Layers) → lacks task cap_sys_admin ≡ false
+        → Ok place ≡ location_end destined → Ok layers ≡ layers_named looks task options
+        → judged ≡ asked place layers
+    left place layers e there named =
+        placed place e there ∙ ap (λ named. and_then named (asked place)) (sym named)
+
+-- answers of code
+pub denied : (looks : Looks ℕ) (task : Task ℕ) (judged : Judgement ℕ) (deny : Deny) → judged ≡ Err deny
+    → JudgesOverlay looks task judged (Err deny)
+denied looks task (Ok permit) deny e = absurd cc
+denied looks task (Err refusal) deny e = inl cc
+
+pub no_receivers : (looks : Looks ℕ) (task : Task ℕ) (judged : Judgement ℕ) (overfull : Bool) (permit : Permit ℕ)
+    (deny : Deny) → judged ≡ unless ((overfull, M9) ∷ []) (Ok permit) → deny ≡ denial S5
+    → JudgesOverlay looks task judged (Err deny)
+no_receivers looks task (Ok other) overfull permit deny e memory = memory
+no_receivers looks task (Err refusal) true permit deny e memory = inr (memory, cc)
+no_receivers looks task (Err refusal) false permit deny e memory = absurd cc

@@ -1,0 +1,4 @@
+pub mod JudgeLemmas
+pub mod OptionLemmas
+pub mod RuleLemmas
+pub mod WalkLemmas

@@ -1,0 +1,144 @@
+-- The rules of layers, as code checks them together.
+use Rattle.std.proofs.Common.{◌≡◌, ◌<◌, ◌≤◌, ◌+◌, ◌-◌, ℕ, Bool, true, false, not, ◌&&◌, ◌||◌, List, [], ◌∷◌, ◌++◌, Result, is_some, length, take, drop, get_or, map, nat_eq, option_map, refl, sym, ap, ◌∙◌}
+use Rattle.std.specs.List.{list_any}
+use Rattle.std.specs.Prelude.{nat_lt, option_to_list}
+use Rattle.std.proofs.lemmas.List.{at_drop_all, at_drop_more, take_rest}
+use Rattle.std.proofs.lemmas.List.Folds.{list_any-append}
+use Rattle.vt_spec.specs.declared.errors.Deny.{Deny}
+use Rattle.vt_spec.specs.declared.errors.Rule.TheVariants.{O2, O3, O5}
+use Rattle.vt_spec.specs.Errors.{Rules, unless}
+use Rattle.vt_spec.specs.Language.Limits.{most_lowers}
+use Rattle.vt_spec.specs.Lists.{any_pair, is_empty_list}
+use Rattle.vt_spec.specs.Machine.Looks.{Looks}
+use Rattle.vt_spec.specs.Machine.Rules.Conditions.{is_overlay_at, is_read_only}
+use Rattle.vt_spec.specs.Machine.Rules.Mounting.{LayerLocations, has_single_lower, layer_at, layer_locations, layer_rules, lie_apart, one_under_another, overlay_at, upper_and_work_locations, upper_overlaps_work}
+use Rattle.vt_spec.specs.Machine.World.{Layer, Task}
+use Rattle.vt_location.specs.Locations.{location_of}
+use Rattle.vt_layers.specs.LayerConditions.{checked_rules}
+use Rattle.vt_layers.specs.LayersValue.{lowers_of}
+use Rattle.vt_layers.specs.declared.walks.Lower.{Lower}
+
+-- a test of what a list is mapped to
+pub list_any-map : {A B : Type 0} (test : B → Bool) (f : A → B) (list : List A)
+    → list_any (λ a. test (f a)) list ≡ list_any test (map f list)
+list_any-map test f [] = refl
+list_any-map test f (a ∷ rest) = ap (λ more. test (f a) || more) (list_any-map test f rest)
+
+-- rows of one rule are one row
+joined_rows : {A : Type 0} (e1 e2 e3 e4 a b c e6 e7 e8 : Bool) (rows : Rules) (answer : Result A Deny)
+    → unless ((e1 || e2 || e3 || e4 || a || b || c || (e3 || e6 || e7 || e8), O2) ∷ rows) answer
+    ≡ unless ((e1, O2) ∷ (e2, O2) ∷ (e3, O2) ∷ (e4, O2) ∷ (a || b || c, O2) ∷ (e6, O2) ∷ (e7, O2) ∷ (e8, O2) ∷ rows)
+    answer
+joined_rows true e2 e3 e4 a b c e6 e7 e8 rows answer = refl
+joined_rows false true e3 e4 a b c e6 e7 e8 rows answer = refl
+joined_rows false false true e4 a b c e6 e7 e8 rows answer = refl
+joined_rows false false false true a b c e6 e7 e8 rows answer = refl
+joined_rows false false false false true b c e6 e7 e8 rows answer = refl
+joined_rows false false false false false true c e6 e7 e8 rows answer = refl
+joined_rows false false false false false false true e6 e7 e8 rows answer = refl
+joined_rows false false false false false false false true e7 e8 rows answer = refl
+joined_rows false false false false false false false false true e8 rows answer = refl
+joined_rows false false false false false false false false false true rows answer = refl
+joined_rows false false false false false false false false false false rows answer = refl
+
+joined_ends : {A : Type 0} (e9 e10 f1 f2 : Bool) (answer : Result A Deny)
+    → unless ((e9, O3) ∷ (e10 || f1 || f2, O5) ∷ []) answer
+    ≡ unless ((e9, O3) ∷ (e10, O5) ∷ (f1 || f2, O5) ∷ []) answer
+joined_ends true e10 f1 f2 answer = refl
+joined_ends false true f1 f2 answer = refl
+joined_ends false false true f2 answer = refl
+joined_ends false false false true answer = refl
+joined_ends false false false false answer = refl
+
+module _ (looks : Looks ℕ) (task : Task ℕ) where
+  any_of_three : {X : Type 0} (test : X → Bool) (xs ys zs : List X)
+      → (list_any test xs || list_any test ys || list_any test zs) ≡ list_any test (xs ++ ys ++ zs)
+  any_of_three test xs ys zs =
+      sym (list_any-append test (xs ++ ys) zs ∙ ap (λ two. two || list_any test zs) (list_any-append test xs ys))
+
+  pub checked-rules : {A : Type 0} (layers : LayerLocations ℕ) (answer : Result A Deny)
+      → unless (checked_rules looks task layers) answer
+      ≡ unless (layer_rules nat_eq looks layers (overlay_at looks task layers)) answer
+  checked-rules layers answer =
+      let overlay = overlay_at looks task layers in
+      let lowers = map (layer_at looks) layers.lowers in
+      let uppers = option_to_list (option_map (layer_at looks) layers.upper) in
+      let works = option_to_list (option_map (layer_at looks) layers.work) in
+      let overlaps = looks.overlaps_one_of lowers in
+      let e1 = is_empty_list layers.lowers in
+      let e2 = has_single_lower layers.lowers && not (is_some layers.upper) in
+      let e3 = is_some layers.upper && not (is_some layers.work) in
+      let e4 = nat_lt most_lowers (length layers.lowers) in
+      let e6 = lie_apart nat_eq looks overlay in
+      let e7 = upper_overlaps_work looks overlay in
+      let e8 = list_any (is_read_only looks) (upper_and_work_locations layers) in
+      let ends : Bool → Rules = λ upward.
+      (looks.is_in_use overlay, O3) ∷ (any_pair (one_under_another nat_eq looks) lowers, O5) ∷ (upward, O5) ∷ [] in
+      let rows : Bool → Bool → Rules = λ merged. λ upward.
+      (e1, O2) ∷ (e2, O2) ∷ (e3, O2) ∷ (e4, O2) ∷ (merged, O2) ∷ (e6, O2) ∷ (e7, O2) ∷ (e8, O2) ∷ ends upward in
+      let front = e1 || e2 || e3 || e4 || list_any (is_overlay_at looks) layers.lowers
+      || list_any (is_overlay_at looks) (option_to_list layers.upper)
+      || list_any (is_overlay_at looks) (option_to_list layers.work) || (e3 || e6 || e7 || e8) in
+      first_row front (looks.is_in_use overlay) (any_pair (one_under_another nat_eq looks) lowers)
+      (list_any overlaps uppers) (list_any overlaps works) answer
+      ∙ joined_rows e1 e2 e3 e4 (list_any (is_overlay_at looks) layers.lowers)
+      (list_any (is_overlay_at looks) (option_to_list layers.upper))
+      (list_any (is_overlay_at looks) (option_to_list layers.work)) e6 e7 e8
+      (ends (list_any overlaps uppers || list_any overlaps works)) answer
+      ∙ ap (λ merged. unless (rows merged (list_any overlaps uppers || list_any overlaps works)) answer)
+      (any_of_three (is_overlay_at looks) layers.lowers (option_to_list layers.upper) (option_to_list layers.work))
+      ∙ ap (λ upward. unless (rows (list_any (is_overlay_at looks) (layer_locations layers)) upward) answer)
+      (sym (list_any-append overlaps uppers works))
+    where
+      first_row : {A : Type 0} (front e9 e10 f1 f2 : Bool) (answer : Result A Deny)
+          → unless ((front, O2) ∷ (e9, O3) ∷ (e10 || f1 || f2, O5) ∷ []) answer
+          ≡ unless ((front, O2) ∷ (e9, O3) ∷ (e10, O5) ∷ (f1 || f2, O5) ∷ []) answer
+      first_row true e9 e10 f1 f2 answer = refl
+      first_row false e9 e10 f1 f2 answer = joined_ends e9 e10 f1 f2 answer
+
+-- layers by their locations
+abbrev pub layers_at : Looks ℕ → List Lower → List (Layer ℕ)
+layers_at looks lowers = map (layer_at looks) (lowers_of lowers)
+
+pub any_lower : (looks : Looks ℕ) (test : Layer ℕ → Bool) (lowers : List Lower)
+    → list_any (λ lower. test (layer_at looks (location_of lower.at))) lowers ≡ list_any test (layers_at looks lowers)
+any_lower looks test lowers =
+    list_any-map (λ at. test (layer_at looks at)) (λ lower. location_of lower.at) lowers
+    ∙ list_any-map test (layer_at looks) (lowers_of lowers)
+
+module _ (looks : Looks ℕ) (lowers : List Lower) (i : ℕ) (d : Lower) (inside : i < length lowers) where
+  abbrev under_one : Lower → Layer ℕ → Bool
+  under_one lower = one_under_another nat_eq looks (layer_at looks (location_of lower.at))
+
+  abbrev pairs_from : List Lower → Bool
+  pairs_from left = any_pair (one_under_another nat_eq looks) (layers_at looks left)
+
+  abbrev here : Lower
+  here = get_or lowers i d
+
+  cut_here : pairs_from (drop i lowers)
+      ≡ (list_any (under_one here) (layers_at looks (drop (i + 1) lowers)) || pairs_from (drop (i + 1) lowers))
+  cut_here = at_drop_more pairs_from lowers i d inside
+
+  pub pair-here : list_any (under_one here)
+      (layers_at looks (take (length lowers - (i + 1)) (drop (i + 1) lowers))) ≡ true
+      → pairs_from (drop i lowers) ≡ true
+  pair-here e =
+      cut_here
+      ∙ ap (λ left. list_any (under_one here) (layers_at looks left) || pairs_from (drop (i + 1) lowers))
+      (sym (take_rest lowers (i + 1)))
+      ∙ ap (λ first. first || pairs_from (drop (i + 1) lowers)) e
+
+  pub pair-later : list_any (under_one here)
+      (layers_at looks (take (length lowers - (i + 1)) (drop (i + 1) lowers))) ≡ false
+      → pairs_from (drop (i + 1) lowers) ≡ pairs_from (drop i lowers)
+  pair-later e =
+      sym (cut_here
+      ∙ ap (λ left. list_any (under_one here) (layers_at looks left) || pairs_from (drop (i + 1) lowers))
+      (sym (take_rest lowers (i + 1)))
+      ∙ ap (λ first. first || pairs_from (drop (i + 1) lowers)) e)
+
+pub pairs-ended : (looks : Looks ℕ) (lowers : List Lower) (i : ℕ) → length lowers ≤ i
+    → false ≡ any_pair (one_under_another nat_eq looks) (layers_at looks (drop i lowers))
+pairs-ended looks lowers i past =
+    sym (at_drop_all (λ left. any_pair (one_under_another nat_eq looks) (layers_at looks left)) lowers i past)

@@ -1,0 +1,4 @@
+pub mod LayerConditions
+pub mod LayersValue
+pub mod MountValue
+pub mod OptionValue
