@@ -111,7 +111,8 @@ module _ (world : World ℕ) (names : List TaskName) (is : IsWorld nat_eq world)
   -- the numbers are handed out to the same parts
   same_numbers : now_there ≡ attached_by nat_eq (base_part world names at) new here false origins
   same_numbers =
-      ap (λ l. attached_by nat_eq (base_part world names at) (copies_from nat_eq (odds fresh) l origins) here false origins)
+      ap (λ l. attached_by nat_eq (base_part world names at) (copies_from nat_eq (odds fresh) l origins) here false
+      origins)
       (parts_alike world names at)
 
   pub mounted_alike : (name : TaskName) → part_of nat_eq (numbers_raised nat_eq world name [] now) names
