@@ -60,8 +60,8 @@ UsesAreSweptBesideOverlays =
     → IsCounted (settled nat_eq after) (filesystem_numbered nat_eq (settled nat_eq after) filesystem)
     (exchanged filesystem gained lost inodes)
 
--- Where overlays come and go, and plain filesystems come and go beside them, a filesystem that stays gets what the
--- overlays use that come, and loses what those use that go: directories of layers, and upper objects.
+-- Where overlays come and go, and plain filesystems beside them, a filesystem that stays gets what those overlays use
+-- that come, and loses what those use that go. These are directories of layers, and upper objects.
 abbrev pub OverlaysAreUses : Type 0
 OverlaysAreUses =
     (world after : World ℕ) (gained lost front back : List (Filesystem ℕ)) (filesystem : ℕ)

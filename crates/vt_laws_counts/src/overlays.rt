@@ -11,9 +11,9 @@ pub fn uses_are_exchanged_beside_overlays()
     ensures none { NoUpperIsInAny }
 {}
 
-/// Where overlays come and go, and mounts and locations are the same, a filesystem that stays gets the uses of those
-/// that come, and loses the uses of those that go (`lists`): directories of layers, and upper objects. So where those
-/// go that do not pass a `test`. Where `plain` filesystems come and go alone, nothing is exchanged.
+/// Where overlays come and go, a filesystem that stays gets the uses of those that come, and loses the uses of those
+/// that go (`lists`). These are directories of layers, and upper objects; mounts and locations are the same. So where
+/// those go that do not pass a `test`. Where `plain` filesystems come and go alone, nothing is exchanged.
 pub fn overlays_are_uses()
     ensures lists { OverlaysAreUses }
     ensures test { OverlaysTakeTheirUses }
@@ -64,8 +64,8 @@ pub fn overlays_of_worlds_are_mounted()
     ensures all { AllLayersAreMounted }
 {}
 
-/// Where each inode of each overlay is the root or has a name, the sweep leaves overlays as they are and in their
-/// order, but for those that nothing uses (`all`); so each by its number (`one`).
+/// Where each inode of each overlay is the root or has a name, the sweep leaves overlays as they are, in their order,
+/// but for those that nothing uses (`all`). So it leaves each by its number (`one`).
 pub fn overlays_whose_inodes_have_names_stay()
     ensures all { NamedOverlaysStay }
     ensures one { NamedOverlayStays }

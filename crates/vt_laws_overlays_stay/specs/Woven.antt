@@ -77,8 +77,8 @@ PlainOnesAreFound =
     → find (λ filesystem. nat_eq number filesystem.number) (woven plain overlays)
     ≡ find (λ filesystem. nat_eq number filesystem.number) plain
 
--- A world whose filesystems are plain ones and overlays, woven, none of which has an upper layer or an inode without a
--- name: what a given permit leaves is woven of the plain ones that are left and of the overlays that are mounted.
+-- Let the filesystems of a world be plain ones and overlays, woven, and no overlay have an upper layer or an inode
+-- without a name. What a given permit leaves is woven of the plain ones that are left and of overlays that are mounted.
 abbrev pub LeftWorldsAreWoven : Type 0
 LeftWorldsAreWoven =
     (world : World ℕ) (fresh : Fresh ℕ) (task : Task ℕ) (permit : Permit ℕ) (plain overlays : List (Filesystem ℕ))

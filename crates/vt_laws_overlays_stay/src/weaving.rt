@@ -19,9 +19,9 @@ pub fn woven_lists_have_both()
     ensures found { PlainOnesAreFound }
 {}
 
-/// In a world with all invariants, whose filesystems are plain ones and overlays, woven by rising numbers, a permit
-/// leaves the plain ones that are left and the overlays that are mounted, woven. No overlay has an upper layer or an
-/// inode without a name, and a filesystem that the permit makes gets a greater number than all.
+/// Let the filesystems of a world with all invariants be plain ones and overlays, woven by rising numbers. Then a
+/// permit leaves the plain ones that are left, woven with the overlays that are mounted. No overlay has an upper layer
+/// or an inode without a name, and a filesystem that the permit makes gets a greater number than all.
 pub fn worlds_that_are_left_are_woven()
     ensures { LeftWorldsAreWoven }
 {}
