@@ -1,4 +1,4 @@
--- Which calls give others no foothold, and so end alike in every world (profile).
+-- Which calls of theirs give others no foothold and end alike, whatever the world is (profile).
 use Rattle.std.specs.Prelude.{Bool, List, false, map, nat_eq, true, ℕ, ◌≡◌}
 use Rattle.vt_spec.specs.Language.Calls.{Call, TaskName, same_name}
 use Rattle.vt_spec.specs.Language.Calls.Call.{Bind, MountOverlay, MountPlain, MoveMount, SetType, Unshare}
@@ -47,7 +47,7 @@ RunsEndAlike =
     (others : Bool) (at : Stand) (grammar : Grammar) (lines : List (List ℕ))
     → TheirCallsAlwaysEndAlike others at grammar lines → EachEndsAlike others at (map (asked grammar) lines)
 
--- So does each call but those few.
+-- Each call but those few does both.
 abbrev pub TheseAlwaysEndAlike : Type 0
 TheseAlwaysEndAlike = (call : Call) → keeps_others_out call ≡ true → AlwaysEndsAlike call
 

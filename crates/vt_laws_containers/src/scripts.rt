@@ -12,8 +12,8 @@ ghost use Rattle.vt_laws_containers.specs.Scripts.{SealedSetsStandSo, SetsAreAns
 /// and none of others one of theirs. Both runs hand each line the same numbers, its row of `numbers_for`, and the world
 /// has none of them before. So it stands after the lines of any script, from the opening world on (`after_lines`).
 ///
-/// Calls that do both in every world do so along each run (`runs`). All calls do but `mount`, `bind`, `move`, `type` and
-/// `unshare` (`keeps_others_out`), so it holds of all sets that make none of these (`these`).
+/// Calls that do both in every world do so along each run (`runs`). All calls do but `mount`, `bind`, `move`, `type`
+/// and `unshare` (`keeps_others_out`), so it holds of all sets that make none of these (`these`).
 pub fn sealed_sets_are_answered_as_alone()
     ensures alone { SetsAreAnsweredAsAlone }
     ensures runs { RunsEndAlike }

@@ -126,7 +126,8 @@ module _ (world : World ℕ) (names : List TaskName) (name : TaskName) (call : C
         (subst (λ fs. any_pair (λ (a b : Filesystem ℕ). nat_eq a.number b.number) fs ≡ false)
         (sym (taken_filesystems world list)) it.is.files.one_filesystem) fresh location change
 
-    pub removed_before : (changed : List ℕ) → IsWorld nat_eq (numbers_raised nat_eq world name changed (settled nat_eq done))
+    pub removed_before : (changed : List ℕ)
+        → IsWorld nat_eq (numbers_raised nat_eq world name changed (settled nat_eq done))
         → OthersAsBefore world done names names
     removed_before changed ends =
         files_as_before world base done names names
@@ -147,7 +148,8 @@ module _ (world : World ℕ) (names : List TaskName) (name : TaskName) (call : C
       kept world names name call it few fresh serves task called (ToRemoveDirectory parent entry directory) judged refl
       (apply nat_eq fresh world task (ToRemoveDirectory parent entry directory)).world
       (removed_before (ToRemoveDirectory parent entry directory) judged
-      (stays world names name call it few fresh serves task called (ToRemoveDirectory parent entry directory) judged refl)
+      (stays world names name call it few fresh serves task called (ToRemoveDirectory parent entry directory) judged
+      refl)
       directory parent (Remove parent.node entry directory.node) refl tt
       (removed_free world names it.is it.sealed_off task member fresh call (ToRemoveDirectory parent entry directory)
       (calls_are_granted nat_eq (looks_of nat_eq world) (overfills nat_eq fresh world task) task call

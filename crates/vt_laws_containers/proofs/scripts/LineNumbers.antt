@@ -58,7 +58,8 @@ module _ (line : ℕ) (world : World ℕ) (has : HasEarlierNumbers (suc line) wo
         has.keeps renaming (λ number is.
         leaves number (or_left (has.named number) (nat_eq (row number) (suc line)) is)))
         (λ place. or_right (has.named (numbers_for (suc line) place))
-        (nat_eq (row (numbers_for (suc line) place)) (suc line)) (eq-eqb (row (numbers_for (suc line) place)) (suc line) (row_of line place)));
+        (nat_eq (row (numbers_for (suc line) place)) (suc line))
+        (eq-eqb (row (numbers_for (suc line) place)) (suc line) (row_of line place)));
     later = λ other place less. by other place less;
   }
     where
