@@ -1,2 +1,4 @@
 -- What the proofs of src/turns.rt use.
 pub mod EachTurn
+pub mod OtherQueues
+pub mod Beside

@@ -7,13 +7,15 @@ use Rattle.vt_spec.specs.Language.Calls.Call.{Setns}
 use Rattle.vt_spec.specs.Language.Script.Who.{Someone}
 use Rattle.vt_spec.specs.Lists.{Fresh, first_of_list, is_among}
 use Rattle.vt_spec.specs.Machine.Run.{Serves}
-use Rattle.vt_spec.specs.Machine.Sealed.{sealed}
+use Rattle.vt_spec.specs.Machine.Sealed.{part_of, sealed}
 use Rattle.vt_spec.specs.Machine.Turns.{Item, Queued, Reply, Sched, queue_of, turn}
 use Rattle.vt_spec.specs.Machine.Turns.Item.{Asks, Calls}
 use Rattle.vt_laws_members_changes.specs.Changes.{grown}
 use Rattle.vt_laws_sealed_turns.specs.MembersTurns.{HasCallsUnderWay, TurnsAlikeFor}
-use Rattle.vt_laws_sealed_turns.specs.OutsidersTurns.{IsFirst}
+use Rattle.vt_laws_turns.specs.Commits.{Turn, left_by}
+use Rattle.vt_laws_sealed_turns.specs.OutsidersTurns.{AreOutsidersTurns, HasItSealed, IsFirst, their_calls}
 
+-- the item is a directive
 abbrev pub is_directive : Item → Bool
 is_directive (Asks directive) = true
 is_directive item = false
@@ -54,3 +56,24 @@ EachTurnOfTheirsIsOfTheirPart =
     (sched : Sched ℕ) (names : List TaskName) (name : TaskName) (fresh : Option (Fresh ℕ))
     → IsTurnOfTheirs sched names name fresh
     → TurnsAlikeFor sched names (set_left sched names name fresh) name fresh
+
+-- a turn of theirs has one reply in two states, and leaves one part of a set, its calls under way, and one queue of each
+-- of theirs
+pub record TurnsAlikeIn (one other : Sched ℕ) (names set : List TaskName) (name : TaskName) (fresh : Option (Fresh ℕ))
+    : Type 0 where
+  pub reply : (turn nat_eq other (Someone name) fresh).reply ≡ (turn nat_eq one (Someone name) fresh).reply
+  pub part : part_of nat_eq (turn nat_eq other (Someone name) fresh).sched.world set
+      ≡ part_of nat_eq (turn nat_eq one (Someone name) fresh).sched.world set
+  pub calls : their_calls set (turn nat_eq other (Someone name) fresh).sched.under_way
+      ≡ their_calls set (turn nat_eq one (Someone name) fresh).sched.under_way
+  pub queues : (member : TaskName) → is_among same_name member names ≡ true
+      → queue_of (turn nat_eq other (Someone name) fresh).sched.queues (Someone member)
+      ≡ queue_of (turn nat_eq one (Someone name) fresh).sched.queues (Someone member)
+
+-- After turns of outsiders, however many, a turn of theirs goes as it would have gone before them, by the same numbers.
+abbrev pub OutsidersChangeNoTurnOfTheirs : Type 0
+OutsidersChangeNoTurnOfTheirs =
+    (sched : Sched ℕ) (names : List TaskName) (schedule : List Turn) (name : TaskName) (fresh : Option (Fresh ℕ))
+    → HasItSealed sched names → AreOutsidersTurns sched names schedule → IsTurnOfTheirs sched names name fresh
+    → ((given : Fresh ℕ) → fresh ≡ Some given → Serves nat_eq (left_by sched schedule).world given)
+    → TurnsAlikeIn sched (left_by sched schedule) names (set_left sched names name fresh) name fresh

@@ -1,5 +1,5 @@
 //! Each turn of a task of a sealed set, in the world and in the part of the set.
-ghost use Rattle.vt_laws_members_turns.specs.TheirTurns.{EachTurnOfTheirsIsOfTheirPart};
+ghost use Rattle.vt_laws_members_turns.specs.TheirTurns.{EachTurnOfTheirsIsOfTheirPart, OutsidersChangeNoTurnOfTheirs};
 
 /// **Each turn of a task of a sealed set is one of the part of the set** (`EachTurnOfTheirsIsOfTheirPart`), whatever
 /// its call is. It answers what it answers where the world is the part, or nothing in both. It leaves what it leaves
@@ -11,4 +11,15 @@ ghost use Rattle.vt_laws_members_turns.specs.TheirTurns.{EachTurnOfTheirsIsOfThe
 /// it answers S5, and if the queue is empty it does nothing.
 pub fn each_turn_of_theirs_is_of_their_part()
     ensures each { EachTurnOfTheirsIsOfTheirPart }
+{}
+
+/// **No outsider changes what a turn of theirs gives** (`OutsidersChangeNoTurnOfTheirs`). Turns of tasks outside a sealed
+/// set, or of `!`, are taken first, however many. Then a turn of a task of the set has the reply, if any, that it would
+/// have had before them. It leaves what it would have left of the set that its call leaves: the part of that set and its
+/// calls under way, and the queues of the tasks of the set (`TurnsAlikeIn`).
+///
+/// So they restart no call of theirs, and none of their answers differs. Of each turn outside `IsOutsidersTurn` says what
+/// is asked. The turn of theirs is as above, and takes unused numbers, the same before and after.
+pub fn turns_of_others_change_no_turn_of_theirs()
+    ensures beside { OutsidersChangeNoTurnOfTheirs }
 {}
