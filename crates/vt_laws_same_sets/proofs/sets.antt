@@ -1,0 +1,2 @@
+-- What the proofs of src/sets.rt use.
+pub mod SealedAlike
