@@ -6,4 +6,5 @@
 //! Each public function is a theorem of the written policy, and does nothing.
 #![tactic(auto)]
 
+pub mod outsiders;
 pub mod sets;
