@@ -26,8 +26,8 @@ OutsidersLeaveSameWorldsSealed =
     → (later : World ℕ) → SameWorlds (policy nat_eq fresh world name call).world later
     → LeavesTheSameSealed other later names
 
--- Calls of outsiders lead from one world to the other: after each the run goes on from any world that is the same as the
--- one that the policy leaves.
+-- Calls of outsiders lead from one world to the other. After each the run goes on from any world that is the same as
+-- the one that the policy leaves.
 abbrev pub OutsidersLeadTo : World ℕ → List TaskName → List OneCall → World ℕ → Type 0
 OutsidersLeadTo world names [] last = SameWorlds world last
 OutsidersLeadTo world names (one ∷ rest) last =

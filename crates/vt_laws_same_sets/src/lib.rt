@@ -6,5 +6,6 @@
 //! Each public function is a theorem of the written policy, and does nothing.
 #![tactic(auto)]
 
+pub mod members;
 pub mod outsiders;
 pub mod sets;

@@ -18,7 +18,7 @@ use Rattle.vt_spec.specs.Machine.Locked.{lies_in_layer, overlay_or}
 use Rattle.vt_spec.specs.Machine.Mounts.{Mount}
 use Rattle.vt_spec.specs.Machine.Receives.{is_member_of}
 use Rattle.vt_spec.specs.Machine.SameWorlds.{SameFiles, SameFilesystem}
-use Rattle.vt_spec.specs.Machine.Sealed.{is_at, is_own_namespace, lies_in_own_lower, members, own_lowers, part_of, part_of_filesystem, part_of_lower, part_of_master, part_of_mount, roots_and_directories, seen_by_descriptor, used_filesystems}
+use Rattle.vt_spec.specs.Machine.Sealed.{is_at, is_own_namespace, lies_in_own_lower, locations, members, own_lowers, part_of, part_of_filesystem, part_of_lower, part_of_master, part_of_mount, roots_and_directories, seen_by_descriptor, used_filesystems}
 use Rattle.vt_spec.specs.Machine.Settled.{only_among}
 use Rattle.vt_spec.specs.Machine.World.{Filesystem, Layer, Namespace, Overlay, Task, World, filesystem_numbered}
 
@@ -72,12 +72,15 @@ module _ (one other : World ℕ) (same : Alike one (with_mounts_of one other)) (
       (λ a b alike. ap (λ (task : Task ℕ). task.root ∷ task.directory ∷ []) alike) (members one names)
       (members second names) (members_alike one other same names)
 
+  located_same : locations (members one names) ≡ locations (members second names)
+  located_same =
+      places_same one other same names (members one names) (members second names)
+      (members_alike one other same names)
+
   mount_same : part_of_mount nat_eq one names ≡ part_of_mount nat_eq second names
   mount_same = λ i mount.
-      cond (holds_of (own_same one other same names i) mount.namespace || is_at nat_eq (bases_same i) mount) (Some mount)
-      (when (is_at nat_eq
-      (places_same one other same names (members one names) (members second names) (members_alike one other same names) i)
-      mount) (seen_by_descriptor mount))
+      cond (holds_of (own_same one other same names i) mount.namespace || is_at nat_eq (bases_same i) mount)
+      (Some mount) (when (is_at nat_eq (located_same i) mount) (seen_by_descriptor mount))
 
   master_same : part_of_master nat_eq one names ≡ part_of_master nat_eq second names
   master_same = λ i group.
