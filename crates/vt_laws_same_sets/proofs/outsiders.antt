@@ -1,0 +1,2 @@
+-- What the proofs of src/outsiders.rt use.
+pub mod LeftSealed
