@@ -1,5 +1,4 @@
 pub mod Calls
 pub mod Footholds
 pub mod PermitFootholds
-pub mod SameSets
 pub mod Scripts

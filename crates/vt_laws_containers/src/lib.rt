@@ -4,5 +4,4 @@
 #![tactic(auto)]
 
 pub mod footholds;
-pub mod same;
 pub mod scripts;
