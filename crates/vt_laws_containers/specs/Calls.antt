@@ -9,7 +9,7 @@ use Rattle.vt_spec.specs.Machine.World.{World}
 use Rattle.vt_laws_trees.specs.Trees.Limits.{names_few_groups}
 use Rattle.vt_laws_members_changes.specs.Changes.{EndsAlike, IsCallOfTheirs}
 use Rattle.vt_laws_containers.specs.Footholds.{GivesNoFoothold}
-use Rattle.vt_laws_containers.specs.Scripts.{Along, EachEndsAlike, IsSealedOffAt, Stand, StaysSealed, asked, own_answers}
+use Rattle.vt_laws_containers.specs.Scripts.{Along, EachEndsAlike, IsSealedOffAt, KeepsOthersOut, Stand, StaysSealed, asked, own_answers}
 
 -- The calls of which it is proved that they give others no foothold: all but these.
 abbrev pub keeps_others_out : Call → Bool
@@ -63,4 +63,13 @@ SetsOfTheseCallsAreAnsweredAsAlone =
     (at : Stand) (grammar : Grammar) (lines : List (List ℕ)) → IsSealedOffAt at
     → StaysSealed at (map (asked grammar) lines)
     → TheirCallsAreOfThese true at grammar lines → TheirCallsAreOfThese false at grammar lines
+    → own_answers true at (map (asked grammar) lines) ≡ own_answers false at (map (asked grammar) lines)
+
+-- Every call ends alike. So a set has these answers in each script in which none of its calls gives others a foothold.
+abbrev pub SetsThatKeepOthersOutAreAnsweredAsAlone : Type 0
+SetsThatKeepOthersOutAreAnsweredAsAlone =
+    (at : Stand) (grammar : Grammar) (lines : List (List ℕ)) → IsSealedOffAt at
+    → StaysSealed at (map (asked grammar) lines)
+    → Along KeepsOthersOut true at (map (asked grammar) lines)
+    → Along KeepsOthersOut false at (map (asked grammar) lines)
     → own_answers true at (map (asked grammar) lines) ≡ own_answers false at (map (asked grammar) lines)

@@ -1,5 +1,5 @@
 //! The answers to the calls of a sealed set, over scripts.
-ghost use Rattle.vt_laws_containers.specs.Calls.{CallsGiveNoFoothold, RunsEndAlike, SetsOfTheseCallsAreAnsweredAsAlone, TheseAlwaysEndAlike};
+ghost use Rattle.vt_laws_containers.specs.Calls.{CallsGiveNoFoothold, RunsEndAlike, SetsOfTheseCallsAreAnsweredAsAlone, SetsThatKeepOthersOutAreAnsweredAsAlone, TheseAlwaysEndAlike};
 ghost use Rattle.vt_laws_containers.specs.Scripts.{SealedSetsStandSo, SetsAreAnsweredAsAlone};
 
 /// A set of tasks is sealed off before some line of a script, and the world has all invariants. Then **the later calls
@@ -12,13 +12,15 @@ ghost use Rattle.vt_laws_containers.specs.Scripts.{SealedSetsStandSo, SetsAreAns
 /// and none of others one of theirs. Both runs hand each line the same numbers, its row of `numbers_for`, and the world
 /// has none of them before. So it stands after the lines of any script, from the opening world on (`after_lines`).
 ///
-/// Calls that do both in every world do so along each run (`runs`). All calls do but `mount`, `bind`, `move`, `type`
-/// and `unshare` (`keeps_others_out`), so it holds of all sets that make none of these (`these`).
+/// Every call of theirs ends alike, so it is enough that none of them gives others a foothold (`kept_out`). Calls that
+/// do both in every world do so along each run (`runs`). All calls do but `mount`, `bind`, `move`, `type` and `unshare`
+/// (`keeps_others_out`), so it holds of all sets that make none of these (`these`).
 pub fn sealed_sets_are_answered_as_alone()
     ensures alone { SetsAreAnsweredAsAlone }
     ensures runs { RunsEndAlike }
     ensures these { SetsOfTheseCallsAreAnsweredAsAlone }
     ensures after_lines { SealedSetsStandSo }
+    ensures kept_out { SetsThatKeepOthersOutAreAnsweredAsAlone }
 {}
 
 /// Every call of theirs but `mount`, `bind`, `move`, `type` and `unshare` gives others no foothold, granted or refused

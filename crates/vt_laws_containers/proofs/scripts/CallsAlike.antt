@@ -17,10 +17,10 @@ use Rattle.vt_laws_members_changes.specs.Changes.{IsCallOfTheirs}
 use Rattle.vt_laws_members_changes.proofs.looks.Told.{ran}
 use Rattle.vt_laws_members_changes.proofs.tasks.Denied.{run_by}
 use Rattle.vt_laws_members_calls.proofs.each_call.EachCall.{each_call_ends_alike}
-use Rattle.vt_laws_containers.specs.Calls.{AlwaysEndsAlike, CallsGiveNoFoothold, RunsEndAlike, SetsOfTheseCallsAreAnsweredAsAlone, TheseAlwaysEndAlike, keeps_others_out}
+use Rattle.vt_laws_containers.specs.Calls.{AlwaysEndsAlike, CallsGiveNoFoothold, RunsEndAlike, SetsOfTheseCallsAreAnsweredAsAlone, SetsThatKeepOthersOutAreAnsweredAsAlone, TheseAlwaysEndAlike, keeps_others_out}
 use Rattle.vt_laws_containers.specs.Footholds.{GivesNoFoothold}
 use Rattle.vt_laws_containers.specs.PermitFootholds.{is_of_detaching, is_of_files, is_of_removing, is_of_replacing, is_of_tasks}
-use Rattle.vt_laws_containers.specs.Scripts.{Along, Asked, EachEndsAlike, Stand, asked, next}
+use Rattle.vt_laws_containers.specs.Scripts.{Along, Asked, EachEndsAlike, EndsInThePart, Stand, asked, next}
 use Rattle.vt_laws_containers.proofs.footholds.RemovingPermits.{removing_gives_no_foothold}
 use Rattle.vt_laws_containers.proofs.footholds.ReplacedAsBefore.{replacing_gives_no_foothold}
 use Rattle.vt_laws_containers.proofs.footholds.TakingPermits.{detaching_gives_no_foothold}
@@ -183,3 +183,18 @@ sets_of_these_calls_are_answered_as_alone at grammar lines off stays full lone =
     sets_are_answered_as_alone at grammar lines off stays
     (runs_end_alike true at grammar lines (along_these true (map (asked grammar) lines) at full))
     (runs_end_alike false at grammar lines (along_these false (map (asked grammar) lines) at lone))
+
+-- every call of theirs ends alike, along each run
+all_in_part : (others : Bool) (calls : List Asked) (at : Stand) → Along EndsInThePart others at calls
+all_in_part others [] at = tt
+all_in_part others (None ∷ calls) at = (tt, all_in_part others calls (next others at None))
+all_in_part others (Some call ∷ calls) at = (
+  λ it serves. each_call_ends_alike at.world at.names call.0 call.1 it (numbers_for at.number) serves,
+  all_in_part others calls (next others at (Some call)),
+)
+
+pub sets_that_keep_others_out_are_answered_as_alone : SetsThatKeepOthersOutAreAnsweredAsAlone
+sets_that_keep_others_out_are_answered_as_alone at grammar lines off stays full lone =
+    sets_are_answered_as_alone at grammar lines off stays
+    (record { in_part = all_in_part true (map (asked grammar) lines) at; footholds = full })
+    (record { in_part = all_in_part false (map (asked grammar) lines) at; footholds = lone })
