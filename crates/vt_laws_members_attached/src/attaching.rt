@@ -11,7 +11,7 @@ ghost use Rattle.vt_laws_members_attached.specs.Attaching.{BindsEndAlike, MovesE
 /// (`EndsAlikeByOne`), of numbers that the world does not use, each another.
 ///
 /// Nothing goes after a `mount plain` (`mount_plain`) and a `bind` (`bind`). After a `move` (`move_mount`) what nothing
-/// uses any longer goes in both. Not proved yet of `mount overlay`.
+/// uses any longer goes in both. Of `mount overlay` see `vt_laws_members_new_overlays`.
 pub fn calls_of_theirs_that_attach_mounts_end_alike()
     ensures mount_plain { PlainMountsEndAlike }
     ensures bind { BindsEndAlike }

@@ -30,6 +30,7 @@ pub mod Sweep
 pub mod Sweeping
 pub mod SweptAlike
 pub mod SweptPart
+pub mod Taken
 pub mod Umounting
 pub mod UsedAlike
 pub mod WorldReady

@@ -18,8 +18,8 @@ ghost use Rattle.vt_laws_members_changes.specs.LettingGo.{ChdirsEndAlike, Chroot
 /// and the mounts over it are the same in both. Where the caller was the last task of the namespace that it leaves, that
 /// one ends in both, as after an `exit`.
 ///
-/// After each of these calls the set may see less, and need not be sealed off any more. Not proved yet of a `lazy` of a
-/// mount with children.
+/// After each of these calls the set may see less, and need not be sealed off any more. Of a `lazy` of a mount with
+/// children see `lazy_umounts_of_theirs_detach_alike` of `vt_laws_members_detached`.
 pub fn calls_of_theirs_that_let_locations_go_end_alike()
     ensures close { ClosesEndAlike }
     ensures chdir { ChdirsEndAlike }

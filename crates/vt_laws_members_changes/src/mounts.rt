@@ -7,8 +7,8 @@ ghost use Rattle.vt_laws_members_changes.specs.MountChanges.{RemountsEndAlike};
 /// are the parts of the worlds that are left, with the change numbers of tasks and namespaces. The numbers handed in do
 /// not matter.
 ///
-/// Of `umount` and `lazy` see `calls_of_theirs_that_let_locations_go_end_alike`. Not proved yet of the other calls that
-/// change mounts: new mounts, binds, moves, types, `unshare` and `pivot_root`.
+/// Of `umount` and `lazy` see `calls_of_theirs_that_let_locations_go_end_alike`. Of the other calls that change mounts see
+/// `vt_laws_members_attached`, `vt_laws_members_types`, `vt_laws_members_namespaces` and `vt_laws_members_new_overlays`.
 pub fn calls_of_theirs_that_change_mounts_end_alike()
     ensures remount { RemountsEndAlike }
 {}

@@ -29,7 +29,8 @@ pub fn calls_of_theirs_that_make_names_end_alike()
 /// The set uses the filesystem alone, for one in which others have a foothold is locked (L1). So each inode of it is
 /// used in both or in none, and what lost its last use goes in both.
 ///
-/// Not proved yet where mounts of theirs are taken away with a directory, and of filesystems that are overlays.
+/// Where mounts of theirs are taken away with a directory see `removals_of_theirs_detach_alike` of
+/// `vt_laws_members_detached`; of overlays see `vt_laws_members_names`.
 pub fn calls_of_theirs_that_take_names_end_alike()
     ensures unlink { UnlinksEndAlike }
     ensures rmdir { RmdirsEndAlike }

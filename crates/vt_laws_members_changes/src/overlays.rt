@@ -10,7 +10,7 @@ ghost use Rattle.vt_laws_members_changes.specs.OverlayEdits.{OverlayChmodsEndAli
 /// use, each another. The overlay and the filesystem of its upper layer are whole in the part. No inode loses a use, so
 /// nothing goes, in either world.
 ///
-/// Not proved yet of calls that make and take names through overlays.
+/// Of calls that make and take names through overlays see `vt_laws_members_names`.
 pub fn calls_of_theirs_that_edit_files_through_overlays_end_alike()
     ensures write { OverlayWritesEndAlike }
     ensures chmod { OverlayChmodsEndAlike }

@@ -29,12 +29,9 @@ filter_map_changed {A} f g h (x ∷ xs) same =
 abbrev pub lowers_in : Filesystem ℕ → List (Layer ℕ)
 lowers_in = of_overlay [] (λ (overlay : Overlay ℕ). overlay.lowers)
 
--- The filesystems that they use keep their numbers and layers, and no other changes.
+-- Filesystems that keep their numbers
 module _ (world : World ℕ) (names : List TaskName) (h : Filesystem ℕ → Filesystem ℕ)
-    (numbered : (x : Filesystem ℕ) → (h x).number ≡ x.number)
-    (changing : (x : Filesystem ℕ) → Among x world.filesystems → change_layers (h x) ≡ change_layers x)
-    (lowering : (x : Filesystem ℕ) → Among x world.filesystems → lowers_in (h x) ≡ lowers_in x)
-    (kept : (x : Filesystem ℕ) → is_among nat_eq x.number (used_filesystems nat_eq world names) ≡ false → h x ≡ x) where
+    (numbered : (x : Filesystem ℕ) → (h x).number ≡ x.number) where
   abbrev later : World ℕ
   later = with_filesystems world h
 
@@ -65,27 +62,50 @@ module _ (world : World ℕ) (names : List TaskName) (h : Filesystem ℕ → Fil
           by true e rest_same = same x (all x (inl refl)) e
           by false e rest_same = rest_same
 
-  unused_found : (k : ℕ) → is_among nat_eq k used ≡ false → filesystem_numbered nat_eq later k ≡ filesystem_numbered nat_eq world k
-  unused_found k e =
-      found (λ (f : Filesystem ℕ). f) k (λ x there m. kept x (ap (λ n. is_among nat_eq n used) (sym (eqb-true k x.number m)) ∙ e))
-
-  used_later : used_filesystems nat_eq later names ≡ used
-  used_later i =
+  -- with their layers, the same ones are used
+  pub used_later : ((x : Filesystem ℕ) → Among x world.filesystems → change_layers (h x) ≡ change_layers x)
+      → used_filesystems nat_eq later names ≡ used
+  used_later changing i =
       each_once nat_eq (used_directly nat_eq world names
       ++ flat_map (λ k. found change_layers k (λ x m e. changing x m) i) (used_directly nat_eq world names))
 
-  lowers_later : own_lowers nat_eq later names ≡ own_lowers nat_eq world names
-  lowers_later i = flat_map (λ k. found lowers_in k (λ x m e. lowering x m) i) (used_directly nat_eq world names)
+  pub lowers_later : ((x : Filesystem ℕ) → Among x world.filesystems → lowers_in (h x) ≡ lowers_in x)
+      → own_lowers nat_eq later names ≡ own_lowers nat_eq world names
+  lowers_later lowering i =
+      flat_map (λ k. found lowers_in k (λ x m e. lowering x m) i) (used_directly nat_eq world names)
+
+-- The filesystems that they use keep their numbers and layers, and no other changes.
+module _ (world : World ℕ) (names : List TaskName) (h : Filesystem ℕ → Filesystem ℕ)
+    (numbered : (x : Filesystem ℕ) → (h x).number ≡ x.number)
+    (changing : (x : Filesystem ℕ) → Among x world.filesystems → change_layers (h x) ≡ change_layers x)
+    (lowering : (x : Filesystem ℕ) → Among x world.filesystems → lowers_in (h x) ≡ lowers_in x)
+    (kept : (x : Filesystem ℕ) → is_among nat_eq x.number (used_filesystems nat_eq world names) ≡ false → h x ≡ x) where
+  abbrev now : World ℕ
+  now = with_filesystems world h
+
+  abbrev used_now : List ℕ
+  used_now = used_filesystems nat_eq world names
+
+  unused_found : (k : ℕ) → is_among nat_eq k used_now ≡ false → filesystem_numbered nat_eq now k ≡ filesystem_numbered nat_eq world k
+  unused_found k e =
+      found world names h numbered (λ (f : Filesystem ℕ). f) k
+      (λ x there m. kept x (ap (λ n. is_among nat_eq n used_now) (sym (eqb-true k x.number m)) ∙ e))
+
+  same_used : used_filesystems nat_eq now names ≡ used_now
+  same_used = used_later world names h numbered changing
+
+  same_lowers : own_lowers nat_eq now names ≡ own_lowers nat_eq world names
+  same_lowers = lowers_later world names h numbered lowering
 
   abbrev has_lower : ℕ → Bool
   has_lower number = list_any (λ (layer : Layer ℕ). nat_eq number layer.filesystem) (own_lowers nat_eq world names)
 
-  lower_later : (x : Filesystem ℕ) → is_among nat_eq x.number used ≡ false
-      → part_of_lower nat_eq later names x ≡ part_of_lower nat_eq world names x
+  lower_later : (x : Filesystem ℕ) → is_among nat_eq x.number used_now ≡ false
+      → part_of_lower nat_eq now names x ≡ part_of_lower nat_eq world names x
   lower_later x e i =
       record x {
         files = only_among nat_eq (filter (λ object. list_any (λ (layer : Layer ℕ).
-            of_number (unused_found x.number e i) object layer) (lowers_later i)) x.files.numbers) x.files;
+            of_number (unused_found x.number e i) object layer) (same_lowers i)) x.files.numbers) x.files;
         change = 0;
       }
     where
@@ -94,34 +114,34 @@ module _ (world : World ℕ) (names : List TaskName) (h : Filesystem ℕ → Fil
           nat_eq x.number layer.filesystem && is_under nat_eq f.files layer.directory object
 
   shown_later : (x : Filesystem ℕ)
-      → part_of_filesystem nat_eq later names (h x) ≡ option_map h (part_of_filesystem nat_eq world names x)
+      → part_of_filesystem nat_eq now names (h x) ≡ option_map h (part_of_filesystem nat_eq world names x)
   shown_later x =
       ap (λ u. cond (is_among nat_eq (h x).number u) (Some (h x))
-      (when (list_any (λ (layer : Layer ℕ). nat_eq (h x).number layer.filesystem) (own_lowers nat_eq later names))
-      (part_of_lower nat_eq later names (h x)))) used_later
-      ∙ ap (λ l. cond (is_among nat_eq (h x).number used) (Some (h x))
+      (when (list_any (λ (layer : Layer ℕ). nat_eq (h x).number layer.filesystem) (own_lowers nat_eq now names))
+      (part_of_lower nat_eq now names (h x)))) same_used
+      ∙ ap (λ l. cond (is_among nat_eq (h x).number used_now) (Some (h x))
       (when (list_any (λ (layer : Layer ℕ). nat_eq (h x).number layer.filesystem) l)
-      (part_of_lower nat_eq later names (h x)))) lowers_later
-      ∙ ap (λ n. cond (is_among nat_eq n used) (Some (h x)) (when (has_lower n) (part_of_lower nat_eq later names (h x))))
+      (part_of_lower nat_eq now names (h x)))) same_lowers
+      ∙ ap (λ n. cond (is_among nat_eq n used_now) (Some (h x)) (when (has_lower n) (part_of_lower nat_eq now names (h x))))
       (numbered x)
-      ∙ by (is_among nat_eq x.number used) refl
+      ∙ by (is_among nat_eq x.number used_now) refl
     where
-      low : is_among nat_eq x.number used ≡ false → (c : Bool)
-          → when c (part_of_lower nat_eq later names (h x)) ≡ option_map h (when c (part_of_lower nat_eq world names x))
+      low : is_among nat_eq x.number used_now ≡ false → (c : Bool)
+          → when c (part_of_lower nat_eq now names (h x)) ≡ option_map h (when c (part_of_lower nat_eq world names x))
       low e true =
-          ap Some (ap (part_of_lower nat_eq later names) (kept x e) ∙ lower_later x e
+          ap Some (ap (part_of_lower nat_eq now names) (kept x e) ∙ lower_later x e
           ∙ sym (kept (part_of_lower nat_eq world names x) e))
       low e false = refl
 
-      by : (b : Bool) → is_among nat_eq x.number used ≡ b
-          → cond b (Some (h x)) (when (has_lower x.number) (part_of_lower nat_eq later names (h x)))
+      by : (b : Bool) → is_among nat_eq x.number used_now ≡ b
+          → cond b (Some (h x)) (when (has_lower x.number) (part_of_lower nat_eq now names (h x)))
           ≡ option_map h (cond b (Some x) (when (has_lower x.number) (part_of_lower nat_eq world names x)))
       by true e = refl
       by false e = low e (has_lower x.number)
 
-  pub part_with_layers : part_of nat_eq later names ≡ with_filesystems (part_of nat_eq world names) h
+  pub part_with_layers : part_of nat_eq now names ≡ with_filesystems (part_of nat_eq world names) h
   part_with_layers i = record (part_of nat_eq world names) {
-    filesystems = filter_map_changed (part_of_filesystem nat_eq later names) (part_of_filesystem nat_eq world names) h
+    filesystems = filter_map_changed (part_of_filesystem nat_eq now names) (part_of_filesystem nat_eq world names) h
         world.filesystems shown_later i;
   }
 

@@ -157,7 +157,7 @@ module _ (world : World ℕ) (names : List TaskName) (is : IsWorld nat_eq world)
       (λ stub. inr (none_after z (ap (λ (q : Mount ℕ). q.namespace) (sym stub.0))))
       (kept_how world names old from.0 z from.2)
 
-  alone : (number : ℕ) → NoOthers living set number
+  pub alone : (number : ℕ) → NoOthers living set number
   alone number = record {
     mounts = λ y n e. let from = was y n in
         subst (λ (q : Mount ℕ). (is_own world names new q ≡ true) ⊎ (q.namespace ≡ None)) (sym from.2)

@@ -169,7 +169,7 @@ module _ (world : World ℕ) (names : List TaskName) (is : IsWorld nat_eq world)
     pub no_others : NoOthers living set number
     no_others = record { mounts = mounts_own; locations = locations_own }
 
-  alone : (number : ℕ) → used_alone nat_eq world names number ≡ true → Alone living set number
+  pub alone : (number : ℕ) → used_alone nat_eq world names number ≡ true → Alone living set number
   alone number h =
       let both = and_parts (no_outsider_on nat_eq world names number)
       (list_all (λ merged. not (has_layer_on nat_eq number merged) || no_outsider_on nat_eq world names merged.number)

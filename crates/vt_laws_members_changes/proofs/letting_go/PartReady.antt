@@ -163,8 +163,8 @@ module _ (world : World ℕ) (names : List TaskName) (is : IsWorld nat_eq world)
           let from = was y n in inl (owned_now y (whole_point from.0 y l from.1 from.2 e).1)
 
   -- all is theirs
-  alone : (number : ℕ) → NoOthers living set number
-  alone number = record {
+  pub no_others_there : (number : ℕ) → NoOthers living set number
+  no_others_there number = record {
     mounts = λ y n e. let from = was y n in
         ⊎_elim (λ own. inl (owned_now y own)) inr (part_mount world names is from.0 y from.1 from.2);
     locations = λ l m e. let t = among-from_flat_map locations_of tasks_too l m in
@@ -193,6 +193,9 @@ module _ (world : World ℕ) (names : List TaskName) (is : IsWorld nat_eq world)
     stood = stood_there;
     one_filesystem = numbers_in_part world names is;
     plain = plain_in_part world names is;
-    free = λ y m u. inl (record { itself = alone y.number; overlays = λ merged n has. alone merged.number });
+    free = λ y m u. inl (record {
+      itself = no_others_there y.number;
+      overlays = λ merged n has. no_others_there merged.number;
+    });
     cut = cut_in_part world names is set later later_part sees;
   }

@@ -3,7 +3,7 @@ use Rattle.std.proofs.Common.{◌≡◌, refl, sym, ap, subst, ◌∙◌, ℕ, n
 use Rattle.std.specs.List.{list_any}
 use Rattle.vt_spec.specs.Language.Calls.{TaskName}
 use Rattle.vt_spec.specs.Machine.Receives.{has_members, is_member_of}
-use Rattle.vt_spec.specs.Machine.Sealed.{is_own_mount, own_mounts, part_of}
+use Rattle.vt_spec.specs.Machine.Sealed.{is_own_mount, own_mounts, part_of, used_filesystems}
 use Rattle.vt_spec.specs.Machine.Settled.{settled, without_dead_filesystems, without_dead_groups, without_dead_in, without_dead_inodes, without_dead_mounts}
 use Rattle.vt_spec.specs.Machine.World.{Filesystem, Layer, World, is_overlay}
 use Rattle.vt_spec.proofs.Lists.{among-from_filter, any_among, any_from_among}
@@ -11,7 +11,7 @@ use Rattle.vt_laws_mounts.specs.Mounts.Invariants.{OneNumberEach}
 use Rattle.vt_laws_part.proofs.part.DeadMounts.{dead_mounts_are_in_no_part}
 use Rattle.vt_laws_members_changes.proofs.letting_go.Gone.{living_mounted, living_part, living_ready}
 use Rattle.vt_laws_members_changes.proofs.letting_go.Ready.{OverlaysMounted, Ready, part_numbers}
-use Rattle.vt_laws_members_changes.proofs.letting_go.SweptPart.{part_of_swept, swept_mounted, swept_part, swept_ready}
+use Rattle.vt_laws_members_changes.proofs.letting_go.SweptPart.{part_of_swept, swept_mounted, swept_part, swept_ready, used_swept}
 
 -- groups that end are not theirs
 groups_part : (b : World ℕ) (set : List TaskName)
@@ -81,6 +81,13 @@ module _ (v : World ℕ) (set : List TaskName) (used : List ℕ) (lowers : List 
       ≡ swept_part set is_plain (part_of nat_eq merged set)
   plain_part =
       part_of_swept merged set used lowers
+      (swept_ready left set used lowers left_ready one_left left_mounted is_overlay plains) one_merged
+      (swept_mounted left set used lowers left_ready one_left left_mounted is_overlay plains) is_plain
+
+  -- what they use stays
+  pub used_of_settled : used_filesystems nat_eq (settled nat_eq v) set ≡ used
+  used_of_settled =
+      used_swept merged set used lowers
       (swept_ready left set used lowers left_ready one_left left_mounted is_overlay plains) one_merged
       (swept_mounted left set used lowers left_ready one_left left_mounted is_overlay plains) is_plain
 

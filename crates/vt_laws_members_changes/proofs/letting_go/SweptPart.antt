@@ -96,7 +96,7 @@ layers_kept world true x = by (list_all (λ n. is_among nat_eq n (used_in nat_eq
     by true = refl
     by false = of x.overlay
 
-changes_kept : (world : World ℕ) (chosen : Bool) (x : Filesystem ℕ)
+pub changes_kept : (world : World ℕ) (chosen : Bool) (x : Filesystem ℕ)
     → change_layers (only_used nat_eq world chosen x) ≡ change_layers x
 changes_kept world false x = refl
 changes_kept world true x = by (list_all (λ n. is_among nat_eq n (used_in nat_eq world x)) x.files.numbers)
@@ -166,7 +166,7 @@ module _ (a : World ℕ) (set : List TaskName) (used_now : List ℕ) (lowers : L
   abbrev direct : List ℕ
   direct = used_directly nat_eq a set
 
-  used_swept : used_filesystems nat_eq swept set ≡ used_now
+  pub used_swept : used_filesystems nat_eq swept set ≡ used_now
   used_swept =
       ap (λ l. each_once nat_eq (direct ++ l))
       (flat_map_alike (λ n. change_layers (filesystem_numbered nat_eq swept n))

@@ -1,14 +1,13 @@
 -- Each umount(2) ends in the part as in the world.
-use Rattle.std.proofs.Common.{◌≡◌, refl, sym, ap, subst, ◌∙◌, ⊎_elim, ℕ, nat_eq, Bool, true, false, true≢false, List, [], ◌∷◌, Option, Some, None, Ok, Err, filter, is_some, map, not}
+use Rattle.std.proofs.Common.{◌≡◌, refl, sym, ap, subst, ◌∙◌, ⊎_elim, ℕ, nat_eq, Bool, true, false, true≢false, List, [], ◌∷◌, Option, Some, None, Ok, Err, is_some, not}
 use Rattle.std.specs.Prelude.{⊤, IfOk, is_ok}
-use Rattle.std.specs.List.{list_any}
 use Rattle.std.proofs.lemmas.Bool.{or_parts}
 use Rattle.vt_spec.specs.Errors.{Rules, unless}
 use Rattle.vt_spec.specs.Language.Answers.Answer.{Done}
 use Rattle.vt_spec.specs.Language.Calls.{Call, TaskName}
 use Rattle.vt_spec.specs.Language.Calls.Call.{Umount}
 use Rattle.vt_spec.specs.Lists.{Fresh, holds_of}
-use Rattle.vt_spec.specs.Machine.Detach.{after_going, going, has_child, is_going, taken_away, unmounted}
+use Rattle.vt_spec.specs.Machine.Detach.{going, has_child, is_going, taken_away, unmounted}
 use Rattle.vt_spec.specs.Machine.Invariants.{IsWorld, MountInvariants}
 use Rattle.vt_spec.specs.Machine.Judge.{Judgement, judge_in, umount_permit}
 use Rattle.vt_spec.specs.Machine.Mounts.{Location, Mount, stands_on}
@@ -16,15 +15,14 @@ use Rattle.vt_spec.specs.Machine.Outcomes.{Outcome, granted}
 use Rattle.vt_spec.specs.Machine.Permits.{Permit}
 use Rattle.vt_spec.specs.Machine.Permits.Permit.{ToUnmount}
 use Rattle.vt_spec.specs.Machine.Policy.{numbers_raised, policy}
-use Rattle.vt_spec.specs.Machine.Receives.{lost_a_group, regrouped_by}
 use Rattle.vt_spec.specs.Machine.Rules.Mounting.{admin_rules, umount_rules}
-use Rattle.vt_spec.specs.Machine.Sealed.{is_member_task, is_own_namespace, members, part_of, sealed}
+use Rattle.vt_spec.specs.Machine.Sealed.{is_own_namespace, members, part_of, sealed}
 use Rattle.vt_spec.specs.Machine.Settled.{settled}
 use Rattle.vt_spec.specs.Machine.Walking.{directory_walk}
-use Rattle.vt_spec.specs.Machine.World.{Namespace, Task, World, mount_at, mount_numbered, task_called}
-use Rattle.vt_spec.proofs.Lists.{Among, among-from_filter, among-from_filter_map, among_numbers, map_twice, none_among, none_from_among}
+use Rattle.vt_spec.specs.Machine.World.{Task, World, mount_at, mount_numbered, task_called}
+use Rattle.vt_spec.proofs.Lists.{Among, among-from_filter_map, among_numbers, none_among, none_from_among}
 use Rattle.vt_laws_mounts.proofs.ends.Ending.{unmount_keeps_mounts}
-use Rattle.vt_laws_part.proofs.part.PartOfPart.{is_own, keep, kept_how, same_members}
+use Rattle.vt_laws_part.proofs.part.PartOfPart.{is_own, keep, kept_how}
 use Rattle.vt_laws_members.specs.Judging.{is_theirs}
 use Rattle.vt_laws_members.proofs.judging.Busy.{going_alike, going_own}
 use Rattle.vt_laws_members.proofs.judging.Grounds.{IsTheirs, nowhere_stands, numbered, same_mount, theirs_from}
@@ -33,11 +31,9 @@ use Rattle.vt_laws_members_changes.specs.LettingGo.{UmountsEndAlike}
 use Rattle.vt_laws_members_changes.proofs.looks.Granted.{of_rules, of_walk}
 use Rattle.vt_laws_members_changes.proofs.looks.Told.{member_called, ran, same_caller}
 use Rattle.vt_laws_members_changes.proofs.tasks.Denied.{denial_ends_alike, run_by, same_judgement, unnamed_ends_alike}
-use Rattle.vt_laws_members_changes.proofs.letting_go.Detached.{detached_parts}
 use Rattle.vt_laws_members_changes.proofs.letting_go.Moving.{StandsHere, at_directory, one}
-use Rattle.vt_laws_members_changes.proofs.letting_go.NamespaceLess.{ended, ended_part, less_of_fewer}
 use Rattle.vt_laws_members_changes.proofs.letting_go.PartMounts.{part_mounts}
-use Rattle.vt_laws_members_changes.proofs.letting_go.Regrouped.{flags_same, regroup_is, regrouped_mount, regrouped_so}
+use Rattle.vt_laws_members_changes.proofs.letting_go.Taken.{taken_parts}
 
 -- What is granted has passed all rules.
 abbrev pub Passed : Rules → Type 0
@@ -49,29 +45,6 @@ pub of_passed : (P : Permit ℕ → Type 0) (rules : Rules) (r : Judgement ℕ) 
 of_passed P [] r next = next tt
 of_passed P ((true, rule) ∷ rules) r next = tt
 of_passed P ((false, rule) ∷ rules) r next = of_passed P rules r (λ passed. next (refl, passed))
-
--- all of a list pass
-filter_true : {A : Type 0} (xs : List A) → filter (λ (x : A). true) xs ≡ xs
-filter_true [] = refl
-filter_true (x ∷ xs) = ap (λ l. x ∷ l) (filter_true xs)
-
--- mounts of a world go
-module _ (w : World ℕ) (gone : List ℕ) where
-  abbrev left_by : World ℕ
-  left_by = record w { mounts = map (after_going nat_eq w gone) w.mounts }
-
-  taken_so : (b : Bool) → list_any (lost_a_group nat_eq left_by) left_by.mounts ≡ b
-      → taken_away nat_eq w gone ≡ record (regrouped_so b left_by) {
-        mounts = map (λ m. regrouped_mount b left_by (after_going nat_eq w gone m)) w.mounts;
-        namespaces = filter (λ (n : Namespace ℕ). true) w.namespaces;
-      }
-  taken_so b flag =
-      ap (λ c. regrouped_by nat_eq c left_by) flag
-      ∙ regroup_is b left_by
-      ∙ (λ i. record (regrouped_so b left_by) {
-        mounts = map_twice (regrouped_mount b left_by) (after_going nat_eq w gone) w.mounts i;
-        namespaces = sym (filter_true w.namespaces) i;
-      })
 
 -- What a granted umount takes away
 module _ (world : World ℕ) (names : List TaskName) (is : IsWorld nat_eq world)
@@ -108,62 +81,19 @@ module _ (world : World ℕ) (names : List TaskName) (is : IsWorld nat_eq world)
         (or_parts (has_child nat_eq world here.location.mount) _ passed.1.1.0).0,
       ))))
 
+-- what goes with a mount of theirs is theirs
 module _ (world : World ℕ) (names : List TaskName) (is : IsWorld nat_eq world)
-    (sealed_off : sealed nat_eq world names ≡ true) (name : TaskName) (mount : Mount ℕ)
-    (there : Among mount world.mounts) (own : is_own world names (members world names) mount ≡ true)
-    (kept_world : MountInvariants nat_eq (taken_away nat_eq world (going nat_eq world mount)))
-    (kept_part : MountInvariants nat_eq
-    (taken_away nat_eq (part_of nat_eq world names) (going nat_eq world mount))) where
-  abbrev part : World ℕ
-  part = part_of nat_eq world names
-
-  abbrev old : List (Task ℕ)
-  old = members world names
-
-  abbrev gone : List ℕ
-  gone = going nat_eq world mount
-
-  pub own_go : (m : Mount ℕ) → Among m world.mounts → is_going nat_eq gone m.number ≡ true
-      → is_own world names old m ≡ true
+    (sealed_off : sealed nat_eq world names ≡ true) (mount : Mount ℕ) (there : Among mount world.mounts)
+    (own : is_own world names (members world names) mount ≡ true) where
+  own_go : (m : Mount ℕ) → Among m world.mounts → is_going nat_eq (going nat_eq world mount) m.number ≡ true
+      → is_own world names (members world names) m ≡ true
   own_go m n h =
-      let its = going_own world names is sealed_off mount m.number there own (among_numbers gone m.number h) in
+      let its = going_own world names is sealed_off mount m.number there own
+      (among_numbers (going nat_eq world mount) m.number h) in
       let same : its.0 ≡ m =
       sym (numbered world names is.mounts its.0 its.1) ∙ ap (mount_numbered nat_eq world) its.3
       ∙ numbered world names is.mounts m n in
-      ap (is_own world names old) (sym same) ∙ its.2
-
-  abbrev flag : Bool
-  flag = list_any (lost_a_group nat_eq (record world { mounts = map (after_going nat_eq world gone) world.mounts }))
-      (map (after_going nat_eq world gone) world.mounts)
-
-  abbrev lasts : ℕ → Bool
-  lasts n = true
-
-  abbrev v : World ℕ
-  v = ended world names is sealed_off names gone own_go lasts world.tasks part.tasks world.change part.change
-      (same_members world names) (less_of_fewer world names is names world.tasks (λ t m. m)) flag
-
-  abbrev v_part : World ℕ
-  v_part = ended_part world names is sealed_off names gone own_go lasts world.tasks part.tasks world.change part.change
-      (same_members world names) (less_of_fewer world names is names world.tasks (λ t m. m)) flag
-
-  pub world_taken : taken_away nat_eq world gone ≡ v
-  world_taken = taken_so world gone flag refl
-
-  pub part_taken : taken_away nat_eq part gone ≡ v_part
-  part_taken =
-      taken_so part gone flag
-      (sym (flags_same world names is sealed_off gone own_go))
-
-  pub parts : part_of nat_eq (numbers_raised nat_eq world name [] (settled nat_eq (taken_away nat_eq world gone))) names
-      ≡ part_of nat_eq (numbers_raised nat_eq part name [] (settled nat_eq (taken_away nat_eq part gone))) names
-  parts =
-      ap (λ w. part_of nat_eq (numbers_raised nat_eq world name [] (settled nat_eq w)) names) world_taken
-      ∙ detached_parts world names is sealed_off names gone own_go lasts world.tasks part.tasks world.change part.change
-      (same_members world names) (less_of_fewer world names is names world.tasks (λ t m. m)) (λ l m. m)
-      (λ t m. (among-from_filter (is_member_task names) world.tasks t m).1) (λ m there out its. its) flag
-      (subst (MountInvariants nat_eq) world_taken kept_world) (subst (MountInvariants nat_eq) part_taken kept_part) name
-      ∙ sym (ap (λ w. part_of nat_eq (numbers_raised nat_eq part name [] (settled nat_eq w)) names) part_taken)
+      ap (is_own world names (members world names)) (sym same) ∙ its.2
 
 -- A call that detaches a mount of theirs without children
 module _ (world : World ℕ) (names : List TaskName) (name : TaskName) (call : Call)
@@ -256,7 +186,8 @@ module _ (world : World ℕ) (names : List TaskName) (name : TaskName) (call : C
       (settled nat_eq (taken_away nat_eq there (going nat_eq world mount_of)))))) (sym stays)
       (record {
         answer = refl;
-        part = parts world names it.is it.sealed_off name mount_of mount_there mount_own kept_world kept_part;
+        part = taken_parts world names it.is it.sealed_off (going nat_eq world mount_of)
+            (own_go world names it.is it.sealed_off mount_of mount_there mount_own) name kept_world kept_part;
       })))
 
 pub umounts_end_alike : UmountsEndAlike

@@ -1,4 +1,4 @@
--- On a plain filesystem that a set uses alone, only mounts of its own namespaces stand on directories.
+-- On filesystems that a set uses alone, only mounts of its own namespaces stand on directories.
 use Rattle.std.proofs.Common.{◌≡◌, refl, sym, ap, subst, ◌∙◌, ⊎_elim, ℕ, nat_eq, eqb-true, eq-eqb, Bool, true, false, true≢false, List, [], Option, Some, None, is_some, not, ◌&&◌}
 use Rattle.std.specs.List.{list_any}
 use Rattle.std.proofs.lemmas.Bool.{and_parts, not-true}
@@ -11,7 +11,7 @@ use Rattle.vt_spec.specs.Machine.Looks.{looks_of}
 use Rattle.vt_spec.specs.Machine.Mounts.{Location, Mount}
 use Rattle.vt_spec.specs.Machine.Rules.Conditions.{is_mount_point_anywhere, is_mount_point_in}
 use Rattle.vt_spec.specs.Machine.Sealed.{is_own_namespace, no_outsider_on, other_mounts, used_alone}
-use Rattle.vt_spec.specs.Machine.World.{Filesystem, Overlay, Task, World, filesystem_at, mount_at, mount_numbered}
+use Rattle.vt_spec.specs.Machine.World.{Overlay, Task, World, filesystem_at, mount_at, mount_numbered}
 use Rattle.vt_spec.proofs.Lists.{Among, among-filter, among-from_filter, among_from_all, any_among, any_from_among, none_from_among}
 use Rattle.vt_spec.proofs.Options.{none_is_some}
 use Rattle.vt_spec.proofs.Worlds.{found_or_none}
@@ -59,41 +59,45 @@ module _ (world : World ℕ) (names : List TaskName) (is : IsWorld nat_eq world)
           (eq-eqb number (mount_at nat_eq world point).filesystem (sym shows)))
           ∙ nobody))
 
-  -- so none stands there, if none of the caller's does, nor one of another namespace of theirs
-  module _ (task : Task ℕ) (directory : Location ℕ) (plain : (filesystem_at nat_eq world directory).overlay ≡ None)
-      (alone : used_alone nat_eq world names (filesystem_at nat_eq world directory).number ≡ true)
-      (in_own : is_mount_point_in nat_eq (looks_of nat_eq world) task.namespace directory ≡ false)
-      (elsewhere : mounted_elsewhere world names task (Some directory) ≡ false) where
-    abbrev there : Filesystem ℕ
-    there = filesystem_at nat_eq world directory
+  -- of a plain filesystem these are its own
+  pub plain_points : (directory : Location ℕ) → (filesystem_at nat_eq world directory).overlay ≡ None
+      → used_alone nat_eq world names (filesystem_at nat_eq world directory).number ≡ true → (point : ℕ × ℕ)
+      → Among point (points_of nat_eq world directory) → used_alone nat_eq world names point.0 ≡ true
+  plain_points directory plain alone point m =
+      ⊎_elim (λ same. ap (λ (p : ℕ × ℕ). used_alone nat_eq world names p.0) same ∙ alone)
+      (λ more. absurd (subst (λ o. Among point (overlay_or [] (λ (overlay : Overlay ℕ).
+      upper_points world (filesystem_at nat_eq world directory) overlay directory.node) o)) plain more)) m
 
-    only_point : (point : ℕ × ℕ) → Among point (points_of nat_eq world directory) → point.0 ≡ there.number
-    only_point point m =
-        ⊎_elim (λ same. ap (λ (p : ℕ × ℕ). p.0) same)
-        (λ more. absurd (subst (λ o. Among point (overlay_or [] (λ (overlay : Overlay ℕ).
-        upper_points world there overlay directory.node) o)) plain more)) m
-
-    own_here : (mount : Mount ℕ) → Among mount (mounts_on nat_eq world directory) → (n : ℕ) → mount.namespace ≡ Some n
+  -- what stands there is in a namespace of theirs, if in any
+  module _ (directory : Location ℕ) (alone : (point : ℕ × ℕ) → Among point (points_of nat_eq world directory)
+      → used_alone nat_eq world names point.0 ≡ true) where
+    pub own_here : (mount : Mount ℕ) → Among mount (mounts_on nat_eq world directory) → (n : ℕ) → mount.namespace ≡ Some n
         → is_own_namespace nat_eq world names n ≡ true
     own_here mount m n placed =
         let from = among-from_filter (λ (x : Mount ℕ). list_any (λ (point : ℕ × ℕ).
         is_point nat_eq world point.0 point.1 x) (points_of nat_eq world directory)) world.mounts mount m in
         let at = any_among (λ (point : ℕ × ℕ). is_point nat_eq world point.0 point.1 mount)
         (points_of nat_eq world directory) from.1 in
-        by from.0 at.0 (only_point at.0 at.1) mount.mount_point refl at.2
+        by from.0 at.0 (alone at.0 at.1) mount.mount_point refl at.2
       where
-        by : Among mount world.mounts → (at : ℕ × ℕ) → at.0 ≡ there.number → (o : Option (Location ℕ))
-            → mount.mount_point ≡ o
+        by : Among mount world.mounts → (at : ℕ × ℕ) → used_alone nat_eq world names at.0 ≡ true
+            → (o : Option (Location ℕ)) → mount.mount_point ≡ o
             → holds_of (λ (point : Location ℕ). nat_eq point.node at.1
             && nat_eq (mount_at nat_eq world point).filesystem at.0) o ≡ true
             → is_own_namespace nat_eq world names n ≡ true
-        by k at same None e h = absurd (true≢false (sym h))
-        by k at same (Some point) e h =
-            own_there there.number alone mount k point e
+        by k at theirs None e h = absurd (true≢false (sym h))
+        by k at theirs (Some point) e h =
+            own_there at.0 theirs mount k point e
             (eqb-true (mount_at nat_eq world point).filesystem at.0
-            (and_parts (nat_eq point.node at.1) (nat_eq (mount_at nat_eq world point).filesystem at.0) h).1 ∙ same)
+            (and_parts (nat_eq point.node at.1) (nat_eq (mount_at nat_eq world point).filesystem at.0) h).1)
             n placed
 
+  -- so none stands there, if none of the caller's does, nor one of another namespace of theirs
+  module _ (task : Task ℕ) (directory : Location ℕ)
+      (alone : (point : ℕ × ℕ) → Among point (points_of nat_eq world directory)
+      → used_alone nat_eq world names point.0 ≡ true)
+      (in_own : is_mount_point_in nat_eq (looks_of nat_eq world) task.namespace directory ≡ false)
+      (elsewhere : mounted_elsewhere world names task (Some directory) ≡ false) where
     pub none_anywhere : is_mount_point_anywhere (looks_of nat_eq world) directory ≡ false
     none_anywhere =
         none_from_among (λ (mount : Mount ℕ). is_some mount.namespace) (mounts_on nat_eq world directory)
@@ -109,7 +113,7 @@ module _ (world : World ℕ) (names : List TaskName) (is : IsWorld nat_eq world)
             absurd (true≢false
             (sym (any_from_among (stands_elsewhere world names task) (mounts_on nat_eq world directory) mount m
             (ap (holds_of (λ k. is_own_namespace nat_eq world names k && not (nat_eq task.namespace k))) placed
-            ∙ (λ i. own_here mount m n placed i && not (e i)))) ∙ elsewhere))
+            ∙ (λ i. own_here directory alone mount m n placed i && not (e i)))) ∙ elsewhere))
 
         by : (mount : Mount ℕ) → Among mount (mounts_on nat_eq world directory) → (o : Option ℕ) → mount.namespace ≡ o
             → is_some mount.namespace ≡ false

@@ -49,7 +49,7 @@ use Rattle.vt_laws_members_changes.specs.NameChanges.{RenamesEndAlike, RmdirsEnd
 use Rattle.vt_laws_members_changes.proofs.files.FilesEnding.{no_overlay}
 use Rattle.vt_laws_members_changes.proofs.files.OneFilesystem.{found_numbered}
 use Rattle.vt_laws_members_changes.proofs.looks.Told.{member_called}
-use Rattle.vt_laws_members_changes.proofs.names.Elsewhere.{none_anywhere}
+use Rattle.vt_laws_members_changes.proofs.names.Elsewhere.{none_anywhere, plain_points}
 use Rattle.vt_laws_members_changes.proofs.names.NamesEnding.{alike, naming_alone, naming_ends, unused_numbers, unused_serve}
 use Rattle.vt_laws_members_changes.proofs.names.GrantedNames.{Names}
 use Rattle.vt_laws_members_changes.proofs.names.NothingMounted.{none_taken, none_taken_in_part}
@@ -89,7 +89,7 @@ module _ (world : World ℕ) (names : List TaskName) (is : IsWorld nat_eq world)
       by None e = at.0
       by (Some object) e = at.1 object e
 
-  removed_free : (asked : Call) (permit : Permit ℕ)
+  pub removed_free : (asked : Call) (permit : Permit ℕ)
       → IsGranted nat_eq one (overfills nat_eq fresh world task) task asked permit
       → (parent : Location ℕ) (entry : List ℕ) (directory : Location ℕ)
       → permit ≡ ToRemoveDirectory parent entry directory → IsFree directory parent
@@ -114,7 +114,7 @@ module _ (world : World ℕ) (names : List TaskName) (is : IsWorld nat_eq world)
   on_mount mount replaced (Some n) f =
       ap (λ (l : Location ℕ). l.mount) (sym (same_Some (record { mount = mount; node = n }) replaced f))
 
-  replaced_free : (asked : Call) (permit : Permit ℕ)
+  pub replaced_free : (asked : Call) (permit : Permit ℕ)
       → IsGranted nat_eq one (overfills nat_eq fresh world task) task asked permit
       → (from : Location ℕ) (old : List ℕ) (to : Location ℕ) (new : List ℕ) (object replaced : Location ℕ)
       → permit ≡ ToRename from old to new object (Some replaced) → IsFree replaced from
@@ -166,11 +166,12 @@ module _ (world : World ℕ) (names : List TaskName) (name : TaskName) (call : C
   none : is_mount_point_anywhere (looks_of nat_eq world) gone ≡ false
   none =
       none_anywhere world names it.is task gone
+      (plain_points world names it.is gone
       (ap (λ (f : Filesystem ℕ). f.overlay) one_filesystem ∙ no_overlay (filesystem_at nat_eq world location).overlay plain)
       (ap (λ (f : Filesystem ℕ). used_alone nat_eq world names f.number) one_filesystem
       ∙ ap (used_alone nat_eq world names) (found_numbered (mount_at nat_eq world location).filesystem world.filesystems)
       ∙ naming_alone world names name call it fresh other (unused_numbers world) (unused_serve world) task found stays permit
-      judged_too location change asks names_it plain)
+      judged_too location change asks names_it plain))
       free.2 elsewhere
 
   run_without : (w : World ℕ) (supply : Fresh ℕ) → without_mounts_on nat_eq w gone ≡ w

@@ -40,14 +40,14 @@ module _ (world : World ℕ) (names : List TaskName) (name : TaskName) (call : C
   part = part_of nat_eq world names
 
   abbrev moved : Filesystem ℕ → Filesystem ℕ
-  moved = step fresh world names location change overlay upper it.is can copies direct alike
+  moved = step fresh world names location change overlay upper it.is can direct alike
 
   abbrev numbers : List ℕ
-  numbers = both_numbers fresh world names location change overlay upper it.is can copies direct alike
+  numbers = both_numbers fresh world names location change overlay upper it.is can direct alike
 
   -- with their change numbers raised
   abbrev both : Filesystem ℕ → Filesystem ℕ
-  both = moved_on fresh world names location change overlay upper it.is can copies direct alike
+  both = moved_on fresh world names location change overlay upper it.is can direct alike
 
   abbrev left : World ℕ → World ℕ
   left w = record w {
@@ -82,7 +82,7 @@ module _ (world : World ℕ) (names : List TaskName) (name : TaskName) (call : C
       ∙ ap (granted Done) (numbers_so w)
 
   part_of_left : (w : World ℕ)
-      → AreOnes fresh world names location change overlay upper it.is can copies direct alike w
+      → AreOnes fresh world names location change overlay upper it.is can direct alike w
       → ((x : Filesystem ℕ) → is_among nat_eq x.number (used_filesystems nat_eq w names) ≡ false → both x ≡ x)
       → part_of nat_eq (left w) names
       ≡ record (with_filesystems (part_of nat_eq w names) both) {
@@ -96,7 +96,7 @@ module _ (world : World ℕ) (names : List TaskName) (name : TaskName) (call : C
       (raised w.change)
       (λ t m. raised_is name locations_of (λ t. refl) t))
       ∙ ap (λ (v : World ℕ). record v { tasks = filter (is_member_task names) (map (raised_task name) w.tasks) })
-      (part_moved fresh world names location change overlay upper it.is can copies direct alike w ones unused)
+      (part_moved fresh world names location change overlay upper it.is can direct alike w ones unused)
     where
       later : World ℕ
       later = with_filesystems w both
@@ -115,11 +115,11 @@ module _ (world : World ℕ) (names : List TaskName) (name : TaskName) (call : C
 
   parts_alike : part_of nat_eq (left world) names ≡ part_of nat_eq (left part) names
   parts_alike =
-      part_of_left world (ones_in_world fresh world names location change overlay upper it.is can copies direct alike)
-      (kept_on fresh world names location change overlay upper it.is can copies direct alike)
+      part_of_left world (ones_in_world fresh world names location change overlay upper it.is can direct alike)
+      (kept_on fresh world names location change overlay upper it.is can direct alike)
       ∙ (λ i. record (with_filesystems (sym (part_again world names it.is) i) both) { tasks = tasks_alike i })
-      ∙ sym (part_of_left part (ones_in_part fresh world names location change overlay upper it.is can copies direct alike)
-      (λ x e. kept_on fresh world names location change overlay upper it.is can copies direct alike x (sym (ap (is_among nat_eq x.number) (same_used world names)) ∙ e)))
+      ∙ sym (part_of_left part (ones_in_part fresh world names location change overlay upper it.is can direct alike)
+      (λ x e. kept_on fresh world names location change overlay upper it.is can direct alike x (sym (ap (is_among nat_eq x.number) (same_used world names)) ∙ e)))
 
   pub copy_ends : ran name call world fresh (Some task)
       ≡ finished nat_eq world name call (changed_at nat_eq world location)
@@ -132,15 +132,15 @@ module _ (world : World ℕ) (names : List TaskName) (name : TaskName) (call : C
       let first : policy nat_eq fresh world name call ≡ granted Done (left world) =
       ap (ran name call world fresh) found ∙ runs
       ∙ ends_so world (all_in_use world it.is)
-      (changes_in_world fresh world names location change overlay upper it.is can copies direct alike)
-      (stepped_in_world fresh world names location change overlay upper it.is can copies direct alike)
-      (numbers_in_world fresh world names location change overlay upper it.is can copies direct alike) in
+      (changes_in_world fresh world names location change overlay upper it.is can direct alike copies)
+      (stepped_in_world fresh world names location change overlay upper it.is can direct alike)
+      (numbers_in_world fresh world names location change overlay upper it.is can direct alike) in
       let second : policy nat_eq fresh part name call ≡ granted Done (left part) =
       ap (ran name call part fresh) (same_caller world names it.is it.sealed_off name it.theirs ∙ found) ∙ runs_there
       ∙ ends_so part (part_in_use world names it.is it.sealed_off)
-      (changes_in_part fresh world names location change overlay upper it.is can copies direct alike)
-      (stepped_in_part fresh world names location change overlay upper it.is can copies direct alike)
-      (numbers_in_part fresh world names location change overlay upper it.is can copies direct alike) in
+      (changes_in_part fresh world names location change overlay upper it.is can direct alike copies)
+      (stepped_in_part fresh world names location change overlay upper it.is can direct alike copies)
+      (numbers_in_part fresh world names location change overlay upper it.is can direct alike) in
       subst (λ p. EndAlike (grown names name call (policy nat_eq fresh world name call).answer)
       (policy nat_eq fresh world name call) p) (sym second)
       (subst (λ o. EndAlike (grown names name call o.answer) o (granted Done (left part))) (sym first)

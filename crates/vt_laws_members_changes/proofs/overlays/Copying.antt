@@ -81,9 +81,30 @@ none_lost fresh world location change overlay upper is can copies = by change ca
     by (Move from old to new object) it none = absurd none
     by (SetMark directory opaque) it none = absurd none
 
+-- the filesystem of the upper layer of an overlay in use is used
+pub upper_in_use : (w : World ℕ) (names : List TaskName) (number : ℕ) (overlay : Overlay ℕ) (upper : Layer ℕ)
+    → (filesystem_numbered nat_eq w number).overlay ≡ Some overlay → overlay.upper ≡ Some upper
+    → Among number (used_directly nat_eq w names)
+    → is_among nat_eq upper.filesystem (used_filesystems nat_eq w names) ≡ true
+upper_in_use w names number overlay upper overlaid has direct =
+    is_among_numbers (used_filesystems nat_eq w names) upper.filesystem
+    (among-each_once (used_directly nat_eq w names
+    ++ flat_map (λ n. change_layers (filesystem_numbered nat_eq w n)) (used_directly nat_eq w names))
+    upper.filesystem
+    (among-append_right (used_directly nat_eq w names)
+    (flat_map (λ n. change_layers (filesystem_numbered nat_eq w n)) (used_directly nat_eq w names))
+    upper.filesystem
+    (among-flat_map (λ n. change_layers (filesystem_numbered nat_eq w n)) (used_directly nat_eq w names)
+    number upper.filesystem direct
+    (subst (λ o. Among upper.filesystem (overlay_or [] (λ (v : Overlay ℕ). map (λ (l : Layer ℕ). l.filesystem)
+    (option_to_list v.upper ++ option_to_list v.work)) o)) (sym overlaid)
+    (among-map (λ (l : Layer ℕ). l.filesystem) (option_to_list overlay.upper ++ option_to_list overlay.work) upper
+    (among-append_left (option_to_list overlay.upper) (option_to_list overlay.work) upper
+    (subst (λ o. Among upper (option_to_list o)) (sym has) (inl refl))))))))
+
 module _ (fresh : Fresh ℕ) (world : World ℕ) (names : List TaskName) (location : Location ℕ) (change : Change ℕ)
     (overlay : Overlay ℕ) (upper : Layer ℕ) (is : IsWorld nat_eq world)
-    (can : CanChange fresh world location change overlay upper) (copies : Copies change)
+    (can : CanChange fresh world location change overlay upper)
     (direct : Among (mount_at nat_eq world location).filesystem (used_directly nat_eq world names))
     (alike : filesystem_at nat_eq world location ≡ filesystem_at nat_eq (part_of nat_eq world names) location) where
   abbrev part : World ℕ
@@ -112,21 +133,7 @@ module _ (fresh : Fresh ℕ) (world : World ℕ) (names : List TaskName) (locati
   merged_used = used_directly_used world names number direct
 
   pub layer_used : is_among nat_eq upper.filesystem (used_filesystems nat_eq world names) ≡ true
-  layer_used =
-      is_among_numbers (used_filesystems nat_eq world names) upper.filesystem
-      (among-each_once (used_directly nat_eq world names
-      ++ flat_map (λ n. change_layers (filesystem_numbered nat_eq world n)) (used_directly nat_eq world names))
-      upper.filesystem
-      (among-append_right (used_directly nat_eq world names)
-      (flat_map (λ n. change_layers (filesystem_numbered nat_eq world n)) (used_directly nat_eq world names))
-      upper.filesystem
-      (among-flat_map (λ n. change_layers (filesystem_numbered nat_eq world n)) (used_directly nat_eq world names)
-      number upper.filesystem direct
-      (subst (λ o. Among upper.filesystem (overlay_or [] (λ (v : Overlay ℕ). map (λ (l : Layer ℕ). l.filesystem)
-      (option_to_list v.upper ++ option_to_list v.work)) o)) (sym can.overlay_there)
-      (among-map (λ (l : Layer ℕ). l.filesystem) (option_to_list overlay.upper ++ option_to_list overlay.work) upper
-      (among-append_left (option_to_list overlay.upper) (option_to_list overlay.work) upper
-      (subst (λ o. Among upper (option_to_list o)) (sym can.upper_there) (inl refl))))))))
+  layer_used = upper_in_use world names number overlay upper can.overlay_there can.upper_there direct
 
   -- each keeps its number
   renumbered : (new x : Filesystem ℕ) → (replaced_if_numbered nat_eq new x).number ≡ x.number
@@ -213,9 +220,9 @@ module _ (fresh : Fresh ℕ) (world : World ℕ) (names : List TaskName) (locati
       subst (λ f. Among f (with_filesystems w step).filesystems) (becomes fresh world location change overlay upper is can)
       (among-map step w.filesystems merged m)
 
-  changes_then : (last : World ℕ) → Among merged_later last.filesystems → (x : Filesystem ℕ) → Among x world.filesystems
-      → ChangesFilesystem last [] x (step x)
-  changes_then last m =
+  changes_then : Copies change → (last : World ℕ) → Among merged_later last.filesystems → (x : Filesystem ℕ)
+      → Among x world.filesystems → ChangesFilesystem last [] x (step x)
+  changes_then copies last m =
       among_from_all (λ x. ChangesFilesystem last [] x (step x)) world.filesystems
       (subst (λ l. All (λ x. ChangesFilesystem last l x (step x)) world.filesystems)
       (none_lost fresh world location change overlay upper is can copies)
@@ -224,16 +231,16 @@ module _ (fresh : Fresh ℕ) (world : World ℕ) (names : List TaskName) (locati
   there : Among merged world.filesystems
   there = merged_there fresh world location change overlay upper is can
 
-  pub changes_in_world : (x : Filesystem ℕ) → Among x world.filesystems
+  pub changes_in_world : Copies change → (x : Filesystem ℕ) → Among x world.filesystems
       → ChangesFilesystem (with_filesystems world step) [] x (step x)
-  changes_in_world = changes_then (with_filesystems world step) (is_later world there)
+  changes_in_world copies = changes_then copies (with_filesystems world step) (is_later world there)
 
-  pub changes_in_part : (x : Filesystem ℕ) → Among x part.filesystems
+  pub changes_in_part : Copies change → (x : Filesystem ℕ) → Among x part.filesystems
       → ChangesFilesystem (with_filesystems part step) [] x (step x)
-  changes_in_part x m =
+  changes_in_part copies x m =
       let from = among-from_filter_map (part_of_filesystem nat_eq world names) world.filesystems x m in
       ⊎_elim
-      (λ same. changes_then (with_filesystems part step)
+      (λ same. changes_then copies (with_filesystems part step)
       (is_later part (there_in_part world names is number merged_used there)) x
       (subst (λ f. Among f world.filesystems) same.0 from.1))
       (λ low. subst (ChangesFilesystem (with_filesystems part step) [] x)
@@ -246,7 +253,7 @@ module _ (fresh : Fresh ℕ) (world : World ℕ) (names : List TaskName) (locati
   pub stepped_in_world : with_change nat_eq fresh world location change ≡ with_filesystems world step
   stepped_in_world = is_swap fresh world location change overlay upper is can world refl refl
 
-  abbrev made_of : Stack ℕ → Filesystem ℕ → Merge ℕ
+  abbrev pub made_of : Stack ℕ → Filesystem ℕ → Merge ℕ
   made_of stack f =
       merge_changed nat_eq fresh stack (record { files = merged.files; real = overlay.real; upper = f.files }) change
 
@@ -261,17 +268,24 @@ module _ (fresh : Fresh ℕ) (world : World ℕ) (names : List TaskName) (locati
   layer_found : filesystem_numbered nat_eq part upper.filesystem ≡ layer
   layer_found = found world names upper.filesystem layer_used
 
-  pub stepped_in_part : with_change nat_eq fresh part location change ≡ with_filesystems part step
-  stepped_in_part =
+  -- so it is in the part, if it makes the same there
+  pub stepped_if_made : made_of (stack_of nat_eq part overlay upper) layer
+      ≡ made_of (stack_of nat_eq world overlay upper) layer
+      → with_change nat_eq fresh part location change ≡ with_filesystems part step
+  stepped_if_made same =
       ap (λ f. filesystem_changed nat_eq fresh part f f.overlay change) (sym alike)
       ∙ ap (λ o. filesystem_changed nat_eq fresh part merged o change) can.overlay_there
       ∙ ap (λ u. overlay_changed nat_eq fresh part merged overlay u change) can.upper_there
       ∙ ap (λ f. record part { filesystems = made_by f (made_of (stack_of nat_eq part overlay upper) f) }) layer_found
-      ∙ ap (λ merge. record part { filesystems = made_by layer merge })
-      (by_no_layer fresh (stack_of nat_eq part overlay upper) (stack_of nat_eq world overlay upper)
-      (record { files = merged.files; real = overlay.real; upper = layer.files }) change copies)
+      ∙ ap (λ merge. record part { filesystems = made_by layer merge }) same
       ∙ ap (λ list. record part { filesystems = list })
       (map_twice (replaced_if_numbered nat_eq layer_later) (replaced_if_numbered nat_eq merged_later) part.filesystems)
+
+  pub stepped_in_part : Copies change → with_change nat_eq fresh part location change ≡ with_filesystems part step
+  stepped_in_part copies =
+      stepped_if_made
+      (by_no_layer fresh (stack_of nat_eq part overlay upper) (stack_of nat_eq world overlay upper)
+      (record { files = merged.files; real = overlay.real; upper = layer.files }) change copies)
 
   abbrev pub both_numbers : List ℕ
   both_numbers = merged.number ∷ layer.number ∷ []

@@ -40,7 +40,24 @@ use Rattle.vt_laws_members_changes.proofs.tasks.Denied.{run_by, same_judgement}
 use Rattle.vt_laws_members_changes.proofs.tasks.Ending.{with_tasks}
 use Rattle.vt_laws_members_changes.proofs.tasks.Rights.{idle_end_alike}
 
--- Without an upper layer nothing is changed, with one the file is copied up.
+-- without an upper layer nothing is changed
+pub unwritten_run : (w : World ℕ) (name : TaskName) (call : Call) (supply : Fresh ℕ) (location : Location ℕ)
+    (change : Change ℕ) (merged : Filesystem ℕ) (overlay : Overlay ℕ) → only_looks call ≡ false
+    → filesystem_at nat_eq w location ≡ merged → merged.overlay ≡ Some overlay → overlay.upper ≡ None
+    → finished nat_eq w name call (changed_at nat_eq w location)
+    (granted Done (with_change nat_eq supply w location change))
+    ≡ with_tasks w name Done w.tasks
+unwritten_run w name call supply location change merged overlay looks same overlaid none =
+    ap (λ b. finished_by nat_eq (b || false) w name (changed_at nat_eq w location)
+    (granted Done (with_change nat_eq supply w location change))) looks
+    ∙ ap (λ f. granted Done (numbers_raised nat_eq w name (numbers_of_change nat_eq w f f.overlay)
+    (settled nat_eq (filesystem_changed nat_eq supply w f f.overlay change)))) same
+    ∙ ap (λ o. granted Done (numbers_raised nat_eq w name (numbers_of_change nat_eq w merged o)
+    (settled nat_eq (filesystem_changed nat_eq supply w merged o change)))) overlaid
+    ∙ ap (λ u. granted Done (numbers_raised nat_eq w name (numbers_over nat_eq w merged u)
+    (settled nat_eq (overlay_changed nat_eq supply w merged overlay u change)))) none
+
+-- With one the file is copied up.
 module _ (world : World ℕ) (names : List TaskName) (name : TaskName) (call : Call) (it : IsCallOfTheirs world names name call)
     (fresh : Fresh ℕ) (task : Task ℕ) (found_task : task_called world name ≡ Some task) (looks : only_looks call ≡ false)
     (stays : grown names name call (Ok Done) ≡ names) (location : Location ℕ) (change : Change ℕ) (copies : Copies change)
@@ -55,20 +72,6 @@ module _ (world : World ℕ) (names : List TaskName) (name : TaskName) (call : C
   abbrev merged : Filesystem ℕ
   merged = filesystem_at nat_eq world location
 
-  idle_run : (w : World ℕ) (overlay : Overlay ℕ) → filesystem_at nat_eq w location ≡ merged
-      → merged.overlay ≡ Some overlay → overlay.upper ≡ None
-      → finished nat_eq w name call (changed_at nat_eq w location) (granted Done (with_change nat_eq fresh w location change))
-      ≡ with_tasks w name Done w.tasks
-  idle_run w overlay same overlaid none =
-      ap (λ b. finished_by nat_eq (b || false) w name (changed_at nat_eq w location)
-      (granted Done (with_change nat_eq fresh w location change))) looks
-      ∙ ap (λ f. granted Done (numbers_raised nat_eq w name (numbers_of_change nat_eq w f f.overlay)
-      (settled nat_eq (filesystem_changed nat_eq fresh w f f.overlay change)))) same
-      ∙ ap (λ o. granted Done (numbers_raised nat_eq w name (numbers_of_change nat_eq w merged o)
-      (settled nat_eq (filesystem_changed nat_eq fresh w merged o change)))) overlaid
-      ∙ ap (λ u. granted Done (numbers_raised nat_eq w name (numbers_over nat_eq w merged u)
-      (settled nat_eq (overlay_changed nat_eq fresh w merged overlay u change)))) none
-
   pub through_ends : ran name call world fresh (Some task)
       ≡ finished nat_eq world name call (changed_at nat_eq world location)
       (granted Done (with_change nat_eq fresh world location change))
@@ -82,7 +85,8 @@ module _ (world : World ℕ) (names : List TaskName) (name : TaskName) (call : C
           → EndsAlike world names name call fresh fresh
       layered overlay overlaid None none =
           idle_end_alike world names name call it task found_task fresh fresh Done stays
-          (one ∙ idle_run world overlay refl overlaid none) (two ∙ idle_run part overlay (sym alike) overlaid none)
+          (one ∙ unwritten_run world name call fresh location change merged overlay looks refl overlaid none)
+          (two ∙ unwritten_run part name call fresh location change merged overlay looks (sym alike) overlaid none)
       layered overlay overlaid (Some upper) has =
           copy_ends world names name call it fresh task found_task looks stays location change overlay upper
           (can overlay upper overlaid has) copies direct alike one two

@@ -82,10 +82,10 @@ module _ (world : World ℕ) (names : List TaskName) (name : TaskName) (path : L
   alike = filesystem_alike world names it.is file ground
 
   abbrev moved : Filesystem ℕ → Filesystem ℕ
-  moved = step fresh world names file (CopyUp file.node) overlay upper it.is can tt direct alike
+  moved = step fresh world names file (CopyUp file.node) overlay upper it.is can direct alike
 
   abbrev numbers : List ℕ
-  numbers = both_numbers fresh world names file (CopyUp file.node) overlay upper it.is can tt direct alike
+  numbers = both_numbers fresh world names file (CopyUp file.node) overlay upper it.is can direct alike
 
   -- the copy is made, and the file opened
   run_opened : (w : World ℕ) → is_copied_up nat_eq w file wanted ≡ true
@@ -115,28 +115,28 @@ module _ (world : World ℕ) (names : List TaskName) (name : TaskName) (path : L
       opened_ends world names name path access how it fresh task called file ground wanted moved numbers
       (record {
         in_use = in_use_stepped world (all_in_use world it.is) moved
-            (changes_in_world fresh world names file (CopyUp file.node) overlay upper it.is can tt direct alike);
-        part_moved = part_moved fresh world names file (CopyUp file.node) overlay upper it.is can tt direct alike world
-            (ones_in_world fresh world names file (CopyUp file.node) overlay upper it.is can tt direct alike)
-            (kept_on fresh world names file (CopyUp file.node) overlay upper it.is can tt direct alike);
+            (changes_in_world fresh world names file (CopyUp file.node) overlay upper it.is can direct alike tt);
+        part_moved = part_moved fresh world names file (CopyUp file.node) overlay upper it.is can direct alike world
+            (ones_in_world fresh world names file (CopyUp file.node) overlay upper it.is can direct alike)
+            (kept_on fresh world names file (CopyUp file.node) overlay upper it.is can direct alike);
       })
       (record {
         in_use = in_use_stepped part (part_in_use world names it.is it.sealed_off) moved
-            (changes_in_part fresh world names file (CopyUp file.node) overlay upper it.is can tt direct alike);
-        part_moved = part_moved fresh world names file (CopyUp file.node) overlay upper it.is can tt direct alike part
-            (ones_in_part fresh world names file (CopyUp file.node) overlay upper it.is can tt direct alike)
-            (λ x e. kept_on fresh world names file (CopyUp file.node) overlay upper it.is can tt direct alike x
+            (changes_in_part fresh world names file (CopyUp file.node) overlay upper it.is can direct alike tt);
+        part_moved = part_moved fresh world names file (CopyUp file.node) overlay upper it.is can direct alike part
+            (ones_in_part fresh world names file (CopyUp file.node) overlay upper it.is can direct alike)
+            (λ x e. kept_on fresh world names file (CopyUp file.node) overlay upper it.is can direct alike x
             (sym (ap (is_among nat_eq x.number) (same_used world names)) ∙ e));
       })
       (ap (run_by world names name call it fresh fresh world fresh task) given
       ∙ run_opened world copied
-      (stepped_in_world fresh world names file (CopyUp file.node) overlay upper it.is can tt direct alike)
-      (numbers_in_world fresh world names file (CopyUp file.node) overlay upper it.is can tt direct alike))
+      (stepped_in_world fresh world names file (CopyUp file.node) overlay upper it.is can direct alike)
+      (numbers_in_world fresh world names file (CopyUp file.node) overlay upper it.is can direct alike))
       (ap (run_by world names name call it fresh fresh part fresh task)
       (sym (same_judgement world names name call it fresh fresh task called) ∙ given)
       ∙ run_opened part copied_in_part
-      (stepped_in_part fresh world names file (CopyUp file.node) overlay upper it.is can tt direct alike)
-      (numbers_in_part fresh world names file (CopyUp file.node) overlay upper it.is can tt direct alike))
+      (stepped_in_part fresh world names file (CopyUp file.node) overlay upper it.is can direct alike tt)
+      (numbers_in_part fresh world names file (CopyUp file.node) overlay upper it.is can direct alike))
 
 pub overlay_opens_end_alike : OverlayOpensEndAlike
 overlay_opens_end_alike world names name path access how it task called fresh serves file wanted given copied =

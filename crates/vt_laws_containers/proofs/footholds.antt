@@ -1,0 +1,11 @@
+-- What the proofs of src/footholds.rt use.
+pub mod AsBefore
+pub mod EndsAsBefore
+pub mod FilesGoOn
+pub mod Granting
+pub mod Mirror
+pub mod ReplacedAsBefore
+pub mod TakenAsBefore
+pub mod TakingPermits
+pub mod TasksAsBefore
+pub mod TasksPermits

@@ -1,0 +1,271 @@
+-- After the sweep, and with change numbers raised, others are as they were before these.
+use Rattle.std.proofs.Common.{◌≡◌, refl, sym, ap, subst, ◌∙◌, inl, inr, ⊎_elim, ℕ, nat_eq, Bool, true, false, cond, true≢false, List, [], ◌∷◌, ◌++◌, Option, Some, None, filter, find, flat_map, is_some, map, not, ◌||◌, eq-eqb, eqb-true}
+use Rattle.std.specs.Prelude.{option_map, unwrap_or}
+use Rattle.std.specs.List.{list_all, list_any}
+use Rattle.std.proofs.lemmas.Bool.{not-true, or_right}
+use Rattle.vt_spec.specs.Language.Calls.{TaskName, same_name}
+use Rattle.vt_spec.specs.Lists.{holds_of, is_among}
+use Rattle.vt_spec.specs.Machine.Filesystems.{raised, raised_if_changed}
+use Rattle.vt_spec.specs.Machine.Mounts.{Location, Mount, no_mount}
+use Rattle.vt_spec.specs.Machine.Policy.{numbers_raised, raised_task}
+use Rattle.vt_spec.specs.Machine.Sealed.{is_member_task, is_own_mount, is_own_namespace, locations, members, other_mounts, outsiders, own_mounts, share_events, used_directly}
+use Rattle.vt_spec.specs.Machine.Settled.{filesystem_lives, is_located, mount_lives, only_used, only_used_by, real_among, settled, used_in, without_dead_filesystems, without_dead_in, without_dead_mounts}
+use Rattle.vt_spec.specs.Machine.World.{Filesystem, Overlay, Task, World, all_locations, is_overlay, locations_of, mount_at}
+use Rattle.vt_spec.proofs.Lists.{Among, among-append, among-append_left, among-append_right, among-flat_map, among-from_filter, among-from_flat_map, among-from_map, among-map, any_from_among}
+use Rattle.vt_spec.proofs.Worlds.{same_task_name}
+use Rattle.vt_laws_letting_go.proofs.Lists.{filter-map, filter_less}
+use Rattle.vt_laws_sealed.proofs.outsiders.InodesSwept.{cut_number}
+use Rattle.vt_laws_sealed.proofs.outsiders.OthersSwept.{others_swept}
+use Rattle.vt_laws_sealed.proofs.outsiders.Staying.{OthersStayOut}
+use Rattle.vt_laws_members_changes.proofs.letting_go.Ends.{raised_is, raised_members}
+use Rattle.vt_laws_members_changes.proofs.tasks.Rights.{any_mapped}
+use Rattle.vt_laws_containers.proofs.footholds.AsBefore.{GoesOn, OthersAsBefore, changes_alike, layered_as, without_real}
+
+-- what is in the place of one that goes on goes on
+pub going_on : (world : World ℕ) (names : List TaskName) (one other : Filesystem ℕ) → other.number ≡ one.number
+    → layered_as other ≡ layered_as one → GoesOn world names one → GoesOn world names other
+going_on world names one other number layered goes =
+    ⊎_elim (λ old. inl (old.0, old.1, old.2 ∙ sym number, layered ∙ old.3))
+    (λ new. inr (
+      λ there. new.0 (there.0, there.1, there.2 ∙ number),
+      λ n m. new.1 n (subst (Among n) (changes_alike other one layered) m),
+    ))
+    goes
+
+-- The sweep
+module _ (world left : World ℕ) (names set : List TaskName) (others : OthersAsBefore world left names set) where
+  abbrev last : World ℕ
+  last = settled nat_eq left
+
+  abbrev own_by : ℕ → Bool
+  own_by namespace = is_own_namespace nat_eq left set namespace
+
+  owns_stay : own_mounts nat_eq last set ≡ own_mounts nat_eq left set
+  owns_stay =
+      filter_less (is_own_mount nat_eq left set) (mount_lives nat_eq left) left.mounts
+      (λ mount m dead. by mount.namespace (is_located nat_eq left mount.number) dead)
+    where
+      by : (o : Option ℕ) (located : Bool) → (is_some o || located) ≡ false → holds_of own_by o ≡ false
+      by None located dead = refl
+      by (Some n) located dead = absurd (true≢false dead)
+
+  others_stay : other_mounts nat_eq last set ≡ other_mounts nat_eq left set
+  others_stay =
+      filter_less (λ (mount : Mount ℕ). holds_of (λ n. not (own_by n)) mount.namespace) (mount_lives nat_eq left)
+      left.mounts (λ mount m dead. by mount.namespace (is_located nat_eq left mount.number) dead)
+    where
+      by : (o : Option ℕ) (located : Bool) → (is_some o || located) ≡ false → holds_of (λ n. not (own_by n)) o ≡ false
+      by None located dead = refl
+      by (Some n) located dead = absurd (true≢false dead)
+
+  -- a mount with a location on it lives
+  found_living : (location : Location ℕ) → Among location (all_locations left)
+      → mount_at nat_eq last location ≡ mount_at nat_eq left location
+  found_living location m = ap (λ o. unwrap_or o (no_mount location.mount)) (search left.mounts)
+    where
+      located : (mount : Mount ℕ) → nat_eq location.mount mount.number ≡ true → mount_lives nat_eq left mount ≡ true
+      located mount e =
+          or_right (is_some mount.namespace) _
+          (any_from_among (λ (l : Location ℕ). nat_eq mount.number l.mount) (all_locations left) location m
+          (eq-eqb mount.number location.mount (sym (eqb-true location.mount mount.number e))))
+
+      search : (list : List (Mount ℕ))
+          → find (λ (x : Mount ℕ). nat_eq location.mount x.number) (filter (mount_lives nat_eq left) list)
+          ≡ find (λ (x : Mount ℕ). nat_eq location.mount x.number) list
+      search [] = refl
+      search (x ∷ rest) = by (mount_lives nat_eq left x) refl (nat_eq location.mount x.number) refl (search rest)
+        where
+          by : (a : Bool) → mount_lives nat_eq left x ≡ a → (b : Bool) → nat_eq location.mount x.number ≡ b
+              → find (λ (y : Mount ℕ). nat_eq location.mount y.number) (filter (mount_lives nat_eq left) rest)
+              ≡ find (λ (y : Mount ℕ). nat_eq location.mount y.number) rest
+              → find (λ (y : Mount ℕ). nat_eq location.mount y.number)
+              (cond a (x ∷ filter (mount_lives nat_eq left) rest) (filter (mount_lives nat_eq left) rest))
+              ≡ cond b (Some x) (find (λ (y : Mount ℕ). nat_eq location.mount y.number) rest)
+          by true g b h later =
+              ap (λ c. cond c (Some x) (find (λ (y : Mount ℕ). nat_eq location.mount y.number)
+              (filter (mount_lives nat_eq left) rest))) h
+              ∙ ap (cond b (Some x)) later
+          by false g true h later = absurd (true≢false (sym (located x h) ∙ g))
+          by false g false h later = later
+
+  placed : (test : Task ℕ → Bool) (location : Location ℕ) → Among location (locations (filter test left.tasks))
+      → Among location (all_locations left)
+  placed test location m =
+      let of = among-from_flat_map locations_of (filter test left.tasks) location m in
+      among-flat_map locations_of left.tasks of.0 location (among-from_filter test left.tasks of.0 of.1).0 of.2
+
+  -- a filesystem that is left is an overlay over the layers that it had
+  cut_layered : (w : World ℕ) (b : Bool) (f : Filesystem ℕ) → layered_as (only_used nat_eq w b f) ≡ layered_as f
+  cut_layered w true f = by (list_all (λ number. is_among nat_eq number (used_in nat_eq w f)) f.files.numbers)
+    where
+      cut : (o : Option (Overlay ℕ))
+          → option_map without_real (option_map (real_among nat_eq (used_in nat_eq w f)) o) ≡ option_map without_real o
+      cut None = refl
+      cut (Some overlay) = refl
+
+      by : (all : Bool) → layered_as (only_used_by nat_eq all (used_in nat_eq w f) f) ≡ layered_as f
+      by true = refl
+      by false = cut f.overlay
+  cut_layered w false f = refl
+
+  left_from : (f : Filesystem ℕ) → Among f last.filesystems
+      → (was : Filesystem ℕ) × Among was left.filesystems × (f.number ≡ was.number) × (layered_as f ≡ layered_as was)
+  left_from f m =
+      let second = among-from_map (λ x. only_used nat_eq first (not (is_overlay x)) x) first.filesystems f m in
+      let one = among-from_map (λ x. only_used nat_eq living (is_overlay x) x) living.filesystems second.0 second.1 in
+      let alive = among-from_filter (filesystem_lives nat_eq (without_dead_mounts nat_eq left)) left.filesystems one.0
+      one.1 in (
+        one.0,
+        alive.0,
+        ap (λ (x : Filesystem ℕ). x.number) second.2 ∙ cut_number first (not (is_overlay second.0)) second.0
+            ∙ ap (λ (x : Filesystem ℕ). x.number) one.2 ∙ cut_number living (is_overlay one.0) one.0,
+        ap layered_as second.2 ∙ cut_layered first (not (is_overlay second.0)) second.0
+            ∙ ap layered_as one.2 ∙ cut_layered living (is_overlay one.0) one.0,
+      )
+    where
+      living : World ℕ
+      living = without_dead_filesystems nat_eq (without_dead_mounts nat_eq left)
+
+      first : World ℕ
+      first = without_dead_in nat_eq is_overlay living
+
+  out_now : OthersStayOut left left set
+  out_now = record {
+    tasks = others.tasks;
+    events = others.events;
+    locations = others.places;
+    free = λ number of alone. alone;
+  }
+
+  direct_was : (number : ℕ) → Among number (used_directly nat_eq last set) → Among number (used_directly nat_eq left set)
+  direct_was number m =
+      ⊎_elim
+      (λ shown. among-append_left mounted located number
+      (subst (λ list. Among number (map (λ (x : Mount ℕ). x.filesystem) list)) owns_stay shown))
+      (λ at. let l = among-from_map (λ (l : Location ℕ). (mount_at nat_eq last l).filesystem)
+      (locations (members left set)) number at in
+      among-append_right mounted located number
+      (subst (λ n. Among n located)
+      (sym (l.2 ∙ ap (λ (x : Mount ℕ). x.filesystem) (found_living l.0 (placed (is_member_task set) l.0 l.1))))
+      (among-map (λ (l : Location ℕ). (mount_at nat_eq left l).filesystem) (locations (members left set)) l.0 l.1)))
+      (among-append (map (λ (x : Mount ℕ). x.filesystem) (own_mounts nat_eq last set))
+      (map (λ (l : Location ℕ). (mount_at nat_eq last l).filesystem) (locations (members left set))) number m)
+    where
+      mounted : List ℕ
+      mounted = map (λ (x : Mount ℕ). x.filesystem) (own_mounts nat_eq left set)
+
+      located : List ℕ
+      located = map (λ (l : Location ℕ). (mount_at nat_eq left l).filesystem) (locations (members left set))
+
+  pub swept_as_before : OthersAsBefore world last names set
+  swept_as_before =
+      let out = others_swept left left set out_now in
+      record {
+        others = others.others;
+        mounts = others_stay ∙ others.mounts;
+        shown = λ location m.
+            ap (λ (x : Mount ℕ). x.filesystem)
+            (found_living location (placed (λ (t : Task ℕ). not (is_member_task set t)) location
+            (subst (λ tasks. Among location (locations tasks)) (sym others.others) m)))
+            ∙ others.shown location m;
+        tasks = out.tasks;
+        events = out.events;
+        places = out.locations;
+        filesystems = λ f m.
+            let was = left_from f m in
+            going_on world names was.0 f was.2 was.3 (others.filesystems was.0 was.1);
+        direct = λ number m. others.direct number (direct_was number m);
+      }
+
+-- Change numbers
+module _ (world left : World ℕ) (names set : List TaskName) (others : OthersAsBefore world left names set)
+    (before : World ℕ) (name : TaskName) (changed : List ℕ) (theirs : is_among same_name name names ≡ true) where
+  abbrev raised_left : World ℕ
+  raised_left = numbers_raised nat_eq before name changed left
+
+  abbrev raise : Task ℕ → Task ℕ
+  raise = raised_task name
+
+  own_same : (n : ℕ) → is_own_namespace nat_eq raised_left set n ≡ is_own_namespace nat_eq left set n
+  own_same n =
+      ap (list_any (λ (t : Task ℕ). nat_eq n t.namespace)) (raised_members set name left.tasks)
+      ∙ any_mapped (λ (t : Task ℕ). nat_eq n t.namespace) (λ (t : Task ℕ). nat_eq n t.namespace) raise
+      (members left set) (λ t m. ap (nat_eq n) (raised_is name (λ (x : Task ℕ). x.namespace) (λ x. refl) t))
+
+  -- the caller is none of the others
+  unraised : (t : Task ℕ) → Among t (outsiders left set) → raise t ≡ t
+  unraised t m = by (same_name name t.name) refl
+    where
+      by : (b : Bool) → same_name name t.name ≡ b → cond b (record t { change = raised t.change }) t ≡ t
+      by true e =
+          absurd (true≢false
+          (sym (ap (λ n. is_among same_name n names) (sym (same_task_name name t.name e)) ∙ theirs)
+          ∙ outside))
+        where
+          outside : is_member_task names t ≡ false
+          outside =
+              not-true (is_member_task names t)
+              (among-from_filter (λ (x : Task ℕ). not (is_member_task names x)) world.tasks t
+              (subst (Among t) others.others m)).1
+      by false e = refl
+
+  map_same : (f : Task ℕ → Task ℕ) (list : List (Task ℕ)) → ((t : Task ℕ) → Among t list → f t ≡ t)
+      → map f list ≡ list
+  map_same f [] same = refl
+  map_same f (t ∷ rest) same =
+      ap (λ x. x ∷ map f rest) (same t (inl refl)) ∙ ap (λ l. t ∷ l) (map_same f rest (λ x m. same x (inr m)))
+
+  outsiders_same : outsiders raised_left set ≡ outsiders left set
+  outsiders_same =
+      filter-map (λ (t : Task ℕ). not (is_member_task set t)) raise left.tasks
+      (λ t. ap (λ n. not (is_among same_name n set)) (raised_is name (λ (x : Task ℕ). x.name) (λ x. refl) t))
+      ∙ map_same raise (outsiders left set) unraised
+
+  abbrev others_by : (ℕ → Bool) → List (Mount ℕ)
+  others_by own = filter (λ (mount : Mount ℕ). holds_of (λ n. not (own n)) mount.namespace) left.mounts
+
+  abbrev owned_by : (ℕ → Bool) → List (Mount ℕ)
+  owned_by own = filter (λ (mount : Mount ℕ). holds_of own mount.namespace) left.mounts
+
+  places_same : locations (members raised_left set) ≡ locations (members left set)
+  places_same = ap locations (raised_members set name left.tasks) ∙ flat (members left set)
+    where
+      flat : (list : List (Task ℕ)) → flat_map locations_of (map raise list) ≡ flat_map locations_of list
+      flat [] = refl
+      flat (t ∷ rest) =
+          ap (λ l. l ++ flat_map locations_of (map raise rest)) (raised_is name locations_of (λ x. refl) t)
+          ∙ ap (λ l. locations_of t ++ l) (flat rest)
+
+  direct_same : used_directly nat_eq raised_left set ≡ used_directly nat_eq left set
+  direct_same i =
+      map (λ (mount : Mount ℕ). mount.filesystem) (owned_by (λ n. own_same n i))
+      ++ map (λ (l : Location ℕ). (mount_at nat_eq left l).filesystem) (places_same i)
+
+  pub raised_as_before : OthersAsBefore world raised_left names set
+  raised_as_before = record {
+    others = outsiders_same ∙ others.others;
+    mounts = (λ i. others_by (λ n. own_same n i)) ∙ others.mounts;
+    shown = others.shown;
+    tasks = (λ i. list_all (λ (t : Task ℕ). not (own_same t.namespace i)) (outsiders_same i)) ∙ others.tasks;
+    events = (λ i. list_all (λ own. list_all (λ other. not (share_events nat_eq left own other))
+        (others_by (λ n. own_same n i))) (owned_by (λ n. own_same n i))) ∙ others.events;
+    places = (λ i. list_all (λ location. not (holds_of (λ n. own_same n i) (mount_at nat_eq left location).namespace))
+        (locations (outsiders_same i))) ∙ others.places;
+    filesystems = λ f m.
+        let was = among-from_map (raised_if_changed nat_eq changed) left.filesystems f m in
+        going_on world names was.0 f
+        (ap (λ (x : Filesystem ℕ). x.number) was.2
+        ∙ by_number was.0 (list_any (λ number. nat_eq number was.0.number) changed))
+        (ap layered_as was.2 ∙ by_layers was.0 (list_any (λ number. nat_eq number was.0.number) changed))
+        (others.filesystems was.0 was.1);
+    direct = λ number m. others.direct number (subst (Among number) direct_same m);
+  }
+    where
+      by_number : (f : Filesystem ℕ) (b : Bool) → (cond b (record f { change = raised f.change }) f).number ≡ f.number
+      by_number f true = refl
+      by_number f false = refl
+
+      by_layers : (f : Filesystem ℕ) (b : Bool)
+          → layered_as (cond b (record f { change = raised f.change }) f) ≡ layered_as f
+      by_layers f true = refl
+      by_layers f false = refl

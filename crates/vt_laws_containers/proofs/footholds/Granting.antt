@@ -1,0 +1,167 @@
+-- A call of theirs gives others no foothold, if what it is permitted leaves others as they were.
+use Rattle.std.proofs.Common.{◌≡◌, refl, sym, ap, subst, ◌∙◌, inl, ℕ, nat_eq, true, false, true≢false, List, Option, Some, None, Result, Ok, Err, is_ok, not, ◌||◌}
+use Rattle.std.specs.Prelude.{IfOk}
+use Rattle.std.proofs.lemmas.Option.{same_Some}
+use Rattle.vt_spec.specs.declared.errors.Deny.{Deny}
+use Rattle.vt_spec.specs.Language.Answers.{Answer}
+use Rattle.vt_spec.specs.Language.Calls.{Call, TaskName}
+use Rattle.vt_spec.specs.Lists.{Fresh}
+use Rattle.vt_spec.specs.Machine.Apply.{apply, filesystems_changed, overfills}
+use Rattle.vt_spec.specs.Machine.Invariants.{IsWorld}
+use Rattle.vt_spec.specs.Machine.Judge.{Judgement, judge_in}
+use Rattle.vt_spec.specs.Machine.Outcomes.{Outcome, after}
+use Rattle.vt_spec.specs.Machine.Permits.{Permit}
+use Rattle.vt_spec.specs.Machine.Permits.Permit.{Allowed, ToList, ToListMounts, ToRead, ToReadPart, ToStat}
+use Rattle.vt_spec.specs.Machine.Policy.{filesystems_changed_by, numbers_raised, only_looks, policy}
+use Rattle.vt_spec.specs.Machine.Run.{Serves}
+use Rattle.vt_spec.specs.Machine.Sealed.{locations, members, sealed}
+use Rattle.vt_spec.specs.Machine.Settled.{settled}
+use Rattle.vt_spec.specs.Machine.World.{Task, World, task_called}
+use Rattle.vt_spec.proofs.Worlds.{answer-finished_by}
+use Rattle.vt_laws_rules.proofs.denials.Unchanged.{look_changes_nothing}
+use Rattle.vt_laws_rules.proofs.rules.OwnRules.{denial_changes_nothing}
+use Rattle.vt_laws_trees.specs.Trees.Limits.{names_few_groups}
+use Rattle.vt_laws_overlay_permits.proofs.worlds.EveryCall.{every_call_keeps_worlds}
+use Rattle.vt_laws_later_calls.proofs.Granted.{permitted}
+use Rattle.vt_laws_members.specs.Judging.{is_theirs}
+use Rattle.vt_laws_members_changes.specs.Changes.{IsCallOfTheirs, grown, left}
+use Rattle.vt_laws_members_changes.proofs.looks.Granted.{IsLook, looked}
+use Rattle.vt_laws_members_changes.proofs.looks.Told.{member_called, ran}
+use Rattle.vt_laws_containers.specs.Footholds.{GivesNoFoothold, LeavesOthersOut}
+use Rattle.vt_laws_containers.proofs.footholds.AsBefore.{OthersAsBefore, leaves_others_out}
+use Rattle.vt_laws_containers.proofs.footholds.EndsAsBefore.{raised_as_before, swept_as_before}
+use Rattle.vt_laws_containers.proofs.footholds.TasksAsBefore.{tasks_as_before, tasks_beside}
+
+-- the world itself
+pub as_itself : (world : World ℕ) (names : List TaskName) → IsWorld nat_eq world → sealed nat_eq world names ≡ true
+    → OthersAsBefore world world names names
+as_itself world names is sealed_off =
+    tasks_as_before world names names is sealed_off world.tasks world.filesystems
+    (tasks_beside world names is world.filesystems (λ f m. inl (f, m, refl, refl)))
+
+module _ (world : World ℕ) (names : List TaskName) (name : TaskName) (call : Call)
+    (it : IsCallOfTheirs world names name call) (fresh : Fresh ℕ) where
+  abbrev later : World ℕ
+  later = (policy nat_eq fresh world name call).world
+
+  abbrev answer_given : Result Answer Deny
+  answer_given = (policy nat_eq fresh world name call).answer
+
+  -- what leaves the world leaves others
+  pub unchanged_out : later ≡ world → grown names name call answer_given ≡ names
+      → GivesNoFoothold world names name call fresh
+  unchanged_out same stays =
+      subst (LeavesOthersOut world later names) (sym stays)
+      (subst (λ w. LeavesOthersOut world w names names) (sym same)
+      (leaves_others_out world world names names it.is it.is (as_itself world names it.is it.sealed_off)))
+
+  pub refused_out : is_ok answer_given ≡ false → GivesNoFoothold world names name call fresh
+  refused_out refused = by answer_given refl refused
+    where
+      by : (answer : Result Answer Deny) → answer_given ≡ answer → is_ok answer ≡ false
+          → GivesNoFoothold world names name call fresh
+      by (Ok answer) e fails = absurd (true≢false fails)
+      by (Err deny) e fails =
+          unchanged_out (denial_changes_nothing fresh world name call deny e) (ap (grown names name call) e)
+
+  -- an answer that tells what is there leaves the set
+  looks_stay : (task : Task ℕ) → left names name call ≡ names → (permit : Permit ℕ)
+      → IsLook (is_theirs world names) (locations (members world names)) permit
+      → grown names name call (apply nat_eq fresh world task permit).answer ≡ names
+  looks_stay task same Allowed on = same
+  looks_stay task same (ToList directory) on = refl
+  looks_stay task same (ToStat object) on = refl
+  looks_stay task same (ToRead file) on = refl
+  looks_stay task same (ToReadPart file offset size) on = refl
+  looks_stay task same ToListMounts on = refl
+  looks_stay task same permit on = absurd on
+
+  pub looks_out : only_looks call ≡ true → GivesNoFoothold world names name call fresh
+  looks_out looks = unchanged_out (look_changes_nothing fresh world name call looks) stays
+    where
+      after_stays : (task : Task ℕ) → left names name call ≡ names → (judgement : Judgement ℕ)
+          → IfOk judgement (IsLook (is_theirs world names) (locations (members world names)))
+          → grown names name call (after world judgement (apply nat_eq fresh world task)).answer ≡ names
+      after_stays task same (Ok permit) on = looks_stay task same permit on
+      after_stays task same (Err deny) on = refl
+
+      by : (found : Option (Task ℕ)) → task_called world name ≡ found
+          → grown names name call (ran name call world fresh found).answer ≡ names
+      by None e = refl
+      by (Some task) e =
+          let judgement : Judgement ℕ = judge_in nat_eq fresh world task call in
+          let outcome : Outcome ℕ = after world judgement (apply nat_eq fresh world task) in
+          let its = looked world names it.is it.sealed_off task
+          (member_called world names it.is it.sealed_off name it.theirs task e) (overfills nat_eq fresh world task)
+          names name call looks in
+          ap (grown names name call) (answer-finished_by (only_looks call || not (is_ok outcome.answer)) world name
+          (filesystems_changed_by nat_eq world judgement) outcome)
+          ∙ after_stays task its.1 judgement its.0
+
+      stays : grown names name call answer_given ≡ names
+      stays = by (task_called world name) refl
+
+module _ (world : World ℕ) (names : List TaskName) (name : TaskName) (call : Call)
+    (it : IsCallOfTheirs world names name call) (fresh : Fresh ℕ) (serves : Serves nat_eq world fresh)
+    (few : names_few_groups call ≡ true) where
+  abbrev after_call : World ℕ
+  after_call = (policy nat_eq fresh world name call).world
+
+  abbrev its_answer : Result Answer Deny
+  its_answer = (policy nat_eq fresh world name call).answer
+
+  after_is : IsWorld nat_eq after_call
+  after_is = every_call_keeps_worlds world fresh name call it.is serves few
+
+  -- what a permit leaves is a world, after the sweep and with change numbers raised
+  abbrev pub EndsInAWorld : Task ℕ → Permit ℕ → Type 0
+  EndsInAWorld task permit =
+      IsWorld nat_eq (numbers_raised nat_eq world name (filesystems_changed nat_eq world permit)
+      (settled nat_eq (apply nat_eq fresh world task permit).world))
+
+  -- what a granted call is permitted leaves others as they were
+  abbrev pub Permits : Type 0
+  Permits = (task : Task ℕ) → task_called world name ≡ Some task → (permit : Permit ℕ)
+      → judge_in nat_eq fresh world task call ≡ Ok permit → EndsInAWorld task permit
+      → OthersAsBefore world (apply nat_eq fresh world task permit).world names
+      (grown names name call (apply nat_eq fresh world task permit).answer)
+
+  pub granted_out : only_looks call ≡ false → Permits → GivesNoFoothold world names name call fresh
+  granted_out changes permits = by its_answer refl
+    where
+      by : (answer : Result Answer Deny) → its_answer ≡ answer → GivesNoFoothold world names name call fresh
+      by (Err deny) e = refused_out world names name call it fresh (ap is_ok e)
+      by (Ok answer) e =
+          let did = permitted world fresh name call answer changes e in
+          let set = grown names name call (apply nat_eq fresh world did.task did.permit).answer in
+          let done = (apply nat_eq fresh world did.task did.permit).world in
+          let same : grown names name call its_answer ≡ set =
+          ap (grown names name call) (e ∙ sym did.answered) in
+          subst (LeavesOthersOut world after_call names) (sym same)
+          (leaves_others_out world after_call names set it.is after_is
+          (subst (λ w. OthersAsBefore world w names set) (sym did.left)
+          (raised_as_before world (settled nat_eq done) names set
+          (swept_as_before world done names set
+          (permits did.task did.called did.permit did.judged (subst (IsWorld nat_eq) did.left after_is))) world name
+          (filesystems_changed nat_eq world did.permit) it.theirs)))
+
+  -- which is one
+  pub one_permit : (task : Task ℕ) → task_called world name ≡ Some task → (permit : Permit ℕ)
+      → judge_in nat_eq fresh world task call ≡ Ok permit
+      → (EndsInAWorld task permit → OthersAsBefore world (apply nat_eq fresh world task permit).world names
+      (grown names name call (apply nat_eq fresh world task permit).answer))
+      → Permits
+  one_permit task called permit judged before other called_too given judged_too =
+      let same : task ≡ other = same_Some task other (sym called ∙ called_too) in
+      let alike : Path (Result (Permit ℕ) Deny) (Ok permit) (Ok given) =
+      sym judged ∙ ap (λ t. judge_in nat_eq fresh world t call) same ∙ judged_too in
+      subst (λ t. Leaves t given) same
+      (subst (λ p. Leaves task p) (same_permit permit given alike) before)
+    where
+      Leaves : Task ℕ → Permit ℕ → Type 0
+      Leaves t p =
+          EndsInAWorld t p → OthersAsBefore world (apply nat_eq fresh world t p).world names
+          (grown names name call (apply nat_eq fresh world t p).answer)
+
+      same_permit : (a b : Permit ℕ) → Path (Result (Permit ℕ) Deny) (Ok a) (Ok b) → a ≡ b
+      same_permit a b e = cc

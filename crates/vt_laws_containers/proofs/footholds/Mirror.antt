@@ -1,0 +1,228 @@
+-- Others beside a sealed set, as a set of their own in the world without its tasks: they have their namespaces and mounts
+-- for themselves, too.
+use Rattle.std.proofs.Common.{◌≡◌, refl, sym, ap, subst, ◌∙◌, ◌⊎◌, inl, inr, ⊎_elim, ℕ, nat_eq, Bool, true, false, cond, true≢false, List, [], ◌∷◌, Option, Some, None, filter, map, not, ◌||◌, eq-eqb, eqb-true}
+use Rattle.std.specs.Prelude.{All, option_to_list}
+use Rattle.std.specs.List.{list_all, list_any}
+use Rattle.std.proofs.lemmas.Bool.{and_parts, false_from_ne_true, not-true}
+use Rattle.vt_spec.specs.Language.Calls.{TaskName, same_name}
+use Rattle.vt_spec.specs.Lists.{holds_of, is_among}
+use Rattle.vt_spec.specs.Machine.Invariants.{MountInvariants, Stands, is_listed}
+use Rattle.vt_spec.specs.Machine.Invariants.Stands.{at_root, on_parent}
+use Rattle.vt_spec.specs.Machine.Mounts.{Location, Mount, group_of}
+use Rattle.vt_spec.specs.Machine.Namespaces.{has_tasks}
+use Rattle.vt_spec.specs.Machine.Sealed.{holds_all_tasks, is_at, is_member_task, is_own_mount, is_own_namespace, locations, members, no_outsider_on_mounts, other_mounts, outsiders, own_mounts, receives_events_of, roots_and_directories, share_events, shares_no_events}
+use Rattle.vt_spec.specs.Machine.World.{Namespace, Task, World, locations_of, mount_at, mount_numbered}
+use Rattle.vt_spec.proofs.Lists.{Among, all_from_among, among-filter, among-flat_map, among-from_filter, among-from_flat_map, among-from_map, among-map, among_from_all, among_from_list_all, any_among, any_from_among, list_all_from_among}
+use Rattle.vt_spec.proofs.Worlds.{same_name_itself}
+use Rattle.vt_laws_mounts.proofs.mounts.MountsReplaced.{found_itself}
+use Rattle.vt_laws_part.specs.Seals.{IsApart}
+use Rattle.vt_laws_sealed.proofs.outsiders.OtherMounts.{namespace_outside, standing_apart_of}
+use Rattle.vt_laws_sealed.proofs.outsiders.StandingApart.{StandsApart}
+
+-- Filters
+filter_all : {A : Type 0} (p : A → Bool) (xs : List A) → ((x : A) → Among x xs → p x ≡ true) → filter p xs ≡ xs
+filter_all p [] all = refl
+filter_all p (x ∷ xs) all =
+    ap (λ b. cond b (x ∷ filter p xs) (filter p xs)) (all x (inl refl))
+    ∙ ap (λ l. x ∷ l) (filter_all p xs (λ y m. all y (inr m)))
+
+filter_none : {A : Type 0} (p : A → Bool) (xs : List A) → ((x : A) → Among x xs → p x ≡ false) → filter p xs ≡ []
+filter_none p [] none = refl
+filter_none p (x ∷ xs) none =
+    ap (λ b. cond b (x ∷ filter p xs) (filter p xs)) (none x (inl refl))
+    ∙ filter_none p xs (λ y m. none y (inr m))
+
+pub filter_alike : {A : Type 0} (p q : A → Bool) (xs : List A) → ((x : A) → Among x xs → p x ≡ q x)
+    → filter p xs ≡ filter q xs
+filter_alike p q [] same = refl
+filter_alike p q (x ∷ xs) same =
+    ap (λ b. cond b (x ∷ filter p xs) (filter p xs)) (same x (inl refl))
+    ∙ ap (λ l. cond (q x) (x ∷ l) l) (filter_alike p q xs (λ y m. same y (inr m)))
+
+-- Two mounts share events, whichever is first.
+or_turned : (a b : Bool) → (a || b) ≡ (b || a)
+or_turned true true = refl
+or_turned true false = refl
+or_turned false true = refl
+or_turned false false = refl
+
+-- no mount of one list shares events with one of another list
+abbrev pub ShareNone : (Mount ℕ → Mount ℕ → Bool) → List (Mount ℕ) → List (Mount ℕ) → Bool
+ShareNone share xs ys = list_all (λ x. list_all (λ y. not (share x y)) ys) xs
+
+pub none_turned : (world : World ℕ) (xs ys : List (Mount ℕ)) → ShareNone (share_events nat_eq world) xs ys ≡ true
+    → ShareNone (share_events nat_eq world) ys xs ≡ true
+none_turned world xs ys none =
+    list_all_from_among (λ y. list_all (λ x. not (share_events nat_eq world y x)) xs) ys (λ y m.
+    list_all_from_among (λ x. not (share_events nat_eq world y x)) xs (λ x n.
+    ap not (or_turned (receives_events_of nat_eq world y x) (receives_events_of nat_eq world x y))
+    ∙ among_from_list_all (λ b. not (share_events nat_eq world x b)) ys
+    (among_from_list_all (λ a. list_all (λ b. not (share_events nat_eq world a b)) ys) xs none x n) y m))
+
+module _ (world : World ℕ) (names : List TaskName) (apart : IsApart world names) where
+  abbrev pub out : List (Task ℕ)
+  out = outsiders world names
+
+  abbrev pub their_names : List TaskName
+  their_names = map (λ (t : Task ℕ). t.name) out
+
+  abbrev pub mirror : World ℕ
+  mirror = record world { tasks = out }
+
+  abbrev pub is_ours : ℕ → Bool
+  is_ours = is_own_namespace nat_eq world names
+
+  abbrev pub is_out : ℕ → Bool
+  is_out n = list_any (λ (t : Task ℕ). nat_eq n t.namespace) out
+
+  -- all tasks there are of that set
+  all_named : (t : Task ℕ) → Among t out → is_member_task their_names t ≡ true
+  all_named t m =
+      any_from_among (same_name t.name) their_names t.name (among-map (λ (x : Task ℕ). x.name) out t m)
+      (same_name_itself t.name)
+
+  pub all_there : filter (is_member_task their_names) out ≡ out
+  all_there = filter_all (is_member_task their_names) out all_named
+
+  pub none_there : filter (λ (t : Task ℕ). not (is_member_task their_names t)) out ≡ []
+  none_there = filter_none (λ (t : Task ℕ). not (is_member_task their_names t)) out (λ t m. ap not (all_named t m))
+
+  pub own_out : (n : ℕ) → is_own_namespace nat_eq mirror their_names n ≡ is_out n
+  own_out n = ap (list_any (λ (t : Task ℕ). nat_eq n t.namespace)) all_there
+
+  -- a namespace is that of a member, or of another task
+  pub side : (n : ℕ) → is_listed nat_eq world n ≡ true → (is_ours n ≡ true) ⊎ (is_out n ≡ true)
+  side n listed =
+      let at = any_among (nat_eq n) (map (λ (s : Namespace ℕ). s.number) world.namespaces) listed in
+      let space = among-from_map (λ (s : Namespace ℕ). s.number) world.namespaces at.0 at.1 in
+      let task = any_among (λ (t : Task ℕ). nat_eq space.0.number t.namespace) world.tasks
+      (among_from_list_all (has_tasks nat_eq world) world.namespaces apart.is.namespaces.namespaces_live space.0
+      space.1) in
+      by task.0 task.1
+      (eq-eqb n task.0.namespace
+      (eqb-true n at.0 at.2 ∙ space.2 ∙ eqb-true space.0.number task.0.namespace task.2))
+      (is_member_task names task.0) refl
+    where
+      by : (t : Task ℕ) → Among t world.tasks → nat_eq n t.namespace ≡ true → (b : Bool)
+          → is_member_task names t ≡ b → (is_ours n ≡ true) ⊎ (is_out n ≡ true)
+      by t m e true is =
+          inl (any_from_among (λ (x : Task ℕ). nat_eq n x.namespace) (members world names) t
+          (among-filter (is_member_task names) world.tasks t m is) e)
+      by t m e false is =
+          inr (any_from_among (λ (x : Task ℕ). nat_eq n x.namespace) out t
+          (among-filter (λ (x : Task ℕ). not (is_member_task names x)) world.tasks t m (ap not is)) e)
+
+  pub out_is_not_ours : (n : ℕ) → is_out n ≡ true → is_ours n ≡ false
+  out_is_not_ours n h =
+      let at = any_among (λ (t : Task ℕ). nat_eq n t.namespace) out h in
+      ap is_ours (eqb-true n at.0.namespace at.2) ∙ namespace_outside world names apart at.0 at.1
+
+  pub ours_is_not_out : (n : ℕ) → is_ours n ≡ true → is_out n ≡ false
+  ours_is_not_out n h = false_from_ne_true (is_out n) (λ e. true≢false (sym h ∙ out_is_not_ours n e))
+
+  pub out_if_not_ours : (n : ℕ) → is_listed nat_eq world n ≡ true → is_out n ≡ not (is_ours n)
+  out_if_not_ours n listed =
+      ⊎_elim (λ ours. ours_is_not_out n ours ∙ ap not (sym ours))
+      (λ theirs. theirs ∙ ap not (sym (out_is_not_ours n theirs))) (side n listed)
+
+  pub ours_if_not_out : (n : ℕ) → is_listed nat_eq world n ≡ true → not (is_out n) ≡ is_ours n
+  ours_if_not_out n listed = ap not (out_if_not_ours n listed) ∙ twice (is_ours n)
+    where
+      twice : (b : Bool) → not (not b) ≡ b
+      twice true = refl
+      twice false = refl
+
+  pub placed_listed : (mount : Mount ℕ) → Among mount world.mounts → (n : ℕ) → mount.namespace ≡ Some n
+      → is_listed nat_eq world n ≡ true
+  placed_listed mount m n e =
+      (and_parts (is_listed nat_eq world n) true
+      (sym (ap (λ o. list_all (is_listed nat_eq world) (option_to_list o)) e)
+      ∙ among_from_list_all (λ (x : Mount ℕ). list_all (is_listed nat_eq world) (option_to_list x.namespace)) world.mounts
+      apart.is.namespaces.mounts_listed mount m)).0
+
+  own_is_other : own_mounts nat_eq mirror their_names ≡ other_mounts nat_eq world names
+  own_is_other =
+      filter_alike (is_own_mount nat_eq mirror their_names)
+      (λ (x : Mount ℕ). holds_of (λ n. not (is_ours n)) x.namespace) world.mounts
+      (λ mount m. by mount m mount.namespace refl)
+    where
+      by : (mount : Mount ℕ) → Among mount world.mounts → (o : Option ℕ) → mount.namespace ≡ o
+          → holds_of (is_own_namespace nat_eq mirror their_names) o ≡ holds_of (λ n. not (is_ours n)) o
+      by mount m None e = refl
+      by mount m (Some n) e = own_out n ∙ out_if_not_ours n (placed_listed mount m n e)
+
+  other_is_own : other_mounts nat_eq mirror their_names ≡ own_mounts nat_eq world names
+  other_is_own =
+      filter_alike (λ (x : Mount ℕ). holds_of (λ n. not (is_own_namespace nat_eq mirror their_names n)) x.namespace)
+      (is_own_mount nat_eq world names) world.mounts (λ mount m. by mount m mount.namespace refl)
+    where
+      by : (mount : Mount ℕ) → Among mount world.mounts → (o : Option ℕ) → mount.namespace ≡ o
+          → holds_of (λ n. not (is_own_namespace nat_eq mirror their_names n)) o ≡ holds_of is_ours o
+      by mount m None e = refl
+      by mount m (Some n) e = ap not (own_out n) ∙ ours_if_not_out n (placed_listed mount m n e)
+
+  -- Invariants of mounts do not look at tasks.
+  stands_too : (number : ℕ) → Stands nat_eq world number → Stands nat_eq mirror number
+  stands_too number (at_root it e) = at_root it e
+  stands_too number (on_parent it point e same up) = on_parent it point e same (stands_too point.mount up)
+
+  mounts_too : MountInvariants nat_eq mirror
+  mounts_too = record {
+    one_number = apart.is.mounts.one_number;
+    one_child = apart.is.mounts.one_child;
+    standing = all_from_among (λ (x : Mount ℕ). Stands nat_eq mirror x.number) world.mounts (λ mount m.
+        stands_too mount.number
+        (among_from_all (λ (x : Mount ℕ). Stands nat_eq world x.number) world.mounts apart.is.mounts.standing mount m));
+    nowhere = apart.is.mounts.nowhere;
+    groups = apart.is.mounts.groups;
+  }
+
+  -- none of them is on a mount of the sealed set
+  not_on_ours : (n : ℕ) → is_own_namespace nat_eq mirror their_names n ≡ false → (mount : Mount ℕ)
+      → Among mount world.mounts → mount.namespace ≡ Some n
+      → is_at nat_eq (roots_and_directories (members mirror their_names)) mount ≡ false
+  not_on_ours n other mount m e =
+      false_from_ne_true (is_at nat_eq (roots_and_directories (members mirror their_names)) mount) (λ h.
+      let at = any_among (λ (l : Location ℕ). nat_eq l.mount mount.number)
+      (roots_and_directories (members mirror their_names)) h in
+      let of = among-from_flat_map (λ (t : Task ℕ). t.root ∷ t.directory ∷ []) out at.0
+      (subst (λ tasks. Among at.0 (roots_and_directories tasks)) all_there at.1) in
+      let used : Among at.0 (locations out) =
+      among-flat_map locations_of out of.0 at.0 of.1
+      (⊎_elim inl (λ rest. inr (⊎_elim inl (λ none. absurd none) rest)) of.2) in
+      let ours : is_ours n ≡ true =
+      sym (ours_if_not_out n (placed_listed mount m n e)) ∙ ap not (sym (own_out n) ∙ other) in
+      let it : mount_at nat_eq world at.0 ≡ mount =
+      ap (mount_numbered nat_eq world) (eqb-true at.0.mount mount.number at.2)
+      ∙ found_itself world.mounts apart.is.mounts.one_number mount m in
+      true≢false
+      (sym (ap (λ (x : Mount ℕ). holds_of is_ours x.namespace) it ∙ ap (holds_of is_ours) e ∙ ours)
+      ∙ not-true (is_own_mount nat_eq world names (mount_at nat_eq world at.0))
+      (among_from_list_all (λ location. not (is_own_mount nat_eq world names (mount_at nat_eq world location)))
+      (locations out) apart.locations at.0 used)))
+
+  pub mirror_stands : (New : ℕ → Type 0)
+      → ((mount : Mount ℕ) (group : ℕ) → Among mount world.mounts → group_of mount.propagation ≡ Some group → New group
+      → ⊥)
+      → StandsApart mirror their_names New
+  mirror_stands New no_group = record {
+    mounts = mounts_too;
+    tasks = ap (list_all (λ (t : Task ℕ). not (is_own_namespace nat_eq mirror their_names t.namespace))) none_there;
+    events =
+        (λ i. ShareNone (share_events nat_eq world) (own_is_other i) (other_is_own i))
+        ∙ none_turned world (own_mounts nat_eq world names) (other_mounts nat_eq world names) apart.events;
+    locations = ap (λ tasks. list_all (λ (l : Location ℕ). not
+        (is_own_mount nat_eq mirror their_names (mount_at nat_eq world l))) (locations tasks)) none_there;
+    not_stood = not_on_ours;
+    own_listed = λ number own.
+        let at = any_among (λ (t : Task ℕ). nat_eq number t.namespace) out (sym (own_out number) ∙ own) in
+        ap (is_listed nat_eq world) (eqb-true number at.0.namespace at.2)
+        ∙ among_from_list_all (λ (t : Task ℕ). is_listed nat_eq world t.namespace) world.tasks
+        apart.is.namespaces.tasks_listed at.0
+        (among-from_filter (λ (t : Task ℕ). not (is_member_task names t)) world.tasks at.0 at.1).0;
+    new_group = no_group;
+    new_master = (standing_apart_of world names apart New no_group).new_master;
+  }
+
+  pub mirror_owns : own_mounts nat_eq mirror their_names ≡ other_mounts nat_eq world names
+  mirror_owns = own_is_other

@@ -1,0 +1,384 @@
+-- Permits that take mounts of a sealed set away leave others as they were: umount(2), _exit(2), setns(2).
+use Rattle.std.proofs.Common.{◌≡◌, refl, sym, ap, subst, ◌∙◌, ◌⊎◌, inl, inr, ⊎_elim, ℕ, nat_eq, Bool, true, false, cond, true≢false, List, [], ◌∷◌, Option, Some, None, Ok, filter, map, not, is_some, ◌&&◌, ◌||◌, eq-eqb, eqb-true}
+use Rattle.std.specs.Prelude.{IfOk, option_to_list}
+use Rattle.std.specs.List.{list_all, list_any}
+use Rattle.std.proofs.lemmas.Bool.{and_from, and_parts, false_from_ne_true, not-false, not-true}
+use Rattle.vt_spec.specs.Language.Calls.{Call, TaskName, same_name}
+use Rattle.vt_spec.specs.Language.Calls.Call.{Exit, Setns}
+use Rattle.vt_spec.specs.Lists.{Fresh, holds_of, is_among}
+use Rattle.vt_spec.specs.Machine.Apply.{apply}
+use Rattle.vt_spec.specs.Machine.Detach.{going, is_going, taken_away}
+use Rattle.vt_spec.specs.Machine.Invariants.{IsWorld, is_listed}
+use Rattle.vt_spec.specs.Machine.Judge.{judge_in}
+use Rattle.vt_spec.specs.Machine.Mounts.{Location, Mount}
+use Rattle.vt_spec.specs.Machine.Namespaces.{has_tasks, is_in_ended, namespaces_ended}
+use Rattle.vt_spec.specs.Machine.Permits.{Permit}
+use Rattle.vt_spec.specs.Machine.Permits.Permit.{ToEnterNamespace, ToExit, ToUnmount}
+use Rattle.vt_spec.specs.Machine.Policy.{numbers_raised, raised_task}
+use Rattle.vt_spec.specs.Machine.Run.{Serves}
+use Rattle.vt_spec.specs.Machine.Sealed.{is_member_task, is_own_namespace, locations, members, outsiders}
+use Rattle.vt_spec.specs.Machine.Settled.{is_located, mount_lives, settled}
+use Rattle.vt_spec.specs.Machine.World.{Namespace, Task, World, locations_of, mount_numbered, replaced_if_called, task_called, without_task}
+use Rattle.vt_spec.proofs.Found.{found_among}
+use Rattle.vt_spec.proofs.Lists.{Among, among-filter, among-flat_map, among-from_filter, among-from_flat_map, among-from_map, among_from_list_all, among_numbers, any_among, any_from_among}
+use Rattle.vt_spec.proofs.Options.{none_is_some}
+use Rattle.vt_spec.proofs.Worlds.{found_or_none}
+use Rattle.vt_laws_letting_go.proofs.Lists.{filter_less}
+use Rattle.vt_laws_mounts.proofs.mounts.MountsReplaced.{found_itself}
+use Rattle.vt_laws_rules.proofs.given.GivenPermits.{permits_are_for_their_calls}
+use Rattle.vt_laws_trees.specs.Trees.Calls.{mounts_overlay}
+use Rattle.vt_laws_trees.specs.Trees.Limits.{names_few_groups}
+use Rattle.vt_laws_worlds.proofs.worlds.CallsKept.{name_found}
+use Rattle.vt_laws_worlds.proofs.worlds.FitPermitsNamed.{all_permits_fit}
+use Rattle.vt_laws_part.specs.Seals.{IsApart}
+use Rattle.vt_laws_part.proofs.seals.ByPart.{apart_if_sealed}
+use Rattle.vt_laws_sealed.proofs.outsiders.StandingApart.{NothingNew, StandsApart}
+use Rattle.vt_laws_sealed.proofs.outsiders.TakingAway.{namespaces_taken_away}
+use Rattle.vt_laws_sealed.proofs.outsiders.Unmounting.{others_go}
+use Rattle.vt_laws_members.proofs.judging.Grounds.{IsTheirs}
+use Rattle.vt_laws_members_changes.specs.Changes.{IsCallOfTheirs, left}
+use Rattle.vt_laws_members_changes.proofs.letting_go.Callers.{of_set, places_left}
+use Rattle.vt_laws_members_changes.proofs.letting_go.Entering.{Enters, entered_was, enters, mine, stands}
+use Rattle.vt_laws_members_changes.proofs.letting_go.Ends.{raised_is}
+use Rattle.vt_laws_members_changes.proofs.letting_go.Leaving.{is_task, its, its_name, member, new_old, set_from, set_parts, stays}
+use Rattle.vt_laws_members_changes.proofs.looks.Told.{member_called}
+use Rattle.vt_laws_containers.specs.PermitFootholds.{DetachingGivesNoFoothold, is_of_detaching}
+use Rattle.vt_laws_containers.proofs.footholds.AsBefore.{OthersAsBefore}
+use Rattle.vt_laws_containers.proofs.footholds.Granting.{EndsInAWorld}
+use Rattle.vt_laws_containers.proofs.footholds.Mirror.{mirror, mirror_stands, side, ours_is_not_out, out, own_out, placed_listed, their_names}
+use Rattle.vt_laws_containers.proofs.footholds.TakenAsBefore.{TakesOwn, taken_as_before, taken_mounts, taken_tasks}
+use Rattle.vt_laws_containers.proofs.footholds.TasksAsBefore.{others_unmoved}
+use Rattle.vt_laws_containers.proofs.footholds.TasksPermits.{Before, kept, permit_out}
+
+-- In a world that a call leaves a namespace with a mount has a task, and had it before the sweep.
+tasked_later : (before left : World ℕ) (name : TaskName) (changed : List ℕ)
+    → IsWorld nat_eq (numbers_raised nat_eq before name changed (settled nat_eq left)) → (mount : Mount ℕ)
+    → Among mount left.mounts → (n : ℕ) → mount.namespace ≡ Some n
+    → (t : Task ℕ) × Among t left.tasks × (t.namespace ≡ n)
+tasked_later before left name changed is mount m n e =
+    let later = numbers_raised nat_eq before name changed (settled nat_eq left) in
+    let lives : mount_lives nat_eq left mount ≡ true =
+    ap (λ o. is_some o || is_located nat_eq left mount.number) e in
+    let listed : is_listed nat_eq later n ≡ true =
+    (and_parts (is_listed nat_eq later n) true
+    (sym (ap (λ o. list_all (is_listed nat_eq later) (option_to_list o)) e)
+    ∙ among_from_list_all (λ (x : Mount ℕ). list_all (is_listed nat_eq later) (option_to_list x.namespace))
+    later.mounts is.namespaces.mounts_listed mount
+    (among-filter (mount_lives nat_eq left) left.mounts mount m lives))).0 in
+    let at = any_among (nat_eq n) (map (λ (s : Namespace ℕ). s.number) later.namespaces) listed in
+    let space = among-from_map (λ (s : Namespace ℕ). s.number) later.namespaces at.0 at.1 in
+    let task = any_among (λ (t : Task ℕ). nat_eq space.0.number t.namespace) later.tasks
+    (among_from_list_all (has_tasks nat_eq later) later.namespaces is.namespaces.namespaces_live space.0 space.1) in
+    let was = among-from_map (raised_task name) left.tasks task.0 task.1 in (
+      was.0,
+      was.1,
+      sym (raised_is name (λ (t : Task ℕ). t.namespace) (λ t. refl) was.0)
+          ∙ sym (ap (λ (t : Task ℕ). t.namespace) was.2)
+          ∙ sym (eqb-true n at.0 at.2 ∙ space.2 ∙ eqb-true space.0.number task.0.namespace task.2),
+    )
+
+-- what two filters leave
+filter_twice : {A : Type 0} (p q r : A → Bool) (xs : List A)
+    → ((x : A) → Among x xs → q x ≡ true → p x ≡ r x) → ((x : A) → Among x xs → q x ≡ false → r x ≡ false)
+    → filter p (filter q xs) ≡ filter r xs
+filter_twice p q r [] same none = refl
+filter_twice {A} p q r (x ∷ xs) same none =
+    by (q x) refl (filter_twice p q r xs (λ y m. same y (inr m)) (λ y m. none y (inr m)))
+  where
+    by : (b : Bool) → q x ≡ b → filter p (filter q xs) ≡ filter r xs
+        → filter p (cond b (x ∷ filter q xs) (filter q xs)) ≡ cond (r x) (x ∷ filter r xs) (filter r xs)
+    by true e later = ap (λ c. cond c (x ∷ filter p (filter q xs)) (filter p (filter q xs))) (same x (inl refl) e)
+        ∙ ap (λ l. cond (r x) (x ∷ l) l) later
+    by false e later =
+        later ∙ sym (ap (λ c. cond c (x ∷ filter r xs) (filter r xs)) (none x (inl refl) e))
+
+module _ (world : World ℕ) (names : List TaskName) (name : TaskName) (call : Call)
+    (it : IsCallOfTheirs world names name call) where
+  apart : IsApart world names
+  apart = apart_if_sealed world names it.is it.sealed_off
+
+  abbrev ours : ℕ → Bool
+  ours = is_own_namespace nat_eq world names
+
+  its_own : (t : Task ℕ) → Among t (members world names) → ours t.namespace ≡ true
+  its_own t m =
+      any_from_among (λ (x : Task ℕ). nat_eq t.namespace x.namespace) (members world names) t m
+      (eq-eqb t.namespace t.namespace refl)
+
+  -- the mount of a number is there, if it is in a namespace
+  there_in : (number n : ℕ) → (mount_numbered nat_eq world number).namespace ≡ Some n
+      → Among (mount_numbered nat_eq world number) world.mounts
+  there_in number n e =
+      ⊎_elim (λ m. m) (λ none. none_is_some n (sym (ap (λ (x : Mount ℕ). x.namespace) none) ∙ e))
+      (found_or_none world.mounts number)
+
+  -- Namespaces that lose their last tasks end, and the others' are not among them.
+  module _ (set : List TaskName) (tasks : List (Task ℕ))
+      (others : filter (λ (t : Task ℕ). not (is_member_task set t)) tasks ≡ outsiders world names)
+      (own_less : (n : ℕ) → list_any (λ (t : Task ℕ). nat_eq n t.namespace) (filter (is_member_task set) tasks) ≡ true
+      → ours n ≡ true)
+      (located : (location : Location ℕ) → Among location (locations (filter (is_member_task set) tasks))
+      → Among location (locations (members world names))
+      ⊎ IsTheirs world names it.is.mounts location.mount)
+      (changed : List ℕ)
+      (ends : IsWorld nat_eq (numbers_raised nat_eq world name changed
+      (settled nat_eq (namespaces_ended nat_eq (record world { tasks = tasks }))))) where
+    abbrev before : World ℕ
+    before = record world { tasks = tasks }
+
+    abbrev gone : List ℕ
+    gone = map (λ (mount : Mount ℕ). mount.number) (filter (is_in_ended nat_eq before) world.mounts)
+
+    -- a namespace of others has a task
+    out_stays : (n : ℕ) → list_any (λ (t : Task ℕ). nat_eq n t.namespace) (outsiders world names) ≡ true
+        → list_any (λ (t : Task ℕ). nat_eq n t.namespace) tasks ≡ true
+    out_stays n h =
+        let at = any_among (λ (t : Task ℕ). nat_eq n t.namespace) (outsiders world names) h in
+        any_from_among (λ (t : Task ℕ). nat_eq n t.namespace) tasks at.0
+        (among-from_filter (λ (t : Task ℕ). not (is_member_task set t)) tasks at.0
+        (subst (Among at.0) (sym others) at.1)).0 at.2
+
+    lives_on : (n : ℕ) → is_listed nat_eq world n ≡ true
+        → list_any (λ (t : Task ℕ). nat_eq n t.namespace) (outsiders world names) ≡ true
+        → list_any (λ (s : Namespace ℕ). nat_eq n s.number && has_tasks nat_eq before s) world.namespaces ≡ true
+    lives_on n listed theirs =
+        let at = any_among (nat_eq n) (map (λ (s : Namespace ℕ). s.number) world.namespaces) listed in
+        let space = among-from_map (λ (s : Namespace ℕ). s.number) world.namespaces at.0 at.1 in
+        let same : n ≡ space.0.number = eqb-true n at.0 at.2 ∙ space.2 in
+        any_from_among (λ (s : Namespace ℕ). nat_eq n s.number && has_tasks nat_eq before s) world.namespaces space.0
+        space.1
+        (and_from (nat_eq n space.0.number) (has_tasks nat_eq before space.0) (eq-eqb n space.0.number same)
+        (subst (λ k. list_any (λ (t : Task ℕ). nat_eq k t.namespace) tasks ≡ true) same (out_stays n theirs)))
+
+    ended_ours : (mount : Mount ℕ) → Among mount world.mounts → is_in_ended nat_eq before mount ≡ true
+        → (n : ℕ) × (mount.namespace ≡ Some n) × (ours n ≡ true)
+    ended_ours mount m h = by mount.namespace refl h
+      where
+        by : (o : Option ℕ) → mount.namespace ≡ o
+            → holds_of (λ n. not (list_any (λ (s : Namespace ℕ). nat_eq n s.number && has_tasks nat_eq before s)
+            world.namespaces)) o ≡ true
+            → (n : ℕ) × (mount.namespace ≡ Some n) × (ours n ≡ true)
+        by None e ended = absurd (true≢false (sym ended))
+        by (Some n) e ended =
+            let listed = placed_listed world names apart mount m n e in (
+              n,
+              e,
+              ⊎_elim (λ own. own)
+                  (λ theirs. absurd (true≢false (sym (lives_on n listed theirs) ∙ not-true _ ended)))
+                  (side world names apart n listed),
+            )
+
+    ended_takes : TakesOwn world names set it.is tasks (filter (has_tasks nat_eq before) world.namespaces) gone
+    ended_takes = record {
+      going = λ number h.
+          let from = among-from_map (λ (mount : Mount ℕ). mount.number) (filter (is_in_ended nat_eq before) world.mounts)
+          number (among_numbers gone number h) in
+          let at = among-from_filter (is_in_ended nat_eq before) world.mounts from.0 from.1 in
+          let its_space = ended_ours from.0 at.0 at.1 in (
+            its_space.0,
+            ap (λ (x : Mount ℕ). x.namespace)
+                (ap (mount_numbered nat_eq world) from.2 ∙ found_itself world.mounts it.is.mounts.one_number from.0 at.0)
+                ∙ its_space.1,
+            its_space.2,
+          );
+      others = others;
+      own_less = own_less;
+      tasked = λ mount m n e.
+          let of = tasked_later world (namespaces_ended nat_eq before) name changed ends mount
+          (subst (Among mount) (sym (taken_mounts world tasks gone)) m) n e in
+          (of.0, subst (Among of.0) (taken_tasks world tasks gone) of.1, of.2);
+      located = located;
+      listed = filter_less (λ (s : Namespace ℕ). list_any (λ (t : Task ℕ). nat_eq s.number t.namespace)
+          (outsiders world names)) (has_tasks nat_eq before) world.namespaces
+          (λ s m ended. false_from_ne_true
+          (list_any (λ (t : Task ℕ). nat_eq s.number t.namespace) (outsiders world names)) (λ h.
+          true≢false (sym (out_stays s.number h) ∙ ended)));
+    }
+
+    pub ended_as_before : OthersAsBefore world (namespaces_ended nat_eq (record world { tasks = tasks })) names set
+    ended_as_before =
+        taken_as_before world names set it.is it.sealed_off tasks (filter (has_tasks nat_eq before) world.namespaces) gone
+        ended_takes
+
+-- _exit(2)
+module _ (world : World ℕ) (names : List TaskName) (name : TaskName) (it : IsCallOfTheirs world names name Exit)
+    (task : Task ℕ) (called : task_called world name ≡ Some task) where
+  abbrev rest : List (Task ℕ)
+  rest = filter (stays world names name it task called) world.tasks
+
+  abbrev is_left : Task ℕ → Bool
+  is_left = its world names name it task called
+
+  others_rest : filter (λ (t : Task ℕ). not (is_left t)) rest ≡ outsiders world names
+  others_rest =
+      filter_twice (λ (t : Task ℕ). not (is_left t)) (stays world names name it task called)
+      (λ (t : Task ℕ). not (is_member_task names t)) world.tasks
+      (λ t m stay. ap not (same t stay (is_member_task names t) refl))
+      (λ t m gone. ap not
+      (ap (is_member_task names) (sym (is_task world names name it task called t m
+      (not-false (same_name name t.name) gone)))
+      ∙ (among-from_filter (is_member_task names) world.tasks task (member world names name it task called)).1))
+    where
+      same : (t : Task ℕ) → stays world names name it task called t ≡ true → (b : Bool) → is_member_task names t ≡ b
+          → is_left t ≡ b
+      same t stay true e = set_from world names name it task called t e stay
+      same t stay false e =
+          false_from_ne_true (is_left t) (λ h.
+          true≢false (sym (set_parts world names name it task called t h).0 ∙ e))
+
+  exit_before : (changed : List ℕ)
+      → IsWorld nat_eq (numbers_raised nat_eq world name changed
+      (settled nat_eq (namespaces_ended nat_eq (without_task world name))))
+      → OthersAsBefore world (namespaces_ended nat_eq (without_task world name)) names (left names name Exit)
+  exit_before changed ends =
+      ended_as_before world names name Exit it (left names name Exit) rest others_rest
+      (λ n h. let at = any_among (λ (t : Task ℕ). nat_eq n t.namespace) (filter is_left rest) h in
+      any_from_among (λ (t : Task ℕ). nat_eq n t.namespace) (members world names) at.0
+      (new_old world names name it task called at.0 at.1) at.2)
+      (λ l m. let from = among-from_flat_map locations_of (filter is_left rest) l m in
+      inl (among-flat_map locations_of (members world names) from.0 l
+      (new_old world names name it task called from.0 from.1) from.2))
+      changed ends
+
+  pub exits_before : (fresh : Fresh ℕ) (changed : List ℕ)
+      → IsWorld nat_eq (numbers_raised nat_eq world name changed
+      (settled nat_eq (apply nat_eq fresh world task ToExit).world))
+      → OthersAsBefore world (apply nat_eq fresh world task ToExit).world names (left names name Exit)
+  exits_before fresh changed =
+      subst (λ n. IsWorld nat_eq (numbers_raised nat_eq world name changed
+      (settled nat_eq (namespaces_ended nat_eq (without_task world n))))
+      → OthersAsBefore world (namespaces_ended nat_eq (without_task world n)) names (left names name Exit))
+      (its_name world names name it task called) (exit_before changed)
+
+-- setns(2)
+pub entering_before : (world : World ℕ) (names : List TaskName) (name target_name : TaskName)
+    (it : IsCallOfTheirs world names name (Setns target_name)) (task : Task ℕ)
+    (called : task_called world name ≡ Some task) (target : Task ℕ) (target_in : Among target (members world names))
+    (fresh : Fresh ℕ) (changed : List ℕ)
+    → IsWorld nat_eq (numbers_raised nat_eq world name changed
+    (settled nat_eq (apply nat_eq fresh world task (ToEnterNamespace target.namespace)).world))
+    → OthersAsBefore world (apply nat_eq fresh world task (ToEnterNamespace target.namespace)).world names names
+entering_before world names name target_name it task called target target_in fresh changed ends =
+    ended_as_before world names name (Setns target_name) it names
+    (map (replaced_if_called (mine world names name target_name it task called target target_in)) world.tasks)
+    (others_unmoved world names name (Setns target_name) it task called
+    (mine world names name target_name it task called target target_in) refl)
+    (λ n h. entered_was world names name target_name it task called target target_in n
+    (sym (ap (list_any (λ (t : Task ℕ). nat_eq n t.namespace))
+    (of_set world names name (Setns target_name) it task called
+    (mine world names name target_name it task called target target_in)
+    (stands world names name target_name it task called target target_in) world.tasks)) ∙ h))
+    (places_left world names name (Setns target_name) it task called
+    (mine world names name target_name it task called target target_in)
+    (stands world names name target_name it task called target target_in))
+    changed ends
+
+-- umount(2)
+module _ (world : World ℕ) (names : List TaskName) (name : TaskName) (call : Call)
+    (it : IsCallOfTheirs world names name call) (few : names_few_groups call ≡ true)
+    (fresh : Fresh ℕ) (serves : Serves nat_eq world fresh)
+    (task : Task ℕ) (called : task_called world name ≡ Some task) where
+  its_apart : IsApart world names
+  its_apart = apart_if_sealed world names it.is it.sealed_off
+
+  its_member : Among task (members world names)
+  its_member = member_called world names it.is it.sealed_off name it.theirs task called
+
+  -- mounts that go without a change of tasks
+  pub gone_as_before : (gone : List ℕ) → (changed : List ℕ)
+      → ((number : ℕ) → is_going nat_eq gone number ≡ true
+      → (n : ℕ) × ((mount_numbered nat_eq world number).namespace ≡ Some n)
+      × (is_own_namespace nat_eq world names n ≡ true))
+      → ((mount : Mount ℕ) → Among mount (taken_away nat_eq world gone).mounts → (n : ℕ) → mount.namespace ≡ Some n
+      → (t : Task ℕ) × Among t world.tasks × (t.namespace ≡ n))
+      → OthersAsBefore world (taken_away nat_eq world gone) names names
+  gone_as_before gone changed goes tasked =
+      subst (λ w. OthersAsBefore world w names names) (namespaces_taken_away world gone)
+      (taken_as_before world names names it.is it.sealed_off world.tasks world.namespaces gone (record {
+        going = goes;
+        others = refl;
+        own_less = λ n h. h;
+        tasked = tasked;
+        located = λ l m. inl m;
+        listed = refl;
+      }))
+
+  umount_goes : (number : ℕ) → (mount_numbered nat_eq world number).namespace ≡ Some task.namespace → (k : ℕ)
+      → is_going nat_eq (going nat_eq world (mount_numbered nat_eq world number)) k ≡ true
+      → (n : ℕ) × ((mount_numbered nat_eq world k).namespace ≡ Some n)
+      × (is_own_namespace nat_eq world names n ≡ true)
+  umount_goes number placed k h =
+      let goes = others_go (mirror world names its_apart) (their_names world names its_apart)
+      (mirror_stands world names its_apart NothingNew (λ mount group m is_in new. new)) task.namespace
+      (own_out world names its_apart task.namespace
+      ∙ ours_is_not_out world names its_apart task.namespace (its_own world names name call it task its_member))
+      number placed k h in (
+        goes.0,
+        goes.1,
+        ⊎_elim (λ own. own)
+            (λ theirs. absurd (true≢false (sym (own_out world names its_apart goes.0 ∙ theirs) ∙ goes.2)))
+            (side world names its_apart goes.0
+            (placed_listed world names its_apart (mount_numbered nat_eq world k)
+            (there_in world names name call it k goes.0 goes.1) goes.0 goes.1)),
+      )
+
+  umount_before : (number : ℕ) → judge_in nat_eq fresh world task call ≡ Ok (ToUnmount number)
+      → EndsInAWorld world names name call it fresh serves few task (ToUnmount number)
+      → Before world names name call it few fresh serves task called (ToUnmount number)
+  umount_before number judged ends =
+      let for = permits_are_for_their_calls fresh world task call (ToUnmount number) judged in
+      let placed = (all_permits_fit world fresh task call (ToUnmount number) it.is serves
+      (ap (task_called world) (sym (name_found world name task called)) ∙ called)
+      (ap mounts_overlay for.1) judged).names.0 in
+      kept world names name call it few fresh serves task called (ToUnmount number) judged refl
+      (apply nat_eq fresh world task (ToUnmount number)).world
+      (gone_as_before (going nat_eq world (mount_numbered nat_eq world number)) [] (umount_goes number placed)
+      (λ mount m n e.
+      let of = tasked_later world (taken_away nat_eq world (going nat_eq world (mount_numbered nat_eq world number))) name
+      [] ends mount m n e in (
+        of.0,
+        subst (Among of.0) (taken_tasks world world.tasks
+            (going nat_eq world (mount_numbered nat_eq world number))) of.1,
+        of.2,
+      )))
+
+  of_detaching : (permit : Permit ℕ) → judge_in nat_eq fresh world task call ≡ Ok permit
+      → is_of_detaching permit ≡ true
+      → EndsInAWorld world names name call it fresh serves few task permit
+      → Before world names name call it few fresh serves task called permit
+  of_detaching ToExit judged e ends =
+      let for : call ≡ Exit = permits_are_for_their_calls fresh world task call ToExit judged in
+      subst (λ c. OthersAsBefore world (apply nat_eq fresh world task ToExit).world names (left names name c)) (sym for)
+      (exits_before world names name (subst (IsCallOfTheirs world names name) for it) task called fresh [] ends)
+  of_detaching (ToEnterNamespace namespace) judged e ends =
+      let for = permits_are_for_their_calls fresh world task call (ToEnterNamespace namespace) judged in
+      kept world names name call it few fresh serves task called (ToEnterNamespace namespace) judged refl
+      (apply nat_eq fresh world task (ToEnterNamespace namespace)).world
+      (enters_before namespace for.0 (subst (IsCallOfTheirs world names name) for.1 it)
+      (sym (ap (judge_in nat_eq fresh world task) for.1) ∙ judged) ends)
+    where
+      space_of : ℕ → Permit ℕ → ℕ
+      space_of other (ToEnterNamespace n) = n
+      space_of other permit = other
+
+      enters_before : (n : ℕ) (target_name : TaskName) (its_call : IsCallOfTheirs world names name (Setns target_name))
+          → judge_in nat_eq fresh world task (Setns target_name) ≡ Ok (ToEnterNamespace n)
+          → EndsInAWorld world names name call it fresh serves few task (ToEnterNamespace n)
+          → OthersAsBefore world (apply nat_eq fresh world task (ToEnterNamespace n)).world names names
+      enters_before n target_name its_call so ended =
+          let target : Enters world names it.is it.sealed_off task its_member (ToEnterNamespace n) =
+          subst (λ j. IfOk j (Enters world names it.is it.sealed_off task its_member)) so
+          (enters world names it.is it.sealed_off task its_member target_name
+          (its_call.among_them target_name refl)) in
+          subst (λ k. IsWorld nat_eq (numbers_raised nat_eq world name []
+          (settled nat_eq (apply nat_eq fresh world task (ToEnterNamespace k)).world))
+          → OthersAsBefore world (apply nat_eq fresh world task (ToEnterNamespace k)).world names names)
+          (sym (ap (space_of n) target.2))
+          (entering_before world names name target_name its_call task called target.0 target.1 fresh []) ended
+  of_detaching (ToUnmount number) judged e ends = umount_before number judged ends
+  of_detaching permit judged e ends = absurd (true≢false (sym e))
+
+pub detaching_gives_no_foothold : DetachingGivesNoFoothold
+detaching_gives_no_foothold world names name call it few fresh serves task called permit judged is_one =
+    permit_out world names name call it few fresh serves task called permit judged
+    (of_detaching world names name call it few fresh serves task called permit judged is_one)

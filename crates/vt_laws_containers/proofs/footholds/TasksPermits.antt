@@ -1,0 +1,308 @@
+-- Permits to look, to change tasks, and to change files leave others as they were.
+use Rattle.std.proofs.Common.{◌≡◌, refl, sym, ap, subst, ◌∙◌, ◌⊎◌, inl, inr, ⊎_elim, ℕ, nat_eq, nat_lt, Bool, true, false, true≢false, cond, List, [], ◌∷◌, Some, Result, Ok, Err, filter, map, not}
+use Rattle.std.specs.Prelude.{IfOk, ◌==◌}
+use Rattle.vt_spec.specs.declared.errors.Deny.{Deny}
+use Rattle.vt_spec.specs.Language.Calls.{Access, Call, TaskName}
+use Rattle.vt_spec.specs.Lists.{Fresh, evens, odds}
+use Rattle.vt_spec.specs.Machine.Apply.{apply}
+use Rattle.vt_spec.specs.Machine.Descriptors.{inserted, is_copied_up, with_descriptor, without_descriptor}
+use Rattle.vt_spec.specs.Machine.Judge.{judge_in}
+use Rattle.vt_spec.specs.Machine.Mounts.{Location}
+use Rattle.vt_spec.specs.Machine.Permits.{Permit}
+use Rattle.vt_spec.specs.Machine.Permits.Permit.{Allowed, ToChange, ToClose, ToExit, ToFork, ToList, ToListMounts, ToMake, ToOpen, ToOpenNew, ToRead, ToReadPart, ToSetCredentials, ToSetDirectory, ToSetRoot, ToSetUmask, ToStat, ToWritePart}
+use Rattle.vt_spec.specs.Machine.Policy.{only_looks}
+use Rattle.vt_spec.specs.Machine.Run.{Serves}
+use Rattle.vt_spec.specs.Machine.Sealed.{members}
+use Rattle.vt_spec.specs.Machine.World.{Descriptor, Filesystem, Task, World, replaced_if_called, task_called}
+use Rattle.vt_spec.specs.Language.Changes.Change.{Make}
+use Rattle.vt_spec.proofs.Lists.{Among, among-from_filter, among-from_map, among-map}
+use Rattle.vt_laws_rules.proofs.given.GivenPermits.{permits_are_for_their_calls}
+use Rattle.vt_laws_trees.specs.Trees.Limits.{names_few_groups}
+use Rattle.vt_laws_members.specs.Judging.{is_theirs}
+use Rattle.vt_laws_members.proofs.judging.Grounds.{IsTheirs, theirs_from}
+use Rattle.vt_laws_members.proofs.judging.SeenInPart.{directory_theirs, root_theirs}
+use Rattle.vt_laws_members_changes.specs.Changes.{IsCallOfTheirs, grown, left}
+use Rattle.vt_laws_members_changes.proofs.letting_go.Callers.{StandsOnTheirs}
+use Rattle.vt_laws_members_changes.proofs.letting_go.Moving.{SetsDirectory, SetsRoot, sets_directory, sets_root}
+use Rattle.vt_laws_members_changes.proofs.looks.Told.{member_called}
+use Rattle.vt_laws_members_changes.proofs.names.GrantedNames.{granted_theirs}
+use Rattle.vt_laws_members_changes.proofs.tasks.Opening.{OpensOn, opens_theirs}
+use Rattle.vt_laws_containers.specs.Footholds.{GivesNoFoothold}
+use Rattle.vt_laws_containers.specs.PermitFootholds.{DenialsGiveNoFoothold, FilesGiveNoFoothold, LooksGiveNoFoothold, TasksGiveNoFoothold, is_of_files, is_of_tasks}
+use Rattle.vt_laws_containers.proofs.footholds.AsBefore.{GoesOn, OthersAsBefore}
+use Rattle.vt_laws_containers.proofs.footholds.FilesGoOn.{ChangesFiles, change_changes_files, copy_changes_files, write_changes_files}
+use Rattle.vt_laws_containers.proofs.footholds.Granting.{EndsInAWorld, as_itself, granted_out, looks_out, one_permit, refused_out}
+use Rattle.vt_laws_containers.proofs.footholds.TasksAsBefore.{caller_beside, child_beside, tasks_as_before, tasks_beside}
+use Rattle.vt_laws_containers.proofs.scripts.Called.{exit_if, is_exit, left_all}
+
+-- what is opened is at a new location, or was open
+opened_at : (new : Descriptor ℕ) (list : List (Descriptor ℕ)) (location : Location ℕ)
+    → Among location (map (λ (d : Descriptor ℕ). d.location) (inserted new list))
+    → (location ≡ new.location) ⊎ Among location (map (λ (d : Descriptor ℕ). d.location) list)
+opened_at new [] location m = ⊎_elim inl (λ none. absurd none) m
+opened_at new (first ∷ rest) location m =
+    by (nat_lt new.number first.number) m (opened_at new rest location)
+  where
+    by : (b : Bool)
+        → Among location (map (λ (d : Descriptor ℕ). d.location)
+        (cond b (new ∷ first ∷ rest) (first ∷ inserted new rest)))
+        → (Among location (map (λ (d : Descriptor ℕ). d.location) (inserted new rest))
+        → (location ≡ new.location) ⊎ Among location (map (λ (d : Descriptor ℕ). d.location) rest))
+        → (location ≡ new.location) ⊎ Among location (map (λ (d : Descriptor ℕ). d.location) (first ∷ rest))
+    by true k later = k
+    by false k later =
+        ⊎_elim (λ e. inr (inl e)) (λ r. ⊎_elim inl (λ old. inr (inr old)) (later r)) k
+
+-- the place that a permit names
+abbrev place_of : Location ℕ → Permit ℕ → Location ℕ
+place_of other (ToSetDirectory directory) = directory
+place_of other (ToSetRoot root) = root
+place_of other permit = other
+
+abbrev ends_task : Permit ℕ → Bool
+ends_task ToExit = true
+ends_task permit = false
+
+abbrev permit_of : Permit ℕ → Result (Permit ℕ) Deny → Permit ℕ
+permit_of other (Ok permit) = permit
+permit_of other (Err deny) = other
+
+module _ (world : World ℕ) (names : List TaskName) (name : TaskName) (call : Call)
+    (it : IsCallOfTheirs world names name call) (few : names_few_groups call ≡ true)
+    (fresh : Fresh ℕ) (serves : Serves nat_eq world fresh)
+    (task : Task ℕ) (called : task_called world name ≡ Some task) where
+  member : Among task (members world names)
+  member = member_called world names it.is it.sealed_off name it.theirs task called
+
+  abbrev pub Before : Permit ℕ → Type 0
+  Before permit =
+      OthersAsBefore world (apply nat_eq fresh world task permit).world names
+      (grown names name call (apply nat_eq fresh world task permit).answer)
+
+  -- a call that ends no task leaves the set
+  no_exit : (permit : Permit ℕ) → judge_in nat_eq fresh world task call ≡ Ok permit → ends_task permit ≡ false
+      → is_exit call ≡ false
+  no_exit permit judged other = by (is_exit call) refl
+    where
+      by : (b : Bool) → is_exit call ≡ b → b ≡ false
+      by true e =
+          absurd (true≢false
+          (ap (λ j. ends_task (permit_of permit j))
+          (sym (ap (judge_in nat_eq fresh world task) (exit_if call e)) ∙ judged) ∙ other))
+      by false e = refl
+
+  stays : (permit : Permit ℕ) → judge_in nat_eq fresh world task call ≡ Ok permit → ends_task permit ≡ false
+      → left names name call ≡ names
+  stays permit judged other = left_all names name call (no_exit permit judged other)
+
+  its_files : (f : Filesystem ℕ) → Among f world.filesystems → GoesOn world names f
+  its_files f m = inl (f, m, refl, refl)
+
+  itself : OthersAsBefore world world names names
+  itself = as_itself world names it.is it.sealed_off
+
+  -- a task in the place of the caller, and other filesystems
+  replaced : (mine : Task ℕ) → StandsOnTheirs world names name call it task mine → mine.namespace ≡ task.namespace
+      → (filesystems : List (Filesystem ℕ)) → ((f : Filesystem ℕ) → Among f filesystems → GoesOn world names f)
+      → OthersAsBefore world (record world {
+        tasks = map (replaced_if_called mine) world.tasks;
+        filesystems = filesystems;
+      }) names names
+  replaced mine stands spaced filesystems files =
+      tasks_as_before world names names it.is it.sealed_off (map (replaced_if_called mine) world.tasks) filesystems
+      (caller_beside world names name call it task called mine stands spaced filesystems files)
+
+  abbrev OnTheirs : Location ℕ → Type 0
+  OnTheirs location = IsTheirs world names it.is.mounts location.mount
+
+  with_directory : (place : Location ℕ) → OnTheirs place
+      → StandsOnTheirs world names name call it task (record task { directory = place })
+  with_directory place on = record {
+    named = refl;
+    root = root_theirs world names it.is task member;
+    directory = on;
+    places = λ l m. ⊎_elim (λ root. inl (inl root))
+        (λ rest. ⊎_elim (λ here. inr (subst OnTheirs (sym here) on)) (λ open_file. inl (inr (inr open_file))) rest) m;
+  }
+
+  with_root : (place : Location ℕ) → OnTheirs place
+      → StandsOnTheirs world names name call it task (record task { root = place })
+  with_root place on = record {
+    named = refl;
+    root = on;
+    directory = directory_theirs world names it.is task member;
+    places = λ l m. ⊎_elim (λ here. inr (subst OnTheirs (sym here) on)) (λ rest. inl (inr rest)) m;
+  }
+
+  closing : (number : ℕ) → StandsOnTheirs world names name call it task (without_descriptor task number)
+  closing number = record {
+    named = refl;
+    root = root_theirs world names it.is task member;
+    directory = directory_theirs world names it.is task member;
+    places = λ l m. inl (⊎_elim inl (λ rest. inr (⊎_elim inl (λ open_file.
+        let d = among-from_map (λ (d : Descriptor ℕ). d.location)
+        (filter (λ (d : Descriptor ℕ). not (number == d.number)) task.descriptors) l open_file in
+        inr (subst (λ (k : Location ℕ). Among k (map (λ (d : Descriptor ℕ). d.location) task.descriptors)) (sym d.2)
+        (among-map (λ (d : Descriptor ℕ). d.location) task.descriptors d.0
+        (among-from_filter (λ (d : Descriptor ℕ). not (number == d.number)) task.descriptors d.0 d.1).0))) rest)) m);
+  }
+
+  opening : (file : Location ℕ) (access : Access) → OnTheirs file
+      → StandsOnTheirs world names name call it task (with_descriptor task file access)
+  opening file access on = record {
+    named = refl;
+    root = root_theirs world names it.is task member;
+    directory = directory_theirs world names it.is task member;
+    places = λ l m. ⊎_elim (λ root. inl (inl root)) (λ rest. ⊎_elim (λ directory. inl (inr (inl directory)))
+        (λ open_file. ⊎_elim (λ here. inr (subst OnTheirs (sym here) on)) (λ old. inl (inr (inr old)))
+        (opened_at _ task.descriptors l open_file)) rest) m;
+  }
+
+  directory_there : (place : Location ℕ) → judge_in nat_eq fresh world task call ≡ Ok (ToSetDirectory place)
+      → OnTheirs place
+  directory_there place judged =
+      let for = permits_are_for_their_calls fresh world task call (ToSetDirectory place) judged in
+      let its : SetsDirectory world names it.is it.sealed_off task member (ToSetDirectory place) =
+      subst (λ j. IfOk j (SetsDirectory world names it.is it.sealed_off task member))
+      (sym (ap (judge_in nat_eq fresh world task) for.1) ∙ judged)
+      (sets_directory world names it.is it.sealed_off task member for.0) in
+      theirs_from world names it.is.mounts place.mount
+      (ap (λ (l : Location ℕ). is_theirs world names l.mount) (ap (place_of place) its.1) ∙ its.2)
+
+  root_there : (place : Location ℕ) → judge_in nat_eq fresh world task call ≡ Ok (ToSetRoot place) → OnTheirs place
+  root_there place judged =
+      let for = permits_are_for_their_calls fresh world task call (ToSetRoot place) judged in
+      let its : SetsRoot world names it.is it.sealed_off task member (ToSetRoot place) =
+      subst (λ j. IfOk j (SetsRoot world names it.is it.sealed_off task member))
+      (sym (ap (judge_in nat_eq fresh world task) for.1) ∙ judged)
+      (sets_root world names it.is it.sealed_off task member for.0) in
+      theirs_from world names it.is.mounts place.mount
+      (ap (λ (l : Location ℕ). is_theirs world names l.mount) (ap (place_of place) its.1) ∙ its.2)
+
+  -- where the set stays
+  pub kept : (permit : Permit ℕ) → judge_in nat_eq fresh world task call ≡ Ok permit → ends_task permit ≡ false
+      → (w : World ℕ) → OthersAsBefore world w names names → OthersAsBefore world w names (left names name call)
+  kept permit judged other w before = subst (OthersAsBefore world w names) (sym (stays permit judged other)) before
+
+  of_tasks : (permit : Permit ℕ) → judge_in nat_eq fresh world task call ≡ Ok permit → is_of_tasks permit ≡ true
+      → Before permit
+  of_tasks Allowed judged e = kept Allowed judged refl world itself
+  of_tasks (ToList directory) judged e = itself
+  of_tasks (ToStat object) judged e = itself
+  of_tasks (ToRead file) judged e = itself
+  of_tasks (ToReadPart file offset size) judged e = itself
+  of_tasks ToListMounts judged e = itself
+  of_tasks (ToClose number) judged e =
+      kept (ToClose number) judged refl (apply nat_eq fresh world task (ToClose number)).world
+      (replaced (without_descriptor task number) (closing number) refl world.filesystems its_files)
+  of_tasks (ToSetDirectory place) judged e =
+      kept (ToSetDirectory place) judged refl (apply nat_eq fresh world task (ToSetDirectory place)).world
+      (replaced (record task { directory = place }) (with_directory place (directory_there place judged)) refl
+      world.filesystems its_files)
+  of_tasks (ToSetRoot place) judged e =
+      kept (ToSetRoot place) judged refl (apply nat_eq fresh world task (ToSetRoot place)).world
+      (replaced (record task { root = place }) (with_root place (root_there place judged)) refl world.filesystems
+      its_files)
+  of_tasks (ToSetUmask umask) judged e =
+      kept (ToSetUmask umask) judged refl (apply nat_eq fresh world task (ToSetUmask umask)).world
+      (replaced (record task { umask = umask }) (record {
+        named = refl;
+        root = root_theirs world names it.is task member;
+        directory = directory_theirs world names it.is task member;
+        places = λ l m. inl m;
+      }) refl world.filesystems its_files)
+  of_tasks (ToSetCredentials credentials) judged e =
+      kept (ToSetCredentials credentials) judged refl
+      (apply nat_eq fresh world task (ToSetCredentials credentials)).world
+      (replaced (record task { credentials = credentials }) (record {
+        named = refl;
+        root = root_theirs world names it.is task member;
+        directory = directory_theirs world names it.is task member;
+        places = λ l m. inl m;
+      }) refl world.filesystems its_files)
+  of_tasks (ToFork credentials) judged e =
+      tasks_as_before world names _ it.is it.sealed_off _ world.filesystems
+      (child_beside world names name call it task called credentials)
+  of_tasks permit judged e = absurd (true≢false (sym e))
+
+  -- Files
+  changed_before : (w : World ℕ) → ChangesFiles world w → OthersAsBefore world w names names
+  changed_before w changes =
+      subst (λ v. OthersAsBefore world v names names) (sym changes.same)
+      (tasks_as_before world names names it.is it.sealed_off world.tasks w.filesystems
+      (tasks_beside world names it.is w.filesystems (λ f m. inl (changes.placed f m))))
+
+  opened_before : (w : World ℕ) → ChangesFiles world w → (file : Location ℕ) (access : Access) → OnTheirs file
+      → OthersAsBefore world
+      (record w { tasks = map (replaced_if_called (with_descriptor task file access)) w.tasks }) names names
+  opened_before w changes file access on =
+      subst (λ v. OthersAsBefore world
+      (record v { tasks = map (replaced_if_called (with_descriptor task file access)) v.tasks }) names names)
+      (sym changes.same)
+      (replaced (with_descriptor task file access) (opening file access on) refl w.filesystems
+      (λ f m. inl (changes.placed f m)))
+
+  opened_there : (file : Location ℕ) (access : Access) → judge_in nat_eq fresh world task call ≡ Ok (ToOpen file access)
+      → OnTheirs file
+  opened_there file access judged =
+      let for = permits_are_for_their_calls fresh world task call (ToOpen file access) judged in
+      theirs_from world names it.is.mounts file.mount
+      (subst (λ j. IfOk j (OpensOn (is_theirs world names)))
+      (sym (ap (judge_in nat_eq fresh world task) for.2) ∙ judged)
+      (opens_theirs world names it.is it.sealed_off task member for.0 access for.1))
+
+  of_files : (permit : Permit ℕ) → judge_in nat_eq fresh world task call ≡ Ok permit → is_of_files permit ≡ true
+      → Before permit
+  of_files (ToChange location change) judged e =
+      kept (ToChange location change) judged refl (apply nat_eq fresh world task (ToChange location change)).world
+      (changed_before (apply nat_eq fresh world task (ToChange location change)).world
+      (change_changes_files world it.is.files.one_filesystem fresh location change))
+  of_files (ToMake directory entry node) judged e =
+      kept (ToMake directory entry node) judged refl (apply nat_eq fresh world task (ToMake directory entry node)).world
+      (changed_before (apply nat_eq fresh world task (ToMake directory entry node)).world
+      (change_changes_files world it.is.files.one_filesystem (odds fresh) directory
+      (Make directory.node entry (evens fresh 0) node)))
+  of_files (ToOpen file access) judged e =
+      opened_before _ (copy_changes_files world it.is.files.one_filesystem (is_copied_up nat_eq world file access) fresh file)
+      file access (opened_there file access judged)
+  of_files (ToOpenNew directory entry node access) judged e =
+      opened_before _ (change_changes_files world it.is.files.one_filesystem (odds fresh) directory
+      (Make directory.node entry (evens fresh 0) node))
+      (record { mount = directory.mount; node = evens fresh 0 }) access
+      (theirs_from world names it.is.mounts directory.mount
+      (granted_theirs world names it.is it.sealed_off task member fresh call (ToOpenNew directory entry node access) judged
+      directory (Make directory.node entry (evens fresh 0) node) refl tt))
+  of_files (ToWritePart file offset bytes) judged e =
+      kept (ToWritePart file offset bytes) judged refl
+      (apply nat_eq fresh world task (ToWritePart file offset bytes)).world
+      (changed_before (apply nat_eq fresh world task (ToWritePart file offset bytes)).world
+      (write_changes_files world it.is.files.one_filesystem fresh file offset bytes))
+  of_files permit judged e = absurd (true≢false (sym e))
+
+  -- by the one permit of the call
+  pub permit_out : (permit : Permit ℕ) → judge_in nat_eq fresh world task call ≡ Ok permit
+      → (EndsInAWorld world names name call it fresh serves few task permit → Before permit)
+      → GivesNoFoothold world names name call fresh
+  permit_out permit judged before = by (only_looks call) refl
+    where
+      by : (b : Bool) → only_looks call ≡ b → GivesNoFoothold world names name call fresh
+      by true e = looks_out world names name call it fresh e
+      by false e =
+          granted_out world names name call it fresh serves few e
+          (one_permit world names name call it fresh serves few task called permit judged before)
+
+pub looks_give_no_foothold : LooksGiveNoFoothold
+looks_give_no_foothold world names name call it fresh looks = looks_out world names name call it fresh looks
+
+pub denials_give_no_foothold : DenialsGiveNoFoothold
+denials_give_no_foothold world names name call it fresh refused = refused_out world names name call it fresh refused
+
+pub tasks_give_no_foothold : TasksGiveNoFoothold
+tasks_give_no_foothold world names name call it few fresh serves task called permit judged is_one =
+    permit_out world names name call it few fresh serves task called permit judged
+    (λ ends. of_tasks world names name call it few fresh serves task called permit judged is_one)
+
+pub files_give_no_foothold : FilesGiveNoFoothold
+files_give_no_foothold world names name call it few fresh serves task called permit judged is_one =
+    permit_out world names name call it few fresh serves task called permit judged
+    (λ ends. of_files world names name call it few fresh serves task called permit judged is_one)

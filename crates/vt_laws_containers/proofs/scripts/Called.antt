@@ -1,0 +1,258 @@
+-- Each name of the set that a call leaves is the name of a task.
+use Rattle.std.proofs.Common.{◌≡◌, ◌≢◌, refl, sym, ap, subst, ◌∙◌, inl, ⊎_elim, ℕ, nat_eq, Bool, true, false, true≢false, cond, not, List, [], ◌∷◌, ◌++◌, ◌||◌, Option, Some, None, Result, Ok, Err, find, is_ok, is_some, map, ◌+◌}
+use Rattle.std.specs.Prelude.{⊤}
+use Rattle.std.proofs.lemmas.Bool.{and_from, not-true}
+use Rattle.vt_spec.specs.declared.errors.Deny.{Deny}
+use Rattle.vt_spec.specs.Language.Answers.{Answer}
+use Rattle.vt_spec.specs.Language.Answers.Answer.{Child, Done}
+use Rattle.vt_spec.specs.Language.Calls.{Call, TaskName, same_name}
+use Rattle.vt_spec.specs.Language.Calls.Call.{Exit}
+use Rattle.vt_spec.specs.Lists.{Fresh, is_among}
+use Rattle.vt_spec.specs.Machine.Apply.{apply}
+use Rattle.vt_spec.specs.Machine.Filesystems.{raised}
+use Rattle.vt_spec.specs.Machine.Judge.{Judgement, judge_in}
+use Rattle.vt_spec.specs.Machine.Mounts.{Location}
+use Rattle.vt_spec.specs.Machine.Outcomes.{Outcome, after}
+use Rattle.vt_spec.specs.Machine.Permits.{Permit}
+use Rattle.vt_spec.specs.Machine.Permits.Permit.{Allowed, ToBind, ToChange, ToClose, ToEnterNamespace, ToExit, ToFork, ToList, ToListMounts, ToMake, ToMountOverlay, ToMountPlain, ToMove, ToOpen, ToOpenNew, ToPivot, ToRead, ToReadPart, ToRemoveDirectory, ToRename, ToSetCredentials, ToSetDirectory, ToSetFlags, ToSetRoot, ToSetType, ToSetUmask, ToStat, ToUnmount, ToUnmountLazily, ToUnshare, ToWritePart}
+use Rattle.vt_spec.specs.Machine.Policy.{filesystems_changed_by, finished_by, only_looks, policy, raised_task}
+use Rattle.vt_spec.specs.Machine.Sealed.{is_member_task, members}
+use Rattle.vt_spec.specs.Machine.Tasks.{child_name, child_of}
+use Rattle.vt_spec.specs.Machine.World.{Task, World, replaced_if_called, task_called}
+use Rattle.vt_spec.proofs.Found.{found_among, found_passes}
+use Rattle.vt_spec.proofs.Lists.{Among, among-append_right, among-filter, among-from_filter, among-map, among_from_list_all, any_from_among, list_all_from_among}
+use Rattle.vt_spec.proofs.Options.{some_from_is_some}
+use Rattle.vt_spec.proofs.Worlds.{same_name_itself, same_task_name}
+use Rattle.vt_laws_calls.specs.Tasks.{Pivots, task_after}
+use Rattle.vt_laws_calls.proofs.tasks.TasksLaws.{only_exit_leaves, other_tasks_stay}
+use Rattle.vt_laws_worlds.proofs.worlds.CallsKept.{name_found}
+use Rattle.vt_laws_sealed.specs.Outsiders.{are_all_called}
+use Rattle.vt_laws_members_changes.specs.Changes.{grown, left}
+use Rattle.vt_laws_members_changes.proofs.looks.Told.{ran}
+
+-- a task of this name is found where one is
+pub found_called : (member : TaskName) (tasks : List (Task ℕ)) (task : Task ℕ) → Among task tasks
+    → same_name member task.name ≡ true
+    → is_some (find (λ (t : Task ℕ). same_name member t.name) tasks) ≡ true
+found_called member [] task m e = absurd m
+found_called member (first ∷ rest) task m e =
+    by (same_name member first.name) refl (λ later. found_called member rest task later e)
+  where
+    by : (b : Bool) → same_name member first.name ≡ b
+        → (Among task rest → is_some (find (λ (t : Task ℕ). same_name member t.name) rest) ≡ true)
+        → is_some (cond b (Some first) (find (λ (t : Task ℕ). same_name member t.name) rest)) ≡ true
+    by true f next = refl
+    by false f next =
+        ⊎_elim
+        (λ here. absurd (true≢false (sym e ∙ ap (λ (t : Task ℕ). same_name member t.name) here ∙ f)))
+        next m
+
+-- Where the members stay, each name of the set stays the name of a task.
+pub still_called : (world later : World ℕ) (names : List TaskName) → members later names ≡ members world names
+    → are_all_called world names ≡ true → are_all_called later names ≡ true
+still_called world later names same there =
+    list_all_from_among (λ member. is_some (task_called later member)) names (λ member m.
+    let found = some_from_is_some (task_called world member)
+    (among_from_list_all (λ n. is_some (task_called world n)) names there member m) in
+    let test : Task ℕ → Bool = λ (t : Task ℕ). same_name member t.name in
+    let passes = found_passes test world.tasks found.0 found.1 in
+    let its_name = name_found world member found.0 found.1 in
+    let is_one : is_among same_name found.0.name names ≡ true =
+    any_from_among (same_name found.0.name) names member m
+    (ap (same_name found.0.name) its_name ∙ ap (λ n. same_name n found.0.name) (sym its_name) ∙ passes) in
+    let member_there = among-filter (is_member_task names) world.tasks found.0
+    (found_among test world.tasks found.0 found.1) is_one in
+    found_called member later.tasks found.0
+    (among-from_filter (is_member_task names) later.tasks found.0
+    (subst (Among found.0) (sym same) member_there)).0 passes)
+
+-- A child that is answered is there.
+abbrev ChildIsThere : List (Task ℕ) → Result Answer Deny → Type 0
+ChildIsThere tasks (Ok (Child child)) = is_some (find (λ (t : Task ℕ). same_name child t.name) tasks) ≡ true
+ChildIsThere tasks answer = ⊤
+
+applied : (fresh : Fresh ℕ) (world : World ℕ) (task : Task ℕ) (permit : Permit ℕ)
+    → ChildIsThere (apply nat_eq fresh world task permit).world.tasks (apply nat_eq fresh world task permit).answer
+applied fresh world task Allowed = tt
+applied fresh world task (ToList directory) = tt
+applied fresh world task (ToStat object) = tt
+applied fresh world task (ToRead file) = tt
+applied fresh world task (ToReadPart file offset size) = tt
+applied fresh world task (ToChange location change) = tt
+applied fresh world task (ToMake directory name node) = tt
+applied fresh world task (ToRemoveDirectory parent name directory) = tt
+applied fresh world task (ToRename from old to new object replaced) = tt
+applied fresh world task (ToOpen file access) = tt
+applied fresh world task (ToOpenNew directory name node access) = tt
+applied fresh world task (ToWritePart file offset bytes) = tt
+applied fresh world task (ToClose descriptor) = tt
+applied fresh world task (ToSetDirectory directory) = tt
+applied fresh world task (ToSetRoot root) = tt
+applied fresh world task (ToSetUmask umask) = tt
+applied fresh world task (ToSetCredentials credentials) = tt
+applied fresh world task (ToFork credentials) =
+    found_called (child_name task)
+    (map (replaced_if_called (record task { forks = task.forks + 1 })) world.tasks
+    ++ child_of task credentials ∷ []) (child_of task credentials)
+    (among-append_right (map (replaced_if_called (record task { forks = task.forks + 1 })) world.tasks)
+    (child_of task credentials ∷ []) (child_of task credentials) (inl refl))
+    (same_name_itself (child_name task))
+applied fresh world task ToExit = tt
+applied fresh world task ToUnshare = tt
+applied fresh world task (ToEnterNamespace namespace) = tt
+applied fresh world task (ToMountPlain destination flags) = tt
+applied fresh world task (ToMountOverlay destination overlay flags) = tt
+applied fresh world task (ToBind source destination recursive) = tt
+applied fresh world task (ToMove mount destination) = tt
+applied fresh world task (ToUnmount mount) = tt
+applied fresh world task (ToUnmountLazily mount) = tt
+applied fresh world task (ToSetFlags mount flags) = tt
+applied fresh world task (ToSetType mount word recursive) = tt
+applied fresh world task (ToPivot new put) = tt
+applied fresh world task ToListMounts = tt
+
+-- its change number raised or not
+raised_there : (name : TaskName) (tasks : List (Task ℕ)) (answer : Result Answer Deny) → ChildIsThere tasks answer
+    → ChildIsThere (map (raised_task name) tasks) answer
+raised_there name tasks (Ok (Child child)) there =
+    let found = some_from_is_some (find (λ (t : Task ℕ). same_name child t.name) tasks) there in
+    found_called child (map (raised_task name) tasks) (raised_task name found.0)
+    (among-map (raised_task name) tasks found.0
+    (found_among (λ (t : Task ℕ). same_name child t.name) tasks found.0 found.1))
+    (same found.0 (same_name name found.0.name)
+    ∙ found_passes (λ (t : Task ℕ). same_name child t.name) tasks found.0 found.1)
+  where
+    same : (t : Task ℕ) (b : Bool)
+        → same_name child (cond b (record t { change = raised t.change }) t).name ≡ same_name child t.name
+    same t true = refl
+    same t false = refl
+raised_there name tasks answer there = there
+
+module _ (world : World ℕ) (name : TaskName) (call : Call) (fresh : Fresh ℕ) where
+  by_judgement : (task : Task ℕ) (judgement : Judgement ℕ)
+      → ChildIsThere (after world judgement (apply nat_eq fresh world task)).world.tasks
+      (after world judgement (apply nat_eq fresh world task)).answer
+  by_judgement task (Ok permit) = applied fresh world task permit
+  by_judgement task (Err deny) = tt
+
+  by_end : (b : Bool) (changed : List ℕ) (outcome : Outcome ℕ) → ChildIsThere outcome.world.tasks outcome.answer
+      → ChildIsThere (finished_by nat_eq b world name changed outcome).world.tasks
+      (finished_by nat_eq b world name changed outcome).answer
+  by_end true changed outcome there = there
+  by_end false changed outcome there = raised_there name outcome.world.tasks outcome.answer there
+
+  by_caller : (found : Option (Task ℕ))
+      → ChildIsThere (ran name call world fresh found).world.tasks (ran name call world fresh found).answer
+  by_caller None = tt
+  by_caller (Some task) =
+      let judgement : Judgement ℕ = judge_in nat_eq fresh world task call in
+      let outcome : Outcome ℕ = after world judgement (apply nat_eq fresh world task) in
+      by_end (only_looks call || not (is_ok outcome.answer)) (filesystems_changed_by nat_eq world judgement) outcome
+      (by_judgement task judgement)
+
+  child_is_there : ChildIsThere (policy nat_eq fresh world name call).world.tasks
+      (policy nat_eq fresh world name call).answer
+  child_is_there = by_caller (task_called world name)
+
+-- the call is an exit
+abbrev pub is_exit : Call → Bool
+is_exit Exit = true
+is_exit call = false
+
+pub exit_if : (call : Call) → is_exit call ≡ true → call ≡ Exit
+exit_if Exit e = refl
+exit_if call e = absurd (true≢false (sym e))
+
+pub left_all : (names : List TaskName) (name : TaskName) (call : Call) → is_exit call ≡ false → left names name call ≡ names
+left_all names name Exit e = absurd (true≢false e)
+left_all names name call e = refl
+
+module _ (world : World ℕ) (fresh : Fresh ℕ) (names : List TaskName) (name : TaskName) (call : Call)
+    (there : are_all_called world names ≡ true) where
+  abbrev later : World ℕ
+  later = (policy nat_eq fresh world name call).world
+
+  -- a task that does not make the call stays
+  other_stays : (member : TaskName) (was : Task ℕ) → member ≢ name → task_called world member ≡ Some was
+      → is_some (task_called later member) ≡ true
+  other_stays member was differs e =
+      ⊎_elim {A = task_after fresh world name call member ≡ Some was} {
+      B = (moved : Location ℕ → Location ℕ) × Pivots fresh world name call was.namespace moved
+      × (task_after fresh world name call member
+      ≡ Some (record was { root = moved was.root; directory = moved was.directory }))
+      } (λ same. ap is_some same) (λ moved. ap is_some moved.2)
+      (other_tasks_stay fresh world name call member was differs e)
+
+  -- a task stays, but for the caller of an exit
+  stays : (member : TaskName) → is_some (task_called world member) ≡ true
+      → (member ≡ name → is_exit call ≡ false) → is_some (task_called later member) ≡ true
+  stays member is kept = by (same_name member name) refl
+    where
+      was : (t : Task ℕ) × (task_called world member ≡ Some t)
+      was = some_from_is_some (task_called world member) is
+
+      found : member ≡ name → (o : Option (Task ℕ)) → task_called later name ≡ o
+          → is_some (task_called later member) ≡ true
+      found same (Some t) e = ap (λ n. is_some (task_called later n)) same ∙ ap is_some e
+      found same None e =
+          absurd (true≢false
+          (sym (ap is_exit (only_exit_leaves fresh world name call was.0
+          (ap (task_called world) (sym same) ∙ was.1) e)) ∙ kept same))
+
+      by : (b : Bool) → same_name member name ≡ b → is_some (task_called later member) ≡ true
+      by true e = found (same_task_name member name e) (task_called later name) refl
+      by false e =
+          other_stays member was.0
+          (λ same. true≢false (sym (ap (same_name member) (sym same) ∙ same_name_itself member) ∙ e)) was.1
+
+  all_stay : is_exit call ≡ false → are_all_called later names ≡ true
+  all_stay other =
+      list_all_from_among (λ member. is_some (task_called later member)) names (λ member m.
+      stays member (among_from_list_all (λ n. is_some (task_called world n)) names there member m) (λ same. other))
+
+  -- after a call that is no exit
+  others_stay : is_exit call ≡ false → (answer : Result Answer Deny) → ChildIsThere later.tasks answer
+      → are_all_called later (grown names name call answer) ≡ true
+  others_stay other (Ok (Child child)) made =
+      and_from (is_some (task_called later child)) (are_all_called later names) made (all_stay other)
+  others_stay other (Ok Done) made =
+      subst (λ set. are_all_called later set ≡ true) (sym (left_all names name call other)) (all_stay other)
+  others_stay other answer made = all_stay other
+
+-- after an exit
+module _ (world : World ℕ) (fresh : Fresh ℕ) (names : List TaskName) (name : TaskName)
+    (there : are_all_called world names ≡ true) where
+  abbrev ended : World ℕ
+  ended = (policy nat_eq fresh world name Exit).world
+
+  rest_stay : are_all_called ended (left names name Exit) ≡ true
+  rest_stay =
+      list_all_from_among (λ member. is_some (task_called ended member)) (left names name Exit) (λ member m.
+      let from = among-from_filter (λ n. not (same_name name n)) names member m in
+      stays world fresh names name Exit there member
+      (among_from_list_all (λ n. is_some (task_called world n)) names there member from.0)
+      (λ same. absurd (true≢false
+      (sym (ap (same_name name) same ∙ same_name_itself name) ∙ not-true (same_name name member) from.1))))
+
+  exit_by : (o : Option (Task ℕ)) → task_called world name ≡ o
+      → are_all_called ended (grown names name Exit (ran name Exit world fresh o).answer) ≡ true
+  exit_by None e =
+      subst (λ w. are_all_called w names ≡ true) (sym (ap (λ o. (ran name Exit world fresh o).world) e)) there
+  exit_by (Some task) e = rest_stay
+
+pub members_stay_called : (world : World ℕ) (fresh : Fresh ℕ) (names : List TaskName) (name : TaskName) (call : Call)
+    → are_all_called world names ≡ true
+    → are_all_called (policy nat_eq fresh world name call).world
+    (grown names name call (policy nat_eq fresh world name call).answer) ≡ true
+members_stay_called world fresh names name call there = by (is_exit call) refl
+  where
+    by : (b : Bool) → is_exit call ≡ b
+        → are_all_called (policy nat_eq fresh world name call).world
+        (grown names name call (policy nat_eq fresh world name call).answer) ≡ true
+    by true e =
+        subst (λ c. are_all_called (policy nat_eq fresh world name c).world
+        (grown names name c (policy nat_eq fresh world name c).answer) ≡ true) (sym (exit_if call e))
+        (exit_by world fresh names name there (task_called world name) refl)
+    by false e =
+        others_stay world fresh names name call there e (policy nat_eq fresh world name call).answer
+        (child_is_there world name call fresh)

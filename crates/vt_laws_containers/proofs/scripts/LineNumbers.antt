@@ -1,0 +1,87 @@
+-- The numbers that a line is handed are not in use, and after its call the world has no number of a later line.
+use Rattle.std.proofs.Common.{◌≡◌, sym, ap, ◌∙◌, ℕ, zero, suc, nat_eq, Bool, false, true≢false, ◌+◌, ◌≤◌, ◌||◌, eq-eqb, eqb-true, ne_eqb, arith}
+use Rattle.std.proofs.lemmas.Bool.{false_from_ne_true, or_left, or_right}
+use Rattle.vt_spec.specs.Language.Calls.{Call, TaskName}
+use Rattle.vt_spec.specs.Lists.{is_among}
+use Rattle.vt_spec.specs.Machine.Policy.{policy}
+use Rattle.vt_spec.specs.Machine.Run.{Serves, numbers_for, numbers_in_use}
+use Rattle.vt_spec.specs.Machine.World.{World}
+use Rattle.vt_laws_rules.specs.Numbers.{LeavesOutTwo}
+use Rattle.vt_laws_rules.proofs.numbers.Rows.{col, col-spread, row, row-spread, spread_for}
+use Rattle.vt_laws_rules.proofs.numbers.Supports.{calls_keep_to_numbers, used_numbers_are_named}
+use Rattle.vt_laws_containers.specs.Scripts.{HasEarlierNumbers}
+
+-- what a line is handed stands in its row, each number at a place of its own
+row_of : (line place : ℕ) → row (numbers_for (suc line) place) ≡ suc line
+row_of line place = ap row (spread_for line place) ∙ row-spread (suc line) place
+
+col_of : (line place : ℕ) → col (numbers_for (suc line) place) ≡ place
+col_of line place = ap col (spread_for line place) ∙ col-spread (suc line) place
+
+module _ (line : ℕ) (world : World ℕ) (has : HasEarlierNumbers (suc line) world) where
+  two_left : LeavesOutTwo has.named
+  two_left = (
+    numbers_for (suc line) 0,
+    numbers_for (suc line) 1,
+    λ same. differ (col (numbers_for (suc line) 0)) (col (numbers_for (suc line) 1)) (col_of line 0) (col_of line 1)
+        (ap col same),
+    has.later (suc line) 0 (omega arith),
+    has.later (suc line) 1 (omega arith),
+  )
+    where
+      differ : (a b : ℕ) → a ≡ 0 → b ≡ 1 → a ≡ b → ⊥
+      differ a b e f g = omega (arith, e, f, g)
+
+  serves_here : Serves nat_eq world (numbers_for (suc line))
+  serves_here = record {
+    unused = λ place.
+        false_from_ne_true (is_among nat_eq (numbers_for (suc line) place) (numbers_in_use world)) (λ used.
+        true≢false (sym (used_numbers_are_named has.named world has.keeps two_left (numbers_for (suc line) place) used)
+        ∙ has.later (suc line) place (omega arith)));
+    apart = λ j k e.
+        sym (col_of line j) ∙ ap col (eqb-true (numbers_for (suc line) j) (numbers_for (suc line) k) e) ∙ col_of line k;
+  }
+
+  abbrev named_now : ℕ → Bool
+  named_now number = has.named number || nat_eq (row number) (suc line)
+
+  numbers_left_here : (name : TaskName) (call : Call)
+      → HasEarlierNumbers (suc line + 1) (policy nat_eq (numbers_for (suc line)) world name call).world
+  numbers_left_here name call = record {
+    named = named_now;
+    keeps =
+        calls_keep_to_numbers named_now (numbers_for (suc line)) world name call
+        (λ renaming leaves.
+        has.keeps renaming (λ number is. leaves number (or_left (has.named number) (nat_eq (row number) (suc line)) is)))
+        (λ place. or_right (has.named (numbers_for (suc line) place)) (nat_eq (row (numbers_for (suc line) place)) (suc line))
+        (eq-eqb (row (numbers_for (suc line) place)) (suc line) (row_of line place)));
+    later = λ after place less. by after place less;
+  }
+    where
+      by : (after place : ℕ) → suc line + 1 ≤ after → named_now (numbers_for after place) ≡ false
+      by zero place less = absurd (omega (arith, less))
+      by (suc after) place less =
+          ap (λ b. b || nat_eq (row (numbers_for (suc after) place)) (suc line))
+          (has.later (suc after) place (omega (arith, less)))
+          ∙ ap (λ r. nat_eq r (suc line)) (row_of after place)
+          ∙ ne_eqb (suc after) (suc line) (λ e. omega (arith, less, e))
+
+-- Lines are counted from 1.
+pub serves_line : (number : ℕ) (world : World ℕ) → 1 ≤ number → HasEarlierNumbers number world
+    → Serves nat_eq world (numbers_for number)
+serves_line zero world counted has = absurd (omega (arith, counted))
+serves_line (suc line) world counted has = serves_here line world has
+
+pub numbers_left : (number : ℕ) (world : World ℕ) (name : TaskName) (call : Call) → 1 ≤ number
+    → HasEarlierNumbers number world
+    → HasEarlierNumbers (number + 1) (policy nat_eq (numbers_for number) world name call).world
+numbers_left zero world name call counted has = absurd (omega (arith, counted))
+numbers_left (suc line) world name call counted has = numbers_left_here line world has name call
+
+pub numbers_passed : (number : ℕ) (world : World ℕ) → HasEarlierNumbers number world
+    → HasEarlierNumbers (number + 1) world
+numbers_passed number world has = record {
+  named = has.named;
+  keeps = has.keeps;
+  later = λ line place less. has.later line place (omega (arith, less));
+}

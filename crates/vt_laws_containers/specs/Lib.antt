@@ -1,0 +1,4 @@
+pub mod Calls
+pub mod Footholds
+pub mod PermitFootholds
+pub mod Scripts

@@ -1,0 +1,105 @@
+-- Worlds that differ in the masters of groups without members have the same invariants of mounts, and the same goes.
+use Rattle.std.proofs.Common.{◌≡◌, refl, sym, ap, ◌∙◌, ℕ, zero, suc, nat_eq, Bool, true, false, cond, [], ◌∷◌, Option, Some, None, length, map}
+use Rattle.std.specs.Prelude.{option_map, unwrap_or}
+use Rattle.std.specs.List.{filter_map}
+use Rattle.vt_spec.specs.Lists.{chain, holds_of, is_among}
+use Rattle.vt_spec.specs.Machine.Attach.{receivers_of}
+use Rattle.vt_spec.specs.Machine.Detach.{going, going_at, going_from, goes_at}
+use Rattle.vt_spec.specs.Machine.Invariants.{HasLivingGroups, Lives, MountInvariants, Stands}
+use Rattle.vt_spec.specs.Machine.Invariants.Lives.{has_master, has_no_master}
+use Rattle.vt_spec.specs.Machine.Mounts.{Location, Mount, group_of, is_shared, source_of}
+use Rattle.vt_spec.specs.Machine.Receives.{groups_up, has_members, receivers, receives}
+use Rattle.vt_spec.specs.Machine.Settled.{without_dead_groups}
+use Rattle.vt_spec.specs.Machine.World.{World, mount_at}
+use Rattle.vt_spec.proofs.Found.{filter_alike}
+use Rattle.vt_spec.proofs.Lists.{Among, all_from_among, among_from_all, chain_ends, chain_goes_on}
+use Rattle.vt_spec.proofs.Worlds.{stands_alike}
+
+module _ (w : World ℕ) where
+  abbrev cleared : World ℕ
+  cleared = without_dead_groups nat_eq w
+
+  abbrev members : ℕ → Bool
+  members = has_members nat_eq w.mounts
+
+  master_same : (group : ℕ) → members group ≡ true → cleared.master group ≡ w.master group
+  master_same group has = ap (λ b. cond b (w.master group) None) has
+
+  lives_cleared : (group : ℕ) → Lives members w.master group → Lives members cleared.master group
+  lives_cleared group (has_no_master it has e) = has_no_master it has (master_same it has ∙ e)
+  lives_cleared group (has_master it next has e later) =
+      has_master it next has (master_same it has ∙ e) (lives_cleared next later)
+
+  lives_before : (group : ℕ) → Lives members cleared.master group → Lives members w.master group
+  lives_before group (has_no_master it has e) = has_no_master it has (sym (master_same it has) ∙ e)
+  lives_before group (has_master it next has e later) =
+      has_master it next has (sym (master_same it has) ∙ e) (lives_before next later)
+
+  pub cleared_keeps : MountInvariants nat_eq w → MountInvariants nat_eq cleared
+  cleared_keeps kept = record {
+    one_number = kept.one_number;
+    one_child = kept.one_child;
+    standing = all_from_among (λ (m : Mount ℕ). Stands nat_eq cleared m.number) w.mounts (λ m n.
+        stands_alike w cleared (λ number. refl) m.number
+        (among_from_all (λ (x : Mount ℕ). Stands nat_eq w x.number) w.mounts kept.standing m n));
+    nowhere = kept.nowhere;
+    groups = all_from_among (HasLivingGroups nat_eq cleared) w.mounts (λ m n group e.
+        lives_cleared group (among_from_all (HasLivingGroups nat_eq w) w.mounts kept.groups m n group e));
+  }
+
+  pub keeps_before : MountInvariants nat_eq cleared → MountInvariants nat_eq w
+  keeps_before kept = record {
+    one_number = kept.one_number;
+    one_child = kept.one_child;
+    standing = all_from_among (λ (m : Mount ℕ). Stands nat_eq w m.number) w.mounts (λ m n.
+        stands_alike cleared w (λ number. refl) m.number
+        (among_from_all (λ (x : Mount ℕ). Stands nat_eq cleared x.number) w.mounts kept.standing m n));
+    nowhere = kept.nowhere;
+    groups = all_from_among (HasLivingGroups nat_eq w) w.mounts (λ m n group e.
+        lives_before group (among_from_all (HasLivingGroups nat_eq cleared) w.mounts kept.groups m n group e));
+  }
+
+  -- what an event detaches
+  chain_same : (n group : ℕ) → Lives members w.master group → chain n cleared.master group ≡ chain n w.master group
+  chain_same zero group life = refl
+  chain_same (suc n) group (has_no_master it has e) =
+      chain_ends cleared.master n it (master_same it has ∙ e) ∙ sym (chain_ends w.master n it e)
+  chain_same (suc n) group (has_master it next has e later) =
+      chain_goes_on cleared.master n it next (master_same it has ∙ e) ∙ ap (λ l. it ∷ l) (chain_same n next later)
+      ∙ sym (chain_goes_on w.master n it next e)
+
+  module _ (kept : MountInvariants nat_eq w) where
+    receives_same : (group : ℕ) (m : Mount ℕ) → Among m w.mounts
+        → receives nat_eq cleared group m ≡ receives nat_eq w group m
+    receives_same group m n = by (source_of m.propagation) refl
+      where
+        by : (o : Option ℕ) → source_of m.propagation ≡ o
+            → holds_of (λ source. is_among nat_eq group (groups_up cleared source)) o
+            ≡ holds_of (λ source. is_among nat_eq group (groups_up w source)) o
+        by None e = refl
+        by (Some source) e =
+            ap (is_among nat_eq group)
+            (chain_same (length w.mounts) source
+            (among_from_all (HasLivingGroups nat_eq w) w.mounts kept.groups m n source e))
+
+    receivers_same : (m : Mount ℕ) → receivers_of nat_eq cleared m ≡ receivers_of nat_eq w m
+    receivers_same m = by (group_of m.propagation)
+      where
+        by : (o : Option ℕ)
+            → unwrap_or (option_map (receivers nat_eq cleared) o) [] ≡ unwrap_or (option_map (receivers nat_eq w) o) []
+        by None = refl
+        by (Some group) =
+            filter_alike (receives nat_eq cleared group) (receives nat_eq w group) w.mounts (receives_same group)
+
+    pub going_same : (m : Mount ℕ) → going nat_eq cleared m ≡ going nat_eq w m
+    going_same m = by m.mount_point
+      where
+        shared : (point : Location ℕ) (b : Bool) → going_from nat_eq cleared m point b ≡ going_from nat_eq w m point b
+        shared point true =
+            ap (λ list. map (λ (gone : Mount ℕ). gone.number) (filter_map (goes_at nat_eq w point.node) list))
+            (receivers_same (mount_at nat_eq w point))
+        shared point false = refl
+
+        by : (o : Option (Location ℕ)) → going_at nat_eq cleared m o ≡ going_at nat_eq w m o
+        by None = refl
+        by (Some point) = shared point (is_shared (mount_at nat_eq w point).propagation)

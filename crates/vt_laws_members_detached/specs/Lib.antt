@@ -1,0 +1,2 @@
+pub mod Lazily
+pub mod Removals

@@ -1,0 +1,2 @@
+-- What the proofs of src/each_call.rt use.
+pub mod Permitted

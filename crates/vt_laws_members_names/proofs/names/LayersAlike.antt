@@ -1,0 +1,244 @@
+-- A change through an overlay makes the same in the part: lower layers of theirs show there what they show in the
+-- world.
+use Rattle.std.proofs.Common.{◌≡◌, refl, sym, ap, ◌∙◌, ℕ, suc, nat_eq, arith, Bool, true, false, cond, List, [], ◌∷◌, ◌++◌, Option, Some, None, is_some, map, not, option_and_then, subst, ◌+◌}
+use Rattle.std.specs.List.{list_any, slice_get}
+use Rattle.std.specs.Prelude.{⊤}
+use Rattle.std.proofs.lemmas.Option.{same_Some}
+use Rattle.vt_spec.specs.declared.attributes.Kind.TheVariants.{White}
+use Rattle.vt_spec.specs.FileTree.{FileTree, is_kind_in}
+use Rattle.vt_spec.specs.Language.Changes.{Change, changed, content_with_parent, with_inode, with_moved, with_name}
+use Rattle.vt_spec.specs.Language.Changes.Change.{AddName, CopyUp, Make, Move, Remove, SetAttr, SetBytes, SetMark}
+use Rattle.vt_spec.specs.Lists.{Fresh, evens, holds_of, odds, prefixes, then_some, when, without_last}
+use Rattle.vt_spec.specs.Machine.CopyUp.{Merge, Stack, copied_up, hides_directory, is_directory_shown, merge_changed, name_left, name_left_by, path_to, shown_in_lowers_at, upper_directory_named, upper_of, whiteout_of, with_mark, with_real, without_contents}
+use Rattle.vt_spec.specs.Machine.Layers.{OpenLayer, view_of}
+use Rattle.vt_spec.specs.Machine.Views.{Shown, cuts, hides, node_led, shown_from, shown_over}
+use Rattle.vt_spec.specs.Machine.World.Real.{Upper}
+use Rattle.vt_spec.specs.Tree.{entries_in, entry_named, is_directory_node}
+use Rattle.vt_spec.specs.TreeInvariant.{entry_at, led}
+use Rattle.vt_spec.proofs.Options.{none_is_some}
+use Rattle.vt_spec.proofs.Trees.{led-append}
+
+-- two layers have the same inode at each path
+abbrev pub ViewsAlike : OpenLayer ℕ → OpenLayer ℕ → Type 0
+ViewsAlike one other = (path : List (List ℕ)) → node_led (view_of one) path ≡ node_led (view_of other) path
+
+-- so their paths lead to the same numbers
+module _ (one other : OpenLayer ℕ) (down : one.directory ≡ other.directory) (same : ViewsAlike one other) where
+  node_same : (way : List (List ℕ)) (k : ℕ) → led one.tree one.directory way ≡ Some k
+      → led other.tree other.directory way ≡ Some k → one.tree.node k ≡ other.tree.node k
+  node_same way k e f =
+      sym (ap (λ o. then_some o one.tree.node) e) ∙ same way ∙ ap (λ o. then_some o other.tree.node) f
+
+  leads_on : (path way : List (List ℕ)) (k : ℕ) → led one.tree one.directory way ≡ Some k
+      → led other.tree other.directory way ≡ Some k → led one.tree k path ≡ led other.tree k path
+  leads_on [] way k e f = refl
+  leads_on (word ∷ rest) way k e f =
+      ap (λ n. option_and_then (λ next. led one.tree next rest) (entry_named word (entries_in n))) (node_same way k e f)
+      ∙ by (entry_at other.tree k word) refl (leads_on rest (way ++ word ∷ []))
+    where
+      by : (o : Option ℕ) → entry_at other.tree k word ≡ o
+          → ((next : ℕ) → led one.tree one.directory (way ++ word ∷ []) ≡ Some next
+          → led other.tree other.directory (way ++ word ∷ []) ≡ Some next
+          → led one.tree next rest ≡ led other.tree next rest)
+          → option_and_then (λ next. led one.tree next rest) o ≡ option_and_then (λ next. led other.tree next rest) o
+      by None there later = refl
+      by (Some next) there later =
+          later next
+          (led-append one.tree one.directory way word k next e
+          (ap (λ n. entry_named word (entries_in n)) (node_same way k e f) ∙ there))
+          (led-append other.tree other.directory way word k next f there)
+
+  pub leads_alike : (path : List (List ℕ)) → (view_of one).leads path ≡ (view_of other).leads path
+  leads_alike path =
+      leads_on path [] one.directory refl (ap Some (sym down)) ∙ ap (λ d. led other.tree d path) down
+
+  pub cuts_alike : (path : List (List ℕ)) → cuts (view_of one) path ≡ cuts (view_of other) path
+  cuts_alike path i = list_any (λ prefix. hides (same prefix i)) (prefixes path)
+
+-- a list of layers that have the same, one by one
+abbrev pub AllAlike : List (OpenLayer ℕ) → List (OpenLayer ℕ) → Type 0
+AllAlike [] [] = ⊤
+AllAlike [] (other ∷ others) = ⊥
+AllAlike (one ∷ ones) [] = ⊥
+AllAlike (one ∷ ones) (other ∷ others) =
+    (one.directory ≡ other.directory) × ViewsAlike one other × AllAlike ones others
+
+-- the same object is shown
+shown_alike : (ones others : List (OpenLayer ℕ)) → AllAlike ones others → (depth : ℕ) (path : List (List ℕ))
+    → shown_from depth (map view_of ones) path ≡ shown_from depth (map view_of others) path
+shown_alike [] [] same depth path = refl
+shown_alike [] (other ∷ others) none depth path = absurd none
+shown_alike (one ∷ ones) [] none depth path = absurd none
+shown_alike (one ∷ ones) (other ∷ others) same depth path =
+    let leads = leads_alike one other same.0 same.1 path in
+    ap (λ o. shown_over (view_of one) depth o (cuts (view_of one) path)
+    (shown_from (depth + 1) (map view_of ones) path))
+    leads
+    ∙ (λ i. shown_over (view_of one) depth ((view_of other).leads path) (cuts_alike one other same.0 same.1 path i)
+    (shown_alike ones others same.2 (depth + 1) path i))
+    ∙ by ((view_of other).leads path) refl
+  where
+    lower : Option (Shown ℕ)
+    lower = shown_from (depth + 1) (map view_of others) path
+
+    by : (o : Option ℕ) → (view_of other).leads path ≡ o
+        → shown_over (view_of one) depth o (cuts (view_of other) path) lower
+        ≡ shown_over (view_of other) depth o (cuts (view_of other) path) lower
+    by None e = same_none (cuts (view_of other) path)
+      where
+        same_none : (b : Bool) → shown_over (view_of one) depth None b lower
+            ≡ shown_over (view_of other) depth None b lower
+        same_none true = refl
+        same_none false = refl
+    by (Some object) e =
+        ap (λ n. when (not (is_kind_in White n)) (record { layer = depth; object = object }))
+        (node_same one other same.0 same.1 path object (leads_alike one other same.0 same.1 path ∙ e) e)
+
+-- of one kind
+abbrev is_directory_at : ℕ → OpenLayer ℕ → Bool
+is_directory_at object layer = is_directory_node (layer.tree.node object)
+
+kind_alike : (ones others : List (OpenLayer ℕ)) → AllAlike ones others → (depth : ℕ) (path : List (List ℕ))
+    (seen : Shown ℕ) → shown_from depth (map view_of others) path ≡ Some seen
+    → (n : ℕ) × (seen.layer ≡ depth + n)
+    × (holds_of (is_directory_at seen.object) (slice_get ones n)
+    ≡ holds_of (is_directory_at seen.object) (slice_get others n))
+kind_alike [] [] same depth path seen e = none_is_some seen e
+kind_alike [] (other ∷ others) none depth path seen e = absurd none
+kind_alike (one ∷ ones) [] none depth path seen e = absurd none
+kind_alike (one ∷ ones) (other ∷ others) same depth path seen e =
+    by ((view_of other).leads path) refl (cuts (view_of other) path) e
+    (kind_alike ones others same.2 (depth + 1) path seen)
+  where
+    first : (object : ℕ) → (view_of other).leads path ≡ Some object → (white : Bool)
+        → when (not white) (record { layer = depth; object = object }) ≡ Some seen
+        → (n : ℕ) × (seen.layer ≡ depth + n)
+        × (holds_of (is_directory_at seen.object) (slice_get (one ∷ ones) n)
+        ≡ holds_of (is_directory_at seen.object) (slice_get (other ∷ others) n))
+    first object there true h = none_is_some seen h
+    first object there false h =
+        let it = same_Some (record { layer = depth; object = object }) seen h in (
+          0,
+          (let zero_more : depth ≡ depth + 0 = omega arith in ap (λ (s : Shown ℕ). s.layer) (sym it) ∙ zero_more),
+          subst (λ (s : Shown ℕ). is_directory_at s.object one ≡ is_directory_at s.object other) it
+              (ap is_directory_node
+              (node_same one other same.0 same.1 path object (leads_alike one other same.0 same.1 path ∙ there) there)),
+        )
+
+    by : (o : Option ℕ) → (view_of other).leads path ≡ o → (b : Bool)
+        → shown_over (view_of other) depth o b (shown_from (depth + 1) (map view_of others) path) ≡ Some seen
+        → (shown_from (depth + 1) (map view_of others) path ≡ Some seen → (n : ℕ) × (seen.layer ≡ (depth + 1) + n)
+        × (holds_of (is_directory_at seen.object) (slice_get ones n)
+        ≡ holds_of (is_directory_at seen.object) (slice_get others n)))
+        → (n : ℕ) × (seen.layer ≡ depth + n)
+        × (holds_of (is_directory_at seen.object) (slice_get (one ∷ ones) n)
+        ≡ holds_of (is_directory_at seen.object) (slice_get (other ∷ others) n))
+    by (Some object) there b h later = first object there (is_kind_in White ((view_of other).node object)) h
+    by None there true h later = none_is_some seen h
+    by None there false h later =
+        let rest = later h in (
+          suc rest.0,
+          (let more : (depth + 1) + rest.0 ≡ depth + suc rest.0 = omega arith in rest.1 ∙ more),
+          rest.2,
+        )
+
+-- Two stacks of one directory and one mounter
+module _ (one other : Stack ℕ) (directory_same : one.directory ≡ other.directory)
+    (mounter_same : one.mounter ≡ other.mounter)
+    (same : AllAlike one.lowers other.lowers) where
+  lowers_shown : (merge : Merge ℕ) (directory : ℕ) (name : List ℕ)
+      → shown_in_lowers_at nat_eq one merge directory name ≡ shown_in_lowers_at nat_eq other merge directory name
+  lowers_shown merge directory name i =
+      cond (cuts (view_of (record { tree = merge.upper.tree; directory = directory_same i }))
+      (without_last (path_to nat_eq merge directory name))) None
+      (shown_alike one.lowers other.lowers same 1 (path_to nat_eq merge directory name) i)
+
+  hides_same : (merge : Merge ℕ) (directory : ℕ) (name : List ℕ)
+      → hides_directory nat_eq one merge directory name ≡ hides_directory nat_eq other merge directory name
+  hides_same merge directory name =
+      (λ i. is_directory_shown (record { tree = merge.upper.tree; directory = directory_same i } ∷ one.lowers)
+      (lowers_shown merge directory name i))
+      ∙ by (cuts (view_of top) (without_last path))
+    where
+      path : List (List ℕ)
+      path = path_to nat_eq merge directory name
+
+      top : OpenLayer ℕ
+      top = record { tree = merge.upper.tree; directory = other.directory }
+
+      of_seen : (o : Option (Shown ℕ)) → shown_from 1 (map view_of other.lowers) path ≡ o
+          → is_directory_shown (top ∷ one.lowers) o ≡ is_directory_shown (top ∷ other.lowers) o
+      of_seen None e = refl
+      of_seen (Some seen) e =
+          let at = kind_alike one.lowers other.lowers same 1 path seen e in
+          let place : seen.layer ≡ suc at.0 = (let h : 1 + at.0 ≡ suc at.0 = omega arith in at.1 ∙ h) in
+          ap (λ n. holds_of (is_directory_at seen.object) (slice_get (top ∷ one.lowers) n)) place
+          ∙ at.2
+          ∙ sym (ap (λ n. holds_of (is_directory_at seen.object) (slice_get (top ∷ other.lowers) n)) place)
+
+      by : (b : Bool)
+          → is_directory_shown (top ∷ one.lowers) (cond b None (shown_from 1 (map view_of other.lowers) path))
+          ≡ is_directory_shown (top ∷ other.lowers) (cond b None (shown_from 1 (map view_of other.lowers) path))
+      by true = refl
+      by false = of_seen (shown_from 1 (map view_of other.lowers) path) refl
+
+  left_same : (fresh : Fresh ℕ) (merge : Merge ℕ) (upper : FileTree ℕ) (directory : ℕ) (name : List ℕ)
+      → name_left nat_eq fresh one merge upper directory name ≡ name_left nat_eq fresh other merge upper directory name
+  left_same fresh merge upper directory name =
+      ap (λ o. name_left_by nat_eq (is_some o) fresh one upper (upper_of merge directory) name)
+      (lowers_shown merge directory name)
+      ∙ by (is_some (shown_in_lowers_at nat_eq other merge directory name))
+    where
+      by : (b : Bool) → name_left_by nat_eq b fresh one upper (upper_of merge directory) name
+          ≡ name_left_by nat_eq b fresh other upper (upper_of merge directory) name
+      by true =
+          ap (λ m. with_name nat_eq (with_inode nat_eq upper (fresh 0) (whiteout_of m)) (upper_of merge directory) name
+          (fresh 0)) mounter_same
+      by false = refl
+
+  -- So a change makes the same of both.
+  pub made_same : (fresh : Fresh ℕ) (merge : Merge ℕ) (change : Change ℕ)
+      → merge_changed nat_eq fresh one merge change ≡ merge_changed nat_eq fresh other merge change
+  made_same fresh merge (Make directory name number node) =
+      ap (λ b. made (copied_up nat_eq (evens fresh) merge directory) b)
+      (hides_same (copied_up nat_eq (evens fresh) merge directory) directory name)
+    where
+      made : Merge ℕ → Bool → Merge ℕ
+      made copied b = record {
+        files = changed nat_eq copied.files (Make directory name number node);
+        real = with_real nat_eq copied.real number (Upper (odds fresh 0));
+        upper = with_mark nat_eq b (with_name nat_eq
+            (with_inode nat_eq copied.upper (odds fresh 0)
+            (record { attr = node.attr; content = content_with_parent (upper_of copied directory) node.content }))
+            (upper_of copied directory) name (odds fresh 0)) (odds fresh 0);
+      }
+  made_same fresh merge (AddName directory name object) = refl
+  made_same fresh merge (Remove directory name object) =
+      ap (λ u. record copied {
+        files = changed nat_eq copied.files (Remove directory name object);
+        upper = without_contents nat_eq u (upper_directory_named copied directory name);
+      })
+      (left_same (odds fresh) copied copied.upper directory name)
+    where
+      copied : Merge ℕ
+      copied = copied_up nat_eq (evens fresh) merge directory
+  made_same fresh merge (Move from old to new object) =
+      ap (λ b. moved b (name_left nat_eq (odds (odds fresh)) one copied freed from old)) (hides_same copied to new)
+      ∙ ap (moved (hides_directory nat_eq other copied to new)) (left_same (odds (odds fresh)) copied freed from old)
+    where
+      copied : Merge ℕ
+      copied = copied_up nat_eq (evens (odds fresh)) (copied_up nat_eq (evens fresh) merge object) to
+
+      freed : FileTree ℕ
+      freed = with_moved nat_eq (without_contents nat_eq copied.upper (upper_directory_named copied to new))
+          (upper_of copied from) old (upper_of copied to) new (upper_of copied object)
+
+      moved : Bool → FileTree ℕ → Merge ℕ
+      moved b upper = record copied {
+        files = changed nat_eq copied.files (Move from old to new object);
+        upper = with_mark nat_eq b upper (upper_of copied object);
+      }
+  made_same fresh merge (SetBytes file bytes) = refl
+  made_same fresh merge (SetAttr object attr) = refl
+  made_same fresh merge (SetMark directory opaque) = refl
+  made_same fresh merge (CopyUp object) = refl

@@ -1,0 +1,192 @@
+-- Where filesystems change that a sealed set uses alone, the world and the part leave it one part.
+use Rattle.std.proofs.Common.{◌≡◌, sym, ap, subst, ◌∙◌, refl, ℕ, nat_eq, eqb-true, Bool, true, false, cond, true≢false, List, Some, Ok, filter, map}
+use Rattle.std.specs.List.{list_any}
+use Rattle.vt_spec.specs.Language.Answers.{Answer}
+use Rattle.vt_spec.specs.Language.Calls.{Call, TaskName}
+use Rattle.vt_spec.specs.Lists.{Fresh, is_among}
+use Rattle.vt_spec.specs.Machine.Filesystems.{raised, raised_if_changed}
+use Rattle.vt_spec.specs.Machine.Outcomes.{granted}
+use Rattle.vt_spec.specs.Machine.Policy.{numbers_raised, policy, raised_task}
+use Rattle.vt_spec.specs.Machine.Sealed.{change_layers, is_member_task, own_lowers, part_of, used_filesystems}
+use Rattle.vt_spec.specs.Machine.Settled.{settled, without_dead_mounts}
+use Rattle.vt_spec.specs.Machine.World.{Filesystem, Layer, Task, World, task_called}
+use Rattle.vt_spec.proofs.Lists.{Among, any_among}
+use Rattle.vt_laws_letting_go.specs.InUse.{AllInUse}
+use Rattle.vt_laws_letting_go.specs.TreesOverlays.{with_filesystems}
+use Rattle.vt_laws_letting_go.proofs.sweeps.OfWorlds.{all_in_use}
+use Rattle.vt_laws_members_changes.specs.Changes.{EndAlike, EndsAlike, IsCallOfTheirs, grown}
+use Rattle.vt_laws_members_changes.proofs.files.FilesChanged.{lowers_in, part_with_layers}
+use Rattle.vt_laws_members_changes.proofs.letting_go.Changed.{LetsGo, sees_less}
+use Rattle.vt_laws_members_changes.proofs.letting_go.Ends.{private_in_part, private_in_world, raised_members, raised_sees}
+use Rattle.vt_laws_members_changes.proofs.letting_go.LessSeen.{less_used}
+use Rattle.vt_laws_members_changes.proofs.letting_go.PartReady.{part_ready}
+use Rattle.vt_laws_members_changes.proofs.letting_go.Raised.{DetachedArePrivate, swept_raised}
+use Rattle.vt_laws_members_changes.proofs.letting_go.Ready.{Ready}
+use Rattle.vt_laws_members_changes.proofs.letting_go.SeeLess.{now_less, part_of_less}
+use Rattle.vt_laws_members_changes.proofs.letting_go.Sweep.{part_of_settled, swept_of, used_of_settled}
+use Rattle.vt_laws_members_changes.proofs.letting_go.WorldReady.{world_ready}
+use Rattle.vt_laws_members_changes.proofs.looks.Told.{ran, same_caller}
+use Rattle.vt_laws_members_changes.proofs.part.SettledPart.{part_in_use}
+use Rattle.vt_laws_members_changes.proofs.tasks.Retasked.{retasked}
+use Rattle.vt_laws_members_names.proofs.names.SteppedReady.{ChangesTheirs, stepped_ready}
+
+-- A world after the last step, whose sweep keeps what these tasks use
+module _ (before : World ℕ) (in_use : AllInUse before) (private_ones : DetachedArePrivate before) (set : List TaskName)
+    (tasks : List (Task ℕ)) (step : Filesystem ℕ → Filesystem ℕ) (name : TaskName) (numbers used : List ℕ)
+    (lowers : List (Layer ℕ))
+    (ready : Ready (without_dead_mounts nat_eq (with_filesystems (record before { tasks = tasks }) step)) set used
+    lowers)
+    (theirs : (n : ℕ) → Among n numbers → is_among nat_eq n used ≡ true) where
+  abbrev pub changed : World ℕ
+  changed = with_filesystems (record before { tasks = tasks }) step
+
+  abbrev pub raise : Filesystem ℕ → Filesystem ℕ
+  raise = raised_if_changed nat_eq numbers
+
+  abbrev left : World ℕ
+  left = record (with_filesystems (settled nat_eq changed) raise) {
+    tasks = map (raised_task name) tasks;
+    change = raised before.change;
+  }
+
+  numbers_so : numbers_raised nat_eq before name numbers (settled nat_eq changed) ≡ left
+  numbers_so i = record left {
+    namespaces = ap (λ (w : World ℕ). w.namespaces) (swept_raised before in_use private_ones name tasks) i;
+  }
+
+  raise_keeps : {A : Type 0} (what : Filesystem ℕ → A)
+      → ((x : Filesystem ℕ) → what (record x { change = raised x.change }) ≡ what x) → (x : Filesystem ℕ)
+      → what (raise x) ≡ what x
+  raise_keeps {A} what same x = by (list_any (λ n. nat_eq n x.number) numbers)
+    where
+      by : (b : Bool) → what (cond b (record x { change = raised x.change }) x) ≡ what x
+      by true = same x
+      by false = refl
+
+  raise_kept : (x : Filesystem ℕ) → is_among nat_eq x.number (used_filesystems nat_eq (settled nat_eq changed) set)
+      ≡ false
+      → raise x ≡ x
+  raise_kept x unused = by (list_any (λ n. nat_eq n x.number) numbers) refl
+    where
+      by : (b : Bool) → list_any (λ n. nat_eq n x.number) numbers ≡ b
+          → cond b (record x { change = raised x.change }) x ≡ x
+      by true e =
+          let at = any_among (λ n. nat_eq n x.number) numbers e in
+          absurd (true≢false (sym (theirs at.0 at.1)
+          ∙ ap (λ n. is_among nat_eq n used) (eqb-true at.0 x.number at.2)
+          ∙ ap (is_among nat_eq x.number) (sym (used_of_settled changed set used lowers ready)) ∙ unused))
+      by false e = refl
+
+  pub part_of_raised : part_of nat_eq (numbers_raised nat_eq before name numbers (settled nat_eq changed)) set
+      ≡ record (with_filesystems (part_of nat_eq (settled nat_eq changed) set) raise) {
+        tasks = filter (is_member_task set) (map (raised_task name) tasks);
+      }
+  part_of_raised =
+      ap (λ w. part_of nat_eq w set) numbers_so
+      ∙ retasked (with_filesystems (settled nat_eq changed) raise) set set (map (raised_task name) tasks)
+      (raised before.change)
+      (raised_sees (with_filesystems (settled nat_eq changed) raise) set name (raised before.change))
+      ∙ ap (λ (w : World ℕ). record w { tasks = filter (is_member_task set) (map (raised_task name) tasks) })
+      (part_with_layers (settled nat_eq changed) set raise (raise_keeps (λ (x : Filesystem ℕ). x.number) (λ x. refl))
+      (λ x m. raise_keeps change_layers (λ y. refl) x) (λ x m. raise_keeps lowers_in (λ y. refl) x) raise_kept)
+
+-- The world and the part
+module _ (world : World ℕ) (names set : List TaskName) (name : TaskName) (call : Call)
+    (it : IsCallOfTheirs world names name call) (tasks tasks_too : List (Task ℕ))
+    (lets : LetsGo world names it.is it.sealed_off set tasks)
+    (same : filter (is_member_task set) tasks_too ≡ filter (is_member_task set) tasks)
+    (all : (t : Task ℕ) → Among t tasks_too → is_member_task set t ≡ true) (step : Filesystem ℕ → Filesystem ℕ) where
+  abbrev part : World ℕ
+  part = part_of nat_eq world names
+
+  abbrev pub now : World ℕ
+  now = record world { tasks = tasks }
+
+  abbrev pub now_part : World ℕ
+  now_part = record part { tasks = tasks_too }
+
+  abbrev pub used_now : List ℕ
+  used_now = used_filesystems nat_eq now set
+
+  abbrev lowers_now : List (Layer ℕ)
+  lowers_now = own_lowers nat_eq now set
+
+  abbrev pub living : World ℕ
+  living = without_dead_mounts nat_eq now
+
+  abbrev pub living_part : World ℕ
+  living_part = without_dead_mounts nat_eq now_part
+
+  module _ (theirs : ChangesTheirs living set used_now step)
+      (theirs_there : ChangesTheirs living_part set used_now step)
+    where
+      ready : Ready (without_dead_mounts nat_eq (with_filesystems now step)) set used_now lowers_now
+      ready =
+          stepped_ready living set used_now lowers_now
+          (world_ready world names it.is it.sealed_off set tasks world.change lets) step theirs
+
+      ready_there : Ready (without_dead_mounts nat_eq (with_filesystems now_part step)) set used_now lowers_now
+      ready_there =
+          stepped_ready living_part set used_now lowers_now
+          (part_ready world names it.is it.sealed_off set tasks tasks_too world.change part.change lets same all) step
+          theirs_there
+
+      used_there : used_filesystems nat_eq now_part set ≡ used_now
+      used_there =
+          less_used world names it.is set now now_part
+          (now_less world names it.is set tasks tasks_too world.change part.change
+          (sees_less world names it.is it.sealed_off set tasks world.change lets) same)
+
+      parts_stepped : part_of nat_eq (with_filesystems now step) set
+          ≡ part_of nat_eq (with_filesystems now_part step) set
+      parts_stepped =
+          part_with_layers now set step theirs.numbered theirs.changing theirs.lowering theirs.kept
+          ∙ ap (λ w. with_filesystems w step)
+          (sym (part_of_less world names it.is set tasks tasks_too world.change part.change
+          (sees_less world names it.is it.sealed_off set tasks world.change lets) same))
+          ∙ sym (part_with_layers now_part set step theirs_there.numbered theirs_there.changing theirs_there.lowering
+          (λ x e. theirs_there.kept x (ap (is_among nat_eq x.number) (sym used_there) ∙ e)))
+
+      swept_parts : part_of nat_eq (settled nat_eq (with_filesystems now step)) set
+          ≡ part_of nat_eq (settled nat_eq (with_filesystems now_part step)) set
+      swept_parts =
+          part_of_settled (with_filesystems now step) set used_now lowers_now ready
+          ∙ ap (swept_of set) parts_stepped
+          ∙ sym (part_of_settled (with_filesystems now_part step) set used_now lowers_now ready_there)
+
+      -- So a call by which they change ends alike.
+      module _ (numbers : List ℕ) (used : (n : ℕ) → Among n numbers → is_among nat_eq n used_now ≡ true) where
+        abbrev ends_here : World ℕ
+        ends_here = numbers_raised nat_eq world name numbers (settled nat_eq (with_filesystems now step))
+
+        abbrev ends_there : World ℕ
+        ends_there = numbers_raised nat_eq part name numbers (settled nat_eq (with_filesystems now_part step))
+
+        parts_left : part_of nat_eq ends_here set ≡ part_of nat_eq ends_there set
+        parts_left =
+            part_of_raised world (all_in_use world it.is) (private_in_world world it.is) set tasks step name numbers
+            used_now
+            lowers_now ready used
+            ∙ (λ i. record (with_filesystems (swept_parts i) (raised_if_changed nat_eq numbers)) {
+              tasks = (raised_members set name tasks ∙ ap (map (raised_task name)) (sym same)
+                  ∙ sym (raised_members set name tasks_too)) i;
+            })
+            ∙ sym (part_of_raised part (part_in_use world names it.is it.sealed_off)
+            (private_in_part world names it.is) set
+            tasks_too step name numbers used_now lowers_now ready_there used)
+
+        pub stepped_ends : (task : Task ℕ) → task_called world name ≡ Some task → (fresh other : Fresh ℕ)
+            (answer : Answer)
+            → grown names name call (Ok answer) ≡ set → ran name call world fresh (Some task) ≡ granted answer ends_here
+            → ran name call part other (Some task) ≡ granted answer ends_there
+            → EndsAlike world names name call fresh other
+        stepped_ends task called fresh other answer stays one two =
+            let first : policy nat_eq fresh world name call ≡ granted answer ends_here =
+            ap (ran name call world fresh) called ∙ one in
+            let second : policy nat_eq other part name call ≡ granted answer ends_there =
+            ap (ran name call part other) (same_caller world names it.is it.sealed_off name it.theirs ∙ called) ∙ two in
+            subst (λ p. EndAlike (grown names name call (policy nat_eq fresh world name call).answer)
+            (policy nat_eq fresh world name call) p) (sym second)
+            (subst (λ o. EndAlike (grown names name call o.answer) o (granted answer ends_there)) (sym first)
+            (subst (λ s. EndAlike s (granted answer ends_here) (granted answer ends_there)) (sym stays)
+            (record { answer = refl; part = parts_left })))

@@ -1,0 +1,2 @@
+pub mod EachCalls
+pub mod OverlayNames
