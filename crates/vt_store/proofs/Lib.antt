@@ -1,0 +1,3 @@
+pub mod Lending
+pub mod Looked
+pub mod Woven

@@ -1,0 +1,66 @@
+-- What is found in a filesystem of a store, through an overlay or in a plain tree.
+use Rattle.std.proofs.Common.{◌≡◌, ◌∙◌, ◌≤◌, ap, Bool, false, length, None, option_map, Option, refl, Some, subst, sym, true, ℕ}
+use Rattle.std.proofs.lemmas.Option.{same_Some}
+use Rattle.vt_spec.proofs.Options.{none_is_some}
+use Rattle.vt_spec.specs.FileTree.{FileTree}
+use Rattle.vt_spec.specs.Lists.{when}
+use Rattle.vt_spec.specs.Tree.{Node, is_directory_node, parent_in}
+use Rattle.vt_fs.specs.FilesystemsValue.{Filesystems, files_at, node_seen}
+use Rattle.vt_overlay.specs.Alike.{real_lent}
+use Rattle.vt_overlay.specs.MergedTree.{AreLayers, OverlayValue, merged_files, merged_tree}
+use Rattle.vt_store.specs.StoreValue.{StandOnLayers, StoreValue, files_in, lent_by, lent_in, overlay_in}
+use Rattle.vt_store.proofs.Lending.{its_own_parent}
+use Rattle.vt_store.proofs.Woven.{files_over, files_plain}
+
+-- the parent of a directory, or what is no directory itself
+pub when_is : (b : Bool) (a m : ℕ) → Some m ≡ when b a → m ≡ a
+when_is true a m e = same_Some m a e
+when_is false a m e = none_is_some m (sym e)
+
+pub no_directory : (own : ℕ) (node : Option (Node ℕ))
+    → None ≡ when (is_directory_node node) (parent_in own node) → own ≡ parent_in own node
+no_directory own node e = by (is_directory_node node) refl e
+  where
+    by : (b : Bool) → is_directory_node node ≡ b → None ≡ when b (parent_in own node) → own ≡ parent_in own node
+    by true is e = none_is_some (parent_in own node) e
+    by false isnt e = its_own_parent own node isnt
+
+module _ (store : StoreValue) (plain : Filesystems) (same : plain ≡ store.plain) (count : ℕ) where
+  module _ (overlay : OverlayValue) (is : overlay_in store count ≡ Some overlay) where
+    pub over_files : merged_files plain overlay ≡ files_in store count
+    over_files = ap (λ p. merged_files p overlay) same ∙ files_over store count overlay is
+
+    pub over_node : (number : ℕ) → (merged_tree plain overlay).node number ≡ (files_in store count).tree.node number
+    over_node number = ap (λ (files : FileTree ℕ). files.tree.node number) over_files
+
+    pub over_tree : merged_tree plain overlay ≡ (files_in store count).tree
+    over_tree = ap (λ (files : FileTree ℕ). files.tree) over_files
+
+    pub over_lent : (number : ℕ) → real_lent plain overlay number ≡ lent_in store count number
+    over_lent number =
+        ap (λ p. real_lent p overlay number) same ∙ ap (lent_by store.plain count number) (sym is)
+
+    module _ (standing : StandOnLayers store) where
+      pub over_layers : AreLayers plain overlay.lowers
+      over_layers = subst (λ p. AreLayers p overlay.lowers) (sym same) (standing.layers count overlay is)
+
+      pub over_few : length overlay.lowers ≤ 129
+      over_few = standing.few count overlay is
+
+  module _ (none : overlay_in store count ≡ None) where
+    pub plain_files : files_at plain count ≡ files_in store count
+    plain_files = ap (λ p. files_at p count) same ∙ files_plain store count none
+
+    pub plain_node : (number : ℕ) → (files_at plain count).tree.node number ≡ (files_in store count).tree.node number
+    plain_node number = ap (λ (files : FileTree ℕ). files.tree.node number) plain_files
+
+    pub plain_lent : (number : ℕ)
+        → option_map (node_seen count) ((files_at plain count).tree.node number) ≡ lent_in store count number
+    plain_lent number =
+        ap (λ p. option_map (node_seen count) ((files_at p count).tree.node number)) same
+        ∙ ap (lent_by store.plain count number) (sym none)
+
+    -- what is lent is the inode by its slots
+    pub plain_seen : (number : ℕ)
+        → option_map (node_seen count) ((files_in store count).tree.node number) ≡ lent_in store count number
+    plain_seen number = ap (option_map (node_seen count)) (sym (plain_node number)) ∙ plain_lent number

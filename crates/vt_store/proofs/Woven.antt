@@ -1,0 +1,177 @@
+-- Plain filesystems and overlays, found by their numbers.
+use Rattle.std.proofs.Common.{◌≡◌, ◌∙◌, ◌∷◌, [], arith, ap, Bool, Bor, cond, eqb-true, false, List, ltb-true, map, nat_eq, nat_lt, None, option_map, Option, refl, Some, sym, true, ℕ}
+use Rattle.std.specs.List.{find}
+use Rattle.std.specs.Map.{lookup}
+use Rattle.std.specs.Prelude.{IfSome, is_some, option_copied, unwrap_or}
+use Rattle.std.proofs.lemmas.Option.{same_Some}
+use Rattle.vt_spec.proofs.Options.{none_is_some}
+use Rattle.vt_spec.specs.Machine.World.{Filesystem, no_filesystem}
+use Rattle.vt_location.proofs.NumberLemmas.{counted_test}
+use Rattle.vt_location.proofs.OrderLemmas.{looked-in_order}
+use Rattle.vt_location.specs.declared.numbers.FilesystemId.{FilesystemId}
+use Rattle.vt_location.specs.InOrder.{in_order_by}
+use Rattle.vt_location.specs.Numbers.{counted}
+use Rattle.vt_fs.proofs.Numbers.{found_by_number}
+use Rattle.vt_fs.specs.FilesystemsValue.{Filesystems, entry_at, files_at, filesystem_seen, filesystems_seen}
+use Rattle.vt_overlay.specs.MergedTree.{OverlayValue, merged_files}
+use Rattle.vt_store.specs.StoreValue.{AreOwn, OverlayEntry, StoreValue, entry_in, filesystem_in, files_in, kept_overlay, kept_overlays, overlay_filesystem, overlay_in, put_in, woven}
+
+-- what is put in is found by its number, and all others as before
+find-put_in : (number : ℕ) (filesystem : Filesystem ℕ) (others : List (Filesystem ℕ))
+    → find (λ (one : Filesystem ℕ). nat_eq number one.number) (put_in filesystem others)
+    ≡ cond (nat_eq number filesystem.number) (Some filesystem)
+    (find (λ (one : Filesystem ℕ). nat_eq number one.number) others)
+find-put_in number filesystem [] = refl
+find-put_in number filesystem (first ∷ rest) =
+    by (nat_lt first.number filesystem.number) refl (find-put_in number filesystem rest)
+  where
+    found : List (Filesystem ℕ) → Option (Filesystem ℕ)
+    found list = find (λ (one : Filesystem ℕ). nat_eq number one.number) list
+
+    turned : (a b : Bool) → nat_eq number first.number ≡ a → nat_eq number filesystem.number ≡ b
+        → nat_lt first.number filesystem.number ≡ true
+        → cond a (Some first) (cond b (Some filesystem) (found rest))
+        ≡ cond b (Some filesystem) (cond a (Some first) (found rest))
+    turned true true is also less =
+        let one = eqb-true number first.number is in
+        let other = eqb-true number filesystem.number also in
+        let below = ltb-true first.number filesystem.number less in
+        absurd (let no : ⊥ = omega (arith, one, other, below) in no)
+    turned true false is also less = refl
+    turned false b is also less = refl
+
+    by : (b : Bool) → nat_lt first.number filesystem.number ≡ b
+        → found (put_in filesystem rest) ≡ cond (nat_eq number filesystem.number) (Some filesystem) (found rest)
+        → found (cond b (first ∷ put_in filesystem rest) (filesystem ∷ first ∷ rest))
+        ≡ cond (nat_eq number filesystem.number) (Some filesystem) (found (first ∷ rest))
+    by true less later =
+        ap (cond (nat_eq number first.number) (Some first)) later
+        ∙ turned (nat_eq number first.number) (nat_eq number filesystem.number) refl refl less
+    by false less later = refl
+
+-- the overlay of this count, or what is found among others
+abbrev over : Filesystems → Option OverlayEntry → Option (Filesystem ℕ) → Option (Filesystem ℕ)
+over plain None other = other
+over plain (Some entry) other = Some (overlay_filesystem plain entry)
+
+find-woven : (plain : Filesystems) (count : ℕ) (entries : List OverlayEntry)
+    → find (λ (one : Filesystem ℕ). nat_eq (counted count) one.number) (woven plain entries)
+    ≡ over plain (find (λ (entry : OverlayEntry). nat_eq count entry.count) entries)
+    (find (λ (one : Filesystem ℕ). nat_eq (counted count) one.number) (filesystems_seen plain))
+find-woven plain count [] = refl
+find-woven plain count (entry ∷ entries) =
+    find-put_in (counted count) (overlay_filesystem plain entry) (woven plain entries)
+    ∙ ap (λ b. cond b (Some (overlay_filesystem plain entry))
+    (find (λ (one : Filesystem ℕ). nat_eq (counted count) one.number) (woven plain entries)))
+    (counted_test count entry.count)
+    ∙ by (nat_eq count entry.count) (find-woven plain count entries)
+  where
+    plain_found : Option (Filesystem ℕ)
+    plain_found = find (λ (one : Filesystem ℕ). nat_eq (counted count) one.number) (filesystems_seen plain)
+
+    found : Option OverlayEntry
+    found = find (λ (entry : OverlayEntry). nat_eq count entry.count) entries
+
+    by : (b : Bool)
+        → find (λ (one : Filesystem ℕ). nat_eq (counted count) one.number) (woven plain entries)
+        ≡ over plain found plain_found
+        → cond b (Some (overlay_filesystem plain entry))
+        (find (λ (one : Filesystem ℕ). nat_eq (counted count) one.number) (woven plain entries))
+        ≡ over plain (cond b (Some entry) found) plain_found
+    by true later = refl
+    by false later = later
+
+module _ (store : StoreValue) (count : ℕ) where
+  found_so : (o : Option OverlayEntry) → entry_in store count ≡ o
+      → filesystem_in store count
+      ≡ unwrap_or (over store.plain o
+      (find (λ (one : Filesystem ℕ). nat_eq (counted count) one.number) (filesystems_seen store.plain)))
+      (no_filesystem (counted count))
+  found_so o e =
+      ap (λ found. unwrap_or found (no_filesystem (counted count)))
+      (find-woven store.plain count store.overlays
+      ∙ ap (λ o. over store.plain o
+      (find (λ (one : Filesystem ℕ). nat_eq (counted count) one.number) (filesystems_seen store.plain))) e)
+
+  -- a filesystem without an overlay of its count is a plain one
+  pub is_plain : overlay_in store count ≡ None
+      → filesystem_in store count ≡ filesystem_seen (entry_at store.plain count)
+  is_plain none = by (entry_in store count) refl none
+    where
+      by : (o : Option OverlayEntry) → entry_in store count ≡ o
+          → option_map (λ (entry : OverlayEntry). entry.overlay) o ≡ None
+          → filesystem_in store count ≡ filesystem_seen (entry_at store.plain count)
+      by None e none = found_so None e ∙ found_by_number store.plain count
+      by (Some entry) e none = none_is_some entry.overlay (sym none)
+
+  -- and one with an overlay of its count is that
+  pub record IsOver (overlay : OverlayValue) : Type 0 where
+    pub entry : OverlayEntry
+    pub holds : entry.overlay ≡ overlay
+    pub is : filesystem_in store count ≡ overlay_filesystem store.plain entry
+
+  is_over : (overlay : OverlayValue) → overlay_in store count ≡ Some overlay → IsOver overlay
+  is_over overlay some = by (entry_in store count) refl some
+    where
+      by : (o : Option OverlayEntry) → entry_in store count ≡ o
+          → option_map (λ (entry : OverlayEntry). entry.overlay) o ≡ Some overlay → IsOver overlay
+      by None e some = none_is_some overlay some
+      by (Some entry) e some =
+          record { entry = entry; holds = same_Some entry.overlay overlay some; is = found_so (Some entry) e }
+
+  pub files_over : (overlay : OverlayValue) → overlay_in store count ≡ Some overlay
+      → merged_files store.plain overlay ≡ files_in store count
+  files_over overlay some =
+      let over = is_over overlay some in
+      sym (ap (λ (filesystem : Filesystem ℕ). filesystem.files) over.is ∙ ap (merged_files store.plain) over.holds)
+
+  pub files_plain : overlay_in store count ≡ None → files_at store.plain count ≡ files_in store count
+  files_plain none = sym (ap (λ (filesystem : Filesystem ℕ). filesystem.files) (is_plain none))
+
+  -- it is an overlay if there is one of its count
+  pub is_overlay : is_some (overlay_in store count) ≡ is_some (filesystem_in store count).overlay
+  is_overlay = by (overlay_in store count) refl
+    where
+      by : (o : Option OverlayValue) → overlay_in store count ≡ o
+          → is_some o ≡ is_some (filesystem_in store count).overlay
+      by None e = sym (ap (λ (filesystem : Filesystem ℕ). is_some filesystem.overlay) (is_plain e))
+      by (Some overlay) e =
+          sym (ap (λ (filesystem : Filesystem ℕ). is_some filesystem.overlay) (is_over overlay e).is)
+
+-- as the map keeps them
+abbrev count_of : FilesystemId → ℕ
+count_of id = id.count
+
+abbrev pub is_key : ℕ → FilesystemId → Bool
+is_key count id = nat_eq count id.count
+
+find-kept : (count : ℕ) (kept : List (FilesystemId × OverlayValue))
+    → option_map (λ (entry : OverlayEntry). entry.overlay)
+    (find (λ (entry : OverlayEntry). nat_eq count entry.count) (map kept_overlay kept))
+    ≡ lookup (is_key count) kept
+find-kept count [] = refl
+find-kept count (one ∷ kept) = by (nat_eq count one.0.count) (find-kept count kept)
+  where
+    found : Option OverlayEntry
+    found = find (λ (entry : OverlayEntry). nat_eq count entry.count) (map kept_overlay kept)
+
+    by : (b : Bool) → option_map (λ (entry : OverlayEntry). entry.overlay) found ≡ lookup (is_key count) kept
+        → option_map (λ (entry : OverlayEntry). entry.overlay) (cond b (Some (kept_overlay one)) found)
+        ≡ cond b (Some one.1) (lookup (is_key count) kept)
+    by true later = refl
+    by false later = later
+
+pub overlay_kept : (plain : Filesystems) (id : FilesystemId) (kept : List (FilesystemId × OverlayValue))
+    → overlay_in (record { plain = plain; overlays = kept_overlays kept }) id.count ≡ lookup (is_key id.count) kept
+overlay_kept plain id kept =
+    find-kept id.count (in_order_by count_of kept) ∙ looked-in_order count_of id kept
+
+pub is_own : (id : FilesystemId) (kept : List (FilesystemId × OverlayValue)) → AreOwn kept
+    → (o : Option (Bor OverlayValue)) → option_copied o ≡ lookup (is_key id.count) kept
+    → IfSome o (λ overlay. overlay.now.number ≡ id)
+is_own id kept own None e = tt
+is_own id kept own (Some overlay) e = own id overlay.now (sym e)
+
+pub some_copied : (o : Option (Bor OverlayValue)) → is_some o ≡ is_some (option_copied o)
+some_copied None = refl
+some_copied (Some overlay) = refl

@@ -1,0 +1,41 @@
+use Rattle.std.proofs.Common.{ap, option_copied, subst, sym, ℕ, ◌∙◌, nat_eq}
+use Rattle.vt_spec.specs.FileTree.{FileTree, is_removed}
+use Rattle.vt_location.specs.Locations.{number_of}
+use Rattle.vt_fs.specs.Laws.{ParentsAreNamed}
+use Rattle.vt_store.specs.StoreValue.{StoreValue}
+use Rattle.vt_store.proofs.Looked.{over_few, over_files, over_layers, plain_files}
+use Rattle.vt_store.proofs.store.Store.is_removed.Goals as goal
+
+pub is_removed-requires-clause-layers : goal.is_removed-requires-clause-layers
+is_removed-requires-clause-layers c =
+    over_layers c.args.self.now c.self.inside.plain (ap (λ (store : StoreValue). store.plain) c.self.view_is)
+    c.args.directory.filesystem.count c.in-Some.overlay.now (sym c.overlay.ensures.value ∙ ap option_copied c.in-Some.is)
+    c.requires.standing
+
+pub is_removed-requires-clause-few : goal.is_removed-requires-clause-few
+is_removed-requires-clause-few c =
+    over_few c.args.self.now c.self.inside.plain (ap (λ (store : StoreValue). store.plain) c.self.view_is)
+    c.args.directory.filesystem.count c.in-Some.overlay.now (sym c.overlay.ensures.value ∙ ap option_copied c.in-Some.is)
+    c.requires.standing
+
+pub returns-in-Some : goal.returns-in-Some
+returns-in-Some c =
+    c.is_removed.ensures
+    ∙ ap (λ (files : FileTree ℕ). is_removed nat_eq files.tree (number_of c.args.directory))
+    (over_files c.args.self.now c.self.inside.plain (ap (λ (store : StoreValue). store.plain) c.self.view_is)
+    c.args.directory.filesystem.count c.in-Some.overlay.now (sym c.overlay.ensures.value ∙ ap option_copied c.in-Some.is))
+
+pub returns-in-None : goal.returns-in-None
+returns-in-None c =
+    c.is_removed-in-None.ensures
+    ∙ ap (λ (files : FileTree ℕ). is_removed nat_eq files.tree (number_of c.args.directory))
+    (plain_files c.args.self.now c.self.inside.plain (ap (λ (store : StoreValue). store.plain) c.self.view_is)
+    c.args.directory.filesystem.count (sym c.overlay.ensures.value ∙ ap option_copied c.in-None.is))
+
+pub is_removed-requires-in-None : goal.is_removed-requires-in-None
+is_removed-requires-in-None c = record {
+  named = subst (λ (files : FileTree ℕ). ParentsAreNamed files.tree)
+      (sym (plain_files c.args.self.now c.self.inside.plain (ap (λ (store : StoreValue). store.plain) c.self.view_is)
+      c.args.directory.filesystem.count (sym c.overlay.ensures.value ∙ ap option_copied c.in-None.is)))
+      c.requires.named;
+}

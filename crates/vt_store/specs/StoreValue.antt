@@ -1,0 +1,102 @@
+-- What contracts see of all filesystems, and what the definitions see of them.
+use Rattle.std.specs.Prelude.{List, None, Option, Some, [], find, if◌then◌else◌, map, nat_eq, nat_lt, option_map, slice_get, ℕ, ◌∷◌, ◌≡◌, ◌≤◌, length}
+use Rattle.std.specs.Map.{lookup}
+use Rattle.vt_spec.specs.FileTree.{FileTree}
+use Rattle.vt_spec.specs.Lists.{then_some}
+use Rattle.vt_spec.specs.Machine.World.{Filesystem, Overlay, World, filesystem_numbered}
+use Rattle.vt_spec.specs.Tree.{Node}
+use Rattle.vt_laws_seen.specs.TreesSeen.{real_seen}
+use Rattle.vt_location.specs.declared.numbers.FilesystemId.{FilesystemId}
+use Rattle.vt_location.specs.InOrder.{in_order_by}
+use Rattle.vt_location.specs.Numbers.{counted}
+use Rattle.vt_fs.specs.FilesystemsValue.{Filesystems, files_at, filesystems_seen, node_seen}
+use Rattle.vt_merge.specs.declared.merging.TheConstants.{MOST_LAYERS}
+use Rattle.vt_overlay.specs.Alike.{real_lent}
+use Rattle.vt_overlay.specs.MergedTree.{AreLayers, OverlayValue, longest, merged_files, overlay_seen, plain_world, real_number}
+
+-- an overlay, and the count of its filesystem
+pub record OverlayEntry : Type 0 where
+  pub count : ℕ
+  pub overlay : OverlayValue
+
+-- the plain filesystems and the overlays, each in the order in which they were made
+pub record StoreValue : Type 0 where
+  pub plain : Filesystems
+  pub overlays : List OverlayEntry
+
+-- each overlay under its count
+abbrev pub kept_overlay : FilesystemId × OverlayValue → OverlayEntry
+kept_overlay kept = record { count = kept.0.count; overlay = kept.1 }
+
+-- those that are kept by hash, in the order of their counts
+abbrev pub kept_overlays : List (FilesystemId × OverlayValue) → List OverlayEntry
+kept_overlays kept = map kept_overlay (in_order_by (λ id. id.count) kept)
+
+-- each is kept under its own number
+abbrev pub AreOwn : List (FilesystemId × OverlayValue) → Type 0
+AreOwn kept =
+    (id : FilesystemId) (overlay : OverlayValue) → lookup (λ other. nat_eq id.count other.count) kept ≡ Some overlay
+    → overlay.number ≡ id
+
+abbrev pub entry_in : StoreValue → ℕ → Option OverlayEntry
+entry_in store count = find (λ entry. nat_eq count entry.count) store.overlays
+
+-- the overlay of a count
+abbrev pub overlay_in : StoreValue → ℕ → Option OverlayValue
+overlay_in store count = option_map (λ entry. entry.overlay) (entry_in store count)
+
+-- the overlays as the definitions see them: layers, mounter, and the real object of each inode,
+abbrev pub layers_and_objects : Filesystems → OverlayValue → Overlay ℕ
+layers_and_objects plain overlay = record (overlay_seen overlay) {
+  real = real_seen (real_number plain overlay) (λ number. None) (longest plain overlay.lowers) (plain_world plain)
+      (overlay_seen overlay);
+}
+
+-- and their trees
+abbrev pub overlay_filesystem : Filesystems → OverlayEntry → Filesystem ℕ
+overlay_filesystem plain entry = record {
+  number = counted entry.count;
+  files = merged_files plain entry.overlay;
+  overlay = Some (layers_and_objects plain entry.overlay);
+  change = 0;
+}
+
+-- a filesystem put in before the first one whose number is not smaller
+abbrev pub put_in : Filesystem ℕ → List (Filesystem ℕ) → List (Filesystem ℕ)
+put_in filesystem [] = filesystem ∷ []
+put_in filesystem (first ∷ rest) =
+    if nat_lt first.number filesystem.number then first ∷ put_in filesystem rest else filesystem ∷ first ∷ rest
+
+-- all filesystems, in the order in which they were made
+abbrev pub woven : Filesystems → List OverlayEntry → List (Filesystem ℕ)
+woven plain [] = filesystems_seen plain
+woven plain (entry ∷ rest) = put_in (overlay_filesystem plain entry) (woven plain rest)
+
+abbrev pub filesystems_of : StoreValue → List (Filesystem ℕ)
+filesystems_of store = woven store.plain store.overlays
+
+-- a world of these filesystems alone
+abbrev pub store_world : StoreValue → World ℕ
+store_world store = record (plain_world store.plain) { filesystems = filesystems_of store }
+
+-- the filesystem of a count, and its tree
+abbrev pub filesystem_in : StoreValue → ℕ → Filesystem ℕ
+filesystem_in store count = filesystem_numbered nat_eq (store_world store) (counted count)
+
+abbrev pub files_in : StoreValue → ℕ → FileTree ℕ
+files_in store count = (filesystem_in store count).files
+
+-- each overlay has layers that are directories of plain trees, and not too many
+pub record StandOnLayers (store : StoreValue) : Type 0 where
+  pub layers : (count : ℕ) (overlay : OverlayValue) → overlay_in store count ≡ Some overlay
+      → AreLayers store.plain overlay.lowers
+  pub few : (count : ℕ) (overlay : OverlayValue) → overlay_in store count ≡ Some overlay
+      → length overlay.lowers ≤ MOST_LAYERS
+
+-- what is lent for a node: an inode of a plain tree by its slots, or the real object
+abbrev pub lent_by : Filesystems → ℕ → ℕ → Option OverlayValue → Option (Node ℕ)
+lent_by plain count number None = option_map (node_seen count) ((files_at plain count).tree.node number)
+lent_by plain count number (Some overlay) = real_lent plain overlay number
+
+abbrev pub lent_in : StoreValue → ℕ → ℕ → Option (Node ℕ)
+lent_in store count number = lent_by store.plain count number (overlay_in store count)

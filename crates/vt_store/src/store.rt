@@ -1,0 +1,65 @@
+//! `Store`: the plain filesystems, and the overlays.
+ghost use Rattle.std.specs.Prelude.{◌≡◌, ◌∷◌, ◌++◌, [], IfOk, IfSome, OnErr, OnOk, Some, is_some, nat_lt, option_copied, true};
+ghost use Rattle.std.specs.List.{list_all};
+ghost use Rattle.vt_store.specs.StoreValue.{filesystem_in, overlay_in};
+
+use indexmap::IndexMap;
+use std::alloc::{AllocError, Global};
+use std::marker::Model;
+use vt_fs::Filesystems;
+use vt_location::FilesystemId;
+use vt_overlay::Overlay;
+
+/// All filesystems: plain trees, and overlays without an upper layer, whose layers are directories of these trees.
+///
+/// Overlays are kept by hash, in no order. A look at a filesystem that does not exist finds nothing.
+#[derive(Debug, Drop)]
+pub struct Store {
+    pub(crate) plain: Filesystems,
+    overlays: IndexMap<FilesystemId, Overlay>,
+}
+
+impl Model for Store {
+    ghost use Rattle.vt_store.specs.StoreValue.{AreOwn, StoreValue, kept_overlays};
+
+    ghost Value = { StoreValue };
+
+    ghost view = { λ store. record { plain = store.plain; overlays = kept_overlays store.overlays.entries } };
+
+    ghost invariant = { λ store. AreOwn store.overlays.entries };
+}
+
+impl Store {
+    /// These plain filesystems, and no overlays. It does not allocate.
+    pub fn new(alloc: Global, plain: Filesystems) -> Self
+        ensures { result ≡ record { plain = plain; overlays = [] } }
+    {
+        Store {
+            plain,
+            overlays: IndexMap::new(alloc),
+        }
+    }
+
+    /// The plain filesystems.
+    pub fn plain(&self) -> &Filesystems
+        ensures { result.now ≡ self.now.plain }
+    {
+        &self.plain
+    }
+
+    /// The overlay of a filesystem, if it is one.
+    #[inline(always)]
+    pub fn overlay(&self, filesystem: FilesystemId) -> Option<&Overlay>
+        ensures value { option_copied result ≡ overlay_in self.now filesystem.count }
+        ensures own { IfSome result (λ overlay. overlay.now.number ≡ filesystem) }
+    {
+        self.overlays.get(&filesystem)
+    }
+
+    /// Whether a filesystem is an overlay.
+    pub fn is_overlay(&self, filesystem: FilesystemId) -> bool
+        ensures { result ≡ is_some (filesystem_in self.now filesystem.count).overlay }
+    {
+        self.overlay(filesystem).is_some()
+    }
+}
