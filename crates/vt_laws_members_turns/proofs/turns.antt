@@ -2,3 +2,5 @@
 pub mod EachTurn
 pub mod OtherQueues
 pub mod Beside
+pub mod Called
+pub mod InRounds

@@ -1,4 +1,5 @@
 //! Each turn of a task of a sealed set, in the world and in the part of the set.
+ghost use Rattle.vt_laws_members_turns.specs.Rounds.{TheirTurnsReplyAsAlone};
 ghost use Rattle.vt_laws_members_turns.specs.TheirTurns.{EachTurnOfTheirsIsOfTheirPart, OutsidersChangeNoTurnOfTheirs};
 
 /// **Each turn of a task of a sealed set is one of the part of the set** (`EachTurnOfTheirsIsOfTheirPart`), whatever
@@ -22,4 +23,16 @@ pub fn each_turn_of_theirs_is_of_their_part()
 /// is asked. The turn of theirs is as above, and takes unused numbers, the same before and after.
 pub fn turns_of_others_change_no_turn_of_theirs()
     ensures beside { OutsidersChangeNoTurnOfTheirs }
+{}
+
+/// **Over several turns the tasks of a sealed set have the replies that they have if nobody else takes a turn**
+/// (`TheirTurnsReplyAsAlone`). In each round turns of others are taken, however many, and then one of theirs. Each turn
+/// of theirs has the reply, if any, that it has in the same rounds without the turns of others.
+///
+/// The set has the children of its tasks, and loses those that exit. It is sealed off after each turn of theirs, with
+/// the turns of others and without (`IsRound`, `GoesAlone`). No turn of others is in the name of a task that the set
+/// ever has. Both runs hand a turn of theirs the same numbers, which neither world uses. A fork names at most 32
+/// supplementary groups.
+pub fn turns_of_theirs_reply_as_alone()
+    ensures alone { TheirTurnsReplyAsAlone }
 {}

@@ -56,6 +56,14 @@ module _ (one other : Sched ℕ) (names : List TaskName) (same : HaveOnePart one
       (same_turned (part_of nat_eq one.world names) (their_calls names one.under_way) one.queues other.queues name fresh
       (same.queues name it.theirs)))
 
+  -- and leaves the set that it leaves in the one
+  pub same_set : (turned other).reply ≡ (turned one).reply
+      → set_left other names name fresh ≡ set_left one names name fresh
+  same_set reply =
+      ap (λ (l : List Queued). grown_after names name (first_of_list l) (turned other).reply)
+      (same.queues name it.theirs)
+      ∙ ap (grown_after names name (first_of_list (queue_of one.queues (Someone name)))) reply
+
   pub turns_alike_in : IsTurnOfTheirs other names name fresh
       → TurnsAlikeIn one other names (set_left one names name fresh) name fresh
   turns_alike_in its =
@@ -63,13 +71,9 @@ module _ (one other : Sched ℕ) (names : List TaskName) (same : HaveOnePart one
       let first = each_turn_of_theirs_is_of_their_part one names name fresh it in
       let second = each_turn_of_theirs_is_of_their_part other names name fresh its in
       let reply : (turned other).reply ≡ (turned one).reply = sym second.reply ∙ in_parts.reply ∙ first.reply in
-      let one_set : set_left other names name fresh ≡ set =
-      ap (λ (l : List Queued). grown_after names name (first_of_list l) (turned other).reply)
-      (same.queues name it.theirs)
-      ∙ ap (grown_after names name (first_of_list (queue_of one.queues (Someone name)))) reply in
       let left : part_of_sched set (turned (part_of_sched names other)).sched ≡ part_of_sched set (turned other).sched =
       subst (λ (s : List TaskName). part_of_sched s (turned (part_of_sched names other)).sched
-      ≡ part_of_sched s (turned other).sched) one_set second.left in record {
+      ≡ part_of_sched s (turned other).sched) (same_set reply) second.left in record {
         reply = reply;
         part =
             sym (ap (λ (s : Sched ℕ). s.world) left)
@@ -80,12 +84,12 @@ module _ (one other : Sched ℕ) (names : List TaskName) (same : HaveOnePart one
             ∙ ap (their_calls set) in_parts.under_way
             ∙ ap (λ (s : Sched ℕ). s.under_way) first.left;
         queues = λ member theirs.
-            queue_after other name fresh member
+            queue_after other (Someone name) fresh member
             ∙ ap (λ (r : Option Reply). shortened_by r (same_who (Someone member) (Someone name))
             (queue_of other.queues (Someone member))) reply
             ∙ ap (shortened_by (turned one).reply (same_who (Someone member) (Someone name)))
             (same.queues member theirs)
-            ∙ sym (queue_after one name fresh member);
+            ∙ sym (queue_after one (Someone name) fresh member);
       }
 
 pub outsiders_change_no_turn_of_theirs : OutsidersChangeNoTurnOfTheirs

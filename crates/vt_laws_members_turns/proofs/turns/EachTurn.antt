@@ -28,7 +28,7 @@ record LeaveAlike (set : List TaskName) (one two : Turned ℕ) : Type 0 where
   left : part_of_sched set two.sched ≡ part_of_sched set one.sched
 
 -- a set stays, where nothing is answered
-stays : (names : List TaskName) (name : TaskName) (first : Option Queued) → grown_after names name first None ≡ names
+pub stays : (names : List TaskName) (name : TaskName) (first : Option Queued) → grown_after names name first None ≡ names
 stays names name None = refl
 stays names name (Some first) = refl
 

@@ -1,18 +1,22 @@
 -- A turn looks at no queue but its own.
-use Rattle.std.proofs.Common.{◌≡◌, refl, ap, subst, ◌∙◌, ⊎_elim, sym, ℕ, nat_eq, Bool, true, false, cond, List, [], ◌∷◌, ◌+◌, Option, Some, None, Ok, Err, Result, find}
-use Rattle.std.specs.Prelude.{nat_le, slice_get}
+use Rattle.std.proofs.Common.{◌≡◌, refl, ap, subst, ◌∙◌, inl, inr, ⊎_elim, sym, true≢false, ℕ, nat_eq, Bool, true, false, cond, List, [], ◌∷◌, ◌+◌, Option, Some, None, Ok, Err, Result, find}
+use Rattle.std.specs.Prelude.{Contains, nat_le, slice_get}
 use Rattle.vt_spec.specs.declared.errors.Deny.{Deny}
 use Rattle.vt_spec.specs.Errors.{unless}
 use Rattle.vt_spec.specs.Language.Calls.{Call, TaskName, same_name}
 use Rattle.vt_spec.specs.Language.Limits.{most_restarts}
+use Rattle.vt_spec.specs.Language.Script.{Who}
 use Rattle.vt_spec.specs.Language.Script.Who.{Someone}
-use Rattle.vt_spec.specs.Lists.{Fresh, rest_of}
+use Rattle.vt_spec.specs.Lists.{Fresh, is_among, rest_of}
 use Rattle.vt_spec.specs.Machine.Looks.{looks_of}
 use Rattle.vt_spec.specs.Machine.Turns.{Item, Progress, Queue, Queued, Reply, Route, Sched, Turned, call_turn, call_turn_of, entry_rules, first_progress, first_turn, first_turn_by, further, is_failing, is_overtaken, item_turn, later_turn, next_word, queue_of, queue_turn, restarted, routes, same_who, turn, turn_under_way, word_walked_by, words_of}
 use Rattle.vt_spec.specs.Machine.Turns.Item.{Asks, Calls, Refused}
 use Rattle.vt_spec.specs.Machine.World.{Task, World, task_called}
-use Rattle.vt_laws_turns.proofs.played.Fronts.{shorter}
-use Rattle.vt_laws_turns.proofs.played.Turning.{Turns, turn_is}
+use Rattle.vt_spec.proofs.Lists.{among_from_contains, contains_from_among}
+use Rattle.vt_laws_turns.specs.Commits.{Turn, left_by}
+use Rattle.vt_laws_turns.proofs.played.Fronts.{same_whos, shorter}
+use Rattle.vt_laws_turns.proofs.played.Turning.{GoesOn, Turns, turn_is}
+use Rattle.vt_laws_sealed_turns.specs.OutsidersTurns.{is_of_theirs}
 
 -- two turns have one reply, and leave one world and the same calls under way
 pub record SameTurned (one other : Turned ℕ) : Type 0 where
@@ -115,29 +119,56 @@ abbrev pub shortened_by : Option Reply → Bool → List Queued → List Queued
 shortened_by None of_it items = items
 shortened_by (Some reply) of_it items = cond of_it (rest_of items) items
 
-pub queue_after : (sched : Sched ℕ) (name : TaskName) (fresh : Option (Fresh ℕ)) (member : TaskName)
-    → queue_of (turn nat_eq sched (Someone name) fresh).sched.queues (Someone member)
-    ≡ shortened_by (turn nat_eq sched (Someone name) fresh).reply (same_who (Someone member) (Someone name))
+pub queue_after : (sched : Sched ℕ) (who : Who) (fresh : Option (Fresh ℕ)) (member : TaskName)
+    → queue_of (turn nat_eq sched who fresh).sched.queues (Someone member)
+    ≡ shortened_by (turn nat_eq sched who fresh).reply (same_who (Someone member) who)
     (queue_of sched.queues (Someone member))
-queue_after sched name fresh member =
-    by (queue_of sched.queues (Someone name)) (turn nat_eq sched (Someone name) fresh)
-    (turn_is sched (Someone name) fresh)
+queue_after sched who fresh member =
+    by (queue_of sched.queues who) (turn nat_eq sched who fresh) (turn_is sched who fresh)
   where
-    by : (items : List Queued) (turned : Turned ℕ) → Turns sched (Someone name) fresh items turned
+    items : List Queued
+    items = queue_of sched.queues (Someone member)
+
+    goes_on : (turned : Turned ℕ) → GoesOn sched turned
         → queue_of turned.sched.queues (Someone member)
-        ≡ shortened_by turned.reply (same_who (Someone member) (Someone name))
-        (queue_of sched.queues (Someone member))
-    by [] turned goes =
+        ≡ shortened_by turned.reply (same_who (Someone member) who) items
+    goes_on turned goes =
         ap (λ (q : List Queue). queue_of q (Someone member)) goes.queues
-        ∙ sym (ap (λ (r : Option Reply). shortened_by r (same_who (Someone member) (Someone name))
-        (queue_of sched.queues (Someone member))) goes.reply)
+        ∙ sym (ap (λ (r : Option Reply). shortened_by r (same_who (Someone member) who) items) goes.reply)
+
+    by : (list : List Queued) (turned : Turned ℕ) → Turns sched who fresh list turned
+        → queue_of turned.sched.queues (Someone member)
+        ≡ shortened_by turned.reply (same_who (Someone member) who) items
+    by [] turned goes = goes_on turned goes
     by (first ∷ rest) turned is =
-        ⊎_elim
-        (λ goes. ap (λ (q : List Queue). queue_of q (Someone member)) goes.queues
-        ∙ sym (ap (λ (r : Option Reply). shortened_by r (same_who (Someone member) (Someone name))
-        (queue_of sched.queues (Someone member))) goes.reply))
+        ⊎_elim (goes_on turned)
         (λ done. ap (λ (q : List Queue). queue_of q (Someone member)) done.queues
-        ∙ shorter (Someone name) (Someone member) sched.queues
-        ∙ sym (ap (λ (r : Option Reply). shortened_by r (same_who (Someone member) (Someone name))
-        (queue_of sched.queues (Someone member))) done.reply))
+        ∙ shorter who (Someone member) sched.queues
+        ∙ sym (ap (λ (r : Option Reply). shortened_by r (same_who (Someone member) who) items) done.reply))
         is
+
+-- Turns of others leave the queues of these tasks.
+pub queues_stay : (kin : List TaskName) (schedule : List Turn) (sched : Sched ℕ)
+    → ((given : Turn) → Contains schedule given → is_of_theirs kin given.0 ≡ false)
+    → (member : TaskName) → is_among same_name member kin ≡ true
+    → queue_of (left_by sched schedule).queues (Someone member) ≡ queue_of sched.queues (Someone member)
+queues_stay kin [] sched apart member theirs = refl
+queues_stay kin (given ∷ rest) sched apart member theirs =
+    queues_stay kin rest (turn nat_eq sched given.0 given.1).sched
+    (λ other c. apart other (contains_from_among (given ∷ rest) other (inr (among_from_contains rest other c))))
+    member theirs
+    ∙ queue_after sched given.0 given.1 member
+    ∙ ap (λ b. shortened_by (turn nat_eq sched given.0 given.1).reply b (queue_of sched.queues (Someone member)))
+    (another (same_who (Someone member) given.0) refl)
+    ∙ whole (turn nat_eq sched given.0 given.1).reply
+  where
+    another : (b : Bool) → same_who (Someone member) given.0 ≡ b → b ≡ false
+    another false e = refl
+    another true e =
+        absurd (true≢false (sym theirs ∙ ap (is_of_theirs kin) (same_whos (Someone member) given.0 e)
+        ∙ apart given (contains_from_among (given ∷ rest) given (inl refl))))
+
+    whole : (reply : Option Reply)
+        → shortened_by reply false (queue_of sched.queues (Someone member)) ≡ queue_of sched.queues (Someone member)
+    whole None = refl
+    whole (Some reply) = refl
