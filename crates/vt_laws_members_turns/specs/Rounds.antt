@@ -11,7 +11,7 @@ use Rattle.vt_laws_trees.specs.Trees.Limits.{names_few_groups}
 use Rattle.vt_laws_turns.specs.Commits.{Turn, left_by}
 use Rattle.vt_laws_turn_holds.specs.Held.{HoldsWhatIsSeen}
 use Rattle.vt_laws_sealed_turns.specs.OutsidersTurns.{AreOutsidersTurns, HasItSealed, IsFirst, is_of_theirs}
-use Rattle.vt_laws_members_turns.specs.TheirTurns.{is_directive, set_left}
+use Rattle.vt_laws_members_turns.specs.TheirTurns.{HaveOnePart, is_directive, set_left}
 
 -- turns of others, however many, and then one of a task of the set
 pub record Round : Type 0 where
@@ -36,6 +36,16 @@ abbrev pub their_replies : Sched ℕ → List Round → List (Option Reply)
 their_replies sched [] = []
 their_replies sched (round ∷ rest) =
     (turn_of_theirs sched round).reply ∷ their_replies (turn_of_theirs sched round).sched rest
+
+-- the state after rounds, and the set
+abbrev pub state_after : Sched ℕ → List Round → Sched ℕ
+state_after sched [] = sched
+state_after sched (round ∷ rest) = state_after (turn_of_theirs sched round).sched rest
+
+abbrev pub set_after_all : Sched ℕ → List TaskName → List Round → List TaskName
+set_after_all sched names [] = names
+set_after_all sched names (round ∷ rest) =
+    set_after_all (turn_of_theirs sched round).sched (set_after sched names round) rest
 
 -- Turns of outsiders, none in the name of a task that the set ever has (`kin`), and then a turn of theirs, after which
 -- the set is sealed off again. Numbers handed in are not in use.
@@ -82,3 +92,14 @@ TheirTurnsReplyAsAlone =
     → ((member : TaskName) → is_among same_name member names ≡ true → is_among same_name member kin ≡ true)
     → AreRounds kin sched names rounds → GoAlone sched names rounds
     → their_replies sched rounds ≡ their_replies sched (map alone rounds)
+
+-- They leave the set that they leave without them, with one part, its calls under way and its queues.
+abbrev pub TheirTurnsLeaveAsAlone : Type 0
+TheirTurnsLeaveAsAlone =
+    (kin : List TaskName) (sched : Sched ℕ) (names : List TaskName) (rounds : List Round) → HasItSealed sched names
+    → HoldsWhatIsSeen sched
+    → ((member : TaskName) → is_among same_name member names ≡ true → is_among same_name member kin ≡ true)
+    → AreRounds kin sched names rounds → GoAlone sched names rounds
+    → (set_after_all sched names rounds ≡ set_after_all sched names (map alone rounds))
+    × HaveOnePart (state_after sched (map alone rounds)) (state_after sched rounds)
+    (set_after_all sched names (map alone rounds))

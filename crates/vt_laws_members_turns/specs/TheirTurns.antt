@@ -57,6 +57,13 @@ EachTurnOfTheirsIsOfTheirPart =
     → IsTurnOfTheirs sched names name fresh
     → TurnsAlikeFor sched names (set_left sched names name fresh) name fresh
 
+-- two states have one part of a set, its calls under way, and one queue of each of its tasks
+pub record HaveOnePart (one other : Sched ℕ) (names : List TaskName) : Type 0 where
+  pub part : part_of nat_eq other.world names ≡ part_of nat_eq one.world names
+  pub calls : their_calls names other.under_way ≡ their_calls names one.under_way
+  pub queues : (member : TaskName) → is_among same_name member names ≡ true
+      → queue_of other.queues (Someone member) ≡ queue_of one.queues (Someone member)
+
 -- a turn of theirs has one reply in two states, and leaves one part of a set, its calls under way, and one queue of each
 -- of theirs
 pub record TurnsAlikeIn (one other : Sched ℕ) (names set : List TaskName) (name : TaskName) (fresh : Option (Fresh ℕ))

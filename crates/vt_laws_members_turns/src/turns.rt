@@ -1,5 +1,5 @@
 //! Each turn of a task of a sealed set, in the world and in the part of the set.
-ghost use Rattle.vt_laws_members_turns.specs.Rounds.{TheirTurnsReplyAsAlone};
+ghost use Rattle.vt_laws_members_turns.specs.Rounds.{TheirTurnsLeaveAsAlone, TheirTurnsReplyAsAlone};
 ghost use Rattle.vt_laws_members_turns.specs.TheirTurns.{EachTurnOfTheirsIsOfTheirPart, OutsidersChangeNoTurnOfTheirs};
 
 /// **Each turn of a task of a sealed set is one of the part of the set** (`EachTurnOfTheirsIsOfTheirPart`), whatever
@@ -26,8 +26,9 @@ pub fn turns_of_others_change_no_turn_of_theirs()
 {}
 
 /// **Over several turns the tasks of a sealed set have the replies that they have if nobody else takes a turn**
-/// (`TheirTurnsReplyAsAlone`). In each round turns of others are taken, however many, and then one of theirs. Each turn
-/// of theirs has the reply, if any, that it has in the same rounds without the turns of others.
+/// (`alone`). In each round turns of others are taken, however many, and then one of theirs. Each turn
+/// of theirs has the reply, if any, that it has in the same rounds without the turns of others. After the rounds the
+/// set, its part, its calls under way and the queues of its tasks are those left without them (`left`).
 ///
 /// The set has the children of its tasks, and loses those that exit. It is sealed off after each turn of theirs, with
 /// the turns of others and without (`IsRound`, `GoesAlone`). No turn of others is in the name of a task that the set
@@ -35,4 +36,5 @@ pub fn turns_of_others_change_no_turn_of_theirs()
 /// supplementary groups.
 pub fn turns_of_theirs_reply_as_alone()
     ensures alone { TheirTurnsReplyAsAlone }
+    ensures left { TheirTurnsLeaveAsAlone }
 {}

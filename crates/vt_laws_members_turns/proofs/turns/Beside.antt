@@ -1,8 +1,8 @@
 -- Turns of outsiders change no turn of theirs.
-use Rattle.std.proofs.Common.{◌≡◌, sym, ap, subst, ◌∙◌, ℕ, nat_eq, true, List, Option, Some}
-use Rattle.vt_spec.specs.Language.Calls.{TaskName, same_name}
+use Rattle.std.proofs.Common.{◌≡◌, sym, ap, subst, ◌∙◌, ℕ, nat_eq, List, Option, Some}
+use Rattle.vt_spec.specs.Language.Calls.{TaskName}
 use Rattle.vt_spec.specs.Language.Script.Who.{Someone}
-use Rattle.vt_spec.specs.Lists.{Fresh, first_of_list, is_among}
+use Rattle.vt_spec.specs.Lists.{Fresh, first_of_list}
 use Rattle.vt_spec.specs.Machine.Run.{Serves}
 use Rattle.vt_spec.specs.Machine.Sealed.{part_of}
 use Rattle.vt_spec.specs.Machine.Turns.{Progress, Queued, Reply, Sched, Turned, queue_of, same_who, turn}
@@ -14,16 +14,9 @@ use Rattle.vt_laws_sealed_turns.specs.MembersTurns.{part_of_sched}
 use Rattle.vt_laws_sealed_turns.specs.OutsidersTurns.{HasItSealed, their_calls}
 use Rattle.vt_laws_sealed_turns.proofs.members.Overtaking.{fit_turns}
 use Rattle.vt_laws_sealed_turns.proofs.outsiders.Turned.{outsiders_turns_leave_it_sealed_in_turn}
-use Rattle.vt_laws_members_turns.specs.TheirTurns.{IsTurnOfTheirs, OutsidersChangeNoTurnOfTheirs, TurnsAlikeIn, grown_after, set_left}
+use Rattle.vt_laws_members_turns.specs.TheirTurns.{HaveOnePart, IsTurnOfTheirs, OutsidersChangeNoTurnOfTheirs, TurnsAlikeIn, grown_after, set_left}
 use Rattle.vt_laws_members_turns.proofs.turns.EachTurn.{each_turn_of_theirs_is_of_their_part}
 use Rattle.vt_laws_members_turns.proofs.turns.OtherQueues.{SameTurned, queue_after, same_turned, shortened_by}
-
--- two states have one part of a set, its calls under way, and one queue of each of its tasks
-pub record HaveOnePart (one other : Sched ℕ) (names : List TaskName) : Type 0 where
-  pub part : part_of nat_eq other.world names ≡ part_of nat_eq one.world names
-  pub calls : their_calls names other.under_way ≡ their_calls names one.under_way
-  pub queues : (member : TaskName) → is_among same_name member names ≡ true
-      → queue_of other.queues (Someone member) ≡ queue_of one.queues (Someone member)
 
 module _ (one other : Sched ℕ) (names : List TaskName) (same : HaveOnePart one other names) (name : TaskName)
     (fresh : Option (Fresh ℕ)) (it : IsTurnOfTheirs one names name fresh) where

@@ -11,9 +11,9 @@ use Rattle.vt_laws_turn_holds.proofs.held.Holding.{schedules_hold_what_is_seen, 
 use Rattle.vt_laws_sealed_turns.specs.OutsidersTurns.{HasItSealed, their_calls}
 use Rattle.vt_laws_sealed_turns.proofs.members.Overtaking.{fit_turns}
 use Rattle.vt_laws_sealed_turns.proofs.outsiders.Turned.{outsiders_turns_leave_it_sealed_in_turn}
-use Rattle.vt_laws_members_turns.specs.Rounds.{AreRounds, GoAlone, GoesAlone, IsRound, Round, TheirTurnsReplyAsAlone, alone, set_after, their_replies, turn_of_theirs}
-use Rattle.vt_laws_members_turns.specs.TheirTurns.{IsTurnOfTheirs, TurnsAlikeIn, set_left}
-use Rattle.vt_laws_members_turns.proofs.turns.Beside.{HaveOnePart, same_set, still_theirs, turns_alike_in}
+use Rattle.vt_laws_members_turns.specs.Rounds.{AreRounds, GoAlone, GoesAlone, IsRound, Round, TheirTurnsLeaveAsAlone, TheirTurnsReplyAsAlone, alone, set_after, set_after_all, state_after, their_replies, turn_of_theirs}
+use Rattle.vt_laws_members_turns.specs.TheirTurns.{HaveOnePart, IsTurnOfTheirs, TurnsAlikeIn, set_left}
+use Rattle.vt_laws_members_turns.proofs.turns.Beside.{same_set, still_theirs, turns_alike_in}
 use Rattle.vt_laws_members_turns.proofs.turns.Called.{still_called}
 use Rattle.vt_laws_members_turns.proofs.turns.OtherQueues.{queue_after, queues_stay, shortened_by}
 
@@ -151,9 +151,44 @@ in_rounds kin (round ∷ rest) one other names at are lone =
     (subst (λ s. AreRounds kin (turn_of_theirs other round).sched s rest)
     (sets kin one other names at round are.0 lone.0) are.1) lone.1)
 
+after_rounds : (kin : List TaskName) (rounds : List Round) (one other : Sched ℕ) (names : List TaskName)
+    → Abreast kin one other names → AreRounds kin other names rounds → GoAlone one names rounds
+    → (set_after_all other names rounds ≡ set_after_all one names (map alone rounds))
+    × Abreast kin (state_after one (map alone rounds)) (state_after other rounds)
+    (set_after_all one names (map alone rounds))
+after_rounds kin [] one other names at are lone = (refl, at)
+after_rounds kin (round ∷ rest) one other names at are lone =
+    let same_sets = sets kin one other names at round are.0 lone.0 in
+    let now : Sched ℕ = (turn_of_theirs other round).sched in
+    let then = after_rounds kin rest (turn_of_theirs one (alone round)).sched now
+    (set_left one names round.name round.fresh) (next kin one other names at round are.0 lone.0)
+    (subst (λ s. AreRounds kin now s rest) same_sets are.1) lone.1 in
+    (ap (λ s. set_after_all now s rest) same_sets ∙ then.0, then.1)
+
+begun : (kin : List TaskName) (sched : Sched ℕ) (names : List TaskName) → HasItSealed sched names
+    → HoldsWhatIsSeen sched
+    → ((member : TaskName) → is_among same_name member names ≡ true → is_among same_name member kin ≡ true)
+    → Abreast kin sched sched names
+begun kin sched names has holds within = record {
+  here = record { sealed_in = has; holds = holds };
+  there = record { sealed_in = has; holds = holds };
+  part = refl;
+  calls = refl;
+  queues = λ member theirs. refl;
+  within = within;
+}
+
 pub their_turns_reply_as_alone : TheirTurnsReplyAsAlone
 their_turns_reply_as_alone kin sched names rounds has holds within are lone =
-    let at : IsAt sched names = record { sealed_in = has; holds = holds } in
-    in_rounds kin rounds sched sched names
-    (record { here = at; there = at; part = refl; calls = refl; queues = λ member theirs. refl; within = within })
-    are lone
+    in_rounds kin rounds sched sched names (begun kin sched names has holds within) are lone
+
+pub their_turns_leave_as_alone : TheirTurnsLeaveAsAlone
+their_turns_leave_as_alone kin sched names rounds has holds within are lone =
+    let end = after_rounds kin rounds sched sched names (begun kin sched names has holds within) are lone in (
+      end.0,
+      record {
+        part = end.1.part;
+        calls = end.1.calls;
+        queues = λ member theirs. end.1.queues member (end.1.within member theirs);
+      },
+    )
