@@ -55,13 +55,13 @@ module _ (world : World ℕ) (names : List TaskName) (is : IsWorld nat_eq world)
   abbrev own_at : Location ℕ → Type 0
   own_at here = is_own world names (members world names) (mount_at nat_eq world here) ≡ true
 
-  abbrev Binds : Permit ℕ → Type 0
+  abbrev pub Binds : Permit ℕ → Type 0
   Binds permit =
       (from : Location ℕ) × (here : Location ℕ) × (permit ≡ ToBind from here recursive)
       × (is_theirs world names from.mount ≡ true) × own_at from × (is_theirs world names here.mount ≡ true)
       × own_at here
 
-  binds_there : (fresh : Fresh ℕ) (source path : List ℕ) → IfOk
+  pub binds_there : (fresh : Fresh ℕ) (source path : List ℕ) → IfOk
       (bind_permit nat_eq (one world names is sealed_off task member)
       (overfills nat_eq fresh world task) task source path
       recursive) Binds

@@ -88,7 +88,7 @@ module _ (world : World ℕ) (names : List TaskName) (is : IsWorld nat_eq world)
   abbrev copied : Mount ℕ → Mount ℕ → Mount ℕ
   copied = copy world names is sealed_off [] (none_new world names) place there own new true origins
 
-  abbrev went : Mount ℕ → Mount ℕ
+  abbrev pub went : Mount ℕ → Mount ℕ
   went = swapped (made_at destination)
 
   abbrev pub moved : Mount ℕ → Mount ℕ
@@ -117,7 +117,7 @@ module _ (world : World ℕ) (names : List TaskName) (is : IsWorld nat_eq world)
       tree_mine depth child.0
       (children_own world names is m.number child.0 (own_theirs world names is m its.0 its.1) child.1) o child.2) n
 
-  origin_mine : (o : Mount ℕ) → Among o origins → Mine o
+  pub origin_mine : (o : Mount ℕ) → Among o origins → Mine o
   origin_mine o m = tree_mine (length world.mounts) (mount_numbered nat_eq world number) (top_there, top_own) o m
 
   -- at the destination mounts that move keep their numbers
@@ -131,7 +131,7 @@ module _ (world : World ℕ) (names : List TaskName) (is : IsWorld nat_eq world)
       sym (numbered world names is.mounts a m) ∙ ap (mount_numbered nat_eq world) e ∙ numbered world names is.mounts b n
 
   -- a mount of the world is as it was, or moved; so is what a descriptor shows of it
-  went_how : (x y : Mount ℕ) → Among x world.mounts → y.number ≡ x.number
+  pub went_how : (x y : Mount ℕ) → Among x world.mounts → y.number ≡ x.number
       → (went y ≡ y) ⊎ (Among x origins × (went y ≡ copied destination x))
   went_how x y m e =
       ⊎_elim inl
@@ -149,7 +149,7 @@ module _ (world : World ℕ) (names : List TaskName) (is : IsWorld nat_eq world)
   keeps = push_keeps world names is sealed_off [] (none_new world names) place there own new true origins
 
   -- copies at receivers are theirs
-  at_receiver : (y : Mount ℕ) → Among y at_receivers
+  pub at_receiver : (y : Mount ℕ) → Among y at_receivers
       → (p : Mount ℕ) × Among p at_parts × (o : Mount ℕ) × Among o origins × (y ≡ copied p o)
   at_receiver y m =
       let p = among-from_flat_map made_at (rest_of at_parts) y m in

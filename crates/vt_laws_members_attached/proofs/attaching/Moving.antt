@@ -68,7 +68,7 @@ pub record MovesTo (world : World ℕ) (names : List TaskName) (from here : Loca
 -- What a granted move moves
 module _ (world : World ℕ) (names : List TaskName) (is : IsWorld nat_eq world)
     (sealed_off : sealed nat_eq world names ≡ true) (task : Task ℕ) (member : Among task (members world names)) where
-  abbrev Moves : Permit ℕ → Type 0
+  abbrev pub Moves : Permit ℕ → Type 0
   Moves permit =
       (from : Location ℕ) × (here : Location ℕ) × (permit ≡ ToMove from.mount here) × MovesTo world names from here
 
@@ -80,7 +80,7 @@ module _ (world : World ℕ) (names : List TaskName) (is : IsWorld nat_eq world)
   in_it n None e = absurd (true≢false e)
   in_it n (Some k) e = ap Some (sym (eqb-true n k (is_so (nat_eq n k) e)))
 
-  moves_there : (fresh : Fresh ℕ) (source path : List ℕ) → IfOk
+  pub moves_there : (fresh : Fresh ℕ) (source path : List ℕ) → IfOk
       (move_permit nat_eq (one world names is sealed_off task member) (overfills nat_eq fresh world task) task source
       path) Moves
   unfolding move_permit

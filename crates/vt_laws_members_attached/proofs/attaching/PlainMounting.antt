@@ -47,12 +47,12 @@ use Rattle.vt_laws_members_attached.proofs.attaching.Unused.{filesystem_unlike, 
 module _ (world : World ℕ) (names : List TaskName) (is : IsWorld nat_eq world)
     (sealed_off : sealed nat_eq world names ≡ true) (task : Task ℕ) (member : Among task (members world names))
     (flags : MountFlags) where
-  abbrev Mounts : Permit ℕ → Type 0
+  abbrev pub Mounts : Permit ℕ → Type 0
   Mounts permit =
       (here : Location ℕ) × (permit ≡ ToMountPlain here flags) × (is_theirs world names here.mount ≡ true)
       × (is_own world names (members world names) (mount_at nat_eq world here) ≡ true)
 
-  mounts_there : (fresh : Fresh ℕ) (path : List ℕ) → IfOk
+  pub mounts_there : (fresh : Fresh ℕ) (path : List ℕ) → IfOk
       (mount_plain_permit nat_eq (one world names is sealed_off task member)
       (overfills nat_eq fresh world task) task path
       flags) Mounts

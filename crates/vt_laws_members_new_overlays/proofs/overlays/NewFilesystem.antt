@@ -42,27 +42,27 @@ module _ (world : World ℕ) (names : List TaskName) (is : IsWorld nat_eq world)
   theirs : IsTheirs world names is.mounts here.mount
   theirs = theirs_from world names is.mounts here.mount on
 
-  here_there : Among (mount_at nat_eq world here) world.mounts
+  pub here_there : Among (mount_at nat_eq world here) world.mounts
   here_there = there world names is sealed_off here theirs own
 
   abbrev mount : Mount ℕ
   mount = new_mount new_one.number new_one.files.tree.root flags
 
-  abbrev origins : List (Mount ℕ)
+  abbrev pub origins : List (Mount ℕ)
   origins = mount ∷ []
 
   unlike : (n : ℕ) → nat_eq n (fresh 0) ≡ false → list_any (λ (f : Filesystem ℕ). nat_eq n f.number) (new_one ∷ [])
       ≡ false
   unlike n other = ap (λ k. nat_eq n k || false) number ∙ ap (λ b. b || false) other
 
-  unused : (n : ℕ) → is_among nat_eq n (used_filesystems nat_eq world names) ≡ true
+  pub unused : (n : ℕ) → is_among nat_eq n (used_filesystems nat_eq world names) ≡ true
       → list_any (λ (f : Filesystem ℕ). nat_eq n f.number) (new_one ∷ []) ≡ false
   unused n used = unlike n (used_unlike world names is fresh serves n used 0)
 
-  abbrev new : Copies ℕ
+  abbrev pub new : Copies ℕ
   new = copies_from nat_eq (odds fresh) (parts world names is sealed_off (new_one ∷ []) unused here here_there own) origins
 
-  shows : ShowTheirs world names is sealed_off (new_one ∷ []) unused here here_there own new false origins
+  pub shows : ShowTheirs world names is sealed_off (new_one ∷ []) unused here here_there own new false origins
   shows = record {
     shown = λ o m. inr (⊎_elim (λ same. ap (λ (x : Mount ℕ). nat_eq x.filesystem new_one.number || false) same
         ∙ ap (λ b. b || false) (eq-eqb new_one.number new_one.number refl)) (λ none. absurd none) m);
