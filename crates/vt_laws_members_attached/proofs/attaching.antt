@@ -9,7 +9,6 @@ pub mod KnownMasters
 pub mod MovedAlike
 pub mod MovedGrows
 pub mod Moving
-pub mod NewFilesystem
 pub mod PartGrows
 pub mod PartServes
 pub mod PlainMounting

@@ -1,4 +1,5 @@
 -- What the proofs of src/overlays.rt use.
 pub mod SameOverlay
 pub mod LayersTheirs
+pub mod NewFilesystem
 pub mod Mounting

@@ -2,20 +2,20 @@
 use Rattle.std.proofs.Common.{◌≡◌, refl, sym, ap, ◌∙◌, ⊎_elim, ℕ, nat_eq, Bool, true, false, cond, List, [], ◌++◌, Option, Some, None, append_assoc, filter, flat_map, map}
 use Rattle.std.specs.List.{list_any}
 use Rattle.vt_spec.specs.Language.Calls.{TaskName}
-use Rattle.vt_spec.specs.Lists.{folded, rest_of, then_some}
+use Rattle.vt_spec.specs.Lists.{folded, is_among, rest_of, then_some}
 use Rattle.vt_spec.specs.Machine.Attach.{Copies, attached_by, masters_with}
 use Rattle.vt_spec.specs.Machine.Invariants.{IsWorld}
-use Rattle.vt_spec.specs.Machine.Mounts.{Mount, source_of}
+use Rattle.vt_spec.specs.Machine.Mounts.{Location, Mount, source_of}
 use Rattle.vt_spec.specs.Machine.Policy.{master_above, numbers_raised}
 use Rattle.vt_spec.specs.Machine.Receives.{is_member_of}
-use Rattle.vt_spec.specs.Machine.Sealed.{is_own_mount, members, own_mounts, part_of, part_of_master, sealed}
+use Rattle.vt_spec.specs.Machine.Sealed.{is_own_mount, members, own_mounts, part_of, part_of_master, sealed, used_filesystems}
 use Rattle.vt_spec.specs.Machine.World.{Filesystem, Task, World, mount_at}
 use Rattle.vt_spec.proofs.Lists.{Among, among-filter, among-from_filter, any_among}
 use Rattle.vt_laws_part.proofs.groups.ReceiversAlike.{member_group}
 use Rattle.vt_laws_part.proofs.part.PartOfPart.{is_own, same_members, same_own}
 use Rattle.vt_laws_members_changes.proofs.letting_go.Heard.{heard_by_own, master_same}
 use Rattle.vt_laws_members_changes.proofs.part.PartAgain.{part_again}
-use Rattle.vt_laws_members_attached.proofs.attaching.CopiesAlike.{Attachment, attached_as, attached_there, base, base_part, copies, group_source, made, masters_agree, parts, push}
+use Rattle.vt_laws_members_attached.proofs.attaching.CopiesAlike.{attached_as, attached_there, base, base_part, copies, group_source, made, masters_agree, parts, push}
 use Rattle.vt_laws_members_attached.proofs.attaching.GrownPart.{Grows, grown_world, own_how, part_grown}
 use Rattle.vt_laws_members_attached.proofs.attaching.KnownMasters.{copy_known}
 use Rattle.vt_laws_members_attached.proofs.attaching.PartGrows.{part_grows}
@@ -98,69 +98,74 @@ module _ (world : World ℕ) (names : List TaskName) (is : IsWorld nat_eq world)
       one_part above_alike name
 
 -- So it is where copies come.
-module _ (world : World ℕ) (names : List TaskName) (at : Attachment world names)
+module _ (world : World ℕ) (names : List TaskName) (is : IsWorld nat_eq world)
+    (sealed_off : sealed nat_eq world names ≡ true) (new_ones : List (Filesystem ℕ))
+    (unused : (n : ℕ) → is_among nat_eq n (used_filesystems nat_eq world names) ≡ true
+    → list_any (λ (f : Filesystem ℕ). nat_eq n f.number) new_ones ≡ false)
+    (place : Location ℕ) (there : Among (mount_at nat_eq world place) world.mounts)
+    (own : is_own world names (members world names) (mount_at nat_eq world place) ≡ true)
     (new : Copies ℕ) (origins : List (Mount ℕ))
     (new_groups : (a b : ℕ) → world.master (new.image a b) ≡ None)
     (sources : (o : Mount ℕ) → Among o origins → (g : ℕ) → source_of o.propagation ≡ Some g
     → (part_of nat_eq world names).master g ≡ world.master g)
-    (shows : ShowTheirs world names at new false origins) where
+    (shows : ShowTheirs world names is sealed_off new_ones unused place there own new false origins) where
   abbrev up : Mount ℕ → Mount ℕ
-  up = push world names at new false origins
+  up = push world names is sealed_off new_ones unused place there own new false origins
 
   abbrev added : List (Mount ℕ)
-  added = all_copies world names at new false origins
+  added = all_copies world names is sealed_off new_ones unused place there own new false origins
 
   abbrev with_made : (ℕ → Option ℕ) → ℕ → Option ℕ
   with_made above =
-      folded (masters_with nat_eq) above (made world names at new false
+      folded (masters_with nat_eq) above (made world names is sealed_off new_ones unused place there own new false
       origins)
 
-  pub grows : Grows world names up added at.new_ones (with_made world.master)
+  pub grows : Grows world names up added new_ones (with_made world.master)
   grows =
-      copies_grow world names at new false origins shows
+      copies_grow world names is sealed_off new_ones unused place there own new false origins shows
       (with_made world.master)
 
   known : (y : Mount ℕ) → Among y (map up world.mounts ++ added)
       → is_own world names (members world names) y ≡ true → (g : ℕ) → source_of y.propagation ≡ Some g
       → with_made (part_of nat_eq world names).master g ≡ with_made world.master g
   known y m mine g e =
-      masters_agree (made world names at new false origins)
+      masters_agree (made world names is sealed_off new_ones unused place there own new false origins)
       (part_of nat_eq world names).master world.master g
       (⊎_elim
-      (λ old. master_same world names at.is at.sealed_off g (heard_by_own world names at.is at.sealed_off old.0
+      (λ old. master_same world names is sealed_off g (heard_by_own world names is sealed_off old.0
       (among-filter (is_own_mount nat_eq world names) world.mounts old.0 old.1 old.2) g
       (sym (ap (λ (x : Mount ℕ). source_of x.propagation) old.3
-      ∙ push_keeps world names at new false origins
+      ∙ push_keeps world names is sealed_off new_ones unused place there own new false origins
       (λ (x : Mount ℕ). source_of x.propagation) (λ x at. refl) old.0) ∙ e)))
-      (λ more. let of = of_copies world names at new false origins y more in
-      copy_known world names at new false origins new_groups sources of.0
+      (λ more. let of = of_copies world names is sealed_off new_ones unused place there own new false origins y more in
+      copy_known world names is sealed_off new_ones unused place there own new false origins new_groups sources of.0
       of.2
       of.3 g (ap (λ (x : Mount ℕ). source_of x.propagation) (sym of.4) ∙ e))
-      (own_how world names up added at.new_ones (with_made world.master) grows y m mine))
+      (own_how world names up added new_ones (with_made world.master) grows y m mine))
 
   -- the worlds that are left
   as_grown : (w : World ℕ)
-      → attached_as world names at new false origins w
-      ≡ grown_world w names up added at.new_ones (with_made w.master)
+      → attached_as world names is sealed_off new_ones unused place there own new false origins w
+      ≡ grown_world w names up added new_ones (with_made w.master)
   as_grown w =
-      ap (λ l. record w { mounts = l; master = with_made w.master; filesystems = w.filesystems ++ at.new_ones })
+      ap (λ l. record w { mounts = l; master = with_made w.master; filesystems = w.filesystems ++ new_ones })
       (append_assoc (map up w.mounts)
-      (copies world names at new false origins (mount_at nat_eq world at.place))
-      (flat_map (copies world names at new false origins)
-      (rest_of (parts world names at))))
+      (copies world names is sealed_off new_ones unused place there own new false origins (mount_at nat_eq world place))
+      (flat_map (copies world names is sealed_off new_ones unused place there own new false origins)
+      (rest_of (parts world names is sealed_off new_ones unused place there own))))
 
   pub copies_alike : (name : TaskName)
       → part_of nat_eq (numbers_raised nat_eq world name []
-      (attached_by nat_eq (base world names at) new at.place false origins))
+      (attached_by nat_eq (base world names is sealed_off new_ones unused place there own) new place false origins))
       names
       ≡ part_of nat_eq (numbers_raised nat_eq (part_of nat_eq world names) name []
-      (attached_by nat_eq (base_part world names at) new at.place false
+      (attached_by nat_eq (base_part world names is sealed_off new_ones unused place there own) new place false
       origins))
       names
   copies_alike name =
       ap (λ w. part_of nat_eq (numbers_raised nat_eq world name [] w) names) (as_grown world)
-      ∙ grown_alike world names at.is at.sealed_off up added at.new_ones (with_made world.master)
+      ∙ grown_alike world names is sealed_off up added new_ones (with_made world.master)
       (with_made (part_of nat_eq world names).master) grows known name
       ∙ sym (ap (λ w. part_of nat_eq (numbers_raised nat_eq (part_of nat_eq world names) name [] w) names)
-      (attached_there world names at new false origins
+      (attached_there world names is sealed_off new_ones unused place there own new false origins
       ∙ as_grown (part_of nat_eq world names)))

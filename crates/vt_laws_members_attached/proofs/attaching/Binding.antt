@@ -1,11 +1,12 @@
 -- Each mount(2) with MS_BIND, recursive or not, ends in the part as in the world.
 use Rattle.std.proofs.Common.{◌≡◌, refl, sym, ap, subst, ◌∙◌, inl, ⊎_elim, ℕ, zero, suc, nat_eq, Bool, true, false, List, [], Option, Some, None, Ok, Err, filter, length, not}
 use Rattle.std.specs.Prelude.{IfOk, is_ok}
+use Rattle.std.specs.List.{list_any}
 use Rattle.std.proofs.lemmas.Bool.{or_parts}
 use Rattle.vt_spec.specs.Language.Answers.Answer.{Done}
 use Rattle.vt_spec.specs.Language.Calls.{TaskName}
 use Rattle.vt_spec.specs.Language.Calls.Call.{Bind}
-use Rattle.vt_spec.specs.Lists.{Fresh}
+use Rattle.vt_spec.specs.Lists.{Fresh, is_among}
 use Rattle.vt_spec.specs.Machine.Apply.{overfills}
 use Rattle.vt_spec.specs.Machine.Attach.{Copies, attach, attached_by, bind_tree, bindable_children, bindable_tree, bound_at, copies_from, stands_under}
 use Rattle.vt_spec.specs.Machine.Invariants.{IsWorld}
@@ -18,10 +19,10 @@ use Rattle.vt_spec.specs.Machine.Policy.{numbers_raised, policy}
 use Rattle.vt_spec.specs.Machine.Rules.Conditions.{is_elsewhere}
 use Rattle.vt_spec.specs.Machine.Rules.Mounting.{admin_rules, bind_rules, destination_walk, source_walk}
 use Rattle.vt_spec.specs.Machine.Run.{Serves}
-use Rattle.vt_spec.specs.Machine.Sealed.{is_own_mount, members, part_of, sealed, used_directly}
+use Rattle.vt_spec.specs.Machine.Sealed.{is_own_mount, members, part_of, sealed, used_directly, used_filesystems}
 use Rattle.vt_spec.specs.Machine.Walking.{walk_end}
 use Rattle.vt_spec.specs.Errors.{and_then}
-use Rattle.vt_spec.specs.Machine.World.{Task, World, mount_at, task_called}
+use Rattle.vt_spec.specs.Machine.World.{Filesystem, Task, World, mount_at, task_called}
 use Rattle.vt_spec.proofs.Lists.{Among, among-filter, among-from_filter, among-from_flat_map}
 use Rattle.vt_spec.proofs.Worlds.{number-mount_in}
 use Rattle.vt_laws_letting_go.proofs.mounting.AttachedSwept.{binds_keep_all}
@@ -42,7 +43,7 @@ use Rattle.vt_laws_members_changes.proofs.part.SettledPart.{part_in_use}
 use Rattle.vt_laws_members_changes.proofs.tasks.Denied.{denial_ends_alike, run_by, same_judgement, unnamed_ends_alike}
 use Rattle.vt_laws_members_attached.specs.Attaching.{BindsEndAlike}
 use Rattle.vt_laws_members_attached.proofs.attaching.AttachedAlike.{copies_alike}
-use Rattle.vt_laws_members_attached.proofs.attaching.CopiesAlike.{Attachment, base, base_part, no_new_ones, parts, parts_alike}
+use Rattle.vt_laws_members_attached.proofs.attaching.CopiesAlike.{base, base_part, no_new_ones, parts, parts_alike}
 use Rattle.vt_laws_members_attached.proofs.attaching.Destination.{at_destination, at_source, locations_stand_there, mounts_stand_there, placed, placed_there, there}
 use Rattle.vt_laws_members_attached.proofs.attaching.PushedUp.{ShowTheirs}
 use Rattle.vt_laws_members_attached.proofs.attaching.Unused.{group_new}
@@ -54,13 +55,13 @@ module _ (world : World ℕ) (names : List TaskName) (is : IsWorld nat_eq world)
   abbrev own_at : Location ℕ → Type 0
   own_at here = is_own world names (members world names) (mount_at nat_eq world here) ≡ true
 
-  abbrev Binds : Permit ℕ → Type 0
+  abbrev pub Binds : Permit ℕ → Type 0
   Binds permit =
       (from : Location ℕ) × (here : Location ℕ) × (permit ≡ ToBind from here recursive)
       × (is_theirs world names from.mount ≡ true) × own_at from × (is_theirs world names here.mount ≡ true)
       × own_at here
 
-  binds_there : (fresh : Fresh ℕ) (source path : List ℕ) → IfOk
+  pub binds_there : (fresh : Fresh ℕ) (source path : List ℕ) → IfOk
       (bind_permit nat_eq (one world names is sealed_off task member)
       (overfills nat_eq fresh world task) task source path
       recursive) Binds
@@ -170,25 +171,21 @@ module _ (world : World ℕ) (names : List TaskName) (name : TaskName) (source p
   here_theirs : IsTheirs world names it.is.mounts here.mount
   here_theirs = theirs_from world names it.is.mounts here.mount on
 
+  here_there : Among (mount_at nat_eq world here) world.mounts
+  here_there = there world names it.is it.sealed_off here here_theirs own
+
   from_mine : mine world names it.is (mount_at nat_eq world from)
   from_mine = (there world names it.is it.sealed_off from from_theirs from_own, from_own)
 
   abbrev origins : List (Mount ℕ)
   origins = bind_tree nat_eq world from recursive
 
-  abbrev at : Attachment world names
-  at = record {
-    is = it.is;
-    sealed_off = it.sealed_off;
-    new_ones = [];
-    unused = λ n used. refl;
-    place = here;
-    there = there world names it.is it.sealed_off here here_theirs own;
-    own = own;
-  }
+  unused : (n : ℕ) → is_among nat_eq n (used_filesystems nat_eq world names) ≡ true
+      → list_any (λ (f : Filesystem ℕ). nat_eq n f.number) [] ≡ false
+  unused n used = refl
 
   abbrev new : Copies ℕ
-  new = copies_from nat_eq fresh (parts world names at) origins
+  new = copies_from nat_eq fresh (parts world names it.is it.sealed_off [] unused here here_there own) origins
 
   shown : (o : Mount ℕ) → Among o origins → Among o.filesystem (used_directly nat_eq world names)
   shown o m =
@@ -198,7 +195,7 @@ module _ (world : World ℕ) (names : List TaskName) (name : TaskName) (source p
       (theirs_directly world names it.is (record { mount = x.0.number; node = x.0.root })
       (own_theirs world names it.is x.0 x.1.0 x.1.1))
 
-  shows : ShowTheirs world names at new false origins
+  shows : ShowTheirs world names it.is it.sealed_off [] unused here here_there own new false origins
   shows = record {
     shown = λ o m. inl (shown o m);
     unlisted = λ f m. refl;
@@ -248,24 +245,25 @@ module _ (world : World ℕ) (names : List TaskName) (name : TaskName) (source p
   abbrev attached_to : List (Mount ℕ) → World ℕ → World ℕ
   attached_to mounts w = attach nat_eq w fresh here false mounts
 
-  now_so : now ≡ attached_by nat_eq (base world names at) new here false origins
+  now_so : now ≡ attached_by nat_eq (base world names it.is
+      it.sealed_off [] unused here here_there own) new here false origins
   now_so = ap (attached_to origins) (no_new_ones world)
 
   there_so : now_there ≡ attached_by nat_eq
-      (base_part world names at) new
+      (base_part world names it.is it.sealed_off [] unused here here_there own) new
       here false origins
   there_so =
       ap (λ l. attached_to l part) (bind_alike world names it.is from recursive from_theirs)
       ∙ ap (attached_to origins) (no_new_ones part)
-      ∙ ap (λ l. attached_by nat_eq (base_part world names at)
+      ∙ ap (λ l. attached_by nat_eq (base_part world names it.is it.sealed_off [] unused here here_there own)
       (copies_from nat_eq fresh l origins) here false origins)
-      (parts_alike world names at)
+      (parts_alike world names it.is it.sealed_off [] unused here here_there own)
 
   parts_same : part_of nat_eq (numbers_raised nat_eq world name [] now) names
       ≡ part_of nat_eq (numbers_raised nat_eq part name [] now_there) names
   parts_same =
       ap (λ w. part_of nat_eq (numbers_raised nat_eq world name [] w) names) now_so
-      ∙ copies_alike world names at new origins new_groups sources shows
+      ∙ copies_alike world names it.is it.sealed_off [] unused here here_there own new origins new_groups sources shows
       name
       ∙ sym (ap (λ w. part_of nat_eq (numbers_raised nat_eq part name [] w) names) there_so)
 

@@ -391,12 +391,10 @@ module _ (v : World ℕ) (names : List TaskName) (change : Mount ℕ → Mount �
       (subst (Among n) (sym (of_same changes layer.0 layer.1)) layer.2))
       (used_how v names n h))
 
-  -- lower layers that a test finds are the old ones, if it finds none of a new overlay
-  pub lowers_same : (test : Layer ℕ → Bool)
-      → ((f : Filesystem ℕ) → Among f new → (layer : Layer ℕ)
-      → Among layer (of_overlay [] (λ (overlay : Overlay ℕ). overlay.lowers) f) → test layer ≡ true → ⊥)
+  -- Lower layers are the same where no filesystem is new.
+  pub lowers_stay : ((f : Filesystem ℕ) → ¬ Among f new) → (test : Layer ℕ → Bool)
       → list_any test (own_lowers nat_eq u names) ≡ list_any test (own_lowers nat_eq v names)
-  lowers_same test none =
+  lowers_stay none test =
       same_truth (list_any test (own_lowers nat_eq u names)) (list_any test (own_lowers nat_eq v names))
       (λ h. let at = any_among test (own_lowers nat_eq u names) h in
       let from = among-from_flat_map (lowers_at u) (used_directly nat_eq u names) at.0 at.1 in
@@ -404,9 +402,7 @@ module _ (v : World ℕ) (names : List TaskName) (change : Mount ℕ → Mount �
       (λ old. any_from_among test (own_lowers nat_eq v names) at.0
       (among-flat_map (lowers_at v) (used_directly nat_eq v names) from.0 at.0 old
       (subst (Among at.0) (of_same (λ (overlay : Overlay ℕ). overlay.lowers) from.0 old) from.2)) at.2)
-      (λ is. let new_one = new_found from.0 is in
-      absurd (none new_one.0 new_one.1 at.0
-      (subst (Among at.0) (ap (of_overlay [] (λ (overlay : Overlay ℕ). overlay.lowers)) new_one.2) from.2) at.2))
+      (λ is. let new_one = new_found from.0 is in absurd (none new_one.0 new_one.1))
       (direct_from from.0 from.1))
       (λ h. let at = any_among test (own_lowers nat_eq v names) h in
       let from = among-from_flat_map (lowers_at v) (used_directly nat_eq v names) at.0 at.1 in
@@ -417,14 +413,27 @@ module _ (v : World ℕ) (names : List TaskName) (change : Mount ℕ → Mount �
   -- What the part has of filesystems
   module _ (f : Filesystem ℕ) (m : Among f v.filesystems)
       (outside : is_among nat_eq f.number (used_filesystems nat_eq v names) ≡ false) where
-    -- lower layers of new overlays lie elsewhere
-    elsewhere : (g : Filesystem ℕ) → Among g new → (layer : Layer ℕ)
-        → Among layer (of_overlay [] (λ (overlay : Overlay ℕ). overlay.lowers) g)
-        → nat_eq f.number layer.filesystem ≡ true → ⊥
-    elsewhere g at layer lower e =
-        true≢false (sym (new_lowers g at layer lower)
-        ∙ ap (λ n. is_among nat_eq n (used_filesystems nat_eq v names)) (sym (eqb-true f.number layer.filesystem e))
-        ∙ outside)
+    -- new lower layers lie elsewhere
+    lowers_same : (test : Layer ℕ → Bool) → ((layer : Layer ℕ) → test layer ≡ true → f.number ≡ layer.filesystem)
+        → list_any test (own_lowers nat_eq u names) ≡ list_any test (own_lowers nat_eq v names)
+    lowers_same test on =
+        same_truth (list_any test (own_lowers nat_eq u names)) (list_any test (own_lowers nat_eq v names))
+        (λ h. let at = any_among test (own_lowers nat_eq u names) h in
+        let from = among-from_flat_map (lowers_at u) (used_directly nat_eq u names) at.0 at.1 in
+        ⊎_elim
+        (λ old. any_from_among test (own_lowers nat_eq v names) at.0
+        (among-flat_map (lowers_at v) (used_directly nat_eq v names) from.0 at.0 old
+        (subst (Among at.0) (of_same (λ (overlay : Overlay ℕ). overlay.lowers) from.0 old) from.2)) at.2)
+        (λ is. let new_one = new_found from.0 is in
+        absurd (true≢false (sym (new_lowers new_one.0 new_one.1 at.0
+        (subst (Among at.0) (ap (of_overlay [] (λ (overlay : Overlay ℕ). overlay.lowers)) new_one.2) from.2))
+        ∙ ap (λ n. is_among nat_eq n (used_filesystems nat_eq v names)) (sym (on at.0 at.2)) ∙ outside)))
+        (direct_from from.0 from.1))
+        (λ h. let at = any_among test (own_lowers nat_eq v names) h in
+        let from = among-from_flat_map (lowers_at v) (used_directly nat_eq v names) at.0 at.1 in
+        any_from_among test (own_lowers nat_eq u names) at.0
+        (among-flat_map (lowers_at u) (used_directly nat_eq u names) from.0 at.0 (direct_to from.0 from.1)
+        (subst (Among at.0) (sym (of_same (λ (overlay : Overlay ℕ). overlay.lowers) from.0 from.1)) from.2)) at.2)
 
     lower_part_same : part_of_lower nat_eq u names f ≡ part_of_lower nat_eq v names f
     lower_part_same =
@@ -436,7 +445,8 @@ module _ (v : World ℕ) (names : List TaskName) (change : Mount ℕ → Mount �
         && is_under nat_eq g.files layer.directory object) (own_lowers nat_eq u names))
         (old_found f.number (it.unlisted f m))
         ∙ lowers_same (lies_in_layer nat_eq v f.number object)
-        (λ g at layer lower h. elsewhere g at layer lower (and_parts (nat_eq f.number layer.filesystem) _ h).0)))
+        (λ layer h. eqb-true f.number layer.filesystem
+        (and_parts (nat_eq f.number layer.filesystem) _ h).0)))
 
     outside_same : part_of_filesystem nat_eq u names f ≡ part_of_filesystem nat_eq v names f
     outside_same =
@@ -444,7 +454,8 @@ module _ (v : World ℕ) (names : List TaskName) (change : Mount ℕ → Mount �
         (part_of_lower nat_eq u names f))) (used_same f.number (it.unlisted f m))
         ∙ ap (λ b. cond (is_among nat_eq f.number (used_filesystems nat_eq v names)) (Some f)
         (when b (part_of_lower nat_eq u names f)))
-        (lowers_same (λ (layer : Layer ℕ). nat_eq f.number layer.filesystem) elsewhere)
+        (lowers_same (λ (layer : Layer ℕ). nat_eq f.number layer.filesystem)
+        (λ layer h. eqb-true f.number layer.filesystem h))
         ∙ ap (λ g. cond (is_among nat_eq f.number (used_filesystems nat_eq v names)) (Some f)
         (when (has_lower (own_lowers nat_eq v names) f.number) g)) lower_part_same
 

@@ -23,7 +23,7 @@ use Rattle.vt_laws_worlds.proofs.worlds.Reached.{namespace_below}
 use Rattle.vt_laws_members_changes.proofs.letting_go.Ready.{Alone, IsCut, NoOthers, Ready}
 use Rattle.vt_laws_members_changes.proofs.letting_go.Sweep.{part_of_settled, swept_of}
 use Rattle.vt_laws_members_attached.proofs.attaching.CopiesAlike.{no_new_ones}
-use Rattle.vt_laws_members_attached.proofs.attaching.GrownPart.{Grows, as_before, grown_world, lowers_same, shows_still, used_same}
+use Rattle.vt_laws_members_attached.proofs.attaching.GrownPart.{Grows, as_before, grown_world, lowers_stay, shows_still, used_same}
 
 module _ (v : World ℕ) (names : List TaskName) (change : Mount ℕ → Mount ℕ) (added : List (Mount ℕ))
     (master : ℕ → Option ℕ) (used : List ℕ) (lowers : List (Layer ℕ)) (ready : Ready v names used lowers)
@@ -50,7 +50,7 @@ module _ (v : World ℕ) (names : List TaskName) (change : Mount ℕ → Mount �
   lowers_now : (test : Layer ℕ → Bool) → list_any test (own_lowers nat_eq grown names) ≡ list_any test lowers
   lowers_now test =
       sym (ap (λ w. list_any test (own_lowers nat_eq w names)) without_new)
-      ∙ lowers_same v names change added [] master grows test (λ f m. absurd m)
+      ∙ lowers_stay v names change added [] master grows (λ f m. m) test
       ∙ ap (list_any test) ready.lowers_are
 
   -- a mount afterwards is theirs, or as it was

@@ -5,15 +5,18 @@ use Rattle.std.specs.Prelude.{option_map, unwrap_or}
 use Rattle.std.specs.List.{list_any}
 use Rattle.std.proofs.lemmas.Option.{same_Some}
 use Rattle.vt_spec.specs.Language.Calls.{TaskName}
+use Rattle.vt_spec.specs.Lists.{is_among}
 use Rattle.vt_spec.specs.Machine.Attach.{Copies, Twig, copy_type, image, is_destination, type_at, type_on_shared}
-use Rattle.vt_spec.specs.Machine.Mounts.{Mount, Propagation, group_of, source_of}
+use Rattle.vt_spec.specs.Machine.Invariants.{IsWorld}
+use Rattle.vt_spec.specs.Machine.Mounts.{Location, Mount, Propagation, group_of, source_of}
 use Rattle.vt_spec.specs.Machine.Mounts.Propagation.{Private, Shared, Slave, Unbindable}
 use Rattle.vt_spec.specs.Machine.Receives.{groups_up, has_members, is_member_of, slave_of_heir}
-use Rattle.vt_spec.specs.Machine.Sealed.{own_mounts, part_of}
-use Rattle.vt_spec.specs.Machine.World.{World, mount_at}
+use Rattle.vt_spec.specs.Machine.Sealed.{members, own_mounts, part_of, sealed, used_filesystems}
+use Rattle.vt_spec.specs.Machine.World.{Filesystem, World, mount_at}
 use Rattle.vt_spec.proofs.Lists.{Among}
 use Rattle.vt_spec.proofs.Options.{none_is_some}
-use Rattle.vt_laws_members_attached.proofs.attaching.CopiesAlike.{Attachment, base, group_source, parts, tree}
+use Rattle.vt_laws_part.proofs.part.PartOfPart.{is_own}
+use Rattle.vt_laws_members_attached.proofs.attaching.CopiesAlike.{base, group_source, parts, tree}
 use Rattle.vt_laws_members_attached.proofs.attaching.PushedUp.{copy, twig}
 
 -- a group without master has none in the part
@@ -25,7 +28,12 @@ none_known world names g e = by (list_any (is_member_of nat_eq g) (own_mounts na
     by true = refl
     by false = sym e
 
-module _ (world : World ℕ) (names : List TaskName) (at : Attachment world names)
+module _ (world : World ℕ) (names : List TaskName) (is : IsWorld nat_eq world)
+    (sealed_off : sealed nat_eq world names ≡ true) (new_ones : List (Filesystem ℕ))
+    (unused : (n : ℕ) → is_among nat_eq n (used_filesystems nat_eq world names) ≡ true
+    → list_any (λ (f : Filesystem ℕ). nat_eq n f.number) new_ones ≡ false)
+    (place : Location ℕ) (there : Among (mount_at nat_eq world place) world.mounts)
+    (own : is_own world names (members world names) (mount_at nat_eq world place) ≡ true)
     (new : Copies ℕ) (moves : Bool) (origins : List (Mount ℕ))
     (new_groups : (a b : ℕ) → world.master (new.image a b) ≡ None)
     (sources : (o : Mount ℕ) → Among o origins → (g : ℕ) → source_of o.propagation ≡ Some g
@@ -37,13 +45,13 @@ module _ (world : World ℕ) (names : List TaskName) (at : Attachment world name
   Known g = part.master g ≡ world.master g
 
   abbrev destination : Mount ℕ
-  destination = mount_at nat_eq world at.place
+  destination = mount_at nat_eq world place
 
   abbrev at_base : World ℕ
-  at_base = base world names at
+  at_base = base world names is sealed_off new_ones unused place there own
 
   abbrev at_parts : List (Mount ℕ)
-  at_parts = parts world names at
+  at_parts = parts world names is sealed_off new_ones unused place there own
 
   new_known : (a b : ℕ) → Known (new.image a b)
   new_known a b = none_known world names (new.image a b) (new_groups a b)
@@ -74,7 +82,7 @@ module _ (world : World ℕ) (names : List TaskName) (at : Attachment world name
           e) ∙ h)) (new_known group o.number)
 
   abbrev its_twig : Mount ℕ → Twig ℕ
-  its_twig = twig world names at new moves origins
+  its_twig = twig world names is sealed_off new_ones unused place there own new moves origins
 
   image_known : (o : Mount ℕ) → Among o origins → (group : ℕ) → Known (image nat_eq new destination (its_twig o) group)
   image_known o m group = by (is_member_of nat_eq group destination)
@@ -105,11 +113,11 @@ module _ (world : World ℕ) (names : List TaskName) (at : Attachment world name
   type_known o m Unbindable g h = none_is_some g h
 
   pub copy_known : (p o : Mount ℕ) → Among o origins → (g : ℕ)
-      → source_of (copy world names at new moves origins p o).propagation
+      → source_of (copy world names is sealed_off new_ones unused place there own new moves origins p o).propagation
       ≡ Some g
       → Known g
   copy_known p o m g = by (is_destination nat_eq
-      (tree world names at new moves origins) p.number)
+      (tree world names is sealed_off new_ones unused place there own new moves origins) p.number)
     where
       by : (b : Bool) → source_of (cond b (its_twig o).propagation
           (copy_type nat_eq at_base new at_parts destination (its_twig o) p.propagation)) ≡ Some g → Known g

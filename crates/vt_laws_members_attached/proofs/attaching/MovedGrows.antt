@@ -1,12 +1,14 @@
 -- A tree of theirs moves, with copies at receivers: it grows the world.
 use Rattle.std.proofs.Common.{◌≡◌, refl, sym, ap, subst, ◌∙◌, ◌⊎◌, inl, inr, ⊎_elim, ℕ, zero, suc, nat_eq, Bool, true, false, cond, true≢false, List, [], ◌∷◌, ◌++◌, Option, Some, None, append-nil, flat_map, length, map, eq-eqb, eqb-true}
+use Rattle.std.specs.List.{list_any}
 use Rattle.std.proofs.lemmas.List.{map-id}
 use Rattle.vt_spec.specs.Language.Calls.{TaskName}
-use Rattle.vt_spec.specs.Lists.{folded, rest_of}
+use Rattle.vt_spec.specs.Lists.{folded, is_among, rest_of}
 use Rattle.vt_spec.specs.Machine.Attach.{Copies, masters_with, moved_tree}
+use Rattle.vt_spec.specs.Machine.Invariants.{IsWorld}
 use Rattle.vt_spec.specs.Machine.Mounts.{Location, Mount, children, replaced_if_same, source_of, tree_from, with_mount}
-use Rattle.vt_spec.specs.Machine.Sealed.{is_own_mount, members, part_of, seen_by_descriptor, used_directly}
-use Rattle.vt_spec.specs.Machine.World.{World, mount_at, mount_numbered}
+use Rattle.vt_spec.specs.Machine.Sealed.{is_own_mount, members, part_of, sealed, seen_by_descriptor, used_directly, used_filesystems}
+use Rattle.vt_spec.specs.Machine.World.{Filesystem, World, mount_at, mount_numbered}
 use Rattle.vt_spec.proofs.Lists.{Among, among-filter, among-from_flat_map, map_twice}
 use Rattle.vt_spec.proofs.Worlds.{number-mount_in}
 use Rattle.vt_laws_part.proofs.part.PartOfPart.{is_own}
@@ -14,7 +16,7 @@ use Rattle.vt_laws_members.proofs.judging.Grounds.{numbered}
 use Rattle.vt_laws_members.proofs.judging.MountTrees.{children_own, own_theirs}
 use Rattle.vt_laws_members.proofs.judging.SeenInPart.{theirs_directly}
 use Rattle.vt_laws_members_changes.proofs.letting_go.Heard.{heard_by_own, master_same}
-use Rattle.vt_laws_members_attached.proofs.attaching.CopiesAlike.{Attachment, attached_as, copies, made, masters_agree, parts, parts_own, push}
+use Rattle.vt_laws_members_attached.proofs.attaching.CopiesAlike.{attached_as, copies, made, masters_agree, parts, parts_own, push}
 use Rattle.vt_laws_members_attached.proofs.attaching.Destination.{located_well}
 use Rattle.vt_laws_members_attached.proofs.attaching.GrownPart.{Grows, grown_world, own_how}
 use Rattle.vt_laws_members_attached.proofs.attaching.KnownMasters.{copy_known}
@@ -54,31 +56,39 @@ swapped_is (copy ∷ copied) mount =
         ⊎_elim (λ same. inl (ap (swapped copied) first ∙ same))
         (λ later. inr (later.0, inr later.1, ap (swapped copied) first ∙ later.2, later.3)) (rest mount)
 
-module _ (world : World ℕ) (names : List TaskName) (at : Attachment world names) (none : at.new_ones ≡ [])
+pub none_new : (world : World ℕ) (names : List TaskName) (n : ℕ)
+    → is_among nat_eq n (used_filesystems nat_eq world names) ≡ true
+    → list_any (λ (f : Filesystem ℕ). nat_eq n f.number) [] ≡ false
+none_new world names n used = refl
+
+module _ (world : World ℕ) (names : List TaskName) (is : IsWorld nat_eq world)
+    (sealed_off : sealed nat_eq world names ≡ true)
+    (place : Location ℕ) (there : Among (mount_at nat_eq world place) world.mounts)
+    (own : is_own world names (members world names) (mount_at nat_eq world place) ≡ true)
     (new : Copies ℕ) (number : ℕ) (top_there : Among (mount_numbered nat_eq world number) world.mounts)
     (top_own : is_own world names (members world names) (mount_numbered nat_eq world number) ≡ true) where
   abbrev owns : Mount ℕ → Bool
   owns = is_own world names (members world names)
 
   abbrev destination : Mount ℕ
-  destination = mount_at nat_eq world at.place
+  destination = mount_at nat_eq world place
 
   abbrev origins : List (Mount ℕ)
   origins = moved_tree nat_eq world number
 
   abbrev up : Mount ℕ → Mount ℕ
-  up = push world names at new true origins
+  up = push world names is sealed_off [] (none_new world names) place there own new true origins
 
   abbrev at_parts : List (Mount ℕ)
-  at_parts = parts world names at
+  at_parts = parts world names is sealed_off [] (none_new world names) place there own
 
   abbrev made_at : Mount ℕ → List (Mount ℕ)
-  made_at = copies world names at new true origins
+  made_at = copies world names is sealed_off [] (none_new world names) place there own new true origins
 
   abbrev copied : Mount ℕ → Mount ℕ → Mount ℕ
-  copied = copy world names at new true origins
+  copied = copy world names is sealed_off [] (none_new world names) place there own new true origins
 
-  abbrev went : Mount ℕ → Mount ℕ
+  abbrev pub went : Mount ℕ → Mount ℕ
   went = swapped (made_at destination)
 
   abbrev pub moved : Mount ℕ → Mount ℕ
@@ -90,7 +100,7 @@ module _ (world : World ℕ) (names : List TaskName) (at : Attachment world name
   abbrev pub moved_master : (ℕ → Option ℕ) → ℕ → Option ℕ
   moved_master above =
       folded (masters_with nat_eq) above
-      (made world names at new true origins)
+      (made world names is sealed_off [] (none_new world names) place there own new true origins)
 
   -- the tree is theirs
   abbrev Mine : Mount ℕ → Type 0
@@ -105,30 +115,28 @@ module _ (world : World ℕ) (names : List TaskName) (at : Attachment world name
       let child = among-from_flat_map (tree_from nat_eq depth world.mounts) (children nat_eq world.mounts m.number) o
       below in
       tree_mine depth child.0
-      (children_own world names at.is m.number child.0
-      (own_theirs world names at.is m its.0 its.1) child.1) o child.2) n
+      (children_own world names is m.number child.0 (own_theirs world names is m its.0 its.1) child.1) o child.2) n
 
-  origin_mine : (o : Mount ℕ) → Among o origins → Mine o
+  pub origin_mine : (o : Mount ℕ) → Among o origins → Mine o
   origin_mine o m = tree_mine (length world.mounts) (mount_numbered nat_eq world number) (top_there, top_own) o m
 
   -- at the destination mounts that move keep their numbers
   keeps_number : (o : Mount ℕ) → (copied destination o).number ≡ o.number
   keeps_number o =
       ap (λ b. cond b o.number (new.copy destination.number o.number))
-      (eq-eqb destination.number at.place.mount (number-mount_in world.mounts at.place.mount))
+      (eq-eqb destination.number place.mount (number-mount_in world.mounts place.mount))
 
   one_of_its_number : (a b : Mount ℕ) → Among a world.mounts → Among b world.mounts → a.number ≡ b.number → a ≡ b
   one_of_its_number a b m n e =
-      sym (numbered world names at.is.mounts a m) ∙ ap (mount_numbered nat_eq world) e
-      ∙ numbered world names at.is.mounts b n
+      sym (numbered world names is.mounts a m) ∙ ap (mount_numbered nat_eq world) e ∙ numbered world names is.mounts b n
 
   -- a mount of the world is as it was, or moved; so is what a descriptor shows of it
-  went_how : (x y : Mount ℕ) → Among x world.mounts → y.number ≡ x.number
+  pub went_how : (x y : Mount ℕ) → Among x world.mounts → y.number ≡ x.number
       → (went y ≡ y) ⊎ (Among x origins × (went y ≡ copied destination x))
   went_how x y m e =
       ⊎_elim inl
       (λ some.
-      let of = copy_of world names at new true origins destination
+      let of = copy_of world names is sealed_off [] (none_new world names) place there own new true origins destination
       some.0 some.1 in
       let same : of.0 ≡ x = one_of_its_number of.0 x (origin_mine of.0 of.1).0 m
       (sym (keeps_number of.0) ∙ ap (λ (z : Mount ℕ). z.number) (sym of.2) ∙ some.3 ∙ e) in
@@ -138,33 +146,33 @@ module _ (world : World ℕ) (names : List TaskName) (at : Attachment world name
   keeps : {A : Type 0} (what : Mount ℕ → A)
       → ((m : Mount ℕ) (at : Option (Location ℕ)) → what (record m { mount_point = at }) ≡ what m)
       → (m : Mount ℕ) → what (up m) ≡ what m
-  keeps = push_keeps world names at new true origins
+  keeps = push_keeps world names is sealed_off [] (none_new world names) place there own new true origins
 
   -- copies at receivers are theirs
-  at_receiver : (y : Mount ℕ) → Among y at_receivers
+  pub at_receiver : (y : Mount ℕ) → Among y at_receivers
       → (p : Mount ℕ) × Among p at_parts × (o : Mount ℕ) × Among o origins × (y ≡ copied p o)
   at_receiver y m =
       let p = among-from_flat_map made_at (rest_of at_parts) y m in
-      let of = copy_of world names at new true origins p.0 y p.2 in
+      let of = copy_of world names is sealed_off [] (none_new world names) place there own new true origins p.0 y p.2 in
       (p.0, inr p.1, of.0, of.1, of.2)
 
   mine_shown : (o : Mount ℕ) → Mine o → Among o.filesystem (used_directly nat_eq world names)
   mine_shown o its =
       subst (λ (k : Mount ℕ). Among k.filesystem (used_directly nat_eq world names))
-      (numbered world names at.is.mounts o its.0)
-      (theirs_directly world names at.is (record { mount = o.number; node = o.root })
-      (own_theirs world names at.is o its.0 its.1))
+      (numbered world names is.mounts o its.0)
+      (theirs_directly world names is (record { mount = o.number; node = o.root })
+      (own_theirs world names is o its.0 its.1))
 
   pub moved_grows : (master : ℕ → Option ℕ) → Grows world names moved at_receivers [] master
   moved_grows master = record {
     kept = kept;
     others = others;
     ours = λ y m. let of = at_receiver y m in
-        ap owns of.4 ∙ (parts_own world names at of.0 of.1).1;
+        ap owns of.4 ∙ (parts_own world names is sealed_off [] (none_new world names) place there own of.0 of.1).1;
     shown = λ y m. let of = at_receiver y m in
         inl (subst (λ n. Among n (used_directly nat_eq world names)) (ap (λ (z : Mount ℕ). z.filesystem) (sym of.4))
         (mine_shown of.2 (origin_mine of.2 of.3)));
-    located = λ l m. located_well world names at.is l m;
+    located = λ l m. located_well world names is l m;
     unused = λ n e. absurd (true≢false (sym e));
     unlisted = λ f m. refl;
     layers = λ f m. absurd m;
@@ -181,7 +189,7 @@ module _ (world : World ℕ) (names : List TaskName) (at : Attachment world name
             keeps (λ (y : Mount ℕ). y.filesystem) (λ y at. refl) (went x) ∙ ap (λ (y : Mount ℕ). y.filesystem) same,
           ))
           (λ moves. (
-            keeps owns (λ y at. refl) (went x) ∙ ap owns moves.1 ∙ at.own,
+            keeps owns (λ y at. refl) (went x) ∙ ap owns moves.1 ∙ own,
             keeps (λ (y : Mount ℕ). y.number) (λ y at. refl) (went x) ∙ ap (λ (y : Mount ℕ). y.number) moves.1
                 ∙ keeps_number x,
             keeps (λ (y : Mount ℕ). y.filesystem) (λ y at. refl) (went x) ∙ ap (λ (y : Mount ℕ). y.filesystem) moves.1,
@@ -193,12 +201,13 @@ module _ (world : World ℕ) (names : List TaskName) (at : Attachment world name
       others x m other = (
         ⊎_elim
             (λ same. ap up same
-            ∙ other_stays world names at new true origins x m other)
+            ∙ other_stays world names is sealed_off []
+            (none_new world names) place there own new true origins x m other)
             (λ moves. absurd (true≢false (sym (origin_mine x moves.0).1 ∙ other)))
             (went_how x x m refl),
         ⊎_elim
             (λ same. ap up same
-            ∙ stub_stays world names at new true origins x)
+            ∙ stub_stays world names is sealed_off [] (none_new world names) place there own new true origins x)
             (λ moves. absurd (true≢false (sym (origin_mine x moves.0).1 ∙ other)))
             (went_how x (seen_by_descriptor x) m refl),
       )
@@ -209,20 +218,20 @@ module _ (world : World ℕ) (names : List TaskName) (at : Attachment world name
         → (part_of nat_eq world names).master g ≡ world.master g
     sources o m g e =
         let its = origin_mine o m in
-        master_same world names at.is at.sealed_off g (heard_by_own world names at.is at.sealed_off o
+        master_same world names is sealed_off g (heard_by_own world names is sealed_off o
         (among-filter (is_own_mount nat_eq world names) world.mounts o its.0 its.1) g e)
 
     known_copy : (p o : Mount ℕ) → Among o origins → (g : ℕ) → source_of (copied p o).propagation ≡ Some g
         → (part_of nat_eq world names).master g ≡ world.master g
     known_copy =
-        copy_known world names at new true origins new_groups
+        copy_known world names is sealed_off [] (none_new world names) place there own new true origins new_groups
         sources
 
     pub moved_known : (y : Mount ℕ) → Among y (map moved world.mounts ++ at_receivers) → owns y ≡ true → (g : ℕ)
         → source_of y.propagation ≡ Some g
         → moved_master (part_of nat_eq world names).master g ≡ moved_master world.master g
     moved_known y m mine g e =
-        masters_agree (made world names at new true origins)
+        masters_agree (made world names is sealed_off [] (none_new world names) place there own new true origins)
         (part_of nat_eq world names).master world.master g
         (⊎_elim
         (λ old. by old.0 old.1 old.2 (sym (ap (λ (x : Mount ℕ). source_of x.propagation) old.3
@@ -236,7 +245,7 @@ module _ (world : World ℕ) (names : List TaskName) (at : Attachment world name
             → (part_of nat_eq world names).master g ≡ world.master g
         by x n own_one s =
             ⊎_elim
-            (λ same. master_same world names at.is at.sealed_off g (heard_by_own world names at.is at.sealed_off x
+            (λ same. master_same world names is sealed_off g (heard_by_own world names is sealed_off x
             (among-filter (is_own_mount nat_eq world names) world.mounts x n own_one) g
             (ap (λ (z : Mount ℕ). source_of z.propagation) (sym same) ∙ s)))
             (λ moves. known_copy destination x moves.0 g
@@ -245,13 +254,12 @@ module _ (world : World ℕ) (names : List TaskName) (at : Attachment world name
 
   -- the world that is left
   pub moved_as : (w : World ℕ)
-      → attached_as world names at new true origins w
+      → attached_as world names is sealed_off [] (none_new world names) place there own new true origins w
       ≡ grown_world w names moved at_receivers [] (moved_master w.master)
   moved_as w =
       ap (λ l. left ((map up l ++ []) ++ at_receivers)) (swapped_all (made_at destination) w.mounts)
       ∙ ap (λ l. left (l ++ at_receivers)) (append-nil (map up (map went w.mounts)))
       ∙ ap (λ l. left (l ++ at_receivers)) (map_twice up went w.mounts)
-      ∙ ap (λ l. record (left (map moved w.mounts ++ at_receivers)) { filesystems = w.filesystems ++ l }) none
     where
       left : List (Mount ℕ) → World ℕ
-      left l = record w { mounts = l; master = moved_master w.master; filesystems = w.filesystems ++ at.new_ones }
+      left l = record w { mounts = l; master = moved_master w.master; filesystems = w.filesystems ++ [] }

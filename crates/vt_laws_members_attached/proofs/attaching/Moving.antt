@@ -1,5 +1,5 @@
 -- Each mount(2) with MS_MOVE ends in the part as in the world.
-use Rattle.std.proofs.Common.{◌≡◌, refl, sym, ap, subst, ◌∙◌, ℕ, nat_eq, Bool, true, false, true≢false, List, [], ◌++◌, Option, Some, None, Ok, Err, is_some, map, not, eqb-true}
+use Rattle.std.proofs.Common.{◌≡◌, refl, sym, ap, subst, ◌∙◌, ℕ, nat_eq, Bool, true, false, true≢false, List, [], Option, Some, None, Ok, Err, is_some, not, eqb-true}
 use Rattle.std.specs.Prelude.{IfOk, is_ok}
 use Rattle.std.specs.List.{list_any}
 use Rattle.std.proofs.lemmas.Bool.{or_parts}
@@ -12,7 +12,7 @@ use Rattle.vt_spec.specs.Machine.Apply.{overfills}
 use Rattle.vt_spec.specs.Machine.Attach.{Copies, attach, attached_by, copies_from, moved_to, moved_tree}
 use Rattle.vt_spec.specs.Machine.Invariants.{IsWorld, MountInvariants}
 use Rattle.vt_spec.specs.Machine.Judge.{Judgement, attach_permit, judge_in, move_permit}
-use Rattle.vt_spec.specs.Machine.Mounts.{Location, Mount, mount_tree, source_of}
+use Rattle.vt_spec.specs.Machine.Mounts.{Location, Mount, mount_tree}
 use Rattle.vt_spec.specs.Machine.Outcomes.{granted}
 use Rattle.vt_spec.specs.Machine.Permits.{Permit}
 use Rattle.vt_spec.specs.Machine.Permits.Permit.{ToMove}
@@ -48,12 +48,12 @@ use Rattle.vt_laws_members_changes.proofs.looks.Granted.{of_rules, of_walk}
 use Rattle.vt_laws_members_changes.proofs.looks.Told.{member_called, ran, same_caller}
 use Rattle.vt_laws_members_changes.proofs.tasks.Denied.{denial_ends_alike, run_by, same_judgement, unnamed_ends_alike}
 use Rattle.vt_laws_members_attached.specs.Attaching.{MovesEndAlike}
-use Rattle.vt_laws_members_attached.proofs.attaching.CopiesAlike.{Attachment, attached_there, base_part, no_new_ones, parts, parts_alike}
+use Rattle.vt_laws_members_attached.proofs.attaching.CopiesAlike.{attached_there, base_part, no_new_ones, parts, parts_alike}
 use Rattle.vt_laws_members_attached.proofs.attaching.Destination.{at_destination, at_source, placed, placed_there, there}
 use Rattle.vt_laws_members_attached.proofs.attaching.GrownPart.{Grows}
 use Rattle.vt_laws_members_attached.proofs.attaching.GrownReady.{without_new}
 use Rattle.vt_laws_members_attached.proofs.attaching.MovedAlike.{Stays, grows_there, left_here, left_there, moved_alike, ready_here, ready_there}
-use Rattle.vt_laws_members_attached.proofs.attaching.MovedGrows.{at_receivers, moved, moved_as, moved_grows, moved_known, moved_master}
+use Rattle.vt_laws_members_attached.proofs.attaching.MovedGrows.{at_receivers, moved, moved_as, moved_grows, moved_known, moved_master, none_new}
 use Rattle.vt_laws_members_attached.proofs.attaching.PartServes.{serves_there}
 use Rattle.vt_laws_members_attached.proofs.attaching.Unused.{group_new}
 
@@ -68,7 +68,7 @@ pub record MovesTo (world : World ℕ) (names : List TaskName) (from here : Loca
 -- What a granted move moves
 module _ (world : World ℕ) (names : List TaskName) (is : IsWorld nat_eq world)
     (sealed_off : sealed nat_eq world names ≡ true) (task : Task ℕ) (member : Among task (members world names)) where
-  abbrev Moves : Permit ℕ → Type 0
+  abbrev pub Moves : Permit ℕ → Type 0
   Moves permit =
       (from : Location ℕ) × (here : Location ℕ) × (permit ≡ ToMove from.mount here) × MovesTo world names from here
 
@@ -80,7 +80,7 @@ module _ (world : World ℕ) (names : List TaskName) (is : IsWorld nat_eq world)
   in_it n None e = absurd (true≢false e)
   in_it n (Some k) e = ap Some (sym (eqb-true n k (is_so (nat_eq n k) e)))
 
-  moves_there : (fresh : Fresh ℕ) (source path : List ℕ) → IfOk
+  pub moves_there : (fresh : Fresh ℕ) (source path : List ℕ) → IfOk
       (move_permit nat_eq (one world names is sealed_off task member) (overfills nat_eq fresh world task) task source
       path) Moves
   unfolding move_permit
@@ -151,50 +151,35 @@ module _ (world : World ℕ) (names : List TaskName) (name : TaskName) (source p
   here_theirs : IsTheirs world names it.is.mounts here.mount
   here_theirs = theirs_from world names it.is.mounts here.mount to.on
 
+  here_there : Among (mount_at nat_eq world here) world.mounts
+  here_there = there world names it.is it.sealed_off here here_theirs to.own
+
   from_there : Among (mount_at nat_eq world from) world.mounts
   from_there = there world names it.is it.sealed_off from from_theirs to.from_own
 
   abbrev origins : List (Mount ℕ)
   origins = moved_tree nat_eq world from.mount
 
-  abbrev at : Attachment world names
-  at = record {
-    is = it.is;
-    sealed_off = it.sealed_off;
-    new_ones = [];
-    unused = λ n used. refl;
-    place = here;
-    there = there world names it.is it.sealed_off here here_theirs to.own;
-    own = to.own;
-  }
-
   abbrev new : Copies ℕ
   new = copies_from nat_eq fresh
-      (parts world names at) origins
+      (parts world names it.is it.sealed_off [] (none_new world names) here here_there to.own) origins
 
   abbrev change : Mount ℕ → Mount ℕ
   change =
-      moved world names at refl new from.mount from_there to.from_own
+      moved world names it.is it.sealed_off here here_there to.own new from.mount from_there to.from_own
 
   abbrev added : List (Mount ℕ)
   added =
-      at_receivers world names at refl new from.mount from_there to.from_own
+      at_receivers world names it.is it.sealed_off here here_there to.own new from.mount from_there to.from_own
 
   abbrev with_made : (ℕ → Option ℕ) → ℕ → Option ℕ
   with_made =
-      moved_master world names at refl new from.mount from_there to.from_own
+      moved_master world names it.is it.sealed_off here here_there to.own new from.mount from_there to.from_own
 
   grows : Grows world names change added [] (with_made world.master)
   grows =
-      moved_grows world names at refl new from.mount from_there to.from_own
+      moved_grows world names it.is it.sealed_off here here_there to.own new from.mount from_there to.from_own
       (with_made world.master)
-
-  known : (y : Mount ℕ) → Among y (map change world.mounts ++ added)
-      → is_own world names (members world names) y ≡ true → (g : ℕ) → source_of y.propagation ≡ Some g
-      → with_made part.master g ≡ with_made world.master g
-  known =
-      moved_known world names at refl new from.mount from_there to.from_own
-      (λ a b. group_new world names it.is fresh serves _)
 
   abbrev now : World ℕ
   now = moved_to nat_eq fresh world from.mount here
@@ -204,13 +189,15 @@ module _ (world : World ℕ) (names : List TaskName) (name : TaskName) (source p
 
   abbrev left : World ℕ
   left =
-      left_here world names it.is it.sealed_off change added (with_made world.master)
-      (with_made part.master) grows known
+      left_here world names it.is it.sealed_off change added (with_made world.master) (with_made part.master) grows
+      (moved_known world names it.is it.sealed_off here here_there to.own new from.mount from_there to.from_own
+      (λ a b. group_new world names it.is fresh serves _))
 
   abbrev left_too : World ℕ
   left_too =
-      left_there world names it.is it.sealed_off change added (with_made world.master)
-      (with_made part.master) grows known
+      left_there world names it.is it.sealed_off change added (with_made world.master) (with_made part.master) grows
+      (moved_known world names it.is it.sealed_off here here_there to.own new from.mount from_there to.from_own
+      (λ a b. group_new world names it.is fresh serves _))
 
   abbrev attached_to : List (Mount ℕ) → World ℕ → World ℕ
   attached_to mounts w = attach nat_eq w fresh here true mounts
@@ -218,7 +205,7 @@ module _ (world : World ℕ) (names : List TaskName) (name : TaskName) (source p
   now_so : now ≡ left
   now_so =
       ap (attached_to origins) (no_new_ones world)
-      ∙ moved_as world names at refl new from.mount from_there to.from_own world
+      ∙ moved_as world names it.is it.sealed_off here here_there to.own new from.mount from_there to.from_own world
       ∙ without_new world names change added (with_made world.master) (used_filesystems nat_eq world names)
       (own_lowers nat_eq world names) (ready_here world names it.is it.sealed_off) grows
 
@@ -233,15 +220,16 @@ module _ (world : World ℕ) (names : List TaskName) (name : TaskName) (source p
       ap (λ l. attached_to l part) same_tree
       ∙ ap (attached_to origins) (no_new_ones part)
       ∙ ap (λ l. attached_by nat_eq
-      (base_part world names at)
+      (base_part world names it.is it.sealed_off [] (none_new world names) here here_there to.own)
       (copies_from nat_eq fresh l origins) here true origins)
-      (parts_alike world names at)
-      ∙ attached_there world names at new true origins
-      ∙ moved_as world names at refl new from.mount from_there to.from_own part
+      (parts_alike world names it.is it.sealed_off [] (none_new world names) here here_there to.own)
+      ∙ attached_there world names it.is it.sealed_off [] (none_new world names) here here_there to.own new true origins
+      ∙ moved_as world names it.is it.sealed_off here here_there to.own new from.mount from_there to.from_own part
       ∙ without_new part names change added (with_made part.master) (used_filesystems nat_eq world names)
       (own_lowers nat_eq world names) (ready_there world names it.is it.sealed_off)
-      (grows_there world names it.is it.sealed_off change added (with_made world.master)
-      (with_made part.master) grows known)
+      (grows_there world names it.is it.sealed_off change added (with_made world.master) (with_made part.master) grows
+      (moved_known world names it.is it.sealed_off here here_there to.own new from.mount from_there to.from_own
+      (λ a b. group_new world names it.is fresh serves _)))
 
   -- what moves exists, in both
   is_there : is_mount world from.mount ≡ true
@@ -284,8 +272,9 @@ module _ (world : World ℕ) (names : List TaskName) (name : TaskName) (source p
       ≡ part_of nat_eq (numbers_raised nat_eq part name [] (settled nat_eq now_there)) names
   parts_same =
       ap (λ w. part_of nat_eq (numbers_raised nat_eq world name [] (settled nat_eq w)) names) now_so
-      ∙ moved_alike world names it.is it.sealed_off change added (with_made world.master)
-      (with_made part.master) grows known stays stays_too name
+      ∙ moved_alike world names it.is it.sealed_off change added (with_made world.master) (with_made part.master) grows
+      (moved_known world names it.is it.sealed_off here here_there to.own new from.mount from_there to.from_own
+      (λ a b. group_new world names it.is fresh serves _)) stays stays_too name
       ∙ sym (ap (λ w. part_of nat_eq (numbers_raised nat_eq part name [] (settled nat_eq w)) names) there_so)
 
   first : policy nat_eq fresh world name (MoveMount source path)

@@ -1,50 +1,58 @@
 -- Each mount(2) of a new plain filesystem ends in the part as in the world.
-use Rattle.std.proofs.Common.{◌≡◌, refl, sym, ap, subst, ◌∙◌, ℕ, nat_eq, true, List, [], Option, Some, None, Ok, Err, ◌&&◌, eq-eqb}
+use Rattle.std.proofs.Common.{◌≡◌, refl, sym, ap, subst, ◌∙◌, inl, inr, ⊎_elim, ℕ, nat_eq, true, false, List, [], ◌∷◌, Option, Some, None, Ok, Err, ◌||◌, eq-eqb}
 use Rattle.std.specs.Prelude.{IfOk, is_ok}
-use Rattle.std.proofs.lemmas.Bool.{or_left}
+use Rattle.std.specs.List.{list_any}
 use Rattle.vt_spec.specs.Language.Answers.Answer.{Done}
 use Rattle.vt_spec.specs.Language.Calls.{MountFlags, TaskName}
 use Rattle.vt_spec.specs.Language.Calls.Call.{MountPlain}
-use Rattle.vt_spec.specs.Lists.{Fresh}
+use Rattle.vt_spec.specs.Lists.{Fresh, is_among, odds}
 use Rattle.vt_spec.specs.Machine.Apply.{overfills}
+use Rattle.vt_spec.specs.Machine.Attach.{Copies, attached_by, copies_from}
 use Rattle.vt_spec.specs.Machine.Invariants.{IsWorld}
-use Rattle.vt_spec.specs.Machine.Judge.{Judgement, attach_permit, judge_in, mount_plain_permit}
 use Rattle.vt_spec.specs.Machine.Locked.{of_overlay}
-use Rattle.vt_spec.specs.Machine.Mounts.{Location}
-use Rattle.vt_spec.specs.Machine.NewMounts.{plain_filesystem}
+use Rattle.vt_spec.specs.Machine.Judge.{Judgement, attach_permit, judge_in, mount_plain_permit}
+use Rattle.vt_spec.specs.Machine.Mounts.{Location, Mount, source_of}
+use Rattle.vt_spec.specs.Machine.NewMounts.{mounted, new_mount, plain_filesystem}
 use Rattle.vt_spec.specs.Machine.Outcomes.{granted}
 use Rattle.vt_spec.specs.Machine.Permits.{Permit}
 use Rattle.vt_spec.specs.Machine.Permits.Permit.{ToMountPlain}
 use Rattle.vt_spec.specs.Machine.Policy.{numbers_raised, policy}
 use Rattle.vt_spec.specs.Machine.Rules.Mounting.{admin_rules, destination_walk, new_mount_rules}
 use Rattle.vt_spec.specs.Machine.Run.{Serves}
-use Rattle.vt_spec.specs.Machine.Sealed.{members, part_of, sealed, used_directly}
-use Rattle.vt_spec.specs.Machine.World.{Filesystem, Layer, Task, World, layers_of, mount_at, task_called}
+use Rattle.vt_spec.specs.Machine.Sealed.{members, part_of, sealed, used_filesystems}
+use Rattle.vt_spec.specs.Machine.World.{Filesystem, Task, World, layers_of, mount_at, task_called}
 use Rattle.vt_spec.proofs.Lists.{Among}
-use Rattle.vt_laws_letting_go.specs.Keeping.{has_only_named}
+use Rattle.vt_spec.proofs.Options.{none_is_some}
+use Rattle.vt_laws_letting_go.proofs.mounting.AttachedSwept.{new_mounts_of_trees_keep_all}
+use Rattle.vt_laws_letting_go.proofs.sweeps.OfWorlds.{all_in_use, locations_of_worlds_stand, mounts_of_worlds_stand}
 use Rattle.vt_laws_part.proofs.part.PartOfPart.{is_own}
 use Rattle.vt_laws_members.specs.Judging.{is_theirs}
 use Rattle.vt_laws_members.proofs.judging.AllJudged.{owned}
+use Rattle.vt_laws_members.proofs.judging.Grounds.{IsTheirs, theirs_from}
 use Rattle.vt_laws_members_changes.specs.Changes.{EndAlike, EndsAlike, IsCallOfTheirs, grown}
 use Rattle.vt_laws_members_changes.proofs.letting_go.Moving.{StandsHere, one}
 use Rattle.vt_laws_members_changes.proofs.letting_go.Umounting.{of_passed}
 use Rattle.vt_laws_members_changes.proofs.looks.Granted.{of_rules, of_walk}
 use Rattle.vt_laws_members_changes.proofs.looks.Told.{member_called, ran, same_caller}
+use Rattle.vt_laws_members_changes.proofs.part.SettledPart.{part_in_use}
 use Rattle.vt_laws_members_changes.proofs.tasks.Denied.{denial_ends_alike, run_by, same_judgement, unnamed_ends_alike}
 use Rattle.vt_laws_members_attached.specs.Attaching.{PlainMountsEndAlike}
-use Rattle.vt_laws_members_attached.proofs.attaching.Destination.{at_destination}
-use Rattle.vt_laws_members_attached.proofs.attaching.NewFilesystem.{mounted_alike, now, now_there, settled_here, settled_there}
+use Rattle.vt_laws_members_attached.proofs.attaching.AttachedAlike.{copies_alike}
+use Rattle.vt_laws_members_attached.proofs.attaching.CopiesAlike.{base_part, parts, parts_alike}
+use Rattle.vt_laws_members_attached.proofs.attaching.Destination.{at_destination, locations_stand_there, mounts_stand_there, placed, placed_there, there}
+use Rattle.vt_laws_members_attached.proofs.attaching.PushedUp.{ShowTheirs}
+use Rattle.vt_laws_members_attached.proofs.attaching.Unused.{filesystem_unlike, group_new, used_unlike}
 
 -- What a granted mount of a plain filesystem attaches
 module _ (world : World ℕ) (names : List TaskName) (is : IsWorld nat_eq world)
     (sealed_off : sealed nat_eq world names ≡ true) (task : Task ℕ) (member : Among task (members world names))
     (flags : MountFlags) where
-  abbrev Mounts : Permit ℕ → Type 0
+  abbrev pub Mounts : Permit ℕ → Type 0
   Mounts permit =
       (here : Location ℕ) × (permit ≡ ToMountPlain here flags) × (is_theirs world names here.mount ≡ true)
       × (is_own world names (members world names) (mount_at nat_eq world here) ≡ true)
 
-  mounts_there : (fresh : Fresh ℕ) (path : List ℕ) → IfOk
+  pub mounts_there : (fresh : Fresh ℕ) (path : List ℕ) → IfOk
       (mount_plain_permit nat_eq (one world names is sealed_off task member)
       (overfills nat_eq fresh world task) task path
       flags) Mounts
@@ -77,41 +85,93 @@ module _ (world : World ℕ) (names : List TaskName) (name : TaskName) (path : L
   abbrev part : World ℕ
   part = part_of nat_eq world names
 
+  theirs : IsTheirs world names it.is.mounts here.mount
+  theirs = theirs_from world names it.is.mounts here.mount on
+
+  here_there : Among (mount_at nat_eq world here) world.mounts
+  here_there = there world names it.is it.sealed_off here theirs own
+
   abbrev new_one : Filesystem ℕ
   new_one = plain_filesystem nat_eq fresh
 
-  named : has_only_named new_one ≡ true
-  named =
-      ap (λ b. b && true) (or_left (nat_eq new_one.files.tree.root new_one.files.tree.root) _
-      (eq-eqb new_one.files.tree.root new_one.files.tree.root refl))
+  abbrev origins : List (Mount ℕ)
+  origins = new_mount new_one.number new_one.files.tree.root flags ∷ []
 
-  no_layers : (layer : Layer ℕ) → Among layer (of_overlay [] layers_of new_one)
-      → Among layer.filesystem (used_directly nat_eq world names)
-  no_layers layer m = absurd m
+  unused : (n : ℕ) → is_among nat_eq n (used_filesystems nat_eq world names) ≡ true
+      → list_any (λ (f : Filesystem ℕ). nat_eq n f.number) (new_one ∷ []) ≡ false
+  unused n used = ap (λ b. b || false) (used_unlike world names it.is fresh serves n used 0)
 
-  abbrev later : World ℕ
-  later = now world names it.is it.sealed_off fresh serves here on own new_one refl no_layers named flags
+  abbrev new : Copies ℕ
+  new = copies_from nat_eq (odds fresh) (parts world names it.is it.sealed_off
+      (new_one ∷ []) unused here here_there own) origins
 
-  abbrev later_there : World ℕ
-  later_there = now_there world names it.is it.sealed_off fresh serves here on own new_one refl no_layers named flags
+  shows : ShowTheirs world names it.is it.sealed_off (new_one ∷ []) unused here here_there own new false origins
+  shows = record {
+    shown = λ o m. inr (⊎_elim (λ same. ap (λ (x : Mount ℕ). nat_eq x.filesystem new_one.number || false) same
+        ∙ ap (λ b. b || false) (eq-eqb new_one.number new_one.number refl)) (λ none. absurd none) m);
+    unlisted = λ f m. ap (λ b. b || false) (filesystem_unlike world names it.is fresh serves f m 0);
+    layers = λ f m layer n. ⊎_elim
+        (λ same. absurd (subst (Among layer) (ap (of_overlay [] layers_of) same) n)) (λ none. absurd none) m;
+    mounted = λ f m. (
+      new_mount new_one.number new_one.files.tree.root flags,
+      inl refl,
+      ⊎_elim (λ same. ap (λ (g : Filesystem ℕ). g.number) (sym same)) (λ none. absurd none) m,
+    );
+  }
+
+  sources : (o : Mount ℕ) → Among o origins → (g : ℕ) → source_of o.propagation ≡ Some g
+      → part.master g ≡ world.master g
+  sources o m g e =
+      ⊎_elim (λ same. none_is_some g (sym (ap (λ (x : Mount ℕ). source_of x.propagation) same) ∙ e))
+      (λ none. absurd none) m
+
+  new_groups : (a b : ℕ) → world.master (new.image a b) ≡ None
+  new_groups a b = group_new world names it.is fresh serves _
+
+  abbrev now : World ℕ
+  now = mounted nat_eq (odds fresh) world here new_one flags
+
+  abbrev now_there : World ℕ
+  now_there = mounted nat_eq (odds fresh) part here new_one flags
 
   first : policy nat_eq fresh world name (MountPlain path flags)
-      ≡ granted Done (numbers_raised nat_eq world name [] later)
+      ≡ granted Done (numbers_raised nat_eq world name [] now)
   first =
       ap (ran name (MountPlain path flags) world fresh) called
       ∙ ap (run_by world names name (MountPlain path flags) it fresh fresh world fresh task) judged
       ∙ ap (λ w. granted Done (numbers_raised nat_eq world name [] w))
-      (settled_here world names it.is it.sealed_off fresh serves here on own new_one refl no_layers named flags)
+      (new_mounts_of_trees_keep_all fresh world task here flags (all_in_use world it.is)
+      (mounts_of_worlds_stand world it.is) (locations_of_worlds_stand world it.is)
+      (placed world names it.is it.sealed_off here theirs own))
 
   second : policy nat_eq fresh part name (MountPlain path flags)
-      ≡ granted Done (numbers_raised nat_eq part name [] later_there)
+      ≡ granted Done (numbers_raised nat_eq part name [] now_there)
   second =
       ap (ran name (MountPlain path flags) part fresh)
       (same_caller world names it.is it.sealed_off name it.theirs ∙ called)
       ∙ ap (run_by world names name (MountPlain path flags) it fresh fresh part fresh task)
       (sym (same_judgement world names name (MountPlain path flags) it fresh fresh task called) ∙ judged)
       ∙ ap (λ w. granted Done (numbers_raised nat_eq part name [] w))
-      (settled_there world names it.is it.sealed_off fresh serves here on own new_one refl no_layers named flags)
+      (new_mounts_of_trees_keep_all fresh part task here flags (part_in_use world names it.is it.sealed_off)
+      (mounts_stand_there world names it.is it.sealed_off) (locations_stand_there world names it.is)
+      (placed_there world names it.is it.sealed_off here theirs own))
+
+  -- the numbers are handed out to the same parts
+  same_numbers : now_there ≡ attached_by nat_eq
+      (base_part world names it.is it.sealed_off (new_one ∷ []) unused here here_there own) new here false origins
+  same_numbers =
+      ap (λ l. attached_by nat_eq
+      (base_part world names it.is it.sealed_off (new_one ∷ []) unused here here_there own)
+      (copies_from nat_eq (odds fresh) l origins) here false origins)
+      (parts_alike world names it.is it.sealed_off (new_one ∷ []) unused here here_there own)
+
+  parts_same : part_of nat_eq (numbers_raised nat_eq world name [] now) names
+      ≡ part_of nat_eq (numbers_raised nat_eq part name [] now_there) names
+  parts_same =
+      copies_alike world names it.is it.sealed_off
+      (new_one ∷ []) unused here here_there own new origins new_groups sources
+      shows name
+      ∙ sym (ap (λ w. part_of nat_eq (numbers_raised nat_eq part name [] w) names) same_numbers)
 
   mount_alike : EndsAlike world names name (MountPlain path flags) fresh fresh
   mount_alike =
@@ -119,12 +179,8 @@ module _ (world : World ℕ) (names : List TaskName) (name : TaskName) (path : L
       (grown names name (MountPlain path flags) (policy nat_eq fresh world name (MountPlain path flags)).answer)
       (policy nat_eq fresh world name (MountPlain path flags)) p) (sym second)
       (subst (λ o. EndAlike (grown names name (MountPlain path flags) o.answer) o
-      (granted Done (numbers_raised nat_eq part name [] later_there))) (sym first)
-      (record {
-        answer = refl;
-        part = mounted_alike world names it.is it.sealed_off fresh serves here on own new_one refl no_layers named flags
-            name;
-      }))
+      (granted Done (numbers_raised nat_eq part name [] now_there))) (sym first)
+      (record { answer = refl; part = parts_same }))
 
 pub plain_mounts_end_alike : PlainMountsEndAlike
 plain_mounts_end_alike world names name path flags it fresh serves = by (task_called world name) refl

@@ -26,9 +26,9 @@ use Rattle.vt_laws_overlays_let_go.proofs.mounting.NewOverlays.{new_overlays_are
 use Rattle.vt_laws_members_changes.specs.Changes.{EndAlike, EndsAlike, IsCallOfTheirs, grown}
 use Rattle.vt_laws_members_changes.proofs.looks.Told.{member_called, ran, same_caller}
 use Rattle.vt_laws_members_changes.proofs.tasks.Denied.{denial_ends_alike, run_by, same_judgement, unnamed_ends_alike}
-use Rattle.vt_laws_members_attached.proofs.attaching.NewFilesystem.{mounted_alike, now, now_there, settled_here, settled_there}
 use Rattle.vt_laws_members_new_overlays.specs.OverlayMounts.{OverlayMountsEndAlike}
 use Rattle.vt_laws_members_new_overlays.proofs.overlays.LayersTheirs.{MountsOverlay, all_used, mounts_overlay, shown_used}
+use Rattle.vt_laws_members_new_overlays.proofs.overlays.NewFilesystem.{mounted_alike, now, now_there, settled_here, settled_there}
 use Rattle.vt_laws_members_new_overlays.proofs.overlays.SameOverlay.{same_overlay}
 
 -- A granted mount of an overlay
@@ -60,8 +60,7 @@ module _ (world : World ℕ) (names : List TaskName) (name : TaskName) (path : L
   new_layers = all_used world names it.is it.sealed_off task member its.places its.all
 
   abbrev later : World ℕ
-  later =
-      now world names it.is it.sealed_off fresh serves its.here its.on its.own new_one refl new_layers new_named flags
+  later = now world names it.is it.sealed_off fresh serves its.here its.on its.own new_one refl new_layers new_named flags
 
   abbrev later_there : World ℕ
   later_there =

@@ -2,7 +2,7 @@
 use Rattle.std.proofs.Common.{◌≡◌, refl, sym, ap, subst, ◌∙◌, inl, inr, ⊎_elim, ℕ, nat_eq, true, false, List, [], ◌∷◌, Some, None, ◌||◌, eq-eqb}
 use Rattle.std.specs.List.{list_any}
 use Rattle.vt_spec.specs.Language.Calls.{MountFlags, TaskName}
-use Rattle.vt_spec.specs.Lists.{Fresh, odds}
+use Rattle.vt_spec.specs.Lists.{Fresh, is_among, odds}
 use Rattle.vt_spec.specs.Machine.Attach.{Copies, attached_by, copies_from}
 use Rattle.vt_spec.specs.Machine.Invariants.{IsWorld}
 use Rattle.vt_spec.specs.Machine.Locked.{of_overlay}
@@ -10,7 +10,7 @@ use Rattle.vt_spec.specs.Machine.Mounts.{Location, Mount, source_of}
 use Rattle.vt_spec.specs.Machine.NewMounts.{mounted, new_mount}
 use Rattle.vt_spec.specs.Machine.Policy.{numbers_raised}
 use Rattle.vt_spec.specs.Machine.Run.{Serves}
-use Rattle.vt_spec.specs.Machine.Sealed.{members, part_of, sealed, used_directly}
+use Rattle.vt_spec.specs.Machine.Sealed.{members, part_of, sealed, used_directly, used_filesystems}
 use Rattle.vt_spec.specs.Machine.Settled.{settled}
 use Rattle.vt_spec.specs.Machine.World.{Filesystem, Layer, World, layers_of, mount_at}
 use Rattle.vt_spec.proofs.Lists.{Among}
@@ -23,7 +23,7 @@ use Rattle.vt_laws_members.specs.Judging.{is_theirs}
 use Rattle.vt_laws_members.proofs.judging.Grounds.{IsTheirs, theirs_from}
 use Rattle.vt_laws_members_changes.proofs.part.SettledPart.{part_in_use}
 use Rattle.vt_laws_members_attached.proofs.attaching.AttachedAlike.{copies_alike}
-use Rattle.vt_laws_members_attached.proofs.attaching.CopiesAlike.{Attachment, base_part, parts, parts_alike}
+use Rattle.vt_laws_members_attached.proofs.attaching.CopiesAlike.{base_part, parts, parts_alike}
 use Rattle.vt_laws_members_attached.proofs.attaching.Destination.{locations_stand_there, mounts_stand_there, placed, placed_there, there}
 use Rattle.vt_laws_members_attached.proofs.attaching.PushedUp.{ShowTheirs}
 use Rattle.vt_laws_members_attached.proofs.attaching.Unused.{filesystem_unlike, group_new, used_unlike}
@@ -42,31 +42,27 @@ module _ (world : World ℕ) (names : List TaskName) (is : IsWorld nat_eq world)
   theirs : IsTheirs world names is.mounts here.mount
   theirs = theirs_from world names is.mounts here.mount on
 
+  pub here_there : Among (mount_at nat_eq world here) world.mounts
+  here_there = there world names is sealed_off here theirs own
+
   abbrev mount : Mount ℕ
   mount = new_mount new_one.number new_one.files.tree.root flags
 
-  abbrev origins : List (Mount ℕ)
+  abbrev pub origins : List (Mount ℕ)
   origins = mount ∷ []
 
   unlike : (n : ℕ) → nat_eq n (fresh 0) ≡ false → list_any (λ (f : Filesystem ℕ). nat_eq n f.number) (new_one ∷ [])
       ≡ false
   unlike n other = ap (λ k. nat_eq n k || false) number ∙ ap (λ b. b || false) other
 
-  abbrev at : Attachment world names
-  at = record {
-    is = is;
-    sealed_off = sealed_off;
-    new_ones = new_one ∷ [];
-    unused = λ n used. unlike n (used_unlike world names is fresh serves n used 0);
-    place = here;
-    there = there world names is sealed_off here theirs own;
-    own = own;
-  }
+  pub unused : (n : ℕ) → is_among nat_eq n (used_filesystems nat_eq world names) ≡ true
+      → list_any (λ (f : Filesystem ℕ). nat_eq n f.number) (new_one ∷ []) ≡ false
+  unused n used = unlike n (used_unlike world names is fresh serves n used 0)
 
-  abbrev new : Copies ℕ
-  new = copies_from nat_eq (odds fresh) (parts world names at) origins
+  abbrev pub new : Copies ℕ
+  new = copies_from nat_eq (odds fresh) (parts world names is sealed_off (new_one ∷ []) unused here here_there own) origins
 
-  shows : ShowTheirs world names at new false origins
+  pub shows : ShowTheirs world names is sealed_off (new_one ∷ []) unused here here_there own new false origins
   shows = record {
     shown = λ o m. inr (⊎_elim (λ same. ap (λ (x : Mount ℕ). nat_eq x.filesystem new_one.number || false) same
         ∙ ap (λ b. b || false) (eq-eqb new_one.number new_one.number refl)) (λ none. absurd none) m);
@@ -109,14 +105,17 @@ module _ (world : World ℕ) (names : List TaskName) (is : IsWorld nat_eq world)
       (placed_there world names is sealed_off here theirs own) named
 
   -- the numbers are handed out to the same parts
-  same_numbers : now_there ≡ attached_by nat_eq (base_part world names at) new here false origins
+  same_numbers : now_there ≡ attached_by nat_eq
+      (base_part world names is sealed_off (new_one ∷ []) unused here here_there own) new here false origins
   same_numbers =
-      ap (λ l. attached_by nat_eq (base_part world names at) (copies_from nat_eq (odds fresh) l origins) here false
-      origins)
-      (parts_alike world names at)
+      ap (λ l. attached_by nat_eq
+      (base_part world names is sealed_off (new_one ∷ []) unused here here_there own)
+      (copies_from nat_eq (odds fresh) l origins) here false origins)
+      (parts_alike world names is sealed_off (new_one ∷ []) unused here here_there own)
 
   pub mounted_alike : (name : TaskName) → part_of nat_eq (numbers_raised nat_eq world name [] now) names
       ≡ part_of nat_eq (numbers_raised nat_eq part name [] now_there) names
   mounted_alike name =
-      copies_alike world names at new origins new_groups sources shows name
+      copies_alike world names is sealed_off (new_one ∷ []) unused here here_there own new origins new_groups sources
+      shows name
       ∙ sym (ap (λ w. part_of nat_eq (numbers_raised nat_eq part name [] w) names) same_numbers)
