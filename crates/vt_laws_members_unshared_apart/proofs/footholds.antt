@@ -1,0 +1,3 @@
+-- What the proofs of src/footholds.rt use.
+pub mod UnsharedAsBefore
+pub mod Unsharing
