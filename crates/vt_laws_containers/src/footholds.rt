@@ -15,8 +15,8 @@ ghost use Rattle.vt_laws_containers.specs.PermitFootholds.{DenialsGiveNoFoothold
 /// On each filesystem that it uses others have a foothold just where they had one before, and none where the set did
 /// not use the filesystem. So a set is unsealed only where an overlay of theirs goes that locked such a filesystem.
 ///
-/// The numbers handed in are unused, and a fork names at most 32 supplementary groups. Not proved yet of `unshare`, and
-/// of calls that attach mounts or set their types.
+/// The numbers handed in are unused, and a fork names at most 32 supplementary groups. Of all calls see
+/// `no_call_of_theirs_gives_a_foothold` of `vt_laws_sealed_scripts`.
 pub fn calls_of_theirs_give_others_no_foothold()
     ensures looks { LooksGiveNoFoothold }
     ensures refused { DenialsGiveNoFoothold }

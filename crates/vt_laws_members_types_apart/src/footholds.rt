@@ -4,9 +4,9 @@ ghost use Rattle.vt_laws_members_types_apart.specs.TypeFootholds.{TypesGiveNoFoo
 /// In a world with all invariants in which a set of tasks is sealed off, **each `type` of one of them gives others no
 /// foothold** (`GivesNoFoothold`), granted or refused, to any type, of one mount or of a tree.
 ///
-/// Only mounts of the set change, and only their types. A group that a mount is in or receives from afterwards is one
-/// that the set heard before, or a new one: no mount of others receives their events, or they those of others. Mounts
-/// of others keep their types and their groups' masters.
+/// Mounts keep all but their types, and those of others keep these too. A group that a mount of the set is in or
+/// receives from afterwards is one that the set heard before, or a new one. So no mount of others receives events of a
+/// mount of the set, and none of the set receives those of others.
 ///
 /// The numbers handed in are unused.
 pub fn calls_of_theirs_that_change_types_give_others_no_foothold()

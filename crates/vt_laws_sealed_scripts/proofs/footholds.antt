@@ -1,0 +1,2 @@
+-- What the proofs of src/footholds.rt use.
+pub mod Footholds

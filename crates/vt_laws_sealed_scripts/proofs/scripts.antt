@@ -1,0 +1,2 @@
+-- What the proofs of src/scripts.rt use.
+pub mod AsIfAlone
