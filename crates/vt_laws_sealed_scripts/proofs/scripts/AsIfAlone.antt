@@ -1,5 +1,5 @@
 -- A sealed set is answered as if nobody else were there.
-use Rattle.std.proofs.Common.{Bool, List, [], ◌∷◌, Some, None, map, true, false, ℕ}
+use Rattle.std.proofs.Common.{Bool, List, [], ◌∷◌, Some, None, map, true, false}
 use Rattle.vt_spec.specs.Language.Calls.{Call, TaskName}
 use Rattle.vt_laws_members_calls.proofs.each_call.EachCall.{each_call_ends_alike}
 use Rattle.vt_laws_containers.specs.Calls.{AlwaysEndsAlike}
