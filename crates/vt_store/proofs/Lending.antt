@@ -1,5 +1,5 @@
 -- An inode of a plain tree as the tree keeps it, and as the definitions see it.
-use Rattle.std.proofs.Common.{◌≡◌, ◌<◌, ◌∙◌, ◌∷◌, [], ap, Bool, cond, false, List, map, None, not, option_map, Option, refl, Some, sym, true, true≢false, ℕ}
+use Rattle.std.proofs.Common.{◌≡◌, ◌<◌, ◌∙◌, ◌∷◌, [], ap, Bool, cond, false, List, map, None, option_map, Option, refl, Some, sym, true, true≢false, ℕ}
 use Rattle.std.specs.Ordering.{eq_by_cmp}
 use Rattle.vt_spec.specs.Lists.{is_empty_list}
 use Rattle.vt_spec.specs.Machine.Renaming.{renamed_content, renamed_entry}

@@ -1,8 +1,7 @@
 -- What contracts see of all filesystems, and what the definitions see of them.
-use Rattle.std.specs.Prelude.{List, None, Option, Some, [], find, if◌then◌else◌, map, nat_eq, nat_lt, option_map, slice_get, ℕ, ◌∷◌, ◌≡◌, ◌≤◌, length}
+use Rattle.std.specs.Prelude.{List, None, Option, Some, [], find, if◌then◌else◌, map, nat_eq, nat_lt, option_map, ℕ, ◌∷◌, ◌≡◌, ◌≤◌, length}
 use Rattle.std.specs.Map.{lookup}
 use Rattle.vt_spec.specs.FileTree.{FileTree}
-use Rattle.vt_spec.specs.Lists.{then_some}
 use Rattle.vt_spec.specs.Machine.World.{Filesystem, Overlay, World, filesystem_numbered}
 use Rattle.vt_spec.specs.Tree.{Node}
 use Rattle.vt_laws_seen.specs.TreesSeen.{real_seen}

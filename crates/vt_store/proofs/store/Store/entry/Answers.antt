@@ -1,9 +1,8 @@
-use Rattle.std.proofs.Common.{Some, ap, arith, option_copied, option_map, sym, ◌≡◌, ◌∙◌}
+use Rattle.std.proofs.Common.{Some, ap, arith, option_copied, option_map, sym, ◌∙◌}
 use Rattle.vt_spec.specs.Tree.{entries_in, entry_named}
 use Rattle.vt_location.proofs.NumberLemmas.{exchanged_slot}
 use Rattle.vt_location.specs.Locations.{number_of}
 use Rattle.vt_location.specs.Numbers.{exchanged}
-use Rattle.vt_fs.specs.FilesystemsValue.{node_seen}
 use Rattle.vt_store.specs.StoreValue.{StoreValue, files_in}
 use Rattle.vt_store.proofs.Lending.{entry_lent}
 use Rattle.vt_store.proofs.Looked.{over_few, over_layers, over_node, plain_seen}
