@@ -14,7 +14,8 @@ ghost use Rattle.vt_laws_containers.specs.Scripts.{SealedSetsStandSo, SetsAreAns
 ///
 /// Every call of theirs ends alike, so it is enough that none of them gives others a foothold (`kept_out`). Calls that
 /// do both in every world do so along each run (`runs`). All calls do but `mount`, `bind`, `move`, `type` and `unshare`
-/// (`keeps_others_out`), so it holds of all sets that make none of these (`these`).
+/// (`keeps_others_out`), so it holds of all sets that make none of these (`these`). Of those calls, and so of every set,
+/// see `sealed_sets_are_answered_as_if_alone` of `vt_laws_sealed_scripts`.
 pub fn sealed_sets_are_answered_as_alone()
     ensures alone { SetsAreAnsweredAsAlone }
     ensures runs { RunsEndAlike }
@@ -24,7 +25,8 @@ pub fn sealed_sets_are_answered_as_alone()
 {}
 
 /// Every call of theirs but `mount`, `bind`, `move`, `type` and `unshare` gives others no foothold, granted or refused
-/// (`footholds`). It ends in the part of the set as in the world, too (`ends`), as every call does.
+/// (`footholds`). It ends in the part of the set as in the world, too (`ends`), as every call does. Of the others see
+/// `no_call_of_theirs_gives_a_foothold` of `vt_laws_sealed_scripts`.
 pub fn many_calls_of_theirs_end_alike()
     ensures footholds { CallsGiveNoFoothold }
     ensures ends { TheseAlwaysEndAlike }
