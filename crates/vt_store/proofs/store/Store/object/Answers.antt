@@ -22,7 +22,8 @@ pub returns-in-Some : goal.returns-in-Some
 returns-in-Some c =
     c.inode.ensures.lent
     ∙ over_lent c.args.self.now c.self.inside.plain (ap (λ (store : StoreValue). store.plain) c.self.view_is)
-    c.args.node.filesystem.count c.in-Some.overlay.now (sym c.overlay.ensures.value ∙ ap option_copied c.in-Some.is) (number_of c.args.node)
+    c.args.node.filesystem.count c.in-Some.overlay.now
+    (sym c.overlay.ensures.value ∙ ap option_copied c.in-Some.is) (number_of c.args.node)
 
 pub returns-in-None : goal.returns-in-None
 returns-in-None c =
