@@ -4,6 +4,7 @@ use Rattle.vt_spec.specs.Machine.World as meant
 use Rattle.vt_fs.specs.FilesystemsValue.{Filesystems, filesystems_seen}
 use Rattle.vt_group.specs.Grouping.{Grouping, master_in}
 use Rattle.vt_location.specs.Numbers.{counted}
+use Rattle.vt_laws_overlays_stay.specs.Woven.{woven}
 use Rattle.vt_location.specs.declared.numbers.NamespaceId.{NamespaceId}
 use Rattle.vt_mount.specs.MountsValue.{MountEntry, mounts_in}
 use Rattle.vt_world.specs.declared.namespaces.Namespace.{Namespace}
@@ -13,11 +14,18 @@ pub record NamespaceEntry : Type 0 where
   pub count : ℕ
   pub tasks : ℕ
 
--- `next` is what is counted next: all mounts, filesystems and namespaces have lower counts
+-- an overlay as the definitions see it, and how many mounts show it
+pub record OverlayEntry : Type 0 where
+  pub filesystem : meant.Filesystem ℕ
+  pub mounts : ℕ
+
+-- Filesystems are plain ones and overlays, each in the order of their numbers. `next` is what is counted next: all
+-- mounts, filesystems and namespaces have lower counts.
 pub record WorldValue : Type 0 where
   pub mounts : List MountEntry
   pub groups : Grouping
   pub filesystems : Filesystems
+  pub overlays : List OverlayEntry
   pub namespaces : List NamespaceEntry
   pub tasks : List (meant.Task ℕ)
   pub next : ℕ
@@ -25,12 +33,15 @@ pub record WorldValue : Type 0 where
 abbrev pub namespace_of : NamespaceEntry → meant.Namespace ℕ
 namespace_of entry = record { number = counted entry.count; change = 0 }
 
+abbrev pub overlays_seen : List OverlayEntry → List (meant.Filesystem ℕ)
+overlays_seen overlays = map (λ entry. entry.filesystem) overlays
+
 -- the world: change numbers are aside
 abbrev pub world_of : WorldValue → meant.World ℕ
 world_of value = record {
   mounts = mounts_in value.mounts;
   master = master_in value.groups;
-  filesystems = filesystems_seen value.filesystems;
+  filesystems = woven (filesystems_seen value.filesystems) (overlays_seen value.overlays);
   namespaces = map namespace_of value.namespaces;
   tasks = value.tasks;
   change = 0;
