@@ -17,6 +17,7 @@ use Rattle.vt_location.proofs.NumberLemmas.{is_own}
 use Rattle.vt_laws_runs.specs.Handed.{is_counted_before}
 use Rattle.vt_world.specs.Held.{HasOwnInodes, IsHeld}
 use Rattle.vt_world.specs.WorldValue.{WorldValue, world_of}
+use Rattle.vt_detach.proofs.Overlaid.{plain_one_among}
 use Rattle.vt_detach.proofs.OwnInodesKept.{IsOwn}
 use Rattle.vt_laws_permits.proofs.in_use.InUseServes.{leaves_two}
 
@@ -42,7 +43,7 @@ filesystem_counted value whole entry m =
     (among-append_left (mounts_used ++ files_used) namespaces_used (counted entry.count)
     (among-append_right mounts_used files_used (counted entry.count)
     (among-flat_map used_by_filesystem (world_of value).filesystems (filesystem_seen entry) (counted entry.count)
-    (among-map filesystem_seen value.filesystems entry m) (inl refl))))))
+    (plain_one_among value whole.overlays.merged entry m) (inl refl))))))
   where
     mounts_used : List ℕ
     mounts_used = flat_map used_by_mount (world_of value).mounts

@@ -12,6 +12,7 @@ use Rattle.vt_spec.specs.Machine.Invariants.{IsWorld}
 use Rattle.vt_spec.specs.Inodes.{Inodes, node_in, one_directory, pinned, tree_of, used_once_more}
 use Rattle.vt_spec.specs.Tree.{new_directory, tree_of_root}
 use Rattle.vt_laws_counts.specs.Counted.{IsCounted}
+use Rattle.vt_laws_counts.specs.OverlaysStay.{layer_count}
 use Rattle.vt_laws_counts.specs.Using.{one_counted, root_counted}
 use Rattle.vt_laws_counts.proofs.using.Places.{opening_is_counted}
 use Rattle.vt_laws_rules.specs.Numbers.{KeepsTo}
@@ -189,6 +190,7 @@ first_value entry =
       groups = no_groups;
       filesystems = entry
           ∷ [];
+      overlays = [];
       namespaces = first_namespace_entries;
       tasks = first_tasks;
       next = 3;
@@ -222,7 +224,8 @@ module _ (entry : FilesystemEntry) (counts : entry.count ≡ 2)
             (All-nil _));
         filesystems = subst (λ world. All (CountsItsMounts world) (entry ∷ [])) (sym first_world)
             (All-cons (CountsItsMounts (opening nat_eq opening_numbers)) entry [] (record {
-              mounts = mounts ∙ ap (λ count. mounts_showing (opening nat_eq opening_numbers) (counted count))
+              mounts = mounts ∙ ap (λ count. mounts_showing (opening nat_eq opening_numbers) (counted count)
+                  + layer_count (opening nat_eq opening_numbers) (counted count))
                   (sym counts);
               inodes = subst (λ (all : Inodes ℕ). IsCounted (opening nat_eq opening_numbers)
                   (filesystem_seen entry) all) (sym inodes)
@@ -231,6 +234,15 @@ module _ (entry : FilesystemEntry) (counts : entry.count ≡ 2)
                   (opening_is_counted opening_numbers));
             }) (All-nil _));
         own_inodes = All-cons HasOwnInodes entry [] (own entry counts inodes) (All-nil _);
+        overlays = record {
+          merged = All-nil _;
+          read_only = All-cons _ (filesystem_seen entry) [] refl (All-nil _);
+          named = All-cons _ (filesystem_seen entry) [] (λ e. absurd (true≢false (sym e))) (All-nil _);
+          overlays_rise = refl;
+          all_rise = refl;
+          mounts = All-nil _;
+          none_yet = refl;
+        };
         namespaces = subst (λ world. All (CountsWhatIsInIt world) first_namespace_entries) (sym first_world)
             (All-cons (CountsWhatIsInIt (opening nat_eq opening_numbers)) _ [] (record { tasks = refl }) (All-nil _));
       }
@@ -242,13 +254,13 @@ module _ (mounts : List MountEntry) (groups : Grouping) (filesystems : Filesyste
     (filesystems_are : shown filesystems ≡ first_shown 2)
     (namespaces_are : namespaces ≡ first_namespace_entries) (tasks_are : tasks ≡ first_tasks) where
   abbrev made : WorldValue
-  made = record { mounts = mounts; groups = groups; filesystems = filesystems; namespaces = namespaces; tasks = tasks; next = 3 }
+  made = record { mounts = mounts; groups = groups; filesystems = filesystems; overlays = []; namespaces = namespaces; tasks = tasks; next = 3 }
 
   abbrev first : IsFirst filesystems
   first = is_first filesystems filesystems_are
 
   is_made : made ≡ first_value first.entry
-  is_made = λ i. record { mounts = mounts_are i; groups = groups_are i; filesystems = first.alone i; namespaces = namespaces_are i; tasks = tasks_are i; next = 3 }
+  is_made = λ i. record { mounts = mounts_are i; groups = groups_are i; filesystems = first.alone i; overlays = []; namespaces = namespaces_are i; tasks = tasks_are i; next = 3 }
 
   pub opening_held : IsHeld made
   opening_held = subst IsHeld (sym is_made) (first_held first.entry first.counts first.inodes first.mounts)

@@ -1,5 +1,6 @@
 pub mod MountLooks
 pub mod Overfilling
 pub mod WorldSeen
+pub mod AmongWorlds
 pub mod CountingLemmas
 pub mod RetypedMounts

@@ -1,5 +1,5 @@
 -- A new file is made in a directory, and opened: open(2) with O_CREAT.
-use Rattle.std.proofs.Common.{◌≡◌, refl, sym, ap, subst, ◌∙◌, inl, inr, true≢false, ℕ, ◌<◌, ◌/◌, ◌&&◌, true, cond, nat_eq, eq-eqb, List, [], ◌∷◌, map, Option, Some, is_some, option_map, unwrap_or, arith}
+use Rattle.std.proofs.Common.{◌≡◌, refl, sym, ap, subst, ◌∙◌, inl, inr, true≢false, ℕ, ◌<◌, ◌/◌, ◌&&◌, true, false, cond, nat_eq, eq-eqb, List, [], ◌∷◌, map, Option, Some, is_some, option_map, unwrap_or, arith}
 use Rattle.std.specs.List.{list_all}
 use Rattle.std.proofs.lemmas.Bool.{leb-false}
 use Rattle.std.proofs.lemmas.Option.{same_Some}
@@ -8,7 +8,7 @@ use Rattle.vt_spec.specs.Language.Calls as spoken
 use Rattle.vt_spec.specs.Language.Changes.{Change}
 use Rattle.vt_spec.specs.Language.Changes.Change.{Make}
 use Rattle.vt_spec.specs.Laws.Trees.{IsNewIn}
-use Rattle.vt_spec.specs.Lists.{Fresh, odds}
+use Rattle.vt_spec.specs.Lists.{Fresh, any_pair, odds}
 use Rattle.vt_spec.specs.Machine.Apply.{apply}
 use Rattle.vt_spec.specs.Machine.Filesystems.{with_change}
 use Rattle.vt_spec.specs.Machine.Descriptors.{free_number, with_descriptor}
@@ -16,7 +16,7 @@ use Rattle.vt_spec.specs.Machine.Permits.{Permit}
 use Rattle.vt_spec.specs.Machine.Permits.Permit.{ToMake, ToOpenNew}
 use Rattle.vt_spec.specs.Machine.SameWorlds.{SameWorlds}
 use Rattle.vt_spec.specs.Machine.Settled.{settled, without_dead_mounts}
-use Rattle.vt_spec.specs.Machine.World.{Descriptor, Task, World, all_locations, locations_of, replaced_if_called, with_task}
+use Rattle.vt_spec.specs.Machine.World.{Descriptor, Filesystem, Task, World, all_locations, locations_of, replaced_if_called, with_task}
 use Rattle.vt_spec.specs.Machine.Invariants.{IsWorld, is_located_well, is_within_limits}
 use Rattle.vt_spec.specs.Fits.{Fits}
 use Rattle.vt_spec.specs.Inodes.{Inodes, changed, tree_of, uses_in, with_changed}
@@ -56,6 +56,7 @@ use Rattle.vt_laws_worlds.proofs.worlds.PermitsNamed.{permits_keep_counting_fork
 use Rattle.vt_laws_worlds.proofs.worlds.PermitsPlaced.{permits_keep_directories, permits_keep_locations, permits_keep_open_files}
 use Rattle.vt_laws_worlds.proofs.worlds.PermitsShow.{permits_keep_mounts_showing}
 use Rattle.vt_laws_worlds.proofs.settling.SettledTasks.{settling_leaves_a_world}
+use Rattle.vt_attach.proofs.GraftedUses.{only_these, plain_with}
 use Rattle.vt_detach.specs.Events.{Permits, next_inode, supply_of}
 use Rattle.vt_world.specs.Held.{IsHeld}
 use Rattle.vt_detach.specs.Uses.{kept, with_location, with_use}
@@ -67,7 +68,8 @@ use Rattle.vt_detach.proofs.ChangedFiles.{ChangesFiles, change_is_held, change_i
 use Rattle.vt_detach.proofs.FileEvents.{IsSmall, permit_fits}
 use Rattle.vt_ns.proofs.world.FileMaking.{made_in_tree, new_in_slot, new_is_named}
 use Rattle.vt_ns.proofs.world.FilesOpened.{inserted_goes, opened_moves, opened_stays, opened_tasks}
-use Rattle.vt_detach.proofs.FilesSeen.{IsLocated, files_are_plain, nodes_named, located, located_filesystem, located_inodes, one_entry}
+use Rattle.vt_detach.proofs.FilesSeen.{IsLocated, nodes_named, located, located_filesystem, located_inodes, one_entry}
+use Rattle.vt_detach.proofs.Overlaid.{world_is_plain}
 use Rattle.vt_detach.proofs.Finishing.{swept_held}
 use Rattle.vt_detach.proofs.LocationsSeen.{seen_where_located}
 use Rattle.vt_detach.proofs.Closing.{used_by}
@@ -126,7 +128,7 @@ module _ (value : WorldValue) (held : IsHeld value) (name : TaskName) (directory
   sees : MayBeMade (world_of value) (location_of directory) entry (node_seen count node) × HasRoom permits.task
   sees =
       given_permits_are_seen_to (world_of value) handed permits.task permit held.in_world
-      (files_are_plain value.filesystems) permits.given
+      (world_is_plain value held) permits.given
 
   -- the new file is new in its directory
   pub new_in_directory : IsNewIn directory.node.slot node
@@ -145,9 +147,9 @@ module _ (value : WorldValue) (held : IsHeld value) (name : TaskName) (directory
   fits_next inodes same =
       given_changes_fit (world_of value) handed permits.task permit (location_of directory)
       (change next_number) inodes held.in_world
-      (files_are_plain value.filesystems) permits.given refl
+      (world_is_plain value held) permits.given refl
       (ap tree_of same ∙ ap (λ filesystem. filesystem.files.tree)
-      (sym (located_filesystem value directory directory_seen)))
+      (sym (located_filesystem value held directory directory_seen)))
 
   -- the parent is a directory, and the name is free
   pub make_fits : Fits (inodes_at value.filesystems count) (change next_number)
@@ -182,7 +184,7 @@ module _ (value : WorldValue) (held : IsHeld value) (name : TaskName) (directory
   under_way : IsWorldButForUse (apply nat_eq handed (world_of value) permits.task permit).world
   under_way =
       given_permits_are_under_way (world_of value) handed permits.task permit held.in_world
-      (files_are_plain value.filesystems) permits.given
+      (world_is_plain value held) permits.given
 
   making_fits : IsFitPermit handed (world_of value) permits.task making
   making_fits = record { names = permit_is_fit.names.0; few_mounts = permit_is_fit.few_mounts }
@@ -279,7 +281,7 @@ module _ (value : WorldValue) (held : IsHeld value) (name : TaskName) (directory
     }
       where
         plain : IsPlain (world_of value)
-        plain = files_are_plain value.filesystems
+        plain = world_is_plain value held
 
     mid_is_world : IsWorld nat_eq (world_of mid)
     mid_is_world =
@@ -298,7 +300,7 @@ module _ (value : WorldValue) (held : IsHeld value) (name : TaskName) (directory
         permits.given.called held.given (λ k. nodes_named value.next made) named
         (change_is_swept value held (location_of directory) (change (number_of made)) made_in is_made
         (λ k. number_of made))
-        (files_are_plain made_in))
+        (plain_with value held made_in))
 
     -- the new inode has one use
     pub used_once : uses_in ((inodes_at made_in count).inode (number_of made)) ≡ 1
@@ -307,7 +309,10 @@ module _ (value : WorldValue) (held : IsHeld value) (name : TaskName) (directory
         let with_file = partner value held (location_of directory) (change (number_of made)) made_in is_made in
         let found : entry_of made_in count ≡ Some with_file.entry =
         ap (entry_of made_in) (sym (with_file.is.count_is ∙ directory_seen.count_is))
-        ∙ one_entry made_in mid_is_world.files.one_filesystem with_file.entry with_file.among in
+        ∙ one_entry made_in
+        (subst (λ list. any_pair (λ (a b : Filesystem ℕ). nat_eq a.number b.number) list ≡ false)
+        (only_these value held made_in) mid_is_world.files.one_filesystem)
+        with_file.entry with_file.among in
         ap (λ o. uses_in ((inodes_seen (unwrap_or o (no_entry count))).inode (number_of made))) found
         ∙ ap (λ (inodes : Inodes ℕ). uses_in (inodes.inode (number_of made)))
         (inodes_after value held (location_of directory) (change (number_of made)) made_in is_made)
@@ -389,7 +394,7 @@ module _ (value : WorldValue) (held : IsHeld value) (name : TaskName) (directory
         same_from_alike (settled nat_eq (opened_at rest)) (settled nat_eq next)
         (settled_alike (opened_at rest) next (alike_from_same (opened_at rest) next (opened_same rest)
         (same_worlds_are_plain_alike next (opened_at rest)
-        (sameness_is_an_equivalence.back (opened_at rest) next (opened_same rest)) (files_are_plain made_in))))
+        (sameness_is_an_equivalence.back (opened_at rest) next (opened_same rest)) (plain_with value held made_in))))
 
     -- the world that the sweep leaves has the invariants, and no overlays
     settled_is_world : IsWorld nat_eq (settled nat_eq next) × IsPlain (settled nat_eq next)
@@ -397,7 +402,7 @@ module _ (value : WorldValue) (held : IsHeld value) (name : TaskName) (directory
         let given = subst (λ world. IsWorld nat_eq (settled nat_eq world)
         × IsPlain (settled nat_eq world)) opened_applied
         (given_permits_leave_worlds (world_of value) handed permits.task permit held.in_world
-        (files_are_plain value.filesystems) permits.given) in
+        (world_is_plain value held) permits.given) in
         same_worlds_are_worlds (settled nat_eq (opened_at (odds handed))) (settled nat_eq next)
         (opened_alike (odds handed)) given.1 given.0
 
@@ -430,18 +435,18 @@ module _ (value : WorldValue) (held : IsHeld value) (name : TaskName) (directory
           sameness_is_an_equivalence.onward (settled nat_eq (opened_at rest)) (settled nat_eq next) (world_of new)
           (opened_alike rest)
           (swept_is_same mid mid_held next (inode_at (world_of mid) (location_of file) ∷ []) [] new swept
-          settled_has_groups settled_is_world)
+          settled_has_groups settled_is_world.0)
 
       new_is_opened : IsDone value name permit new
       new_is_opened = record {
-        held = swept_held mid mid_held next settled_is_world (inode_at (world_of mid) (location_of file) ∷ []) [] new
+        held = swept_held mid mid_held next settled_is_world.0 (inode_at (world_of mid) (location_of file) ∷ []) [] new
             swept settled_has_groups
             (remains_counted mid mid_held tasks (used_by descriptor ∷ []) [] moves mounts filesystems moved stay
             (opened_tasks mid mid_held name permits.task permits.called descriptor file_located))
             (same_keeps_to_numbers_too (is_counted_before value.next) (λ k. number_of made)
             (world_of value) permits.task permit (world_of new)
             permits.given.called held.given (λ k. nodes_named value.next made) named
-            (settled_same (λ k. number_of made)) (files_are_plain filesystems));
+            (settled_same (λ k. number_of made)) (plain_with value held filesystems));
         becomes = becomes_so value name permit new permits.task permits.called
             (subst (λ world. SameWorlds (settled nat_eq world) (world_of new)) (sym opened_applied)
             (settled_same (odds handed)));

@@ -84,6 +84,7 @@ after c = record {
   mounts = c.leave_namespace.new.mounts;
   groups = c.leave_namespace.new.groups;
   filesystems = c.leave_namespace.new.filesystems;
+  overlays = [];
   namespaces = entries_of c.leave_namespace.new.namespaces.entries;
   tasks = c.move_root_and_directory.new.self;
   next = c.self.inside.next + 2 * length c.attached_in.result.now;
