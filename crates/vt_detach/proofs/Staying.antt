@@ -38,6 +38,7 @@ use Rattle.vt_world.specs.Held.{CountsItsMounts, CountsItsUses, CountsWhatIsInIt
 use Rattle.vt_world.specs.WorldValue.{WorldValue, world_of}
 use Rattle.vt_detach.proofs.Splits.{locations_stay, replaced_split, times_replaced, writes_replaced}
 pub use Rattle.vt_detach.proofs.Overlaid.{world_is_plain}
+use Rattle.vt_detach.proofs.Overlaid.{overlays_counted}
 use Rattle.vt_detach.proofs.Grouped.{same_has}
 
 -- the world with other tasks
@@ -105,6 +106,15 @@ module _ (value : WorldValue) (tasks : Tasks)
           };
         });
     own_inodes = held.own_inodes;
+    overlays = record {
+      merged = held.overlays.merged;
+      read_only = held.overlays.read_only;
+      named = held.overlays.named;
+      overlays_rise = held.overlays.overlays_rise;
+      all_rise = held.overlays.all_rise;
+      mounts = overlays_counted value (after value tasks) held.overlays refl (λ number. refl);
+      none_yet = held.overlays.none_yet;
+    };
     namespaces = all_from_among (CountsWhatIsInIt (world_of (after value tasks))) value.namespaces (λ entry m.
         let was = among_from_all (CountsWhatIsInIt
         (world_of value)) value.namespaces held.namespaces entry m in record {
