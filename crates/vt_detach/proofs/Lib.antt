@@ -1,4 +1,5 @@
 pub mod FilesystemsFound
+pub mod Overlaid
 pub mod LookLemmas
 pub mod OwnInodesKept
 pub mod ChangedNumbers

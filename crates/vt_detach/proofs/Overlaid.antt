@@ -1,7 +1,8 @@
 -- The overlays of the code's world, and of worlds midway in an event, which leaves overlays as they are.
-use Rattle.std.proofs.Common.{◌≡◌, refl, sym, ap, subst, ◌∙◌, inl, inr, ℕ, nat_eq, nat_lt, Bool, true, false, true≢false, cond, not, ◌&&◌, List, [], ◌∷◌, map, filter, find, Option, Some, None, is_some, unwrap_or, arith}
+use Rattle.std.proofs.Common.{◌≡◌, refl, sym, ap, subst, ◌∙◌, inl, inr, ℕ, nat_eq, nat_lt, Bool, true, false, true≢false, eqb-true, cond, not, ◌&&◌, List, [], ◌∷◌, map, filter, find, Option, Some, None, is_some, unwrap_or, arith}
 use Rattle.std.specs.Prelude.{All}
 use Rattle.std.specs.List.{list_all}
+use Rattle.vt_spec.specs.Lists.{any_pair}
 use Rattle.vt_spec.specs.Machine.Locked.{of_overlay}
 use Rattle.vt_spec.specs.Machine.SameWorlds.{SameFilesystem, SameFilesystems}
 use Rattle.vt_spec.specs.Machine.Settled.{filesystem_lives, is_mounted, settled, without_dead_mounts}
@@ -10,15 +11,17 @@ use Rattle.vt_spec.specs.Machine.Invariants.{IsWorld}
 use Rattle.vt_laws_counts.specs.BesideOverlays.{OverlaysHaveNoUpper}
 use Rattle.vt_laws_counts.specs.Counted.{IsPlain}
 use Rattle.vt_laws_counts.specs.OverlaysStay.{OverlaysAreNamed, layer_count}
-use Rattle.vt_laws_counts.proofs.overlays.Living.{overlays_use_filesystems}
+use Rattle.vt_laws_counts.proofs.overlays.Living.{overlays_are_mounted, overlays_use_filesystems}
 use Rattle.vt_laws_counts.proofs.overlays.NamedStay.{filter_stays, named_overlays_stay}
 use Rattle.vt_laws_counts.proofs.using.Exchanged.{numbers_mapped}
+use Rattle.vt_spec.proofs.Lists.{pair-filter}
+use Rattle.vt_laws_letting_go.specs.Counts.{mounts_showing}
 use Rattle.vt_laws_letting_go.specs.Keeping.{has_only_named}
 use Rattle.vt_laws_letting_go.specs.TreesOverlays.{in_use_of}
 use Rattle.vt_laws_letting_go.proofs.Lists.{Among, all_from_among, among-filter, among-from_filter, among_from_all, among-from_map, among-map, or_first}
 use Rattle.vt_laws_letting_go.proofs.sweeps.InUse.{after_first, after_second, number-first, number-second, overlay-left}
 use Rattle.vt_laws_letting_go.proofs.sweeps.OfWorlds.{found_filesystem}
-use Rattle.vt_laws_overlays_stay.specs.Woven.{ArePartedBy, are_rising, woven}
+use Rattle.vt_laws_overlays_stay.specs.Woven.{ArePartedBy, are_rising, put_in, woven}
 use Rattle.vt_laws_overlays_stay.proofs.kept.OverlaysLeft.{by_overlays, no_upper_of_plain}
 use Rattle.vt_laws_overlays_stay.proofs.weaving.WovenLists.{rising_filtered, rising_lists_are_woven, woven_lists_are_failing, woven_lists_are_passing}
 use Rattle.vt_fs.specs.FilesystemsValue.{FilesystemEntry, Filesystems, filesystem_seen, filesystems_seen}
@@ -67,15 +70,21 @@ plain_ones_are value holds =
     (parted value holds)
 
 -- what is kept by its inodes is among its filesystems
+
+pub seen_one_among : (value : WorldValue)
+    → All (λ filesystem. is_overlay filesystem ≡ true) (overlays_seen value.overlays) → (filesystem : Filesystem ℕ)
+    → Among filesystem (filesystems_seen value.filesystems) → Among filesystem (world_of value).filesystems
+seen_one_among value merged filesystem m =
+    (among-from_filter is_plain_one (world_of value).filesystems filesystem
+    (subst (Among filesystem)
+    (sym (woven_lists_are_failing is_overlay (filesystems_seen value.filesystems) (overlays_seen value.overlays)
+    (record { fail = files_are_plain value.filesystems; pass = merged }))) m)).0
+
 pub plain_one_among : (value : WorldValue)
     → All (λ filesystem. is_overlay filesystem ≡ true) (overlays_seen value.overlays) → (entry : FilesystemEntry)
     → Among entry value.filesystems → Among (filesystem_seen entry) (world_of value).filesystems
 plain_one_among value merged entry m =
-    (among-from_filter is_plain_one (world_of value).filesystems (filesystem_seen entry)
-    (subst (Among (filesystem_seen entry))
-    (sym (woven_lists_are_failing is_overlay (filesystems_seen value.filesystems) (overlays_seen value.overlays)
-    (record { fail = files_are_plain value.filesystems; pass = merged })))
-    (among-map filesystem_seen value.filesystems entry m))).0
+    seen_one_among value merged (filesystem_seen entry) (among-map filesystem_seen value.filesystems entry m)
 
 -- and found there by its number
 pub found_plain_one : (value : WorldValue) → IsHeld value → (entry : FilesystemEntry) → Among entry value.filesystems
@@ -83,6 +92,57 @@ pub found_plain_one : (value : WorldValue) → IsHeld value → (entry : Filesys
 found_plain_one value held entry m =
     found_filesystem (world_of value).filesystems held.in_world.files.one_filesystem (filesystem_seen entry)
     (plain_one_among value held.overlays.merged entry m)
+
+-- no two of those that are kept by their inodes have one number
+pub plain_ones_apart : (value : WorldValue) → IsHeld value
+    → any_pair (λ (a b : Filesystem ℕ). nat_eq a.number b.number) (filesystems_seen value.filesystems) ≡ false
+plain_ones_apart value held =
+    subst (λ list. any_pair (λ (a b : Filesystem ℕ). nat_eq a.number b.number) list ≡ false)
+    (plain_ones_are value held.overlays)
+    (pair-filter (λ (a b : Filesystem ℕ). nat_eq a.number b.number) is_plain_one (world_of value).filesystems
+    held.in_world.files.one_filesystem)
+
+-- and no overlay has the number of one of them
+pub overlay_apart : (value : WorldValue) → IsHeld value → (entry : FilesystemEntry) → Among entry value.filesystems
+    → (overlay : Filesystem ℕ) → Among overlay (overlays_seen value.overlays)
+    → nat_eq (counted entry.count) overlay.number ≡ false
+overlay_apart value held entry m overlay n = by (nat_eq (counted entry.count) overlay.number) refl
+  where
+    by : (b : Bool) → nat_eq (counted entry.count) overlay.number ≡ b → b ≡ false
+    by false e = refl
+    by true e =
+        let there = among-from_filter is_overlay (world_of value).filesystems overlay
+        (subst (Among overlay) (sym (overlays_are value held.overlays)) n) in
+        absurd (true≢false (sym there.1
+        ∙ ap is_overlay (sym (found_filesystem (world_of value).filesystems held.in_world.files.one_filesystem overlay
+        there.0)
+        ∙ ap (filesystem_numbered nat_eq (world_of value)) (sym (eqb-true (counted entry.count) overlay.number e))
+        ∙ found_plain_one value held entry m)))
+
+-- A step that changes plain filesystems alone, and no number, changes them as they are kept.
+
+put_mapped : (step : Filesystem ℕ → Filesystem ℕ) → ((f : Filesystem ℕ) → (step f).number ≡ f.number)
+    → (overlay : Filesystem ℕ) → step overlay ≡ overlay → (list : List (Filesystem ℕ))
+    → map step (put_in overlay list) ≡ put_in overlay (map step list)
+put_mapped step numbers overlay same [] = ap (λ one. one ∷ []) same
+put_mapped step numbers overlay same (first ∷ rest) =
+    by (nat_lt first.number overlay.number) (put_mapped step numbers overlay same rest)
+    ∙ ap (λ n. cond (nat_lt n overlay.number) (step first ∷ put_in overlay (map step rest))
+    (overlay ∷ step first ∷ map step rest)) (sym (numbers first))
+  where
+    by : (b : Bool) → map step (put_in overlay rest) ≡ put_in overlay (map step rest)
+        → map step (cond b (first ∷ put_in overlay rest) (overlay ∷ first ∷ rest))
+        ≡ cond b (step first ∷ put_in overlay (map step rest)) (overlay ∷ step first ∷ map step rest)
+    by true later = ap (λ others. step first ∷ others) later
+    by false later = ap (λ one. one ∷ step first ∷ map step rest) same
+
+pub woven_mapped : (step : Filesystem ℕ → Filesystem ℕ) → ((f : Filesystem ℕ) → (step f).number ≡ f.number)
+    → (plain overlays : List (Filesystem ℕ)) → ((f : Filesystem ℕ) → Among f overlays → step f ≡ f)
+    → map step (woven plain overlays) ≡ woven (map step plain) overlays
+woven_mapped step numbers plain [] same = refl
+woven_mapped step numbers plain (overlay ∷ rest) same =
+    put_mapped step numbers overlay (same overlay (inl refl)) (woven plain rest)
+    ∙ ap (put_in overlay) (woven_mapped step numbers plain rest (λ f m. same f (inr m)))
 
 -- it keeps its overlays
 pub keeps_itself : (value : WorldValue) → HoldsOverlays value → KeepsOverlays value (world_of value)
@@ -236,6 +296,48 @@ swept_keeps old holds world keeps mounted = record {
         by false true e f later = absurd (true≢false (sym (all first (inl refl) f) ∙ e))
         by false false e f later = later
 
+-- another value of the world with the same overlays
+pub same_overlays : (old new : WorldValue) → HoldsOverlays old
+    → overlays_seen new.overlays ≡ overlays_seen old.overlays
+    → filter is_overlay (world_of new).filesystems ≡ overlays_seen old.overlays
+same_overlays old new holds same =
+    woven_lists_are_passing is_overlay (filesystems_seen new.filesystems) (overlays_seen new.overlays)
+    (record {
+      fail = files_are_plain new.filesystems;
+      pass = subst (All (λ filesystem. is_overlay filesystem ≡ true)) (sym same) holds.merged;
+    })
+    (ap are_rising same ∙ holds.overlays_rise)
+    ∙ same
+
+pub layers_kept : (old new : WorldValue) → HoldsOverlays old
+    → overlays_seen new.overlays ≡ overlays_seen old.overlays
+    → (number : ℕ) → layer_count (world_of new) number ≡ layer_count (world_of old) number
+layers_kept old new holds same =
+    as_many_layers (world_of old) (world_of new) (same_overlays old new holds same ∙ sym (overlays_are old holds))
+
+-- where as many mounts show each filesystem, overlays count them still
+pub overlays_counted : (old new : WorldValue) → HoldsOverlays old → new.overlays ≡ old.overlays
+    → ((number : ℕ) → mounts_showing (world_of new) number ≡ mounts_showing (world_of old) number)
+    → All (IsMountedSoOften (world_of new)) new.overlays
+overlays_counted old new holds same showing =
+    subst (All (IsMountedSoOften (world_of new))) (sym same)
+    (all_from_among (IsMountedSoOften (world_of new)) old.overlays (λ entry m.
+    among_from_all (IsMountedSoOften (world_of old)) old.overlays holds.mounts entry m
+    ∙ sym (showing entry.filesystem.number)))
+
+-- and where mounts show what they showed, the overlays are mounted
+pub still_mounted : (old : WorldValue) → IsHeld old → (world : World ℕ)
+    → ((number : ℕ) → is_mounted nat_eq world number ≡ is_mounted nat_eq (world_of old) number)
+    → AreStillMounted old world
+still_mounted old held world same =
+    all_from_among (λ (overlay : Filesystem ℕ). is_mounted nat_eq world overlay.number ≡ true)
+    (overlays_seen old.overlays) (λ f m.
+    let there = among-from_filter is_overlay (world_of old).filesystems f
+    (subst (Among f) (sym (overlays_are old held.overlays)) m) in
+    same f.number
+    ∙ among_from_all (λ g. is_overlay g ≡ true → is_mounted nat_eq (world_of old) g.number ≡ true)
+    (world_of old).filesystems (overlays_are_mounted (world_of old) held.in_world) f there.0 there.1)
+
 -- What holds of overlays holds still of another value of the world with the same ones.
 pub overlays_hold_still : (old new : WorldValue) → HoldsOverlays old → new.overlays ≡ []
     → overlays_seen new.overlays ≡ overlays_seen old.overlays → are_rising (world_of new).filesystems ≡ true
@@ -251,16 +353,7 @@ overlays_hold_still old new holds none same rising mounts = record {
 }
   where
     keeps : KeepsOverlays old (world_of new)
-    keeps = record {
-      overlays = woven_lists_are_passing is_overlay (filesystems_seen new.filesystems) (overlays_seen new.overlays)
-          (record {
-            fail = files_are_plain new.filesystems;
-            pass = subst (All (λ filesystem. is_overlay filesystem ≡ true)) (sym same) holds.merged;
-          })
-          (ap are_rising same ∙ holds.overlays_rise)
-          ∙ same;
-      rise = rising;
-    }
+    keeps = record { overlays = same_overlays old new holds same; rise = rising }
 
 -- no other value of the world has an overlay then
 pub none_still : (old new : WorldValue) → IsHeld old → overlays_seen new.overlays ≡ overlays_seen old.overlays
@@ -272,11 +365,11 @@ none_still old new held same = by new.overlays (same ∙ ap overlays_seen held.o
     by (first ∷ rest) e = absurd cc
 
 -- as many layers are in each filesystem while the overlays stay
-pub as_many_layers : (old : WorldValue) (world other : World ℕ) → KeepsOverlays old world → KeepsOverlays old other
+pub as_many_layers : (world other : World ℕ)
+    → filter is_overlay other.filesystems ≡ filter is_overlay world.filesystems
     → (number : ℕ) → layer_count other number ≡ layer_count world number
-as_many_layers old world other one keeps number =
-    let same = overlays_use_filesystems world other [] [] [] (overlays_seen old.overlays) number one.overlays
-    keeps.overlays in
+as_many_layers world other stay number =
+    let same = overlays_use_filesystems world other [] [] [] (filter is_overlay world.filesystems) number refl stay in
     omega (arith, same)
 
 -- Nothing makes an overlay yet: what is not stated for overlays takes these.
@@ -323,3 +416,13 @@ found_as_kept value held number =
     ap (λ (list : List (Filesystem ℕ)).
     unwrap_or (find (λ (filesystem : Filesystem ℕ). nat_eq number filesystem.number) list) (no_filesystem number))
     (only_plain_ones value held)
+
+-- so an inode that is there is one of those that are kept
+pub there_as_kept : (value : WorldValue) → IsHeld value → (number inode : ℕ)
+    → is_some ((filesystem_numbered nat_eq (world_of value) number).files.tree.node inode) ≡ true
+    → is_some ((unwrap_or (find (λ (filesystem : Filesystem ℕ). nat_eq number filesystem.number)
+    (filesystems_seen value.filesystems)) (no_filesystem number)).files.tree.node inode) ≡ true
+there_as_kept value held number inode there =
+    ap (λ (filesystem : Filesystem ℕ). is_some (filesystem.files.tree.node inode))
+    (sym (found_as_kept value held number))
+    ∙ there
