@@ -31,15 +31,6 @@ use Rattle.vt_fs.proofs.Numbers.{found_by_number}
 use Rattle.vt_laws_permits.proofs.in_use.InUseServes.{leaves_two}
 use Rattle.vt_spec.proofs.Found.{is_among_left}
 
--- No filesystem is an overlay
-
--- no filesystem of code's world is an overlay
-pub files_are_plain : (filesystems : Filesystems)
-    → All (λ filesystem. is_overlay filesystem ≡ false) (filesystems_seen filesystems)
-files_are_plain filesystems =
-    all_from_among (λ filesystem. is_overlay filesystem ≡ false) (filesystems_seen filesystems) (λ filesystem m.
-    ap is_overlay (among-from_map filesystem_seen filesystems filesystem m).2)
-
 -- Filesystems by their counts
 
 -- no two have one count

@@ -37,7 +37,7 @@ use Rattle.vt_detach.specs.Events.{Becomes, Permits, credentials_called, left_by
 use Rattle.vt_world.specs.Held.{CountsItsMounts, CountsItsUses, CountsWhatIsInIt, IsHeld, writes_of, writes_of_task, writes_on}
 use Rattle.vt_world.specs.WorldValue.{WorldValue, world_of}
 use Rattle.vt_detach.proofs.Splits.{locations_stay, replaced_split, times_replaced, writes_replaced}
-use Rattle.vt_detach.proofs.FilesSeen.{files_are_plain}
+pub use Rattle.vt_detach.proofs.Overlaid.{world_is_plain}
 use Rattle.vt_detach.proofs.Grouped.{same_has}
 
 -- the world with other tasks
@@ -46,17 +46,13 @@ after value tasks = record value { tasks = tasks }
 
 -- The world of the code
 
--- no filesystem of code's world is an overlay
-pub world_is_plain : (value : WorldValue) → IsPlain (world_of value)
-world_is_plain value = files_are_plain value.filesystems
-
--- a world that code has is settled
-pub held_is_settled : (value : WorldValue) → IsWorld nat_eq (world_of value) → IsSettledPlain (world_of value)
-held_is_settled value is = record {
-  in_use = worlds_are_in_use (world_of value) is;
-  plain = plain_of (world_of value) (world_is_plain value);
-  trees = worlds_have_trees (world_of value) is;
-  mounts = mounts_of_worlds_stand (world_of value) is;
+-- a world that code has is settled; nothing makes an overlay yet
+pub held_is_settled : (value : WorldValue) → IsHeld value → IsSettledPlain (world_of value)
+held_is_settled value held = record {
+  in_use = worlds_are_in_use (world_of value) held.in_world;
+  plain = plain_of (world_of value) (world_is_plain value held);
+  trees = worlds_have_trees (world_of value) held.in_world;
+  mounts = mounts_of_worlds_stand (world_of value) held.in_world;
 }
 
 -- Where all locations are as they were, all counts are.
@@ -155,7 +151,7 @@ module _ (value : WorldValue) (name : TaskName) (permit : Permit ℕ) (task new 
       → settled nat_eq (apply nat_eq fresh (world_of value) task permit).world ≡ world_of (after value tasks_after)
   stayed_exactly fresh =
       ap (settled nat_eq) (stays.applied fresh)
-      ∙ staying_keeps_all (world_of value) tasks_after (held_is_settled value held.in_world)
+      ∙ staying_keeps_all (world_of value) tasks_after (held_is_settled value held)
       (none_left value tasks_after places_stay)
 
   -- and code's world but for change numbers
@@ -180,7 +176,7 @@ module _ (value : WorldValue) (name : TaskName) (permit : Permit ℕ) (task new 
       omega (arith, moved, own))
       (subst (IsWorld nat_eq) (stayed_exactly (supply_of value permit))
       (given_permits_leave_worlds (world_of value) (supply_of value permit) task permit held.in_world
-      (world_is_plain value) stays.given).0)
+      (world_is_plain value held) stays.given).0)
       (subst (KeepsTo (is_counted_before value.next)) (stayed_exactly (λ k. 0))
       (permits_keep_to_numbers (is_counted_before value.next) (λ k. 0)
       (world_of value) task permit stays.given.called held.given (λ k. refl) stays.named))

@@ -51,6 +51,8 @@ pub record HoldsOverlays (value : WorldValue) : Type 0 where
   pub overlays_rise : are_rising (overlays_seen value.overlays) ≡ true
   pub all_rise : are_rising (world_of value).filesystems ≡ true
   pub mounts : All (IsMountedSoOften (world_of value)) value.overlays
+  -- nothing makes an overlay yet
+  pub none_yet : value.overlays ≡ []
 
 -- the number of each inode is one that its filesystem gives to a slot
 abbrev pub HasOwnInodes : FilesystemEntry → Type 0
