@@ -11,13 +11,13 @@ use Rattle.vt_fs.specs.FilesystemsValue.{Shown}
 use Rattle.vt_laws_letting_go.specs.Counts.{mounts_showing}
 use Rattle.vt_laws_letting_go.specs.InUse.{FilesystemsInUse}
 use Rattle.vt_laws_letting_go.specs.OneByOne.{without_mount}
-use Rattle.vt_laws_letting_go.proofs.Lists.{Among, all_from_among, all_pass, among-filter, among-from_filter, among-from_map, among-map, among_from_all, any_passes, filter-map, filter_all, filter_alike, one_passes, or_first, or_second, passes}
+use Rattle.vt_laws_letting_go.proofs.Lists.{Among, all_from_among, all_pass, among-filter, among-from_filter, among-from_map, among-map, among_from_all, any_passes, filter-map, filter_all, filter_alike, one_passes, or_second, passes}
 use Rattle.vt_laws_overlays_stay.proofs.weaving.WovenLists.{rising_filtered}
 use Rattle.vt_location.specs.Numbers.{counted}
 use Rattle.vt_detach.specs.Uses as meant
 use Rattle.vt_detach.specs.Uses.{mounts_shown}
 use Rattle.vt_world.specs.WorldValue.{WorldValue, overlays_seen}
-use Rattle.vt_detach.proofs.BesideOverlays.{layers_alike, lives_alike, lives_midway, overlays_left, plain_ones_left, stays_beside}
+use Rattle.vt_detach.proofs.BesideOverlays.{layers_alike, lives_alike, lives_midway, overlay_lives, overlays_left, plain_ones_left, stays_beside}
 use Rattle.vt_detach.proofs.LostUses.{found_unless, positive, shown_by_rule}
 use Rattle.vt_detach.proofs.Overlaid.{AreStillMounted, KeepsOverlays, is_plain_one, same_files_keep}
 
@@ -126,10 +126,7 @@ module _ (old : WorldValue) (world : World ℕ) (number filesystem : ℕ) (shown
   lives_is f m = by (is_overlay f) refl
     where
       by : (b : Bool) → is_overlay f ≡ b → filesystem_lives nat_eq mounted f ≡ (b || stays f.number)
-      by true e = or_first (is_mounted nat_eq mounted f.number) _
-          (among_from_all (λ (overlay : Filesystem ℕ). is_mounted nat_eq mounted overlay.number ≡ true)
-          (overlays_seen old.overlays) it.still f
-          (subst (λ all. Among f all) it.keeps.overlays (among-filter is_overlay world.filesystems f m e)))
+      by true e = overlay_lives old mounted (same_files_keep old world mounted refl it.keeps) it.still f m e
       by false e = plain_lives f m (among-filter is_plain_one world.filesystems f m (ap not e))
 
   pub living_is : without_dead_filesystems nat_eq mounted ≡ left
