@@ -6,7 +6,6 @@ use Rattle.std.specs.Map.{lookup}
 use Rattle.std.proofs.lemmas.Bool.{and_parts, ltb-true, ne_eqb}
 use Rattle.std.proofs.lemmas.List.{map-append}
 use Rattle.std.proofs.lemmas.List.Folds.{list_all-append}
-use Rattle.vt_laws_counts.specs.Counted.{IsPlain}
 use Rattle.vt_laws_counts.specs.Using.{AreThere, Exchanges, is_inode, is_on, places_of}
 use Rattle.vt_laws_counts.proofs.using.MountRoots as Roots
 use Rattle.vt_laws_counts.proofs.using.MountRoots.{places_stand}
@@ -32,7 +31,7 @@ use Rattle.vt_propagate.specs.Pushing.{MovesOnce}
 use Rattle.vt_spec.specs.Lists.{any_pair, is_among, or_else}
 use Rattle.vt_spec.specs.Machine.Mounts as meant
 use Rattle.vt_spec.specs.Machine.Mounts.{Propagation, mount_in, no_mount, root_of}
-use Rattle.vt_spec.specs.Machine.World.{Filesystem, World, all_locations, filesystem_numbered, is_directory_at, is_overlay, mount_at, no_filesystem, node_at, with_mounts}
+use Rattle.vt_spec.specs.Machine.World.{Filesystem, World, all_locations, filesystem_numbered, is_directory_at, mount_at, no_filesystem, node_at, with_mounts}
 use Rattle.vt_spec.specs.Machine.Invariants.{IsWorld, ListsNumbers, has_its_root}
 use Rattle.vt_spec.specs.Machine.Settled.{layers_in, named_in, objects_of_overlay, used_in}
 use Rattle.vt_spec.specs.Tree.{is_directory_node}
@@ -43,7 +42,6 @@ use Rattle.vt_world.specs.Held.{HasOwnInodes, IsHeld}
 use Rattle.vt_detach.specs.Uses.{inode_of, unused_entry}
 use Rattle.vt_world.specs.WorldValue.{WorldValue, overlays_seen, world_of}
 use Rattle.vt_detach.proofs.FilesSeen.{seen_in}
-use Rattle.vt_detach.proofs.Overlaid.{files_are_plain}
 use Rattle.vt_attach.specs.Planned.{Point, is_small, points_left, points_taken, with_points}
 use Rattle.vt_attach.specs.PlannedUses.{point_seen}
 use Rattle.vt_attach.specs.Room.{has_small_slots}
@@ -123,13 +121,6 @@ pub only_these : (value : WorldValue) → IsHeld value → (base : Filesystems)
     → beside_overlays value base ≡ filesystems_seen base
 only_these value whole base =
     ap (λ overlays. woven (filesystems_seen base) (overlays_seen overlays)) whole.overlays.none_yet
-
--- so with them no filesystem is an overlay
-pub plain_with : (value : WorldValue) → IsHeld value → (base : Filesystems)
-    → IsPlain (record (world_of value) { filesystems = beside_overlays value base })
-plain_with value whole base =
-    subst (All (λ (filesystem : Filesystem ℕ). is_overlay filesystem ≡ false)) (sym (only_these value whole base))
-    (files_are_plain base)
 
 -- Mounts that come behind others, which get other mount points
 

@@ -45,9 +45,9 @@ use Rattle.vt_world.specs.Held.{CountsItsMounts, IsHeld}
 use Rattle.vt_world.specs.WorldValue.{WorldValue, overlays_seen, world_of}
 use Rattle.vt_detach.proofs.FileEvents.{permit_fits}
 use Rattle.vt_detach.proofs.BesideOverlays.{layers_alike}
-use Rattle.vt_detach.proofs.FilesSeen.{seen_in_world}
+use Rattle.vt_detach.proofs.FilesSeen.{seen_in}
 use Rattle.vt_detach.proofs.LookLemmas.{turned}
-use Rattle.vt_detach.proofs.Overlaid.{found_plain_one, only_plain_ones, overlays_are}
+use Rattle.vt_detach.proofs.Overlaid.{found_plain_one, only_plain_ones, overlays_are, there_as_kept}
 use Rattle.vt_attach.proofs.AttachedCounts.{times_none}
 use Rattle.vt_attach.proofs.GraftedDone.{IsBase, with_base}
 use Rattle.vt_attach.proofs.GraftedUses.{beside_overlays, only_these}
@@ -147,8 +147,9 @@ module _ (value : WorldValue) (whole : IsHeld value) (name : TaskName) (place : 
       → nat_eq (counted value.next) other.filesystem ≡ false
   others_elsewhere other m =
       let root = (and_parts _ _ (passes (has_its_root nat_eq world) world.mounts whole.in_world.roots other m)).0 in
-      let seen = seen_in_world value whole other.filesystem other.root
-      (directory_there ((filesystem_numbered nat_eq world other.filesystem).files.tree.node other.root) root) in
+      let seen = seen_in value.filesystems whole.own_inodes other.filesystem other.root
+      (there_as_kept value whole other.filesystem other.root
+      (directory_there ((filesystem_numbered nat_eq world other.filesystem).files.tree.node other.root) root)) in
       let low = filesystem_counted value whole seen.entry seen.among in
       let is = seen.number_is in
       ne_eqb (counted value.next) other.filesystem (λ same. absurd (omega (arith, low, is, same)))

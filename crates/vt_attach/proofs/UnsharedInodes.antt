@@ -35,9 +35,9 @@ use Rattle.vt_attach.specs.Room.{has_small_slots, point_is_small}
 use Rattle.vt_world.specs.WorldValue.{WorldValue, world_of}
 use Rattle.vt_attach.proofs.AddedBegins.{nothing_moves, with_added}
 use Rattle.vt_attach.proofs.AddedUses.{IsFoundIn, gained_by, gained_uses}
-use Rattle.vt_detach.proofs.FilesSeen.{seen_in_world}
+use Rattle.vt_detach.proofs.FilesSeen.{seen_in}
 use Rattle.vt_detach.proofs.MidwayBegins.{point_is_located}
-use Rattle.vt_detach.proofs.Overlaid.{found_plain_one}
+use Rattle.vt_detach.proofs.Overlaid.{found_plain_one, there_as_kept}
 use Rattle.vt_attach.proofs.UnsharedTasks.{added, copied, copy, copy_is, from_spec, new_namespace, one_number, tasks_moved, to_spec}
 
 module _ (value : WorldValue) (whole : IsHeld value) (name : TaskName) (task : Task ℕ)
@@ -121,7 +121,9 @@ module _ (value : WorldValue) (whole : IsHeld value) (name : TaskName) (task : T
       let there : is_there nat_eq world (mount_at nat_eq world place).filesystem (number_of point.node) ≡ true =
       ap (λ (l : meant.Location ℕ). is_there nat_eq world (mount_at nat_eq world place).filesystem l.node) is
       ∙ (and_parts _ _ well).1 in
-      let seen = seen_in_world value whole (mount_at nat_eq world place).filesystem (number_of point.node) there in
+      let seen = seen_in value.filesystems whole.own_inodes (mount_at nat_eq world place).filesystem
+      (number_of point.node)
+      (there_as_kept value whole (mount_at nat_eq world place).filesystem (number_of point.node) there) in
       let shown_in : (mount_at nat_eq world place).filesystem ≡ counted point.node.filesystem.count =
       seen.number_is ∙ ap counted (own_count seen.entry.count point.node small seen.own) in
       record {

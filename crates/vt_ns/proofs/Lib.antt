@@ -1,6 +1,5 @@
 pub mod MountLooks
 pub mod Overfilling
 pub mod WorldSeen
-pub mod AmongWorlds
 pub mod CountingLemmas
 pub mod RetypedMounts

@@ -28,7 +28,7 @@ use Rattle.vt_detach.specs.Looking.{looks_of_value}
 use Rattle.vt_world.specs.Held.{IsHeld}
 use Rattle.vt_world.specs.WorldValue.{WorldValue, world_of}
 use Rattle.vt_detach.proofs.FilesystemsFound.{holds_at}
-use Rattle.vt_ns.proofs.AmongWorlds.{among_world}
+use Rattle.vt_detach.proofs.Overlaid.{seen_one_among}
 
 -- what is no directory is its own parent, and has no entries
 no_directory : (number : ℕ) (o : Option (Node ℕ)) → is_directory_node o ≡ false
@@ -109,7 +109,7 @@ module _ (value : WorldValue) (held : IsHeld value) where
       holds_at (λ filesystem. LieUnderRoot filesystem.files) value.filesystems
       (all_from_among (λ (filesystem : Filesystem ℕ). LieUnderRoot filesystem.files)
       (filesystems_seen value.filesystems)
-      (λ filesystem m. lie_under_root filesystem.files (file_tree filesystem (among_world value held filesystem m))))
+      (λ filesystem m. lie_under_root filesystem.files (file_tree filesystem (seen_one_among value held.overlays.merged filesystem m))))
       count (lie_nowhere count)
 
 -- Up from a directory by parents

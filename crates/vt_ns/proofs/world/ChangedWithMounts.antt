@@ -24,9 +24,11 @@ use Rattle.vt_fs.specs.FilesystemsValue.{Filesystems, filesystem_seen}
 use Rattle.vt_group.specs.Grouping.{Grouping, Has}
 use Rattle.vt_group.specs.Together.{TakesAway}
 use Rattle.vt_laws_permits.specs.Named.{permit_named}
-use Rattle.vt_laws_permits.proofs.named.PermitsKeepTo.{same_keeps_to_numbers_too}
-use Rattle.vt_laws_permits.proofs.left.PermitsLeave.{given_permits_are_under_way, given_permits_leave_worlds}
-use Rattle.vt_laws_permits.proofs.same.SameInUse.{same_worlds_are_worlds}
+use Rattle.vt_laws_permits.proofs.named.PermitsKeepTo.{permits_keep_to_numbers}
+use Rattle.vt_laws_permits.proofs.left.PermitsLeave.{given_permits_are_under_way}
+use Rattle.vt_laws_one_text.proofs.same.SameNumbers.{any_same_worlds_keep_to_numbers}
+use Rattle.vt_laws_one_text.proofs.same.SameWhole.{any_same_worlds_are_worlds}
+use Rattle.vt_laws_overlays_stay.proofs.left.Given.{given_permits_give_no_upper}
 use Rattle.vt_laws_letting_go.proofs.Lists.{Among, all_from_among, among-append_right, among-filter, among-filter_map, among-map, among_from_all, is_among_left, is_among_numbers, is_among_right, map_same, or_second}
 use Rattle.vt_laws_letting_go.proofs.leaving.NamesKept.{changes_keep_names}
 use Rattle.vt_laws_letting_go.proofs.sweeps.OfWorlds.{worlds_have_trees}
@@ -48,7 +50,6 @@ use Rattle.vt_laws_worlds.proofs.worlds.PermitsNamed.{permits_keep_counting_fork
 use Rattle.vt_laws_worlds.proofs.worlds.PermitsPlaced.{permits_keep_directories, permits_keep_locations, permits_keep_open_files}
 use Rattle.vt_laws_worlds.proofs.worlds.PermitsShow.{permits_keep_mounts_showing}
 use Rattle.vt_laws_worlds.proofs.settling.SettledTasks.{settling_leaves_a_world}
-use Rattle.vt_attach.proofs.GraftedUses.{plain_with}
 use Rattle.vt_detach.specs.Events.{Permits, supply_of}
 use Rattle.vt_detach.specs.Detached.{LeaveInTurn, LeaveTogether}
 use Rattle.vt_world.specs.Held.{CountsWhatIsInIt, IsHeld}
@@ -219,13 +220,17 @@ module _ (value : WorldValue) (held : IsHeld value) (location : Location ℕ) (c
     -- the world with the tree changed has its invariants, and counts what is in it
     pub changed_first_is_held : IsHeld (with_filesystems value filesystems)
     changed_first_is_held =
-        let left = settling_leaves_a_world (changed_first fresh) first_under_way in
         change_is_held value held location change filesystems made
-        (same_worlds_are_worlds (settled nat_eq (changed_first fresh)) (world_of (with_filesystems value filesystems))
-        (change_is_swept value held location change filesystems made fresh) left.1 left.0).0
-        (same_keeps_to_numbers_too (is_counted_before value.next) (λ k. 0) world permits.task (ToChange location change)
-        (world_of (with_filesystems value filesystems)) permits.given.called held.given (λ k. refl) named
-        (change_is_swept value held location change filesystems made (λ k. 0)) (plain_with value held filesystems))
+        (any_same_worlds_are_worlds (settled nat_eq (changed_first fresh))
+        (world_of (with_filesystems value filesystems))
+        (change_is_swept value held location change filesystems made fresh)
+        (settling_leaves_a_world (changed_first fresh) first_under_way).0)
+        (any_same_worlds_keep_to_numbers (is_counted_before value.next)
+        (settled nat_eq (apply nat_eq (λ k. 0) world permits.task (ToChange location change)).world)
+        (world_of (with_filesystems value filesystems))
+        (change_is_swept value held location change filesystems made (λ k. 0))
+        (permits_keep_to_numbers (is_counted_before value.next) (λ k. 0) world permits.task (ToChange location change)
+        permits.given.called held.given (λ k. refl) named))
 
     abbrev number : ℕ
     number = filesystem_of world location
@@ -355,11 +360,10 @@ module _ (value : WorldValue) (held : IsHeld value) (location : Location ℕ) (c
           })))
 
       left_world : IsWorld nat_eq (settled nat_eq (regrouped nat_eq last))
-          × IsPlain (settled nat_eq (regrouped nat_eq last))
       left_world =
-          subst (λ w. IsWorld nat_eq (settled nat_eq w) × IsPlain (settled nat_eq w)) (leaves fresh)
-          (given_permits_leave_worlds world fresh permits.task permit held.in_world
-          (world_is_plain value held) permits.given)
+          subst (λ w. IsWorld nat_eq (settled nat_eq w)) (leaves fresh)
+          (given_permits_give_no_upper world fresh permits.task permit held.in_world held.overlays.read_only
+          permits.given).0
 
       -- They leave their groups at once, and all mounts get the types that the groups then tell.
       module _ (groups : Grouping) (follows : TakesAway value.groups groups gone) where
@@ -375,10 +379,10 @@ module _ (value : WorldValue) (held : IsHeld value) (location : Location ℕ) (c
         same_typed = subst (SameWorlds (settled nat_eq (regrouped nat_eq last)))
             (settled_typed after groups has_after) same_left
 
-        typed_is_world : IsWorld nat_eq (settled nat_eq typed) × IsPlain (settled nat_eq typed)
+        typed_is_world : IsWorld nat_eq (settled nat_eq typed)
         typed_is_world =
-            same_worlds_are_worlds (settled nat_eq (regrouped nat_eq last))
-            (settled nat_eq typed) same_typed left_world.1 left_world.0
+            any_same_worlds_are_worlds (settled nat_eq (regrouped nat_eq last)) (settled nat_eq typed) same_typed
+            left_world
 
         has_typed : Has (settled nat_eq typed) groups
         has_typed =
@@ -405,19 +409,19 @@ module _ (value : WorldValue) (held : IsHeld value) (location : Location ℕ) (c
             (keeps_itself value_changed held_first.overlays)) refl refl) in
             let same = sameness_is_an_equivalence.onward (settled nat_eq (regrouped nat_eq last)) (settled nat_eq typed)
             (world_of new) same_typed
-            (swept_is_same value_changed held_first typed [] lost new swept has_typed typed_is_world.0) in
+            (swept_is_same value_changed held_first typed [] lost new swept has_typed typed_is_world) in
             let counts = counts_typed groups untyped
             (detached_counted value_changed after [] lost untyped kept_last refl refl
             (all_from_among (CountsWhatIsInIt (world_of untyped)) value.namespaces (λ entry m.
             let was = among_from_all (CountsWhatIsInIt
             (world_of value)) value.namespaces held.namespaces entry m in record { tasks = was.tasks }))) in
             record {
-              held = swept_held value_changed held_first typed typed_is_world.0 [] lost new swept has_typed counts
-                  (same_keeps_to_numbers_too (is_counted_before value.next) (λ k. 0) world permits.task permit
-                  (world_of new)
-                  permits.given.called held.given (λ k. refl) is_named
+              held = swept_held value_changed held_first typed typed_is_world [] lost new swept has_typed counts
+                  (any_same_worlds_keep_to_numbers (is_counted_before value.next)
+                  (settled nat_eq (apply nat_eq (λ k. 0) world permits.task permit).world) (world_of new)
                   (subst (λ w. SameWorlds (settled nat_eq w) (world_of new)) (sym (leaves (λ k. 0))) same)
-                  (plain_with value held others));
+                  (permits_keep_to_numbers (is_counted_before value.next) (λ k. 0) world permits.task permit
+                  permits.given.called held.given (λ k. refl) is_named));
               becomes = becomes_so value name permit new permits.task permits.called
                   (subst (λ w. SameWorlds (settled nat_eq w) (world_of new)) (sym (leaves fresh)) same);
             }

@@ -35,12 +35,10 @@ use Rattle.vt_location.specs.Numbers.{counted}
 use Rattle.vt_mount.specs.Moving.{pivoted_entry}
 use Rattle.vt_mount.specs.MountsValue.{MountEntry, mounts_in}
 use Rattle.vt_tasks.specs.TasksValue.{Tasks}
-use Rattle.vt_world.specs.Held.{CountsItsMounts, CountsItsUses, CountsWhatIsInIt, IsHeld, IsMountedSoOften, writes_of}
+use Rattle.vt_world.specs.Held.{CountsItsMounts, CountsItsUses, CountsWhatIsInIt, IsHeld, writes_of}
 use Rattle.vt_world.specs.WorldValue.{WorldValue, world_of}
 use Rattle.vt_detach.specs.Events.{Permits}
 use Rattle.vt_detach.specs.Uses.{Kept, inode_of, kept, pinned_in, released_use, unpinned_in, with_location, with_use}
-use Rattle.vt_attach.proofs.GraftedDone.{base_overlays}
-use Rattle.vt_detach.proofs.BesideOverlays.{layers_alike}
 use Rattle.vt_detach.proofs.Bridging.{IsSwept}
 use Rattle.vt_detach.proofs.FileEvents.{permit_fits}
 use Rattle.vt_detach.proofs.Finishing.{CountsBeside, IsApplied, finished}
@@ -48,7 +46,7 @@ use Rattle.vt_detach.proofs.Grouped.{changed_has}
 use Rattle.vt_detach.proofs.LocationsSeen.{seen_where_located}
 use Rattle.vt_detach.proofs.MountsMoved.{mount_point_located}
 use Rattle.vt_detach.proofs.Moving.{Use, exchanged_shown, filesystems_moved, folded_entry, gain, held_counts, hold_if, inodes_of_uses, is_use_on, locations, lose, mounts_moved, moved_kept, release_if, released_counts, same_moved_mounts, writes_on_mount}
-use Rattle.vt_detach.proofs.Overlaid.{is_plain_one, keeps_itself, none_to_mount, none_to_ask, overlays_are, plain_ones_are, same_files_keep}
+use Rattle.vt_detach.proofs.Overlaid.{is_plain_one, keeps_itself, layers_kept, none_to_mount, overlays_counted, plain_ones_are, same_files_keep}
 use Rattle.vt_detach.proofs.Places.{located_is_named, standing}
 use Rattle.vt_detach.proofs.Remaining.{remade}
 use Rattle.vt_detach.proofs.Staying.{IsDone}
@@ -387,9 +385,10 @@ module _ (value : WorldValue) (whole : IsHeld value) (name : TaskName) (number :
             (sym (ap (λ (one : Shown). one.count) from.2))
             ∙ (λ i. (sym (kept_showing root new place (mounts_in value.mounts) (counted entry.count))
             ∙ ap (times (λ (mount : Mount ℕ). nat_eq (counted entry.count) mount.filesystem)) mounts_are) i
-            + sym (layers_alike before (world_of new_value)
-            (base_overlays value whole filesystems ∙ sym (overlays_are value whole.overlays)) (counted entry.count)) i);
-        overlays = none_to_ask (IsMountedSoOften (world_of new_value)) value whole;
+            + sym (layers_kept value new_value whole.overlays refl (counted entry.count)) i);
+        overlays = overlays_counted value new_value whole.overlays refl (λ number.
+            sym (ap (times (λ (mount : Mount ℕ). nat_eq number mount.filesystem)) mounts_are)
+            ∙ kept_showing root new place (mounts_in value.mounts) number);
         namespaces = all_from_among (CountsWhatIsInIt (world_of new_value)) value.namespaces (λ entry m.
             let was = among_from_all (CountsWhatIsInIt before) value.namespaces whole.namespaces entry m in
             record { tasks = was.tasks ∙ sym (inside_pivot before namespace root new place (counted entry.count) value.tasks) });

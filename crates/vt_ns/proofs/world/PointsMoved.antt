@@ -52,7 +52,7 @@ use Rattle.vt_detach.proofs.LostUses.{entry_found_at}
 use Rattle.vt_detach.proofs.MountsChanged.{times_map}
 use Rattle.vt_detach.proofs.MountsGone.{found_mapped}
 use Rattle.vt_detach.proofs.Moving.{map_itself}
-use Rattle.vt_detach.proofs.Overlaid.{keeps_itself, plain_ones_are, same_files_keep}
+use Rattle.vt_detach.proofs.Overlaid.{found_plain_one, keeps_itself, plain_ones_are, same_files_keep}
 use Rattle.vt_spec.proofs.Lists.{map_twice}
 use Rattle.vt_spec.proofs.Worlds.{shown-mapped}
 
@@ -171,8 +171,7 @@ module _ (value : WorldValue) (whole : IsHeld value) where
           ≡ true = (and_parts _ _ well).1 in
           sym (some_inode ((inodes_seen was).inode place.node))
           ∙ ap (λ (f : Filesystem ℕ). is_some (f.files.tree.node place.node))
-          (sym (found_filesystem world.filesystems whole.in_world.files.one_filesystem (filesystem_seen was)
-          (among-map filesystem_seen value.filesystems was m))
+          (sym (found_plain_one value whole was m)
           ∙ ap (filesystem_numbered nat_eq world) number)
           ∙ seen
       by place false e well = refl

@@ -13,16 +13,14 @@ use Rattle.vt_laws_letting_go.proofs.Lists.{Among, all_from_among, among_from_al
 use Rattle.vt_location.specs.Numbers.{counted}
 use Rattle.vt_mount.specs.MountsValue.{MountEntry}
 use Rattle.vt_tasks.specs.TasksValue.{Tasks}
-use Rattle.vt_world.specs.Held.{CountsItsMounts, CountsItsUses, CountsWhatIsInIt, IsHeld, IsMountedSoOften}
+use Rattle.vt_world.specs.Held.{CountsItsMounts, CountsItsUses, CountsWhatIsInIt, IsHeld}
 use Rattle.vt_detach.specs.Uses.{kept}
 use Rattle.vt_world.specs.WorldValue.{NamespaceEntry, WorldValue, namespace_of, world_of}
-use Rattle.vt_attach.proofs.GraftedDone.{base_overlays}
-use Rattle.vt_detach.proofs.BesideOverlays.{layers_alike}
 use Rattle.vt_detach.proofs.Bridging.{IsSwept}
 use Rattle.vt_detach.proofs.Finishing.{CountsBeside, IsApplied, finished}
 use Rattle.vt_detach.proofs.Grouped.{left_has}
 use Rattle.vt_detach.proofs.Moving.{Moves, Use, entry_counts, inodes_of_uses, moved_kept}
-use Rattle.vt_detach.proofs.Overlaid.{none_to_ask, overlays_are}
+use Rattle.vt_detach.proofs.Overlaid.{layers_kept, overlays_counted}
 use Rattle.vt_detach.proofs.Remaining.{entry_was, remade, remains_swept, same_mounts, shown_was}
 use Rattle.vt_detach.proofs.Staying.{IsDone, after}
 
@@ -78,9 +76,10 @@ module _ (value : WorldValue) (whole : IsHeld value) (tasks : Tasks) (more less 
         (sym (same_mounts value whole tasks more less moves mounts filesystems is_kept) i)
         + layer_count (world_of value) (counted (sym (ap (λ (one : Shown). one.count) from.2) i)))
         ∙ ap (λ n. mounts_showing (world_of new) (counted entry.count) + n)
-        (sym (layers_alike (world_of value) (world_of new)
-        (base_overlays value whole filesystems ∙ sym (overlays_are value whole.overlays)) (counted entry.count)));
-    overlays = none_to_ask (IsMountedSoOften (world_of new)) value whole;
+        (sym (layers_kept value new whole.overlays refl (counted entry.count)));
+    overlays = overlays_counted value new whole.overlays refl (λ number.
+        ap (times (λ (mount : Mount ℕ). nat_eq number mount.filesystem))
+        (same_mounts value whole tasks more less moves mounts filesystems is_kept));
     namespaces = all_from_among (CountsWhatIsInIt (world_of new)) namespaces
         (λ entry m. record { tasks = inside.counts entry m });
   }

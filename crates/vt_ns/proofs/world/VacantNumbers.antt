@@ -3,12 +3,12 @@ use Rattle.std.proofs.Common.{◌≡◌, refl, sym, ap, subst, ◌∙◌, inl, i
 use Rattle.std.specs.List.{list_all}
 use Rattle.std.proofs.lemmas.Bool.{and_parts}
 use Rattle.std.proofs.lemmas.List.Folds.{list_any-append}
-use Rattle.vt_spec.specs.Lists.{any_pair, is_among}
+use Rattle.vt_spec.specs.Lists.{is_among}
 use Rattle.vt_spec.specs.Machine.Mounts.{Propagation, source_of}
 use Rattle.vt_spec.specs.Machine.Mounts.Propagation.{Private, Shared, Slave, Unbindable}
 use Rattle.vt_spec.specs.Machine.Run.{used_by_filesystem, used_by_mount}
 use Rattle.vt_spec.specs.Machine.Mounts as meant
-use Rattle.vt_spec.specs.Machine.World.{Filesystem, Namespace, mount_at}
+use Rattle.vt_spec.specs.Machine.World.{Namespace, mount_at}
 use Rattle.vt_spec.specs.Inodes.{node_in}
 use Rattle.vt_fs.specs.FilesystemsValue.{FilesystemEntry, Filesystems, entry_at, entry_of, filesystems_seen, inodes_at, inodes_seen, next_seen, no_entry, numbers_seen}
 use Rattle.vt_laws_letting_go.proofs.Lists.{Among, among_from_all}
@@ -22,7 +22,7 @@ use Rattle.vt_world.specs.Held.{HasOwnInodes, IsHeld}
 use Rattle.vt_ns.specs.Vacancy.{IsVacant}
 use Rattle.vt_world.specs.WorldValue.{NamespaceEntry, WorldValue, namespace_of, world_of}
 use Rattle.vt_detach.proofs.FilesSeen.{one_entry}
-use Rattle.vt_detach.proofs.Overlaid.{only_plain_ones}
+use Rattle.vt_detach.proofs.Overlaid.{only_plain_ones, plain_ones_apart}
 use Rattle.vt_fs.proofs.Numbers.{inode_of_one, numbers_listed}
 use Rattle.vt_attach.proofs.NewFilesystems.{next_is_free}
 
@@ -97,9 +97,7 @@ module _ (count slot : ℕ) (small : slot < 18446744073709551616) where
         by true e =
             missing entry
             (ap (entry_of value.filesystems) (sym (eqb-true entry.count count e))
-            ∙ one_entry value.filesystems
-            (subst (λ list. any_pair (λ (a b : Filesystem ℕ). nat_eq a.number b.number) list ≡ false)
-            (only_plain_ones value whole) whole.in_world.files.one_filesystem) entry m)
+            ∙ one_entry value.filesystems (plain_ones_apart value whole) entry m)
         by false e = other (is_own_number entry.count number) refl e
 
     -- a number that is not counted yet is not in use
