@@ -54,3 +54,5 @@ pub mod Departing
 pub mod Exiting
 pub mod TreesInNamespaces
 pub mod Entered
+pub mod BesideOverlays
+pub mod FilesystemsLeft
