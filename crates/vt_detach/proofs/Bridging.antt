@@ -10,7 +10,7 @@ use Rattle.vt_laws_counts.specs.Counted.{IsCounted}
 use Rattle.vt_laws_counts.specs.Using.{AreThere, Exchanges, exchanged}
 use Rattle.vt_laws_counts.proofs.overlays.FilesystemUses.{no_upper_is_in_any}
 use Rattle.vt_laws_counts.proofs.using.Sweeps.{uses_are_swept_beside_overlays}
-use Rattle.vt_fs.specs.FilesystemsValue.{FilesystemEntry, inodes_seen}
+use Rattle.vt_fs.specs.FilesystemsValue.{FilesystemEntry, filesystem_seen, inodes_seen}
 use Rattle.vt_group.specs.Grouping.{Has}
 use Rattle.vt_laws_letting_go.specs.OneByOne.{Inode}
 use Rattle.vt_laws_letting_go.proofs.Lists.{Among, among_from_all}

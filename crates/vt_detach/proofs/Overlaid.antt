@@ -1,11 +1,12 @@
 -- The overlays of the code's world, and of worlds midway in an event, which leaves overlays as they are.
+use Rattle.std.proofs.lemmas.List.Elements.{All-nil}
 use Rattle.std.proofs.Common.{◌≡◌, refl, sym, ap, subst, ◌∙◌, inl, inr, ℕ, nat_eq, nat_lt, Bool, true, false, true≢false, eqb-true, cond, not, ◌&&◌, List, [], ◌∷◌, map, filter, find, Option, Some, None, is_some, unwrap_or, arith}
 use Rattle.std.specs.Prelude.{All}
 use Rattle.std.specs.List.{list_all}
 use Rattle.vt_spec.specs.Lists.{any_pair}
 use Rattle.vt_spec.specs.Machine.Locked.{of_overlay}
 use Rattle.vt_spec.specs.Machine.SameWorlds.{SameFilesystem, SameFilesystems}
-use Rattle.vt_spec.specs.Machine.Settled.{filesystem_lives, is_mounted, settled, without_dead_mounts}
+use Rattle.vt_spec.specs.Machine.Settled.{filesystem_lives, is_mounted, only_used, settled, used_in, without_dead_in, without_dead_mounts}
 use Rattle.vt_spec.specs.Machine.World.{Filesystem, World, filesystem_numbered, is_overlay, no_filesystem}
 use Rattle.vt_spec.specs.Machine.Invariants.{IsWorld}
 use Rattle.vt_laws_counts.specs.BesideOverlays.{OverlaysHaveNoUpper}
@@ -152,7 +153,7 @@ keeps_itself value holds = record { overlays = overlays_are value holds; rise = 
 
 -- the numbers of filesystems rise by themselves
 
-rise : List ℕ → Bool
+abbrev rise : List ℕ → Bool
 rise [] = true
 rise (first ∷ rest) = list_all (nat_lt first) rest && rise rest
 
@@ -184,6 +185,11 @@ same_files_rise before after same = same_numbers_rise before after (numbers_same
         λ i. sym same.0.number i ∷ numbers_same ones others same.1 i
 
 -- the sweep of inodes leaves the numbers of plain filesystems
+
+kind_left : (world : World ℕ) (b : Bool) (f : Filesystem ℕ) → is_overlay (only_used nat_eq world b f) ≡ is_overlay f
+kind_left world true f = overlay-left (used_in nat_eq world f) f _
+kind_left world false f = refl
+
 pub plain_numbers_left : (world : World ℕ)
     → map (λ (f : Filesystem ℕ). f.number) (filter is_plain_one (settled nat_eq world).filesystems)
     ≡ map (λ (f : Filesystem ℕ). f.number) (filter is_plain_one (in_use_of world).filesystems)
@@ -205,7 +211,10 @@ plain_numbers_left world =
         (kind first) ∙ by (is_overlay first) (both rest)
       where
         kind : (f : Filesystem ℕ) → is_overlay (swept f) ≡ is_overlay f
-        kind f = grind (arith, common_steps, overlay-left)
+        kind f =
+            kind_left (without_dead_in nat_eq is_overlay (in_use_of world)) (not (is_overlay (after_first world f)))
+            (after_first world f)
+            ∙ kind_left (in_use_of world) (is_overlay f) f
 
         by : (b : Bool)
             → map (λ (f : Filesystem ℕ). f.number)
@@ -296,6 +305,14 @@ swept_keeps old holds world keeps mounted = record {
         by false true e f later = absurd (true≢false (sym (all first (inl refl) f) ∙ e))
         by false false e f later = later
 
+-- as many layers are in each filesystem while the overlays stay
+pub as_many_layers : (world other : World ℕ)
+    → filter is_overlay other.filesystems ≡ filter is_overlay world.filesystems
+    → (number : ℕ) → layer_count other number ≡ layer_count world number
+as_many_layers world other stay number =
+    let same = overlays_use_filesystems world other [] [] [] (filter is_overlay world.filesystems) number refl stay in
+    omega (arith, same)
+
 -- another value of the world with the same overlays
 pub same_overlays : (old new : WorldValue) → HoldsOverlays old
     → overlays_seen new.overlays ≡ overlays_seen old.overlays
@@ -364,14 +381,6 @@ none_still old new held same = by new.overlays (same ∙ ap overlays_seen held.o
     by [] e = refl
     by (first ∷ rest) e = absurd cc
 
--- as many layers are in each filesystem while the overlays stay
-pub as_many_layers : (world other : World ℕ)
-    → filter is_overlay other.filesystems ≡ filter is_overlay world.filesystems
-    → (number : ℕ) → layer_count other number ≡ layer_count world number
-as_many_layers world other stay number =
-    let same = overlays_use_filesystems world other [] [] [] (filter is_overlay world.filesystems) number refl stay in
-    omega (arith, same)
-
 -- Nothing makes an overlay yet: what is not stated for overlays takes these.
 
 -- the filesystems of the code's world are those that are kept by their inodes
@@ -401,11 +410,11 @@ midway_is_plain old held world keeps =
 pub none_to_mount : (old : WorldValue) → IsHeld old → (world : World ℕ) → AreStillMounted old world
 none_to_mount old held world =
     subst (All (λ (overlay : Filesystem ℕ). is_mounted nat_eq world overlay.number ≡ true))
-    (sym (ap overlays_seen held.overlays.none_yet)) tt
+    (sym (ap overlays_seen held.overlays.none_yet)) (All-nil _)
 
 -- so whatever is asked of each overlay holds
 pub none_to_ask : (P : OverlayEntry → Type 0) (old : WorldValue) → IsHeld old → All P old.overlays
-none_to_ask P old held = subst (All P) (sym held.overlays.none_yet) tt
+none_to_ask P old held = subst (All P) (sym held.overlays.none_yet) (All-nil P)
 
 -- and the definitions find what is kept by its inodes
 pub found_as_kept : (value : WorldValue) → IsHeld value → (number : ℕ)
