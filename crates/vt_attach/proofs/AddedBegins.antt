@@ -349,6 +349,7 @@ module _ (value : WorldValue) (whole : IsHeld value) (added : List (Mount ℕ)) 
 
   begins_midway : Midway value ended gained goes [] ended k []
   begins_midway = record {
+    held = whole;
     mounts = ap (map (gone_if goes)) (sym keeps.mounts);
     uses = uses_are;
     writers = λ entry m. let counts = keeps.writers entry m in let same = is.writes entry.mount.number in omega

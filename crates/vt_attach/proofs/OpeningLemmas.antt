@@ -5,9 +5,10 @@ use Rattle.std.proofs.lemmas.List.Elements.{All-cons, All-nil}
 use Rattle.vt_spec.specs.declared.attributes.Attr.{Attr}
 use Rattle.vt_spec.specs.Language.Calls.{plain_flags}
 use Rattle.vt_spec.specs.Lists.{is_among}
+use Rattle.vt_spec.specs.Machine.Locked.{of_overlay}
 use Rattle.vt_spec.specs.Machine.Mounts.Propagation.{Private as IsPrivate}
 use Rattle.vt_spec.specs.Machine.World as meant
-use Rattle.vt_spec.specs.Machine.World.{Filesystem, World, first_mount, first_task, new_plain, opening, root_attr}
+use Rattle.vt_spec.specs.Machine.World.{Filesystem, World, first_mount, first_task, is_overlay, new_plain, opening, root_attr}
 use Rattle.vt_spec.specs.Machine.Invariants.{IsWorld}
 use Rattle.vt_spec.specs.Inodes.{Inodes, node_in, one_directory, pinned, tree_of, used_once_more}
 use Rattle.vt_spec.specs.Tree.{new_directory, tree_of_root}
@@ -20,6 +21,7 @@ use Rattle.vt_laws_rules.proofs.numbers.Supports.{opening_keeps_to_four}
 use Rattle.vt_group.specs.Grouping.{Grouping, Has, no_groups}
 use Rattle.vt_group.proofs.Showing.{opening_has_no_groups}
 use Rattle.vt_laws_letting_go.specs.Counts.{mounts_showing}
+use Rattle.vt_laws_letting_go.specs.Keeping.{has_only_named}
 use Rattle.vt_cred.specs.declared.mount_flags.MountFlags.{MountFlags}
 use Rattle.vt_location.specs.declared.births.Birth.TheVariants.{Here}
 use Rattle.vt_location.specs.declared.locations.NodeRef.{NodeRef}
@@ -236,8 +238,12 @@ module _ (entry : FilesystemEntry) (counts : entry.count ≡ 2)
         own_inodes = All-cons HasOwnInodes entry [] (own entry counts inodes) (All-nil _);
         overlays = record {
           merged = All-nil _;
-          read_only = All-cons _ (filesystem_seen entry) [] refl (All-nil _);
-          named = All-cons _ (filesystem_seen entry) [] (λ e. absurd (true≢false (sym e))) (All-nil _);
+          read_only = All-cons (λ (filesystem : Filesystem ℕ).
+              of_overlay false (λ overlay. is_some overlay.upper) filesystem ≡ false) (filesystem_seen entry) [] refl
+              (All-nil _);
+          named = All-cons (λ (filesystem : Filesystem ℕ). is_overlay filesystem ≡ true
+              → has_only_named filesystem ≡ true) (filesystem_seen entry) []
+              (λ e. absurd (true≢false (sym e))) (All-nil _);
           overlays_rise = refl;
           all_rise = refl;
           mounts = All-nil _;
