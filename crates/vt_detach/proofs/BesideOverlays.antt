@@ -8,7 +8,7 @@ use Rattle.std.proofs.lemmas.List.{append-nil}
 use Rattle.vt_spec.specs.Machine.Locked.{of_overlay, overlay_or}
 use Rattle.vt_spec.specs.Machine.Settled.{filesystem_lives, has_layer_on, is_mounted, without_dead_filesystems}
 use Rattle.vt_spec.specs.Machine.World.{Filesystem, Layer, Overlay, World, is_overlay, layers_of}
-use Rattle.std.proofs.lemmas.Bool.Decides.{nat_tests}
+use Rattle.vt_spec.proofs.Truths.{one_more_is_some}
 use Rattle.vt_laws_counts.specs.OverlaysStay.{HasNoLayerIn, layer_count}
 use Rattle.vt_laws_counts.proofs.overlays.Living.{layers_left_are_mounted, lives_while_counted, lives_while_mounted, overlays_are_mounted, overlays_use_filesystems}
 use Rattle.vt_laws_letting_go.specs.Counts.{mounts_showing, times}
@@ -19,8 +19,8 @@ use Rattle.vt_laws_overlays_stay.specs.Woven.{are_rising}
 use Rattle.vt_laws_overlays_stay.proofs.weaving.WovenLists.{woven_lists_are_passing}
 use Rattle.vt_fs.specs.FilesystemsValue.{filesystems_seen}
 use Rattle.vt_world.specs.Held.{HoldsOverlays, IsHeld}
-use Rattle.vt_world.specs.WorldValue.{OverlayEntry, WorldValue, overlays_seen, world_of}
-use Rattle.vt_detach.proofs.Overlaid.{AreStillMounted, KeepsOverlays, files_are_plain, is_plain_one, none_still, overlays_are}
+use Rattle.vt_world.specs.WorldValue.{WorldValue, overlays_seen, world_of}
+use Rattle.vt_detach.proofs.Overlaid.{AreStillMounted, KeepsOverlays, files_are_plain, is_plain_one, overlays_are}
 
 -- Counts
 
@@ -173,11 +173,6 @@ layers_of_value old new holds same world keeps number =
     })
     (ap are_rising same ∙ holds.overlays_rise)
     ∙ same ∙ sym keeps.overlays) number
-
--- By none_yet: whatever is asked of each of its overlays holds.
-pub none_to_ask_still : (P : OverlayEntry → Type 0) (old new : WorldValue) → IsHeld old
-    → overlays_seen new.overlays ≡ overlays_seen old.overlays → All P new.overlays
-none_to_ask_still P old new held same = subst (All P) (sym (none_still old new held same)) tt
 
 -- Lists of which overlays and the plain ones of some numbers stay
 

@@ -38,7 +38,7 @@ use Rattle.vt_laws_worlds.proofs.worlds.Roots.{directory_there}
 use Rattle.vt_world.specs.Held.{CountsItsMounts, CountsItsUses, CountsWhatIsInIt, IsHeld, IsMountedSoOften, writes_of}
 use Rattle.vt_detach.specs.Uses.{kept}
 use Rattle.vt_world.specs.WorldValue.{WorldValue, overlays_seen, world_of}
-use Rattle.vt_detach.proofs.BesideOverlays.{layers_of_value, none_to_ask_still}
+use Rattle.vt_detach.proofs.BesideOverlays.{layers_of_value}
 use Rattle.vt_detach.proofs.Bridging.{IsSwept}
 use Rattle.vt_detach.proofs.Detached.{IsDetaching}
 use Rattle.vt_detach.proofs.DetachingBegins.{HasChildrenOf, detached_world}
@@ -48,7 +48,7 @@ use Rattle.vt_detach.proofs.Grouped.{settled_has, stays_private}
 use Rattle.vt_detach.proofs.Keeping.{IsKeptBut, detached_in, no_more}
 use Rattle.vt_detach.proofs.LocationsSeen.{seen_where_located}
 use Rattle.vt_detach.proofs.Moving.{map_itself}
-use Rattle.vt_detach.proofs.Overlaid.{KeepsOverlays, keeps_itself, none_to_mount, plain_ones_are, same_files_keep}
+use Rattle.vt_detach.proofs.Overlaid.{KeepsOverlays, keeps_itself, none_still, none_to_mount, plain_ones_are, same_files_keep}
 use Rattle.vt_detach.proofs.Remaining.{remade}
 use Rattle.vt_detach.proofs.Staying.{IsDone}
 use Rattle.vt_detach.proofs.TypedEvents.{typed_done, typed_value}

@@ -24,14 +24,14 @@ use Rattle.vt_world.specs.Held.{CountsItsUses, CountsWhatIsInIt, IsHeld, IsMount
 use Rattle.vt_detach.specs.NamespacesLeft.{AreDetached, Detached}
 use Rattle.vt_detach.specs.Uses.{Kept, kept, without_attachment, without_use}
 use Rattle.vt_world.specs.WorldValue.{WorldValue, overlays_seen, world_of}
-use Rattle.vt_detach.proofs.BesideOverlays.{layers_of_value, lives_midway, none_to_ask_still, overlay_lives}
+use Rattle.vt_detach.proofs.BesideOverlays.{layers_of_value, lives_midway, overlay_lives}
 use Rattle.vt_detach.proofs.Bridging.{IsSwept}
 use Rattle.vt_detach.proofs.Finishing.{CountsBeside}
 use Rattle.vt_detach.proofs.Midway.{IsGoing, Midway, Reached, gone_if, left_alone, mount_taken, point_left, points_left, taken_alone, use_left}
 use Rattle.vt_detach.proofs.MidwayGoes.{mount_looked_at}
 use Rattle.vt_detach.proofs.Moving.{Use, inodes_of_uses}
 use Rattle.vt_detach.proofs.LostUses.{positive}
-use Rattle.vt_detach.proofs.Overlaid.{KeepsOverlays, is_plain_one, none_to_mount}
+use Rattle.vt_detach.proofs.Overlaid.{KeepsOverlays, is_plain_one, none_still, none_to_mount}
 use Rattle.vt_spec.proofs.Lists.{map_twice}
 use Rattle.vt_laws_letting_go.specs.TreesOverlays.{in_use_of}
 
