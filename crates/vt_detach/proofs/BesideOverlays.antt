@@ -27,7 +27,11 @@ use Rattle.vt_detach.proofs.Overlaid.{AreStillMounted, KeepsOverlays, files_are_
 -- one of two counts is some just if both together are
 pub some_of_both : (a b : ℕ) → (nat_lt 0 a || nat_lt 0 b) ≡ nat_lt 0 (a + b)
 some_of_both zero b = ap (nat_lt 0) (omega arith)
-some_of_both (suc a) b = one_more_is_some (a + b)
+some_of_both (suc a) b =
+    let one : suc a ≡ 1 + a = omega arith in
+    let more : 1 + (a + b) ≡ suc a + b = omega arith in
+    ap (λ first. first || nat_lt 0 b) (ap (nat_lt 0) one ∙ sym (one_more_is_some a))
+    ∙ one_more_is_some (a + b) ∙ ap (nat_lt 0) more
 
 -- a plain filesystem has no layers
 no_layer_of_plain : (number : ℕ) (f : Filesystem ℕ) → is_overlay f ≡ false → has_layer_on nat_eq number f ≡ false

@@ -1,5 +1,6 @@
 -- The begin in a world with its invariants, and the end: where all mounts of a list are detached, the sweep's world is
 -- left.
+use Rattle.std.proofs.lemmas.List.Elements.{All-nil}
 use Rattle.std.proofs.Common.{◌≡◌, refl, sym, ap, subst, ◌∙◌, inl, ℕ, ◌+◌, nat_eq, Bool, true, false, true≢false, cond, ◌&&◌, List, [], map, Option, Some, None, option_map, is_some}
 use Rattle.std.specs.Prelude.{All, option_to_list}
 use Rattle.std.specs.List.{list_all}
@@ -167,7 +168,7 @@ module _ (old : WorldValue) (after : World ℕ) (gained lost : List Inode) (new 
         ∙ (λ i. times (λ (mount : Mount ℕ). nat_eq (counted entry.count) mount.filesystem) (mounts_are i)
         + sym (layers_of_value old new is.held.overlays same_overlays (in_use_of after) is.keeps
         (counted entry.count)) i);
-    overlays = subst (All (IsMountedSoOften (world_of new))) (sym (none_still old new is.held same_overlays)) tt;
+    overlays = subst (All (IsMountedSoOften (world_of new))) (sym (none_still old new is.held same_overlays)) (All-nil _);
     namespaces = inside;
   }
 

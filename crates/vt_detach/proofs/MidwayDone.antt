@@ -1,4 +1,5 @@
 -- The steps by which tasks leave uses and namespaces, and the world after the last of them.
+use Rattle.std.proofs.lemmas.List.Elements.{All-nil}
 use Rattle.std.proofs.Common.{◌≡◌, refl, sym, ap, subst, ◌∙◌, ℕ, ◌+◌, nat_eq, Bool, true, false, true≢false, cond, not, ◌&&◌, ◌||◌, List, [], ◌∷◌, ◌++◌, map, filter, flat_map, Option, Some, is_some, arith}
 use Rattle.std.specs.Prelude.{All}
 use Rattle.std.proofs.lemmas.List.{append-nil}
@@ -214,6 +215,6 @@ module _ (value : WorldValue) (start : World ℕ) (gained : List Inode) (goes : 
         ∙ (λ i. Rattle.vt_laws_letting_go.specs.Counts.times
         (λ (x : Mount ℕ). nat_eq (counted entry.count) x.filesystem) (mounts_are i)
         + sym (layers_of_value value new mid.held.overlays same_overlays now mid.keeps (counted entry.count)) i);
-    overlays = subst (All (IsMountedSoOften (world_of new))) (sym (none_still value new mid.held same_overlays)) tt;
+    overlays = subst (All (IsMountedSoOften (world_of new))) (sym (none_still value new mid.held same_overlays)) (All-nil _);
     namespaces = namespaces;
   }
