@@ -33,7 +33,7 @@ use Rattle.vt_detach.specs.Events.{Permits, left_by}
 use Rattle.vt_world.specs.Held.{CountsWhatIsInIt, IsHeld}
 use Rattle.vt_detach.specs.NamespacesLeft.{MountsAreLeft, namespace_entry, numbers_inside, with_one_task_less}
 use Rattle.vt_detach.specs.Uses.{kept, with_attached}
-use Rattle.vt_world.specs.WorldValue.{NamespaceEntry, WorldValue, namespace_of, world_of}
+use Rattle.vt_world.specs.WorldValue.{NamespaceEntry, WorldValue, namespace_of, overlays_seen, world_of}
 use Rattle.vt_attach.proofs.AddedBegins as Begins
 use Rattle.vt_attach.proofs.AddedBegins.{IsAdded, KeepsAdded, with_added}
 use Rattle.vt_attach.proofs.GrownGroups.{ascending_rises}
@@ -143,7 +143,8 @@ module _ (value : WorldValue) (whole : IsHeld value) (name : TaskName) (permits 
       (kept new.mounts new.filesystems) new.groups)
       (namespaces_are : new.namespaces ≡ with_one_task_less count entries) (tasks_are : new.tasks ≡ tasks)
       (next_is : new.next ≡ value.next + 2 * length (attached_in task.namespace value.mounts))
-      (before : list_all (λ mount. nat_lt mount.number (counted value.next)) (mounts_in value.mounts) ≡ true) where
+      (before : list_all (λ mount. nat_lt mount.number (counted value.next)) (mounts_in value.mounts) ≡ true)
+      (overlays_are : overlays_seen new.overlays ≡ overlays_seen value.overlays) where
     abbrev ended : World ℕ
     ended = Begins.ended value whole added tasks come_to gone_from inside
         (Worlds.nowhere_stays value whole name task permits.called permits.given.serves count in_namespace)
@@ -207,7 +208,7 @@ module _ (value : WorldValue) (whole : IsHeld value) (name : TaskName) (permits 
     swept =
         reached_swept value ended (gained_by copies) goes
         (kept ended_is_left.entries new.filesystems) ended_is_left.reached ended_is_left.all_gone untyped refl
-        (sym tasks_are) refl
+        (sym tasks_are) overlays_are
         (same_files_keep value world ended refl (keeps_itself value whole.overlays))
         (ap (map (λ (n : Namespace ℕ). record n { change = 0 })) (ap (map namespace_of) (sym namespaces_are)))
 
@@ -215,7 +216,7 @@ module _ (value : WorldValue) (whole : IsHeld value) (name : TaskName) (permits 
     counts =
         reached_counted value ended (gained_by copies) goes
         (kept ended_is_left.entries new.filesystems) ended_is_left.reached ended_is_left.all_gone untyped refl
-        (sym tasks_are) refl
+        (sym tasks_are) overlays_are
         (subst (All (CountsWhatIsInIt (world_of untyped))) (sym namespaces_are)
         (left_counted count tasks entries
         (Worlds.entries_count value whole name task permits.called permits.given.serves count in_namespace)

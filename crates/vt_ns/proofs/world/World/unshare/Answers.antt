@@ -116,6 +116,7 @@ done c =
       next = ap (λ n. c.self.inside.next + 2 * n)
           (as_many c.attached_in.result.now
           (attached_in (counted own.namespace.count) c.self.inside.mounts) c.attached_in.ensures.are);
+      overlays = refl;
     })
 
 pub invariant_of-self-2 : goal.invariant_of-self-2
