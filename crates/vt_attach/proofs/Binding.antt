@@ -14,13 +14,13 @@ use Rattle.vt_spec.specs.Machine.World.{World, mount_at}
 use Rattle.vt_spec.specs.Machine.Invariants.{is_located_well}
 use Rattle.vt_laws_counts.specs.Counted.{IsCounted}
 use Rattle.vt_laws_counts.proofs.using.MountRoots as Roots
-use Rattle.vt_fs.specs.FilesystemsValue.{Filesystems, filesystem_seen, inodes_seen}
+use Rattle.vt_fs.specs.FilesystemsValue.{Filesystems, inodes_seen}
 use Rattle.vt_group.specs.Grouping.{Grouping, HasGroup}
 use Rattle.vt_group.specs.Together.{new_group}
 use Rattle.vt_laws_rules.specs.Numbers.{KeepsTo}
 use Rattle.vt_laws_letting_go.proofs.mounting.AttachedSwept.{binds_keep_all}
-use Rattle.vt_laws_letting_go.proofs.Lists.{Among, among-map, among_from_all, any_passes}
-use Rattle.vt_laws_letting_go.proofs.sweeps.OfWorlds.{found_filesystem, mounts_of_worlds_stand, worlds_have_trees}
+use Rattle.vt_laws_letting_go.proofs.Lists.{Among, among_from_all, any_passes}
+use Rattle.vt_laws_letting_go.proofs.sweeps.OfWorlds.{mounts_of_worlds_stand, worlds_have_trees}
 use Rattle.vt_laws_letting_go.proofs.leaving.PlacesLeft.{found_is_there}
 use Rattle.vt_location.specs.declared.locations.Location.{Location}
 use Rattle.vt_location.specs.Locations.{location_of}

@@ -3,7 +3,7 @@ use Rattle.std.proofs.Common.{◌≡◌, refl, sym, ap, subst, ◌∙◌, inl, i
 use Rattle.std.specs.Prelude.{All, filter, filter_map, flat_map, option_to_list, unwrap_or}
 use Rattle.std.specs.List.{cons_option, list_all}
 use Rattle.std.specs.Map.{lookup}
-use Rattle.std.proofs.lemmas.Bool.{and_parts, ltb-true, ne_eqb}
+use Rattle.std.proofs.lemmas.Bool.{and_parts, ne_eqb}
 use Rattle.std.proofs.lemmas.List.{map-append}
 use Rattle.std.proofs.lemmas.List.Folds.{list_all-append}
 use Rattle.vt_laws_counts.specs.Using.{AreThere, Exchanges, is_inode, is_on, places_of}
@@ -299,7 +299,8 @@ module _ (value : WorldValue) (base : Filesystems) (master : ℕ → Option ℕ)
 
     left_shown : (point : Location) → Among point left
         → (mount_at nat_eq middle (location_of point)).filesystem ≡ counted point.node.filesystem.count
-    left_shown point m = point_shown middle base own (only_these value whole base) point (passes is_small left left_small point m)
+    left_shown point m =
+        point_shown middle base own (only_these value whole base) point (passes is_small left left_small point m)
         (left_directory point m)
 
     left_inode : (point : Location) → Among point left → inode_at come (location_of point) ≡ inode_of point.node
@@ -351,7 +352,8 @@ module _ (value : WorldValue) (base : Filesystems) (master : ℕ → Option ℕ)
     -- each copy is found in the world that is left
     copies_found : (mount : Mount) → Among mount copies → IsFoundIn after mount
     copies_found = new_found after is_world
-        (map (changed_at points kinds) (mounts_in value.mounts)) copies refl slots base (only_these value whole base) own
+        (map (changed_at points kinds) (mounts_in value.mounts)) copies refl slots base
+        (only_these value whole base) own
 
     found_come : (mount : Mount) → Among mount copies → IsFoundIn come mount
     found_come mount m = record {
@@ -415,7 +417,8 @@ module _ (value : WorldValue) (base : Filesystems) (master : ℕ → Option ℕ)
         || is_some ((inodes_seen entry).inode inode.1))
         (inodes_of_points taken) (gained_by copies)
         ∙ (λ i. taken_there i && new_uses_there after is_world
-        (map (changed_at points kinds) (mounts_in value.mounts)) copies refl slots base (only_these value whole base) own entry m i)
+        (map (changed_at points kinds) (mounts_in value.mounts)) copies refl slots base
+        (only_these value whole base) own entry m i)
       where
         taken_there : list_all (λ (inode : Inode). not (nat_eq (counted entry.count) inode.0)
             || is_some ((inodes_seen entry).inode inode.1)) (inodes_of_points taken) ≡ true
@@ -423,7 +426,8 @@ module _ (value : WorldValue) (base : Filesystems) (master : ℕ → Option ℕ)
             all_pass (λ (inode : Inode). not (nat_eq (counted entry.count) inode.0)
             || is_some ((inodes_seen entry).inode inode.1)) (inodes_of_points taken) (λ inode n.
             let from = among-from_map (λ (point : Location). inode_of point.node) taken inode n in
-            let shown = point_shown after base own (only_these value whole base) from.0 (passes is_small taken taken_small from.0 from.1)
+            let shown = point_shown after base own (only_these value whole base) from.0
+            (passes is_small taken taken_small from.0 from.1)
             (taken_directory from.0 from.1) in
             ap (λ (one : Inode). not (nat_eq (counted entry.count) one.0)
             || is_some ((inodes_seen entry).inode one.1)) from.2

@@ -31,7 +31,7 @@ use Rattle.vt_fs.specs.FilesystemsValue.{FilesystemEntry, Filesystems, IsNew, fi
 use Rattle.vt_laws_letting_go.specs.Counts.{mounts_showing}
 use Rattle.vt_laws_letting_go.specs.InUse.{HasTrees, InodesInUse, is_inode_used}
 use Rattle.vt_laws_letting_go.proofs.mounting.AttachedSwept.{new_mounts_of_trees_keep_all}
-use Rattle.vt_laws_letting_go.proofs.Lists.{Among, all_from_among, all_pass, among-append, among-append_left, among-append_right, among-filter_map, among-from_filter, among-from_filter_map, among-from_map, among-map, among_from_all, among_numbers, filter_alike, passes}
+use Rattle.vt_laws_letting_go.proofs.Lists.{Among, all_from_among, all_pass, among-append, among-append_left, among-append_right, among-filter_map, among-from_filter, among-from_filter_map, among-from_map, among_from_all, among_numbers, filter_alike, passes}
 use Rattle.vt_laws_letting_go.proofs.sweeps.OfWorlds.{found_filesystem, mounts_of_worlds_stand, worlds_have_trees}
 use Rattle.vt_laws_letting_go.proofs.leaving.PlacesLeft.{found_itself}
 use Rattle.vt_laws_overlays_stay.specs.Woven.{are_rising}

@@ -11,7 +11,7 @@ use Rattle.vt_spec.specs.Inodes.{Inodes}
 use Rattle.vt_laws_counts.specs.Using.{root_counted}
 use Rattle.vt_fs.specs.FilesystemsValue.{FilesystemEntry, Filesystems, IsNew, entry_of, filesystem_seen, inodes_seen, without}
 use Rattle.vt_laws_rules.proofs.numbers.Supports.{used_numbers_are_named}
-use Rattle.vt_laws_letting_go.proofs.Lists.{Among, all_from_among, among-append, among-append_left, among-append_right, among-flat_map, among-map, among_from_all, filter_here, filter_skip, is_among_numbers}
+use Rattle.vt_laws_letting_go.proofs.Lists.{Among, all_from_among, among-append, among-append_left, among-append_right, among-flat_map, among_from_all, filter_here, filter_skip, is_among_numbers}
 use Rattle.vt_location.specs.Numbers.{counted, inode_number, is_own_number}
 use Rattle.vt_location.proofs.NumberLemmas.{is_own}
 use Rattle.vt_laws_runs.specs.Handed.{is_counted_before}

@@ -8,7 +8,7 @@ use Rattle.vt_spec.specs.Lists.{is_among}
 use Rattle.vt_spec.specs.Machine.Locked.{of_overlay}
 use Rattle.vt_spec.specs.Machine.Mounts.Propagation.{Private as IsPrivate}
 use Rattle.vt_spec.specs.Machine.World as meant
-use Rattle.vt_spec.specs.Machine.World.{Filesystem, World, first_mount, first_task, is_overlay, new_plain, opening, root_attr}
+use Rattle.vt_spec.specs.Machine.World.{Filesystem, first_mount, first_task, is_overlay, new_plain, opening, root_attr}
 use Rattle.vt_spec.specs.Machine.Invariants.{IsWorld}
 use Rattle.vt_spec.specs.Inodes.{Inodes, node_in, one_directory, pinned, tree_of, used_once_more}
 use Rattle.vt_spec.specs.Tree.{new_directory, tree_of_root}
@@ -260,13 +260,29 @@ module _ (mounts : List MountEntry) (groups : Grouping) (filesystems : Filesyste
     (filesystems_are : shown filesystems ≡ first_shown 2)
     (namespaces_are : namespaces ≡ first_namespace_entries) (tasks_are : tasks ≡ first_tasks) where
   abbrev made : WorldValue
-  made = record { mounts = mounts; groups = groups; filesystems = filesystems; overlays = []; namespaces = namespaces; tasks = tasks; next = 3 }
+  made = record {
+    mounts = mounts;
+    groups = groups;
+    filesystems = filesystems;
+    overlays = [];
+    namespaces = namespaces;
+    tasks = tasks;
+    next = 3;
+  }
 
   abbrev first : IsFirst filesystems
   first = is_first filesystems filesystems_are
 
   is_made : made ≡ first_value first.entry
-  is_made = λ i. record { mounts = mounts_are i; groups = groups_are i; filesystems = first.alone i; overlays = []; namespaces = namespaces_are i; tasks = tasks_are i; next = 3 }
+  is_made = λ i. record {
+    mounts = mounts_are i;
+    groups = groups_are i;
+    filesystems = first.alone i;
+    overlays = [];
+    namespaces = namespaces_are i;
+    tasks = tasks_are i;
+    next = 3;
+  }
 
   pub opening_held : IsHeld made
   opening_held = subst IsHeld (sym is_made) (first_held first.entry first.counts first.inodes first.mounts)

@@ -1,5 +1,5 @@
 -- A kernel's world is that of its events but for its change number, so a call ends alike in both.
-use Rattle.std.proofs.Common.{◌≡◌, refl, sym, ap, subst, ◌∙◌, ℕ, nat_eq, List, Result, Ok, Err, ◌⊎◌, inl, inr}
+use Rattle.std.proofs.Common.{◌≡◌, refl, sym, ap, subst, ◌∙◌, ℕ, nat_eq, List, Result, Ok, Err, inl, inr}
 use Rattle.std.specs.Prelude.{OnErr}
 use Rattle.vt_spec.specs.declared.errors.Deny.{Deny}
 use Rattle.vt_spec.specs.Language.Calls.{Call, TaskName}
@@ -23,7 +23,7 @@ use Rattle.vt_laws_runs.specs.Answered.{AreAlike}
 use Rattle.vt_laws_runs.specs.Handed.{may_be_given}
 use Rattle.vt_laws_runs.specs.Runs.{ServesInHand}
 use Rattle.vt_world.specs.Held.{IsHeld}
-use Rattle.vt_world.specs.WorldValue.{WorldValue, world_of}
+use Rattle.vt_world.specs.WorldValue.{world_of}
 use Rattle.vt_answers.specs.Ends as any
 use Rattle.vt_answers.specs.Ends.{MayBeRefusedMemory}
 use Rattle.vt_calls.proofs.Finishing.{same_but_for_changes}

@@ -1,5 +1,5 @@
 -- What code finds in what is kept of a world is what the definitions see of its value.
-use Rattle.std.proofs.Common.{◌≡◌, refl, sym, ap, subst, ◌∙◌, ℕ, ◌<◌, nat_eq, Bool, true, false, cond, is_some, not, ◌&&◌, ◌||◌, List, [], ◌∷◌, zero, suc, length, Option, Some, None, filter, flat_map, map, option_map, unwrap_or}
+use Rattle.std.proofs.Common.{◌≡◌, refl, sym, ap, subst, ◌∙◌, ℕ, ◌<◌, nat_eq, Bool, true, false, cond, is_some, not, ◌&&◌, ◌||◌, List, [], ◌∷◌, zero, suc, length, Option, Some, None, flat_map, map, option_map, unwrap_or}
 use Rattle.std.specs.Prelude.{find, option_to_list}
 use Rattle.std.specs.List.{list_any}
 use Rattle.vt_spec.specs.Language.Changes.{Change}
@@ -15,7 +15,7 @@ use Rattle.vt_spec.specs.Machine.Rightful.{mounter_allows}
 use Rattle.vt_spec.specs.Machine.Rules.Conditions.{has_no_upper, is_overlay_at}
 use Rattle.vt_spec.specs.Machine.Walking.{is_lost}
 use Rattle.vt_spec.specs.Machine.Mounts.{child_at, no_mount, root_of, same_location, stands_on}
-use Rattle.vt_spec.specs.Machine.World.{Filesystem, filesystem_at, filesystem_numbered, is_overlay, is_removed_at, layers_of, mount_at, mount_numbered, node_at, open_layer}
+use Rattle.vt_spec.specs.Machine.World.{Filesystem, filesystem_at, filesystem_numbered, is_removed_at, layers_of, mount_at, mount_numbered, node_at, open_layer}
 use Rattle.vt_location.specs.declared.locations.Location.{Location}
 use Rattle.vt_location.specs.declared.births.Birth.TheVariants.{Here}
 use Rattle.vt_location.specs.declared.locations.NodeRef.{NodeRef}
@@ -27,7 +27,7 @@ use Rattle.vt_location.proofs.NumberLemmas.{counted_test}
 use Rattle.vt_looks.specs.declared.look.Ground.{Ground}
 use Rattle.vt_looks.specs.Looking.{IsGround, is_only_below}
 use Rattle.vt_fs.proofs.Entries.{or_first, or_second}
-use Rattle.vt_fs.specs.FilesystemsValue.{Filesystems, files_at, filesystems_seen}
+use Rattle.vt_fs.specs.FilesystemsValue.{files_at}
 use Rattle.vt_fs.specs.Laws.{is_lost_under}
 use Rattle.vt_fs.proofs.Numbers.{found_by_number}
 use Rattle.vt_mount.specs.MountsValue.{mounts_in, stands_over}
@@ -247,7 +247,8 @@ module _ (value : WorldValue) (held : IsHeld value) (at : meant.Location ℕ) wh
   unlocked = ap (λ all.
       list_any (lies_or_counts_under nat_eq (world_of value)
       (mount_at nat_eq (world_of value) at).filesystem at.node)
-      (flat_map (of_overlay [] layers_of) all)) (overlays_are value held.overlays ∙ ap overlays_seen held.overlays.none_yet)
+      (flat_map (of_overlay [] layers_of) all))
+      (overlays_are value held.overlays ∙ ap overlays_seen held.overlays.none_yet)
 
   pub no_lower_directory : (name : List ℕ) → has_lower_directory_at nat_eq (world_of value) at name ≡ false
   no_lower_directory name = ap (overlay_or false (λ overlay. has_lower_directory

@@ -109,7 +109,8 @@ module _ (value : WorldValue) (held : IsHeld value) where
       holds_at (λ filesystem. LieUnderRoot filesystem.files) value.filesystems
       (all_from_among (λ (filesystem : Filesystem ℕ). LieUnderRoot filesystem.files)
       (filesystems_seen value.filesystems)
-      (λ filesystem m. lie_under_root filesystem.files (file_tree filesystem (seen_one_among value held.overlays.merged filesystem m))))
+      (λ filesystem m. lie_under_root filesystem.files
+      (file_tree filesystem (seen_one_among value held.overlays.merged filesystem m))))
       count (lie_nowhere count)
 
 -- Up from a directory by parents

@@ -96,7 +96,8 @@ module _ (value : WorldValue) (held : IsHeld value) (name : TaskName) (parent : 
   change_fits inodes same =
       given_changes_fit world (supply_of value permit) permits.task permit (location_of parent)
       change inodes held.in_world (world_is_plain value held) permits.given refl
-      (ap tree_of same ∙ ap (λ filesystem. filesystem.files.tree) (sym (located_filesystem value held parent parent_seen)))
+      (ap tree_of same
+      ∙ ap (λ filesystem. filesystem.files.tree) (sym (located_filesystem value held parent parent_seen)))
 
   -- where no mount stands on it
   pub alone_is_removed : gone ≡ [] → (filesystems : Filesystems)

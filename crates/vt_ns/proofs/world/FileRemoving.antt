@@ -86,7 +86,8 @@ module _ (value : WorldValue) (held : IsHeld value) (name : TaskName) (parent : 
   change_fits inodes same =
       given_changes_fit (world_of value) (supply_of value permit) permits.task permit (location_of parent)
       change inodes held.in_world (world_is_plain value held) permits.given refl
-      (ap tree_of same ∙ ap (λ filesystem. filesystem.files.tree) (sym (located_filesystem value held parent parent_seen)))
+      (ap tree_of same
+      ∙ ap (λ filesystem. filesystem.files.tree) (sym (located_filesystem value held parent parent_seen)))
 
   -- it can be removed
   pub removal_fits : Fits (inodes_at value.filesystems parent.node.filesystem.count) change

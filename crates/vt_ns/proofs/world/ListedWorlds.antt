@@ -23,7 +23,8 @@ named_once value held count =
     (filesystems_seen value.filesystems)
     (λ filesystem m.
     (among_from_all (λ (x : Filesystem ℕ). IsTree x.files.tree)
-    (world_of value).filesystems held.in_world.files.trees filesystem (seen_one_among value held.overlays.merged filesystem m)).one_name))
+    (world_of value).filesystems held.in_world.files.trees filesystem
+    (seen_one_among value held.overlays.merged filesystem m)).one_name))
     count
     (λ directory name other object first second is. absurd (true≢false (sym (ap is_some first))))
 

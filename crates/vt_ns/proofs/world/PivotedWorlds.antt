@@ -1,5 +1,5 @@
 -- The root mount changes, and roots and working directories go along: pivot_root(2).
-use Rattle.std.proofs.Common.{◌≡◌, ◌<◌, refl, sym, ap, subst, ◌∙◌, ⊎_elim, inl, inr, ℕ, ◌+◌, ◌-◌, zero, suc, nat_eq, Bool, true, false, ◌||◌, ◌&&◌, List, [], ◌∷◌, ◌++◌, map, filter, Option, Some, is_some, arith}
+use Rattle.std.proofs.Common.{◌≡◌, ◌<◌, refl, sym, ap, subst, ◌∙◌, ⊎_elim, ℕ, ◌+◌, ◌-◌, zero, suc, nat_eq, true, false, ◌||◌, ◌&&◌, List, [], ◌∷◌, ◌++◌, map, filter, Some, is_some, arith}
 use Rattle.std.specs.Prelude.{option_to_list, replicate}
 use Rattle.std.specs.List.{list_any}
 use Rattle.std.proofs.lemmas.Bool.{and_parts}
@@ -9,10 +9,10 @@ use Rattle.vt_spec.specs.Machine.Mounts.{Location, Mount, root_of}
 use Rattle.vt_spec.specs.Machine.Namespaces.{pivoted_task}
 use Rattle.vt_spec.specs.Machine.Permits.Permit.{ToPivot}
 use Rattle.vt_spec.specs.Machine.Settled.{filesystem_lives, has_layer_on, is_mounted, mount_lives, settled, without_dead_filesystems, without_dead_mounts}
-use Rattle.vt_spec.specs.Machine.World.{Filesystem, Task, World, filesystem_numbered, mount_at, mount_numbered, with_mounts}
+use Rattle.vt_spec.specs.Machine.World.{Filesystem, World, filesystem_numbered, mount_at, mount_numbered, with_mounts}
 use Rattle.vt_spec.specs.Machine.Invariants.{has_its_root, is_located_well}
 use Rattle.vt_spec.proofs.Lists.{map_alike, map_twice}
-use Rattle.vt_laws_counts.specs.Using.{AreThere, Exchanges, exchanged, pinned_if, unpinned_if}
+use Rattle.vt_laws_counts.specs.Using.{AreThere, Exchanges, pinned_if, unpinned_if}
 use Rattle.vt_laws_counts.specs.OverlaysStay.{layer_count}
 use Rattle.vt_fs.specs.FilesystemsValue.{FilesystemEntry, Filesystems, Shown, filesystem_seen, filesystems_seen, inodes_seen, shown, shown_entry}
 use Rattle.vt_group.specs.Grouping.{Has}
@@ -34,18 +34,17 @@ use Rattle.vt_location.specs.Locations.{location_of, number_of}
 use Rattle.vt_location.specs.Numbers.{counted}
 use Rattle.vt_mount.specs.Moving.{pivoted_entry}
 use Rattle.vt_mount.specs.MountsValue.{MountEntry, mounts_in}
-use Rattle.vt_tasks.specs.TasksValue.{Tasks}
 use Rattle.vt_world.specs.Held.{CountsItsMounts, CountsItsUses, CountsWhatIsInIt, IsHeld, writes_of}
 use Rattle.vt_world.specs.WorldValue.{WorldValue, world_of}
 use Rattle.vt_detach.specs.Events.{Permits}
-use Rattle.vt_detach.specs.Uses.{Kept, inode_of, kept, pinned_in, released_use, unpinned_in, with_location, with_use}
+use Rattle.vt_detach.specs.Uses.{Kept, inode_of, kept, pinned_in, released_use, unpinned_in, with_use}
 use Rattle.vt_detach.proofs.Bridging.{IsSwept}
 use Rattle.vt_detach.proofs.FileEvents.{permit_fits}
 use Rattle.vt_detach.proofs.Finishing.{CountsBeside, IsApplied, finished}
 use Rattle.vt_detach.proofs.Grouped.{changed_has}
 use Rattle.vt_detach.proofs.LocationsSeen.{seen_where_located}
 use Rattle.vt_detach.proofs.MountsMoved.{mount_point_located}
-use Rattle.vt_detach.proofs.Moving.{Use, exchanged_shown, filesystems_moved, folded_entry, gain, held_counts, hold_if, inodes_of_uses, is_use_on, locations, lose, mounts_moved, moved_kept, release_if, released_counts, same_moved_mounts, writes_on_mount}
+use Rattle.vt_detach.proofs.Moving.{Use, exchanged_shown, filesystems_moved, folded_entry, gain, held_counts, hold_if, inodes_of_uses, is_use_on, locations, lose, mounts_moved, moved_kept, released_counts, same_moved_mounts, writes_on_mount}
 use Rattle.vt_detach.proofs.Overlaid.{is_plain_one, keeps_itself, layers_kept, overlays_counted, plain_ones_are, same_files_keep, still_mounted}
 use Rattle.vt_detach.proofs.Places.{located_is_named, standing}
 use Rattle.vt_detach.proofs.Remaining.{remade}

@@ -4,7 +4,7 @@ use Rattle.std.specs.Map.{lookup}
 use Rattle.std.specs.Option.{option_and_then}
 use Rattle.std.specs.Prelude.{option_to_list}
 use Rattle.std.specs.List.{list_all}
-use Rattle.std.proofs.lemmas.Bool.{and_parts, ltb-true}
+use Rattle.std.proofs.lemmas.Bool.{and_parts}
 use Rattle.std.proofs.lemmas.List.{append-nil}
 use Rattle.std.proofs.lemmas.Option.{same_Some}
 use Rattle.vt_spec.specs.Lists.{is_among, or_else}
@@ -41,7 +41,6 @@ use Rattle.vt_attach.proofs.PointsCounted.{points_count}
 use Rattle.vt_world.specs.Held.{CountsItsMounts, CountsItsUses, IsHeld}
 use Rattle.vt_detach.specs.Uses.{Kept, kept}
 use Rattle.vt_world.specs.WorldValue.{WorldValue, world_of}
-use Rattle.vt_laws_letting_go.proofs.sweeps.OfWorlds.{found_filesystem}
 use Rattle.vt_detach.proofs.BesideOverlays.{lives_alike}
 use Rattle.vt_detach.proofs.DetachingBegins.{pair_mapped}
 use Rattle.vt_detach.proofs.DetachingEnds.{point_located}
