@@ -1,6 +1,6 @@
 -- Layers as they are counted.
-use Rattle.std.proofs.Common.{◌≡◌, ◌≤◌, ◌<◌, ◌+◌, ◌-◌, ◌∙◌, ◌∷◌, ◌↔◌, [], arith, ap, Bool, cond, eq-eqb, eqb-true, false, filter, find, get_or, IsErr, length, List, map, nat_eq, ne_eqb, None, not, OnOk, option_map, Option, refl, Some, subst, suc, sym, take, true, unwrap_or, ℕ}
-use Rattle.std.specs.Prelude.{All, Err, Ok, Result}
+use Rattle.std.proofs.Common.{◌≡◌, ◌≤◌, ◌<◌, ◌+◌, ◌-◌, ◌∙◌, ◌∷◌, ◌↔◌, [], arith, ap, Bool, cond, eq-eqb, eqb-true, false, filter, find, get_or, IsErr, length, List, map, nat_eq, ne_eqb, None, not, OnOk, option_map, Option, refl, Some, subst, sym, take, true, unwrap_or, ℕ}
+use Rattle.std.specs.Prelude.{Err, Ok, Result}
 use Rattle.std.proofs.lemmas.List.{length-take-le, take_more}
 use Rattle.vt_spec.proofs.Lists.{folded-snoc}
 use Rattle.vt_spec.specs.Inodes.{Inode, Inodes, pinned, unpinned, used_once_more, uses_in}
@@ -289,11 +289,11 @@ room_at layers old new index default within room counted =
     let taken = length-take-le index layers in
     subst (λ all. HasRoomFor 1 all here) (sym counted) (record {
       uses = (let most = had.uses in
-      let more = layers_uses here.directory.filesystem.count (inode_of here.directory) (take index layers) old in
-      omega (arith, most, more, within, taken));
+          let more = layers_uses here.directory.filesystem.count (inode_of here.directory) (take index layers) old in
+          omega (arith, most, more, within, taken));
       mounts = (let most = had.mounts in
-      let more = layers_mounts here.directory.filesystem.count (take index layers) old in
-      omega (arith, most, more, within, taken));
+          let more = layers_mounts here.directory.filesystem.count (take index layers) old in
+          omega (arith, most, more, within, taken));
     })
 
 -- One layer more where there is room

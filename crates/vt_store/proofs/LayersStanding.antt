@@ -1,5 +1,5 @@
 -- Overlays that stand on layers.
-use Rattle.std.proofs.Common.{◌≡◌, ◌≤◌, ◌<◌, ◌∙◌, ◌∷◌, ◌&&◌, [], arith, ap, Bool, eqb-true, false, find, length, List, map, nat_eq, None, not, Option, refl, Some, subst, suc, sym, true, true≢false, unwrap_or, zero, ℕ}
+use Rattle.std.proofs.Common.{◌≡◌, ◌<◌, ◌∙◌, ◌∷◌, ◌&&◌, [], arith, ap, Bool, eqb-true, false, find, length, List, map, nat_eq, None, not, Option, refl, Some, subst, suc, sym, true, true≢false, unwrap_or, zero, ℕ}
 use Rattle.std.specs.Prelude.{All, is_some, nat_le, slice_get}
 use Rattle.std.specs.List.{list_all}
 use Rattle.std.proofs.lemmas.Bool.{and_parts, leb-true}
@@ -18,7 +18,7 @@ use Rattle.vt_spec.specs.Tree.{Tree, is_directory_node}
 use Rattle.vt_spec.specs.TreeInvariant.{IsDirectory, IsTree}
 use Rattle.vt_location.specs.Locations.{inode_of}
 use Rattle.vt_location.specs.Numbers.{counted, is_inode_of}
-use Rattle.vt_fs.specs.FilesystemsValue.{FilesystemEntry, Filesystems, entry_at, entry_of, files_at, filesystem_seen, inodes_at, inodes_seen, no_entry}
+use Rattle.vt_fs.specs.FilesystemsValue.{FilesystemEntry, Filesystems, entry_of, inodes_at, inodes_seen, no_entry}
 use Rattle.vt_merge.specs.declared.layers.LayerRef.{LayerRef}
 use Rattle.vt_overlay.specs.MergedTree.{AreLayers, IsLayer, OverlayValue, layer_seen}
 use Rattle.vt_store.specs.Laws.{HasOwnNumbers, IsSameTree, OverlaysStandStill, WorldsStandOnLayers}

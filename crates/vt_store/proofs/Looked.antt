@@ -1,11 +1,14 @@
 -- What is found in a filesystem of a store, through an overlay or in a plain tree.
-use Rattle.std.proofs.Common.{◌≡◌, ◌∙◌, ◌<◌, ◌≤◌, ap, Bool, false, length, None, option_map, Option, refl, Some, subst, sym, true, ℕ}
+use Rattle.std.proofs.Common.{◌≡◌, ◌∙◌, ◌<◌, ◌≤◌, ap, Bool, false, length, None, option_map, Option, refl, Some, subst, sym, true, true≢false, ℕ}
+use Rattle.std.specs.Prelude.{IfSome, IsSome}
 use Rattle.std.proofs.lemmas.Option.{same_Some}
 use Rattle.vt_spec.proofs.Lists.{among_from_all}
 use Rattle.vt_spec.proofs.Options.{none_is_some}
 use Rattle.vt_spec.specs.FileTree.{FileTree}
 use Rattle.vt_spec.specs.Lists.{when}
 use Rattle.vt_spec.specs.Tree.{Node, is_directory_node, parent_in}
+use Rattle.vt_location.specs.declared.locations.NodeRef.{NodeRef}
+use Rattle.vt_location.specs.Locations.{number_of}
 use Rattle.vt_fs.specs.FilesystemsValue.{Filesystems, files_at, node_seen}
 use Rattle.vt_overlay.specs.Alike.{real_lent}
 use Rattle.vt_overlay.specs.MergedTree.{AreLayers, OverlayValue, merged_files, merged_tree}
@@ -75,3 +78,9 @@ module _ (store : StoreValue) (plain : Filesystems) (same : plain ≡ store.plai
     pub plain_seen : (number : ℕ)
         → option_map (node_seen count) ((files_in store count).tree.node number) ≡ lent_in store count number
     plain_seen number = ap (option_map (node_seen count)) (sym (plain_node number)) ∙ plain_lent number
+
+-- a root that is there, by its number
+pub root_there : (root : Option NodeRef) (number : ℕ) → IsSome root → IfSome root (λ one. number_of one ≡ number)
+    → option_map number_of root ≡ Some number
+root_there None number some is = absurd (true≢false (sym some))
+root_there (Some root) number some is = ap Some is

@@ -1,5 +1,5 @@
 -- What an overlay shows depends on its layers alone.
-use Rattle.std.proofs.Common.{◌≡◌, ◌∙◌, ◌+◌, ◌++◌, ◌∷◌, [], ap, false, length, List, nat_eq, None, option_map, Option, refl, Some, sym, unwrap_or, ℕ}
+use Rattle.std.proofs.Common.{◌≡◌, ◌∙◌, ◌+◌, ◌++◌, ◌∷◌, [], ap, false, List, nat_eq, None, option_map, Option, refl, Some, sym, unwrap_or, ℕ}
 use Rattle.std.specs.Prelude.{All, filter_map, find, if◌then◌else◌, slice_get}
 use Rattle.std.proofs.lemmas.List.Elements.{All-head, All-tail}
 use Rattle.vt_spec.specs.FileTree.{FileTree}

@@ -1,5 +1,5 @@
 -- Plain filesystems and overlays, found by their numbers.
-use Rattle.std.proofs.Common.{◌≡◌, ◌∙◌, ◌∷◌, ◌⊎◌, [], arith, ap, Bool, Bor, cond, eqb-true, false, List, ltb-true, map, inl, inr, nat_eq, nat_lt, None, option_map, Option, refl, Some, sym, true, ℕ}
+use Rattle.std.proofs.Common.{◌≡◌, ◌∙◌, ◌∷◌, ◌⊎◌, [], arith, ap, Bool, Bor, cond, eqb-true, false, List, ltb-true, inl, inr, nat_eq, nat_lt, None, option_map, Option, refl, Some, sym, true, ℕ}
 use Rattle.std.specs.List.{find}
 use Rattle.std.specs.Prelude.{is_some, option_copied, unwrap_or}
 use Rattle.std.proofs.lemmas.Option.{same_Some}

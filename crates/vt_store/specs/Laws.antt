@@ -1,5 +1,5 @@
 -- Laws of stores.
-use Rattle.std.specs.Prelude.{All, None, false, length, nat_eq, nat_lt, Some, true, ℕ, [], ◌++◌, ◌∷◌, ◌≡◌}
+use Rattle.std.specs.Prelude.{All, None, false, length, nat_eq, nat_lt, true, ℕ, [], ◌++◌, ◌∷◌, ◌≡◌}
 use Rattle.std.specs.List.{list_all}
 use Rattle.vt_spec.specs.Machine.Invariants.{IsWorld}
 use Rattle.vt_spec.specs.Machine.World.{World}

@@ -1,5 +1,5 @@
 -- What the layers of an overlay are counted as. Each is a use of its directory, and a mount of its filesystem.
-use Rattle.std.specs.Prelude.{All, List, Some, [], filter, find, if◌then◌else◌, map, nat_eq, not, option_map, unwrap_or, ℕ, ◌+◌, ◌-◌, ◌≡◌, ◌≤◌}
+use Rattle.std.specs.Prelude.{All, List, [], filter, find, if◌then◌else◌, map, nat_eq, not, option_map, unwrap_or, ℕ, ◌+◌, ◌-◌, ◌≤◌}
 use Rattle.vt_spec.specs.Inodes.{pinned, unpinned, uses_in}
 use Rattle.vt_spec.specs.Lists.{folded}
 use Rattle.vt_spec.specs.Rights.{Credentials}

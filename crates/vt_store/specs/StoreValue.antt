@@ -1,5 +1,5 @@
 -- What contracts see of all filesystems, and what the definitions see of them.
-use Rattle.std.specs.Prelude.{All, List, None, Option, Some, [], find, if◌then◌else◌, length, nat_eq, nat_lt, option_map, ℕ, ◌<◌, ◌∷◌, ◌≡◌, ◌≤◌}
+use Rattle.std.specs.Prelude.{All, List, None, Option, Some, [], find, if◌then◌else◌, length, nat_eq, nat_lt, option_map, ℕ, ◌<◌, ◌∷◌, ◌≤◌}
 use Rattle.vt_spec.specs.FileTree.{FileTree}
 use Rattle.vt_spec.specs.Machine.World.{Filesystem, Overlay, World, filesystem_numbered}
 use Rattle.vt_spec.specs.Tree.{Node}

@@ -58,7 +58,12 @@ impl Overlays {
     }
 
     /// Puts in the overlay of these layers, which no mount shows yet.
-    pub fn add(&mut self, id: FilesystemId, lowers: Vec<LayerRef>, mounter: Cred) -> Result<(), AllocError>
+    pub fn add(
+        &mut self,
+        id: FilesystemId,
+        lowers: Vec<LayerRef>,
+        mounter: Cred,
+    ) -> Result<(), AllocError>
         requires { list_all (λ entry. nat_lt entry.count id.count) self.old ≡ true }
         ensures ok { OnOk result (self.new ≡ self.old ++ new_overlay id lowers.items mounter ∷ []) }
         ensures err { OnErr result (self.new ≡ self.old) }

@@ -43,12 +43,12 @@ impl Store {
             ≡ path_down nat_eq (files_in self.now directory.filesystem.count)
             (files_in self.now directory.filesystem.count).tree.root (number_of directory)) }
     {
-        if !self.is_overlay(directory.filesystem) {
-            return self.plain.path_from_root(alloc, directory);
-        }
-        match self.root(directory.filesystem) {
-            Some(root) => self.path_down(alloc, root, directory),
-            None => Ok(None),
+        match self.overlay(directory.filesystem) {
+            Some(overlay) => {
+                let root = overlay.root().unwrap();
+                overlay.path_down(alloc, &self.plain, root, directory)
+            }
+            None => self.plain.path_from_root(alloc, directory),
         }
     }
 }

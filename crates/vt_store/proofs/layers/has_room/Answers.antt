@@ -1,4 +1,4 @@
-use Rattle.std.proofs.Common.{ap, arith, true≢false, sym, ◌∙◌}
+use Rattle.std.proofs.Common.{ap, arith, ◌∙◌}
 use Rattle.std.proofs.lemmas.Bool.{le-leb, leb-true}
 use Rattle.vt_location.specs.declared.locations.NodeRef.{NodeRef}
 use Rattle.vt_store.proofs.LayersCounted.{IsAt, layer_used, mounts_are_shown}

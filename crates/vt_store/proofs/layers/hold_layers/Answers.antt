@@ -1,4 +1,3 @@
-use Rattle.std.proofs.Common.{arith}
 use Rattle.vt_fs.specs.FilesystemsValue.{shown}
 use Rattle.vt_store.specs.LayersHeld.{with_layer}
 use Rattle.vt_store.proofs.LayersCounted.{folded-take, room_at}

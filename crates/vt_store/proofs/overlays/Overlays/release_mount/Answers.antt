@@ -1,7 +1,7 @@
-use Rattle.std.proofs.Common.{◌-◌, ap, arith, refl, subst, sym, ◌∙◌}
+use Rattle.std.proofs.Common.{◌-◌, ap, refl, subst, sym, ◌∙◌}
 use Rattle.std.specs.Option.{option_copied_mut}
 use Rattle.vt_store.specs.OverlaysValue.{AreOwn, kept_overlays}
-use Rattle.vt_store.proofs.KeptOverlays.{mounts_below, own_written, writes, writes_none}
+use Rattle.vt_store.proofs.KeptOverlays.{own_written, writes, writes_none}
 use Rattle.vt_store.proofs.overlays.Overlays.release_mount.Goals.{in-Some, in_default}
 use Rattle.vt_store.proofs.overlays.Overlays.release_mount.Goals as goal
 
