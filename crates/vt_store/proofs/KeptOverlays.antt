@@ -136,7 +136,8 @@ pub mounts-kept : (f : ℕ) (es : List (FilesystemId × KeptOverlay)) (all : Ove
     ≡ option_map (λ (entry : OverlayEntry). entry.mounts) (entry_kept all f)
 mounts-kept f es all o view is =
     ap (option_map (λ (one : KeptOverlay). one.mounts)) is ∙ both (lookup (is_key f) es)
-    ∙ ap (option_map (λ (entry : OverlayEntry). entry.mounts)) (sym (entry_kept-kept f es) ∙ ap (λ l. entry_kept l f) view)
+    ∙ ap (option_map (λ (entry : OverlayEntry). entry.mounts))
+    (sym (entry_kept-kept f es) ∙ ap (λ l. entry_kept l f) view)
   where
     both : (o : Option KeptOverlay) → option_map (λ (one : KeptOverlay). one.mounts) o
         ≡ option_map (λ (entry : OverlayEntry). entry.mounts) (option_map (of_count f) o)

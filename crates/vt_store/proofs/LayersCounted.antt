@@ -222,7 +222,8 @@ module _ (layer : LayerRef) where
       → uses_shown count number (with_layer all layer) ≤ uses_shown count number all + 1
   layer_uses all count number =
       let mounts = grows count (mounts_changed_if home (λ mounts. mounts + 1)) mounted_count
-      (λ one. uses_in (one.inodes.inode number)) 0 (λ one. keeps one (nat_eq home one.count)) (shown_with home pins all) in
+      (λ one. uses_in (one.inodes.inode number)) 0 (λ one. keeps one (nat_eq home one.count))
+      (shown_with home pins all) in
       let uses = grows count (shown_if home pins) pinned_count (λ one. uses_in (one.inodes.inode number)) 1
       (λ one. pinned_one one (nat_eq home one.count)) all in
       omega (arith, mounts, uses)

@@ -83,7 +83,8 @@ length-layers (layer ∷ layers) = ap suc (length-layers layers)
 module _ (store : StoreValue) (world : World ℕ) (whole : IsWorld nat_eq world)
     (is : world.filesystems ≡ filesystems_of store) (own : All HasOwnNumbers store.plain) where
   found_so : (count : ℕ)
-      → find (λ (one : Filesystem ℕ). nat_eq (counted count) one.number) world.filesystems ≡ filesystem_found store count
+      → find (λ (one : Filesystem ℕ). nat_eq (counted count) one.number) world.filesystems
+      ≡ filesystem_found store count
   found_so count = ap (find (λ (one : Filesystem ℕ). nat_eq (counted count) one.number)) is
 
   numbered_so : (count : ℕ) → filesystem_numbered nat_eq world (counted count) ≡ filesystem_in store count
@@ -98,7 +99,8 @@ module _ (store : StoreValue) (world : World ℕ) (whole : IsWorld nat_eq world)
       by (Some entry) s =
           let same = eqb-true count entry.count
           (found_passes (λ (one : FilesystemEntry). nat_eq count one.count) store.plain entry s) in
-          among_from_all HasOwnNumbers store.plain own entry (found_among (λ (one : FilesystemEntry). nat_eq count one.count)
+          among_from_all HasOwnNumbers store.plain own entry
+          (found_among (λ (one : FilesystemEntry). nat_eq count one.count)
           store.plain entry s) number (ap (λ n. is_inode_of n number) (sym same) ∙ e)
 
   -- a layer is a directory of a plain tree
@@ -125,7 +127,8 @@ module _ (store : StoreValue) (world : World ℕ) (whole : IsWorld nat_eq world)
           → overlay_in store layer.directory.filesystem.count ≡ None
       no_overlay None s e = s
       no_overlay (Some overlay) s e =
-          absurd (true≢false (sym e ∙ ap not (sym (is_overlay_in store layer.directory.filesystem.count) ∙ ap is_some s)))
+          absurd (true≢false (sym e
+          ∙ ap not (sym (is_overlay_in store layer.directory.filesystem.count) ∙ ap is_some s)))
 
       tree_of_found : (count : ℕ) (o : Option (Filesystem ℕ))
           → find (λ (one : Filesystem ℕ). nat_eq (counted count) one.number) world.filesystems ≡ o

@@ -25,7 +25,8 @@ module _ (store : StoreValue) (count : ℕ) where
       by None e = none_is_some mounts (sym e)
       by (Some entry) e = sym (same_Some entry.mounts mounts (sym e))
 
-  pub mounts_plain : None ≡ mounts_of (entry_in store count) → (entry_at store.plain count).mounts ≡ mounts_in store count
+  pub mounts_plain : None ≡ mounts_of (entry_in store count)
+      → (entry_at store.plain count).mounts ≡ mounts_in store count
   mounts_plain e = by (entry_in store count) e
     where
       by : (o : Option OverlayEntry) → None ≡ mounts_of o
@@ -53,7 +54,9 @@ module _ (store : StoreValue) (count : ℕ) where
   changed_plain change e = by (entry_in store count) e
     where
       by : (o : Option OverlayEntry) → None ≡ mounts_of o
-          → record store { plain = with_changed count (λ entry. record entry { mounts = change entry.mounts }) store.plain }
+          → record store {
+            plain = with_changed count (λ entry. record entry { mounts = change entry.mounts }) store.plain;
+          }
           ≡ with_mounts_by count change store o
       by None e = refl
       by (Some entry) e = none_is_some entry.mounts e

@@ -46,7 +46,8 @@ module _ (layers : List (OpenLayer ℕ)) (numbered : Real ℕ → ℕ) (most : �
   files_in = record {
     tree = record {
       root = unwrap_or (number_in []) 0;
-      node = λ number. inode_found (find (λ path. holds_of (nat_eq number) (number_in path)) (paths_from most layers []));
+      node = λ number. inode_found
+          (find (λ path. holds_of (nat_eq number) (number_in path)) (paths_from most layers []));
     };
     numbers = filter_map number_in (paths_from most layers []);
   }
@@ -107,7 +108,8 @@ module _ (old new : Filesystems) where
   layer_alike : (layer : LayerRef) → IsSameLayer old new layer → layer_of new layer ≡ layer_of old layer
   layer_alike layer same = λ i. record { tree = same.tree i; directory = inode_of layer.directory }
 
-  layers_alike : (layers : List LayerRef) → All (IsSameLayer old new) layers → layers_of new layers ≡ layers_of old layers
+  layers_alike : (layers : List LayerRef) → All (IsSameLayer old new) layers
+      → layers_of new layers ≡ layers_of old layers
   layers_alike [] all = refl
   layers_alike (layer ∷ layers) all =
       λ i. layer_alike layer (All-head (IsSameLayer old new) layer layers all) i

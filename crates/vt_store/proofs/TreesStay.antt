@@ -69,7 +69,8 @@ layer_alike count layer all =
     (each_alike count (shown_if (home layer) (pins layer)) (pinned_count layer)
     (λ one. pinned_one one (nat_eq (home layer) one.count)) all)
   where
-    mounted : (one : Shown) (b : Bool) → AreAlike (cond b (record one { mounts = one.mounts + 1 }) one).inodes one.inodes
+    mounted : (one : Shown) (b : Bool)
+        → AreAlike (cond b (record one { mounts = one.mounts + 1 }) one).inodes one.inodes
     mounted one true = alike_same one.inodes
     mounted one false = alike_same one.inodes
 

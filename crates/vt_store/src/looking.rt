@@ -27,8 +27,8 @@ impl Store {
         }
     }
 
-    /// The real object of a node: owner, group, mode, kind and content are the node's. Entries, parent and emptiness are
-    /// `entry`, `parent` and `is_nonempty`. It does not allocate.
+    /// The real object of a node: owner, group, mode, kind and content are the node's. Entries, parent and emptiness
+    /// are `entry`, `parent` and `is_nonempty`. It does not allocate.
     pub fn object(&self, node: NodeRef) -> Option<&Node>
         requires { StandOnLayers self.now }
         ensures { option_copied result ≡ lent_in self.now node.filesystem.count (number_of node) }
@@ -98,8 +98,9 @@ impl Store {
         }
     }
 
-    /// Whether a directory other than the root has no name, as after rmdir(2) of a directory in use. What is no directory
-    /// counts as removed. Directories must be named in their parents, as for `is_under`. It does not allocate.
+    /// Whether a directory other than the root has no name, as after rmdir(2) of a directory in use. What is no
+    /// directory counts as removed. Directories must be named in their parents, as for `is_under`. It does not
+    /// allocate.
     pub fn is_removed(&self, directory: NodeRef) -> bool
         requires standing { StandOnLayers self.now }
         requires named { ParentsAreNamed (files_in self.now directory.filesystem.count).tree }
@@ -115,8 +116,8 @@ impl Store {
     /// Whether `..` of a directory leads nowhere on a mount with this root: the directory is removed, or does not lie
     /// under the root.
     ///
-    /// A directory that is not removed must lie under the root of its filesystem, and directories must be named in their
-    /// parents, as in every tree of a world. It does not allocate.
+    /// A directory that is not removed must lie under the root of its filesystem, and directories must be named in
+    /// their parents, as in every tree of a world. It does not allocate.
     pub fn is_lost(&self, root: NodeRef, directory: NodeRef) -> bool
         requires standing { StandOnLayers self.now }
         requires named { ParentsAreNamed (files_in self.now root.filesystem.count).tree }

@@ -11,8 +11,8 @@ use std::alloc::AllocError;
 use vt_location::NodeRef;
 
 impl Store {
-    /// Counts one more use of an inode of a plain tree, as open(2) does: an inode in use is kept. A node of an overlay is
-    /// left as it is. It does not allocate.
+    /// Counts one more use of an inode of a plain tree, as open(2) does: an inode in use is kept. A node of an overlay
+    /// is left as it is. It does not allocate.
     ///
     /// An error says that the inode has 2^64 - 1 uses.
     pub fn pin(&mut self, node: NodeRef) -> Result<(), AllocError>

@@ -22,8 +22,8 @@ returns c =
     elim c.match-get_mut.branch [
       | in-Some w ↦
           ap (λ inside. kept_overlays inside.by_number.entries) w.self-inside-is
-          ∙ writes c.args.id.count (λ one. record one { mounts = one.mounts + 1 }) _ c.self.inside.by_number _ c.args.self.now
-          w.in-Some.found.now _ c.self.view_is
+          ∙ writes c.args.id.count (λ one. record one { mounts = one.mounts + 1 }) _ c.self.inside.by_number _
+          c.args.self.now w.in-Some.found.now _ c.self.view_is
           (sym c.get_mut.ensures.value ∙ ap option_copied_mut w.in-Some.is) refl (λ k one. refl)
           (c.get_mut.follows.holds _)
       | in_default w ↦

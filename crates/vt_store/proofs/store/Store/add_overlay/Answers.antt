@@ -10,7 +10,8 @@ use Rattle.vt_store.proofs.store.Store.add_overlay.Goals as goal
 
 pub unwrap-overlay-requires : goal.unwrap-overlay-requires
 unwrap-overlay-requires c =
-    some_is_lent (new_overlay c.args.filesystem c.args.lowers.items c.args.mounter) c.self.inside.overlays c.add.new.self
+    some_is_lent (new_overlay c.args.filesystem c.args.lowers.items c.args.mounter) c.self.inside.overlays
+    c.add.new.self
     (ap (λ (store : StoreValue). list_all (λ (other : OverlayEntry). nat_lt other.count c.args.filesystem.count)
     store.overlays) c.self.view_is ∙ c.requires.above)
     c.in_ok-add.ensures.ok c.get.result c.get.ensures.value
@@ -20,7 +21,8 @@ hold_layers-requires c =
     let yes : c.has_room_for.result ≡ true = search rules in
     subst (λ layers. HaveRoomFor (length layers) (shown c.self.inside.plain) layers)
     (c.as_slice.ensures.value ∙ sym (c.lowers.ensures
-    ∙ its_layers (new_overlay c.args.filesystem c.args.lowers.items c.args.mounter) c.self.inside.overlays c.add.new.self
+    ∙ its_layers (new_overlay c.args.filesystem c.args.lowers.items c.args.mounter) c.self.inside.overlays
+    c.add.new.self
     (ap (λ (store : StoreValue). list_all (λ (other : OverlayEntry). nat_lt other.count c.args.filesystem.count)
     store.overlays) c.self.view_is ∙ c.requires.above)
     c.in_ok-add.ensures.ok c.get.result c.get.ensures.value c.unwrap-overlay.result c.unwrap-overlay.ensures))
@@ -30,7 +32,8 @@ pub returns-clause-held : goal.returns-clause-held
 returns-clause-held c =
     c.hold_layers.ensures
     ∙ ap (λ layers. with_layers layers (shown c.self.inside.plain)) (c.lowers.ensures
-    ∙ its_layers (new_overlay c.args.filesystem c.args.lowers.items c.args.mounter) c.self.inside.overlays c.add.new.self
+    ∙ its_layers (new_overlay c.args.filesystem c.args.lowers.items c.args.mounter) c.self.inside.overlays
+    c.add.new.self
     (ap (λ (store : StoreValue). list_all (λ (other : OverlayEntry). nat_lt other.count c.args.filesystem.count)
     store.overlays) c.self.view_is ∙ c.requires.above)
     c.in_ok-add.ensures.ok c.get.result c.get.ensures.value c.unwrap-overlay.result c.unwrap-overlay.ensures)

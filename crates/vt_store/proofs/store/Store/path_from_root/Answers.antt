@@ -39,7 +39,8 @@ returns-in-Some c =
       ok = subst (λ (files : FileTree ℕ). IfOk c.path_down.result
           (λ path. option_map (λ names. map (λ name. name.items) names.items) path
           ≡ path_down nat_eq files files.tree.root (number_of c.args.directory)))
-          (over_files c.args.self.now c.self.inside.plain same c.args.directory.filesystem.count c.in-Some.overlay.now is)
+          (over_files c.args.self.now c.self.inside.plain same c.args.directory.filesystem.count c.in-Some.overlay.now
+          is)
           (subst (λ (number : ℕ). IfOk c.path_down.result
           (λ path. option_map (λ names. map (λ name. name.items) names.items) path
           ≡ path_down nat_eq (merged_files c.self.inside.plain c.in-Some.overlay.now) number
