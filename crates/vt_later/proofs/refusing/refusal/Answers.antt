@@ -3,7 +3,7 @@ use Rattle.vt_spec.specs.Machine.Judge.{judge}
 use Rattle.vt_location.specs.Numbers.{namespace_number}
 use Rattle.vt_request.specs.Requests.{call_of}
 use Rattle.vt_tasks.specs.TaskValue.{task_of}
-use Rattle.vt_later.specs.Lenience.{lenient_looks, lenient_overfills, lenient_task, refused_by}
+use Rattle.vt_later.specs.Lenience.{lenient_looks, lenient_overfills, refused_by}
 use Rattle.vt_later.proofs.Refused.{refused_by-denied}
 use Rattle.vt_later.proofs.refusing.refusal.Goals as goal
 
