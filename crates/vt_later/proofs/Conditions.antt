@@ -8,12 +8,12 @@ use Rattle.vt_spec.specs.Lists.{holds_of}
 use Rattle.vt_spec.specs.Machine.Looks.{Looks, mount_at}
 use Rattle.vt_spec.specs.Machine.Mounts.{Location}
 use Rattle.vt_spec.specs.Machine.Rightful.{node_allows}
-use Rattle.vt_spec.specs.Machine.Rules.Conditions.{is_elsewhere, is_kept, is_mount_point_anywhere, is_mount_point_in, is_read_only, lacks, may_not}
+use Rattle.vt_spec.specs.Machine.Rules.Conditions.{is_kept, is_mount_point_anywhere, is_mount_point_in, is_read_only, lacks, may_not}
 use Rattle.vt_spec.specs.Machine.World.{Task}
 use Rattle.vt_spec.specs.Tree.{Node}
 use Rattle.vt_spec.specs.Rights.{cap_dac_override, cap_dac_read_search, cap_fowner, cap_sys_admin, has_all}
 use Rattle.vt_later.specs.declared.passed.Passed.{Passed}
-use Rattle.vt_later.specs.Lenience.{added, admin_added, lenient_flags, lenient_looks, lenient_mounts_on, lenient_namespace, lenient_task, override_added}
+use Rattle.vt_later.specs.Lenience.{added, admin_added, lenient_flags, lenient_looks, lenient_mounts_on, lenient_task, override_added}
 
 -- a capability that is not among those which are added is held as before
 pub held_apart : (held more wanted : ℕ) → bit_and more wanted ≡ 0 → has_all (bit_or held more) wanted ≡ has_all held wanted
@@ -48,7 +48,7 @@ added-override false false _ = refl
 
 module _ (passed : Passed) (looks : Looks ℕ) (task : Task ℕ) where
   abbrev pub shown : Looks ℕ
-  shown = lenient_looks passed task.namespace looks
+  shown = lenient_looks passed looks
 
   abbrev pub caller : Task ℕ
   caller = lenient_task passed task
@@ -61,13 +61,6 @@ module _ (passed : Passed) (looks : Looks ℕ) (task : Task ℕ) where
   pub noexec_kept : (at : Location ℕ) → passed.flags ≡ false
       → (mount_at shown at).flags.noexec ≡ (mount_at looks at).flags.noexec
   noexec_kept at stays = ap (λ b. (lenient_flags b (mount_at looks at).flags).noexec) stays
-
-  -- M2
-  pub elsewhere_kept : (at : Location ℕ) → passed.namespaces ≡ false
-      → is_elsewhere nat_eq shown caller at ≡ is_elsewhere nat_eq looks task at
-  elsewhere_kept at stays =
-      ap (λ b. not (holds_of (nat_eq task.namespace)
-      (lenient_namespace b task.namespace (mount_at looks at).namespace))) stays
 
   -- C1
   pub right_kept : (at : Location ℕ) (wanted : ℕ) → passed.rights ≡ false

@@ -1,4 +1,5 @@
--- The tables of rules over a world and a caller that let rules pass: every other rule fails as before.
+-- The tables of rules over a world and a caller that let rules pass: every other rule fails as before. A table without
+-- a rule that can be let pass is not here.
 use Rattle.std.proofs.Common.{◌≡◌, Bool, List, [], ap, false, nat_eq, not, refl, true, ℕ, ◌&&◌, ◌∷◌}
 use Rattle.vt_spec.specs.declared.attributes.Attr.{Attr}
 use Rattle.vt_spec.specs.declared.errors.Rule.{Rule}
@@ -12,7 +13,7 @@ use Rattle.vt_spec.specs.Machine.Rules.Attributes.{attr_rules, opaque_rules}
 use Rattle.vt_spec.specs.Machine.Rules.Descriptors.{access_rights, copy_rules, is_copied_up, open_rules}
 use Rattle.vt_spec.specs.Machine.Rules.Looking.{exec_rules, list_rules, read_rules}
 use Rattle.vt_spec.specs.Machine.Rules.Making.{hard_link_rules, make_rules, rewrite_rules, whiteout_rules}
-use Rattle.vt_spec.specs.Machine.Rules.Mounting.{admin_rules, bind_rules, lazy_rules, move_rules, new_mount_rules, pivot_rules, remount_rules, type_rules, umount_rules}
+use Rattle.vt_spec.specs.Machine.Rules.Mounting.{admin_rules, bind_rules, move_rules, new_mount_rules, remount_rules, umount_rules}
 use Rattle.vt_spec.specs.Machine.Rules.Removing.{changes_parent, moving, removing, rename_rules, rmdir_rules, same_object_rules, unlink_rules}
 use Rattle.vt_spec.specs.Machine.Rules.Tasks.{enter_rules}
 use Rattle.vt_spec.specs.Machine.Walking.{Place}
@@ -20,7 +21,7 @@ use Rattle.vt_spec.specs.Machine.World.{Task}
 use Rattle.vt_spec.specs.Rights.{execute_right, read_right, write_right}
 use Rattle.vt_later.specs.declared.passed.Passed.{Passed}
 use Rattle.vt_later.specs.Passing.{SameBut}
-use Rattle.vt_later.proofs.Conditions.{admin_kept, caller, elsewhere_kept, noexec_kept, point_in_kept, point_kept, read_only_kept, replaced_kept, replaced_point_kept, right_kept, shown, sticky_kept}
+use Rattle.vt_later.proofs.Conditions.{admin_kept, caller, noexec_kept, point_in_kept, point_kept, read_only_kept, replaced_kept, replaced_point_kept, right_kept, shown, sticky_kept}
 
 -- a row of the same rule
 row : {fails rest : Type 0} {rule : Rule} → fails → rest → (rule ≡ rule) × fails × rest
@@ -185,14 +186,14 @@ pub new_mount_rules-kept : (passed : Passed) (looks : Looks ℕ) (task : Task �
     (new_mount_rules nat_eq (shown passed looks task) (caller passed looks task) at (not passed.numbers && overfull))
     (new_mount_rules nat_eq looks task at overfull)
 new_mount_rules-kept passed looks task at overfull =
-    row (elsewhere_kept passed looks task at) (row (λ stays. ap (λ b. not b && overfull) stays) tt)
+    row (λ _. refl) (row (λ stays. ap (λ b. not b && overfull) stays) tt)
 
 pub bind_rules-kept : (passed : Passed) (looks : Looks ℕ) (task : Task ℕ) (source at : Location ℕ) (overfull : Bool)
     → SameBut passed
     (bind_rules nat_eq (shown passed looks task) (caller passed looks task) source at (not passed.numbers && overfull))
     (bind_rules nat_eq looks task source at overfull)
 bind_rules-kept passed looks task source at overfull =
-    row (λ stays. cc (elsewhere_kept passed looks task source stays, elsewhere_kept passed looks task at stays))
+    row (λ _. refl)
     (row (λ _. refl) (row (λ stays. ap (λ b. not b && overfull) stays) tt))
 
 pub move_rules-kept : (passed : Passed) (looks : Looks ℕ) (task : Task ℕ) (source at : Location ℕ) (overfull : Bool)
@@ -200,7 +201,7 @@ pub move_rules-kept : (passed : Passed) (looks : Looks ℕ) (task : Task ℕ) (s
     (move_rules nat_eq (shown passed looks task) (caller passed looks task) source at (not passed.numbers && overfull))
     (move_rules nat_eq looks task source at overfull)
 move_rules-kept passed looks task source at overfull =
-    row (λ stays. cc (elsewhere_kept passed looks task source stays, elsewhere_kept passed looks task at stays))
+    row (λ _. refl)
     (row (λ _. refl) (row (λ _. refl) (row (λ _. refl) (row (λ _. refl)
     (row (λ stays. ap (λ b. not b && overfull) stays) (row (λ _. refl) tt))))))
 
@@ -208,35 +209,12 @@ pub umount_rules-kept : (passed : Passed) (looks : Looks ℕ) (task : Task ℕ) 
     → SameBut passed (umount_rules nat_eq (shown passed looks task) (caller passed looks task) at)
     (umount_rules nat_eq looks task at)
 umount_rules-kept passed looks task at =
-    row (elsewhere_kept passed looks task at) (row (λ _. refl)
+    row (λ _. refl) (row (λ _. refl)
     (row (λ stays. ap (λ b. not b && looks.is_busy at.mount) stays) (row (λ _. refl) tt)))
-
-pub lazy_rules-kept : (passed : Passed) (looks : Looks ℕ) (task : Task ℕ) (at : Location ℕ)
-    → SameBut passed (lazy_rules nat_eq (shown passed looks task) (caller passed looks task) at)
-    (lazy_rules nat_eq looks task at)
-lazy_rules-kept passed looks task at =
-    row (elsewhere_kept passed looks task at) (row (λ _. refl) (row (λ _. refl) tt))
 
 pub remount_rules-kept : (passed : Passed) (looks : Looks ℕ) (task : Task ℕ) (at : Location ℕ) (flags : MountFlags)
     → SameBut passed (remount_rules nat_eq (shown passed looks task) (caller passed looks task) at flags)
     (remount_rules nat_eq looks task at flags)
 remount_rules-kept passed looks task at flags =
-    row (elsewhere_kept passed looks task at) (row (λ _. refl)
+    row (λ _. refl) (row (λ _. refl)
     (row (λ stays. ap (λ b. flags.read_only && (not b && looks.is_written_through at.mount)) stays) tt))
-
-pub type_rules-kept : (passed : Passed) (looks : Looks ℕ) (task : Task ℕ) (at : Location ℕ)
-    → SameBut passed (type_rules nat_eq (shown passed looks task) (caller passed looks task) at)
-    (type_rules nat_eq looks task at)
-type_rules-kept passed looks task at =
-    row (elsewhere_kept passed looks task at) (row (λ _. refl) tt)
-
-pub pivot_rules-kept : (passed : Passed) (looks : Looks ℕ) (task : Task ℕ) (new put : Location ℕ)
-    → SameBut passed (pivot_rules nat_eq (shown passed looks task) (caller passed looks task) new put)
-    (pivot_rules nat_eq looks task new put)
-pivot_rules-kept passed looks task new put =
-    row (λ stays. cc (
-      elsewhere_kept passed looks task task.root stays,
-      elsewhere_kept passed looks task new stays,
-      elsewhere_kept passed looks task put stays,
-    ))
-    (row (λ _. refl) (row (λ _. refl) (row (λ _. refl) tt)))

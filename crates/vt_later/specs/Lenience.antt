@@ -17,27 +17,18 @@ abbrev pub lenient_flags : (passed : Bool) → MountFlags → MountFlags
 lenient_flags true flags = record flags { read_only = false; noexec = false }
 lenient_flags false flags = flags
 
--- M2: a mount that is in some namespace is in the caller's
-abbrev pub lenient_namespace : (passed : Bool) → ℕ → Option ℕ → Option ℕ
-lenient_namespace true namespace (Some own) = Some namespace
-lenient_namespace true namespace None = None
-lenient_namespace false namespace own = own
-
-abbrev pub lenient_mount : Passed → ℕ → Mount ℕ → Mount ℕ
-lenient_mount passed namespace mount = record mount {
-  namespace = lenient_namespace passed.namespaces namespace mount.namespace;
-  flags = lenient_flags passed.flags mount.flags;
-}
+abbrev pub lenient_mount : Passed → Mount ℕ → Mount ℕ
+lenient_mount passed mount = record mount { flags = lenient_flags passed.flags mount.flags }
 
 -- P1: no mount has a directory as its mount point
 abbrev pub lenient_mounts_on : (passed : Bool) → List (Mount ℕ) → List (Mount ℕ)
 lenient_mounts_on true mounts = []
 lenient_mounts_on false mounts = mounts
 
--- what a world shows to a caller in a namespace; M8: no mount is in use
-abbrev pub lenient_looks : Passed → ℕ → Looks ℕ → Looks ℕ
-lenient_looks passed namespace looks = record looks {
-  mount = λ number. lenient_mount passed namespace (looks.mount number);
+-- what a world shows; M8: no mount is in use
+abbrev pub lenient_looks : Passed → Looks ℕ → Looks ℕ
+lenient_looks passed looks = record looks {
+  mount = λ number. lenient_mount passed (looks.mount number);
   mounts_on = λ location. lenient_mounts_on passed.mount_points (looks.mounts_on location);
   is_busy = λ number. not passed.uses && looks.is_busy number;
   is_written_through = λ number. not passed.uses && looks.is_written_through number;

@@ -1,7 +1,7 @@
 -- Which rules are let pass, and what stays of a table.
 use Rattle.std.specs.Prelude.{Bool, [], false, true, ⊤, ◌∷◌, ◌≡◌, ◌⊎◌}
 use Rattle.vt_spec.specs.declared.errors.Rule.{Rule}
-use Rattle.vt_spec.specs.declared.errors.Rule.TheVariants.{C1, F1, F3, K1, M2, M8, M9, P1, S3}
+use Rattle.vt_spec.specs.declared.errors.Rule.TheVariants.{C1, F1, F3, K1, M8, M9, P1, S3}
 use Rattle.vt_spec.specs.Errors.{Rules}
 use Rattle.vt_later.specs.declared.passed.Passed.{Passed}
 
@@ -13,7 +13,6 @@ lets_pass passed C1 = passed.rights
 lets_pass passed F1 = passed.flags
 lets_pass passed F3 = passed.flags
 lets_pass passed P1 = passed.mount_points
-lets_pass passed M2 = passed.namespaces
 lets_pass passed M8 = passed.uses
 lets_pass passed M9 = passed.numbers
 lets_pass passed rule = false

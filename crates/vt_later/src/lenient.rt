@@ -2,7 +2,6 @@
 ghost use Rattle.std.specs.Prelude.{◌≡◌};
 ghost use Rattle.vt_cred.specs.MountFlags.{flags_of};
 ghost use Rattle.vt_location.specs.MountValue.{mount_of};
-ghost use Rattle.vt_location.specs.Numbers.{namespace_number};
 ghost use Rattle.vt_later.specs.Lenience.{lenient_flags, lenient_mount};
 
 use crate::passed::Passed;
@@ -14,11 +13,10 @@ use vt_permits::Attachment;
 use vt_request::TaskName;
 use vt_spec::errors::Deny;
 
-/// A world, and the rules that it is to let pass for a caller in a namespace.
+/// A world, and the rules that it is to let pass.
 #[derive(Drop)]
 pub struct Lenient<'a, L: LookAtMounts> {
     pub world: &'a L,
-    pub namespace: NamespaceId,
     pub passed: Passed,
 }
 
@@ -37,22 +35,18 @@ fn lenient_flags(passed: bool, flags: MountFlags) -> MountFlags
 }
 
 // A mount.
-fn lenient_mount(passed: Passed, namespace: NamespaceId, mount: Mount) -> Mount
-    ensures { mount_of result ≡ lenient_mount passed (namespace_number namespace) (mount_of mount) }
+fn lenient_mount(passed: Passed, mount: Mount) -> Mount
+    ensures { mount_of result ≡ lenient_mount passed (mount_of mount) }
 {
     let mut lenient = mount;
-    if passed.namespaces && mount.namespace.is_some() {
-        lenient.namespace = Some(namespace);
-    }
     lenient.flags = lenient_flags(passed.flags, mount.flags);
     lenient
 }
 
 impl<'a, L: LookAtMounts> Look for Lenient<'a, L> {
-    ghost use Rattle.vt_location.specs.Numbers.{namespace_number};
     ghost use Rattle.vt_later.specs.Lenience.{lenient_looks};
 
-    ghost looks = { λ here. lenient_looks here.passed (namespace_number here.namespace) (L.looks here.world.now) };
+    ghost looks = { λ here. lenient_looks here.passed (L.looks here.world.now) };
 
     ghost real = { λ here. L.real here.world.now };
 
@@ -64,7 +58,7 @@ impl<'a, L: LookAtMounts> Look for Lenient<'a, L> {
 
     fn mount(&self, id: MountId) -> Option<Mount> {
         match self.world.mount(id) {
-            Some(mount) => Some(lenient_mount(self.passed, self.namespace, mount)),
+            Some(mount) => Some(lenient_mount(self.passed, mount)),
             None => None,
         }
     }

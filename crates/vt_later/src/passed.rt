@@ -19,8 +19,6 @@ pub struct Passed {
     pub flags: bool,
     /// P1 (EBUSY): no mount stands on a directory that is removed or renamed.
     pub mount_points: bool,
-    /// M2 (EINVAL): attached mounts are in the caller's namespace.
-    pub namespaces: bool,
     /// M8 (EBUSY): no mount is in use.
     pub uses: bool,
     /// M9 (ENOSPC): no namespace has too many mounts.
@@ -35,7 +33,6 @@ impl Passed {
             rights: false,
             flags: false,
             mount_points: false,
-            namespaces: false,
             uses: false,
             numbers: false,
         }
@@ -50,7 +47,6 @@ impl Passed {
             Rule::C1 => more.rights = true,
             Rule::F1 | Rule::F3 => more.flags = true,
             Rule::P1 => more.mount_points = true,
-            Rule::M2 => more.namespaces = true,
             Rule::M8 => more.uses = true,
             Rule::M9 => more.numbers = true,
             _ => return None,

@@ -1,7 +1,6 @@
 //! The rule that refuses a call where others are let pass.
 ghost use Rattle.std.specs.Prelude.{◌≡◌, nat_eq, IfOk};
 ghost use Rattle.vt_spec.specs.Machine.Judge.{judge};
-ghost use Rattle.vt_location.specs.Numbers.{namespace_number};
 ghost use Rattle.vt_request.specs.Requests.{call_of};
 ghost use Rattle.vt_tasks.specs.TaskValue.{task_of};
 ghost use Rattle.vt_later.specs.Lenience.{lenient_looks, lenient_overfills, lenient_task, refused_by};
@@ -50,15 +49,11 @@ pub fn refusal<L: LookAtMounts>(
     passed: Passed,
 ) -> Result<Option<Rule>, AllocError>
     ensures { IfOk result (λ rule. rule ≡ refused_by (judge nat_eq
-        (lenient_looks passed (namespace_number who.now.namespace) (L.looks world.now))
-        (lenient_overfills passed (L.overfills world.now)) (lenient_task passed (task_of who.now)) (call_of call))) }
+        (lenient_looks passed (L.looks world.now)) (lenient_overfills passed (L.overfills world.now))
+        (lenient_task passed (task_of who.now)) (call_of call))) }
 {
     let caller = lenient_task(alloc, who, passed)?;
-    let lenient = Lenient {
-        world,
-        namespace: who.namespace,
-        passed,
-    };
+    let lenient = Lenient { world, passed };
     match judge(alloc, &lenient, 0, &caller, call) {
         Ok(permit) => {
             drop(permit.spend(0));

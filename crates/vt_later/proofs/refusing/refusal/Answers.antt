@@ -1,6 +1,5 @@
 use Rattle.std.proofs.Common.{◌∙◌, ◌≡◌, ap, false, nat_eq, sym, true, true≢false}
 use Rattle.vt_spec.specs.Machine.Judge.{judge}
-use Rattle.vt_location.specs.Numbers.{namespace_number}
 use Rattle.vt_request.specs.Requests.{call_of}
 use Rattle.vt_tasks.specs.TaskValue.{task_of}
 use Rattle.vt_later.specs.Lenience.{lenient_looks, lenient_overfills, refused_by}
@@ -9,8 +8,7 @@ use Rattle.vt_later.proofs.refusing.refusal.Goals as goal
 
 pub returns : goal.returns
 returns g c =
-    let namespace = namespace_number c.args.who.now.namespace in
-    let looks = lenient_looks c.args.passed namespace (g.L.Look.looks c.args.world.now) in
+    let looks = lenient_looks c.args.passed (g.L.Look.looks c.args.world.now) in
     let overfills = lenient_overfills c.args.passed (g.L.LookAtMounts.overfills c.args.world.now) in
     let caller = task_of c.in_ok-caller.caller in
     refused_by-denied (call_of c.args.call) caller (judge nat_eq looks overfills caller (call_of c.args.call))
