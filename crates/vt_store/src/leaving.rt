@@ -1,10 +1,11 @@
 //! Filesystems that go with their last mount.
-ghost use Rattle.std.specs.Prelude.{◌≡◌, ◌-◌, ◌<◌, ◌≤◌, IsSome, None};
+ghost use Rattle.std.specs.Prelude.{◌≡◌, ◌-◌, ◌<◌, ◌≤◌, All, IsSome, None};
 ghost use Rattle.vt_fs.specs.FilesystemsValue.{shown, without};
 ghost use Rattle.vt_store.specs.Counts.{mounts_in, with_mounts};
+ghost use Rattle.vt_store.specs.Laws.{IsSameTree};
 ghost use Rattle.vt_store.specs.LayersHeld.{lowers_in, without_layers};
 ghost use Rattle.vt_store.specs.OverlaysValue.{without_overlay};
-ghost use Rattle.vt_store.specs.StoreValue.{overlay_in};
+ghost use Rattle.vt_store.specs.StoreValue.{StandOnLayers, overlay_in};
 
 use crate::store::Store;
 use vt_location::FilesystemId;
@@ -21,6 +22,10 @@ impl Store {
             → self.new.overlays ≡ without_overlay filesystem.count self.old.overlays }
         ensures layers { mounts_in self.old filesystem.count ≤ 1 → IsSome (overlay_in self.old filesystem.count)
             → shown self.new.plain ≡ without_layers (lowers_in self.old filesystem.count) (shown self.old.plain) }
+        // overlays that are left stand still where no directory of a layer went
+        ensures standing { StandOnLayers self.old
+            → All (λ entry. All (IsSameTree self.old.plain self.new.plain) entry.overlay.lowers) self.new.overlays
+            → StandOnLayers self.new }
     {
         if self.mounts(filesystem) > 1 {
             self.release_mount(filesystem);
