@@ -4,6 +4,7 @@ pub mod LayersStanding
 pub mod Lending
 pub mod Looked
 pub mod MountsCounted
+pub mod NodesAlike
 pub mod OverlaysAlike
 pub mod OverlaysCome
 pub mod TreesStay

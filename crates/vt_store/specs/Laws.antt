@@ -6,10 +6,11 @@ use Rattle.vt_spec.specs.Machine.World.{World}
 use Rattle.vt_location.specs.Numbers.{is_inode_of}
 use Rattle.vt_fs.specs.FilesystemsValue.{FilesystemEntry, Filesystems, files_at, inodes_seen}
 use Rattle.vt_merge.specs.declared.layers.LayerRef.{LayerRef}
+use Rattle.vt_overlay.specs.Alike.{front}
 use Rattle.vt_overlay.specs.MergedTree.{AreLayers}
 use Rattle.vt_store.specs.Counts.{with_mounts}
 use Rattle.vt_store.specs.OverlaysValue.{OverlayEntry, Overlays}
-use Rattle.vt_store.specs.StoreValue.{StandOnLayers, StandsOnLayers, StoreValue, filesystems_of, overlay_filesystem, woven}
+use Rattle.vt_store.specs.StoreValue.{StandOnLayers, StandsOnLayers, StoreValue, files_in, filesystems_of, lent_in, overlay_filesystem, woven}
 
 -- Each inode has a number of its own filesystem, as in all that code keeps.
 abbrev pub HasOwnNumbers : FilesystemEntry → Type 0
@@ -21,6 +22,12 @@ abbrev pub WorldsStandOnLayers : Type 0
 WorldsStandOnLayers =
     (store : StoreValue) (world : World ℕ) → IsWorld nat_eq world → world.filesystems ≡ filesystems_of store
     → All HasOwnNumbers store.plain → StandOnLayers store
+
+-- A node has the owner, group, mode, kind and content of what is lent for it.
+abbrev pub NodesAreLikeObjects : Type 0
+NodesAreLikeObjects =
+    (store : StoreValue) (count number : ℕ) → StandOnLayers store
+    → front (lent_in store count number) ≡ front ((files_in store count).tree.node number)
 
 -- the tree of a layer is as it was
 abbrev pub IsSameTree : Filesystems → Filesystems → LayerRef → Type 0

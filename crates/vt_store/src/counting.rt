@@ -8,7 +8,7 @@ use std::alloc::AllocError;
 use vt_location::FilesystemId;
 
 impl Store {
-    /// How many mounts show a filesystem, and how many layers it has of overlays, if it is a plain tree.
+    /// How many mounts show a filesystem. Layers of overlays that are directories of it count as mounts.
     pub fn mounts(&self, filesystem: FilesystemId) -> u64
         ensures { result ≡ mounts_in self.now filesystem.count }
     {
@@ -36,7 +36,7 @@ impl Store {
         Ok(())
     }
 
-    /// Takes back a mount that `hold_mount` counted; a count of 0 stays 0. It does not allocate, and nothing goes.
+    /// Takes back a mount that `hold_mount` counted; a count of 0 stays 0. The filesystem stays. It does not allocate.
     pub fn release_mount(&mut self, filesystem: FilesystemId)
         ensures { self.new ≡ with_mounts filesystem.count (λ mounts. mounts - 1) self.old }
     {

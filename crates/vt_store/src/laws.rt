@@ -1,11 +1,16 @@
 //! Laws of stores, for the world that keeps one. Each function is a theorem, and does nothing.
-ghost use Rattle.vt_store.specs.Laws.{MountsAreNotSeen, MountsLeaveLayers, NewOverlaysAreLast, OverlaysStandStill, OverlaysStayWithLayers, WorldsStandOnLayers};
+ghost use Rattle.vt_store.specs.Laws.{MountsAreNotSeen, MountsLeaveLayers, NewOverlaysAreLast, NodesAreLikeObjects, OverlaysStandStill, OverlaysStayWithLayers, WorldsStandOnLayers};
 
 /// The overlays of a world with all invariants stand on layers (`worlds`). One that stood on layers does so still while
 /// the trees of its layers are as they were (`still`).
 pub fn overlays_stand_on_layers()
     ensures worlds { WorldsStandOnLayers }
     ensures still { OverlaysStandStill }
+{}
+
+/// A node has the owner, group, mode, kind and content of the object that `object` of `Store` lends for it.
+pub fn nodes_are_like_their_objects()
+    ensures { NodesAreLikeObjects }
 {}
 
 /// What an overlay shows depends on its layers alone: no change of other trees changes it, and no other overlay that

@@ -19,9 +19,10 @@ use vt_merge::LayerRef;
 
 impl Store {
     /// Makes an overlay of these lower layers, the highest first, which no mount shows yet. Each layer pins its
-    /// directory, and counts as a mount of its filesystem. The number of the overlay is above those of all others.
+    /// directory, and counts as a mount of its filesystem. That the number is no plain filesystem's is for the caller.
     ///
-    /// It fails too where a directory or a filesystem has nearly 2^64 uses.
+    /// It fails if an allocation does. It fails too if a directory cannot have as many more uses as there are layers,
+    /// or a filesystem as many more mounts.
     pub fn add_overlay(
         &mut self,
         filesystem: FilesystemId,

@@ -11,8 +11,8 @@ use crate::store::Store;
 use vt_location::FilesystemId;
 
 impl Store {
-    /// Takes back a mount that `hold_mount` counted. With its last one a filesystem goes, and an overlay lets its layers
-    /// go, as `remove_overlay` does. It does not allocate.
+    /// Takes back a mount that `hold_mount` counted. A filesystem goes with its last one, and an overlay then lets its
+    /// layers go, as `remove_overlay` does. It does not allocate.
     pub fn leave_filesystem(&mut self, filesystem: FilesystemId)
         ensures stays { 1 < mounts_in self.old filesystem.count
             → self.new ≡ with_mounts filesystem.count (λ mounts. mounts - 1) self.old }
