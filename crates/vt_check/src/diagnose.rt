@@ -66,7 +66,8 @@ fn escape_for(text: &str) -> &'static str {
     ""
 }
 
-// The line without a byte order mark and without a CR at its end, each other byte as a word spells it. A tab is a space.
+// The line without a byte order mark and without a CR at its end, each other byte as a word spells it, and a tab as a
+// space.
 fn spelled(helper: &Helper, line: &[u8]) -> Draft {
     let line = line.strip_prefix(b"\xef\xbb\xbf").unwrap_or(line);
     let line = line.strip_suffix(b"\r").unwrap_or(line);

@@ -3,7 +3,7 @@ use crate::words::Word;
 use std::alloc::{AllocError, Global};
 use std::fmt::Write;
 
-/// A text that is written in parts. An allocation that fails is noted, and told at the end, so that no part is fallible.
+/// A text that is written in parts. An allocation that fails is noted, and told at the end alone.
 #[derive(Drop)]
 pub struct Draft {
     text: String,

@@ -1,9 +1,9 @@
 //! Calls as a shell, mount(8) or another system call spells them, and the calls that are meant.
 //!
 //! In a row's first text, `*` is any word, `/*` one that begins with a slash, and `...` stands for any that follow. In
-//! its second, `$k` is the k-th word behind the call's name, and a bar stands between lines; a line begins with the task,
-//! unless its first word is given. Where the second text is empty, nothing is proposed. The third says something about
-//! it, or nothing.
+//! its second, `$k` is the k-th word behind the call's name, and a bar stands between lines; a line begins with the
+//! task, unless its first word is given. Where the second text is empty, nothing is proposed. The third says something
+//! about it, or nothing.
 mod binds;
 mod files;
 mod links;

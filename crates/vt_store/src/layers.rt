@@ -19,7 +19,8 @@ use vt_merge::LayerRef;
 
 impl Store {
     /// Makes an overlay of these lower layers, the highest first, which no mount shows yet. Each layer pins its
-    /// directory, and counts as a mount of its filesystem. That the number is no plain filesystem's is for the caller.
+    /// directory, and counts as a mount of its filesystem. Its number must be above those of all other overlays, and no
+    /// plain filesystem's.
     ///
     /// It fails if an allocation does. It fails too if a directory cannot have as many more uses as there are layers,
     /// or a filesystem as many more mounts.
