@@ -1,6 +1,6 @@
 -- Mounts and filesystems with their counts, where a use of a location comes or goes: chdir(2), open(2), close(2).
 use Rattle.std.specs.Option.{option_and_then}
-use Rattle.std.specs.Prelude.{Bool, List, None, Option, Some, filter, find, if◌then◌else◌, is_some, map, nat_eq, not, option_map, unwrap_or, ℕ, ◌&&◌, ◌+◌, ◌++◌, ◌-◌}
+use Rattle.std.specs.Prelude.{Bool, List, None, Option, Some, [], filter, filter_map, find, if◌then◌else◌, is_some, map, nat_eq, not, option_map, unwrap_or, ℕ, ◌&&◌, ◌+◌, ◌++◌, ◌-◌}
 use Rattle.vt_laws_counts.specs.Using.{pinned_if, unpinned_if}
 use Rattle.vt_fs.specs.FilesystemsValue.{Filesystems, Shown, shown}
 use Rattle.vt_laws_letting_go.specs.OneByOne.{Inode}
@@ -8,19 +8,56 @@ use Rattle.vt_location.specs.declared.locations.Location.{Location}
 use Rattle.vt_location.specs.declared.locations.NodeRef.{NodeRef}
 use Rattle.vt_location.specs.declared.mounts.Mount.{Mount as Attached}
 use Rattle.vt_location.specs.Locations.{number_of}
+use Rattle.vt_location.specs.Locations as Numbered
 use Rattle.vt_location.specs.Numbers.{counted}
+use Rattle.vt_merge.specs.declared.layers.LayerRef.{LayerRef}
 use Rattle.vt_spec.specs.Lists.{folded}
+use Rattle.vt_spec.specs.Machine.Locked.{of_overlay}
+use Rattle.vt_spec.specs.Machine.World.{layers_of}
 use Rattle.vt_spec.specs.Machine.Mounts.{Location as Place, Mount, detached}
 use Rattle.vt_mount.specs.MountsValue.{MountEntry, changed, entry_numbered, held, released, without}
+use Rattle.vt_store.specs.OverlaysValue as Stored
+use Rattle.vt_store.specs.StoreValue.{StoreValue}
+use Rattle.vt_world.specs.WorldValue.{OverlayEntry, WorldValue}
 pub use Rattle.vt_mount.specs.MountsValue.{unused_entry}
 
--- mounts and filesystems as they are counted
+-- an overlay as it is kept: its number, how many mounts show it, and the directories of its layers
+pub record Merged : Type 0 where
+  pub number : ℕ
+  pub mounts : ℕ
+  pub layers : List Inode
+
+-- mounts, plain filesystems and overlays as they are counted
 pub record Kept : Type 0 where
   pub mounts : List MountEntry
   pub filesystems : List Shown
+  pub overlays : List Merged
 
-abbrev pub kept : List MountEntry → Filesystems → Kept
-kept mounts filesystems = record { mounts = mounts; filesystems = shown filesystems }
+abbrev pub kept_with : List MountEntry → Filesystems → List Merged → Kept
+kept_with mounts filesystems overlays =
+    record { mounts = mounts; filesystems = shown filesystems; overlays = overlays }
+
+-- of a store
+abbrev pub layer_of : LayerRef → Inode
+layer_of layer = (counted layer.directory.filesystem.count, Numbered.inode_of layer.directory)
+
+abbrev pub merged_of : Stored.OverlayEntry → Merged
+merged_of entry =
+    record { number = counted entry.count; mounts = entry.mounts; layers = map layer_of entry.overlay.lowers }
+
+abbrev pub kept : List MountEntry → StoreValue → Kept
+kept mounts store = kept_with mounts store.plain (map merged_of store.overlays)
+
+-- of a world
+abbrev pub merged_seen : OverlayEntry → Merged
+merged_seen entry = record {
+  number = entry.filesystem.number;
+  mounts = entry.mounts;
+  layers = map (λ layer. (layer.filesystem, layer.directory)) (of_overlay [] layers_of entry.filesystem);
+}
+
+abbrev pub kept_of : WorldValue → Kept
+kept_of value = kept_with value.mounts value.filesystems (map merged_seen value.overlays)
 
 -- an inode by the number of its filesystem and its own
 abbrev pub inode_of : NodeRef → Inode
@@ -57,13 +94,53 @@ abbrev pub let_go_filesystem : ℕ → List Shown → List Shown
 let_go_filesystem filesystem all =
     if nat_eq (mounts_shown filesystem all) 0 then without_filesystem filesystem all else all
 
+-- Overlays
+
+abbrev pub merged_at : ℕ → List Merged → Option Merged
+merged_at number all = find (λ one. nat_eq number one.number) all
+
+abbrev pub released_merged : ℕ → List Merged → List Merged
+released_merged number all =
+    map (λ (one : Merged). if nat_eq number one.number then record one { mounts = one.mounts - 1 } else one) all
+
+abbrev pub without_merged : ℕ → List Merged → List Merged
+without_merged number all = filter (λ one. not (nat_eq number one.number)) all
+
+-- the overlays of a world that are kept still, as often as they are mounted
+abbrev pub overlays_kept : List Merged → List OverlayEntry → List OverlayEntry
+overlays_kept left all =
+    filter_map (λ entry. option_map (λ (one : Merged). record entry { mounts = one.mounts })
+    (merged_at entry.filesystem.number left)) all
+
+-- a layer less: a use of its directory, and a mount of its filesystem, which goes with its last
+abbrev pub without_layer : List Shown → Inode → List Shown
+without_layer all inode = let_go_filesystem inode.0 (released_in inode.0 (unpinned_in inode all))
+
+-- one mount less of an overlay, which goes with its last, and its layers with it
+abbrev pub leave_merged : ℕ → Merged → Kept → Kept
+leave_merged number one k =
+    if nat_eq (one.mounts - 1) 0 then record k {
+      filesystems = folded without_layer k.filesystems one.layers;
+      overlays = without_merged number k.overlays;
+    } else record k { overlays = released_merged number k.overlays }
+
+-- one mount less of a filesystem, which goes with its last
+abbrev pub leave_by : ℕ → Option Merged → Kept → Kept
+leave_by number None k = record k { filesystems = let_go_filesystem number (released_in number k.filesystems) }
+leave_by number (Some one) k = leave_merged number one k
+
+abbrev pub leave_filesystem : ℕ → Kept → Kept
+leave_filesystem number k = leave_by number (merged_at number k.overlays) k
+
+-- Mounts
+
 -- a mount goes with a use of its root, and one mount of its filesystem
 abbrev pub without_mount : ℕ → Mount ℕ → Kept → Kept
-without_mount number mount k = record {
-  mounts = without number k.mounts;
-  filesystems = let_go_filesystem mount.filesystem
-      (released_in mount.filesystem (unpinned_in (mount.filesystem, mount.root) k.filesystems));
-}
+without_mount number mount k =
+    leave_filesystem mount.filesystem (record k {
+      mounts = without number k.mounts;
+      filesystems = unpinned_in (mount.filesystem, mount.root) k.filesystems;
+    })
 
 abbrev pub is_unused : MountEntry → Bool
 is_unused entry = not (is_some entry.mount.namespace) && nat_eq entry.uses 0
@@ -79,11 +156,11 @@ let_go_mount number k = let_go_entry number k (entry_numbered k.mounts number)
 -- one use more of a location, and one less
 abbrev pub with_use : ℕ → Inode → Bool → Kept → Kept
 with_use mount inode writes k =
-    record { mounts = changed mount (held writes) k.mounts; filesystems = pinned_in inode k.filesystems }
+    record k { mounts = changed mount (held writes) k.mounts; filesystems = pinned_in inode k.filesystems }
 
 abbrev pub released_use : ℕ → Inode → Bool → Kept → Kept
 released_use mount inode writes k =
-    record { mounts = changed mount (released writes) k.mounts; filesystems = unpinned_in inode k.filesystems }
+    record k { mounts = changed mount (released writes) k.mounts; filesystems = unpinned_in inode k.filesystems }
 
 abbrev pub without_use : ℕ → Inode → Bool → Kept → Kept
 without_use mount inode writes k = let_go_mount mount (released_use mount inode writes k)
@@ -111,7 +188,7 @@ detached_entry entry = record entry { mount = detached entry.mount }
 
 abbrev pub detached_use : ℕ → Option Location → Kept → Kept
 detached_use number point k =
-    record { mounts = changed number detached_entry k.mounts; filesystems = unpinned_at point k.filesystems }
+    record k { mounts = changed number detached_entry k.mounts; filesystems = unpinned_at point k.filesystems }
 
 abbrev pub without_attachment : ℕ → Option Location → Kept → Kept
 without_attachment number point k = let_go_mount number (detached_use number point k)
@@ -138,4 +215,4 @@ shown_by all mount =
 -- the mounts come after all others, and nothing is on them
 abbrev pub with_attached : List Attached → Kept → Kept
 with_attached new k =
-    record { mounts = k.mounts ++ map unused_entry new; filesystems = folded shown_by k.filesystems new }
+    record k { mounts = k.mounts ++ map unused_entry new; filesystems = folded shown_by k.filesystems new }
