@@ -1,6 +1,6 @@
 -- Which filesystems live in a world with overlays, by the mounts that show them and the layers that overlays have in
 -- them.
-use Rattle.std.proofs.Common.{◌≡◌, refl, sym, ap, subst, ◌∙◌, ⊎_elim, ℕ, zero, suc, ◌+◌, nat_eq, nat_lt, Bool, true, false, true≢false, not, ◌&&◌, ◌||◌, List, [], ◌++◌, filter, flat_map, Option, Some, None, is_some, arith}
+use Rattle.std.proofs.Common.{◌≡◌, refl, sym, ap, subst, ◌∙◌, ⊎_elim, ℕ, zero, suc, ◌+◌, nat_eq, nat_lt, Bool, true, false, true≢false, not, ◌&&◌, ◌||◌, List, [], filter, flat_map, Option, Some, None, is_some, arith}
 use Rattle.std.specs.Prelude.{All}
 use Rattle.std.specs.List.{list_any}
 use Rattle.std.proofs.lemmas.Bool.{and_parts, or_cases}
@@ -11,7 +11,7 @@ use Rattle.vt_spec.specs.Machine.World.{Filesystem, Layer, Overlay, World, is_ov
 use Rattle.vt_spec.proofs.Truths.{one_more_is_some}
 use Rattle.vt_laws_counts.specs.OverlaysStay.{HasNoLayerIn, layer_count}
 use Rattle.vt_laws_counts.proofs.overlays.Living.{layers_left_are_mounted, lives_while_counted, lives_while_mounted, overlays_are_mounted, overlays_use_filesystems}
-use Rattle.vt_laws_letting_go.specs.Counts.{mounts_showing, times}
+use Rattle.vt_laws_letting_go.specs.Counts.{mounts_showing}
 use Rattle.vt_laws_letting_go.proofs.Lists.{Among, all_from_among, among-filter, among-flat_map, among-from_filter, among_from_all, any-filter, any_counted, any_passes, fails, filter_all, filter_less, filter_twice, none_passes, one_passes, or_first, or_second}
 use Rattle.vt_laws_letting_go.proofs.sweeps.InUse.{layers_on}
 use Rattle.vt_laws_letting_go.proofs.sweeps.UsesCounted.{mounted_while_counted}

@@ -7,14 +7,14 @@ use Rattle.std.specs.List.{list_any}
 use Rattle.vt_spec.specs.Lists.{any_pair, is_among}
 use Rattle.vt_spec.specs.Machine.Mounts.{Mount, source_of}
 use Rattle.vt_spec.specs.Machine.Run.{used_by_filesystem, used_by_mount}
-use Rattle.vt_spec.specs.Machine.World.{Filesystem, Namespace, filesystem_at, filesystem_numbered, is_overlay, mount_at, node_at}
+use Rattle.vt_spec.specs.Machine.World.{Filesystem, Namespace, filesystem_at, filesystem_numbered, mount_at, node_at}
 use Rattle.vt_spec.specs.Machine.Invariants.{is_located_well}
 use Rattle.vt_spec.specs.Inodes.{Inodes, node_in}
 use Rattle.vt_spec.specs.TreeInvariant.{IsTree}
 use Rattle.vt_fs.specs.FilesystemsValue.{FilesystemEntry, Filesystems, entry_of, files_at, filesystem_seen, filesystems_seen, inodes_at, inodes_seen, no_entry}
 use Rattle.vt_laws_rules.specs.Numbers.{location_named}
 use Rattle.vt_laws_rules.proofs.numbers.Supports.{used_numbers_are_named}
-use Rattle.vt_laws_letting_go.proofs.Lists.{Among, all_from_among, among_from_all, among-from_map, among-map, fails}
+use Rattle.vt_laws_letting_go.proofs.Lists.{Among, among_from_all, among-map, fails}
 use Rattle.vt_location.specs.declared.locations.Location.{Location}
 use Rattle.vt_location.specs.declared.locations.NodeRef.{NodeRef}
 use Rattle.vt_location.specs.declared.births.Birth.TheVariants.{Here}

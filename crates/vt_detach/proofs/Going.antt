@@ -8,7 +8,7 @@ use Rattle.vt_spec.specs.Lists.{folded, holds_of, is_among}
 use Rattle.vt_spec.specs.Machine.Mounts.{Location, Mount, mount_in}
 use Rattle.vt_spec.specs.Machine.Permits.{Permit}
 use Rattle.vt_spec.specs.Machine.Settled.{is_located, without_dead_filesystems, without_dead_mounts}
-use Rattle.vt_spec.specs.Machine.World.{Filesystem, Task, World, all_locations, is_overlay, mount_numbered}
+use Rattle.vt_spec.specs.Machine.World.{Filesystem, Task, World, all_locations, mount_numbered}
 use Rattle.vt_spec.specs.Machine.Invariants.{is_located_well}
 use Rattle.vt_laws_counts.specs.OverlaysStay.{layer_count}
 use Rattle.vt_laws_counts.specs.Using.{Exchanges, unpinned_if}
@@ -21,7 +21,7 @@ use Rattle.vt_laws_letting_go.specs.Keeping.{LocationsStand}
 use Rattle.vt_laws_letting_go.specs.Leaving.{MountsStand}
 use Rattle.vt_laws_letting_go.specs.Mounting.{inode_at}
 use Rattle.vt_laws_letting_go.specs.OneByOne.{Inode, is_mount_used, without_mount}
-use Rattle.vt_laws_letting_go.proofs.Lists.{Among, all_from_among, all_pass, among-append, among-append_left, among-append_right, among-from_filter, among-from_map, among-map, among_from_all, filter_all, filter_alike, passes, filter_less}
+use Rattle.vt_laws_letting_go.proofs.Lists.{Among, all_from_among, all_pass, among-append, among-append_left, among-append_right, among-from_filter, among-from_map, among-map, among_from_all, passes, filter_less}
 use Rattle.vt_laws_letting_go.proofs.sweeps.OfWorlds.{mounts_of_worlds_stand}
 use Rattle.vt_laws_letting_go.proofs.leaving.PlacesLeft.{found_itself}
 use Rattle.vt_laws_letting_go.proofs.sweeps.UsesCounted.{located_while_counted}

@@ -19,7 +19,7 @@ use Rattle.vt_laws_letting_go.specs.Leaving.{MountsStand, stands_on_attached}
 use Rattle.vt_laws_letting_go.specs.Mounting.{root_inode}
 use Rattle.vt_laws_letting_go.specs.OneByOne.{Inode, is_mount_used, without_mount}
 use Rattle.vt_laws_letting_go.specs.OneByOne as Looks
-use Rattle.vt_laws_letting_go.proofs.Lists.{Among, all_from_among, all_pass, among-filter, among-from_filter, among-from_map, among-map, among_from_all, among_numbers, fails, filter-map, filter_all, filter_alike, is_among_numbers, or_second, passes, found_in}
+use Rattle.vt_laws_letting_go.proofs.Lists.{Among, all_from_among, all_pass, among-filter, among-from_filter, among-from_map, among-map, among_from_all, among_numbers, fails, filter-map, filter_all, is_among_numbers, or_second, passes, found_in}
 use Rattle.vt_laws_letting_go.proofs.leaving.PlacesLeft.{found_in_filter}
 use Rattle.vt_laws_letting_go.proofs.sweeps.UpperUses.{times_append}
 use Rattle.vt_laws_letting_go.proofs.sweeps.UsesCounted.{located_while_counted}

@@ -17,7 +17,7 @@ use Rattle.vt_spec.specs.Inodes.{node_in}
 use Rattle.vt_spec.specs.Tree.{is_directory_node}
 use Rattle.vt_spec.proofs.Lists as spec
 use Rattle.vt_laws_counts.specs.Using.{AreThere, Exchanges}
-use Rattle.vt_fs.specs.FilesystemsValue.{FilesystemEntry, Filesystems, filesystem_seen, inodes_seen, shown}
+use Rattle.vt_fs.specs.FilesystemsValue.{FilesystemEntry, Filesystems, inodes_seen, shown}
 use Rattle.vt_laws_letting_go.specs.Mounting.{inode_at}
 use Rattle.vt_laws_letting_go.specs.OneByOne.{Inode}
 use Rattle.vt_laws_letting_go.specs.Leaving.{stands_on_attached}

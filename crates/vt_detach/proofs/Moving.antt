@@ -10,7 +10,7 @@ use Rattle.vt_spec.specs.Inodes.{node_in}
 use Rattle.vt_spec.specs.Inodes as Trees
 use Rattle.vt_laws_counts.specs.Using.{AreThere, Exchanges, exchanged, pinned_if, unpinned_if}
 use Rattle.vt_laws_counts.proofs.using.Places.{locations_are_uses, locations_use_mounts}
-use Rattle.vt_fs.specs.FilesystemsValue.{FilesystemEntry, Shown, filesystem_seen, inodes_seen}
+use Rattle.vt_fs.specs.FilesystemsValue.{FilesystemEntry, Shown, inodes_seen}
 use Rattle.vt_laws_letting_go.specs.Counts.{mount_uses, times}
 use Rattle.vt_laws_letting_go.specs.Leaving.{is_location_among, only_these_are_left}
 use Rattle.vt_laws_letting_go.specs.Mounting.{inode_at}

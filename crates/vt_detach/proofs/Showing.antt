@@ -1,6 +1,6 @@
 -- The code's world is one of the definitions: the same mounts, overlays, namespaces and tasks, and filesystems whose
 -- counted inodes are counted there.
-use Rattle.std.proofs.Common.{◌≡◌, refl, sym, ap, subst, ◌∙◌, inl, inr, ℕ, nat_eq, true, false, true≢false, List, [], ◌∷◌, map, Option, Some, None, is_some, not, filter}
+use Rattle.std.proofs.Common.{◌≡◌, refl, sym, ap, subst, ◌∙◌, inl, inr, ℕ, nat_eq, true, true≢false, List, [], ◌∷◌, map, Option, Some, None, is_some, not, filter}
 use Rattle.std.specs.Prelude.{All}
 use Rattle.vt_spec.specs.Machine.SameWorlds.{SameFilesystem, SameFilesystems, SameWorlds, without_changes}
 use Rattle.vt_spec.specs.Machine.World.{Filesystem, Overlay, World, filesystem_numbered, is_overlay}
