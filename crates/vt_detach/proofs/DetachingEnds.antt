@@ -168,7 +168,8 @@ module _ (old : WorldValue) (after : World ℕ) (gained lost : List Inode) (new 
         ∙ (λ i. times (λ (mount : Mount ℕ). nat_eq (counted entry.count) mount.filesystem) (mounts_are i)
         + sym (layers_of_value old new is.held.overlays same_overlays (in_use_of after) is.keeps
         (counted entry.count)) i);
-    overlays = subst (All (IsMountedSoOften (world_of new))) (sym (none_still old new is.held same_overlays)) (All-nil _);
+    overlays = subst (All (IsMountedSoOften (world_of new))) (sym (none_still old new is.held same_overlays))
+        (All-nil _);
     namespaces = inside;
   }
 

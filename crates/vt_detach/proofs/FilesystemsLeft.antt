@@ -41,8 +41,8 @@ abbrev pub world_left : World ℕ → ℕ → (ℕ → Bool) → World ℕ
 world_left world number stays =
     record (without_mount world number) { filesystems = filter (stays_beside stays) world.filesystems }
 
--- The mount of a number goes, which shows this filesystem. All overlays are shown still, and the counts are those of the
--- world without the mount.
+-- The mount of a number goes, which shows this filesystem. All overlays are shown still, and the counts are those of
+-- the world without the mount.
 pub record MountGoes (old : WorldValue) (world : World ℕ) (number filesystem : ℕ) (shown : List Shown) : Type 0 where
   pub keeps : KeepsOverlays old world
   pub living : FilesystemsInUse world

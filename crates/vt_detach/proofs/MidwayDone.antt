@@ -215,6 +215,7 @@ module _ (value : WorldValue) (start : World ℕ) (gained : List Inode) (goes : 
         ∙ (λ i. Rattle.vt_laws_letting_go.specs.Counts.times
         (λ (x : Mount ℕ). nat_eq (counted entry.count) x.filesystem) (mounts_are i)
         + sym (layers_of_value value new mid.held.overlays same_overlays now mid.keeps (counted entry.count)) i);
-    overlays = subst (All (IsMountedSoOften (world_of new))) (sym (none_still value new mid.held same_overlays)) (All-nil _);
+    overlays = subst (All (IsMountedSoOften (world_of new))) (sym (none_still value new mid.held same_overlays))
+        (All-nil _);
     namespaces = namespaces;
   }

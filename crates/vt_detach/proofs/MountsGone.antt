@@ -257,7 +257,8 @@ module _ (old : WorldValue) (number : ℕ) (pending : List ℕ) (gained lost : L
       step_is one m = by (nat_eq mount.filesystem (counted one.count)) (is.filesystems one m).mounts
           (takes (counted one.count))
         where
-          by : (b : Bool) → one.mounts ≡ mounts_showing world (counted one.count) + layer_count world (counted one.count)
+          by : (b : Bool)
+              → one.mounts ≡ mounts_showing world (counted one.count) + layer_count world (counted one.count)
               → mounts_showing world (counted one.count) ≡ mounts_showing mounted (counted one.count) + cond b 1 0
               → ((cond b (record (unpinned_one one) { mounts = one.mounts - 1 }) (unpinned_one one)).count ≡ one.count)
               × ((cond b (record (unpinned_one one) { mounts = one.mounts - 1 }) (unpinned_one one)).inodes
