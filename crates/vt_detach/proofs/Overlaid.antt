@@ -339,7 +339,7 @@ overlays_counted old new holds same showing =
     subst (All (IsMountedSoOften (world_of new))) (sym same)
     (all_from_among (IsMountedSoOften (world_of new)) old.overlays (λ entry m.
     among_from_all (IsMountedSoOften (world_of old)) old.overlays holds.mounts entry m
-    ∙ sym (showing entry.filesystem.number)))
+    ∙ sym (showing entry.number)))
 
 -- and where mounts show what they showed, the overlays are mounted
 pub still_mounted : (old : WorldValue) → IsHeld old → (world : World ℕ)

@@ -86,7 +86,7 @@ module _ (groups : Grouping) (new : WorldValue) where
         (sym (showing_typed (counted entry.count)));
     overlays = all_from_among (IsMountedSoOften (world_of (typed_value groups new))) new.overlays (λ entry m.
         among_from_all (IsMountedSoOften (world_of new)) new.overlays counts.overlays entry m
-        ∙ sym (showing_typed entry.filesystem.number));
+        ∙ sym (showing_typed entry.number));
     namespaces = all_from_among (CountsWhatIsInIt (world_of (typed_value groups new))) new.namespaces (λ entry m.
         let was = among_from_all (CountsWhatIsInIt (world_of new)) new.namespaces counts.namespaces entry m in
         record { tasks = was.tasks });

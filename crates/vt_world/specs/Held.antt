@@ -40,7 +40,7 @@ pub record CountsItsMounts (world : World ℕ) (entry : FilesystemEntry) : Type 
 
 -- an overlay counts the mounts that show it
 abbrev pub IsMountedSoOften : World ℕ → OverlayEntry → Type 0
-IsMountedSoOften world entry = entry.mounts ≡ mounts_showing world entry.filesystem.number
+IsMountedSoOften world entry = entry.mounts ≡ mounts_showing world entry.number
 
 -- The overlays of a world are read-only, and each of their inodes is the root or has a name. They are kept in the order
 -- of their numbers, as all filesystems are.
