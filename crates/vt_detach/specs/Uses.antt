@@ -1,6 +1,6 @@
 -- Mounts and filesystems with their counts, where a use of a location comes or goes: chdir(2), open(2), close(2).
 use Rattle.std.specs.Option.{option_and_then}
-use Rattle.std.specs.Prelude.{Bool, List, None, Option, Some, [], filter, filter_map, find, if◌then◌else◌, is_some, map, nat_eq, not, option_map, unwrap_or, ℕ, ◌&&◌, ◌+◌, ◌++◌, ◌-◌}
+use Rattle.std.specs.Prelude.{Bool, List, None, Option, Some, filter, filter_map, find, if◌then◌else◌, is_some, map, nat_eq, not, option_map, unwrap_or, ℕ, ◌&&◌, ◌+◌, ◌++◌, ◌-◌}
 use Rattle.vt_laws_counts.specs.Using.{pinned_if, unpinned_if}
 use Rattle.vt_fs.specs.FilesystemsValue.{Filesystems, Shown, shown}
 use Rattle.vt_laws_letting_go.specs.OneByOne.{Inode}
@@ -8,16 +8,10 @@ use Rattle.vt_location.specs.declared.locations.Location.{Location}
 use Rattle.vt_location.specs.declared.locations.NodeRef.{NodeRef}
 use Rattle.vt_location.specs.declared.mounts.Mount.{Mount as Attached}
 use Rattle.vt_location.specs.Locations.{number_of}
-use Rattle.vt_location.specs.Locations as Numbered
 use Rattle.vt_location.specs.Numbers.{counted}
-use Rattle.vt_merge.specs.declared.layers.LayerRef.{LayerRef}
 use Rattle.vt_spec.specs.Lists.{folded}
-use Rattle.vt_spec.specs.Machine.Locked.{of_overlay}
-use Rattle.vt_spec.specs.Machine.World.{layers_of}
 use Rattle.vt_spec.specs.Machine.Mounts.{Location as Place, Mount, detached}
 use Rattle.vt_mount.specs.MountsValue.{MountEntry, changed, entry_numbered, held, released, without}
-use Rattle.vt_store.specs.OverlaysValue as Stored
-use Rattle.vt_store.specs.StoreValue.{StoreValue}
 use Rattle.vt_world.specs.WorldValue.{OverlayEntry, WorldValue}
 pub use Rattle.vt_mount.specs.MountsValue.{unused_entry}
 
@@ -37,23 +31,12 @@ abbrev pub kept_with : List MountEntry → Filesystems → List Merged → Kept
 kept_with mounts filesystems overlays =
     record { mounts = mounts; filesystems = shown filesystems; overlays = overlays }
 
--- of a store
-abbrev pub layer_of : LayerRef → Inode
-layer_of layer = (counted layer.directory.filesystem.count, Numbered.inode_of layer.directory)
-
-abbrev pub merged_of : Stored.OverlayEntry → Merged
-merged_of entry =
-    record { number = counted entry.count; mounts = entry.mounts; layers = map layer_of entry.overlay.lowers }
-
-abbrev pub kept : List MountEntry → StoreValue → Kept
-kept mounts store = kept_with mounts store.plain (map merged_of store.overlays)
-
 -- of a world
 abbrev pub merged_seen : OverlayEntry → Merged
 merged_seen entry = record {
-  number = entry.filesystem.number;
+  number = entry.number;
   mounts = entry.mounts;
-  layers = map (λ layer. (layer.filesystem, layer.directory)) (of_overlay [] layers_of entry.filesystem);
+  layers = map (λ layer. (layer.filesystem, layer.directory)) entry.lowers;
 }
 
 abbrev pub kept_of : WorldValue → Kept
@@ -110,27 +93,29 @@ without_merged number all = filter (λ one. not (nat_eq number one.number)) all
 abbrev pub overlays_kept : List Merged → List OverlayEntry → List OverlayEntry
 overlays_kept left all =
     filter_map (λ entry. option_map (λ (one : Merged). record entry { mounts = one.mounts })
-    (merged_at entry.filesystem.number left)) all
+    (merged_at entry.number left)) all
 
 -- a layer less: a use of its directory, and a mount of its filesystem, which goes with its last
 abbrev pub without_layer : List Shown → Inode → List Shown
 without_layer all inode = let_go_filesystem inode.0 (released_in inode.0 (unpinned_in inode all))
 
--- one mount less of an overlay, which goes with its last, and its layers with it
-abbrev pub leave_merged : ℕ → Merged → Kept → Kept
-leave_merged number one k =
-    if nat_eq (one.mounts - 1) 0 then record k {
-      filesystems = folded without_layer k.filesystems one.layers;
-      overlays = without_merged number k.overlays;
-    } else record k { overlays = released_merged number k.overlays }
+-- what is left of plain filesystems with one mount less of one, or of an overlay: a plain one goes with its last mount,
+-- and the layers of an overlay with that of the overlay
+abbrev pub shown_left_by : ℕ → Option Merged → List Shown → List Shown
+shown_left_by number None all = let_go_filesystem number (released_in number all)
+shown_left_by number (Some one) all = if nat_eq (one.mounts - 1) 0 then folded without_layer all one.layers else all
 
--- one mount less of a filesystem, which goes with its last
-abbrev pub leave_by : ℕ → Option Merged → Kept → Kept
-leave_by number None k = record k { filesystems = let_go_filesystem number (released_in number k.filesystems) }
-leave_by number (Some one) k = leave_merged number one k
+-- and what is left of overlays
+abbrev pub merged_left_by : ℕ → Option Merged → List Merged → List Merged
+merged_left_by number None all = all
+merged_left_by number (Some one) all =
+    if nat_eq (one.mounts - 1) 0 then without_merged number all else released_merged number all
 
 abbrev pub leave_filesystem : ℕ → Kept → Kept
-leave_filesystem number k = leave_by number (merged_at number k.overlays) k
+leave_filesystem number k = record k {
+  filesystems = shown_left_by number (merged_at number k.overlays) k.filesystems;
+  overlays = merged_left_by number (merged_at number k.overlays) k.overlays;
+}
 
 -- Mounts
 

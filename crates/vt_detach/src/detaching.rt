@@ -3,7 +3,8 @@ ghost use Rattle.std.specs.Prelude.{◌<◌, ◌≡◌, IfSome, map, option_map,
 ghost use Rattle.vt_location.specs.Locations.{location_of};
 ghost use Rattle.vt_location.specs.Numbers.{mount_number};
 ghost use Rattle.vt_detach.specs.Detached.{LeaveInTurn, LeaveTogether};
-ghost use Rattle.vt_detach.specs.Uses.{kept, point_of, without_attachment};
+ghost use Rattle.vt_detach.specs.Stored.{kept};
+ghost use Rattle.vt_detach.specs.Uses.{point_of, without_attachment};
 
 use crate::uses::let_go_mount;
 use vt_group::Groups;

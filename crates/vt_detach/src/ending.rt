@@ -2,7 +2,7 @@
 ghost use Rattle.std.specs.Prelude.{◌≡◌};
 ghost use Rattle.vt_location.specs.Numbers.{namespace_number};
 ghost use Rattle.vt_detach.specs.NamespacesLeft.{MountsAreLeft, NamespaceIsLeft, namespace_entry, with_one_task_less};
-ghost use Rattle.vt_detach.specs.Uses.{kept};
+ghost use Rattle.vt_detach.specs.Stored.{kept};
 ghost use Rattle.vt_world.specs.WorldValue.{entries_of};
 
 use crate::detaching::detach;

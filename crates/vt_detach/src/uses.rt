@@ -4,7 +4,8 @@ ghost use Rattle.vt_fs.specs.FilesystemsValue.{shown};
 ghost use Rattle.vt_location.specs.Numbers.{filesystem_number, mount_number};
 ghost use Rattle.vt_detach.specs.Forking.{HasRoom};
 ghost use Rattle.vt_detach.specs.Uses as meant;
-ghost use Rattle.vt_detach.specs.Uses.{kept, merged_at, released_in, with_location, without_location};
+ghost use Rattle.vt_detach.specs.Stored.{kept};
+ghost use Rattle.vt_detach.specs.Uses.{merged_at, released_in, with_location, without_location};
 
 use std::alloc::AllocError;
 use vt_fs::Filesystems;
@@ -73,7 +74,7 @@ fn leave_filesystem(store: &mut Store, id: FilesystemId)
 // One mount less of an overlay, which goes with its last, and its layers with it.
 fn leave_overlay(store: &mut Store, id: FilesystemId)
     ensures { IfSome (merged_at (filesystem_number id) (kept [] store.old).overlays) (λ one.
-        kept [] store.new ≡ meant.leave_merged (filesystem_number id) one (kept [] store.old)) }
+        kept [] store.new ≡ meant.leave_filesystem (filesystem_number id) (kept [] store.old)) }
 {
     store.release_mount(id);
     if store.mounts(id) == 0 {
