@@ -56,3 +56,4 @@ pub mod TreesInNamespaces
 pub mod Entered
 pub mod BesideOverlays
 pub mod FilesystemsLeft
+pub mod StoresLeft
