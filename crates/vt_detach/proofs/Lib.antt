@@ -57,3 +57,4 @@ pub mod Entered
 pub mod BesideOverlays
 pub mod FilesystemsLeft
 pub mod StoresLeft
+pub mod LayersLeft
