@@ -58,3 +58,4 @@ pub mod BesideOverlays
 pub mod FilesystemsLeft
 pub mod StoresLeft
 pub mod LayersLeft
+pub mod OverlaysGone
