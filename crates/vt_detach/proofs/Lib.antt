@@ -59,3 +59,4 @@ pub mod FilesystemsLeft
 pub mod StoresLeft
 pub mod LayersLeft
 pub mod OverlaysGone
+pub mod MountsLeave
