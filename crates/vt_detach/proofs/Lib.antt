@@ -60,3 +60,4 @@ pub mod StoresLeft
 pub mod LayersLeft
 pub mod OverlaysGone
 pub mod MountsLeave
+pub mod OverlaysKept
