@@ -13,9 +13,10 @@ use Rattle.vt_laws_counts.specs.Using.{Exchanges}
 use Rattle.vt_laws_counts.proofs.overlays.FilesystemUses.{overlays_take_their_uses}
 use Rattle.vt_laws_counts.proofs.overlays.Living.{layers_left_are_mounted, lives_while_counted, lives_while_mounted, overlays_are_no_layers}
 use Rattle.vt_laws_letting_go.specs.Counts.{mounts_showing, times}
+use Rattle.vt_laws_letting_go.specs.InUse.{FilesystemsInUse}
 use Rattle.vt_laws_letting_go.specs.OneByOne.{Inode, without_mount}
 use Rattle.vt_laws_letting_go.specs.Overlays.{used_by_filesystem}
-use Rattle.vt_laws_letting_go.proofs.Lists.{Among, all_from_among, among-filter, among-from_filter, among-from_map, among-map, among_from_all, filter-map, filter_all, filter_alike, filter_twice, flat_map_alike, found_in}
+use Rattle.vt_laws_letting_go.proofs.Lists.{Among, all_from_among, all_pass, among-filter, among-from_filter, among-from_map, among-map, among_from_all, filter-map, filter_all, filter_alike, filter_twice, flat_map_alike, found_in, or_first, passes}
 use Rattle.vt_laws_letting_go.proofs.sweeps.UsesCounted.{mounted_while_counted}
 use Rattle.vt_laws_overlays_stay.specs.Woven.{are_rising}
 use Rattle.vt_laws_overlays_stay.proofs.weaving.WovenLists.{rising_filtered}
@@ -71,6 +72,18 @@ module _ (old : WorldValue) (held : IsHeld old) (world : World ℕ) (leaves : Le
           (world_of old).filesystems (overlays_are_no_layers (world_of old) held.in_world) overlay before.0 before.1)
           merged
           (among_before merged (overlay_was merged (among-filter is_overlay world.filesystems merged n e)).0).0
+
+  -- in a plain filesystem that is in use something is counted
+  pub plain_ones_counted : FilesystemsInUse world → (f : Filesystem ℕ) → Among f world.filesystems
+      → nat_lt 0 (mounts_showing world f.number + layer_count world f.number) ≡ true
+  plain_ones_counted living f m =
+      ap (λ n. nat_lt 0 (mounts_showing world f.number + n))
+      (layers_left_are_mounted world world f.number
+      (sym (filter_all (λ overlay. is_mounted nat_eq world overlay.number) (filter is_overlay world.filesystems)
+      (λ overlay n. (overlay_was overlay n).1))))
+      ∙ sym (some_of_both (mounts_showing world f.number) (mounted_layer_count world f.number))
+      ∙ sym (lives_while_counted world f)
+      ∙ passes (filesystem_lives nat_eq world) world.filesystems living f m
 
   overlays_apart : any_pair (λ (a b : Filesystem ℕ). nat_eq a.number b.number) (filter is_overlay world.filesystems)
       ≡ false
@@ -178,6 +191,29 @@ module _ (old : WorldValue) (held : IsHeld old) (world : World ℕ) (leaves : Le
         by overlay false e =
             e ∙ both (is_mounted nat_eq world overlay.number)
             ∙ ap (λ c. is_mounted nat_eq world overlay.number && c) (sym e)
+
+    -- and all that is left is in use.
+    pub living_then : FilesystemsInUse left
+    living_then = all_pass (filesystem_lives nat_eq left) left.filesystems (λ f m.
+        let from = among-from_filter stays world.filesystems f (subst (λ all. Among f all) left_are m) in
+        by f from.1 (is_overlay f) refl)
+      where
+        all_shown : filter (λ overlay. is_mounted nat_eq left overlay.number) (filter is_overlay left.filesystems)
+            ≡ filter is_overlay left.filesystems
+        all_shown = filter_all is_shown (filter is_overlay left.filesystems) (λ overlay m.
+            (among-from_filter is_shown (filter is_overlay world.filesystems) overlay
+            (subst (λ all. Among overlay all) overlays_stay m)).1)
+
+        by : (f : Filesystem ℕ) → stays f ≡ true → (b : Bool) → is_overlay f ≡ b → filesystem_lives nat_eq left f ≡ true
+        by f stay true e =
+            or_first (is_mounted nat_eq left f.number) _
+            (ap (λ b. cond b (is_shown f) (nat_lt 0 (counts f.number))) (sym e) ∙ stay)
+        by f stay false e =
+            lives_while_counted left f
+            ∙ some_of_both (mounts_showing left f.number) (mounted_layer_count left f.number)
+            ∙ ap (λ n. nat_lt 0 (mounts_showing left f.number + n))
+            (sym (layers_left_are_mounted left left f.number (sym all_shown)) ∙ layers_stay f.number)
+            ∙ ap (λ b. cond b (is_shown f) (nat_lt 0 (counts f.number))) (sym e) ∙ stay
 
     -- Code keeps this of the world, and a mount of the filesystem goes with a use of its root.
     module _ (root : ℕ) (overlays : List Merged)
