@@ -41,7 +41,7 @@ pub record LeavesOverlays (old : WorldValue) (world : World ℕ) : Type 0 where
 
 module _ (old : WorldValue) (held : IsHeld old) (world : World ℕ) (leaves : LeavesOverlays old world) where
   -- an overlay of the world is one of before, and a mount shows it
-  overlay_was : (overlay : Filesystem ℕ) → Among overlay (filter is_overlay world.filesystems)
+  pub overlay_was : (overlay : Filesystem ℕ) → Among overlay (filter is_overlay world.filesystems)
       → Among overlay (overlays_seen old.overlays) × (is_mounted nat_eq world overlay.number ≡ true)
   overlay_was overlay m =
       among-from_filter (λ overlay. is_mounted nat_eq world overlay.number) (overlays_seen old.overlays) overlay
@@ -85,7 +85,7 @@ module _ (old : WorldValue) (held : IsHeld old) (world : World ℕ) (leaves : Le
       ∙ sym (lives_while_counted world f)
       ∙ passes (filesystem_lives nat_eq world) world.filesystems living f m
 
-  overlays_apart : any_pair (λ (a b : Filesystem ℕ). nat_eq a.number b.number) (filter is_overlay world.filesystems)
+  pub overlays_apart : any_pair (λ (a b : Filesystem ℕ). nat_eq a.number b.number) (filter is_overlay world.filesystems)
       ≡ false
   overlays_apart =
       subst (λ list. any_pair (λ (a b : Filesystem ℕ). nat_eq a.number b.number) list ≡ false) (sym leaves.overlays)
@@ -229,7 +229,7 @@ module _ (old : WorldValue) (held : IsHeld old) (world : World ℕ) (leaves : Le
       abbrev lost : List Inode
       lost = (filesystem, root) ∷ layers_gone filesystem overlays
 
-      abbrev left_shown : List Shown
+      abbrev pub left_shown : List Shown
       left_shown = filter is_some_left (map (less lost) shown)
 
       gone_is : flat_map layers_used (filter (λ f. not (is_shown f)) (filter is_overlay world.filesystems))
