@@ -33,8 +33,7 @@ use Rattle.vt_detach.proofs.Detached.{IsDetaching, detach_first}
 use Rattle.vt_detach.proofs.Keeping.{IsKeptBut, IsShownIn, detached_in, looked_at, no_more, points_lost, same_number}
 use Rattle.vt_detach.proofs.MountsGone.{found_mapped, none_numbered, pending_filesystem, pending_number}
 use Rattle.vt_detach.proofs.Moving.{map_itself, swap_eq}
-use Rattle.vt_detach.proofs.MountsLeave.{LeavesOverlays}
-use Rattle.vt_detach.proofs.OverlaysGone.{layers_used, merged_in}
+use Rattle.vt_detach.proofs.MountsLeave.{leaves_alike, merged_alike}
 use Rattle.vt_spec.proofs.Lists.{map_alike, map_twice}
 use Rattle.vt_spec.proofs.Worlds.{shown-mapped}
 use Rattle.vt_laws_letting_go.specs.TreesOverlays.{in_use_of}
@@ -389,29 +388,10 @@ module _ (old : WorldValue) (gained lost : List Inode) (world : World ℕ) (k : 
       (λ mount. ap (nat_eq n) (pending_filesystem gone mount))) f
       ∙ passes (filesystem_lives nat_eq world) world.filesystems is.mounted f m)
 
-  begun_merged : k.overlays ≡ map (merged_in after) (filter is_overlay after.filesystems)
-  begun_merged =
-      is.merged
-      ∙ map_alike (merged_in world) (merged_in after) (filter is_overlay world.filesystems) (λ overlay m. λ i. record {
-        number = overlay.number;
-        mounts = sym (showing overlay.number) i;
-        layers = layers_used overlay;
-      })
-
-  begun_leaves : LeavesOverlays old after
-  begun_leaves = record {
-    overlays = is.leaves.overlays
-        ∙ filter_alike (λ (overlay : Filesystem ℕ). is_mounted nat_eq world overlay.number)
-        (λ (overlay : Filesystem ℕ). is_mounted nat_eq after overlay.number) (overlays_seen old.overlays)
-        (λ overlay m. sym (any-map (λ (mount : Mount ℕ). nat_eq overlay.number mount.filesystem) (detached_in gone)
-        world.mounts (λ mount. ap (nat_eq overlay.number) (pending_filesystem gone mount))));
-    rise = is.leaves.rise;
-  }
-
   begun_kept : IsKeptBut old gone gone gained lost after k
   begun_kept = record {
     held = is.held;
-    merged = begun_merged;
+    merged = is.merged ∙ merged_alike world after refl showing;
     mounts = ap (map (detached_in gone)) same_mounts;
     uses = all_from_among (CountsItsUses after) k.mounts (λ entry m.
         let counts = among_from_all (CountsItsUses world) k.mounts is.uses entry m in
@@ -422,7 +402,7 @@ module _ (old : WorldValue) (gained lost : List Inode) (world : World ℕ) (k : 
     located = begun_located;
     in_use = begun_in_use;
     mounted = begun_mounted;
-    leaves = begun_leaves;
+    leaves = leaves_alike world after refl showing old is.leaves;
     points = is.points;
     places = λ mount m place p.
         let from = among-from_map (detached_in gone) world.mounts mount m in

@@ -47,9 +47,9 @@ use Rattle.vt_detach.proofs.GoneAlone.{alone_has, alone_regroups}
 use Rattle.vt_detach.proofs.Grouped.{settled_has, stays_private}
 use Rattle.vt_detach.proofs.Keeping.{IsKeptBut, detached_in, no_more}
 use Rattle.vt_detach.proofs.LocationsSeen.{seen_where_located}
+use Rattle.vt_detach.proofs.MountsLeave.{leaves_at_first, merged_at_first}
 use Rattle.vt_detach.proofs.Moving.{map_itself}
 use Rattle.vt_detach.proofs.Overlaid.{KeepsOverlays, keeps_itself, none_still, none_to_mount, overlays_are, plain_ones_are, same_files_keep}
-use Rattle.vt_detach.proofs.OverlaysGone.{merged_in}
 use Rattle.vt_detach.proofs.Remaining.{remade}
 use Rattle.vt_detach.proofs.Staying.{IsDone}
 use Rattle.vt_detach.proofs.TypedEvents.{typed_done, typed_value}
@@ -97,13 +97,7 @@ module _ (value : WorldValue) (whole : IsHeld value) where
   pub held_is_kept : IsKeptBut value [] [] [] [] world (kept_of value)
   held_is_kept = record {
     held = whole;
-    merged = map_alike merged_seen (λ entry. merged_in world (overlay_seen entry)) value.overlays (λ entry m. λ i. record {
-      number = entry.number;
-      mounts = among_from_all (IsMountedSoOften world) value.overlays whole.overlays.mounts entry m i;
-      layers = map (λ layer. (layer.filesystem, layer.directory)) entry.lowers;
-    })
-        ∙ sym (map_twice (merged_in world) overlay_seen value.overlays)
-        ∙ ap (map (merged_in world)) (sym (overlays_are value whole.overlays));
+    merged = merged_at_first value whole;
     mounts = map_itself (mounts_in value.mounts);
     uses = whole.mounts;
     numbers = ap (map (λ (f : Filesystem ℕ). f.number)) (plain_ones_are value whole.overlays)
@@ -125,13 +119,7 @@ module _ (value : WorldValue) (whole : IsHeld value) where
     located = Roots.locations_of_worlds_stand world whole.in_world;
     in_use = (worlds_are_in_use world whole.in_world).mounts;
     mounted = (worlds_are_in_use world whole.in_world).filesystems;
-    leaves = record {
-      overlays = overlays_are value whole.overlays
-          ∙ sym (filter_all (λ overlay. is_mounted nat_eq world overlay.number) (overlays_seen value.overlays)
-          (among_from_all (λ (overlay : Filesystem ℕ). is_mounted nat_eq world overlay.number ≡ true)
-          (overlays_seen value.overlays) (mounted_at_first value whole)));
-      rise = whole.overlays.all_rise;
-    };
+    leaves = leaves_at_first value whole;
     points = λ mount m point p few. seen_where_located value whole point few
         (point_located mount m (location_of point) p);
     places = λ mount m place p. refl;

@@ -32,7 +32,7 @@ use Rattle.vt_laws_worlds.proofs.worlds.Roots.{directory_there}
 use Rattle.vt_laws_mounts.specs.Mounts.Attaching.{OneNumberAMount}
 use Rattle.vt_laws_letting_go.specs.Attaching.{inodes_of_mount_point}
 use Rattle.vt_world.specs.Held.{CountsItsMounts, CountsItsUses, IsHeld, writes_of}
-use Rattle.vt_detach.specs.Uses.{Kept, is_unused, kept_of, merged_seen}
+use Rattle.vt_detach.specs.Uses.{Kept, is_unused, kept_of}
 use Rattle.vt_world.specs.WorldValue.{WorldValue, world_of}
 use Rattle.vt_detach.proofs.LostUses.{positive}
 use Rattle.vt_detach.proofs.Midway.{IsShown, Midway, NoneUnused, Reached, gone_if, gone_number, point_left, points_left}
@@ -41,7 +41,8 @@ use Rattle.vt_detach.proofs.Staying.{after}
 use Rattle.vt_spec.proofs.Lists.{map_alike, map_twice}
 use Rattle.vt_laws_counts.specs.OverlaysStay.{layer_count}
 use Rattle.vt_detach.proofs.BesideOverlays.{lives_midway, mounted_at_first}
-use Rattle.vt_detach.proofs.Overlaid.{keeps_itself, plain_one_among, plain_ones_are, same_files_keep}
+use Rattle.vt_detach.proofs.MountsLeave.{leaves_alike, leaves_at_first, merged_alike, merged_at_first}
+use Rattle.vt_detach.proofs.Overlaid.{keeps_itself, plain_one_among, plain_ones_are}
 
 -- Mounts that are detached at once, in a world
 
@@ -423,7 +424,8 @@ module _ (value : WorldValue) (whole : IsHeld value) (tasks : Tasks) (more less 
   begins_midway : Midway value ended gained goes less ended k_begins []
   begins_midway = record {
     held = whole;
-    none = gained_overlays world more (kept_of value) ∙ ap (map merged_seen) whole.overlays.none_yet;
+    merged = gained_overlays world more (kept_of value) ∙ merged_at_first value whole
+        ∙ merged_alike world ended refl (λ n. shows_still n world.mounts);
     mounts = ap (map (gone_if goes)) (sym same_entries);
     uses = λ entry m. let from = entry_was entry m in
         subst (λ (e : MountEntry). e.uses ≡ mount_uses next e.mount.number + times (is_use_on e.mount.number) less)
@@ -447,7 +449,7 @@ module _ (value : WorldValue) (whole : IsHeld value) (tasks : Tasks) (more less 
         (filesystems_gained world more (kept_of value)));
     stand = stand_ended;
     located = located_ended;
-    keeps = same_files_keep value world ended refl (keeps_itself value whole.overlays);
+    leaves = leaves_alike world ended refl (λ n. shows_still n world.mounts) value (leaves_at_first value whole);
     same = refl;
   }
 

@@ -6,7 +6,7 @@ use Rattle.std.proofs.lemmas.List.{append-nil}
 use Rattle.vt_spec.specs.Lists.{folded}
 use Rattle.vt_spec.specs.Machine.Mounts.{Location, Mount, detached}
 use Rattle.vt_spec.specs.Machine.SameWorlds.{without_changes}
-use Rattle.vt_spec.specs.Machine.Settled.{filesystem_lives, is_located, mount_lives, without_dead_filesystems, without_dead_mounts}
+use Rattle.vt_spec.specs.Machine.Settled.{filesystem_lives, is_located, is_mounted, mount_lives, without_dead_filesystems, without_dead_mounts}
 use Rattle.vt_spec.specs.Machine.World.{Filesystem, Task, World, is_overlay}
 use Rattle.vt_laws_counts.specs.OverlaysStay.{layer_count}
 use Rattle.vt_laws_counts.specs.Using.{Exchanges}
@@ -14,7 +14,7 @@ use Rattle.vt_fs.specs.FilesystemsValue.{FilesystemEntry, Shown, shown_entry}
 use Rattle.vt_laws_letting_go.specs.Counts.{mount_uses, mounts_showing}
 use Rattle.vt_laws_letting_go.specs.OneByOne.{Inode}
 use Rattle.vt_laws_letting_go.specs.Mounting.{inode_at}
-use Rattle.vt_laws_letting_go.proofs.Lists.{Among, all_from_among, among-filter, among-from_map, among-map, filter_all, flat_map_none, map_same}
+use Rattle.vt_laws_letting_go.proofs.Lists.{Among, all_from_among, among-filter, among-from_map, among-map, among_from_all, filter_all, flat_map_none, map_same}
 use Rattle.vt_laws_letting_go.proofs.sweeps.UsesCounted.{located_while_counted}
 use Rattle.vt_location.specs.declared.locations.Location.{Location as Place}
 use Rattle.vt_location.specs.Numbers.{counted}
@@ -24,11 +24,12 @@ use Rattle.vt_world.specs.Held.{CountsItsUses, CountsWhatIsInIt, IsHeld, IsMount
 use Rattle.vt_detach.specs.NamespacesLeft.{AreDetached, Detached}
 use Rattle.vt_detach.specs.Uses.{Kept, Merged, kept_with, without_attachment, without_use}
 use Rattle.vt_world.specs.WorldValue.{WorldValue, overlays_seen, world_of}
-use Rattle.vt_detach.proofs.BesideOverlays.{layers_of_value, lives_midway, overlay_lives}
+use Rattle.vt_detach.proofs.BesideOverlays.{layers_of_value}
 use Rattle.vt_detach.proofs.Bridging.{IsSwept}
 use Rattle.vt_detach.proofs.Finishing.{CountsBeside}
 use Rattle.vt_detach.proofs.Midway.{IsGoing, Midway, Reached, gone_if, left_alone, mount_taken, point_left, points_left, taken_alone, use_left}
 use Rattle.vt_detach.proofs.MidwayGoes.{mount_looked_at}
+use Rattle.vt_detach.proofs.MountsLeave.{counted_lives, overlay_lives_still}
 use Rattle.vt_detach.proofs.Moving.{Use, inodes_of_uses}
 use Rattle.vt_detach.proofs.LostUses.{positive}
 use Rattle.vt_detach.proofs.Overlaid.{KeepsOverlays, is_plain_one, none_still, none_to_mount}
@@ -138,18 +139,28 @@ module _ (value : WorldValue) (start : World ℕ) (gained : List Inode) (goes : 
   filesystem_is_used f m = by (is_overlay f) refl
     where
       by : (b : Bool) → is_overlay f ≡ b → filesystem_lives nat_eq now f ≡ true
-      by true e = overlay_lives value now mid.keeps (none_to_mount value mid.held now) f m e
+      by true e = overlay_lives_still value mid.held now mid.leaves f m e
       by false e =
           let from = among-from_map (λ (one : Shown). counted one.count) k.filesystems f.number
           (subst (λ all. Among f.number all) mid.numbers
           (among-map (λ (x : Filesystem ℕ). x.number) (filter is_plain_one now.filesystems) f
           (among-filter is_plain_one now.filesystems f m (ap not e)))) in
           let is = mid.shown from.0 from.1 in
-          lives_midway value now mid.keeps (none_to_mount value mid.held now) f
-          ∙ positive (mounts_showing now f.number + layer_count now f.number)
+          counted_lives value mid.held now mid.leaves f
+          (positive (mounts_showing now f.number + layer_count now f.number)
           ∙ ap (λ n. not (nat_eq n 0))
           (ap (λ n. mounts_showing now n + layer_count now n) from.2 ∙ sym is.mounts)
-          ∙ ap not is.mounted
+          ∙ ap not is.mounted)
+
+  -- all overlays of before are shown still
+  keeps_all : KeepsOverlays value now
+  keeps_all = record {
+    overlays = mid.leaves.overlays
+        ∙ filter_all (λ overlay. is_mounted nat_eq now overlay.number) (overlays_seen value.overlays)
+        (among_from_all (λ (overlay : Filesystem ℕ). is_mounted nat_eq now overlay.number ≡ true)
+        (overlays_seen value.overlays) (none_to_mount value mid.held now));
+    rise = mid.leaves.rise;
+  }
 
   living_is : in_use_of start ≡ now
   living_is =
@@ -214,7 +225,7 @@ module _ (value : WorldValue) (start : World ℕ) (gained : List Inode) (goes : 
         is.mounts
         ∙ (λ i. Rattle.vt_laws_letting_go.specs.Counts.times
         (λ (x : Mount ℕ). nat_eq (counted entry.count) x.filesystem) (mounts_are i)
-        + sym (layers_of_value value new mid.held.overlays same_overlays now mid.keeps (counted entry.count)) i);
+        + sym (layers_of_value value new mid.held.overlays same_overlays now keeps_all (counted entry.count)) i);
     overlays = subst (All (IsMountedSoOften (world_of new))) (sym (none_still value new mid.held same_overlays))
         (All-nil _);
     namespaces = namespaces;

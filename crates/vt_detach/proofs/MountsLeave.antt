@@ -21,11 +21,11 @@ use Rattle.vt_laws_letting_go.proofs.sweeps.UsesCounted.{mounted_while_counted}
 use Rattle.vt_laws_overlays_stay.specs.Woven.{are_rising}
 use Rattle.vt_laws_overlays_stay.proofs.weaving.WovenLists.{rising_filtered}
 use Rattle.vt_location.specs.Numbers.{counted}
-use Rattle.vt_world.specs.Held.{IsHeld}
-use Rattle.vt_world.specs.WorldValue.{WorldValue, overlays_seen, world_of}
+use Rattle.vt_world.specs.Held.{IsHeld, IsMountedSoOften}
+use Rattle.vt_world.specs.WorldValue.{WorldValue, overlay_seen, overlays_seen, world_of}
 use Rattle.vt_detach.specs.Uses as meant
-use Rattle.vt_detach.specs.Uses.{Merged, let_go_filesystem, merged_at, released_in, shown_left_by, unpinned_in, without_layer}
-use Rattle.vt_detach.proofs.BesideOverlays.{no_layer_of_plain, some_of_both}
+use Rattle.vt_detach.specs.Uses.{Merged, let_go_filesystem, merged_at, merged_seen, released_in, shown_left_by, unpinned_in, without_layer}
+use Rattle.vt_detach.proofs.BesideOverlays.{mounted_at_first, no_layer_of_plain, some_of_both}
 use Rattle.vt_detach.proofs.LayersLeft.{go_one_by_one, is_some_left, less}
 use Rattle.vt_detach.proofs.LostUses.{found_unless, positive}
 use Rattle.vt_detach.proofs.Moving.{map_itself, swap_eq}
@@ -73,14 +73,34 @@ module _ (old : WorldValue) (held : IsHeld old) (world : World ℕ) (leaves : Le
           merged
           (among_before merged (overlay_was merged (among-filter is_overlay world.filesystems merged n e)).0).0
 
+  -- all layers are those of overlays that mounts show
+  all_layers_mounted : (number : ℕ) → layer_count world number ≡ mounted_layer_count world number
+  all_layers_mounted number =
+      layers_left_are_mounted world world number
+      (sym (filter_all (λ overlay. is_mounted nat_eq world overlay.number) (filter is_overlay world.filesystems)
+      (λ overlay n. (overlay_was overlay n).1)))
+
+  -- an overlay lives,
+  pub overlay_lives_still : (f : Filesystem ℕ) → Among f world.filesystems → is_overlay f ≡ true
+      → filesystem_lives nat_eq world f ≡ true
+  overlay_lives_still f m e =
+      or_first (is_mounted nat_eq world f.number) _ (overlay_was f (among-filter is_overlay world.filesystems f m e)).1
+
+  -- and so does a filesystem in which something is counted
+  pub counted_lives : (f : Filesystem ℕ)
+      → nat_lt 0 (mounts_showing world f.number + layer_count world f.number) ≡ true
+      → filesystem_lives nat_eq world f ≡ true
+  counted_lives f some =
+      lives_while_counted world f
+      ∙ some_of_both (mounts_showing world f.number) (mounted_layer_count world f.number)
+      ∙ ap (λ n. nat_lt 0 (mounts_showing world f.number + n)) (sym (all_layers_mounted f.number))
+      ∙ some
+
   -- in a plain filesystem that is in use something is counted
   pub plain_ones_counted : FilesystemsInUse world → (f : Filesystem ℕ) → Among f world.filesystems
       → nat_lt 0 (mounts_showing world f.number + layer_count world f.number) ≡ true
   plain_ones_counted living f m =
-      ap (λ n. nat_lt 0 (mounts_showing world f.number + n))
-      (layers_left_are_mounted world world f.number
-      (sym (filter_all (λ overlay. is_mounted nat_eq world overlay.number) (filter is_overlay world.filesystems)
-      (λ overlay n. (overlay_was overlay n).1))))
+      ap (λ n. nat_lt 0 (mounts_showing world f.number + n)) (all_layers_mounted f.number)
       ∙ sym (some_of_both (mounts_showing world f.number) (mounted_layer_count world f.number))
       ∙ sym (lives_while_counted world f)
       ∙ passes (filesystem_lives nat_eq world) world.filesystems living f m
@@ -378,3 +398,51 @@ module _ (old : WorldValue) (held : IsHeld old) (world : World ℕ) (leaves : Le
               absurd (true≢false (sym (eq-eqb n x.number (sym e))
               ∙ others x (among-filter is_overlay world.filesystems x m o)))
           by x m e false o = ap (λ k. nat_lt 0 (counts k)) e ∙ some_there
+
+-- In the code's world all overlays are shown, and kept with their counts.
+pub leaves_at_first : (value : WorldValue) → IsHeld value → LeavesOverlays value (world_of value)
+leaves_at_first value whole = record {
+  overlays = overlays_are value whole.overlays
+      ∙ sym (filter_all (λ overlay. is_mounted nat_eq (world_of value) overlay.number) (overlays_seen value.overlays)
+      (among_from_all (λ (overlay : Filesystem ℕ). is_mounted nat_eq (world_of value) overlay.number ≡ true)
+      (overlays_seen value.overlays) (mounted_at_first value whole)));
+  rise = whole.overlays.all_rise;
+}
+
+pub merged_at_first : (value : WorldValue) → IsHeld value
+    → map merged_seen value.overlays
+    ≡ map (merged_in (world_of value)) (filter is_overlay (world_of value).filesystems)
+merged_at_first value whole =
+    map_alike merged_seen (λ entry. merged_in (world_of value) (overlay_seen entry)) value.overlays
+    (λ entry m. λ i. record {
+      number = entry.number;
+      mounts = among_from_all (IsMountedSoOften (world_of value)) value.overlays whole.overlays.mounts entry m i;
+      layers = map (λ layer. (layer.filesystem, layer.directory)) entry.lowers;
+    })
+    ∙ sym (map_twice (merged_in (world_of value)) overlay_seen value.overlays)
+    ∙ ap (map (merged_in (world_of value))) (sym (overlays_are value whole.overlays))
+
+-- So they are where as many mounts show each filesystem.
+module _ (world other : World ℕ) (same : other.filesystems ≡ world.filesystems)
+    (showing : (n : ℕ) → mounts_showing other n ≡ mounts_showing world n) where
+  pub leaves_alike : (old : WorldValue) → LeavesOverlays old world → LeavesOverlays old other
+  leaves_alike old leaves = record {
+    overlays = ap (filter is_overlay) same ∙ leaves.overlays
+        ∙ filter_alike (λ (overlay : Filesystem ℕ). is_mounted nat_eq world overlay.number)
+        (λ (overlay : Filesystem ℕ). is_mounted nat_eq other overlay.number) (overlays_seen old.overlays)
+        (λ overlay m.
+        mounted_while_counted world overlay.number ∙ ap (nat_lt 0) (sym (showing overlay.number))
+        ∙ sym (mounted_while_counted other overlay.number));
+    rise = ap are_rising same ∙ leaves.rise;
+  }
+
+  pub merged_alike : map (merged_in world) (filter is_overlay world.filesystems)
+      ≡ map (merged_in other) (filter is_overlay other.filesystems)
+  merged_alike =
+      map_alike (merged_in world) (merged_in other) (filter is_overlay world.filesystems)
+      (λ overlay m. λ i. record {
+        number = overlay.number;
+        mounts = sym (showing overlay.number) i;
+        layers = layers_used overlay;
+      })
+      ∙ ap (λ all. map (merged_in other) (filter is_overlay all)) (sym same)
