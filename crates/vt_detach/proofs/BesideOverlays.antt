@@ -1,18 +1,20 @@
 -- Which filesystems live in a world with overlays, by the mounts that show them and the layers that overlays have in
 -- them.
-use Rattle.std.proofs.Common.{◌≡◌, refl, sym, ap, subst, ◌∙◌, ⊎_elim, ℕ, zero, suc, ◌+◌, nat_eq, nat_lt, Bool, true, false, true≢false, not, ◌&&◌, ◌||◌, List, [], filter, flat_map, Option, Some, None, is_some, arith}
+use Rattle.std.proofs.Common.{◌≡◌, refl, sym, ap, subst, ◌∙◌, ⊎_elim, ℕ, zero, suc, ◌+◌, nat_eq, nat_lt, Bool, true, false, true≢false, cond, not, ◌&&◌, ◌||◌, List, [], filter, flat_map, Option, Some, None, is_some, arith}
 use Rattle.std.specs.Prelude.{All}
 use Rattle.std.specs.List.{list_any}
 use Rattle.std.proofs.lemmas.Bool.{and_parts, or_cases}
 use Rattle.std.proofs.lemmas.List.{append-nil}
 use Rattle.vt_spec.specs.Machine.Locked.{of_overlay, overlay_or}
-use Rattle.vt_spec.specs.Machine.Settled.{filesystem_lives, has_layer_on, is_mounted, without_dead_filesystems}
+use Rattle.vt_spec.specs.Machine.Settled.{filesystem_lives, has_layer_on, is_mounted, settled, without_dead_filesystems, without_dead_mounts}
 use Rattle.vt_spec.specs.Machine.World.{Filesystem, Layer, Overlay, World, is_overlay, layers_of}
 use Rattle.vt_spec.proofs.Truths.{one_more_is_some}
 use Rattle.vt_laws_counts.specs.OverlaysStay.{HasNoLayerIn, layer_count}
-use Rattle.vt_laws_counts.proofs.overlays.Living.{layers_left_are_mounted, lives_while_counted, lives_while_mounted, overlays_are_mounted, overlays_use_filesystems}
+use Rattle.vt_laws_counts.proofs.overlays.Living.{layers_left_are_mounted, lives_while_counted, lives_while_mounted, overlays_are_mounted, overlays_are_no_layers, overlays_use_filesystems}
+use Rattle.vt_laws_counts.proofs.overlays.NamedStay.{named_overlays_stay}
 use Rattle.vt_laws_letting_go.specs.Counts.{mounts_showing}
-use Rattle.vt_laws_letting_go.proofs.Lists.{Among, all_from_among, among-filter, among-flat_map, among-from_filter, among_from_all, any-filter, any_counted, any_passes, fails, filter_all, filter_less, filter_twice, none_passes, one_passes, or_first, or_second}
+use Rattle.vt_laws_letting_go.proofs.Lists.{Among, all_from_among, among-filter, among-flat_map, among-from_filter, among_from_all, any-filter, any_counted, any_passes, fails, filter_all, filter_alike, filter_less, filter_twice, none_passes, one_passes, or_first, or_second}
+use Rattle.vt_laws_letting_go.specs.TreesOverlays.{in_use_of}
 use Rattle.vt_laws_letting_go.proofs.sweeps.InUse.{layers_on}
 use Rattle.vt_laws_letting_go.proofs.sweeps.UsesCounted.{mounted_while_counted}
 use Rattle.vt_laws_overlays_stay.specs.Woven.{are_rising}
@@ -20,7 +22,7 @@ use Rattle.vt_laws_overlays_stay.proofs.weaving.WovenLists.{woven_lists_are_pass
 use Rattle.vt_fs.specs.FilesystemsValue.{filesystems_seen}
 use Rattle.vt_world.specs.Held.{HoldsOverlays, IsHeld}
 use Rattle.vt_world.specs.WorldValue.{WorldValue, overlays_seen, world_of}
-use Rattle.vt_detach.proofs.Overlaid.{AreStillMounted, KeepsOverlays, files_are_plain, is_plain_one, overlays_are}
+use Rattle.vt_detach.proofs.Overlaid.{AreStillMounted, KeepsOverlays, files_are_plain, is_plain_one, named_midway, overlays_are}
 
 -- Counts
 
@@ -160,6 +162,71 @@ mounted_at_first value whole =
     among_from_all (λ (overlay : Filesystem ℕ). is_overlay overlay ≡ true
     → is_mounted nat_eq (world_of value) overlay.number ≡ true) (world_of value).filesystems
     (overlays_are_mounted (world_of value) whole.in_world) f from.0 from.1)
+
+-- No overlay of before has a layer in one of them,
+pub no_layer_midway : (old : WorldValue) → IsHeld old → (world : World ℕ)
+    → ((f : Filesystem ℕ) → Among f world.filesystems → is_overlay f ≡ true
+    → Among f (overlays_seen old.overlays))
+    → (overlay : Filesystem ℕ) → Among overlay (overlays_seen old.overlays) → HasNoLayerIn overlay.number world
+no_layer_midway old held world were overlay n =
+    all_from_among (λ merged. has_layer_on nat_eq overlay.number merged ≡ false) world.filesystems (λ merged m.
+    by merged m (is_overlay merged) refl)
+  where
+    before : (f : Filesystem ℕ) → Among f (overlays_seen old.overlays)
+        → Among f (world_of old).filesystems × (is_overlay f ≡ true)
+    before f m =
+        among-from_filter is_overlay (world_of old).filesystems f
+        (subst (λ all. Among f all) (sym (overlays_are old held.overlays)) m)
+
+    by : (merged : Filesystem ℕ) → Among merged world.filesystems → (b : Bool) → is_overlay merged ≡ b
+        → has_layer_on nat_eq overlay.number merged ≡ false
+    by merged m false e = no_layer_of_plain overlay.number merged e
+    by merged m true e =
+        among_from_all (λ (g : Filesystem ℕ). has_layer_on nat_eq overlay.number g ≡ false) (world_of old).filesystems
+        (among_from_all (λ (f : Filesystem ℕ). is_overlay f ≡ true → HasNoLayerIn f.number (world_of old))
+        (world_of old).filesystems (overlays_are_no_layers (world_of old) held.in_world) overlay
+        (before overlay n).0 (before overlay n).1)
+        merged (before merged (were merged m e)).0
+
+-- so the sweep leaves those that mounts show.
+pub swept_overlays : (old : WorldValue) → IsHeld old → (world : World ℕ) → KeepsOverlays old world
+    → filter is_overlay (settled nat_eq world).filesystems
+    ≡ filter (λ overlay. is_mounted nat_eq (in_use_of world) overlay.number) (overlays_seen old.overlays)
+swept_overlays old held world keeps =
+    named_overlays_stay world (named_midway old held.overlays world keeps)
+    ∙ ap (filter is_overlay) (filter_alike lives stays world.filesystems (λ f m. lives_is f m (is_overlay f) refl))
+    ∙ filter_twice is_overlay stays (λ f. is_overlay f && shown f)
+    (λ f. by (is_overlay f) (shown f) (lives f)) world.filesystems
+    ∙ sym (filter_twice shown is_overlay (λ f. is_overlay f && shown f) (λ f. refl) world.filesystems)
+    ∙ ap (filter shown) keeps.overlays
+  where
+    living : World ℕ
+    living = without_dead_mounts nat_eq world
+
+    lives : Filesystem ℕ → Bool
+    lives = filesystem_lives nat_eq (without_dead_mounts nat_eq world)
+
+    shown : Filesystem ℕ → Bool
+    shown overlay = is_mounted nat_eq (in_use_of world) overlay.number
+
+    stays : Filesystem ℕ → Bool
+    stays f = cond (is_overlay f) (shown f) (lives f)
+
+    were : (f : Filesystem ℕ) → Among f world.filesystems → is_overlay f ≡ true → Among f (overlays_seen old.overlays)
+    were f m e = subst (λ all. Among f all) keeps.overlays (among-filter is_overlay world.filesystems f m e)
+
+    lives_is : (f : Filesystem ℕ) → Among f world.filesystems → (b : Bool) → is_overlay f ≡ b
+        → lives f ≡ cond b (shown f) (lives f)
+    lives_is f m true e =
+        lives_while_mounted living f (no_layer_midway old held living were f (were f m e))
+        ∙ sym (mounted_while_counted living f.number)
+    lives_is f m false e = refl
+
+    by : (a b c : Bool) → (a && b) ≡ (cond a b c && a)
+    by true true c = refl
+    by true false c = refl
+    by false b true = refl
+    by false b false = refl
 
 -- So many layers has a value of the world with the same overlays.
 pub layers_of_value : (old new : WorldValue) → HoldsOverlays old

@@ -27,7 +27,7 @@ use Rattle.vt_world.specs.WorldValue.{WorldValue, world_of}
 use Rattle.vt_detach.proofs.LocationsSeen.{seen_where_located}
 use Rattle.vt_detach.proofs.Leaving.{left_done}
 use Rattle.vt_detach.proofs.Moving.{Moves, Use}
-use Rattle.vt_detach.proofs.Remaining.{remade}
+use Rattle.vt_detach.proofs.Remaining.{remade_with}
 use Rattle.vt_detach.proofs.Splits.{IsSplit, locations_around, replaced_split, times_replaced, writes_replaced}
 use Rattle.vt_detach.proofs.Staying.{IsDone, after, staying_is_done}
 use Rattle.vt_tasks.proofs.LocationLemmas.{place_of}
@@ -147,7 +147,7 @@ pub file_is_closed : (value : WorldValue) (name : TaskName) (number : ℕ) (clos
     → tasks ≡ changed_called name (λ task. without_descriptor task number) value.tasks
     → kept_with mounts filesystems overlays
     ≡ without_location closed.location (opens_for_writing (access_of closed.access)) (kept_of value)
-    → IsDone value name (ToClose number) (remade value mounts filesystems tasks)
+    → IsDone value name (ToClose number) (remade_with value mounts filesystems overlays tasks)
 file_is_closed value name number closed mounts filesystems overlays tasks whole permits few rising was is is_kept =
     let task = permits.task in
     let one = replaced_split name value.tasks task task whole.in_world.tasks.one_task permits.called refl in
@@ -162,7 +162,7 @@ file_is_closed value name number closed mounts filesystems overlays tasks whole 
     (subst (λ all. Among (location_of closed.location) all) (sym moves.was)
     (among-append_right moves.front ((location_of closed.location ∷ []) ++ moves.back) (location_of closed.location)
     (inl refl))) in
-    subst (λ all. IsDone value name (ToClose number) (remade value mounts filesystems all))
+    subst (λ all. IsDone value name (ToClose number) (remade_with value mounts filesystems overlays all))
     (sym (is ∙ ap (changed_by (λ other. without_descriptor other number) value.tasks) permits.called))
     (left_done value whole (replaced (without_descriptor task number) value.tasks) []
     (used_by (numbered number closed)) moves mounts filesystems overlays

@@ -20,7 +20,7 @@ use Rattle.vt_tasks.specs.TasksValue.{Tasks}
 use Rattle.vt_world.specs.Held.{CountsWhatIsInIt, IsHeld}
 use Rattle.vt_detach.specs.NamespacesLeft.{MountsAreLeft, namespace_entry, numbers_inside, with_one_task_less}
 use Rattle.vt_retype.specs.Retyping.{AreTyped}
-use Rattle.vt_detach.specs.Uses.{Kept, Merged, kept_of, kept_with}
+use Rattle.vt_detach.specs.Uses.{Kept, Merged, kept_of, kept_with, overlays_kept}
 use Rattle.vt_world.specs.WorldValue.{NamespaceEntry, WorldValue, namespace_of, world_of}
 use Rattle.vt_detach.proofs.Bridging.{IsSwept}
 use Rattle.vt_detach.proofs.Finishing.{CountsBeside, IsApplied}
@@ -134,7 +134,13 @@ module _ (value : WorldValue) (whole : IsHeld value) (tasks : Tasks) (more less 
       (is : IsApplied value name permit task (namespaces_ended nat_eq next)) where
     -- the world of the code but for types
     abbrev untyped : List MountEntry → WorldValue
-    untyped mounts = record value { mounts = mounts; filesystems = filesystems; namespaces = namespaces; tasks = tasks }
+    untyped mounts = record value {
+      mounts = mounts;
+      filesystems = filesystems;
+      overlays = overlays_kept overlays value.overlays;
+      namespaces = namespaces;
+      tasks = tasks;
+    }
 
     module _ (mounts : List MountEntry)
         (at : Reached value start gained going [] (kept_with mounts filesystems overlays))

@@ -1,7 +1,6 @@
 -- The begin in a world with its invariants, and the end: where all mounts of a list are detached, the sweep's world is
 -- left.
-use Rattle.std.proofs.lemmas.List.Elements.{All-nil}
-use Rattle.std.proofs.Common.{◌≡◌, refl, sym, ap, subst, ◌∙◌, inl, ℕ, ◌+◌, nat_eq, Bool, true, false, true≢false, cond, ◌&&◌, List, [], map, Option, Some, None, option_map, is_some}
+use Rattle.std.proofs.Common.{◌≡◌, refl, sym, ap, subst, ◌∙◌, inl, ℕ, ◌+◌, nat_eq, Bool, true, false, true≢false, cond, ◌&&◌, List, [], map, filter, Option, Some, None, option_map, is_some}
 use Rattle.std.specs.Prelude.{All, option_to_list}
 use Rattle.std.specs.List.{list_all}
 use Rattle.std.proofs.lemmas.Bool.{and_parts}
@@ -26,7 +25,7 @@ use Rattle.vt_group.specs.Together.{TakesAway}
 use Rattle.vt_laws_letting_go.specs.Counts.{mount_uses, mounts_showing, times}
 use Rattle.vt_laws_letting_go.specs.Leaving.{stands_on_attached}
 use Rattle.vt_laws_letting_go.specs.OneByOne.{Inode}
-use Rattle.vt_laws_letting_go.proofs.Lists.{Among, all_from_among, among-from_map, among-map, among_from_all, is_among_numbers, passes, filter_all}
+use Rattle.vt_laws_letting_go.proofs.Lists.{Among, all_from_among, among-from_map, among-map, among_from_all, is_among_numbers, passes}
 use Rattle.vt_laws_letting_go.proofs.mounting.MountingTaken as Taken
 use Rattle.vt_laws_letting_go.proofs.sweeps.OfWorlds.{mounts_of_worlds_stand}
 use Rattle.vt_laws_letting_go.proofs.leaving.PlacesLeft.{found_is_there, number_found}
@@ -36,9 +35,8 @@ use Rattle.vt_mount.specs.MountsValue.{MountEntry, mounts_in}
 use Rattle.vt_laws_worlds.proofs.RaisedInUse.{worlds_are_in_use}
 use Rattle.vt_laws_worlds.proofs.worlds.Roots.{directory_there}
 use Rattle.vt_world.specs.Held.{CountsItsMounts, CountsItsUses, CountsWhatIsInIt, IsHeld, IsMountedSoOften, writes_of}
-use Rattle.vt_detach.specs.Uses.{Merged, kept_of, kept_with, merged_seen}
-use Rattle.vt_world.specs.WorldValue.{WorldValue, overlay_seen, overlays_seen, world_of}
-use Rattle.vt_detach.proofs.BesideOverlays.{layers_of_value, mounted_at_first}
+use Rattle.vt_detach.specs.Uses.{Merged, kept_of, kept_with, overlays_kept}
+use Rattle.vt_world.specs.WorldValue.{WorldValue, overlays_seen, world_of}
 use Rattle.vt_detach.proofs.Bridging.{IsSwept}
 use Rattle.vt_detach.proofs.Detached.{IsDetaching}
 use Rattle.vt_detach.proofs.DetachingBegins.{HasChildrenOf, detached_world}
@@ -49,8 +47,9 @@ use Rattle.vt_detach.proofs.Keeping.{IsKeptBut, detached_in, no_more}
 use Rattle.vt_detach.proofs.LocationsSeen.{seen_where_located}
 use Rattle.vt_detach.proofs.MountsLeave.{leaves_at_first, merged_at_first}
 use Rattle.vt_detach.proofs.Moving.{map_itself}
-use Rattle.vt_detach.proofs.Overlaid.{KeepsOverlays, keeps_itself, none_still, none_to_mount, overlays_are, plain_ones_are, same_files_keep}
-use Rattle.vt_detach.proofs.Remaining.{remade}
+use Rattle.vt_detach.proofs.Overlaid.{KeepsOverlays, keeps_itself, layers_of_fewer, plain_ones_are, same_files_keep}
+use Rattle.vt_detach.proofs.Remaining.{remade_with}
+use Rattle.vt_detach.proofs.OverlaysRemade.{counted_kept, seen_kept}
 use Rattle.vt_detach.proofs.Staying.{IsDone}
 use Rattle.vt_detach.proofs.TypedEvents.{typed_done, typed_value}
 use Rattle.vt_spec.proofs.Lists.{map_alike, map_twice}
@@ -130,27 +129,22 @@ module _ (value : WorldValue) (whole : IsHeld value) where
 module _ (old : WorldValue) (after : World ℕ) (gained lost : List Inode) (new : WorldValue) (overlays : List Merged)
     (is : IsKeptBut old [] [] gained lost (in_use_of after) (kept_with new.mounts new.filesystems overlays))
     (same_tasks : after.tasks ≡ new.tasks)
-    (same_overlays : overlays_seen new.overlays ≡ overlays_seen old.overlays) where
+    (same_overlays : new.overlays ≡ overlays_kept overlays old.overlays) where
   mounts_are : (in_use_of after).mounts ≡ mounts_in new.mounts
   mounts_are = is.mounts ∙ sym (map_itself (mounts_in new.mounts))
 
-  -- all overlays of before are shown still
-  keeps_all : KeepsOverlays old (in_use_of after)
-  keeps_all = record {
-    overlays = is.leaves.overlays
-        ∙ filter_all (λ overlay. is_mounted nat_eq (in_use_of after) overlay.number) (overlays_seen old.overlays)
-        (among_from_all (λ (overlay : Filesystem ℕ). is_mounted nat_eq (in_use_of after) overlay.number ≡ true)
-        (overlays_seen old.overlays) (none_to_mount old is.held (in_use_of after)));
-    rise = is.leaves.rise;
-  }
+  -- the overlays are those of before that mounts show still
+  overlays_left : overlays_seen new.overlays
+      ≡ filter (λ overlay. is_mounted nat_eq (in_use_of after) overlay.number) (overlays_seen old.overlays)
+  overlays_left =
+      ap overlays_seen same_overlays ∙ seen_kept old is.held (in_use_of after) is.leaves overlays is.merged
 
   pub detached_swept : KeepsOverlays old after
       → (without_changes after).namespaces ≡ (without_changes (world_of new)).namespaces
       → (without_changes after).tasks ≡ (without_changes (world_of new)).tasks → IsSwept old after gained lost new
   detached_swept keeps namespaces tasks = record {
     midway = keeps;
-    mounted = none_to_mount old is.held (in_use_of after);
-    overlays = same_overlays;
+    overlays = overlays_left;
     mounts = mounts_are;
     numbers = is.numbers ∙ map_twice (λ (one : Shown). counted one.count) shown_entry new.filesystems;
     entries = λ entry m. let from = is.filesystems (shown_entry entry)
@@ -178,10 +172,14 @@ module _ (old : WorldValue) (after : World ℕ) (gained lost : List Inode) (new 
     mounts = λ entry m.
         (is.filesystems (shown_entry entry) (among-map shown_entry new.filesystems entry m)).mounts
         ∙ (λ i. times (λ (mount : Mount ℕ). nat_eq (counted entry.count) mount.filesystem) (mounts_are i)
-        + sym (layers_of_value old new is.held.overlays same_overlays (in_use_of after) keeps_all
-        (counted entry.count)) i);
-    overlays = subst (All (IsMountedSoOften (world_of new))) (sym (none_still old new is.held same_overlays))
-        (All-nil _);
+        + sym (layers_of_fewer old new is.held.overlays
+        (λ overlay. is_mounted nat_eq (in_use_of after) overlay.number) overlays_left (in_use_of after)
+        is.leaves.overlays (counted entry.count)) i);
+    overlays = all_from_among (IsMountedSoOften (world_of new)) new.overlays (λ entry m.
+        among_from_all (IsMountedSoOften (in_use_of after)) (overlays_kept overlays old.overlays)
+        (counted_kept old is.held (in_use_of after) is.leaves overlays is.merged) entry
+        (subst (λ all. Among entry all) same_overlays m)
+        ∙ (λ i. times (λ (mount : Mount ℕ). nat_eq entry.number mount.filesystem) (mounts_are i)));
     namespaces = inside;
   }
 
@@ -237,11 +235,11 @@ pub detached_done : (value : WorldValue) (name : TaskName) (permit : Permit ℕ)
     → is_ungrouped mount.propagation ≡ true)
     → IsApplied value name permit task (taken_away nat_eq (world_of value) gone)
     → IsDetaching value [] (in_use_of (detached_world gone (world_of value))) [] (kept_with mounts filesystems overlays)
-    → IsDone value name permit (remade value mounts filesystems value.tasks)
+    → IsDone value name permit (remade_with value mounts filesystems overlays value.tasks)
 detached_done value name permit task gone mounts filesystems overlays whole closed free is detaching =
     let world = world_of value in
     let after = detached_world gone world in
-    let new = remade value mounts filesystems value.tasks in
+    let new = remade_with value mounts filesystems overlays value.tasks in
     let kept_last = subst (λ one. IsKeptBut value [] [] [] detaching.lost one
     (kept_with mounts filesystems overlays)) detaching.ends detaching.is in
     let live = whole.in_world.mounts.groups in
@@ -272,10 +270,10 @@ pub detached_typed : (value : WorldValue) (name : TaskName) (permit : Permit ℕ
     → HasChildrenOf gone (mounts_in value.mounts)
     → TakesAway value.groups groups gone → IsApplied value name permit task (taken_away nat_eq (world_of value) gone)
     → IsDetaching value [] (in_use_of (detached_world gone (world_of value))) [] (kept_with mounts filesystems overlays)
-    → IsDone value name permit (typed_value groups (remade value mounts filesystems value.tasks))
+    → IsDone value name permit (typed_value groups (remade_with value mounts filesystems overlays value.tasks))
 detached_typed value name permit task gone groups mounts filesystems overlays whole closed follows is detaching =
     let after = detached_world gone (world_of value) in
-    let new = remade value mounts filesystems value.tasks in
+    let new = remade_with value mounts filesystems overlays value.tasks in
     let kept_last = subst (λ one. IsKeptBut value [] [] [] detaching.lost one
     (kept_with mounts filesystems overlays)) detaching.ends detaching.is in
     let regroups = taken_regroups (world_of value) gone closed in

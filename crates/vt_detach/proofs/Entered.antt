@@ -33,7 +33,7 @@ use Rattle.vt_detach.specs.Events.{Permits}
 use Rattle.vt_detach.specs.Forking.{more_tasks, with_task_more}
 use Rattle.vt_world.specs.Held.{CountsWhatIsInIt, IsHeld}
 use Rattle.vt_detach.specs.NamespacesLeft.{MountsAreLeft, namespace_entry, with_one_task_less}
-use Rattle.vt_detach.specs.Uses.{Kept, Merged, kept_of, kept_with, with_location, with_use, without_location}
+use Rattle.vt_detach.specs.Uses.{Kept, Merged, kept_of, kept_with, overlays_kept, with_location, with_use, without_location}
 use Rattle.vt_world.specs.WorldValue.{NamespaceEntry, WorldValue, namespace_of, world_of}
 use Rattle.vt_detach.proofs.Departing.{departs}
 use Rattle.vt_detach.proofs.Exiting.{left_so, located}
@@ -257,7 +257,14 @@ pub task_enters : (value : WorldValue) (name : TaskName) (count : ℕ) (root : L
     (namespace_entry left.namespace.count (with_task_more count value.namespaces)) k value.groups
     (kept_with mounts filesystems overlays) groups
     → IsDone value name (ToEnterNamespace (counted count))
-    (record value { mounts = mounts; groups = groups; filesystems = filesystems; namespaces = namespaces; tasks = new_tasks })
+    (record value {
+      mounts = mounts;
+      groups = groups;
+      filesystems = filesystems;
+      overlays = overlays_kept overlays value.overlays;
+      namespaces = namespaces;
+      tasks = new_tasks;
+    })
 task_enters value name count root left mounts groups filesystems overlays namespaces new_tasks k whole permits root_is few few_root few_directory left_is are k_is namespaces_are mounts_are =
     let task = permits.task in
     let world = world_of value in
@@ -283,7 +290,14 @@ task_enters value name count root left mounts groups filesystems overlays namesp
     (ap (is_located_well nat_eq world) at_directory ∙ located_so task.directory (inr (inl refl)))
     ∙ ap (λ l. leave_use world (leave_use world held (standing task.root)) (standing l)) at_directory in
     subst (λ all. IsDone value name (ToEnterNamespace (counted count))
-    (record value { mounts = mounts; groups = groups; filesystems = filesystems; namespaces = namespaces; tasks = all }))
+    (record value {
+      mounts = mounts;
+      groups = groups;
+      filesystems = filesystems;
+      overlays = overlays_kept overlays value.overlays;
+      namespaces = namespaces;
+      tasks = all;
+    }))
     (sym (are ∙ ap (changed_by (λ one. entered_at one (counted count) place) value.tasks) permits.called))
     (departs value whole (replaced (entered_at task (counted count) place) value.tasks)
     (standing place ∷ standing place ∷ []) (standing task.root ∷ standing task.directory ∷ [])

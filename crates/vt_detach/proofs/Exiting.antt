@@ -31,7 +31,7 @@ use Rattle.vt_tasks.proofs.LocationLemmas.{total-without, without-nobody}
 use Rattle.vt_detach.specs.Events.{Permits}
 use Rattle.vt_world.specs.Held.{CountsWhatIsInIt, IsHeld, writes_of_task, writes_on}
 use Rattle.vt_detach.specs.NamespacesLeft.{MountsAreLeft, has_slot, namespace_entry, with_one_task_less, without_file}
-use Rattle.vt_detach.specs.Uses.{Kept, Merged, kept_of, kept_with, without_location, without_use}
+use Rattle.vt_detach.specs.Uses.{Kept, Merged, kept_of, kept_with, overlays_kept, without_location, without_use}
 use Rattle.vt_world.specs.WorldValue.{NamespaceEntry, WorldValue, namespace_of, world_of}
 use Rattle.vt_detach.proofs.Closing.{place, used_by}
 use Rattle.vt_detach.proofs.Departing.{departs}
@@ -214,7 +214,14 @@ pub task_exits : (value : WorldValue) (name : TaskName) (task : Held) (files : L
     (namespace_entry task.namespace.count value.namespaces) left value.groups
     (kept_with mounts filesystems overlays) groups
     → IsDone value name ToExit
-    (record value { mounts = mounts; groups = groups; filesystems = filesystems; namespaces = namespaces; tasks = left_tasks })
+    (record value {
+      mounts = mounts;
+      groups = groups;
+      filesystems = filesystems;
+      overlays = overlays_kept overlays value.overlays;
+      namespaces = namespaces;
+      tasks = left_tasks;
+    })
 task_exits value name task files left mounts groups filesystems overlays namespaces left_tasks whole permits found are leaves namespaces_are mounts_are =
     let meant_task = task_of task in
     let called_so : task_called (world_of value) name ≡ Some meant_task = sym found in
@@ -233,7 +240,14 @@ task_exits value name task files left mounts groups filesystems overlays namespa
     ∙ ap (λ one. leave_use (world_of value) one (standing meant_task.directory))
     (left_so value whole task.root false k leaves.root (well (location_of task.root) (inl refl)))) in
     subst (λ all. IsDone value name ToExit
-    (record value { mounts = mounts; groups = groups; filesystems = filesystems; namespaces = namespaces; tasks = all })) (sym are)
+    (record value {
+      mounts = mounts;
+      groups = groups;
+      filesystems = filesystems;
+      overlays = overlays_kept overlays value.overlays;
+      namespaces = namespaces;
+      tasks = all;
+    })) (sym are)
     (departs value whole (without_called name value.tasks) [] (uses_of_task meant_task)
     (exit_moves value whole name meant_task called_so)
     count value.namespaces (exit_counts value whole name meant_task called_so count refl) refl filesystems overlays namespaces namespaces_are

@@ -23,12 +23,13 @@ use Rattle.vt_tasks.specs.TasksValue.{Tasks}
 use Rattle.vt_laws_worlds.proofs.RaisedInUse.{worlds_are_in_use}
 use Rattle.vt_world.specs.Held.{CountsItsUses, IsHeld}
 use Rattle.vt_detach.specs.Uses as meant
-use Rattle.vt_detach.specs.Uses.{Kept, Merged, kept_of, kept_with}
+use Rattle.vt_detach.specs.Uses.{Kept, Merged, kept_of, kept_with, overlays_kept}
 use Rattle.vt_world.specs.WorldValue.{WorldValue, world_of}
 use Rattle.vt_detach.proofs.Finishing.{IsApplied}
 use Rattle.vt_detach.proofs.Going.{gone_done}
-use Rattle.vt_detach.proofs.Moving.{Moves, Use, entry_counts, folded_entry, mounts_moved, moved_kept, only_left, same_moved_mounts}
-use Rattle.vt_detach.proofs.Remaining.{remade, remains_done}
+use Rattle.vt_detach.proofs.Moving.{Moves, Use, entry_counts, folded_entry, mounts_moved, moved_kept, moved_overlays, only_left, same_moved_mounts}
+use Rattle.vt_detach.proofs.OverlaysRemade.{kept_itself}
+use Rattle.vt_detach.proofs.Remaining.{remade, remade_with, remains_done}
 use Rattle.vt_detach.proofs.Shown.{found_entry}
 use Rattle.vt_detach.proofs.Staying.{IsDone, after}
 
@@ -84,11 +85,11 @@ module _ (value : WorldValue) (whole : IsHeld value) (tasks : Tasks) (more : Lis
       (only_left value whole tasks more (left_use ∷ []) moves))
       ∙ mount_goes_at_zero next number whole.in_world.mounts.one_number
 
-  pub left_done : IsDone value name permit (remade value mounts filesystems tasks)
+  pub left_done : IsDone value name permit (remade_with value mounts filesystems overlays tasks)
   left_done = by (entry_numbered moved.mounts number) refl
     where
       by : (o : Option MountEntry) → entry_numbered moved.mounts number ≡ o
-          → IsDone value name permit (remade value mounts filesystems tasks)
+          → IsDone value name permit (remade_with value mounts filesystems overlays tasks)
       by None e =
           absurd (true≢false (sym mount_listed ∙ none_among number world.mounts
           (ap (find (λ x. nat_eq number x.number))
@@ -136,12 +137,19 @@ module _ (value : WorldValue) (whole : IsHeld value) (tasks : Tasks) (more : Lis
               (omega (arith, some))
 
           stays : without_dead_mounts nat_eq next ≡ next → kept_with mounts filesystems overlays ≡ moved
-              → IsDone value name permit (remade value mounts filesystems tasks)
-          stays stay same = remains_done value whole tasks more
-              (left_use ∷ []) moves mounts filesystems overlays same stay name permit task is inside
+              → IsDone value name permit (remade_with value mounts filesystems overlays tasks)
+          stays stay same =
+              subst (λ all. IsDone value name permit (record (remade value mounts filesystems tasks) {
+                overlays = all;
+              }))
+              (sym (ap (λ all. overlays_kept all value.overlays)
+              (ap (λ (k : Kept). k.overlays) same ∙ moved_overlays world more (left_use ∷ []) (kept_of value))
+              ∙ kept_itself value whole))
+              (remains_done value whole tasks more (left_use ∷ []) moves mounts filesystems overlays same stay name
+              permit task is inside)
 
           chosen : (b : Bool) → is_some entry.mount.namespace ≡ b → (c : Bool) → nat_eq entry.uses 0 ≡ c
-              → IsDone value name permit (remade value mounts filesystems tasks)
+              → IsDone value name permit (remade_with value mounts filesystems overlays tasks)
           chosen true f c g = stays (looked_so true (nat_lt 0 entry.uses) f refl) (kept_so true c f g)
           chosen false f false g = stays (looked_so false true f (some_uses g)) (kept_so false false f g)
           chosen false f true g =

@@ -58,6 +58,7 @@ pub mod BesideOverlays
 pub mod FilesystemsLeft
 pub mod StoresLeft
 pub mod LayersLeft
+pub mod OverlaysRemade
 pub mod OverlaysGone
 pub mod MountsLeave
 pub mod OverlaysKept

@@ -1,5 +1,4 @@
 -- The steps by which tasks leave uses and namespaces, and the world after the last of them.
-use Rattle.std.proofs.lemmas.List.Elements.{All-nil}
 use Rattle.std.proofs.Common.{◌≡◌, refl, sym, ap, subst, ◌∙◌, ℕ, ◌+◌, nat_eq, Bool, true, false, true≢false, cond, not, ◌&&◌, ◌||◌, List, [], ◌∷◌, ◌++◌, map, filter, flat_map, Option, Some, is_some, arith}
 use Rattle.std.specs.Prelude.{All}
 use Rattle.std.proofs.lemmas.List.{append-nil}
@@ -22,9 +21,8 @@ use Rattle.vt_mount.specs.MountsValue.{MountEntry, mounts_in}
 use Rattle.vt_laws_letting_go.specs.Attaching.{inodes_of_mount_point}
 use Rattle.vt_world.specs.Held.{CountsItsUses, CountsWhatIsInIt, IsHeld, IsMountedSoOften, writes_of}
 use Rattle.vt_detach.specs.NamespacesLeft.{AreDetached, Detached}
-use Rattle.vt_detach.specs.Uses.{Kept, Merged, kept_with, without_attachment, without_use}
+use Rattle.vt_detach.specs.Uses.{Kept, Merged, kept_with, overlays_kept, without_attachment, without_use}
 use Rattle.vt_world.specs.WorldValue.{WorldValue, overlays_seen, world_of}
-use Rattle.vt_detach.proofs.BesideOverlays.{layers_of_value}
 use Rattle.vt_detach.proofs.Bridging.{IsSwept}
 use Rattle.vt_detach.proofs.Finishing.{CountsBeside}
 use Rattle.vt_detach.proofs.Midway.{IsGoing, Midway, Reached, gone_if, left_alone, mount_taken, point_left, points_left, taken_alone, use_left}
@@ -32,7 +30,9 @@ use Rattle.vt_detach.proofs.MidwayGoes.{mount_looked_at}
 use Rattle.vt_detach.proofs.MountsLeave.{counted_lives, overlay_lives_still}
 use Rattle.vt_detach.proofs.Moving.{Use, inodes_of_uses}
 use Rattle.vt_detach.proofs.LostUses.{positive}
-use Rattle.vt_detach.proofs.Overlaid.{KeepsOverlays, is_plain_one, none_still, none_to_mount}
+use Rattle.vt_detach.proofs.Overlaid.{KeepsOverlays, is_plain_one, layers_of_fewer}
+use Rattle.vt_detach.proofs.OverlaysGone.{merged_in}
+use Rattle.vt_detach.proofs.OverlaysRemade.{counted_kept, seen_kept}
 use Rattle.vt_spec.proofs.Lists.{map_twice}
 use Rattle.vt_laws_letting_go.specs.TreesOverlays.{in_use_of}
 
@@ -80,8 +80,9 @@ module _ (value : WorldValue) (whole : IsHeld value) (start : World ℕ) (gained
 module _ (value : WorldValue) (start : World ℕ) (gained : List Inode) (goes : Mount ℕ → Bool) (k : Kept)
     (at : Reached value start gained goes [] k)
     (all_gone : (entry : MountEntry) → Among entry k.mounts → goes entry.mount ≡ false)
-    (new : WorldValue) (overlays : List Merged) (is_kept : kept_with new.mounts new.filesystems overlays ≡ k) (same_tasks : start.tasks ≡ new.tasks)
-    (same_overlays : overlays_seen new.overlays ≡ overlays_seen value.overlays) where
+    (new : WorldValue) (overlays : List Merged) (is_kept : kept_with new.mounts new.filesystems overlays ≡ k)
+    (same_tasks : start.tasks ≡ new.tasks)
+    (same_overlays : new.overlays ≡ overlays_kept overlays value.overlays) where
   abbrev now : World ℕ
   now = at.now
 
@@ -152,15 +153,13 @@ module _ (value : WorldValue) (start : World ℕ) (gained : List Inode) (goes : 
           (ap (λ n. mounts_showing now n + layer_count now n) from.2 ∙ sym is.mounts)
           ∙ ap not is.mounted)
 
-  -- all overlays of before are shown still
-  keeps_all : KeepsOverlays value now
-  keeps_all = record {
-    overlays = mid.leaves.overlays
-        ∙ filter_all (λ overlay. is_mounted nat_eq now overlay.number) (overlays_seen value.overlays)
-        (among_from_all (λ (overlay : Filesystem ℕ). is_mounted nat_eq now overlay.number ≡ true)
-        (overlays_seen value.overlays) (none_to_mount value mid.held now));
-    rise = mid.leaves.rise;
-  }
+  merged_now : overlays ≡ map (merged_in now) (filter is_overlay now.filesystems)
+  merged_now = ap (λ (one : Kept). one.overlays) is_kept ∙ mid.merged
+
+  -- the overlays are those of before that mounts show still
+  overlays_left : overlays_seen new.overlays
+      ≡ filter (λ overlay. is_mounted nat_eq now overlay.number) (overlays_seen value.overlays)
+  overlays_left = ap overlays_seen same_overlays ∙ seen_kept value mid.held now mid.leaves overlays merged_now
 
   living_is : in_use_of start ≡ now
   living_is =
@@ -186,8 +185,9 @@ module _ (value : WorldValue) (start : World ℕ) (gained : List Inode) (goes : 
       → IsSwept value start gained at.lost new
   reached_swept keeps namespaces = record {
     midway = keeps;
-    mounted = none_to_mount value mid.held (in_use_of start);
-    overlays = same_overlays;
+    overlays = overlays_left
+        ∙ ap (λ (w : World ℕ). filter (λ overlay. is_mounted nat_eq w overlay.number) (overlays_seen value.overlays))
+        (sym living_is);
     mounts = ap (λ (w : World ℕ). w.mounts) living_is ∙ mounts_are;
     numbers = ap (λ (w : World ℕ). map (λ (f : Filesystem ℕ). f.number) (filter is_plain_one w.filesystems)) living_is
         ∙ mid.numbers
@@ -225,8 +225,13 @@ module _ (value : WorldValue) (start : World ℕ) (gained : List Inode) (goes : 
         is.mounts
         ∙ (λ i. Rattle.vt_laws_letting_go.specs.Counts.times
         (λ (x : Mount ℕ). nat_eq (counted entry.count) x.filesystem) (mounts_are i)
-        + sym (layers_of_value value new mid.held.overlays same_overlays now keeps_all (counted entry.count)) i);
-    overlays = subst (All (IsMountedSoOften (world_of new))) (sym (none_still value new mid.held same_overlays))
-        (All-nil _);
+        + sym (layers_of_fewer value new mid.held.overlays (λ overlay. is_mounted nat_eq now overlay.number)
+        overlays_left now mid.leaves.overlays (counted entry.count)) i);
+    overlays = all_from_among (IsMountedSoOften (world_of new)) new.overlays (λ entry m.
+        among_from_all (IsMountedSoOften now) (overlays_kept overlays value.overlays)
+        (counted_kept value mid.held now mid.leaves overlays merged_now) entry
+        (subst (λ all. Among entry all) same_overlays m)
+        ∙ (λ i. Rattle.vt_laws_letting_go.specs.Counts.times
+        (λ (x : Mount ℕ). nat_eq entry.number x.filesystem) (mounts_are i)));
     namespaces = namespaces;
   }

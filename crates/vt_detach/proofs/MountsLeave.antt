@@ -7,7 +7,7 @@ use Rattle.vt_spec.specs.Machine.Locked.{of_overlay}
 use Rattle.vt_spec.specs.Machine.Settled.{filesystem_lives, has_layer_on, is_mounted, without_dead_filesystems}
 use Rattle.vt_spec.specs.Machine.World.{Filesystem, World, is_overlay, no_filesystem}
 use Rattle.vt_spec.proofs.Lists.{pair-filter}
-use Rattle.vt_fs.specs.FilesystemsValue.{FilesystemEntry, Shown}
+use Rattle.vt_fs.specs.FilesystemsValue.{FilesystemEntry, Shown, filesystem_seen}
 use Rattle.vt_laws_counts.specs.OverlaysStay.{HasNoLayerIn, layer_count, layers_among, mounted_layer_count}
 use Rattle.vt_laws_counts.specs.Using.{Exchanges}
 use Rattle.vt_laws_counts.proofs.overlays.FilesystemUses.{overlays_take_their_uses}
@@ -21,7 +21,8 @@ use Rattle.vt_laws_letting_go.proofs.sweeps.UsesCounted.{mounted_while_counted}
 use Rattle.vt_laws_overlays_stay.specs.Woven.{are_rising}
 use Rattle.vt_laws_overlays_stay.proofs.weaving.WovenLists.{rising_filtered}
 use Rattle.vt_location.specs.Numbers.{counted}
-use Rattle.vt_world.specs.Held.{IsHeld, IsMountedSoOften}
+use Rattle.vt_laws_worlds.proofs.RaisedInUse.{worlds_are_in_use}
+use Rattle.vt_world.specs.Held.{CountsItsMounts, IsHeld, IsMountedSoOften}
 use Rattle.vt_world.specs.WorldValue.{WorldValue, overlay_seen, overlays_seen, world_of}
 use Rattle.vt_detach.specs.Uses as meant
 use Rattle.vt_detach.specs.Uses.{Merged, let_go_filesystem, merged_at, merged_seen, released_in, shown_left_by, unpinned_in, without_layer}
@@ -29,7 +30,7 @@ use Rattle.vt_detach.proofs.BesideOverlays.{mounted_at_first, no_layer_of_plain,
 use Rattle.vt_detach.proofs.LayersLeft.{go_one_by_one, is_some_left, less}
 use Rattle.vt_detach.proofs.LostUses.{found_unless, positive}
 use Rattle.vt_detach.proofs.Moving.{map_itself, swap_eq}
-use Rattle.vt_detach.proofs.Overlaid.{is_plain_one, overlay_apart, overlays_are}
+use Rattle.vt_detach.proofs.Overlaid.{is_plain_one, overlay_apart, overlays_are, plain_one_among}
 use Rattle.vt_detach.proofs.OverlaysGone.{layers_go, layers_gone, layers_gone_by, layers_of_overlays, layers_parted, layers_used, merged_in, uses_layers}
 use Rattle.vt_spec.proofs.Lists.{map_alike, map_twice}
 
@@ -422,7 +423,24 @@ merged_at_first value whole =
     ∙ sym (map_twice (merged_in (world_of value)) overlay_seen value.overlays)
     ∙ ap (map (merged_in (world_of value))) (sym (overlays_are value whole.overlays))
 
--- So they are where as many mounts show each filesystem.
+-- In each of its plain filesystems something is counted.
+pub some_at_first : (value : WorldValue) → IsHeld value → (was : FilesystemEntry) → Among was value.filesystems
+    → nat_eq was.mounts 0 ≡ false
+some_at_first value whole was m =
+    turned (nat_eq was.mounts 0)
+    (ap (λ n. not (nat_eq n 0))
+    (among_from_all (CountsItsMounts (world_of value)) value.filesystems whole.filesystems was m).mounts
+    ∙ sym (positive (mounts_showing (world_of value) (counted was.count)
+    + layer_count (world_of value) (counted was.count)))
+    ∙ plain_ones_counted value whole (world_of value) (leaves_at_first value whole)
+    (worlds_are_in_use (world_of value) whole.in_world).filesystems (filesystem_seen was)
+    (plain_one_among value whole.overlays.merged was m))
+  where
+    turned : (b : Bool) → not b ≡ true → b ≡ false
+    turned true e = absurd (true≢false (sym e))
+    turned false e = refl
+
+-- Overlays are left and kept where as many mounts show each filesystem.
 module _ (world other : World ℕ) (same : other.filesystems ≡ world.filesystems)
     (showing : (n : ℕ) → mounts_showing other n ≡ mounts_showing world n) where
   pub leaves_alike : (old : WorldValue) → LeavesOverlays old world → LeavesOverlays old other

@@ -29,7 +29,7 @@ use Rattle.vt_detach.proofs.FileEvents.{permit_fits}
 use Rattle.vt_detach.proofs.LocationsSeen.{seen_where_located}
 use Rattle.vt_detach.proofs.Leaving.{left_done}
 use Rattle.vt_detach.proofs.Moving.{Moves, Use}
-use Rattle.vt_detach.proofs.Remaining.{remade}
+use Rattle.vt_detach.proofs.Remaining.{remade_with}
 use Rattle.vt_detach.proofs.Splits.{IsSplit, locations_around, replaced_split, times_replaced, writes_replaced}
 use Rattle.vt_detach.proofs.Staying.{IsDone}
 
@@ -192,7 +192,7 @@ pub directory_is_set : (value : WorldValue) (name : TaskName) (directory left : 
     → tasks ≡ changed_called name (λ task. record task { directory = location_of directory }) value.tasks
     → kept_with mounts filesystems overlays ≡ without_location left false
     (with_location directory false (kept_of value))
-    → IsDone value name (ToSetDirectory (location_of directory)) (remade value mounts filesystems tasks)
+    → IsDone value name (ToSetDirectory (location_of directory)) (remade_with value mounts filesystems overlays tasks)
 directory_is_set value name directory left mounts filesystems overlays tasks whole permits few few_left was is is_kept =
     let task = permits.task in
     let place = location_of directory in
@@ -204,7 +204,7 @@ directory_is_set value name directory left mounts filesystems overlays tasks who
     let well_left = ap (is_located_well nat_eq (world_of value)) left_is
     ∙ (located_task value whole name task permits.called).1 in
     let tasks_are = is ∙ ap (changed_by (λ one. record one { directory = place }) value.tasks) permits.called in
-    subst (λ all. IsDone value name (ToSetDirectory place) (remade value mounts filesystems all)) (sym tasks_are)
+    subst (λ all. IsDone value name (ToSetDirectory place) (remade_with value mounts filesystems overlays all)) (sym tasks_are)
     (left_done value whole (replaced new value.tasks) (standing place ∷ []) (standing (location_of left))
     (subst (λ location. Moves value (replaced new value.tasks) (standing place ∷ []) (standing location ∷ []))
     (sym left_is)
@@ -223,7 +223,7 @@ pub root_is_set : (value : WorldValue) (name : TaskName) (root left : Location) 
     → tasks ≡ changed_called name (λ task. record task { root = location_of root }) value.tasks
     → kept_with mounts filesystems overlays ≡ without_location left false
     (with_location root false (kept_of value))
-    → IsDone value name (ToSetRoot (location_of root)) (remade value mounts filesystems tasks)
+    → IsDone value name (ToSetRoot (location_of root)) (remade_with value mounts filesystems overlays tasks)
 root_is_set value name root left mounts filesystems overlays tasks whole permits few few_left was is is_kept =
     let task = permits.task in
     let place = location_of root in
@@ -235,7 +235,7 @@ root_is_set value name root left mounts filesystems overlays tasks whole permits
     let well_left = ap (is_located_well nat_eq (world_of value)) left_is
     ∙ (located_task value whole name task permits.called).0 in
     let tasks_are = is ∙ ap (changed_by (λ one. record one { root = place }) value.tasks) permits.called in
-    subst (λ all. IsDone value name (ToSetRoot place) (remade value mounts filesystems all)) (sym tasks_are)
+    subst (λ all. IsDone value name (ToSetRoot place) (remade_with value mounts filesystems overlays all)) (sym tasks_are)
     (left_done value whole (replaced new value.tasks) (standing place ∷ []) (standing (location_of left))
     (subst (λ location. Moves value (replaced new value.tasks) (standing place ∷ []) (standing location ∷ []))
     (sym left_is)

@@ -26,7 +26,7 @@ use Rattle.vt_detach.proofs.DetachingBegins.{HasChildrenOf, detached_world, deta
 use Rattle.vt_detach.proofs.DetachingEnds.{detached_done, held_is_kept}
 use Rattle.vt_detach.proofs.FileEvents.{permit_fits}
 use Rattle.vt_detach.proofs.Moving.{swap_eq}
-use Rattle.vt_detach.proofs.Remaining.{remade}
+use Rattle.vt_detach.proofs.Remaining.{remade_with}
 use Rattle.vt_detach.proofs.Staying.{IsDone}
 use Rattle.vt_laws_permits.specs.Taken.{is_ungrouped}
 use Rattle.vt_laws_letting_go.specs.TreesOverlays.{in_use_of}
@@ -80,7 +80,7 @@ pub unmount_is_done : (value : WorldValue) (name : TaskName) (number : ℕ) (poi
     → option_map location_of point ≡ point_of number value.mounts
     → IfSome point (λ point. point.node.slot < 18446744073709551616)
     → kept_with mounts filesystems overlays ≡ without_attachment number point (kept_of value)
-    → IsDone value name (ToUnmount number) (remade value mounts filesystems value.tasks)
+    → IsDone value name (ToUnmount number) (remade_with value mounts filesystems overlays value.tasks)
 unmount_is_done value name number point mounts filesystems overlays whole permits free apart point_is few is_kept =
     let world = world_of value in
     let names = (permit_fits value whole name (ToUnmount number) permits).names in

@@ -20,7 +20,7 @@ use Rattle.vt_detach.proofs.DetachingEnds.{detached_done, held_is_kept, taken_re
 use Rattle.vt_detach.proofs.FileEvents.{permit_fits}
 use Rattle.vt_detach.proofs.GoneAlone.{alone_regroups}
 use Rattle.vt_detach.proofs.LazilyUnmounted.{lazily_is_detached, tree_has_children, tree_is_free}
-use Rattle.vt_detach.proofs.Remaining.{remade}
+use Rattle.vt_detach.proofs.Remaining.{remade_with}
 use Rattle.vt_detach.proofs.Staying.{IsDone}
 use Rattle.vt_detach.proofs.UnmountedAlone.{attached_is_named}
 use Rattle.vt_laws_permits.specs.Taken.{is_ungrouped}
@@ -43,7 +43,7 @@ pub lazy_unmount_is_done : (value : WorldValue) (name : TaskName) (number : ℕ)
     → holds_of (λ (place : Place ℕ). is_shared (mount_at nat_eq (world_of value) place).propagation)
     (mount_numbered nat_eq (world_of value) number).mount_point ≡ false
     → LeaveInTurn numbers (kept_of value) (kept_with mounts filesystems overlays)
-    → IsDone value name (ToUnmountLazily number) (remade value mounts filesystems value.tasks)
+    → IsDone value name (ToUnmountLazily number) (remade_with value mounts filesystems overlays value.tasks)
 lazy_unmount_is_done value name number numbers mounts filesystems overlays whole permits tree none apart turn =
     let world = world_of value in
     let ungrouped = ap (list_all (λ n. is_ungrouped (mount_in nat_eq world.mounts n).propagation)) (sym tree) ∙ none in
