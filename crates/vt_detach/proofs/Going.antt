@@ -220,8 +220,8 @@ module _ (value : WorldValue) (whole : IsHeld value) (tasks : Tasks) (more : Lis
     among : Among was value.filesystems
     count : entry.count ≡ was.count
     inodes : inodes_seen entry ≡ exchanged (counted was.count) gained lost (inodes_seen was)
-    mounts : entry.mounts ≡ mounts_showing remaining (counted entry.count) + layer_count remaining (counted entry.count)
-    there : nat_lt 0 (mounts_showing mounted (counted was.count) + mounted_layer_count mounted (counted was.count))
+    often : entry.mounts ≡ mounts_showing remaining (counted entry.count) + layer_count remaining (counted entry.count)
+    some_there : nat_lt 0 (mounts_showing mounted (counted was.count) + mounted_layer_count mounted (counted was.count))
         ≡ true
 
   comes : (entry : FilesystemEntry) → Among entry filesystems → Comes entry
@@ -238,8 +238,8 @@ module _ (value : WorldValue) (whole : IsHeld value) (tasks : Tasks) (more : Lis
         among = first.1;
         count = count;
         inodes = ap (λ (x : Shown). x.inodes) is;
-        mounts = from.3;
-        there = positive (mounts_showing mounted (counted first.0.count)
+        often = from.3;
+        some_there = positive (mounts_showing mounted (counted first.0.count)
             + mounted_layer_count mounted (counted first.0.count))
             ∙ ap (λ n. not (nat_eq n 0))
             (ap (λ n. mounts_showing mounted (counted first.0.count) + n)
@@ -333,7 +333,7 @@ module _ (value : WorldValue) (whole : IsHeld value) (tasks : Tasks) (more : Lis
       count = from.count;
       there = gained_there value whole tasks more less moves from.was from.among;
       inodes = from.inodes;
-      exchanges = exchanges_are (counted from.was.count) from.there (overlay_apart value whole from.was from.among);
+      exchanges = exchanges_are (counted from.was.count) from.some_there (overlay_apart value whole from.was from.among);
     };
     namespaces = refl;
     tasks = refl;
@@ -371,7 +371,7 @@ module _ (value : WorldValue) (whole : IsHeld value) (tasks : Tasks) (more : Lis
         (entry_counts value whole tasks more less moves from.0 from.1) in
         record { uses = counts.uses; writers = counts.writers });
     mounts = λ entry m.
-        (comes entry m).mounts
+        (comes entry m).often
         ∙ (λ i. times (λ (x : Mount ℕ). nat_eq (counted entry.count) x.filesystem) (sym mounts_are i)
         + sym (layers_of_fewer value new whole.overlays (λ overlay. is_mounted nat_eq remaining overlay.number)
         seen_left remaining leaves_left.overlays (counted entry.count)) i);

@@ -134,16 +134,16 @@ module _ (old : WorldValue) (held : IsHeld old) (world : World ℕ) (leaves : Le
       → Among entry (overlays_kept overlays list) → IsMountedSoOften world entry
   counted_of [] found entry m = absurd m
   counted_of (first ∷ rest) found entry m =
-      by (shows first) (subst (λ o. Among entry (cons_option (counted_again first o)
-      (overlays_kept overlays rest))) (found first (inl refl)) m)
+      by (shows first) (counted_of rest (λ other o. found other (inr o)) entry)
+      (subst (λ o. Among entry (cons_option (counted_again first o) (overlays_kept overlays rest)))
+      (found first (inl refl)) m)
     where
-      by : (b : Bool) → Among entry (cons_option
+      by : (b : Bool) → (Among entry (overlays_kept overlays rest) → IsMountedSoOften world entry)
+          → Among entry (cons_option
           (counted_again first (cond b (Some (merged_in world (overlay_seen first))) None))
           (overlays_kept overlays rest)) → IsMountedSoOften world entry
-      by true n =
-          ⊎_elim (λ here. subst (IsMountedSoOften world) (sym here) refl)
-          (λ later. counted_of rest (λ other o. found other (inr o)) entry later) n
-      by false n = counted_of rest (λ other o. found other (inr o)) entry n
+      by true later n = ⊎_elim (λ here. subst (IsMountedSoOften world) (sym here) refl) later n
+      by false later n = later n
 
   -- as often as they are
   pub counted_kept : All (IsMountedSoOften world) (overlays_kept overlays old.overlays)
