@@ -60,8 +60,8 @@ module _ (one other : World ℕ) (same : filter is_overlay other.filesystems ≡
       layer_by : World ℕ → Filesystem ℕ → Bool
       layer_by world merged = has_layer_on nat_eq f.number merged && is_mounted nat_eq world merged.number
 
-      by_overlays : (world : World ℕ)
-          → list_any (layer_by world) (filter is_overlay world.filesystems) ≡ list_any (layer_by world) world.filesystems
+      by_overlays : (world : World ℕ) → list_any (layer_by world) (filter is_overlay world.filesystems)
+          ≡ list_any (layer_by world) world.filesystems
       by_overlays world = any-filter (layer_by world) is_overlay world.filesystems (λ merged m plain.
           ap (λ b. b && is_mounted nat_eq world merged.number) (no_layer_of_plain f.number merged plain))
 
@@ -142,7 +142,8 @@ overlay_lives old world keeps mounted f m e =
 pub overlays_live : (old : WorldValue) (world : World ℕ) → KeepsOverlays old world → AreStillMounted old world
     → filter is_overlay (without_dead_filesystems nat_eq world).filesystems ≡ filter is_overlay world.filesystems
 overlays_live old world keeps mounted =
-    filter_less is_overlay (filesystem_lives nat_eq world) world.filesystems (λ f m dead. by f m dead (is_overlay f) refl)
+    filter_less is_overlay (filesystem_lives nat_eq world) world.filesystems
+    (λ f m dead. by f m dead (is_overlay f) refl)
   where
     by : (f : Filesystem ℕ) → Among f world.filesystems → filesystem_lives nat_eq world f ≡ false
         → (b : Bool) → is_overlay f ≡ b → b ≡ false

@@ -151,6 +151,7 @@ module _ (old : WorldValue) (number : ℕ) (pending : List ℕ) (gained lost : L
   detached_kept : IsKeptBut old (number ∷ pending) pending gained (lost ++ more) world kept_now
   detached_kept = record {
     held = is.held;
+    none = is.none;
     mounts = is.mounts
         ∙ map_alike (detached_in (number ∷ pending)) (λ mount. detached_in pending (detached_if number mount))
         (mounts_in k.mounts)

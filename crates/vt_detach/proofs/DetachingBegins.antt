@@ -375,6 +375,7 @@ module _ (old : WorldValue) (gained lost : List Inode) (world : World ℕ) (k : 
   begun_kept : IsKeptBut old gone gone gained lost after k
   begun_kept = record {
     held = is.held;
+    none = is.none;
     mounts = ap (map (detached_in gone)) same_mounts;
     uses = all_from_among (CountsItsUses after) k.mounts (λ entry m.
         let counts = among_from_all (CountsItsUses world) k.mounts is.uses entry m in

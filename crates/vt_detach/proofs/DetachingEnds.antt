@@ -36,7 +36,7 @@ use Rattle.vt_mount.specs.MountsValue.{MountEntry, mounts_in}
 use Rattle.vt_laws_worlds.proofs.RaisedInUse.{worlds_are_in_use}
 use Rattle.vt_laws_worlds.proofs.worlds.Roots.{directory_there}
 use Rattle.vt_world.specs.Held.{CountsItsMounts, CountsItsUses, CountsWhatIsInIt, IsHeld, IsMountedSoOften, writes_of}
-use Rattle.vt_detach.specs.Uses.{kept}
+use Rattle.vt_detach.specs.Uses.{Merged, kept_of, kept_with, merged_seen}
 use Rattle.vt_world.specs.WorldValue.{WorldValue, overlays_seen, world_of}
 use Rattle.vt_detach.proofs.BesideOverlays.{layers_of_value}
 use Rattle.vt_detach.proofs.Bridging.{IsSwept}
@@ -93,9 +93,10 @@ module _ (value : WorldValue) (whole : IsHeld value) where
           (list_all (is_directory_at nat_eq world) (option_to_list mount.mount_point))
           (passes (has_its_root nat_eq world) world.mounts whole.in_world.roots mount m)).1 place at_point)
 
-  pub held_is_kept : IsKeptBut value [] [] [] [] world (kept value.mounts value.filesystems)
+  pub held_is_kept : IsKeptBut value [] [] [] [] world (kept_of value)
   held_is_kept = record {
     held = whole;
+    none = ap (map merged_seen) whole.overlays.none_yet;
     mounts = map_itself (mounts_in value.mounts);
     uses = whole.mounts;
     numbers = ap (map (λ (f : Filesystem ℕ). f.number)) (plain_ones_are value whole.overlays)
@@ -125,8 +126,8 @@ module _ (value : WorldValue) (whole : IsHeld value) where
 
 -- The end
 
-module _ (old : WorldValue) (after : World ℕ) (gained lost : List Inode) (new : WorldValue)
-    (is : IsKeptBut old [] [] gained lost (in_use_of after) (kept new.mounts new.filesystems))
+module _ (old : WorldValue) (after : World ℕ) (gained lost : List Inode) (new : WorldValue) (overlays : List Merged)
+    (is : IsKeptBut old [] [] gained lost (in_use_of after) (kept_with new.mounts new.filesystems overlays))
     (same_tasks : after.tasks ≡ new.tasks)
     (same_overlays : overlays_seen new.overlays ≡ overlays_seen old.overlays) where
   mounts_are : (in_use_of after).mounts ≡ mounts_in new.mounts
@@ -168,7 +169,8 @@ module _ (old : WorldValue) (after : World ℕ) (gained lost : List Inode) (new 
         ∙ (λ i. times (λ (mount : Mount ℕ). nat_eq (counted entry.count) mount.filesystem) (mounts_are i)
         + sym (layers_of_value old new is.held.overlays same_overlays (in_use_of after) is.keeps
         (counted entry.count)) i);
-    overlays = subst (All (IsMountedSoOften (world_of new))) (sym (none_still old new is.held same_overlays)) (All-nil _);
+    overlays = subst (All (IsMountedSoOften (world_of new))) (sym (none_still old new is.held same_overlays))
+        (All-nil _);
     namespaces = inside;
   }
 
@@ -218,19 +220,19 @@ detached_is_private world gone nowhere mount m none =
 
 -- where these mounts are in no group
 pub detached_done : (value : WorldValue) (name : TaskName) (permit : Permit ℕ) (task : Task ℕ) (gone : List ℕ)
-    (mounts : List MountEntry) (filesystems : Filesystems)
+    (mounts : List MountEntry) (filesystems : Filesystems) (overlays : List Merged)
     → IsHeld value → HasChildrenOf gone (mounts_in value.mounts)
     → ((mount : Mount ℕ) → Among mount (mounts_in value.mounts) → is_among nat_eq mount.number gone ≡ true
     → is_ungrouped mount.propagation ≡ true)
     → IsApplied value name permit task (taken_away nat_eq (world_of value) gone)
-    → IsDetaching value [] (in_use_of (detached_world gone (world_of value))) [] (kept mounts filesystems)
+    → IsDetaching value [] (in_use_of (detached_world gone (world_of value))) [] (kept_with mounts filesystems overlays)
     → IsDone value name permit (remade value mounts filesystems value.tasks)
-detached_done value name permit task gone mounts filesystems whole closed free is detaching =
+detached_done value name permit task gone mounts filesystems overlays whole closed free is detaching =
     let world = world_of value in
     let after = detached_world gone world in
     let new = remade value mounts filesystems value.tasks in
     let kept_last = subst (λ one. IsKeptBut value [] [] [] detaching.lost one
-    (kept mounts filesystems)) detaching.ends detaching.is in
+    (kept_with mounts filesystems overlays)) detaching.ends detaching.is in
     let live = whole.in_world.mounts.groups in
     finished value whole name permit task after
     (record {
@@ -241,12 +243,12 @@ detached_done value name permit task gone mounts filesystems whole closed free i
           ∙ alone_regroups world value.groups whole.groups live gone free;
     })
     [] detaching.lost new
-    (detached_swept value after [] detaching.lost new kept_last refl refl
+    (detached_swept value after [] detaching.lost new overlays kept_last refl refl
     (same_files_keep value (world_of value) after refl (keeps_itself value whole.overlays)) refl refl)
     (settled_has after value.groups (alone_has world value.groups whole.groups live gone free) (λ mount m dead.
     ap is_ungrouped (detached_is_private world gone whole.in_world.mounts.nowhere mount m
     (or_false_left (is_some mount.namespace) (is_located nat_eq after mount.number) dead))))
-    (detached_counted value after [] detaching.lost new kept_last refl refl
+    (detached_counted value after [] detaching.lost new overlays kept_last refl refl
     (all_from_among (CountsWhatIsInIt (world_of new)) value.namespaces (λ entry m.
     let was = among_from_all (CountsWhatIsInIt
     (world_of value)) value.namespaces whole.namespaces entry m in record { tasks = was.tasks })))
@@ -255,24 +257,25 @@ detached_done value name permit task gone mounts filesystems whole closed free i
 -- Where they are in groups, they leave them at once, and all mounts get the types that the groups then tell.
 pub detached_typed : (value : WorldValue) (name : TaskName) (permit : Permit ℕ) (task : Task ℕ) (gone : List ℕ)
     (groups : Grouping)
-    (mounts : List MountEntry) (filesystems : Filesystems) → IsHeld value → HasChildrenOf gone (mounts_in value.mounts)
+    (mounts : List MountEntry) (filesystems : Filesystems) (overlays : List Merged) → IsHeld value
+    → HasChildrenOf gone (mounts_in value.mounts)
     → TakesAway value.groups groups gone → IsApplied value name permit task (taken_away nat_eq (world_of value) gone)
-    → IsDetaching value [] (in_use_of (detached_world gone (world_of value))) [] (kept mounts filesystems)
+    → IsDetaching value [] (in_use_of (detached_world gone (world_of value))) [] (kept_with mounts filesystems overlays)
     → IsDone value name permit (typed_value groups (remade value mounts filesystems value.tasks))
-detached_typed value name permit task gone groups mounts filesystems whole closed follows is detaching =
+detached_typed value name permit task gone groups mounts filesystems overlays whole closed follows is detaching =
     let after = detached_world gone (world_of value) in
     let new = remade value mounts filesystems value.tasks in
     let kept_last = subst (λ one. IsKeptBut value [] [] [] detaching.lost one
-    (kept mounts filesystems)) detaching.ends detaching.is in
+    (kept_with mounts filesystems overlays)) detaching.ends detaching.is in
     let regroups = taken_regroups (world_of value) gone closed in
     typed_done value whole name permit task after
     (record { called = is.called; given = is.given; named = is.named; applied = λ fresh. is.applied fresh ∙ regroups })
     groups (subst (λ one. Has one groups) regroups (follows (world_of value) whole.groups whole.in_world.mounts.groups))
     (detached_is_private (world_of value) gone whole.in_world.mounts.nowhere)
     [] detaching.lost new
-    (detached_swept value after [] detaching.lost new kept_last refl refl
+    (detached_swept value after [] detaching.lost new overlays kept_last refl refl
     (same_files_keep value (world_of value) after refl (keeps_itself value whole.overlays)) refl refl)
-    (detached_counted value after [] detaching.lost new kept_last refl refl
+    (detached_counted value after [] detaching.lost new overlays kept_last refl refl
     (all_from_among (CountsWhatIsInIt (world_of new)) value.namespaces (λ entry m.
     let was = among_from_all (CountsWhatIsInIt
     (world_of value)) value.namespaces whole.namespaces entry m in record { tasks = was.tasks })))

@@ -14,8 +14,9 @@ use Rattle.vt_laws_letting_go.specs.OneByOne.{without_mount}
 use Rattle.vt_laws_letting_go.proofs.Lists.{Among, all_from_among, all_pass, among-filter, among-from_filter, among-from_map, among-map, among_from_all, any_passes, filter-map, filter_all, filter_alike, one_passes, or_second, passes}
 use Rattle.vt_laws_overlays_stay.proofs.weaving.WovenLists.{rising_filtered}
 use Rattle.vt_location.specs.Numbers.{counted}
+use Rattle.vt_mount.specs.MountsValue.{without}
 use Rattle.vt_detach.specs.Uses as meant
-use Rattle.vt_detach.specs.Uses.{mounts_shown}
+use Rattle.vt_detach.specs.Uses.{Kept, mounts_shown}
 use Rattle.vt_world.specs.WorldValue.{WorldValue, overlays_seen}
 use Rattle.vt_detach.proofs.BesideOverlays.{layers_alike, lives_alike, lives_midway, overlay_lives, overlays_left, plain_ones_left, stays_beside}
 use Rattle.vt_detach.proofs.LostUses.{found_unless, positive, shown_by_rule}
@@ -36,13 +37,35 @@ let_go_is filesystem shown = by (nat_eq (mounts_shown filesystem shown) 0)
     by true = refl
     by false = sym (filter_all (λ (one : Shown). true) shown (λ one m. refl))
 
+-- Where no overlay is kept, a mount goes as one of a plain filesystem.
+abbrev pub without_plainly : ℕ → Mount ℕ → Kept → Kept
+without_plainly number mount k = record k {
+  mounts = without number k.mounts;
+  filesystems = meant.let_go_filesystem mount.filesystem
+      (meant.released_in mount.filesystem (meant.unpinned_in (mount.filesystem, mount.root) k.filesystems));
+}
+
+pub goes_plainly : (number : ℕ) (mount : Mount ℕ) (k : Kept) → k.overlays ≡ []
+    → meant.without_mount number mount k ≡ without_plainly number mount k
+goes_plainly number mount k none = λ i. record k {
+  mounts = without number k.mounts;
+  filesystems = meant.shown_left_by mount.filesystem (meant.merged_at mount.filesystem (none i))
+      (meant.unpinned_in (mount.filesystem, mount.root) k.filesystems);
+  overlays = none_left i;
+}
+  where
+    none_left : meant.merged_left_by mount.filesystem (meant.merged_at mount.filesystem k.overlays) k.overlays
+        ≡ k.overlays
+    none_left = ap (λ all. meant.merged_left_by mount.filesystem (meant.merged_at mount.filesystem all) all) none
+        ∙ sym none
+
 -- the world without a mount, and without plain filesystems of some numbers
 abbrev pub world_left : World ℕ → ℕ → (ℕ → Bool) → World ℕ
 world_left world number stays =
     record (without_mount world number) { filesystems = filter (stays_beside stays) world.filesystems }
 
--- The mount of a number goes, which shows this filesystem. All overlays are shown still, and the counts are those of the
--- world without the mount.
+-- The mount of a number goes, which shows this filesystem. All overlays are shown still, and the counts are those of
+-- the world without the mount.
 pub record MountGoes (old : WorldValue) (world : World ℕ) (number filesystem : ℕ) (shown : List Shown) : Type 0 where
   pub keeps : KeepsOverlays old world
   pub living : FilesystemsInUse world

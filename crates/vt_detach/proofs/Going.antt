@@ -31,16 +31,16 @@ use Rattle.vt_tasks.specs.TasksValue.{Tasks}
 use Rattle.vt_laws_worlds.proofs.RaisedInUse.{worlds_are_in_use}
 use Rattle.vt_world.specs.Held.{CountsItsMounts, CountsItsUses, CountsWhatIsInIt, IsHeld, IsMountedSoOften}
 use Rattle.vt_detach.specs.Uses as meant
-use Rattle.vt_detach.specs.Uses.{kept, mounts_shown, released_if}
+use Rattle.vt_detach.specs.Uses.{Kept, Merged, kept_of, kept_with, merged_seen, mounts_shown, released_if}
 use Rattle.vt_world.specs.WorldValue.{WorldValue, world_of}
 use Rattle.vt_detach.proofs.Bridging.{IsSwept}
 use Rattle.vt_detach.proofs.Finishing.{CountsBeside, IsApplied, finished}
 use Rattle.vt_detach.proofs.Grouped.{left_has}
-use Rattle.vt_detach.proofs.Moving.{Moves, Use, entry_counts, exchanged_shown, filesystems_moved, gained_there, held_counts, hold_if, inodes_of_uses, locations, mounts_moved, moved_kept, release_if, released_counts, swap_eq, uses_moved}
+use Rattle.vt_detach.proofs.Moving.{Moves, Use, entry_counts, exchanged_shown, filesystems_moved, gained_there, held_counts, hold_if, inodes_of_uses, locations, mounts_moved, moved_kept, moved_overlays, release_if, released_counts, swap_eq, uses_moved}
 use Rattle.vt_detach.proofs.Remaining.{remade}
 use Rattle.vt_detach.proofs.Staying.{IsDone, after}
 use Rattle.vt_detach.proofs.BesideOverlays.{layers_of_value}
-use Rattle.vt_detach.proofs.FilesystemsLeft.{MountGoes, let_go_is, living_is, numbers_left, others_stay, stays_at, world_left}
+use Rattle.vt_detach.proofs.FilesystemsLeft.{MountGoes, goes_plainly, let_go_is, living_is, numbers_left, others_stay, stays_at, world_left}
 use Rattle.vt_detach.proofs.Overlaid.{KeepsOverlays, is_plain_one, keeps_itself, none_to_ask, none_to_mount, plain_ones_are, same_files_keep}
 use Rattle.vt_spec.proofs.Lists.{map_alike, map_twice}
 use Rattle.vt_laws_letting_go.specs.TreesOverlays.{in_use_of}
@@ -61,16 +61,16 @@ map_filtered f p q same (x ∷ xs) =
 
 module _ (value : WorldValue) (whole : IsHeld value) (tasks : Tasks) (more : List Use) (left_use : Use)
     (moves : Moves value tasks more (left_use ∷ []))
-    (mounts : List MountEntry) (filesystems : Filesystems) (mount : Mount ℕ)
+    (mounts : List MountEntry) (filesystems : Filesystems) (overlays : List Merged) (mount : Mount ℕ)
     (found_so : mount_numbered nat_eq (world_of value) left_use.location.mount ≡ mount)
     (there : is_among nat_eq left_use.location.mount (map (λ x. x.number) (world_of value).mounts) ≡ true)
     (nowhere : is_some mount.namespace ≡ false)
     (unused : mount_uses (world_of (after value tasks)) left_use.location.mount ≡ 0)
     (dead : without_dead_mounts nat_eq (world_of (after value tasks))
     ≡ without_mount (world_of (after value tasks)) left_use.location.mount)
-    (is_kept : kept mounts filesystems
+    (is_kept : kept_with mounts filesystems overlays
     ≡ meant.without_mount left_use.location.mount mount
-    (moved_kept (world_of value) more (left_use ∷ []) (kept value.mounts value.filesystems))) where
+    (moved_kept (world_of value) more (left_use ∷ []) (kept_of value))) where
   abbrev world : World ℕ
   world = world_of value
 
@@ -101,14 +101,20 @@ module _ (value : WorldValue) (whole : IsHeld value) (tasks : Tasks) (more : Lis
   abbrev stepped : List Shown
   stepped = map step (shown value.filesystems)
 
+  abbrev moved_all : Kept
+  moved_all = moved_kept world more less (kept_of value)
+
+  none_moved : moved_all.overlays ≡ []
+  none_moved = moved_overlays world more less (kept_of value) ∙ ap (map merged_seen) whole.overlays.none_yet
+
   -- Mounts
 
   same_mount : (entry : MountEntry) → (moved_entry entry).mount ≡ entry.mount
   same_mount entry = (released_counts less (folded hold_if entry more)).mount ∙ (held_counts more entry).mount
 
   entries_are : mounts ≡ without number (map moved_entry value.mounts)
-  entries_are = ap (λ k. k.mounts) is_kept
-      ∙ ap (without number) (mounts_moved world more less (kept value.mounts value.filesystems))
+  entries_are = ap (λ (k : Kept). k.mounts) is_kept
+      ∙ ap (without number) (mounts_moved world more less (kept_of value))
 
   pub mounts_are : mounts_in mounts ≡ mounted.mounts
   mounts_are =
@@ -164,10 +170,10 @@ module _ (value : WorldValue) (whole : IsHeld value) (tasks : Tasks) (more : Lis
 
   shown_are : shown filesystems ≡ filter (λ (one : Shown). stays_numbered (counted one.count)) stepped
   shown_are =
-      ap (λ k. k.filesystems) is_kept
+      ap (λ (k : Kept). k.filesystems) (is_kept ∙ goes_plainly number mount moved_all none_moved)
       ∙ ap (λ all. meant.let_go_filesystem mount.filesystem
       (meant.released_in mount.filesystem (meant.unpinned_in (mount.filesystem, mount.root) all)))
-      (filesystems_moved world more less (kept value.mounts value.filesystems))
+      (filesystems_moved world more less (kept_of value))
       ∙ ap (λ all. meant.let_go_filesystem mount.filesystem (meant.released_in mount.filesystem all))
       (map_twice (λ (one : Shown). record one {
         inodes = unpinned_if (counted one.count) one.inodes

@@ -65,6 +65,7 @@ PointsAreSeen old mounts =
 pub record IsKeptBut (old : WorldValue) (losers pending : List ℕ) (gained lost : List Inode) (world : World ℕ)
     (k : Kept) : Type 0 where
   pub held : IsHeld old
+  pub none : k.overlays ≡ []
   pub mounts : world.mounts ≡ map (detached_in pending) (mounts_in k.mounts)
   pub uses : All (CountsItsUses world) k.mounts
   pub numbers : map (λ (f : Filesystem ℕ). f.number) (filter is_plain_one world.filesystems)

@@ -63,6 +63,7 @@ pub record IsShown (value : WorldValue) (now : World ℕ) (gained lost : List In
 pub record Midway (value : WorldValue) (start : World ℕ) (gained : List Inode) (goes : Mount ℕ → Bool)
     (left : List Use) (now : World ℕ) (k : Kept) (lost : List Inode) : Type 0 where
   pub held : IsHeld value
+  pub none : k.overlays ≡ []
   pub mounts : now.mounts ≡ map (gone_if goes) (mounts_in k.mounts)
   pub uses : (entry : MountEntry) → Among entry k.mounts
       → entry.uses ≡ mount_uses now entry.mount.number + times (is_use_on entry.mount.number) left
@@ -203,6 +204,7 @@ module _ (value : WorldValue) (whole : IsHeld value) (start : World ℕ) (gained
     pub use_left : Midway value start gained goes left now new (lost ++ (inode ∷ []))
     use_left = record {
       held = mid.held;
+      none = mid.none;
       mounts = mid.mounts ∙ ap (map (gone_if goes)) (sym same_mounts);
       uses = λ entry m. let from = entry_was entry m in
           subst (λ (e : MountEntry). e.uses ≡ mount_uses now e.mount.number + times (is_use_on e.mount.number) left)
@@ -444,6 +446,7 @@ module _ (value : WorldValue) (whole : IsHeld value) (start : World ℕ) (gained
     pub mount_taken : Midway value start gained goes left now taken (lost ++ lost_here)
     mount_taken = record {
       held = mid.held;
+      none = mid.none;
       mounts = same_now;
       uses = λ e m. let from = entry_before e m in let keeps = take_keeps from.0 in
           subst (λ (x : MountEntry). x.uses ≡ mount_uses now x.mount.number + times (is_use_on x.mount.number) left)

@@ -32,11 +32,11 @@ use Rattle.vt_laws_worlds.proofs.worlds.Roots.{directory_there}
 use Rattle.vt_laws_mounts.specs.Mounts.Attaching.{OneNumberAMount}
 use Rattle.vt_laws_letting_go.specs.Attaching.{inodes_of_mount_point}
 use Rattle.vt_world.specs.Held.{CountsItsMounts, CountsItsUses, IsHeld, writes_of}
-use Rattle.vt_detach.specs.Uses.{Kept, is_unused, kept}
+use Rattle.vt_detach.specs.Uses.{Kept, is_unused, kept_of, merged_seen}
 use Rattle.vt_world.specs.WorldValue.{WorldValue, world_of}
 use Rattle.vt_detach.proofs.LostUses.{positive}
 use Rattle.vt_detach.proofs.Midway.{IsShown, Midway, NoneUnused, Reached, gone_if, gone_number, point_left, points_left}
-use Rattle.vt_detach.proofs.Moving.{Moves, Use, filesystems_gained, gain, gained_there, held_counts, hold_if, inodes_of_uses, is_use_on, locations, mounts_gained, same_moved_mounts, times_mapped, uses_moved, writes_on_mount}
+use Rattle.vt_detach.proofs.Moving.{Moves, Use, filesystems_gained, gain, gained_overlays, gained_there, held_counts, hold_if, inodes_of_uses, is_use_on, locations, mounts_gained, same_moved_mounts, times_mapped, uses_moved, writes_on_mount}
 use Rattle.vt_detach.proofs.Staying.{after}
 use Rattle.vt_spec.proofs.Lists.{map_alike, map_twice}
 use Rattle.vt_laws_counts.specs.OverlaysStay.{layer_count}
@@ -204,7 +204,7 @@ module _ (value : WorldValue) (whole : IsHeld value) (tasks : Tasks) (more less 
   gained = inodes_of_uses world more
 
   abbrev pub k_begins : Kept
-  k_begins = folded (gain world) (kept value.mounts value.filesystems) more
+  k_begins = folded (gain world) (kept_of value) more
 
   stand : MountsStand world
   stand = mounts_of_worlds_stand world whole.in_world
@@ -212,13 +212,13 @@ module _ (value : WorldValue) (whole : IsHeld value) (tasks : Tasks) (more less 
   -- Mounts
 
   same_entries : mounts_in k_begins.mounts ≡ mounts_in value.mounts
-  same_entries = same_moved_mounts world more [] (kept value.mounts value.filesystems)
+  same_entries = same_moved_mounts world more [] (kept_of value)
 
   entry_was : (entry : MountEntry) → Among entry k_begins.mounts
       → (was : MountEntry) × Among was value.mounts × (entry ≡ folded hold_if was more)
   entry_was entry m =
       among-from_map (λ was. folded hold_if was more) value.mounts entry
-      (subst (λ all. Among entry all) (mounts_gained world more (kept value.mounts value.filesystems)) m)
+      (subst (λ all. Among entry all) (mounts_gained world more (kept_of value)) m)
 
   same_mount : (was : MountEntry) → (folded hold_if was more).mount ≡ was.mount
   same_mount was = (held_counts more was).mount
@@ -374,7 +374,7 @@ module _ (value : WorldValue) (whole : IsHeld value) (tasks : Tasks) (more less 
       → (was : FilesystemEntry) × Among was value.filesystems × (one ≡ pinned_one (shown_entry was))
   shown_was one m =
       let from = among-from_map pinned_one (shown value.filesystems) one
-      (subst (λ all. Among one all) (filesystems_gained world more (kept value.mounts value.filesystems)) m) in
+      (subst (λ all. Among one all) (filesystems_gained world more (kept_of value)) m) in
       let first = among-from_map shown_entry value.filesystems from.0 from.1 in
       (first.0, first.1, from.2 ∙ ap pinned_one first.2)
 
@@ -423,6 +423,7 @@ module _ (value : WorldValue) (whole : IsHeld value) (tasks : Tasks) (more less 
   begins_midway : Midway value ended gained goes less ended k_begins []
   begins_midway = record {
     held = whole;
+    none = gained_overlays world more (kept_of value) ∙ ap (map merged_seen) whole.overlays.none_yet;
     mounts = ap (map (gone_if goes)) (sym same_entries);
     uses = λ entry m. let from = entry_was entry m in
         subst (λ (e : MountEntry). e.uses ≡ mount_uses next e.mount.number + times (is_use_on e.mount.number) less)
@@ -443,7 +444,7 @@ module _ (value : WorldValue) (whole : IsHeld value) (tasks : Tasks) (more less 
         ∙ sym (map_twice (λ (one : Shown). counted one.count) shown_entry value.filesystems)
         ∙ sym (map_twice (λ (one : Shown). counted one.count) pinned_one (shown value.filesystems))
         ∙ sym (ap (map (λ (one : Shown). counted one.count))
-        (filesystems_gained world more (kept value.mounts value.filesystems)));
+        (filesystems_gained world more (kept_of value)));
     stand = stand_ended;
     located = located_ended;
     keeps = same_files_keep value world ended refl (keeps_itself value whole.overlays);

@@ -22,7 +22,7 @@ use Rattle.vt_mount.specs.MountsValue.{MountEntry, mounts_in}
 use Rattle.vt_laws_letting_go.specs.Attaching.{inodes_of_mount_point}
 use Rattle.vt_world.specs.Held.{CountsItsUses, CountsWhatIsInIt, IsHeld, IsMountedSoOften, writes_of}
 use Rattle.vt_detach.specs.NamespacesLeft.{AreDetached, Detached}
-use Rattle.vt_detach.specs.Uses.{Kept, kept, without_attachment, without_use}
+use Rattle.vt_detach.specs.Uses.{Kept, Merged, kept_with, without_attachment, without_use}
 use Rattle.vt_world.specs.WorldValue.{WorldValue, overlays_seen, world_of}
 use Rattle.vt_detach.proofs.BesideOverlays.{layers_of_value, lives_midway, overlay_lives}
 use Rattle.vt_detach.proofs.Bridging.{IsSwept}
@@ -79,7 +79,7 @@ module _ (value : WorldValue) (whole : IsHeld value) (start : World ℕ) (gained
 module _ (value : WorldValue) (start : World ℕ) (gained : List Inode) (goes : Mount ℕ → Bool) (k : Kept)
     (at : Reached value start gained goes [] k)
     (all_gone : (entry : MountEntry) → Among entry k.mounts → goes entry.mount ≡ false)
-    (new : WorldValue) (is_kept : kept new.mounts new.filesystems ≡ k) (same_tasks : start.tasks ≡ new.tasks)
+    (new : WorldValue) (overlays : List Merged) (is_kept : kept_with new.mounts new.filesystems overlays ≡ k) (same_tasks : start.tasks ≡ new.tasks)
     (same_overlays : overlays_seen new.overlays ≡ overlays_seen value.overlays) where
   abbrev now : World ℕ
   now = at.now
@@ -215,6 +215,7 @@ module _ (value : WorldValue) (start : World ℕ) (gained : List Inode) (goes : 
         ∙ (λ i. Rattle.vt_laws_letting_go.specs.Counts.times
         (λ (x : Mount ℕ). nat_eq (counted entry.count) x.filesystem) (mounts_are i)
         + sym (layers_of_value value new mid.held.overlays same_overlays now mid.keeps (counted entry.count)) i);
-    overlays = subst (All (IsMountedSoOften (world_of new))) (sym (none_still value new mid.held same_overlays)) (All-nil _);
+    overlays = subst (All (IsMountedSoOften (world_of new))) (sym (none_still value new mid.held same_overlays))
+        (All-nil _);
     namespaces = namespaces;
   }

@@ -41,7 +41,7 @@ use Rattle.vt_detach.proofs.Moving.{Use, inodes_of_uses, swap_eq}
 use Rattle.vt_spec.proofs.Lists.{map_alike, map_twice}
 use Rattle.vt_laws_letting_go.specs.TreesOverlays.{in_use_of}
 use Rattle.vt_detach.proofs.BesideOverlays.{dead_unshown, layers_alike, lives_alike, overlays_left, plain_ones_left, stays_beside}
-use Rattle.vt_detach.proofs.FilesystemsLeft.{let_go_is, stays_at, world_left}
+use Rattle.vt_detach.proofs.FilesystemsLeft.{goes_plainly, let_go_is, stays_at, world_left}
 use Rattle.vt_detach.proofs.Overlaid.{is_plain_one}
 use Rattle.vt_laws_overlays_stay.proofs.weaving.WovenLists.{rising_filtered}
 
@@ -358,14 +358,16 @@ module _ (value : WorldValue) (whole : IsHeld value) (start : World ℕ) (gained
         (ap not (ap (λ n. nat_eq n number) (sym from.2) ∙ swap_eq location.mount number ∙ apart))))))
 
     abbrev kept_left : Kept
-    kept_left = record {
+    kept_left = record k {
       mounts = without number k.mounts;
       filesystems = filter
           (λ (one : Shown). stays (counted one.count)) stepped;
     }
 
     kept_is : kept_left ≡ meant.without_mount number mount k
-    kept_is = λ i. record { mounts = without number k.mounts; filesystems = so i }
+    kept_is =
+        (λ i. record k { mounts = without number k.mounts; filesystems = so i })
+        ∙ sym (goes_plainly number mount k mid.none)
       where
         so : filter (λ (one : Shown). stays (counted one.count)) stepped
             ≡ meant.let_go_filesystem f (meant.released_in f (meant.unpinned_in root k.filesystems))
@@ -502,6 +504,7 @@ module _ (value : WorldValue) (whole : IsHeld value) (start : World ℕ) (gained
     gone_midway : Midway value start gained goes left after kept_left lost_now
     gone_midway = record {
       held = mid.held;
+      none = mid.none;
       mounts = same_mounts;
       uses = λ e m. mid.uses e (still_there e m).0;
       writers = λ e m. mid.writers e (still_there e m).0;

@@ -33,7 +33,7 @@ use Rattle.vt_detach.proofs.Going.{map_filtered}
 use Rattle.vt_detach.proofs.Keeping.{IsKeptBut, IsShownIn, detached_in, looked_at, points_lost, points_without}
 use Rattle.vt_detach.proofs.Moving.{swap_eq}
 use Rattle.vt_detach.proofs.Shown.{found_entry}
-use Rattle.vt_detach.proofs.FilesystemsLeft.{MountGoes, keeps_left, layers_left, let_go_is, living_is, living_left, numbers_left, others_stay, stays_at, world_left}
+use Rattle.vt_detach.proofs.FilesystemsLeft.{MountGoes, goes_plainly, keeps_left, layers_left, let_go_is, living_is, living_left, numbers_left, others_stay, stays_at, without_plainly, world_left}
 use Rattle.vt_detach.proofs.LostUses.{folded_append}
 use Rattle.vt_detach.proofs.Overlaid.{none_to_mount}
 use Rattle.vt_spec.proofs.Lists.{map_alike, map_twice, pair-filter}
@@ -125,6 +125,7 @@ module _ (old : WorldValue) (number : ℕ) (pending : List ℕ) (gained lost : L
       → IsKeptBut old pending pending gained lost (looked_at world number) k
   mount_stays stay = subst (λ one. IsKeptBut old pending pending gained lost one k) (sym same) (record {
     held = is.held;
+    none = is.none;
     mounts = is.mounts;
     uses = is.uses;
     numbers = is.numbers;
@@ -234,7 +235,7 @@ module _ (old : WorldValue) (number : ℕ) (pending : List ℕ) (gained lost : L
       stays_numbered = stays_at mount.filesystem stepped
 
       abbrev kept_now : Kept
-      kept_now = meant.without_mount number mount k
+      kept_now = without_plainly number mount k
 
       abbrev is_other : Mount ℕ → Bool
       is_other x = not (nat_eq x.number number)
@@ -257,7 +258,8 @@ module _ (old : WorldValue) (number : ℕ) (pending : List ℕ) (gained lost : L
       step_is one m = by (nat_eq mount.filesystem (counted one.count)) (is.filesystems one m).mounts
           (takes (counted one.count))
         where
-          by : (b : Bool) → one.mounts ≡ mounts_showing world (counted one.count) + layer_count world (counted one.count)
+          by : (b : Bool)
+              → one.mounts ≡ mounts_showing world (counted one.count) + layer_count world (counted one.count)
               → mounts_showing world (counted one.count) ≡ mounts_showing mounted (counted one.count) + cond b 1 0
               → ((cond b (record (unpinned_one one) { mounts = one.mounts - 1 }) (unpinned_one one)).count ≡ one.count)
               × ((cond b (record (unpinned_one one) { mounts = one.mounts - 1 }) (unpinned_one one)).inodes
@@ -418,6 +420,7 @@ module _ (old : WorldValue) (number : ℕ) (pending : List ℕ) (gained lost : L
       remaining_kept : IsKeptBut old pending pending gained (lost ++ root ∷ []) remaining kept_now
       remaining_kept = record {
         held = is.held;
+        none = is.none;
         mounts = ap (filter is_other) is.mounts
             ∙ filter-map is_other (detached_in pending) (mounts_in k.mounts)
             (λ x. ap (λ n. not (nat_eq n number)) (pending_number pending x))
@@ -466,7 +469,8 @@ module _ (old : WorldValue) (number : ℕ) (pending : List ℕ) (gained lost : L
               subst (λ one. IsKeptBut old pending pending gained (lost ++ (mount.filesystem, mount.root) ∷ []) one
                   (meant.let_go_mount number k)) (sym (looked_is unused dead))
                   (subst (λ one. IsKeptBut old pending pending gained (lost ++ (mount.filesystem, mount.root) ∷ [])
-                  (remaining unused dead) one) (sym (kept_is false true nowhere g))
+                  (remaining unused dead) one)
+                  (sym (kept_is false true nowhere g ∙ goes_plainly number mount k is.none))
                   (remaining_kept unused dead)),
             )
         by false g =

@@ -23,7 +23,7 @@ use Rattle.vt_tasks.specs.Counts.{locations_in, one_if}
 use Rattle.vt_tasks.specs.TasksValue.{Tasks, called, changed_by, changed_called, replaced}
 use Rattle.vt_detach.specs.Events.{Permits}
 use Rattle.vt_world.specs.Held.{IsHeld, writes_of, writes_of_task, writes_on}
-use Rattle.vt_detach.specs.Uses.{Kept, kept, let_go_mount, released_use, with_location, with_use, without_location}
+use Rattle.vt_detach.specs.Uses.{Kept, Merged, kept_of, kept_with, let_go_mount, released_use, with_location, with_use, without_location}
 use Rattle.vt_world.specs.WorldValue.{WorldValue, world_of}
 use Rattle.vt_detach.proofs.FileEvents.{permit_fits}
 use Rattle.vt_detach.proofs.LocationsSeen.{seen_where_located}
@@ -185,15 +185,15 @@ located_task value whole name task found =
     )
 
 pub directory_is_set : (value : WorldValue) (name : TaskName) (directory left : Location) (mounts : List MountEntry)
-    (filesystems : Filesystems) (tasks : Tasks)
+    (filesystems : Filesystems) (overlays : List Merged) (tasks : Tasks)
     → IsHeld value → Permits value name (ToSetDirectory (location_of directory))
     → directory.node.slot < 18446744073709551616 → left.node.slot < 18446744073709551616
     → Some (location_of left) ≡ option_map (λ task. task.directory) (called name value.tasks)
     → tasks ≡ changed_called name (λ task. record task { directory = location_of directory }) value.tasks
-    → kept mounts filesystems ≡ without_location left false
-    (with_location directory false (kept value.mounts value.filesystems))
+    → kept_with mounts filesystems overlays ≡ without_location left false
+    (with_location directory false (kept_of value))
     → IsDone value name (ToSetDirectory (location_of directory)) (remade value mounts filesystems tasks)
-directory_is_set value name directory left mounts filesystems tasks whole permits few few_left was is is_kept =
+directory_is_set value name directory left mounts filesystems overlays tasks whole permits few few_left was is is_kept =
     let task = permits.task in
     let place = location_of directory in
     let new = record task { directory = place } in
@@ -209,22 +209,22 @@ directory_is_set value name directory left mounts filesystems tasks whole permit
     (subst (λ location. Moves value (replaced new value.tasks) (standing place ∷ []) (standing location ∷ []))
     (sym left_is)
     (directory_moves value whole name task new permits.called refl refl refl well))
-    mounts filesystems (kept_so value whole directory left (kept value.mounts value.filesystems)
-    (kept mounts filesystems) few few_left well well_left is_kept)
+    mounts filesystems overlays (kept_so value whole directory left (kept_of value)
+    (kept_with mounts filesystems overlays) few few_left well well_left is_kept)
     name (ToSetDirectory place) task
     (record { called = permits.called; given = permits.given; named = located_is_named value whole place well; applied = λ fresh. refl })
     (same_tasks_in value whole name task new permits.called refl refl refl))
 
 pub root_is_set : (value : WorldValue) (name : TaskName) (root left : Location) (mounts : List MountEntry)
-    (filesystems : Filesystems) (tasks : Tasks)
+    (filesystems : Filesystems) (overlays : List Merged) (tasks : Tasks)
     → IsHeld value → Permits value name (ToSetRoot (location_of root))
     → root.node.slot < 18446744073709551616 → left.node.slot < 18446744073709551616
     → Some (location_of left) ≡ option_map (λ task. task.root) (called name value.tasks)
     → tasks ≡ changed_called name (λ task. record task { root = location_of root }) value.tasks
-    → kept mounts filesystems ≡ without_location left false
-    (with_location root false (kept value.mounts value.filesystems))
+    → kept_with mounts filesystems overlays ≡ without_location left false
+    (with_location root false (kept_of value))
     → IsDone value name (ToSetRoot (location_of root)) (remade value mounts filesystems tasks)
-root_is_set value name root left mounts filesystems tasks whole permits few few_left was is is_kept =
+root_is_set value name root left mounts filesystems overlays tasks whole permits few few_left was is is_kept =
     let task = permits.task in
     let place = location_of root in
     let new = record task { root = place } in
@@ -240,8 +240,8 @@ root_is_set value name root left mounts filesystems tasks whole permits few few_
     (subst (λ location. Moves value (replaced new value.tasks) (standing place ∷ []) (standing location ∷ []))
     (sym left_is)
     (root_moves value whole name task new permits.called refl refl refl well))
-    mounts filesystems (kept_so value whole root left (kept value.mounts value.filesystems)
-    (kept mounts filesystems) few few_left well well_left is_kept)
+    mounts filesystems overlays (kept_so value whole root left (kept_of value)
+    (kept_with mounts filesystems overlays) few few_left well well_left is_kept)
     name (ToSetRoot place) task
     (record { called = permits.called; given = permits.given; named = located_is_named value whole place well; applied = λ fresh. refl })
     (same_tasks_in value whole name task new permits.called refl refl refl))

@@ -17,7 +17,7 @@ use Rattle.vt_mount.specs.MountsValue.{MountEntry, mounts_in}
 use Rattle.vt_tasks.specs.TasksValue.{Tasks}
 use Rattle.vt_laws_worlds.proofs.RaisedInUse.{worlds_are_in_use}
 use Rattle.vt_world.specs.Held.{CountsItsMounts, CountsItsUses, CountsWhatIsInIt, IsHeld}
-use Rattle.vt_detach.specs.Uses.{kept}
+use Rattle.vt_detach.specs.Uses.{Merged, kept_of, kept_with}
 use Rattle.vt_world.specs.WorldValue.{WorldValue, world_of}
 use Rattle.vt_detach.proofs.Bridging.{IsSwept}
 use Rattle.vt_detach.proofs.Finishing.{CountsBeside, IsApplied, finished}
@@ -34,9 +34,9 @@ remade value mounts filesystems tasks = record value { mounts = mounts; filesyst
 
 module _ (value : WorldValue) (whole : IsHeld value) (tasks : Tasks) (more less : List Use)
     (moves : Moves value tasks more less)
-    (mounts : List MountEntry) (filesystems : Filesystems)
-    (is_kept : kept mounts filesystems
-    ≡ moved_kept (world_of value) more less (kept value.mounts value.filesystems)) where
+    (mounts : List MountEntry) (filesystems : Filesystems) (overlays : List Merged)
+    (is_kept : kept_with mounts filesystems overlays
+    ≡ moved_kept (world_of value) more less (kept_of value)) where
   abbrev next : World ℕ
   next = world_of (after value tasks)
 
@@ -51,11 +51,11 @@ module _ (value : WorldValue) (whole : IsHeld value) (tasks : Tasks) (more less 
 
   pub entries_are : mounts ≡ map moved_entry value.mounts
   entries_are = ap (λ k. k.mounts) is_kept
-      ∙ mounts_moved (world_of value) more less (kept value.mounts value.filesystems)
+      ∙ mounts_moved (world_of value) more less (kept_of value)
 
   pub shown_are : shown filesystems ≡ map (exchanged_shown gained lost) (shown value.filesystems)
   shown_are = ap (λ k. k.filesystems) is_kept
-      ∙ filesystems_moved (world_of value) more less (kept value.mounts value.filesystems)
+      ∙ filesystems_moved (world_of value) more less (kept_of value)
 
   pub same_mount : (entry : MountEntry) → (moved_entry entry).mount ≡ entry.mount
   same_mount entry = (released_counts less (folded hold_if entry more)).mount ∙ (held_counts more entry).mount
