@@ -56,3 +56,6 @@ pub mod TreesInNamespaces
 pub mod Entered
 pub mod BesideOverlays
 pub mod FilesystemsLeft
+pub mod StoresLeft
+pub mod LayersLeft
+pub mod OverlaysGone

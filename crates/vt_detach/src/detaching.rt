@@ -42,12 +42,7 @@ pub fn detach_each(mounts: &mut Mounts, store: &mut Store, ids: &[MountId])
 
 /// Mounts leave their namespaces one after the other, and their groups at once: the slaves of a group that ends get its
 /// master. It does not allocate.
-pub fn detach_together(
-    mounts: &mut Mounts,
-    groups: &mut Groups,
-    store: &mut Store,
-    ids: &[MountId],
-)
+pub fn detach_together(mounts: &mut Mounts, groups: &mut Groups, store: &mut Store, ids: &[MountId])
     ensures { LeaveTogether (map mount_number ids.now) (kept mounts.old store.old) groups.old
         (kept mounts.new store.new) groups.new }
 {

@@ -40,12 +40,7 @@ pub fn leave_namespace(
 }
 
 // The mounts of a namespace are detached and leave their groups, the last one first.
-fn end_namespace(
-    mounts: &mut Mounts,
-    groups: &mut Groups,
-    store: &mut Store,
-    id: NamespaceId,
-)
+fn end_namespace(mounts: &mut Mounts, groups: &mut Groups, store: &mut Store, id: NamespaceId)
     ensures { NamespaceIsLeft (namespace_number id) (kept mounts.old store.old) groups.old
         (kept mounts.new store.new) groups.new }
 {
