@@ -1,5 +1,7 @@
 pub mod FilesystemsFound
 pub mod Overlaid
+pub mod PlainFound
+pub mod LayersShown
 pub mod LookLemmas
 pub mod OwnInodesKept
 pub mod ChangedNumbers
