@@ -58,3 +58,4 @@ pub mod TreesInNamespaces
 pub mod Entered
 pub mod BesideOverlays
 pub mod FilesystemsLeft
+pub mod StoreShown
