@@ -1,13 +1,13 @@
 -- The inodes of an overlay that is kept as its layers, each with its real object, in the order of their numbers. A value
 -- of a world has no functions, so it has these in the place of the tree.
-use Rattle.std.specs.Prelude.{List, None, Option, Some, [], filter_map, is_some, map, nat_eq, option_map, unwrap_or, ℕ, ◌≡◌}
+use Rattle.std.specs.Prelude.{List, None, Option, Some, [], filter_map, map, nat_eq, option_map, unwrap_or, ℕ, ◌≡◌}
 use Rattle.vt_spec.specs.Machine.Merging.{MergedInode, real_of, tree_of}
 use Rattle.vt_spec.specs.Machine.World.{Real}
 use Rattle.vt_spec.specs.Machine.World.Real.{Lower}
 use Rattle.vt_spec.specs.Tree.{Node}
 use Rattle.vt_location.specs.InOrder.{in_order_by}
 use Rattle.vt_fs.specs.FilesystemsValue.{Filesystems}
-use Rattle.vt_overlay.specs.MergedTree.{OverlayValue, merged_tree, numbers_shown}
+use Rattle.vt_overlay.specs.MergedTree.{AreLayers, OverlayValue, merged_tree, numbers_shown}
 use Rattle.vt_laws_overlays_kept.specs.Kept.{IsShownAlike, real_objects}
 
 -- an inode with its real object, if it is there
@@ -34,12 +34,10 @@ InodesAreTheTree =
     (trees : Filesystems) (overlay : OverlayValue)
     → (tree_of nat_eq (merged_tree trees overlay).root (inodes_kept trees overlay)).tree ≡ merged_tree trees overlay
 
--- and have its real objects, where each inode has one and nothing else has.
+-- and have its real objects.
 abbrev pub InodesHaveTheirObjects : Type 0
 InodesHaveTheirObjects =
-    (trees : Filesystems) (overlay : OverlayValue)
-    → ((number : ℕ)
-    → is_some (real_objects trees overlay number) ≡ is_some ((merged_tree trees overlay).node number))
+    (trees : Filesystems) (overlay : OverlayValue) → AreLayers trees overlay.lowers
     → real_of nat_eq (inodes_kept trees overlay) ≡ real_objects trees overlay
 
 -- Where an overlay is shown alike, they are the same, in the same order.

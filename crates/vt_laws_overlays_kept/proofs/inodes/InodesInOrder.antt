@@ -7,19 +7,22 @@ use Rattle.std.specs.FinMap.{nat_cmp-IsAntisymmetric}
 use Rattle.std.specs.FinMap.Entries.{same_entries}
 use Rattle.std.specs.Map.{lookup}
 use Rattle.vt_spec.proofs.Found.{found_among, found_passes}
-use Rattle.vt_spec.specs.Lists.{holds_of, is_among}
-use Rattle.vt_spec.specs.Machine.Layers.{paths_from}
-use Rattle.vt_spec.specs.Machine.Merging.{MergedInode, real_of, tree_of}
+use Rattle.vt_spec.specs.Lists.{holds_of, is_among, then_some}
+use Rattle.vt_spec.specs.Machine.Layers.{OpenLayer, Shown, paths_from, shown}
+use Rattle.vt_spec.specs.Machine.Merging.{Merged, MergedInode, layer_node, real_object, real_of, tree_of}
 use Rattle.vt_spec.specs.Machine.World.{Real}
 use Rattle.vt_spec.specs.Machine.World.Real.{Lower}
 use Rattle.vt_spec.specs.Tree.{Node}
 use Rattle.vt_laws_letting_go.proofs.Lists.{among-filter_map, held_number, is_among_numbers}
-use Rattle.vt_laws_merging.specs.MergedTrees.{layers_shown}
-use Rattle.vt_laws_seen.specs.TreesSeen.{node_by}
+use Rattle.vt_laws_layers.proofs.layers.ShownDirectories.{AreOpen}
+use Rattle.vt_laws_merging.specs.MergedTrees.{entries_shown, layers_shown, node_as, parent_shown}
+use Rattle.vt_laws_overlays.proofs.steps.WholeParts.{shown_is_there}
+use Rattle.vt_laws_seen.specs.TreesSeen.{node_by, real_by}
 use Rattle.vt_location.specs.InOrder.{cmp_by, in_order_by}
 use Rattle.vt_location.proofs.OrderLemmas.{cmp_total, looked-in_order, found-in_order, rises-in_order}
 use Rattle.vt_fs.specs.FilesystemsValue.{Filesystems}
-use Rattle.vt_overlay.specs.MergedTree.{OverlayValue, longest, merged_tree, number_at, numbers_shown, overlay_seen, path_at, plain_world, real_number}
+use Rattle.vt_overlay.proofs.TreeFound.{layers_are, open_layers}
+use Rattle.vt_overlay.specs.MergedTree.{AreLayers, OverlayValue, longest, merged_tree, number_at, numbers_shown, overlay_seen, path_at, plain_world, real_number}
 use Rattle.vt_laws_overlays_kept.specs.Inodes.{InodesAreTheTree, InodesHaveTheirObjects, InodesStay, inode_kept, inodes_kept, object_at, objects_shown}
 use Rattle.vt_laws_overlays_kept.specs.Kept.{IsShownAlike, real_objects}
 
@@ -172,11 +175,50 @@ inodes_are_the_tree trees overlay = λ i. record {
     first_of None real = refl
     first_of (Some node) real = refl
 
+-- each inode has a real object, and nothing else has one
+module _ (trees : Filesystems) (overlay : OverlayValue) (are : AreLayers trees overlay.lowers) where
+  abbrev opened : List (OpenLayer ℕ)
+  opened = layers_shown (plain_world trees) (overlay_seen overlay)
+
+  are_opened : AreOpen (layers_shown (plain_world trees) (overlay_seen overlay))
+  are_opened = subst AreOpen (sym (layers_are trees overlay are)) (open_layers trees overlay are)
+
+  objects_there : (q : ℕ)
+      → is_some (real_objects trees overlay q) ≡ is_some ((merged_tree trees overlay).node q)
+  objects_there q = by (path_at trees overlay q)
+    where
+      one : (path : List (List ℕ)) (o : Option (Shown ℕ)) → shown opened path ≡ o
+          → is_some (option_map (λ (object : Merged ℕ). real_object false object.seen.layer object)
+          (option_map (λ seen. record { path = path; seen = seen }) o))
+          ≡ is_some (option_map (node_as (parent_shown (real_number trees overlay) (plain_world trees)
+          (overlay_seen overlay) path)
+          (entries_shown (real_number trees overlay) (plain_world trees) (overlay_seen overlay) path))
+          (then_some o (layer_node opened)))
+      one path None e = refl
+      one path (Some seen) e =
+          sym (shown_is_there opened are_opened path seen e) ∙ as_many (layer_node opened seen)
+        where
+          as_many : (o : Option (Node ℕ))
+              → is_some o ≡ is_some (option_map (node_as (parent_shown (real_number trees overlay) (plain_world trees)
+              (overlay_seen overlay) path)
+              (entries_shown (real_number trees overlay) (plain_world trees) (overlay_seen overlay) path)) o)
+          as_many None = refl
+          as_many (Some node) = refl
+
+      by : (o : Option (List (List ℕ)))
+          → is_some (real_by (real_number trees overlay) (λ number. None) (longest trees overlay.lowers)
+          (plain_world trees) (overlay_seen overlay) q o)
+          ≡ is_some (node_by (real_number trees overlay) (λ number. None) (longest trees overlay.lowers)
+          (plain_world trees) (overlay_seen overlay) q o)
+      by None = refl
+      by (Some path) = one path (shown opened path) refl
+
 pub inodes_have_their_objects : InodesHaveTheirObjects
-inodes_have_their_objects trees overlay alike = λ i. λ q.
+inodes_have_their_objects trees overlay are = λ i. λ q.
     (real_looked (in_order_by (λ number. number) (objects_shown trees overlay)) q
     ∙ ap (option_map (λ object. object.1)) (looked_in_order trees overlay q)
-    ∙ second_of ((merged_tree trees overlay).node q) (real_objects trees overlay q) (alike q)) i
+    ∙ second_of ((merged_tree trees overlay).node q) (real_objects trees overlay q)
+    (objects_there trees overlay are q)) i
   where
     second_of : (o : Option (Node ℕ)) (real : Option (Real ℕ)) → is_some real ≡ is_some o
         → option_map (λ (object : Node ℕ × Real ℕ). object.1) (option_map (λ node. (node, unwrap_or real (Lower 0 []))) o)
