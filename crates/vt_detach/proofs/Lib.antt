@@ -59,3 +59,4 @@ pub mod Entered
 pub mod BesideOverlays
 pub mod FilesystemsLeft
 pub mod StoreShown
+pub mod StoreStays

@@ -61,7 +61,7 @@ module _ (base : WorldValue) (store : StoreValue) (held : IsHeld (with_store sto
       record { layers = shown.0; some = number.0; few = omega (arith, few) })
 
   -- an overlay of it is found in the world
-  overlay_found : (entry : stored.OverlayEntry) → Among entry store.overlays
+  pub overlay_found : (entry : stored.OverlayEntry) → Among entry store.overlays
       → filesystem_numbered nat_eq (world_of (with_store store base)) (counted entry.count)
       ≡ overlay_seen (overlay_of_store store.plain entry)
   overlay_found entry m =
