@@ -1,5 +1,7 @@
 pub mod FilesystemsFound
 pub mod Overlaid
+pub mod PlainFound
+pub mod LayersShown
 pub mod LookLemmas
 pub mod OwnInodesKept
 pub mod ChangedNumbers
@@ -59,3 +61,5 @@ pub mod FilesystemsLeft
 pub mod StoresLeft
 pub mod LayersLeft
 pub mod OverlaysGone
+pub mod StoreShown
+pub mod StoreStays
