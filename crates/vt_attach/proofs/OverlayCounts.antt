@@ -1,5 +1,5 @@
 -- How many mounts show overlays, as code counts them: those that come are room for, and are counted.
-use Rattle.std.proofs.Common.{◌≡◌, refl, sym, ap, subst, ◌∙◌, ℕ, ◌+◌, ◌-◌, ◌<◌, ◌≤◌, ◌×◌, nat_eq, Bool, true, false, cond, ◌&&◌, List, [], ◌∷◌, map, length, find, Option, Some, None, is_some, option_map, option_copied, unwrap_or, take, get_or, arith}
+use Rattle.std.proofs.Common.{◌≡◌, refl, sym, ap, subst, ◌∙◌, ℕ, ◌+◌, ◌-◌, ◌<◌, ◌≤◌, nat_eq, Bool, true, false, true≢false, cond, ◌&&◌, List, [], ◌∷◌, map, length, find, Option, Some, None, is_some, option_map, option_copied, unwrap_or, take, get_or, arith}
 use Rattle.std.specs.Prelude.{nat_le}
 use Rattle.std.specs.List.{list_all}
 use Rattle.std.proofs.lemmas.Bool.{and_parts, le-leb, leb-true}
@@ -59,15 +59,17 @@ merged_held count (entry ∷ rest) =
 none_held : (count : ℕ) (all : Overlays) → is_some (entry_kept all count) ≡ false
     → mounted_merged (counted count) (map merged_of all) ≡ map merged_of all
 none_held count [] none = refl
-none_held count (entry ∷ rest) none = by (nat_eq count entry.count) refl none
+none_held count (entry ∷ rest) none = by (nat_eq count entry.count) refl none (none_held count rest)
   where
     by : (b : Bool) → nat_eq count entry.count ≡ b → is_some (cond b (Some entry) (entry_kept rest count)) ≡ false
+        → (is_some (entry_kept rest count) ≡ false
+        → mounted_merged (counted count) (map merged_of rest) ≡ map merged_of rest)
         → mounted_merged (counted count) (map merged_of (entry ∷ rest)) ≡ map merged_of (entry ∷ rest)
-    by true e none = absurd cc
-    by false e none =
+    by true e found later = absurd (true≢false found)
+    by false e found later =
         λ i. ap (λ b. cond b (record (merged_of entry) { mounts = entry.mounts + 1 }) (merged_of entry))
         (counted_test count entry.count ∙ e) i
-        ∷ none_held count rest none i
+        ∷ later found i
 
 module _ (store : StoreValue) (count : ℕ) where
   -- whether a filesystem is an overlay

@@ -1,4 +1,4 @@
-use Rattle.std.proofs.Common.{◌≡◌, ◌×◌, map, take}
+use Rattle.std.proofs.Common.{◌≡◌, map, take}
 use Rattle.vt_spec.specs.Lists.{folded}
 use Rattle.vt_detach.specs.Stored.{merged_of}
 use Rattle.vt_detach.specs.Uses.{merged_by}

@@ -1,7 +1,7 @@
 use Rattle.std.proofs.Common.{List, Some, ap, arith, length, map, refl, subst, sym, true, ◌*◌, ◌+◌, ◌-◌, ◌≡◌, ◌∙◌}
 use Rattle.std.specs.List.{list_all}
 use Rattle.std.proofs.lemmas.List.{length-map}
-use Rattle.vt_fs.specs.FilesystemsValue.{shown}
+use Rattle.vt_fs.specs.FilesystemsValue.{Shown, shown}
 use Rattle.vt_location.specs.declared.locations.Location.{Location}
 use Rattle.vt_mount.specs.declared.moving.Moved.{Moved}
 use Rattle.vt_spec.specs.Lists.{folded}
@@ -23,12 +23,15 @@ exchange_uses-requires-clause-points c =
     let few = taken_few plan.points.now c.args.mounts.now in
     let are : taken_of moved ≡ taken = ap taken_of c.deref.ensures.value ∙ c.in_ok-moved.ensures.moves.taken_are in
     let many : length moved ≡ length taken = sym (length-map moved (λ (one : Moved). one.to)) ∙ ap length are in
-    subst (λ (list : List Location). list_all
+    subst (λ (uses : List Shown). list_all
+    (λ (point : Location). point_has_room (most_counted - length moved) uses (Some point)) (taken_of moved) ≡ true)
+    (sym (ap shown c.plain_mut.ensures.value))
+    (subst (λ (list : List Location). list_all
     (λ (point : Location). point_has_room (most_counted - length moved) all (Some point)) list ≡ true)
     (sym are)
     (room_stays (most_counted - length moved) less all (omega (arith, few, many)) taken
     (taken_pass (λ (point : Location). point_has_room less all (Some point)) plan.points.now c.args.mounts.now
-    (c.if-not-plan_has_room.ensures.points refl)))
+    (c.if-not-plan_has_room.ensures.points refl))))
 
 pub exchange_uses-requires-clause-copies : goal.exchange_uses-requires-clause-copies
 exchange_uses-requires-clause-copies c =
@@ -38,8 +41,10 @@ exchange_uses-requires-clause-copies c =
     let less = most_counted - (2 * length plan.copies.now + length plan.points.now) in
     let few = taken_few plan.points.now c.args.mounts.now in
     let fits = c.if-not-plan_has_room.ensures.fits refl in
-    let pinned_so : folded pinned_by all (taken_of c.deref.result.now) ≡ folded pinned_by all taken =
-    ap (folded pinned_by all) (ap taken_of c.deref.ensures.value ∙ c.in_ok-moved.ensures.moves.taken_are) in
+    let pinned_so : folded pinned_by (shown c.plain_mut.result.now) (taken_of c.deref.result.now)
+    ≡ folded pinned_by all taken =
+    ap (λ (uses : List Shown). folded pinned_by uses (taken_of c.deref.result.now)) (ap shown c.plain_mut.ensures.value)
+    ∙ ap (folded pinned_by all) (ap taken_of c.deref.ensures.value ∙ c.in_ok-moved.ensures.moves.taken_are) in
     subst (λ later. list_all (has_room (most_counted - 2 * length plan.copies.now) later) plan.copies.now ≡ true)
     (sym pinned_so)
     (all_room_then taken all less (most_counted - 2 * length plan.copies.now) (omega (arith, few, fits)) plan.copies.now
@@ -64,6 +69,8 @@ returns-clause-ok c =
     ≡ folded unpinned_by (folded shown_by (folded pinned_by all (points_taken plan.points.now c.args.mounts.now))
     plan.copies.now) left =
     ap shown c.hold_overlays.ensures.plain ∙ c.exchange_uses.ensures
+    ∙ ap (λ (uses : List Shown). folded unpinned_by (folded shown_by (folded pinned_by uses
+    (taken_of c.deref.result.now)) plan.copies.now) (left_of c.deref.result.now)) (ap shown c.plain_mut.ensures.value)
     ∙ (λ i. folded unpinned_by (folded shown_by (folded pinned_by all (taken_are i)) plan.copies.now) (left_are i)) in (
       left,
       moves.left_are,
