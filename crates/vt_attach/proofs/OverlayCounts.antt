@@ -1,6 +1,5 @@
 -- How many mounts show overlays, as code counts them: those that come are room for, and are counted.
-use Rattle.std.proofs.Common.{◌≡◌, refl, sym, ap, subst, ◌∙◌, ℕ, ◌+◌, ◌-◌, ◌<◌, ◌≤◌, nat_eq, Bool, true, false, true≢false, cond, ◌&&◌, List, [], ◌∷◌, map, length, find, Option, Some, None, is_some, option_map, option_copied, unwrap_or, take, get_or, arith}
-use Rattle.std.specs.Prelude.{nat_le}
+use Rattle.std.proofs.Common.{◌≡◌, refl, sym, ap, subst, ◌∙◌, ℕ, ◌+◌, ◌-◌, ◌<◌, ◌≤◌, nat_eq, Bool, true, false, true≢false, cond, ◌&&◌, List, [], ◌∷◌, map, length, Option, Some, None, is_some, option_map, unwrap_or, take, get_or, arith}
 use Rattle.std.specs.List.{list_all}
 use Rattle.std.proofs.lemmas.Bool.{and_parts, le-leb, leb-true}
 use Rattle.std.proofs.lemmas.List.{length-take-le}

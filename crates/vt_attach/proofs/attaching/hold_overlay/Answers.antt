@@ -1,7 +1,6 @@
-use Rattle.std.proofs.Common.{arith, is_some, map, rules, subst, sym, true, ◌+◌, ◌≡◌, ◌∙◌, ◌≤◌, refl}
+use Rattle.std.proofs.Common.{arith, is_some, rules, subst, sym, true, ◌+◌, ◌≡◌, ◌∙◌, ◌≤◌}
 use Rattle.std.proofs.lemmas.Bool.{leb-true}
 use Rattle.vt_store.specs.Counts.{mounts_in, with_mounts}
-
 use Rattle.vt_store.proofs.Woven.{some_copied}
 use Rattle.vt_attach.specs.Room.{most_counted}
 use Rattle.vt_attach.proofs.OverlayCounts.{held_over, mounts_are_merged, none_over, overlay_there}

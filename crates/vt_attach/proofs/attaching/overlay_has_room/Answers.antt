@@ -1,4 +1,4 @@
-use Rattle.std.proofs.Common.{ap, arith, is_some, map, rules, sym, ◌≡◌, ◌∙◌}
+use Rattle.std.proofs.Common.{ap, arith, is_some, rules, sym, ◌≡◌, ◌∙◌}
 use Rattle.std.specs.Prelude.{nat_le}
 use Rattle.std.proofs.lemmas.Bool.{le-leb}
 use Rattle.vt_store.proofs.Woven.{some_copied}
