@@ -1,6 +1,6 @@
 -- Mounts that get other mount points while others come.
 use Rattle.std.specs.List.{list_all}
-use Rattle.std.specs.Prelude.{Bool, List, [], flat_map, if◌then◌else◌, is_some, map, nat_lt, option_to_list, true, ℕ, ◌++◌, ◌∷◌, ◌≡◌, ◌^◌}
+use Rattle.std.specs.Prelude.{Bool, List, [], flat_map, if◌then◌else◌, is_some, map, option_to_list, true, ℕ, ◌++◌, ◌∷◌, ◌≡◌}
 use Rattle.vt_location.specs.declared.locations.Location.{Location}
 use Rattle.vt_location.specs.declared.mounts.Mount.{Mount}
 use Rattle.vt_location.specs.Locations.{is_small_node, location_of}

@@ -1,4 +1,4 @@
-use Rattle.std.proofs.Common.{arith, is_some, rules, subst, sym, true, ◌+◌, ◌≡◌, ◌∙◌, ◌≤◌}
+use Rattle.std.proofs.Common.{arith, is_some, rules, subst, sym, ◌+◌, ◌≡◌, ◌∙◌, ◌≤◌}
 use Rattle.std.proofs.lemmas.Bool.{leb-true}
 use Rattle.vt_store.specs.Counts.{mounts_in, with_mounts}
 use Rattle.vt_store.proofs.Woven.{some_copied}
