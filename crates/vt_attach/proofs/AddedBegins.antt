@@ -85,6 +85,7 @@ pub record IsAdded (value : WorldValue) (added : List (Mount ℕ)) (tasks : Task
 -- what code counts then
 pub record KeepsAdded (value : WorldValue) (added : List (Mount ℕ)) (more less : List (Location ℕ))
     (gained : List Inode) (k : Kept) : Type 0 where
+  pub none : k.overlays ≡ []
   pub mounts : mounts_in k.mounts ≡ (world_of value).mounts ++ added
   pub uses : (entry : MountEntry) → Among entry k.mounts
       → entry.uses + times (λ location. nat_eq entry.mount.number location.mount) less
@@ -350,6 +351,7 @@ module _ (value : WorldValue) (whole : IsHeld value) (added : List (Mount ℕ)) 
   begins_midway : Midway value ended gained goes [] ended k []
   begins_midway = record {
     held = whole;
+    none = keeps.none;
     mounts = ap (map (gone_if goes)) (sym keeps.mounts);
     uses = uses_are;
     writers = λ entry m. let counts = keeps.writers entry m in let same = is.writes entry.mount.number in omega

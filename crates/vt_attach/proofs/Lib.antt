@@ -1,3 +1,4 @@
+pub mod OverlayCounts
 pub mod OpeningLemmas
 pub mod RoomLemmas
 pub mod EnteringLemmas

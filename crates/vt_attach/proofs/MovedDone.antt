@@ -4,9 +4,9 @@ use Rattle.std.specs.Prelude.{Contains, drop, if◌then◌else◌, option_map, t
 use Rattle.std.specs.List.{list_all, list_any}
 use Rattle.std.specs.Map.{lookup}
 use Rattle.std.proofs.Math.Seq.{drop-append_seam, take-append_seam}
-use Rattle.std.proofs.lemmas.Bool.{ne_eqb, or_parts}
+use Rattle.std.proofs.lemmas.Bool.{ne_eqb, or_left, or_parts}
 use Rattle.std.proofs.lemmas.List.{drop-map, length-append, length-map, map-append}
-use Rattle.std.proofs.lemmas.List.Folds.{list_all-append}
+use Rattle.std.proofs.lemmas.List.Folds.{list_all-append, list_any-append}
 use Rattle.vt_spec.specs.Language.Calls.{TaskName}
 use Rattle.vt_spec.specs.Lists.{any_pair, first_of_list, folded, holds_of, is_among, rest_of}
 use Rattle.vt_spec.specs.Machine.Attach.{attach, attached_by, copies_from, masters_with, parts_of, type_at, type_on_shared}
@@ -16,8 +16,8 @@ use Rattle.vt_spec.specs.Machine.Mounts.Propagation.{Private, Shared, Slave, Unb
 use Rattle.vt_spec.specs.Machine.Permits.{Permit}
 use Rattle.vt_spec.specs.Machine.Permits.Permit.{ToMove}
 use Rattle.vt_spec.specs.Machine.Receives.{has_members}
-use Rattle.vt_spec.specs.Machine.Settled.{mount_lives, settled}
-use Rattle.vt_spec.specs.Machine.World.{Filesystem, World, is_overlay, mount_at, mount_numbered}
+use Rattle.vt_spec.specs.Machine.Settled.{is_mounted, mount_lives, settled}
+use Rattle.vt_spec.specs.Machine.World.{Filesystem, World, mount_at, mount_numbered}
 use Rattle.vt_spec.specs.Machine.Invariants.{IsWorld}
 use Rattle.vt_spec.proofs.Lists.{among_from_contains, contains_from_among, map_twice}
 use Rattle.vt_laws_counts.specs.Using.{Exchanges}
@@ -26,7 +26,7 @@ use Rattle.vt_fs.specs.FilesystemsValue.{Filesystems, Shown}
 use Rattle.vt_group.specs.Grouping.{Grouping, Has, master_in}
 use Rattle.vt_group.specs.Together.{Grows, new_group, typed}
 use Rattle.vt_laws_rules.specs.Numbers.{KeepsTo}
-use Rattle.vt_laws_letting_go.proofs.Lists.{Among, all_from_among, among-from_map, among-map, among_from_all, is_among_numbers, none_passes, passes}
+use Rattle.vt_laws_letting_go.proofs.Lists.{Among, all_from_among, among-from_map, among-map, among_from_all, any-map, is_among_numbers, none_passes, passes}
 use Rattle.vt_laws_letting_go.proofs.sweeps.OfWorlds.{mounts_of_worlds_stand}
 use Rattle.vt_location.specs.declared.mounts.Mount.{Mount}
 use Rattle.vt_location.specs.Locations.{location_of}
@@ -51,12 +51,12 @@ use Rattle.vt_laws_worlds.specs.Worlds.Permits.{MayMoveTo}
 use Rattle.vt_laws_worlds.proofs.RaisedInUse.{worlds_are_in_use}
 use Rattle.vt_detach.specs.Events.{Permits, left_by}
 use Rattle.vt_world.specs.Held.{IsHeld}
-use Rattle.vt_detach.specs.Uses.{kept, unused_entry}
-use Rattle.vt_world.specs.WorldValue.{WorldValue, world_of}
+use Rattle.vt_detach.specs.Uses.{unused_entry, Merged, kept_of, kept_with}
+use Rattle.vt_world.specs.WorldValue.{WorldValue, overlays_seen, world_of}
 use Rattle.vt_detach.proofs.Bridging.{IsSwept, shows_left}
 use Rattle.vt_detach.proofs.FileEvents.{permit_fits}
 use Rattle.vt_detach.proofs.Grouped.{settled_has}
-use Rattle.vt_detach.proofs.Overlaid.{is_plain_one, none_to_mount, overlays_are, plain_ones_are, world_is_plain}
+use Rattle.vt_detach.proofs.Overlaid.{AreStillMounted, is_plain_one, overlays_are, plain_ones_are, still_mounted}
 use Rattle.vt_detach.proofs.Places.{located_is_named}
 use Rattle.vt_detach.proofs.Showing.{ShowsAs}
 use Rattle.vt_detach.proofs.Staying.{IsDone}
@@ -73,7 +73,7 @@ use Rattle.vt_attach.proofs.Binding.{group_there, is_seen, same_base}
 use Rattle.vt_mount.proofs.EnteringLemmas.{mounts_entered}
 use Rattle.vt_attach.proofs.EnteringLemmas.{apart}
 use Rattle.vt_attach.proofs.FormedGroups.{formed_groups_begin, groups_of_copies_are_named}
-use Rattle.vt_attach.proofs.GraftedDone.{IsEntered, counts_then, from_base, grafted_value, own_then, same_numbers}
+use Rattle.vt_attach.proofs.GraftedDone.{IsEntered, counts_then, from_base, grafted_value, overlays_same, own_then, same_numbers}
 use Rattle.vt_attach.proofs.GraftedUses.{after, changed_at, exchanged_then, gained_there}
 use Rattle.vt_attach.proofs.GrownGroups.{ascending_rises}
 use Rattle.vt_attach.proofs.MovedLives.{living_moved, mounts_live}
@@ -294,9 +294,8 @@ module _ (value : WorldValue) (whole : IsHeld value) (name : TaskName) (number :
   -- The tree was moved to a shared mount
 
   module _ (shared : is_shared (mount_at nat_eq (world_of value) (location_of graft.place)).propagation ≡ true)
-      (mounts : List MountEntry) (groups : Grouping) (filesystems : Filesystems) (next : ℕ)
-      (is : IsMovedBy graft counts (kept value.mounts value.filesystems) value.groups
-      (kept mounts filesystems) groups)
+      (mounts : List MountEntry) (groups : Grouping) (filesystems : Filesystems) (overlays : List Merged) (next : ℕ)
+      (is : IsMovedBy graft counts (kept_of value) value.groups (kept_with mounts filesystems overlays) groups)
       (ascending : are_ascending (mounts_in value.mounts) ≡ true)
       (odd : list_all (λ mount. mount.number % 4 == 1) (mounts_in value.mounts) ≡ true) where
     abbrev come : List Mount
@@ -321,7 +320,7 @@ module _ (value : WorldValue) (whole : IsHeld value) (name : TaskName) (number :
     first_number = counted first.number.count
 
     abbrev new : WorldValue
-    new = grafted_value value mounts groups filesystems next
+    new = grafted_value value mounts groups filesystems overlays next
 
     attaches : AttachesBy world graft counts (map mount_of is.copies) (map new_group is.groups)
         (map point_seen is.pushed)
@@ -436,7 +435,7 @@ module _ (value : WorldValue) (whole : IsHeld value) (name : TaskName) (number :
         ∙ ap (λ front. front ++ map mount_of come)
         (map_twice (typed_at kinds) (moved_at points) (mounts_in value.mounts))
 
-    entered : IsEntered value value.filesystems come points kinds is.left mounts filesystems
+    entered : IsEntered value value.filesystems come points kinds is.left mounts filesystems overlays
     entered = record {
       types = map typed is.copies;
       once = once;
@@ -572,19 +571,13 @@ module _ (value : WorldValue) (whole : IsHeld value) (name : TaskName) (number :
     its : (mount : meant.Mount ℕ) → Among mount (mount_of first ∷ map mount_of others) → Among mount world.mounts
     its mount m = tree_among mount (subst (Among mount) (sym (ap (map mount_of) tree_now)) m)
 
-    no_overlay : list_any is_overlay world.filesystems ≡ false
-    no_overlay =
-        none_passes is_overlay world.filesystems
-        (λ f m. among_from_all (λ (g : Filesystem ℕ). is_overlay g ≡ false) world.filesystems
-        (world_is_plain value whole) f m)
-
     living_is : in_use_of then_world ≡ then_world
     living_is =
         subst (λ (w : World ℕ). in_use_of w ≡ w) moved_is
         (subst (λ list. in_use_of (attach nat_eq world (counts_from value.next) place true list)
         ≡ attach nat_eq world (counts_from value.next) place true list) tree_list
         (living_moved world (worlds_are_in_use world whole.in_world) (mounts_of_worlds_stand world whole.in_world)
-        (Roots.locations_of_worlds_stand world whole.in_world) no_overlay
+        (Roots.locations_of_worlds_stand world whole.in_world)
         (copies_from nat_eq (counts_from value.next) (parts_of nat_eq world place)
         (mount_of first ∷ map mount_of others)) place (ap is_some may.destination.own) (mount_of first)
         (map mount_of others) its))
@@ -595,10 +588,24 @@ module _ (value : WorldValue) (whole : IsHeld value) (name : TaskName) (number :
         (subst (λ list. list_all (mount_lives nat_eq (attach nat_eq world (counts_from value.next) place true list))
         (attach nat_eq world (counts_from value.next) place true list).mounts ≡ true) tree_list
         (mounts_live world (worlds_are_in_use world whole.in_world) (mounts_of_worlds_stand world whole.in_world)
-        (Roots.locations_of_worlds_stand world whole.in_world) no_overlay
+        (Roots.locations_of_worlds_stand world whole.in_world)
         (copies_from nat_eq (counts_from value.next) (parts_of nat_eq world place)
         (mount_of first ∷ map mount_of others)) place (ap is_some may.destination.own) (mount_of first)
         (map mount_of others) its))
+
+    -- what was mounted is mounted still
+    overlays_mounted : AreStillMounted value then_world
+    overlays_mounted =
+        all_from_among (λ (overlay : Filesystem ℕ). is_mounted nat_eq then_world overlay.number ≡ true)
+        (overlays_seen value.overlays) (λ f m.
+        list_any-append (λ (mount : meant.Mount ℕ). nat_eq f.number mount.filesystem)
+        (map (changed_at points kinds) (mounts_in value.mounts)) (map mount_of come)
+        ∙ or_left (list_any (λ (mount : meant.Mount ℕ). nat_eq f.number mount.filesystem)
+        (map (changed_at points kinds) (mounts_in value.mounts))) _
+        (any-map (λ (mount : meant.Mount ℕ). nat_eq f.number mount.filesystem) (changed_at points kinds)
+        (mounts_in value.mounts) (λ mount. refl)
+        ∙ among_from_all (λ (overlay : Filesystem ℕ). is_mounted nat_eq world overlay.number ≡ true)
+        (overlays_seen value.overlays) (still_mounted value whole world (λ number. refl)) f m))
 
     has_settled : Has (settled nat_eq then_world) groups
     has_settled =
@@ -611,17 +618,17 @@ module _ (value : WorldValue) (whole : IsHeld value) (name : TaskName) (number :
         (inodes_of_points (points_taken points value.mounts) ++ gained_by come) (inodes_of_points is.left) new
     swept = record {
       midway = record { overlays = overlays_are value whole.overlays; rise = whole.overlays.all_rise };
-      mounted = none_to_mount value whole (in_use_of then_world);
-      overlays = refl;
+      mounted = subst (AreStillMounted value) (sym living_is) overlays_mounted;
+      overlays = overlays_same value whole overlays;
       mounts = ap (λ (w : World ℕ). w.mounts) living_is ∙ sym mounts_seen;
       numbers = ap (λ (w : World ℕ). map (λ (f : Filesystem ℕ). f.number) (filter is_plain_one w.filesystems))
           living_is
           ∙ ap (map (λ (f : Filesystem ℕ). f.number)) (plain_ones_are value whole.overlays)
           ∙ same_numbers value whole value.filesystems (same_base value whole) come points kinds is.left formed mounts
-          groups filesystems next entered rising;
+          groups filesystems overlays next entered rising;
       entries = λ entry m.
           let from = from_base value whole value.filesystems (same_base value whole) come points kinds is.left formed
-          mounts groups filesystems next entered rising entry m in
+          mounts groups filesystems overlays next entered rising entry m in
           record {
             was = from.0;
             among = from.1;
@@ -669,11 +676,11 @@ module _ (value : WorldValue) (whole : IsHeld value) (name : TaskName) (number :
         ≡ 2 * (length graft.parts.now * length graft.tree.now) =
         (λ i. 2 * (length (sym parts_are i) * length (sym tree_is i)))
         ∙ (λ i. 2 * (length-map graft.parts.now mount_of i * length-map graft.tree.now mount_of i)) in
-        numbers_are_kept value whole name permit permits.task takes new refl
+        numbers_are_kept value whole name permit permits.task takes new (overlays_same value whole overlays)
         (subst (λ (w : World ℕ). ShowsAs (settled nat_eq w) new) (sym moved_is) shows_then)
         (counts_then value whole value.filesystems (same_base value whole) come points kinds is.left formed mounts
-        groups filesystems next entered rising)
+        groups filesystems overlays next entered rising)
         (own_then value whole value.filesystems (same_base value whole) come points kinds is.left formed mounts
-        groups filesystems next entered rising)
+        groups filesystems overlays next entered rising)
         (subst (λ n. KeepsTo (is_counted_before n) (left_by value permits.task permit))
         (ap (λ n. value.next + n) sizes ∙ sym grows) named)

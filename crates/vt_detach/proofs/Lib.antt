@@ -1,5 +1,7 @@
 pub mod FilesystemsFound
 pub mod Overlaid
+pub mod PlainFound
+pub mod LayersShown
 pub mod LookLemmas
 pub mod OwnInodesKept
 pub mod ChangedNumbers
@@ -62,3 +64,5 @@ pub mod OverlaysRemade
 pub mod OverlaysGone
 pub mod MountsLeave
 pub mod OverlaysKept
+pub mod StoreShown
+pub mod StoreStays

@@ -197,7 +197,19 @@ abbrev pub shown_by : List Shown → Attached → List Shown
 shown_by all mount =
     mounted_in (counted mount.root.filesystem.count) (pinned_at mount.mount_point (pinned_in (inode_of mount.root) all))
 
+-- a mount of an overlay is one more of it
+abbrev pub mounted_merged : ℕ → List Merged → List Merged
+mounted_merged number all =
+    map (λ (one : Merged). if nat_eq number one.number then record one { mounts = one.mounts + 1 } else one) all
+
+abbrev pub merged_by : List Merged → Attached → List Merged
+merged_by all mount = mounted_merged (counted mount.root.filesystem.count) all
+
 -- the mounts come after all others, and nothing is on them
 abbrev pub with_attached : List Attached → Kept → Kept
 with_attached new k =
-    record k { mounts = k.mounts ++ map unused_entry new; filesystems = folded shown_by k.filesystems new }
+    record k {
+      mounts = k.mounts ++ map unused_entry new;
+      filesystems = folded shown_by k.filesystems new;
+      overlays = folded merged_by k.overlays new;
+    }

@@ -4,3 +4,4 @@
 #![tactic(auto)]
 
 pub mod events;
+pub mod inodes;

@@ -1,2 +1,3 @@
 pub mod WorldValue
 pub mod Held
+pub mod StoredWorld
