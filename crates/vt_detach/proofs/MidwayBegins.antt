@@ -40,8 +40,7 @@ use Rattle.vt_detach.proofs.Moving.{Moves, Use, filesystems_gained, gain, gained
 use Rattle.vt_detach.proofs.Staying.{after}
 use Rattle.vt_spec.proofs.Lists.{map_alike, map_twice}
 use Rattle.vt_laws_counts.specs.OverlaysStay.{layer_count}
-use Rattle.vt_detach.proofs.BesideOverlays.{lives_midway, mounted_at_first}
-use Rattle.vt_detach.proofs.MountsLeave.{leaves_alike, leaves_at_first, merged_alike, merged_at_first}
+use Rattle.vt_detach.proofs.MountsLeave.{leaves_alike, leaves_at_first, merged_alike, merged_at_first, some_at_first}
 use Rattle.vt_detach.proofs.Overlaid.{keeps_itself, plain_one_among, plain_ones_are}
 
 -- Mounts that are detached at once, in a world
@@ -379,21 +378,6 @@ module _ (value : WorldValue) (whole : IsHeld value) (tasks : Tasks) (more less 
       let first = among-from_map shown_entry value.filesystems from.0 from.1 in
       (first.0, first.1, from.2 ∙ ap pinned_one first.2)
 
-  is_mounted_so : (was : FilesystemEntry) → Among was value.filesystems → nat_eq was.mounts 0 ≡ false
-  is_mounted_so was m =
-      turned (nat_eq was.mounts 0)
-      (ap (λ n. not (nat_eq n 0)) (among_from_all
-      (CountsItsMounts world) value.filesystems whole.filesystems was m).mounts
-      ∙ sym (positive (mounts_showing world (counted was.count) + layer_count world (counted was.count)))
-      ∙ sym (lives_midway value world (keeps_itself value whole.overlays) (mounted_at_first value whole)
-      (filesystem_seen was))
-      ∙ passes (filesystem_lives nat_eq world) world.filesystems (worlds_are_in_use world whole.in_world).filesystems
-      (filesystem_seen was) (plain_one_among value whole.overlays.merged was m))
-    where
-      turned : (b : Bool) → not b ≡ true → b ≡ false
-      turned true e = absurd (true≢false (sym e))
-      turned false e = refl
-
   shown_is : (was : FilesystemEntry) → Among was value.filesystems
       → IsShown value ended gained [] (pinned_one (shown_entry was))
   shown_is was m = record {
@@ -404,7 +388,7 @@ module _ (value : WorldValue) (whole : IsHeld value) (tasks : Tasks) (more less 
     inodes = refl;
     mounts = (among_from_all (CountsItsMounts world) value.filesystems whole.filesystems was m).mounts
         ∙ ap (λ n. n + layer_count world (counted was.count)) (sym (shows_still (counted was.count) world.mounts));
-    mounted = is_mounted_so was m;
+    mounted = some_at_first value whole was m;
   }
 
   exchanges_are : (c : ℕ) → Exchanges gained

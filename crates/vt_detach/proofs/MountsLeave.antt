@@ -26,7 +26,7 @@ use Rattle.vt_world.specs.Held.{CountsItsMounts, IsHeld, IsMountedSoOften}
 use Rattle.vt_world.specs.WorldValue.{WorldValue, overlay_seen, overlays_seen, world_of}
 use Rattle.vt_detach.specs.Uses as meant
 use Rattle.vt_detach.specs.Uses.{Merged, let_go_filesystem, merged_at, merged_seen, released_in, shown_left_by, unpinned_in, without_layer}
-use Rattle.vt_detach.proofs.BesideOverlays.{mounted_at_first, no_layer_of_plain, some_of_both}
+use Rattle.vt_detach.proofs.BesideOverlays.{mounted_at_first, no_layer_midway, some_of_both}
 use Rattle.vt_detach.proofs.LayersLeft.{go_one_by_one, is_some_left, less}
 use Rattle.vt_detach.proofs.LostUses.{found_unless, positive}
 use Rattle.vt_detach.proofs.Moving.{map_itself, swap_eq}
@@ -58,21 +58,8 @@ module _ (old : WorldValue) (held : IsHeld old) (world : World ℕ) (leaves : Le
   no_layer_in : (overlay : Filesystem ℕ) → Among overlay (filter is_overlay world.filesystems)
       → HasNoLayerIn overlay.number world
   no_layer_in overlay m =
-      all_from_among (λ merged. has_layer_on nat_eq overlay.number merged ≡ false) world.filesystems (λ merged n.
-      by merged n (is_overlay merged) refl)
-    where
-      before : Among overlay (world_of old).filesystems × (is_overlay overlay ≡ true)
-      before = among_before overlay (overlay_was overlay m).0
-
-      by : (merged : Filesystem ℕ) → Among merged world.filesystems → (b : Bool) → is_overlay merged ≡ b
-          → has_layer_on nat_eq overlay.number merged ≡ false
-      by merged n false e = no_layer_of_plain overlay.number merged e
-      by merged n true e =
-          among_from_all (λ (g : Filesystem ℕ). has_layer_on nat_eq overlay.number g ≡ false) (world_of old).filesystems
-          (among_from_all (λ (f : Filesystem ℕ). is_overlay f ≡ true → HasNoLayerIn f.number (world_of old))
-          (world_of old).filesystems (overlays_are_no_layers (world_of old) held.in_world) overlay before.0 before.1)
-          merged
-          (among_before merged (overlay_was merged (among-filter is_overlay world.filesystems merged n e)).0).0
+      no_layer_midway old held world
+      (λ f n e. (overlay_was f (among-filter is_overlay world.filesystems f n e)).0) overlay (overlay_was overlay m).0
 
   -- all layers are those of overlays that mounts show
   all_layers_mounted : (number : ℕ) → layer_count world number ≡ mounted_layer_count world number
