@@ -1,28 +1,22 @@
 -- Which filesystems live in a world with overlays, by the mounts that show them and the layers that overlays have in
 -- them.
-use Rattle.std.proofs.Common.{◌≡◌, refl, sym, ap, subst, ◌∙◌, ⊎_elim, ℕ, zero, suc, ◌+◌, nat_eq, nat_lt, Bool, true, false, true≢false, cond, not, ◌&&◌, ◌||◌, List, [], filter, flat_map, Option, Some, None, is_some, arith}
-use Rattle.std.specs.Prelude.{All}
+use Rattle.std.proofs.Common.{◌≡◌, refl, sym, ap, subst, ◌∙◌, ⊎_elim, ℕ, zero, suc, ◌+◌, nat_eq, nat_lt, Bool, true, false, true≢false, cond, ◌&&◌, ◌||◌, [], filter, Option, Some, None, is_some, arith}
 use Rattle.std.specs.List.{list_any}
 use Rattle.std.proofs.lemmas.Bool.{and_parts, or_cases}
 use Rattle.std.proofs.lemmas.List.{append-nil}
-use Rattle.vt_spec.specs.Machine.Locked.{of_overlay, overlay_or}
-use Rattle.vt_spec.specs.Machine.Settled.{filesystem_lives, has_layer_on, is_mounted, settled, without_dead_filesystems, without_dead_mounts}
-use Rattle.vt_spec.specs.Machine.World.{Filesystem, Layer, Overlay, World, is_overlay, layers_of}
+use Rattle.vt_spec.specs.Machine.Locked.{overlay_or}
+use Rattle.vt_spec.specs.Machine.Settled.{filesystem_lives, has_layer_on, is_mounted, settled, without_dead_mounts}
+use Rattle.vt_spec.specs.Machine.World.{Filesystem, Overlay, World, is_overlay, layers_of}
 use Rattle.vt_spec.proofs.Truths.{one_more_is_some}
 use Rattle.vt_laws_counts.specs.OverlaysStay.{HasNoLayerIn, layer_count}
-use Rattle.vt_laws_counts.proofs.overlays.Living.{layers_left_are_mounted, lives_while_counted, lives_while_mounted, overlays_are_mounted, overlays_are_no_layers, overlays_use_filesystems}
+use Rattle.vt_laws_counts.proofs.overlays.Living.{lives_while_mounted, overlays_are_mounted, overlays_are_no_layers, overlays_use_filesystems}
 use Rattle.vt_laws_counts.proofs.overlays.NamedStay.{named_overlays_stay}
-use Rattle.vt_laws_letting_go.specs.Counts.{mounts_showing}
-use Rattle.vt_laws_letting_go.proofs.Lists.{Among, all_from_among, among-filter, among-flat_map, among-from_filter, among_from_all, any-filter, any_counted, any_passes, fails, filter_all, filter_alike, filter_less, filter_twice, none_passes, one_passes, or_first, or_second}
+use Rattle.vt_laws_letting_go.proofs.Lists.{Among, all_from_among, among-filter, among-from_filter, among_from_all, any-filter, any_passes, filter_alike, filter_twice, one_passes, or_first, or_second}
 use Rattle.vt_laws_letting_go.specs.TreesOverlays.{in_use_of}
-use Rattle.vt_laws_letting_go.proofs.sweeps.InUse.{layers_on}
 use Rattle.vt_laws_letting_go.proofs.sweeps.UsesCounted.{mounted_while_counted}
-use Rattle.vt_laws_overlays_stay.specs.Woven.{are_rising}
-use Rattle.vt_laws_overlays_stay.proofs.weaving.WovenLists.{woven_lists_are_passing}
-use Rattle.vt_fs.specs.FilesystemsValue.{filesystems_seen}
-use Rattle.vt_world.specs.Held.{HoldsOverlays, IsHeld}
+use Rattle.vt_world.specs.Held.{IsHeld}
 use Rattle.vt_world.specs.WorldValue.{WorldValue, overlays_seen, world_of}
-use Rattle.vt_detach.proofs.Overlaid.{AreStillMounted, KeepsOverlays, files_are_plain, is_plain_one, named_midway, overlays_are}
+use Rattle.vt_detach.proofs.Overlaid.{AreStillMounted, KeepsOverlays, named_midway, overlays_are}
 
 -- Counts
 

@@ -7,7 +7,7 @@ use Rattle.std.proofs.lemmas.Option.{same_Some}
 use Rattle.std.proofs.lemmas.List.{append-nil}
 use Rattle.vt_spec.specs.Lists.{any_pair, folded, is_among}
 use Rattle.vt_spec.specs.Machine.Mounts.{Location, Mount, detached, mount_in, no_mount, root_of}
-use Rattle.vt_spec.specs.Machine.Settled.{is_located, mount_lives, filesystem_lives}
+use Rattle.vt_spec.specs.Machine.Settled.{is_located, mount_lives}
 use Rattle.vt_spec.specs.Machine.World.{Filesystem, Namespace, World, all_locations, is_directory_at, mount_at, mount_numbered, node_at}
 use Rattle.vt_spec.specs.Machine.Invariants.{Stands, has_its_root, is_located_well, is_nowhere_or_attached}
 use Rattle.vt_spec.specs.Machine.Invariants.Stands.{at_root, on_parent}
@@ -15,7 +15,7 @@ use Rattle.vt_laws_counts.specs.Using.{Exchanges, pinned_if, places_of}
 use Rattle.vt_laws_counts.proofs.using.MountRoots as Roots
 use Rattle.vt_laws_counts.proofs.using.Places.{exchanges_follow, locations_use_mounts, mount_is_placed}
 use Rattle.vt_fs.specs.FilesystemsValue.{FilesystemEntry, Shown, filesystem_seen, shown, shown_entry}
-use Rattle.vt_laws_letting_go.specs.Counts.{mount_uses, mounts_showing, times}
+use Rattle.vt_laws_letting_go.specs.Counts.{mount_uses, times}
 use Rattle.vt_laws_letting_go.specs.Keeping.{LocationsStand}
 use Rattle.vt_laws_letting_go.specs.Leaving.{MountsStand, stands_on_attached}
 use Rattle.vt_laws_letting_go.specs.Mounting.{inode_at}
@@ -41,7 +41,7 @@ use Rattle.vt_detach.proofs.Staying.{after}
 use Rattle.vt_spec.proofs.Lists.{map_alike, map_twice}
 use Rattle.vt_laws_counts.specs.OverlaysStay.{layer_count}
 use Rattle.vt_detach.proofs.MountsLeave.{leaves_alike, leaves_at_first, merged_alike, merged_at_first, some_at_first}
-use Rattle.vt_detach.proofs.Overlaid.{keeps_itself, plain_one_among, plain_ones_are}
+use Rattle.vt_detach.proofs.Overlaid.{plain_ones_are}
 
 -- Mounts that are detached at once, in a world
 

@@ -1,22 +1,21 @@
 -- A mount goes, and the world is without what it alone showed: a plain filesystem, or an overlay and filesystems of its
 -- layers.
 use Rattle.std.proofs.Common.{◌≡◌, refl, sym, ap, subst, ◌∙◌, ℕ, ◌+◌, ◌-◌, nat_eq, nat_lt, eqb-true, eq-eqb, Bool, true, false, true≢false, cond, not, ◌&&◌, ◌||◌, List, [], ◌∷◌, map, filter, find, flat_map, Option, Some, None, is_some, unwrap_or, arith}
-use Rattle.std.specs.Prelude.{All}
 use Rattle.vt_spec.specs.Lists.{any_pair, folded}
 use Rattle.vt_spec.specs.Machine.Locked.{of_overlay}
-use Rattle.vt_spec.specs.Machine.Settled.{filesystem_lives, has_layer_on, is_mounted, without_dead_filesystems}
+use Rattle.vt_spec.specs.Machine.Settled.{filesystem_lives, is_mounted, without_dead_filesystems}
 use Rattle.vt_spec.specs.Machine.World.{Filesystem, World, is_overlay, no_filesystem}
 use Rattle.vt_spec.proofs.Lists.{pair-filter}
 use Rattle.vt_fs.specs.FilesystemsValue.{FilesystemEntry, Shown, filesystem_seen}
 use Rattle.vt_laws_counts.specs.OverlaysStay.{HasNoLayerIn, layer_count, layers_among, mounted_layer_count}
 use Rattle.vt_laws_counts.specs.Using.{Exchanges}
 use Rattle.vt_laws_counts.proofs.overlays.FilesystemUses.{overlays_take_their_uses}
-use Rattle.vt_laws_counts.proofs.overlays.Living.{layers_left_are_mounted, lives_while_counted, lives_while_mounted, overlays_are_no_layers}
+use Rattle.vt_laws_counts.proofs.overlays.Living.{layers_left_are_mounted, lives_while_counted, lives_while_mounted}
 use Rattle.vt_laws_letting_go.specs.Counts.{mounts_showing, times}
 use Rattle.vt_laws_letting_go.specs.InUse.{FilesystemsInUse}
 use Rattle.vt_laws_letting_go.specs.OneByOne.{Inode, without_mount}
 use Rattle.vt_laws_letting_go.specs.Overlays.{used_by_filesystem}
-use Rattle.vt_laws_letting_go.proofs.Lists.{Among, all_from_among, all_pass, among-filter, among-from_filter, among-from_map, among-map, among_from_all, filter-map, filter_all, filter_alike, filter_twice, flat_map_alike, found_in, or_first, passes}
+use Rattle.vt_laws_letting_go.proofs.Lists.{Among, all_pass, among-filter, among-from_filter, among-from_map, among_from_all, filter-map, filter_all, filter_alike, filter_twice, flat_map_alike, found_in, or_first, passes}
 use Rattle.vt_laws_letting_go.proofs.sweeps.UsesCounted.{mounted_while_counted}
 use Rattle.vt_laws_overlays_stay.specs.Woven.{are_rising}
 use Rattle.vt_laws_overlays_stay.proofs.weaving.WovenLists.{rising_filtered}
@@ -30,7 +29,7 @@ use Rattle.vt_detach.proofs.BesideOverlays.{mounted_at_first, no_layer_midway, s
 use Rattle.vt_detach.proofs.LayersLeft.{go_one_by_one, is_some_left, less}
 use Rattle.vt_detach.proofs.LostUses.{found_unless, positive}
 use Rattle.vt_detach.proofs.Moving.{map_itself, swap_eq}
-use Rattle.vt_detach.proofs.Overlaid.{is_plain_one, overlay_apart, overlays_are, plain_one_among}
+use Rattle.vt_detach.proofs.Overlaid.{is_plain_one, overlays_are, plain_one_among}
 use Rattle.vt_detach.proofs.OverlaysGone.{layers_go, layers_gone, layers_gone_by, layers_of_overlays, layers_parted, layers_used, merged_in, uses_layers}
 use Rattle.vt_spec.proofs.Lists.{map_alike, map_twice}
 

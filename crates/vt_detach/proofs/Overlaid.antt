@@ -1,5 +1,4 @@
 -- The overlays of the code's world, and of worlds midway in an event, which leaves overlays as they are.
-use Rattle.std.proofs.lemmas.List.Elements.{All-nil}
 use Rattle.std.proofs.Common.{◌≡◌, refl, sym, ap, subst, ◌∙◌, inl, inr, ℕ, nat_eq, nat_lt, Bool, true, false, true≢false, eqb-true, cond, not, ◌&&◌, List, [], ◌∷◌, map, filter, find, is_some, unwrap_or, arith}
 use Rattle.std.specs.Prelude.{All}
 use Rattle.std.specs.List.{list_all}
@@ -12,7 +11,7 @@ use Rattle.vt_laws_counts.specs.BesideOverlays.{OverlaysHaveNoUpper}
 use Rattle.vt_laws_counts.specs.Counted.{IsPlain}
 use Rattle.vt_laws_counts.specs.OverlaysStay.{OverlaysAreNamed, layer_count}
 use Rattle.vt_laws_counts.proofs.overlays.Living.{overlays_are_mounted, overlays_use_filesystems}
-use Rattle.vt_laws_counts.proofs.overlays.NamedStay.{filter_stays, named_overlays_stay}
+use Rattle.vt_laws_counts.proofs.overlays.NamedStay.{filter_stays}
 use Rattle.vt_laws_counts.proofs.using.Exchanged.{numbers_mapped}
 use Rattle.vt_spec.proofs.Lists.{pair-filter}
 use Rattle.vt_laws_letting_go.specs.Counts.{mounts_showing}
