@@ -1,5 +1,5 @@
 -- Uses that go one by one from plain filesystems, each with a mount or a layer: what nothing is left of goes.
-use Rattle.std.proofs.Common.{◌≡◌, refl, sym, ap, subst, ◌∙◌, inl, inr, ℕ, ◌+◌, ◌-◌, nat_eq, eqb-true, eq-eqb, Bool, true, false, true≢false, cond, not, ◌||◌, List, [], ◌∷◌, map, filter, arith}
+use Rattle.std.proofs.Common.{◌≡◌, refl, sym, ap, ◌∙◌, ℕ, ◌+◌, ◌-◌, nat_eq, eqb-true, eq-eqb, Bool, true, false, true≢false, cond, not, ◌||◌, List, [], ◌∷◌, map, filter, arith}
 use Rattle.std.proofs.Math.Bool.{or-false, or-true}
 use Rattle.vt_spec.specs.Lists.{folded}
 use Rattle.vt_spec.proofs.Lists.{map_alike, map_twice}

@@ -7,7 +7,7 @@ use Rattle.std.proofs.lemmas.Option.{same_Some}
 use Rattle.std.proofs.lemmas.List.{append-nil}
 use Rattle.vt_spec.specs.Lists.{any_pair, folded, is_among}
 use Rattle.vt_spec.specs.Machine.Mounts.{Location, Mount, detached, mount_in, no_mount, root_of}
-use Rattle.vt_spec.specs.Machine.Settled.{is_located, mount_lives, filesystem_lives}
+use Rattle.vt_spec.specs.Machine.Settled.{is_located, mount_lives}
 use Rattle.vt_spec.specs.Machine.World.{Filesystem, Namespace, World, all_locations, is_directory_at, mount_at, mount_numbered, node_at}
 use Rattle.vt_spec.specs.Machine.Invariants.{Stands, has_its_root, is_located_well, is_nowhere_or_attached}
 use Rattle.vt_spec.specs.Machine.Invariants.Stands.{at_root, on_parent}
@@ -15,7 +15,7 @@ use Rattle.vt_laws_counts.specs.Using.{Exchanges, pinned_if, places_of}
 use Rattle.vt_laws_counts.proofs.using.MountRoots as Roots
 use Rattle.vt_laws_counts.proofs.using.Places.{exchanges_follow, locations_use_mounts, mount_is_placed}
 use Rattle.vt_fs.specs.FilesystemsValue.{FilesystemEntry, Shown, filesystem_seen, shown, shown_entry}
-use Rattle.vt_laws_letting_go.specs.Counts.{mount_uses, mounts_showing, times}
+use Rattle.vt_laws_letting_go.specs.Counts.{mount_uses, times}
 use Rattle.vt_laws_letting_go.specs.Keeping.{LocationsStand}
 use Rattle.vt_laws_letting_go.specs.Leaving.{MountsStand, stands_on_attached}
 use Rattle.vt_laws_letting_go.specs.Mounting.{inode_at}
@@ -40,9 +40,8 @@ use Rattle.vt_detach.proofs.Moving.{Moves, Use, filesystems_gained, gain, gained
 use Rattle.vt_detach.proofs.Staying.{after}
 use Rattle.vt_spec.proofs.Lists.{map_alike, map_twice}
 use Rattle.vt_laws_counts.specs.OverlaysStay.{layer_count}
-use Rattle.vt_detach.proofs.BesideOverlays.{lives_midway, mounted_at_first}
-use Rattle.vt_detach.proofs.MountsLeave.{leaves_alike, leaves_at_first, merged_alike, merged_at_first}
-use Rattle.vt_detach.proofs.Overlaid.{keeps_itself, plain_one_among, plain_ones_are}
+use Rattle.vt_detach.proofs.MountsLeave.{leaves_alike, leaves_at_first, merged_alike, merged_at_first, some_at_first}
+use Rattle.vt_detach.proofs.Overlaid.{plain_ones_are}
 
 -- Mounts that are detached at once, in a world
 
@@ -379,21 +378,6 @@ module _ (value : WorldValue) (whole : IsHeld value) (tasks : Tasks) (more less 
       let first = among-from_map shown_entry value.filesystems from.0 from.1 in
       (first.0, first.1, from.2 ∙ ap pinned_one first.2)
 
-  is_mounted_so : (was : FilesystemEntry) → Among was value.filesystems → nat_eq was.mounts 0 ≡ false
-  is_mounted_so was m =
-      turned (nat_eq was.mounts 0)
-      (ap (λ n. not (nat_eq n 0)) (among_from_all
-      (CountsItsMounts world) value.filesystems whole.filesystems was m).mounts
-      ∙ sym (positive (mounts_showing world (counted was.count) + layer_count world (counted was.count)))
-      ∙ sym (lives_midway value world (keeps_itself value whole.overlays) (mounted_at_first value whole)
-      (filesystem_seen was))
-      ∙ passes (filesystem_lives nat_eq world) world.filesystems (worlds_are_in_use world whole.in_world).filesystems
-      (filesystem_seen was) (plain_one_among value whole.overlays.merged was m))
-    where
-      turned : (b : Bool) → not b ≡ true → b ≡ false
-      turned true e = absurd (true≢false (sym e))
-      turned false e = refl
-
   shown_is : (was : FilesystemEntry) → Among was value.filesystems
       → IsShown value ended gained [] (pinned_one (shown_entry was))
   shown_is was m = record {
@@ -404,7 +388,7 @@ module _ (value : WorldValue) (whole : IsHeld value) (tasks : Tasks) (more less 
     inodes = refl;
     mounts = (among_from_all (CountsItsMounts world) value.filesystems whole.filesystems was m).mounts
         ∙ ap (λ n. n + layer_count world (counted was.count)) (sym (shows_still (counted was.count) world.mounts));
-    mounted = is_mounted_so was m;
+    mounted = some_at_first value whole was m;
   }
 
   exchanges_are : (c : ℕ) → Exchanges gained

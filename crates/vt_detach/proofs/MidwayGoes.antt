@@ -1,24 +1,23 @@
 -- A mount that nothing uses any more goes, and its filesystem with its last mount, between the first and the last use
 -- that a
 -- task leaves.
-use Rattle.std.proofs.Common.{◌≡◌, refl, sym, ap, subst, ◌∙◌, ℕ, ◌+◌, ◌-◌, nat_eq, eqb-true, eq-eqb, Bool, true, false, true≢false, cond, not, ◌&&◌, ◌||◌, List, [], ◌∷◌, ◌++◌, map, filter, find, flat_map, Option, Some, None, is_some, arith}
+use Rattle.std.proofs.Common.{◌≡◌, refl, sym, ap, subst, ◌∙◌, ℕ, ◌+◌, nat_eq, eqb-true, eq-eqb, Bool, true, false, true≢false, cond, not, ◌&&◌, ◌||◌, List, [], ◌∷◌, ◌++◌, map, filter, find, flat_map, Option, Some, None, is_some, arith}
 use Rattle.std.specs.Prelude.{nat_lt, option_to_list}
 use Rattle.std.specs.List.{list_all, list_any}
 use Rattle.std.proofs.lemmas.Bool.{and_parts, or_parts}
 use Rattle.std.proofs.lemmas.Option.{same_Some}
-use Rattle.std.proofs.lemmas.List.{append-nil}
 use Rattle.vt_spec.specs.Lists.{folded, is_among}
 use Rattle.vt_spec.specs.Machine.Mounts.{Location, Mount, detached, mount_in}
 use Rattle.vt_spec.specs.Machine.Settled.{filesystem_lives, has_layer_on, is_located, is_mounted, mount_lives, without_dead_filesystems, without_dead_mounts}
 use Rattle.vt_spec.specs.Machine.World.{Filesystem, World, all_locations, is_overlay, mount_at, mount_numbered}
 use Rattle.vt_spec.specs.Machine.Invariants.{is_nowhere_or_attached}
 use Rattle.vt_laws_counts.specs.OverlaysStay.{layer_count, mounted_layer_count}
-use Rattle.vt_laws_counts.specs.Using.{Exchanges, is_inode, pinned_if, unpinned_if}
+use Rattle.vt_laws_counts.specs.Using.{Exchanges, pinned_if, unpinned_if}
 use Rattle.vt_laws_counts.proofs.going.Gone.{mount_takes_its_count}
 use Rattle.vt_laws_counts.proofs.using.MountRoots as Roots
 use Rattle.vt_laws_counts.proofs.using.Places.{exchanges_follow}
 use Rattle.vt_fs.specs.FilesystemsValue.{Shown, inodes_seen}
-use Rattle.vt_laws_letting_go.specs.Counts.{mount_uses, mounts_showing, times}
+use Rattle.vt_laws_letting_go.specs.Counts.{mount_uses, mounts_showing}
 use Rattle.vt_laws_letting_go.specs.Keeping.{LocationsStand}
 use Rattle.vt_laws_letting_go.specs.Leaving.{MountsStand, stands_on_attached}
 use Rattle.vt_laws_letting_go.specs.OneByOne.{Inode, is_mount_used, without_mount}
@@ -37,7 +36,6 @@ use Rattle.vt_detach.proofs.LayersLeft.{less}
 use Rattle.vt_detach.proofs.LostUses.{entry_found_at, entry_itself, flat_map_less, folded_append, one_number_less, positive}
 use Rattle.vt_detach.proofs.Midway.{IsShown, Midway, NoneUnused, Reached, UnusedOnly, gone_if, gone_number, one_number_kept, point_left, points_left, unused_parts}
 use Rattle.vt_detach.proofs.Moving.{Use, inodes_of_uses, swap_eq}
-use Rattle.vt_spec.proofs.Lists.{map_alike, map_twice}
 use Rattle.vt_laws_letting_go.specs.TreesOverlays.{in_use_of}
 use Rattle.vt_detach.proofs.BesideOverlays.{lives_more}
 use Rattle.vt_detach.proofs.MountsGone.{exchanges_between}

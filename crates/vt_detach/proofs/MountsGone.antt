@@ -1,6 +1,6 @@
 -- A mount that has left its namespace is looked at: it goes if nothing is on it, and its filesystem with its last
 -- mount.
-use Rattle.std.proofs.Common.{◌≡◌, ◌≢◌, refl, sym, ap, subst, ◌∙◌, inl, ⊎_elim, ℕ, ◌+◌, ◌-◌, nat_eq, eqb-true, Bool, true, false, true≢false, cond, not, ◌&&◌, ◌||◌, List, [], ◌∷◌, ◌++◌, map, filter, find, Option, Some, None, option_map, is_some, unwrap_or, arith}
+use Rattle.std.proofs.Common.{◌≡◌, ◌≢◌, refl, sym, ap, subst, ◌∙◌, inl, ⊎_elim, ℕ, ◌+◌, nat_eq, eqb-true, Bool, true, false, true≢false, cond, not, ◌&&◌, ◌||◌, List, [], ◌∷◌, ◌++◌, map, filter, find, Option, Some, None, option_map, is_some, unwrap_or, arith}
 use Rattle.std.specs.Prelude.{nat_lt, option_to_list}
 use Rattle.std.proofs.lemmas.Bool.{eqb-false, lt-ltb}
 use Rattle.vt_spec.specs.Lists.{folded, is_among}
@@ -39,7 +39,7 @@ use Rattle.vt_detach.proofs.OverlaysGone.{layers_gone, merged_in}
 use Rattle.vt_detach.proofs.OverlaysKept.{merged_then}
 use Rattle.vt_detach.proofs.LostUses.{folded_append, positive}
 use Rattle.vt_detach.proofs.Overlaid.{is_plain_one, overlay_apart}
-use Rattle.vt_spec.proofs.Lists.{map_alike, map_twice, pair-filter}
+use Rattle.vt_spec.proofs.Lists.{pair-filter}
 
 -- Mounts that are changed, by their numbers
 

@@ -1,22 +1,21 @@
 -- A mount goes, and the world is without what it alone showed: a plain filesystem, or an overlay and filesystems of its
 -- layers.
 use Rattle.std.proofs.Common.{◌≡◌, refl, sym, ap, subst, ◌∙◌, ℕ, ◌+◌, ◌-◌, nat_eq, nat_lt, eqb-true, eq-eqb, Bool, true, false, true≢false, cond, not, ◌&&◌, ◌||◌, List, [], ◌∷◌, map, filter, find, flat_map, Option, Some, None, is_some, unwrap_or, arith}
-use Rattle.std.specs.Prelude.{All}
 use Rattle.vt_spec.specs.Lists.{any_pair, folded}
 use Rattle.vt_spec.specs.Machine.Locked.{of_overlay}
-use Rattle.vt_spec.specs.Machine.Settled.{filesystem_lives, has_layer_on, is_mounted, without_dead_filesystems}
+use Rattle.vt_spec.specs.Machine.Settled.{filesystem_lives, is_mounted, without_dead_filesystems}
 use Rattle.vt_spec.specs.Machine.World.{Filesystem, World, is_overlay, no_filesystem}
 use Rattle.vt_spec.proofs.Lists.{pair-filter}
 use Rattle.vt_fs.specs.FilesystemsValue.{FilesystemEntry, Shown, filesystem_seen}
 use Rattle.vt_laws_counts.specs.OverlaysStay.{HasNoLayerIn, layer_count, layers_among, mounted_layer_count}
 use Rattle.vt_laws_counts.specs.Using.{Exchanges}
 use Rattle.vt_laws_counts.proofs.overlays.FilesystemUses.{overlays_take_their_uses}
-use Rattle.vt_laws_counts.proofs.overlays.Living.{layers_left_are_mounted, lives_while_counted, lives_while_mounted, overlays_are_no_layers}
+use Rattle.vt_laws_counts.proofs.overlays.Living.{layers_left_are_mounted, lives_while_counted, lives_while_mounted}
 use Rattle.vt_laws_letting_go.specs.Counts.{mounts_showing, times}
 use Rattle.vt_laws_letting_go.specs.InUse.{FilesystemsInUse}
 use Rattle.vt_laws_letting_go.specs.OneByOne.{Inode, without_mount}
 use Rattle.vt_laws_letting_go.specs.Overlays.{used_by_filesystem}
-use Rattle.vt_laws_letting_go.proofs.Lists.{Among, all_from_among, all_pass, among-filter, among-from_filter, among-from_map, among-map, among_from_all, filter-map, filter_all, filter_alike, filter_twice, flat_map_alike, found_in, or_first, passes}
+use Rattle.vt_laws_letting_go.proofs.Lists.{Among, all_pass, among-filter, among-from_filter, among-from_map, among_from_all, filter-map, filter_all, filter_alike, filter_twice, flat_map_alike, found_in, or_first, passes}
 use Rattle.vt_laws_letting_go.proofs.sweeps.UsesCounted.{mounted_while_counted}
 use Rattle.vt_laws_overlays_stay.specs.Woven.{are_rising}
 use Rattle.vt_laws_overlays_stay.proofs.weaving.WovenLists.{rising_filtered}
@@ -26,11 +25,11 @@ use Rattle.vt_world.specs.Held.{CountsItsMounts, IsHeld, IsMountedSoOften}
 use Rattle.vt_world.specs.WorldValue.{WorldValue, overlay_seen, overlays_seen, world_of}
 use Rattle.vt_detach.specs.Uses as meant
 use Rattle.vt_detach.specs.Uses.{Merged, let_go_filesystem, merged_at, merged_seen, released_in, shown_left_by, unpinned_in, without_layer}
-use Rattle.vt_detach.proofs.BesideOverlays.{mounted_at_first, no_layer_of_plain, some_of_both}
+use Rattle.vt_detach.proofs.BesideOverlays.{mounted_at_first, no_layer_midway, some_of_both}
 use Rattle.vt_detach.proofs.LayersLeft.{go_one_by_one, is_some_left, less}
 use Rattle.vt_detach.proofs.LostUses.{found_unless, positive}
 use Rattle.vt_detach.proofs.Moving.{map_itself, swap_eq}
-use Rattle.vt_detach.proofs.Overlaid.{is_plain_one, overlay_apart, overlays_are, plain_one_among}
+use Rattle.vt_detach.proofs.Overlaid.{is_plain_one, overlays_are, plain_one_among}
 use Rattle.vt_detach.proofs.OverlaysGone.{layers_go, layers_gone, layers_gone_by, layers_of_overlays, layers_parted, layers_used, merged_in, uses_layers}
 use Rattle.vt_spec.proofs.Lists.{map_alike, map_twice}
 
@@ -58,21 +57,8 @@ module _ (old : WorldValue) (held : IsHeld old) (world : World ℕ) (leaves : Le
   no_layer_in : (overlay : Filesystem ℕ) → Among overlay (filter is_overlay world.filesystems)
       → HasNoLayerIn overlay.number world
   no_layer_in overlay m =
-      all_from_among (λ merged. has_layer_on nat_eq overlay.number merged ≡ false) world.filesystems (λ merged n.
-      by merged n (is_overlay merged) refl)
-    where
-      before : Among overlay (world_of old).filesystems × (is_overlay overlay ≡ true)
-      before = among_before overlay (overlay_was overlay m).0
-
-      by : (merged : Filesystem ℕ) → Among merged world.filesystems → (b : Bool) → is_overlay merged ≡ b
-          → has_layer_on nat_eq overlay.number merged ≡ false
-      by merged n false e = no_layer_of_plain overlay.number merged e
-      by merged n true e =
-          among_from_all (λ (g : Filesystem ℕ). has_layer_on nat_eq overlay.number g ≡ false) (world_of old).filesystems
-          (among_from_all (λ (f : Filesystem ℕ). is_overlay f ≡ true → HasNoLayerIn f.number (world_of old))
-          (world_of old).filesystems (overlays_are_no_layers (world_of old) held.in_world) overlay before.0 before.1)
-          merged
-          (among_before merged (overlay_was merged (among-filter is_overlay world.filesystems merged n e)).0).0
+      no_layer_midway old held world
+      (λ f n e. (overlay_was f (among-filter is_overlay world.filesystems f n e)).0) overlay (overlay_was overlay m).0
 
   -- all layers are those of overlays that mounts show
   all_layers_mounted : (number : ℕ) → layer_count world number ≡ mounted_layer_count world number

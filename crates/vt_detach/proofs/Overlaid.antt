@@ -1,5 +1,4 @@
 -- The overlays of the code's world, and of worlds midway in an event, which leaves overlays as they are.
-use Rattle.std.proofs.lemmas.List.Elements.{All-nil}
 use Rattle.std.proofs.Common.{◌≡◌, refl, sym, ap, subst, ◌∙◌, inl, inr, ℕ, nat_eq, nat_lt, Bool, true, false, true≢false, eqb-true, cond, not, ◌&&◌, List, [], ◌∷◌, map, filter, find, is_some, unwrap_or, arith}
 use Rattle.std.specs.Prelude.{All}
 use Rattle.std.specs.List.{list_all}
@@ -12,7 +11,7 @@ use Rattle.vt_laws_counts.specs.BesideOverlays.{OverlaysHaveNoUpper}
 use Rattle.vt_laws_counts.specs.Counted.{IsPlain}
 use Rattle.vt_laws_counts.specs.OverlaysStay.{OverlaysAreNamed, layer_count}
 use Rattle.vt_laws_counts.proofs.overlays.Living.{overlays_are_mounted, overlays_use_filesystems}
-use Rattle.vt_laws_counts.proofs.overlays.NamedStay.{filter_stays, named_overlays_stay}
+use Rattle.vt_laws_counts.proofs.overlays.NamedStay.{filter_stays}
 use Rattle.vt_laws_counts.proofs.using.Exchanged.{numbers_mapped}
 use Rattle.vt_spec.proofs.Lists.{pair-filter}
 use Rattle.vt_laws_letting_go.specs.Counts.{mounts_showing}
@@ -362,27 +361,6 @@ pub world_is_plain : (value : WorldValue) → IsHeld value → IsPlain (world_of
 world_is_plain value held =
     subst (All (λ filesystem. is_overlay filesystem ≡ false)) (sym (only_plain_ones value held))
     (files_are_plain value.filesystems)
-
--- nor one of a world midway
-pub midway_is_plain : (old : WorldValue) → IsHeld old → (world : World ℕ) → KeepsOverlays old world → IsPlain world
-midway_is_plain old held world keeps =
-    all_from_among (λ f. is_overlay f ≡ false) world.filesystems (λ f m. by f m (is_overlay f) refl)
-  where
-    by : (f : Filesystem ℕ) → Among f world.filesystems → (b : Bool) → is_overlay f ≡ b → b ≡ false
-    by f m false e = refl
-    by f m true e =
-        absurd (subst (Among f) (keeps.overlays ∙ ap overlays_seen held.overlays.none_yet)
-        (among-filter is_overlay world.filesystems f m e))
-
--- all overlays are mounted, whatever mounts there are
-pub none_to_mount : (old : WorldValue) → IsHeld old → (world : World ℕ) → AreStillMounted old world
-none_to_mount old held world =
-    subst (All (λ (overlay : Filesystem ℕ). is_mounted nat_eq world overlay.number ≡ true))
-    (sym (ap overlays_seen held.overlays.none_yet)) (All-nil _)
-
--- so whatever is asked of each overlay holds
-pub none_to_ask : (P : OverlayEntry → Type 0) (old : WorldValue) → IsHeld old → All P old.overlays
-none_to_ask P old held = subst (All P) (sym held.overlays.none_yet) (All-nil P)
 
 -- and the definitions find what is kept by its inodes
 pub found_as_kept : (value : WorldValue) → IsHeld value → (number : ℕ)

@@ -1,6 +1,5 @@
 -- A mount goes, and what it alone showed with it: of overlays at most one, whose layers go with it.
-use Rattle.std.proofs.Common.{◌≡◌, refl, sym, ap, subst, ◌∙◌, inl, inr, ℕ, ◌+◌, ◌-◌, nat_eq, nat_lt, eqb-true, eq-eqb, Bool, true, false, true≢false, cond, not, ◌||◌, List, [], ◌∷◌, ◌++◌, map, filter, find, flat_map, Option, Some, None, is_some, arith}
-use Rattle.std.specs.Prelude.{All, option_to_list}
+use Rattle.std.proofs.Common.{◌≡◌, refl, sym, ap, ◌∙◌, inl, inr, ℕ, ◌+◌, ◌-◌, nat_eq, nat_lt, eqb-true, Bool, true, false, true≢false, cond, not, List, [], ◌∷◌, ◌++◌, map, filter, flat_map, Option, Some, None, is_some, arith}
 use Rattle.std.specs.List.{list_any}
 use Rattle.std.proofs.lemmas.Bool.{or_parts}
 use Rattle.std.proofs.lemmas.List.{append-nil}

@@ -1,6 +1,6 @@
 -- The overlays that code keeps when mounts have gone, as entries of those of before.
-use Rattle.std.proofs.Common.{◌≡◌, refl, sym, ap, subst, ◌∙◌, inl, inr, ⊎_elim, ℕ, nat_eq, eq-eqb, Bool, true, false, cond, not, ◌||◌, List, [], ◌∷◌, map, filter, Option, Some, None, option_map}
-use Rattle.std.specs.Prelude.{All, filter_map}
+use Rattle.std.proofs.Common.{◌≡◌, refl, sym, ap, subst, ◌∙◌, inl, inr, ⊎_elim, ℕ, nat_eq, eq-eqb, Bool, true, false, cond, List, [], ◌∷◌, map, filter, Option, Some, None, option_map}
+use Rattle.std.specs.Prelude.{All}
 use Rattle.std.specs.List.{cons_option, list_any}
 use Rattle.std.proofs.lemmas.Bool.{or_parts}
 use Rattle.vt_spec.specs.Lists.{any_pair}
