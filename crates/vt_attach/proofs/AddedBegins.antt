@@ -1,29 +1,29 @@
 -- Mounts were added and tasks went from locations to others of the same inodes, and mounts are to be detached: what
 -- code counts
 -- before it detaches them. So does unshare(2), where a namespace ends with it.
-use Rattle.std.proofs.Common.{◌≡◌, refl, sym, ap, subst, ◌∙◌, ◌⊎◌, ⊎_elim, inl, inr, ℕ, ◌+◌, nat_eq, eqb-true, eq-eqb, Bool, true, false, true≢false, cond, not, ◌&&◌, ◌||◌, List, [], ◌∷◌, ◌++◌, map, flat_map, Option, Some, None, is_some, arith}
+use Rattle.std.proofs.Common.{◌≡◌, refl, sym, ap, subst, ◌∙◌, ◌⊎◌, ⊎_elim, inl, inr, ℕ, ◌+◌, nat_eq, eqb-true, eq-eqb, Bool, true, false, true≢false, cond, not, ◌&&◌, ◌||◌, List, [], ◌∷◌, ◌++◌, map, flat_map, Option, Some, None, is_some, arith, filter, nat_lt}
 use Rattle.std.specs.Prelude.{option_to_list}
 use Rattle.std.specs.List.{list_all, list_any}
 use Rattle.std.proofs.lemmas.Bool.{and_parts}
 use Rattle.std.proofs.lemmas.List.{append-nil, map-append}
 use Rattle.vt_spec.specs.Lists.{any_pair, folded, is_among}
 use Rattle.vt_spec.specs.Machine.Mounts.{Location, Mount, detached, mount_in}
-use Rattle.vt_spec.specs.Machine.Settled.{is_located, mount_lives}
-use Rattle.vt_spec.specs.Machine.World.{Filesystem, Namespace, World, all_locations, mount_at}
+use Rattle.vt_spec.specs.Machine.Settled.{is_located, mount_lives, is_mounted}
+use Rattle.vt_spec.specs.Machine.World.{Filesystem, Namespace, World, all_locations, mount_at, is_overlay}
 use Rattle.vt_spec.specs.Machine.Invariants.{is_nowhere_or_attached, is_private}
 use Rattle.vt_laws_counts.specs.Using.{AreThere, Exchanges, is_inode, is_on, pinned_if, places_of}
 use Rattle.vt_laws_counts.proofs.using.MountRoots as Roots
 use Rattle.vt_laws_counts.proofs.using.Places.{exchanges_follow, locations_are_uses, locations_use_mounts, mounts_are_uses}
 use Rattle.vt_fs.specs.FilesystemsValue.{FilesystemEntry, Shown, filesystem_seen, inodes_seen, shown, shown_entry}
-use Rattle.vt_laws_letting_go.specs.Counts.{mount_uses, times}
+use Rattle.vt_laws_letting_go.specs.Counts.{mount_uses, times, mounts_showing}
 use Rattle.vt_laws_letting_go.specs.Keeping.{LocationsStand}
 use Rattle.vt_laws_letting_go.specs.Leaving.{MountsStand, stands_on_attached}
 use Rattle.vt_laws_letting_go.specs.Mounting.{inode_at}
 use Rattle.vt_laws_letting_go.specs.OneByOne.{Inode}
-use Rattle.vt_laws_letting_go.proofs.Lists.{Among, all_pass, among-append, among-append_left, among-append_right, among-from_map, among-map, among_from_all, any_passes, one_passes, or_first, passes}
+use Rattle.vt_laws_letting_go.proofs.Lists.{Among, all_pass, among-append, among-append_left, among-append_right, among-from_map, among-map, among_from_all, any_passes, one_passes, or_first, passes, all_from_among}
 use Rattle.vt_laws_letting_go.proofs.leaving.MountsAdded.{found_before}
 use Rattle.vt_laws_letting_go.proofs.sweeps.OfWorlds.{mounts_of_worlds_stand}
-use Rattle.vt_laws_letting_go.proofs.sweeps.UsesCounted.{located_while_counted}
+use Rattle.vt_laws_letting_go.proofs.sweeps.UsesCounted.{located_while_counted, mounted_while_counted}
 use Rattle.vt_location.specs.Numbers.{counted}
 use Rattle.vt_mount.specs.MountsValue.{MountEntry, mounts_in}
 use Rattle.vt_tasks.specs.TasksValue.{Tasks}
@@ -32,12 +32,15 @@ use Rattle.vt_laws_letting_go.proofs.sweeps.UpperUses.{times_append}
 use Rattle.vt_laws_mounts.specs.Mounts.Attaching.{OneNumberAMount}
 use Rattle.vt_laws_letting_go.specs.Attaching.{inodes_of_mount_point}
 use Rattle.vt_world.specs.Held.{CountsItsMounts, IsHeld, writes_of}
-use Rattle.vt_detach.specs.Uses.{Kept, is_unused}
-use Rattle.vt_world.specs.WorldValue.{WorldValue, world_of}
+use Rattle.vt_detach.proofs.OverlaysGone.{layers_used, merged_in}
+use Rattle.vt_detach.proofs.MountsLeave.{merged_at_first}
+use Rattle.vt_detach.proofs.BesideOverlays.{mounted_at_first, some_of_both}
+use Rattle.vt_detach.specs.Uses.{Kept, is_unused, Merged, merged_seen}
+use Rattle.vt_world.specs.WorldValue.{WorldValue, world_of, overlays_seen}
 use Rattle.vt_detach.proofs.Midway.{IsShown, Midway, NoneUnused, Reached, gone_if, gone_number, point_left, points_left}
 use Rattle.vt_detach.proofs.MidwayBegins as Begins
 use Rattle.vt_detach.proofs.Moving.{Moves}
-use Rattle.vt_detach.proofs.Overlaid.{overlays_are, plain_ones_are}
+use Rattle.vt_detach.proofs.Overlaid.{overlays_are, plain_ones_are, AreStillMounted, all_shown}
 use Rattle.vt_spec.proofs.Lists.{map_alike, map_twice}
 
 flat_alike : {A B : Type 0} (f g : A → List B) (xs : List A) → ((x : A) → Among x xs → f x ≡ g x)
@@ -82,10 +85,15 @@ pub record IsAdded (value : WorldValue) (added : List (Mount ℕ)) (tasks : Task
   pub left : (location : Location ℕ) → Among location less
       → (is_some (mount_at nat_eq (world_of value) location).namespace ≡ true) ⊎ Among location more
 
+-- an overlay with as many mounts more as are added
+abbrev pub mounted_more : List (Mount ℕ) → Merged → Merged
+mounted_more added one =
+    record one { mounts = one.mounts + times (λ (mount : Mount ℕ). nat_eq one.number mount.filesystem) added }
+
 -- what code counts then
 pub record KeepsAdded (value : WorldValue) (added : List (Mount ℕ)) (more less : List (Location ℕ))
     (gained : List Inode) (k : Kept) : Type 0 where
-  pub none : k.overlays ≡ []
+  pub merged : k.overlays ≡ map (mounted_more added) (map merged_seen value.overlays)
   pub mounts : mounts_in k.mounts ≡ (world_of value).mounts ++ added
   pub uses : (entry : MountEntry) → Among entry k.mounts
       → entry.uses + times (λ location. nat_eq entry.mount.number location.mount) less
@@ -348,10 +356,41 @@ module _ (value : WorldValue) (whole : IsHeld value) (added : List (Mount ℕ)) 
       let moved = locations_use_mounts world base more less is.front is.back is.was is.is entry.mount.number in
       omega (arith, counts, moved)
 
+  -- Overlays
+
+  more_shown : (n : ℕ)
+      → mounts_showing world n + times (λ (mount : Mount ℕ). nat_eq n mount.filesystem) added ≡ mounts_showing ended n
+  more_shown n =
+      let all = times_append (λ (x : Mount ℕ). nat_eq n x.filesystem) world.mounts added in
+      let gone = shows_still n base.mounts in
+      omega (arith, all, gone)
+
+  still_shown : AreStillMounted value ended
+  still_shown =
+      all_from_among (λ (overlay : Filesystem ℕ). is_mounted nat_eq ended overlay.number ≡ true)
+      (overlays_seen value.overlays) (λ overlay m.
+      mounted_while_counted ended overlay.number
+      ∙ ap (nat_lt 0) (sym (more_shown overlay.number))
+      ∙ sym (some_of_both (mounts_showing world overlay.number)
+      (times (λ (mount : Mount ℕ). nat_eq overlay.number mount.filesystem) added))
+      ∙ ap (λ b. b || nat_lt 0 (times (λ (mount : Mount ℕ). nat_eq overlay.number mount.filesystem) added))
+      (sym (mounted_while_counted world overlay.number)
+      ∙ among_from_all (λ (one : Filesystem ℕ). is_mounted nat_eq world one.number ≡ true)
+      (overlays_seen value.overlays) (mounted_at_first value whole) overlay m))
+
   begins_midway : Midway value ended gained goes [] ended k []
   begins_midway = record {
     held = whole;
-    none = keeps.none;
+    merged = keeps.merged
+        ∙ ap (map (mounted_more added)) (merged_at_first value whole)
+        ∙ map_twice (mounted_more added) (merged_in world) (filter is_overlay world.filesystems)
+        ∙ map_alike (λ overlay. mounted_more added (merged_in world overlay)) (merged_in ended)
+        (filter is_overlay world.filesystems)
+        (λ overlay m. λ i. record {
+          number = overlay.number;
+          mounts = more_shown overlay.number i;
+          layers = layers_used overlay;
+        });
     mounts = ap (map (gone_if goes)) (sym keeps.mounts);
     uses = uses_are;
     writers = λ entry m. let counts = keeps.writers entry m in let same = is.writes entry.mount.number in omega
@@ -371,7 +410,10 @@ module _ (value : WorldValue) (whole : IsHeld value) (added : List (Mount ℕ)) 
         ∙ sym (ap (map (λ (one : Shown). counted one.count)) keeps.filesystems);
     stand = stand_ended;
     located = located_ended;
-    keeps = record { overlays = overlays_are value whole.overlays; rise = whole.overlays.all_rise };
+    leaves = record {
+      overlays = overlays_are value whole.overlays ∙ all_shown value ended still_shown;
+      rise = whole.overlays.all_rise;
+    };
     same = refl;
   }
 

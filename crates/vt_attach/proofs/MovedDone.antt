@@ -56,7 +56,7 @@ use Rattle.vt_world.specs.WorldValue.{WorldValue, overlays_seen, world_of}
 use Rattle.vt_detach.proofs.Bridging.{IsSwept, shows_left}
 use Rattle.vt_detach.proofs.FileEvents.{permit_fits}
 use Rattle.vt_detach.proofs.Grouped.{settled_has}
-use Rattle.vt_detach.proofs.Overlaid.{AreStillMounted, is_plain_one, overlays_are, plain_ones_are, still_mounted}
+use Rattle.vt_detach.proofs.Overlaid.{AreStillMounted, is_plain_one, overlays_are, plain_ones_are, still_mounted, all_shown}
 use Rattle.vt_detach.proofs.Places.{located_is_named}
 use Rattle.vt_detach.proofs.Showing.{ShowsAs}
 use Rattle.vt_detach.proofs.Staying.{IsDone}
@@ -618,8 +618,8 @@ module _ (value : WorldValue) (whole : IsHeld value) (name : TaskName) (number :
         (inodes_of_points (points_taken points value.mounts) ++ gained_by come) (inodes_of_points is.left) new
     swept = record {
       midway = record { overlays = overlays_are value whole.overlays; rise = whole.overlays.all_rise };
-      mounted = subst (AreStillMounted value) (sym living_is) overlays_mounted;
-      overlays = overlays_same value whole overlays;
+      overlays = overlays_same value whole overlays
+          ∙ all_shown value (in_use_of then_world) (subst (AreStillMounted value) (sym living_is) overlays_mounted);
       mounts = ap (λ (w : World ℕ). w.mounts) living_is ∙ sym mounts_seen;
       numbers = ap (λ (w : World ℕ). map (λ (f : Filesystem ℕ). f.number) (filter is_plain_one w.filesystems))
           living_is

@@ -21,7 +21,7 @@ use Rattle.vt_attach.specs.Copying.{CopiesAttached, copies_of, moved_in, with_us
 use Rattle.vt_detach.specs.Events.{Permits}
 use Rattle.vt_world.specs.Held.{IsHeld}
 use Rattle.vt_detach.specs.NamespacesLeft.{MountsAreLeft, namespace_entry, with_one_task_less}
-use Rattle.vt_detach.specs.Uses.{Merged, kept_of, kept_with}
+use Rattle.vt_detach.specs.Uses.{Merged, kept_of, kept_with, overlays_kept}
 use Rattle.vt_world.specs.WorldValue.{NamespaceEntry, WorldValue, overlays_seen}
 use Rattle.vt_detach.proofs.Staying.{IsDone}
 use Rattle.vt_attach.proofs.UnsharedDone as Done
@@ -50,7 +50,7 @@ pub record IsUnshared (value : WorldValue) (name : TaskName) (own : Own) (root d
       (λ task. record task { namespace = counted value.next; root = location_of root; directory = location_of directory }) value.tasks
   pub before : list_all (λ mount. nat_lt mount.number (counted value.next)) (mounts_in value.mounts) ≡ true
   pub next : new.next ≡ value.next + 2 * length (attached_in (counted own.namespace.count) value.mounts)
-  pub same_overlays : overlays_seen new.overlays ≡ overlays_seen value.overlays
+  pub same_overlays : new.overlays ≡ overlays_kept left_overlays value.overlays
 
 pub task_is_unshared : (value : WorldValue) → IsHeld value → (name : TaskName) → Permits value name ToUnshare
     → (own : Own)

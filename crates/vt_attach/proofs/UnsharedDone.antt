@@ -1,5 +1,5 @@
 -- The end of an unshare, where the inodes that the copies use are found: unshare(2) with CLONE_NEWNS.
-use Rattle.std.proofs.Common.{◌≡◌, refl, sym, ap, subst, ◌∙◌, ℕ, ◌+◌, ◌*◌, nat_eq, ◌&&◌, Bool, true, false, List, [], ◌∷◌, ◌++◌, filter, length, map, Option, Some}
+use Rattle.std.proofs.Common.{◌≡◌, refl, sym, ap, subst, ◌∙◌, ℕ, ◌+◌, ◌*◌, nat_eq, ◌&&◌, Bool, true, false, List, [], ◌∷◌, ◌++◌, filter, length, map, Option, Some, cond, arith}
 use Rattle.std.specs.Prelude.{All, nat_lt}
 use Rattle.std.specs.List.{list_all}
 use Rattle.vt_spec.specs.Lists.{folded, holds_of}
@@ -29,13 +29,15 @@ use Rattle.vt_laws_runs.specs.Handed.{counts_from, is_counted_before}
 use Rattle.vt_tasks.specs.TasksValue.{Tasks}
 use Rattle.vt_mount.specs.Attached.{attached_in}
 use Rattle.vt_attach.specs.Copying.{copies_of}
+use Rattle.vt_spec.proofs.Lists.{map_alike, map_twice}
+use Rattle.vt_detach.proofs.Moving.{map_itself, swap_eq}
 use Rattle.vt_detach.specs.Events.{Permits, left_by}
 use Rattle.vt_world.specs.Held.{CountsWhatIsInIt, IsHeld}
 use Rattle.vt_detach.specs.NamespacesLeft.{MountsAreLeft, namespace_entry, numbers_inside, with_one_task_less}
-use Rattle.vt_detach.specs.Uses.{with_attached, Merged, kept_of, kept_with, merged_by, merged_seen}
+use Rattle.vt_detach.specs.Uses.{with_attached, Merged, kept_of, kept_with, merged_by, merged_seen, overlays_kept}
 use Rattle.vt_world.specs.WorldValue.{NamespaceEntry, WorldValue, namespace_of, overlays_seen, world_of}
 use Rattle.vt_attach.proofs.AddedBegins as Begins
-use Rattle.vt_attach.proofs.AddedBegins.{IsAdded, KeepsAdded, with_added}
+use Rattle.vt_attach.proofs.AddedBegins.{IsAdded, KeepsAdded, with_added, mounted_more}
 use Rattle.vt_attach.proofs.GrownGroups.{ascending_rises}
 use Rattle.vt_mount.proofs.AttachedLemmas.{ascending_filter}
 use Rattle.vt_attach.proofs.UnsharingLemmas.{copies_ascend}
@@ -58,10 +60,47 @@ use Rattle.vt_attach.proofs.UnsharedTasks as Tasks
 use Rattle.vt_attach.proofs.UnsharedWorlds as Worlds
 use Rattle.vt_laws_mounts.specs.Mounts.Attaching.{numbers_of}
 
--- mounts that come make no overlay
-none_more : (copies : List Attached) → folded merged_by [] copies ≡ []
-none_more [] = refl
-none_more (copy ∷ rest) = none_more rest
+-- each mount that comes is one more of its overlay
+merged_by_all : (copies : List Attached) (all : List Merged)
+    → folded merged_by all copies ≡ map (mounted_more (map mount_of copies)) all
+merged_by_all [] all =
+    map_itself all
+    ∙ map_alike (λ (one : Merged). one) (mounted_more []) all (λ one m. λ i. record one { mounts = same one.mounts i })
+  where
+    same : (n : ℕ) → n ≡ n + 0
+    same n = omega arith
+merged_by_all (copy ∷ rest) all =
+    merged_by_all rest (merged_by all copy)
+    ∙ map_twice (mounted_more later) step all
+    ∙ map_alike (λ (one : Merged). mounted_more later (step one)) (mounted_more (mount_of copy ∷ later)) all
+    (λ one m. by one (nat_eq (counted copy.root.filesystem.count) one.number)
+    ∙ ap (λ b. record one { mounts = one.mounts + (cond b 1 0 + showing one) })
+    (swap_eq (counted copy.root.filesystem.count) one.number))
+  where
+    later : List (Mount ℕ)
+    later = map mount_of rest
+
+    showing : Merged → ℕ
+    showing one = times (λ (mount : Mount ℕ). nat_eq one.number mount.filesystem) (map mount_of rest)
+
+    step : Merged → Merged
+    step one = cond (nat_eq (counted copy.root.filesystem.count) one.number) (record one { mounts = one.mounts + 1 })
+        one
+
+    by : (one : Merged) (b : Bool)
+        → mounted_more (map mount_of rest) (cond b (record one { mounts = one.mounts + 1 }) one)
+        ≡ record one {
+          mounts = one.mounts + (cond b 1 0
+              + times (λ (mount : Mount ℕ). nat_eq one.number mount.filesystem) (map mount_of rest));
+        }
+    by one true = λ i. record one {
+      mounts = one_more one.mounts
+          (times (λ (mount : Mount ℕ). nat_eq one.number mount.filesystem) (map mount_of rest)) i;
+    }
+      where
+        one_more : (n k : ℕ) → n + 1 + k ≡ n + (1 + k)
+        one_more n k = omega arith
+    by one false = refl
 
 module _ (value : WorldValue) (whole : IsHeld value) (name : TaskName) (permits : Permits value name ToUnshare)
     (count : ℕ) (in_namespace : counted count ≡ permits.task.namespace)
@@ -115,8 +154,7 @@ module _ (value : WorldValue) (whole : IsHeld value) (name : TaskName) (permits 
 
   keeps : KeepsAdded value added come_to gone_from (gained_by copies) (kept_with moved_entries filesystems overlays)
   keeps = record {
-    none = ap (λ k. k.overlays) is_kept
-        ∙ ap (λ list. folded merged_by (map merged_seen list) copies) whole.overlays.none_yet ∙ none_more copies;
+    merged = ap (λ k. k.overlays) is_kept ∙ merged_by_all copies (map merged_seen value.overlays);
     mounts = Moved.moved_mounts value whole copies tasks
         (λ mount. inside mount.namespace) task.root task.directory moved_task.root moved_task.directory is_added;
     uses = λ entry m. (Moved.moved_was value whole copies tasks (λ mount. inside mount.namespace) task.root task.directory moved_task.root moved_task.directory is_added entry m).1.uses;
@@ -151,7 +189,7 @@ module _ (value : WorldValue) (whole : IsHeld value) (name : TaskName) (permits 
       (namespaces_are : new.namespaces ≡ with_one_task_less count entries) (tasks_are : new.tasks ≡ tasks)
       (next_is : new.next ≡ value.next + 2 * length (attached_in task.namespace value.mounts))
       (before : list_all (λ mount. nat_lt mount.number (counted value.next)) (mounts_in value.mounts) ≡ true)
-      (overlays_are : overlays_seen new.overlays ≡ overlays_seen value.overlays) where
+      (overlays_are : new.overlays ≡ overlays_kept left_overlays value.overlays) where
     abbrev ended : World ℕ
     ended = Begins.ended value whole added tasks come_to gone_from inside
         (Worlds.nowhere_stays value whole name task permits.called permits.given.serves count in_namespace)
