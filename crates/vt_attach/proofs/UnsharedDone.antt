@@ -100,7 +100,13 @@ merged_by_all (copy ∷ rest) all =
       where
         one_more : (n k : ℕ) → n + 1 + k ≡ n + (1 + k)
         one_more n k = omega arith
-    by one false = refl
+    by one false = λ i. record one {
+      mounts = none_more one.mounts
+          (times (λ (mount : Mount ℕ). nat_eq one.number mount.filesystem) (map mount_of rest)) i;
+    }
+      where
+        none_more : (n k : ℕ) → n + k ≡ n + (0 + k)
+        none_more n k = omega arith
 
 module _ (value : WorldValue) (whole : IsHeld value) (name : TaskName) (permits : Permits value name ToUnshare)
     (count : ℕ) (in_namespace : counted count ≡ permits.task.namespace)
