@@ -40,6 +40,7 @@ use Rattle.vt_world.specs.WorldValue.{WorldValue, world_of, overlays_seen}
 use Rattle.vt_detach.proofs.Midway.{IsShown, Midway, NoneUnused, Reached, gone_if, gone_number, point_left, points_left}
 use Rattle.vt_detach.proofs.MidwayBegins as Begins
 use Rattle.vt_detach.proofs.Moving.{Moves}
+use Rattle.vt_attach.proofs.OverlaysMore.{mounted_more}
 use Rattle.vt_detach.proofs.Overlaid.{overlays_are, plain_ones_are, AreStillMounted, all_shown}
 use Rattle.vt_spec.proofs.Lists.{map_alike, map_twice}
 
@@ -84,11 +85,6 @@ pub record IsAdded (value : WorldValue) (added : List (Mount ℕ)) (tasks : Task
   -- a location that was left was on an attached mount, or is one still
   pub left : (location : Location ℕ) → Among location less
       → (is_some (mount_at nat_eq (world_of value) location).namespace ≡ true) ⊎ Among location more
-
--- an overlay with as many mounts more as are added
-abbrev pub mounted_more : List (Mount ℕ) → Merged → Merged
-mounted_more added one =
-    record one { mounts = one.mounts + times (λ (mount : Mount ℕ). nat_eq one.number mount.filesystem) added }
 
 -- what code counts then
 pub record KeepsAdded (value : WorldValue) (added : List (Mount ℕ)) (more less : List (Location ℕ))

@@ -3,7 +3,6 @@
 use Rattle.std.proofs.Common.{◌≡◌, refl, sym, ap, subst, ◌∙◌, ⊎_elim, inl, inr, ℕ, ◌+◌, nat_eq, Bool, true, false, cond, List, [], ◌∷◌, ◌++◌, map, filter, Option, is_some, arith}
 use Rattle.std.specs.Prelude.{All}
 use Rattle.std.specs.List.{list_all}
-use Rattle.std.proofs.lemmas.List.Elements.{All-nil}
 use Rattle.vt_laws_counts.specs.Counted.{IsCounted}
 use Rattle.vt_laws_counts.specs.Using.{exchanged}
 use Rattle.vt_laws_counts.specs.OverlaysStay.{layer_count}
@@ -47,7 +46,7 @@ use Rattle.vt_spec.specs.Machine.Invariants.{IsWorld, has_its_root}
 use Rattle.vt_laws_worlds.specs.Worlds.Kept.{IsUnderWay}
 use Rattle.vt_detach.specs.Events.{Permits, left_by}
 use Rattle.vt_world.specs.Held.{CountsItsUses, CountsWhatIsInIt, HasOwnInodes, IsHeld, IsMountedSoOften}
-use Rattle.vt_detach.specs.Uses.{unused_entry, Merged, kept_with, merged_seen, overlays_kept}
+use Rattle.vt_detach.specs.Uses.{unused_entry, Merged, kept_with, merged_seen, overlays_kept, merged_by}
 use Rattle.vt_world.specs.WorldValue.{WorldValue, overlays_seen, world_of}
 use Rattle.vt_detach.proofs.BesideOverlays.{layers_alike}
 use Rattle.vt_detach.proofs.Finishing.{CountsBeside, own_exchanged}
@@ -56,6 +55,7 @@ use Rattle.vt_detach.proofs.Overlaid.{KeepsOverlays, files_are_plain, is_plain_o
 use Rattle.vt_detach.proofs.OwnInodesKept.{IsOwn}
 use Rattle.vt_detach.proofs.Showing.{ShowsAs}
 use Rattle.vt_detach.proofs.Staying.{IsDone}
+use Rattle.vt_attach.proofs.OverlaysMore.{counted_more, grown, merged_by_all, seen_more}
 use Rattle.vt_attach.specs.AttachedGroups.{HasGroupsOf, all_copies, groups_formed, type_of}
 use Rattle.vt_attach.specs.Grafted.{IsGrafted}
 use Rattle.vt_attach.specs.Moved.{typed_all, with_types}
@@ -104,11 +104,11 @@ grafted_value value mounts groups filesystems overlays next = record value {
 }
 
 -- its overlays are those of before, but for how often they are mounted
-pub overlays_same : (value : WorldValue) → IsHeld value → (overlays : List Merged)
+pub overlays_same : (value : WorldValue) → IsHeld value → (copies : List Mount) (overlays : List Merged)
+    → overlays ≡ folded merged_by (map merged_seen value.overlays) copies
     → overlays_seen (overlays_kept overlays value.overlays) ≡ overlays_seen value.overlays
-overlays_same value whole overlays =
-    ap (λ list. overlays_seen (overlays_kept overlays list)) whole.overlays.none_yet
-    ∙ sym (ap overlays_seen whole.overlays.none_yet)
+overlays_same value whole copies overlays are =
+    seen_more value whole (map mount_of copies) overlays (are ∙ merged_by_all copies (map merged_seen value.overlays))
 
 -- Beside the overlays of the code's world
 
@@ -249,6 +249,12 @@ module _ (value : WorldValue) (whole : IsHeld value) (base : Filesystems) (is_ba
       (own_exchanged from.0.count gains losses (inodes_seen from.0)
       (among_from_all HasOwnInodes base is_base.own from.0 from.1)))
 
+  merged_are : overlays ≡ folded merged_by (map merged_seen value.overlays) copies
+  merged_are = ap (λ k. k.overlays) is.done
+
+  same_overlays : overlays_seen new.overlays ≡ overlays_seen value.overlays
+  same_overlays = overlays_same value whole copies overlays merged_are
+
   -- overlays stay as they are
   pub keeps_overlays : KeepsOverlays value entered_world
   keeps_overlays = record { overlays = base_overlays value whole base; rise = is_base.rise }
@@ -280,7 +286,7 @@ module _ (value : WorldValue) (whole : IsHeld value) (base : Filesystems) (is_ba
 
   shows : Has entered_world groups → IsWorld nat_eq entered_world → ShowsAs entered_world new
   shows has is_world = record {
-    overlays = base_overlays value whole base ∙ sym (overlays_same value whole overlays);
+    overlays = base_overlays value whole base ∙ sym same_overlays;
     rise = is_base.rise;
     mounts = sym is.seen;
     groups = has;
@@ -292,15 +298,21 @@ module _ (value : WorldValue) (whole : IsHeld value) (base : Filesystems) (is_ba
 
   -- What is counted beside inodes
 
-  showing_then : (count : ℕ) → mounts_showing (world_of new) (counted count)
-      ≡ mounts_showing (world_of value) (counted count) + showing count copies
-  showing_then count =
+  showing_at : (n : ℕ) → mounts_showing (world_of new) n
+      ≡ mounts_showing (world_of value) n
+      + times (λ (mount : meant.Mount ℕ). nat_eq n mount.filesystem) (map mount_of copies)
+  showing_at n =
       ap (times shows_it) is.seen
       ∙ times_append shows_it (map (changed_at points kinds) (mounts_in value.mounts)) (map mount_of copies)
-      ∙ ap (λ n. n + showing count copies) (times_map shows_it (changed_at points kinds) (mounts_in value.mounts))
+      ∙ ap (λ m. m + times shows_it (map mount_of copies))
+      (times_map shows_it (changed_at points kinds) (mounts_in value.mounts))
     where
       shows_it : meant.Mount ℕ → Bool
-      shows_it mount = nat_eq (counted count) mount.filesystem
+      shows_it mount = nat_eq n mount.filesystem
+
+  showing_then : (count : ℕ) → mounts_showing (world_of new) (counted count)
+      ≡ mounts_showing (world_of value) (counted count) + showing count copies
+  showing_then count = showing_at (counted count)
 
   counted_so : (entry : MountEntry) → Among entry (with_points points value.mounts ++ map unused_entry copies)
       → CountsItsUses (world_of new) entry
@@ -323,7 +335,7 @@ module _ (value : WorldValue) (whole : IsHeld value) (base : Filesystems) (is_ba
         let from = from_base entry m in
         let was = is_base.mounts from.0 from.1 in
         let more = showing_then from.0.count in
-        let layers_now = layers_kept value new whole.overlays (overlays_same value whole overlays)
+        let layers_now = layers_kept value new whole.overlays same_overlays
         (counted from.0.count) in
         let layers = layers_alike (world_of value) (with_base value base)
         (base_overlays value whole base ∙ sym (overlays_are value whole.overlays)) (counted from.0.count) in
@@ -333,8 +345,13 @@ module _ (value : WorldValue) (whole : IsHeld value) (base : Filesystems) (is_ba
         ap (λ (one : Shown). one.mounts) from.2 ∙ sum
         ∙ ap (λ count. mounts_showing (world_of new) (counted count) + layer_count (world_of new) (counted count))
         (sym (ap (λ (one : Shown). one.count) from.2));
-    overlays = subst (All (IsMountedSoOften (world_of new)))
-        (sym (ap (overlays_kept overlays) whole.overlays.none_yet)) (All-nil (IsMountedSoOften (world_of new)));
+    overlays = all_from_among (IsMountedSoOften (world_of new)) new.overlays (λ entry m.
+        among_from_all (IsMountedSoOften (grown value whole (map mount_of copies))) new.overlays
+        (counted_more value whole (map mount_of copies) overlays
+        (merged_are ∙ merged_by_all copies (map merged_seen value.overlays))) entry m
+        ∙ times_append (λ (mount : meant.Mount ℕ). nat_eq entry.number mount.filesystem) (mounts_in value.mounts)
+        (map mount_of copies)
+        ∙ sym (showing_at entry.number));
     namespaces = all_from_among (CountsWhatIsInIt (world_of new)) value.namespaces (λ entry m.
         let was = among_from_all (CountsWhatIsInIt (world_of value)) value.namespaces whole.namespaces entry m in
         record { tasks = was.tasks });
@@ -349,7 +366,7 @@ module _ (value : WorldValue) (whole : IsHeld value) (base : Filesystems) (is_ba
       → IsDone value name permit new
   entered_is_done has name permit permits takes left_is keeps =
       let is_world = subst (IsWorld nat_eq) left_is (left_is_world value whole name permit permits.task takes).0 in
-      numbers_are_kept value whole name permit permits.task takes new (overlays_same value whole overlays)
+      numbers_are_kept value whole name permit permits.task takes new same_overlays
       (subst (λ (left : World ℕ). ShowsAs left new) (sym left_is) (shows has is_world)) counts_then own_then keeps
 
 -- Copies that were attached

@@ -618,7 +618,7 @@ module _ (value : WorldValue) (whole : IsHeld value) (name : TaskName) (number :
         (inodes_of_points (points_taken points value.mounts) ++ gained_by come) (inodes_of_points is.left) new
     swept = record {
       midway = record { overlays = overlays_are value whole.overlays; rise = whole.overlays.all_rise };
-      overlays = overlays_same value whole overlays
+      overlays = overlays_same value whole come overlays (ap (λ k. k.overlays) entered.done)
           ∙ all_shown value (in_use_of then_world) (subst (AreStillMounted value) (sym living_is) overlays_mounted);
       mounts = ap (λ (w : World ℕ). w.mounts) living_is ∙ sym mounts_seen;
       numbers = ap (λ (w : World ℕ). map (λ (f : Filesystem ℕ). f.number) (filter is_plain_one w.filesystems))
@@ -676,7 +676,7 @@ module _ (value : WorldValue) (whole : IsHeld value) (name : TaskName) (number :
         ≡ 2 * (length graft.parts.now * length graft.tree.now) =
         (λ i. 2 * (length (sym parts_are i) * length (sym tree_is i)))
         ∙ (λ i. 2 * (length-map graft.parts.now mount_of i * length-map graft.tree.now mount_of i)) in
-        numbers_are_kept value whole name permit permits.task takes new (overlays_same value whole overlays)
+        numbers_are_kept value whole name permit permits.task takes new (overlays_same value whole come overlays (ap (λ k. k.overlays) entered.done))
         (subst (λ (w : World ℕ). ShowsAs (settled nat_eq w) new) (sym moved_is) shows_then)
         (counts_then value whole value.filesystems (same_base value whole) come points kinds is.left formed mounts
         groups filesystems overlays next entered rising)

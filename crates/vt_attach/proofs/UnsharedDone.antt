@@ -37,7 +37,7 @@ use Rattle.vt_detach.specs.NamespacesLeft.{MountsAreLeft, namespace_entry, numbe
 use Rattle.vt_detach.specs.Uses.{with_attached, Merged, kept_of, kept_with, merged_by, merged_seen, overlays_kept}
 use Rattle.vt_world.specs.WorldValue.{NamespaceEntry, WorldValue, namespace_of, overlays_seen, world_of}
 use Rattle.vt_attach.proofs.AddedBegins as Begins
-use Rattle.vt_attach.proofs.AddedBegins.{IsAdded, KeepsAdded, with_added, mounted_more}
+use Rattle.vt_attach.proofs.AddedBegins.{IsAdded, KeepsAdded, with_added}
 use Rattle.vt_attach.proofs.GrownGroups.{ascending_rises}
 use Rattle.vt_mount.proofs.AttachedLemmas.{ascending_filter}
 use Rattle.vt_attach.proofs.UnsharingLemmas.{copies_ascend}
@@ -55,58 +55,11 @@ use Rattle.vt_detach.proofs.Staying.{IsDone, becomes_so}
 use Rattle.vt_detach.proofs.TypedEvents.{counts_typed, swept_typed, typed_value}
 use Rattle.vt_detach.proofs.TypedWorlds.{settled_typed, settled_typed_has, typed_world}
 use Rattle.vt_attach.proofs.TakingNumbers.{TakesNumbers, left_is_world, left_keeps}
+use Rattle.vt_attach.proofs.OverlaysMore.{merged_by_all}
 use Rattle.vt_attach.proofs.UnsharedGroups as Groups
 use Rattle.vt_attach.proofs.UnsharedTasks as Tasks
 use Rattle.vt_attach.proofs.UnsharedWorlds as Worlds
 use Rattle.vt_laws_mounts.specs.Mounts.Attaching.{numbers_of}
-
--- each mount that comes is one more of its overlay
-merged_by_all : (copies : List Attached) (all : List Merged)
-    → folded merged_by all copies ≡ map (mounted_more (map mount_of copies)) all
-merged_by_all [] all =
-    map_itself all
-    ∙ map_alike (λ (one : Merged). one) (mounted_more []) all (λ one m. λ i. record one { mounts = same one.mounts i })
-  where
-    same : (n : ℕ) → n ≡ n + 0
-    same n = omega arith
-merged_by_all (copy ∷ rest) all =
-    merged_by_all rest (merged_by all copy)
-    ∙ map_twice (mounted_more later) step all
-    ∙ map_alike (λ (one : Merged). mounted_more later (step one)) (mounted_more (mount_of copy ∷ later)) all
-    (λ one m. by one (nat_eq (counted copy.root.filesystem.count) one.number)
-    ∙ ap (λ b. record one { mounts = one.mounts + (cond b 1 0 + showing one) })
-    (swap_eq (counted copy.root.filesystem.count) one.number))
-  where
-    later : List (Mount ℕ)
-    later = map mount_of rest
-
-    showing : Merged → ℕ
-    showing one = times (λ (mount : Mount ℕ). nat_eq one.number mount.filesystem) (map mount_of rest)
-
-    step : Merged → Merged
-    step one = cond (nat_eq (counted copy.root.filesystem.count) one.number) (record one { mounts = one.mounts + 1 })
-        one
-
-    by : (one : Merged) (b : Bool)
-        → mounted_more (map mount_of rest) (cond b (record one { mounts = one.mounts + 1 }) one)
-        ≡ record one {
-          mounts = one.mounts + (cond b 1 0
-              + times (λ (mount : Mount ℕ). nat_eq one.number mount.filesystem) (map mount_of rest));
-        }
-    by one true = λ i. record one {
-      mounts = one_more one.mounts
-          (times (λ (mount : Mount ℕ). nat_eq one.number mount.filesystem) (map mount_of rest)) i;
-    }
-      where
-        one_more : (n k : ℕ) → n + 1 + k ≡ n + (1 + k)
-        one_more n k = omega arith
-    by one false = λ i. record one {
-      mounts = none_more one.mounts
-          (times (λ (mount : Mount ℕ). nat_eq one.number mount.filesystem) (map mount_of rest)) i;
-    }
-      where
-        none_more : (n k : ℕ) → n + k ≡ n + (0 + k)
-        none_more n k = omega arith
 
 module _ (value : WorldValue) (whole : IsHeld value) (name : TaskName) (permits : Permits value name ToUnshare)
     (count : ℕ) (in_namespace : counted count ≡ permits.task.namespace)
