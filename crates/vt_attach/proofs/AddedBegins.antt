@@ -33,14 +33,14 @@ use Rattle.vt_laws_mounts.specs.Mounts.Attaching.{OneNumberAMount}
 use Rattle.vt_laws_letting_go.specs.Attaching.{inodes_of_mount_point}
 use Rattle.vt_world.specs.Held.{CountsItsMounts, IsHeld, writes_of}
 use Rattle.vt_detach.proofs.OverlaysGone.{layers_used, merged_in}
-use Rattle.vt_detach.proofs.MountsLeave.{merged_at_first}
+use Rattle.vt_detach.proofs.MountsLeave.{leaves_alike, merged_alike}
 use Rattle.vt_detach.proofs.BesideOverlays.{mounted_at_first, some_of_both}
 use Rattle.vt_detach.specs.Uses.{Kept, is_unused, Merged, merged_seen}
 use Rattle.vt_world.specs.WorldValue.{WorldValue, world_of, overlays_seen}
 use Rattle.vt_detach.proofs.Midway.{IsShown, Midway, NoneUnused, Reached, gone_if, gone_number, point_left, points_left}
 use Rattle.vt_detach.proofs.MidwayBegins as Begins
 use Rattle.vt_detach.proofs.Moving.{Moves}
-use Rattle.vt_attach.proofs.OverlaysMore.{mounted_more}
+use Rattle.vt_attach.proofs.OverlaysMore.{grown, leaves_grown, merged_grown, mounted_more}
 use Rattle.vt_detach.proofs.Overlaid.{overlays_are, plain_ones_are, AreStillMounted, all_shown}
 use Rattle.vt_spec.proofs.Lists.{map_alike, map_twice}
 
@@ -352,41 +352,11 @@ module _ (value : WorldValue) (whole : IsHeld value) (added : List (Mount ℕ)) 
       let moved = locations_use_mounts world base more less is.front is.back is.was is.is entry.mount.number in
       omega (arith, counts, moved)
 
-  -- Overlays
-
-  more_shown : (n : ℕ)
-      → mounts_showing world n + times (λ (mount : Mount ℕ). nat_eq n mount.filesystem) added ≡ mounts_showing ended n
-  more_shown n =
-      let all = times_append (λ (x : Mount ℕ). nat_eq n x.filesystem) world.mounts added in
-      let gone = shows_still n base.mounts in
-      omega (arith, all, gone)
-
-  still_shown : AreStillMounted value ended
-  still_shown =
-      all_from_among (λ (overlay : Filesystem ℕ). is_mounted nat_eq ended overlay.number ≡ true)
-      (overlays_seen value.overlays) (λ overlay m.
-      mounted_while_counted ended overlay.number
-      ∙ ap (nat_lt 0) (sym (more_shown overlay.number))
-      ∙ sym (some_of_both (mounts_showing world overlay.number)
-      (times (λ (mount : Mount ℕ). nat_eq overlay.number mount.filesystem) added))
-      ∙ ap (λ b. b || nat_lt 0 (times (λ (mount : Mount ℕ). nat_eq overlay.number mount.filesystem) added))
-      (sym (mounted_while_counted world overlay.number)
-      ∙ among_from_all (λ (one : Filesystem ℕ). is_mounted nat_eq world one.number ≡ true)
-      (overlays_seen value.overlays) (mounted_at_first value whole) overlay m))
-
   begins_midway : Midway value ended gained goes [] ended k []
   begins_midway = record {
     held = whole;
-    merged = keeps.merged
-        ∙ ap (map (mounted_more added)) (merged_at_first value whole)
-        ∙ map_twice (mounted_more added) (merged_in world) (filter is_overlay world.filesystems)
-        ∙ map_alike (λ overlay. mounted_more added (merged_in world overlay)) (merged_in ended)
-        (filter is_overlay world.filesystems)
-        (λ overlay m. λ i. record {
-          number = overlay.number;
-          mounts = more_shown overlay.number i;
-          layers = layers_used overlay;
-        });
+    merged = keeps.merged ∙ merged_grown value whole added
+        ∙ merged_alike (grown value whole added) ended refl (λ n. shows_still n base.mounts);
     mounts = ap (map (gone_if goes)) (sym keeps.mounts);
     uses = uses_are;
     writers = λ entry m. let counts = keeps.writers entry m in let same = is.writes entry.mount.number in omega
@@ -406,10 +376,8 @@ module _ (value : WorldValue) (whole : IsHeld value) (added : List (Mount ℕ)) 
         ∙ sym (ap (map (λ (one : Shown). counted one.count)) keeps.filesystems);
     stand = stand_ended;
     located = located_ended;
-    leaves = record {
-      overlays = overlays_are value whole.overlays ∙ all_shown value ended still_shown;
-      rise = whole.overlays.all_rise;
-    };
+    leaves = leaves_alike (grown value whole added) ended refl (λ n. shows_still n base.mounts) value
+        (leaves_grown value whole added);
     same = refl;
   }
 
