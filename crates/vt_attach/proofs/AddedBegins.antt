@@ -1,21 +1,21 @@
 -- Mounts were added and tasks went from locations to others of the same inodes, and mounts are to be detached: what
 -- code counts
 -- before it detaches them. So does unshare(2), where a namespace ends with it.
-use Rattle.std.proofs.Common.{◌≡◌, refl, sym, ap, subst, ◌∙◌, ◌⊎◌, ⊎_elim, inl, inr, ℕ, ◌+◌, nat_eq, eqb-true, eq-eqb, Bool, true, false, true≢false, cond, not, ◌&&◌, ◌||◌, List, [], ◌∷◌, ◌++◌, map, flat_map, Option, Some, None, is_some, arith, filter, nat_lt}
+use Rattle.std.proofs.Common.{◌≡◌, refl, sym, ap, subst, ◌∙◌, ◌⊎◌, ⊎_elim, inl, inr, ℕ, ◌+◌, nat_eq, eqb-true, eq-eqb, Bool, true, false, true≢false, cond, not, ◌&&◌, ◌||◌, List, [], ◌∷◌, ◌++◌, map, flat_map, Option, Some, None, is_some, arith, nat_lt}
 use Rattle.std.specs.Prelude.{option_to_list}
 use Rattle.std.specs.List.{list_all, list_any}
 use Rattle.std.proofs.lemmas.Bool.{and_parts}
 use Rattle.std.proofs.lemmas.List.{append-nil, map-append}
 use Rattle.vt_spec.specs.Lists.{any_pair, folded, is_among}
 use Rattle.vt_spec.specs.Machine.Mounts.{Location, Mount, detached, mount_in}
-use Rattle.vt_spec.specs.Machine.Settled.{is_located, mount_lives, is_mounted}
-use Rattle.vt_spec.specs.Machine.World.{Filesystem, Namespace, World, all_locations, mount_at, is_overlay}
+use Rattle.vt_spec.specs.Machine.Settled.{is_located, mount_lives}
+use Rattle.vt_spec.specs.Machine.World.{Filesystem, Namespace, World, all_locations, mount_at}
 use Rattle.vt_spec.specs.Machine.Invariants.{is_nowhere_or_attached, is_private}
 use Rattle.vt_laws_counts.specs.Using.{AreThere, Exchanges, is_inode, is_on, pinned_if, places_of}
 use Rattle.vt_laws_counts.proofs.using.MountRoots as Roots
 use Rattle.vt_laws_counts.proofs.using.Places.{exchanges_follow, locations_are_uses, locations_use_mounts, mounts_are_uses}
 use Rattle.vt_fs.specs.FilesystemsValue.{FilesystemEntry, Shown, filesystem_seen, inodes_seen, shown, shown_entry}
-use Rattle.vt_laws_letting_go.specs.Counts.{mount_uses, times, mounts_showing}
+use Rattle.vt_laws_letting_go.specs.Counts.{mount_uses, times}
 use Rattle.vt_laws_letting_go.specs.Keeping.{LocationsStand}
 use Rattle.vt_laws_letting_go.specs.Leaving.{MountsStand, stands_on_attached}
 use Rattle.vt_laws_letting_go.specs.Mounting.{inode_at}
@@ -23,7 +23,7 @@ use Rattle.vt_laws_letting_go.specs.OneByOne.{Inode}
 use Rattle.vt_laws_letting_go.proofs.Lists.{Among, all_pass, among-append, among-append_left, among-append_right, among-from_map, among-map, among_from_all, any_passes, one_passes, or_first, passes, all_from_among}
 use Rattle.vt_laws_letting_go.proofs.leaving.MountsAdded.{found_before}
 use Rattle.vt_laws_letting_go.proofs.sweeps.OfWorlds.{mounts_of_worlds_stand}
-use Rattle.vt_laws_letting_go.proofs.sweeps.UsesCounted.{located_while_counted, mounted_while_counted}
+use Rattle.vt_laws_letting_go.proofs.sweeps.UsesCounted.{located_while_counted}
 use Rattle.vt_location.specs.Numbers.{counted}
 use Rattle.vt_mount.specs.MountsValue.{MountEntry, mounts_in}
 use Rattle.vt_tasks.specs.TasksValue.{Tasks}
@@ -32,16 +32,14 @@ use Rattle.vt_laws_letting_go.proofs.sweeps.UpperUses.{times_append}
 use Rattle.vt_laws_mounts.specs.Mounts.Attaching.{OneNumberAMount}
 use Rattle.vt_laws_letting_go.specs.Attaching.{inodes_of_mount_point}
 use Rattle.vt_world.specs.Held.{CountsItsMounts, IsHeld, writes_of}
-use Rattle.vt_detach.proofs.OverlaysGone.{layers_used, merged_in}
 use Rattle.vt_detach.proofs.MountsLeave.{leaves_alike, merged_alike}
-use Rattle.vt_detach.proofs.BesideOverlays.{mounted_at_first, some_of_both}
-use Rattle.vt_detach.specs.Uses.{Kept, is_unused, Merged, merged_seen}
-use Rattle.vt_world.specs.WorldValue.{WorldValue, world_of, overlays_seen}
+use Rattle.vt_detach.specs.Uses.{Kept, is_unused, merged_seen}
+use Rattle.vt_world.specs.WorldValue.{WorldValue, world_of}
 use Rattle.vt_detach.proofs.Midway.{IsShown, Midway, NoneUnused, Reached, gone_if, gone_number, point_left, points_left}
 use Rattle.vt_detach.proofs.MidwayBegins as Begins
 use Rattle.vt_detach.proofs.Moving.{Moves}
 use Rattle.vt_attach.proofs.OverlaysMore.{grown, leaves_grown, merged_grown, mounted_more}
-use Rattle.vt_detach.proofs.Overlaid.{overlays_are, plain_ones_are, AreStillMounted, all_shown}
+use Rattle.vt_detach.proofs.Overlaid.{plain_ones_are}
 use Rattle.vt_spec.proofs.Lists.{map_alike, map_twice}
 
 flat_alike : {A B : Type 0} (f g : A → List B) (xs : List A) → ((x : A) → Among x xs → f x ≡ g x)

@@ -22,7 +22,7 @@ use Rattle.vt_detach.specs.Events.{Permits}
 use Rattle.vt_world.specs.Held.{IsHeld}
 use Rattle.vt_detach.specs.NamespacesLeft.{MountsAreLeft, namespace_entry, with_one_task_less}
 use Rattle.vt_detach.specs.Uses.{Merged, kept_of, kept_with, overlays_kept}
-use Rattle.vt_world.specs.WorldValue.{NamespaceEntry, WorldValue, overlays_seen}
+use Rattle.vt_world.specs.WorldValue.{NamespaceEntry, WorldValue}
 use Rattle.vt_detach.proofs.Staying.{IsDone}
 use Rattle.vt_attach.proofs.UnsharedDone as Done
 use Rattle.vt_attach.proofs.UnsharedInodes.{copies_gain, copies_there}
