@@ -34,7 +34,7 @@ some_of_both (suc a) b =
     ∙ one_more_is_some (a + b) ∙ ap (nat_lt 0) more
 
 -- a plain filesystem has no layers
-no_layer_of_plain : (number : ℕ) (f : Filesystem ℕ) → is_overlay f ≡ false → has_layer_on nat_eq number f ≡ false
+pub no_layer_of_plain : (number : ℕ) (f : Filesystem ℕ) → is_overlay f ≡ false → has_layer_on nat_eq number f ≡ false
 no_layer_of_plain number f plain = by f.overlay plain
   where
     by : (o : Option (Overlay ℕ)) → is_some o ≡ false

@@ -13,7 +13,7 @@ use Rattle.vt_spec.specs.Machine.Mounts.Propagation.{Private}
 use Rattle.vt_spec.specs.Machine.Permits.{Permit}
 use Rattle.vt_spec.specs.Machine.Receives.{regrouped}
 use Rattle.vt_spec.specs.Machine.SameWorlds.{without_changes}
-use Rattle.vt_spec.specs.Machine.Settled.{is_located}
+use Rattle.vt_spec.specs.Machine.Settled.{is_located, is_mounted}
 use Rattle.vt_spec.specs.Machine.World.{Filesystem, Task, World, filesystem_numbered, is_directory_at, mount_at, node_at, with_mounts}
 use Rattle.vt_spec.specs.Machine.Invariants.{has_its_root, is_located_well, is_nowhere_or_attached, is_there}
 use Rattle.vt_spec.specs.Tree.{is_directory_node}
@@ -26,7 +26,7 @@ use Rattle.vt_group.specs.Together.{TakesAway}
 use Rattle.vt_laws_letting_go.specs.Counts.{mount_uses, mounts_showing, times}
 use Rattle.vt_laws_letting_go.specs.Leaving.{stands_on_attached}
 use Rattle.vt_laws_letting_go.specs.OneByOne.{Inode}
-use Rattle.vt_laws_letting_go.proofs.Lists.{Among, all_from_among, among-from_map, among-map, among_from_all, is_among_numbers, passes}
+use Rattle.vt_laws_letting_go.proofs.Lists.{Among, all_from_among, among-from_map, among-map, among_from_all, is_among_numbers, passes, filter_all}
 use Rattle.vt_laws_letting_go.proofs.mounting.MountingTaken as Taken
 use Rattle.vt_laws_letting_go.proofs.sweeps.OfWorlds.{mounts_of_worlds_stand}
 use Rattle.vt_laws_letting_go.proofs.leaving.PlacesLeft.{found_is_there, number_found}
@@ -37,8 +37,8 @@ use Rattle.vt_laws_worlds.proofs.RaisedInUse.{worlds_are_in_use}
 use Rattle.vt_laws_worlds.proofs.worlds.Roots.{directory_there}
 use Rattle.vt_world.specs.Held.{CountsItsMounts, CountsItsUses, CountsWhatIsInIt, IsHeld, IsMountedSoOften, writes_of}
 use Rattle.vt_detach.specs.Uses.{Merged, kept_of, kept_with, merged_seen}
-use Rattle.vt_world.specs.WorldValue.{WorldValue, overlays_seen, world_of}
-use Rattle.vt_detach.proofs.BesideOverlays.{layers_of_value}
+use Rattle.vt_world.specs.WorldValue.{WorldValue, overlay_seen, overlays_seen, world_of}
+use Rattle.vt_detach.proofs.BesideOverlays.{layers_of_value, mounted_at_first}
 use Rattle.vt_detach.proofs.Bridging.{IsSwept}
 use Rattle.vt_detach.proofs.Detached.{IsDetaching}
 use Rattle.vt_detach.proofs.DetachingBegins.{HasChildrenOf, detached_world}
@@ -48,7 +48,8 @@ use Rattle.vt_detach.proofs.Grouped.{settled_has, stays_private}
 use Rattle.vt_detach.proofs.Keeping.{IsKeptBut, detached_in, no_more}
 use Rattle.vt_detach.proofs.LocationsSeen.{seen_where_located}
 use Rattle.vt_detach.proofs.Moving.{map_itself}
-use Rattle.vt_detach.proofs.Overlaid.{KeepsOverlays, keeps_itself, none_still, none_to_mount, plain_ones_are, same_files_keep}
+use Rattle.vt_detach.proofs.Overlaid.{KeepsOverlays, keeps_itself, none_still, none_to_mount, overlays_are, plain_ones_are, same_files_keep}
+use Rattle.vt_detach.proofs.OverlaysGone.{merged_in}
 use Rattle.vt_detach.proofs.Remaining.{remade}
 use Rattle.vt_detach.proofs.Staying.{IsDone}
 use Rattle.vt_detach.proofs.TypedEvents.{typed_done, typed_value}
@@ -96,7 +97,13 @@ module _ (value : WorldValue) (whole : IsHeld value) where
   pub held_is_kept : IsKeptBut value [] [] [] [] world (kept_of value)
   held_is_kept = record {
     held = whole;
-    none = ap (map merged_seen) whole.overlays.none_yet;
+    merged = map_alike merged_seen (λ entry. merged_in world (overlay_seen entry)) value.overlays (λ entry m. λ i. record {
+      number = entry.number;
+      mounts = among_from_all (IsMountedSoOften world) value.overlays whole.overlays.mounts entry m i;
+      layers = map (λ layer. (layer.filesystem, layer.directory)) entry.lowers;
+    })
+        ∙ sym (map_twice (merged_in world) overlay_seen value.overlays)
+        ∙ ap (map (merged_in world)) (sym (overlays_are value whole.overlays));
     mounts = map_itself (mounts_in value.mounts);
     uses = whole.mounts;
     numbers = ap (map (λ (f : Filesystem ℕ). f.number)) (plain_ones_are value whole.overlays)
@@ -118,7 +125,13 @@ module _ (value : WorldValue) (whole : IsHeld value) where
     located = Roots.locations_of_worlds_stand world whole.in_world;
     in_use = (worlds_are_in_use world whole.in_world).mounts;
     mounted = (worlds_are_in_use world whole.in_world).filesystems;
-    keeps = keeps_itself value whole.overlays;
+    leaves = record {
+      overlays = overlays_are value whole.overlays
+          ∙ sym (filter_all (λ overlay. is_mounted nat_eq world overlay.number) (overlays_seen value.overlays)
+          (among_from_all (λ (overlay : Filesystem ℕ). is_mounted nat_eq world overlay.number ≡ true)
+          (overlays_seen value.overlays) (mounted_at_first value whole)));
+      rise = whole.overlays.all_rise;
+    };
     points = λ mount m point p few. seen_where_located value whole point few
         (point_located mount m (location_of point) p);
     places = λ mount m place p. refl;
@@ -132,6 +145,16 @@ module _ (old : WorldValue) (after : World ℕ) (gained lost : List Inode) (new 
     (same_overlays : overlays_seen new.overlays ≡ overlays_seen old.overlays) where
   mounts_are : (in_use_of after).mounts ≡ mounts_in new.mounts
   mounts_are = is.mounts ∙ sym (map_itself (mounts_in new.mounts))
+
+  -- all overlays of before are shown still
+  keeps_all : KeepsOverlays old (in_use_of after)
+  keeps_all = record {
+    overlays = is.leaves.overlays
+        ∙ filter_all (λ overlay. is_mounted nat_eq (in_use_of after) overlay.number) (overlays_seen old.overlays)
+        (among_from_all (λ (overlay : Filesystem ℕ). is_mounted nat_eq (in_use_of after) overlay.number ≡ true)
+        (overlays_seen old.overlays) (none_to_mount old is.held (in_use_of after)));
+    rise = is.leaves.rise;
+  }
 
   pub detached_swept : KeepsOverlays old after
       → (without_changes after).namespaces ≡ (without_changes (world_of new)).namespaces
@@ -167,7 +190,7 @@ module _ (old : WorldValue) (after : World ℕ) (gained lost : List Inode) (new 
     mounts = λ entry m.
         (is.filesystems (shown_entry entry) (among-map shown_entry new.filesystems entry m)).mounts
         ∙ (λ i. times (λ (mount : Mount ℕ). nat_eq (counted entry.count) mount.filesystem) (mounts_are i)
-        + sym (layers_of_value old new is.held.overlays same_overlays (in_use_of after) is.keeps
+        + sym (layers_of_value old new is.held.overlays same_overlays (in_use_of after) keeps_all
         (counted entry.count)) i);
     overlays = subst (All (IsMountedSoOften (world_of new))) (sym (none_still old new is.held same_overlays))
         (All-nil _);

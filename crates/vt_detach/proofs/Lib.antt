@@ -63,3 +63,5 @@ pub mod LayersLeft
 pub mod OverlaysGone
 pub mod StoreShown
 pub mod StoreStays
+pub mod MountsLeave
+pub mod OverlaysKept

@@ -76,7 +76,7 @@ module _ (world : World ℕ) (number filesystem : ℕ)
       mounted_while_counted mounted n ∙ ap (nat_lt 0) same ∙ sym (mounted_while_counted world n)
 
   -- one of this number goes with its last mount
-  goes_at_one : (overlay : Filesystem ℕ) → nat_eq filesystem overlay.number ≡ true
+  pub goes_at_one : (overlay : Filesystem ℕ) → nat_eq filesystem overlay.number ≡ true
       → goes overlay ≡ nat_eq (mounts_showing world overlay.number - 1) 0
   goes_at_one overlay e =
       let took : mounts_showing world overlay.number ≡ mounts_showing mounted overlay.number + 1 =
