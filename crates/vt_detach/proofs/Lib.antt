@@ -60,3 +60,4 @@ pub mod BesideOverlays
 pub mod FilesystemsLeft
 pub mod StoreShown
 pub mod StoreStays
+pub mod StoreLends

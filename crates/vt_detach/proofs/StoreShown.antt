@@ -71,7 +71,7 @@ module _ (base : WorldValue) (store : StoreValue) (held : IsHeld (with_store sto
       (among-map overlay_seen (overlays_of_store store) (overlay_of_store store.plain entry) (kept_among entry m))).0
 
   -- and so is what is no overlay
-  plain_found : (count : ℕ) → overlay_in store count ≡ None
+  pub plain_found : (count : ℕ) → overlay_in store count ≡ None
       → filesystem_numbered nat_eq (world_of (with_store store base)) (counted count)
       ≡ filesystem_seen (entry_at store.plain count)
   plain_found count none =
