@@ -61,3 +61,4 @@ pub mod FilesystemsLeft
 pub mod StoreShown
 pub mod StoreStays
 pub mod StoreLends
+pub mod StoreTrees
