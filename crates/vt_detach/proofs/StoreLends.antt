@@ -1,14 +1,13 @@
 -- What a store lends for its nodes is what the world that holds it tells.
-use Rattle.std.proofs.Common.{◌≡◌, refl, sym, ap, subst, ◌∙◌, inl, inr, zero, suc, ◌-◌, ◌/◌, ℕ, nat_eq, eqb-true, List, [], ◌∷◌, map, Option, Some, None, option_map, arith}
+use Rattle.std.proofs.Common.{◌≡◌, refl, sym, ap, ◌∙◌, inl, inr, zero, suc, ℕ, nat_eq, eqb-true, List, [], ◌∷◌, Option, Some, None, option_map, arith}
 use Rattle.std.specs.Prelude.{All, slice_get}
 use Rattle.std.proofs.lemmas.Option.{same_Some, slice_get-map}
 use Rattle.vt_spec.proofs.Found.{found_among, found_passes}
 use Rattle.vt_spec.proofs.Options.{none_is_some}
 use Rattle.vt_spec.specs.Lists.{then_some}
-use Rattle.vt_spec.specs.Machine.Layers.{OpenLayer, at_path, node_at_path}
-use Rattle.vt_spec.specs.Machine.World.{Filesystem, Layer, Overlay, Real, World, filesystem_numbered, open_layer}
+use Rattle.vt_spec.specs.Machine.Layers.{at_path, node_at_path}
+use Rattle.vt_spec.specs.Machine.World.{Filesystem, Layer, Real, World, filesystem_numbered, open_layer}
 use Rattle.vt_spec.specs.Machine.World.Real.{Lower, Upper}
-use Rattle.vt_spec.specs.Tree.{Node}
 use Rattle.vt_laws_letting_go.proofs.Lists.{Among, among-map, among_from_all}
 use Rattle.vt_laws_overlays_kept.proofs.inodes.InodesInOrder.{inodes_have_their_objects}
 use Rattle.vt_laws_overlays_kept.proofs.lending.ObjectsLent.{real_objects_are_lent}
@@ -16,19 +15,18 @@ use Rattle.vt_laws_overlays_kept.specs.Kept.{ShowsLayer, with_objects}
 use Rattle.vt_laws_overlays_kept.specs.Lending.{lent_on, object_lent}
 use Rattle.vt_laws_trees.proofs.trees.TreesOfWorlds.{number_numbered}
 use Rattle.vt_location.specs.Numbers.{counted}
-use Rattle.vt_fs.specs.FilesystemsValue.{Filesystems, filesystem_seen, entry_at, node_seen}
+use Rattle.vt_fs.specs.FilesystemsValue.{filesystem_seen, entry_at, node_seen}
 use Rattle.vt_merge.specs.LayerValue.{layer_of}
 use Rattle.vt_merge.specs.declared.layers.LayerRef.{LayerRef}
 use Rattle.vt_overlay.specs.Alike.{lent_at, real_lent}
-use Rattle.vt_overlay.specs.MergedTree.{AreLayers, OverlayValue, layer_seen}
-use Rattle.vt_store.proofs.Woven.{is_over}
+use Rattle.vt_overlay.specs.MergedTree.{AreLayers, layer_seen}
 use Rattle.vt_store.specs.OverlaysValue as stored
 use Rattle.vt_store.specs.StoreValue.{StoreValue, entry_in, filesystems_of, lent_in, overlay_in}
 use Rattle.vt_store.specs.StoreValue as stores
 use Rattle.vt_world.specs.Held.{IsHeld}
 use Rattle.vt_world.specs.Lent.{count_of, lent_by, lent_in_layers, lent_of_world}
-use Rattle.vt_world.specs.StoredWorld.{overlay_of_store, overlays_of_store, with_store}
-use Rattle.vt_world.specs.WorldValue.{OverlayEntry, WorldValue, overlay_seen, world_of}
+use Rattle.vt_world.specs.StoredWorld.{overlay_of_store, with_store}
+use Rattle.vt_world.specs.WorldValue.{WorldValue, world_of}
 use Rattle.vt_detach.proofs.LayersShown.{layers_shown_well}
 use Rattle.vt_detach.proofs.StoreShown.{overlay_found, plain_found}
 

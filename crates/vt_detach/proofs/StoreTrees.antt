@@ -1,9 +1,8 @@
 -- The filesystems of a store are trees with the numbers of their inodes beside them.
-use Rattle.std.proofs.Common.{◌≡◌, ◌⊎◌, refl, sym, ap, subst, ◌∙◌, ⊎_elim, inl, inr, ℕ, nat_eq, true, false, true≢false, Option, Some, None}
-use Rattle.std.specs.Prelude.{All}
+use Rattle.std.proofs.Common.{◌≡◌, ◌⊎◌, refl, sym, ap, subst, ◌∙◌, ⊎_elim, inl, inr, ℕ, nat_eq, true≢false, Option, Some, None}
 use Rattle.vt_spec.specs.FileTree.{FileTree}
 use Rattle.vt_spec.specs.Machine.Invariants.{ListsNumbers}
-use Rattle.vt_spec.specs.Machine.World.{Filesystem, World, filesystem_numbered, is_overlay, no_filesystem}
+use Rattle.vt_spec.specs.Machine.World.{Filesystem, filesystem_numbered, is_overlay, no_filesystem}
 use Rattle.vt_spec.specs.Tree.{Tree}
 use Rattle.vt_spec.specs.TreeInvariant.{HasOwnParents, IsTree}
 use Rattle.vt_laws_overlays_kept.proofs.inodes.InodesInOrder.{numbers_are_listed}
@@ -14,7 +13,7 @@ use Rattle.vt_fs.proofs.Numbers.{numbers_listed}
 use Rattle.vt_fs.specs.FilesystemsValue.{entry_at}
 use Rattle.vt_overlay.specs.MergedTree.{OverlayValue}
 use Rattle.vt_store.proofs.Woven.{is_over, is_plain}
-use Rattle.vt_store.specs.StoreValue.{StandOnLayers, StandsOnLayers, StoreValue, files_in, filesystems_of, overlay_in}
+use Rattle.vt_store.specs.StoreValue.{StandsOnLayers, StoreValue, files_in, filesystems_of, overlay_in}
 use Rattle.vt_laws_letting_go.proofs.Lists.{among_from_all}
 use Rattle.vt_world.specs.Held.{IsHeld}
 use Rattle.vt_world.specs.StoredWorld.{with_store}
