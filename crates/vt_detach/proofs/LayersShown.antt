@@ -1,5 +1,5 @@
 -- The layers of an overlay of the code's world are directories of the plain trees that are kept, which the world shows.
-use Rattle.std.proofs.Common.{◌≡◌, ◌≤◌, ◌<◌, refl, sym, ap, subst, ◌∙◌, ⊎_elim, inl, inr, zero, ℕ, nat_eq, eqb-true, Bool, true, false, true≢false, not, ◌&&◌, List, [], ◌∷◌, length, map, Option, Some, None, is_some, unwrap_or, arith, suc}
+use Rattle.std.proofs.Common.{◌≡◌, ◌≤◌, ◌<◌, refl, sym, ap, subst, ◌∙◌, ⊎_elim, inl, inr, zero, ℕ, nat_eq, eqb-true, Bool, true, false, true≢false, not, ◌&&◌, List, [], ◌∷◌, length, map, Option, Some, None, unwrap_or, arith, suc}
 use Rattle.std.specs.Prelude.{All, nat_le, nat_lt, slice_get}
 use Rattle.std.specs.List.{list_all}
 use Rattle.std.proofs.Math.Bool.{and-false}
@@ -11,19 +11,19 @@ use Rattle.vt_spec.specs.Language.Limits.{most_lowers}
 use Rattle.vt_spec.specs.Lists.{is_empty_list}
 use Rattle.vt_spec.specs.Machine.Invariants.{has_fit_layers, is_plain_layer}
 use Rattle.vt_spec.specs.Machine.Locked.{of_overlay}
-use Rattle.vt_spec.specs.Machine.World.{Filesystem, Layer, World, filesystem_numbered, is_overlay, layers_of}
-use Rattle.vt_spec.specs.Tree.{Tree, is_directory_node}
+use Rattle.vt_spec.specs.Machine.World.{Filesystem, World, filesystem_numbered, is_overlay, layers_of}
+use Rattle.vt_spec.specs.Tree.{is_directory_node}
 use Rattle.vt_spec.specs.TreeInvariant.{IsTree}
 use Rattle.vt_laws_letting_go.proofs.Lists.{Among, all_from_among, among-map, among_from_all, passes}
-use Rattle.vt_laws_overlays_kept.specs.Kept.{ShowsLayer, ShowsLayers}
+use Rattle.vt_laws_overlays_kept.specs.Kept.{ShowsLayer}
 use Rattle.vt_laws_trees.proofs.trees.TreesOfWorlds.{numbered_all}
 use Rattle.vt_location.specs.Locations.{inode_of}
-use Rattle.vt_location.specs.Numbers.{counted, is_inode_of, is_own_number}
+use Rattle.vt_location.specs.Numbers.{counted, is_inode_of}
 use Rattle.vt_fs.specs.FilesystemsValue.{FilesystemEntry, entry_at, entry_of, filesystem_seen, inodes_at, inodes_seen, no_entry}
 use Rattle.vt_merge.specs.declared.layers.LayerRef.{LayerRef}
-use Rattle.vt_overlay.specs.MergedTree.{AreLayers, IsLayer, OverlayValue, layer_seen}
+use Rattle.vt_overlay.specs.MergedTree.{AreLayers, IsLayer, layer_seen}
 use Rattle.vt_world.specs.Held.{HasOwnInodes, IsHeld}
-use Rattle.vt_world.specs.WorldValue.{OverlayEntry, WorldValue, overlay_seen, overlays_seen, world_of}
+use Rattle.vt_world.specs.WorldValue.{OverlayEntry, WorldValue, overlay_seen, world_of}
 use Rattle.vt_detach.proofs.PlainFound.{counted_where_plain, overlay_among}
 
 -- inodes of a kept filesystem have its own numbers

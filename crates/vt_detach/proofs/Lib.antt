@@ -65,3 +65,5 @@ pub mod StoreShown
 pub mod StoreStays
 pub mod MountsLeave
 pub mod OverlaysKept
+pub mod StoreLends
+pub mod StoreTrees

@@ -1,6 +1,5 @@
 -- The filesystem that the definitions find by a number, where it is no overlay: the one that is kept by its inodes.
 use Rattle.std.proofs.Common.{◌≡◌, refl, sym, ap, subst, ◌∙◌, ℕ, nat_eq, eqb-true, Bool, true, false, true≢false, unwrap_or}
-use Rattle.std.specs.Prelude.{All}
 use Rattle.vt_spec.specs.Machine.World.{Filesystem, filesystem_numbered, is_overlay, no_filesystem}
 use Rattle.vt_laws_letting_go.proofs.Lists.{Among, all_from_among, among-from_filter}
 use Rattle.vt_laws_letting_go.proofs.sweeps.OfWorlds.{found_filesystem}

@@ -1,8 +1,8 @@
 -- The filesystems of a store are those of the world that holds it.
-use Rattle.std.proofs.Common.{◌≡◌, refl, sym, ap, subst, ◌∙◌, ⊎_elim, inl, inr, ℕ, nat_eq, eq-eqb, Bool, true, false, true≢false, cond, not, List, [], ◌∷◌, map, find, Option, Some, None, is_some, unwrap_or, option_map, arith}
+use Rattle.std.proofs.Common.{◌≡◌, refl, sym, ap, subst, ◌∙◌, ⊎_elim, ℕ, nat_eq, eq-eqb, Bool, true, false, cond, not, List, [], ◌∷◌, find, Option, Some, None, unwrap_or, option_map, arith}
 use Rattle.std.specs.Prelude.{All}
 use Rattle.vt_spec.proofs.Options.{none_is_some}
-use Rattle.vt_spec.specs.Machine.World.{Filesystem, World, filesystem_numbered, is_overlay, no_filesystem}
+use Rattle.vt_spec.specs.Machine.World.{Filesystem, World, filesystem_numbered, no_filesystem}
 use Rattle.vt_spec.specs.Tree.{Tree}
 use Rattle.vt_spec.specs.TreeInvariant.{HasOwnParents, IsTree}
 use Rattle.vt_laws_letting_go.proofs.Lists.{Among, all_from_among, among-from_map, among-map}
@@ -16,13 +16,13 @@ use Rattle.vt_fs.proofs.Numbers.{found_by_number}
 use Rattle.vt_fs.proofs.Parents.{parents_named}
 use Rattle.vt_fs.specs.FilesystemsValue.{entry_at, filesystem_seen, filesystems_seen}
 use Rattle.vt_fs.specs.Laws.{ParentsAreNamed}
-use Rattle.vt_overlay.specs.MergedTree.{OverlayValue, merged_tree}
+use Rattle.vt_overlay.specs.MergedTree.{OverlayValue}
 use Rattle.vt_store.proofs.Woven.{is_over, is_plain}
 use Rattle.vt_store.specs.OverlaysValue as stored
-use Rattle.vt_store.specs.StoreValue.{StandOnLayers, StandsOnLayers, StoreValue, entry_in, files_in, filesystem_in, filesystems_of, overlay_filesystem, overlay_in}
+use Rattle.vt_store.specs.StoreValue.{StandOnLayers, StandsOnLayers, StoreValue, entry_in, files_in, filesystems_of, overlay_in}
 use Rattle.vt_world.specs.Held.{IsHeld}
 use Rattle.vt_world.specs.StoredWorld.{overlay_of_store, overlays_of_store, with_store}
-use Rattle.vt_world.specs.WorldValue.{OverlayEntry, WorldValue, overlay_seen, overlays_seen, world_of}
+use Rattle.vt_world.specs.WorldValue.{WorldValue, overlay_seen, overlays_seen, world_of}
 use Rattle.vt_detach.proofs.LayersShown.{layers_number, layers_shown_well}
 use Rattle.vt_detach.proofs.PlainFound.{overlay_among}
 
@@ -71,7 +71,7 @@ module _ (base : WorldValue) (store : StoreValue) (held : IsHeld (with_store sto
       (among-map overlay_seen (overlays_of_store store) (overlay_of_store store.plain entry) (kept_among entry m))).0
 
   -- and so is what is no overlay
-  plain_found : (count : ℕ) → overlay_in store count ≡ None
+  pub plain_found : (count : ℕ) → overlay_in store count ≡ None
       → filesystem_numbered nat_eq (world_of (with_store store base)) (counted count)
       ≡ filesystem_seen (entry_at store.plain count)
   plain_found count none =

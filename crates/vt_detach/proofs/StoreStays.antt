@@ -1,9 +1,9 @@
 -- After an event, a store shows the overlays that the world after it has: as they were.
-use Rattle.std.proofs.Common.{◌≡◌, refl, sym, ap, subst, ◌∙◌, ℕ, nat_eq, true, List, length, map, Some, is_some}
+use Rattle.std.proofs.Common.{◌≡◌, refl, sym, ap, subst, ◌∙◌, ℕ, nat_eq, true, List, map, Some, is_some}
 use Rattle.std.specs.Prelude.{All}
 use Rattle.vt_spec.specs.Machine.Permits.{Permit}
-use Rattle.vt_spec.specs.Machine.SameWorlds.{SameFilesystem, SameFilesystems, SameWorlds}
-use Rattle.vt_spec.specs.Machine.World.{Filesystem, Overlay, Task, World, filesystem_numbered, is_overlay, no_filesystem}
+use Rattle.vt_spec.specs.Machine.SameWorlds.{SameWorlds}
+use Rattle.vt_spec.specs.Machine.World.{Filesystem, Task, World, filesystem_numbered, is_overlay}
 use Rattle.vt_laws_letting_go.proofs.Lists.{Among, all_from_among, among-map, among_from_all}
 use Rattle.vt_laws_rules.proofs.same.SameLooks.{found_same}
 use Rattle.vt_spec.proofs.Lists.{map_alike}
@@ -11,19 +11,18 @@ use Rattle.std.proofs.lemmas.List.Sorted.{length_permutation}
 use Rattle.vt_laws_letting_go.proofs.sweeps.OfWorlds.{found_filesystem}
 use Rattle.vt_laws_overlays_kept.proofs.events.KeptOverlays.{kept_overlays_stay}
 use Rattle.vt_laws_overlays_kept.proofs.inodes.InodesInOrder.{inodes_have_their_objects, inodes_stay}
-use Rattle.vt_laws_overlays_kept.specs.Inodes.{inodes_kept}
 use Rattle.vt_laws_overlays_kept.specs.Kept.{IsShownAlike, ShowsLayer, ShowsLayers, with_objects}
 use Rattle.vt_laws_permits.specs.Left.{IsGiven}
 use Rattle.vt_location.specs.Numbers.{counted}
 use Rattle.vt_fs.specs.FilesystemsValue.{Filesystems}
 use Rattle.vt_merge.specs.declared.layers.LayerRef.{LayerRef}
-use Rattle.vt_overlay.specs.MergedTree.{OverlayValue, layer_seen, merged_tree}
+use Rattle.vt_overlay.specs.MergedTree.{OverlayValue, layer_seen}
 use Rattle.vt_store.specs.OverlaysValue as stored
 use Rattle.vt_store.specs.StoreValue.{StoreValue}
 use Rattle.vt_detach.specs.Events.{left_by, supply_of}
 use Rattle.vt_world.specs.Held.{IsHeld}
-use Rattle.vt_world.specs.StoredWorld.{overlay_of_store, overlays_of_store, with_store}
-use Rattle.vt_world.specs.WorldValue.{OverlayEntry, WorldValue, overlay_seen, world_of}
+use Rattle.vt_world.specs.StoredWorld.{overlay_of_store, with_store}
+use Rattle.vt_world.specs.WorldValue.{WorldValue, overlay_seen, world_of}
 use Rattle.vt_detach.proofs.LayersShown.{layers_shown_well}
 use Rattle.vt_detach.proofs.PlainFound.{overlay_among}
 use Rattle.vt_detach.proofs.StoreShown.{overlay_found}

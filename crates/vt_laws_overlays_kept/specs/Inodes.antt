@@ -1,13 +1,14 @@
 -- The inodes of an overlay that is kept as its layers, each with its real object, in the order of their numbers. A value
 -- of a world has no functions, so it has these in the place of the tree.
 use Rattle.std.specs.Prelude.{List, None, Option, Some, [], filter_map, map, nat_eq, option_map, unwrap_or, ℕ, ◌≡◌}
+use Rattle.vt_spec.specs.Machine.Invariants.{ListsNumbers}
 use Rattle.vt_spec.specs.Machine.Merging.{MergedInode, real_of, tree_of}
 use Rattle.vt_spec.specs.Machine.World.{Real}
 use Rattle.vt_spec.specs.Machine.World.Real.{Lower}
 use Rattle.vt_spec.specs.Tree.{Node}
 use Rattle.vt_location.specs.InOrder.{in_order_by}
 use Rattle.vt_fs.specs.FilesystemsValue.{Filesystems}
-use Rattle.vt_overlay.specs.MergedTree.{AreLayers, OverlayValue, merged_tree, numbers_shown}
+use Rattle.vt_overlay.specs.MergedTree.{AreLayers, OverlayValue, merged_files, merged_tree, numbers_shown}
 use Rattle.vt_laws_overlays_kept.specs.Kept.{IsShownAlike, real_objects}
 
 -- an inode with its real object, if it is there
@@ -39,6 +40,12 @@ abbrev pub InodesHaveTheirObjects : Type 0
 InodesHaveTheirObjects =
     (trees : Filesystems) (overlay : OverlayValue) → AreLayers trees overlay.lowers
     → real_of nat_eq (inodes_kept trees overlay) ≡ real_objects trees overlay
+
+-- The numbers beside its tree, of all that is shown, are those of its inodes.
+abbrev pub NumbersAreListed : Type 0
+NumbersAreListed =
+    (trees : Filesystems) (overlay : OverlayValue) → AreLayers trees overlay.lowers
+    → ListsNumbers nat_eq (merged_files trees overlay)
 
 -- Where an overlay is shown alike, they are the same, in the same order.
 abbrev pub InodesStay : Type 0

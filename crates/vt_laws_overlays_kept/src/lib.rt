@@ -5,3 +5,4 @@
 
 pub mod events;
 pub mod inodes;
+pub mod lending;

@@ -1,3 +1,4 @@
 pub mod WorldValue
 pub mod Held
 pub mod StoredWorld
+pub mod Lent

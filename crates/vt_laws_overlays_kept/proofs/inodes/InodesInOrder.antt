@@ -1,5 +1,5 @@
 -- The inodes of an overlay, in the order of their numbers.
-use Rattle.std.proofs.Common.{◌≡◌, refl, sym, ap, subst, ◌∙◌, ℕ, nat_eq, eqb-true, Bool, true, false, true≢false, cond, ◌||◌, List, [], ◌∷◌, map, find, Option, Some, None, option_map, is_some, unwrap_or}
+use Rattle.std.proofs.Common.{◌≡◌, refl, sym, ap, subst, ◌∙◌, inl, inr, ℕ, nat_eq, eq-eqb, eqb-true, Bool, true, false, true≢false, cond, ◌||◌, List, [], ◌∷◌, map, find, Option, Some, None, option_map, is_some, unwrap_or}
 use Rattle.std.specs.Prelude.{filter_map}
 use Rattle.std.specs.declared.cmp.Ordering.TheVariants.{Equal}
 use Rattle.std.specs.List.{cons_option}
@@ -7,13 +7,15 @@ use Rattle.std.specs.FinMap.{nat_cmp-IsAntisymmetric}
 use Rattle.std.specs.FinMap.Entries.{same_entries}
 use Rattle.std.specs.Map.{lookup}
 use Rattle.vt_spec.proofs.Found.{found_among, found_passes}
+use Rattle.vt_spec.proofs.Options.{none_is_some}
+use Rattle.vt_spec.specs.Machine.Invariants.{real_shown}
 use Rattle.vt_spec.specs.Lists.{holds_of, is_among, then_some}
 use Rattle.vt_spec.specs.Machine.Layers.{OpenLayer, Shown, paths_from, shown}
 use Rattle.vt_spec.specs.Machine.Merging.{Merged, MergedInode, layer_node, real_object, real_of, tree_of}
 use Rattle.vt_spec.specs.Machine.World.{Real}
 use Rattle.vt_spec.specs.Machine.World.Real.{Lower}
 use Rattle.vt_spec.specs.Tree.{Node}
-use Rattle.vt_laws_letting_go.proofs.Lists.{among-filter_map, held_number, is_among_numbers}
+use Rattle.vt_laws_letting_go.proofs.Lists.{Among, among-filter_map, among-from_filter_map, among_numbers, held_number, is_among_numbers}
 use Rattle.vt_laws_layers.proofs.layers.ShownDirectories.{AreOpen}
 use Rattle.vt_laws_merging.specs.MergedTrees.{entries_shown, layers_shown, node_as, parent_shown}
 use Rattle.vt_laws_overlays.proofs.steps.WholeParts.{shown_is_there}
@@ -23,7 +25,7 @@ use Rattle.vt_location.proofs.OrderLemmas.{cmp_total, looked-in_order, found-in_
 use Rattle.vt_fs.specs.FilesystemsValue.{Filesystems}
 use Rattle.vt_overlay.proofs.TreeFound.{layers_are, open_layers}
 use Rattle.vt_overlay.specs.MergedTree.{AreLayers, OverlayValue, longest, merged_tree, number_at, numbers_shown, overlay_seen, path_at, plain_world, real_number}
-use Rattle.vt_laws_overlays_kept.specs.Inodes.{InodesAreTheTree, InodesHaveTheirObjects, InodesStay, inode_kept, inodes_kept, object_at, objects_shown}
+use Rattle.vt_laws_overlays_kept.specs.Inodes.{InodesAreTheTree, InodesHaveTheirObjects, InodesStay, NumbersAreListed, inode_kept, inodes_kept, object_at, objects_shown}
 use Rattle.vt_laws_overlays_kept.specs.Kept.{IsShownAlike, real_objects}
 
 -- Objects under some numbers, looked up
@@ -236,3 +238,56 @@ inodes_stay old new overlay alike =
   where
     same : (q : ℕ) → object_at new overlay q ≡ object_at old overlay q
     same q = λ i. option_map (λ node. (node, unwrap_or (alike.real i q) (Lower 0 []))) ((alike.tree i).node q)
+
+-- what passes is found
+found_some : {A : Type 0} (test : A → Bool) (list : List A) (a : A) → Among a list → test a ≡ true
+    → is_some (find test list) ≡ true
+found_some test [] a m e = absurd m
+found_some {A = A} test (first ∷ rest) a m e = by (test first) refl m (λ later. found_some test rest a later e)
+  where
+    by : (b : Bool) → test first ≡ b → Among a (first ∷ rest)
+        → (Among a rest → is_some (find test rest) ≡ true)
+        → is_some (cond b (Some first) (find test rest)) ≡ true
+    by true s m later = refl
+    by false s (inl same) later = absurd (true≢false (sym e ∙ ap test same ∙ s))
+    by false s (inr m) later = later m
+
+module _ (trees : Filesystems) (overlay : OverlayValue) (are : AreLayers trees overlay.lowers) where
+  abbrev all_paths : List (List (List ℕ))
+  all_paths = paths_from (longest trees overlay.lowers) (layers_shown (plain_world trees) (overlay_seen overlay)) []
+
+  -- what is found at a path has a real object
+  object_found : (q : ℕ) (o : Option (List (List ℕ))) → path_at trees overlay q ≡ o → is_some o ≡ true
+      → is_some (real_by (real_number trees overlay) (λ number. None) (longest trees overlay.lowers)
+      (plain_world trees) (overlay_seen overlay) q o) ≡ true
+  object_found q None e there = absurd (true≢false (sym there))
+  object_found q (Some path) e there =
+      of_number (real_shown nat_eq (plain_world trees) (overlay_seen overlay) path)
+      (held_number q (number_at trees overlay path)
+      (found_passes (λ path. holds_of (nat_eq q) (number_at trees overlay path)) all_paths path e))
+    where
+      of_number : (o : Option (Real ℕ)) → option_map (real_number trees overlay) o ≡ Some q → is_some o ≡ true
+      of_number None e = absurd (none_is_some q e)
+      of_number (Some object) e = refl
+
+  listed_there : (q : ℕ) → is_among nat_eq q (numbers_shown trees overlay) ≡ true
+      → is_some ((merged_tree trees overlay).node q) ≡ true
+  listed_there q s =
+      let one = among-from_filter_map (number_at trees overlay) all_paths q
+      (among_numbers q (numbers_shown trees overlay) s) in
+      sym (objects_there trees overlay are q)
+      ∙ object_found q (path_at trees overlay q) refl
+      (found_some (λ path. holds_of (nat_eq q) (number_at trees overlay path)) all_paths one.0 one.1
+      (ap (holds_of (nat_eq q)) one.2 ∙ eq-eqb q q refl))
+
+  listed : (q : ℕ) (a b : Bool) → is_among nat_eq q (numbers_shown trees overlay) ≡ a
+      → is_some ((merged_tree trees overlay).node q) ≡ b → a ≡ b
+  listed q true true s e = refl
+  listed q false false s e = refl
+  listed q true false s e = absurd (true≢false (sym (listed_there q s) ∙ e))
+  listed q false true s e = absurd (true≢false (sym (inode_shown_there trees overlay q e) ∙ s))
+
+pub numbers_are_listed : NumbersAreListed
+numbers_are_listed trees overlay are = λ q.
+    listed trees overlay are q (is_among nat_eq q (numbers_shown trees overlay))
+    (is_some ((merged_tree trees overlay).node q)) refl refl
