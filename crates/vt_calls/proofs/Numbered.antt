@@ -14,12 +14,12 @@ use Rattle.vt_spec.specs.Machine.Sealed.{directed}
 use Rattle.vt_laws_rules.specs.Numbers.{Allotment}
 use Rattle.vt_laws_one_text.proofs.answered.AlikeAnswered.{any_same_worlds_are_answered_alike, any_same_worlds_are_directed_alike}
 use Rattle.vt_laws_one_text.proofs.same.SameNumbers.{any_same_worlds_keep_to_numbers}
+use Rattle.vt_laws_one_text.specs.Answered.{AreAlike}
 use Rattle.vt_request.specs.Requests.{directive_of}
 use Rattle.vt_request.specs.declared.answer.Answer.{Answer}
 use Rattle.vt_request.specs.declared.request.Directive.{Directive}
 use Rattle.vt_request.specs.declared.request.Directive.TheVariants.{Peers}
 use Rattle.vt_laws_runs.proofs.answered.AlikeWorlds.{sameness_is_an_equivalence}
-use Rattle.vt_laws_runs.specs.Answered.{AreAlike}
 use Rattle.vt_laws_runs.specs.Handed.{may_be_given}
 use Rattle.vt_laws_runs.specs.Runs.{ServesInHand}
 use Rattle.vt_world.specs.Held.{IsHeld}

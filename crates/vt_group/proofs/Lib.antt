@@ -22,3 +22,4 @@ pub mod Together
 pub mod Adding
 pub mod Sharing
 pub mod Typed
+pub mod FewLemmas

@@ -16,7 +16,8 @@ same_id a b = nat_eq a.count b.count
 
 -- what is in a set
 abbrev pub elements : {T : Type 0} → Set T → List T
-elements (Set.Few only) = option_to_list only
+elements (Set.One only) = option_to_list only
+elements (Set.Few few) = few.items
 elements (Set.Many set) = set.keys
 
 abbrev pub kept_in : {T : Type 0} → GroupId → Sets T → List T

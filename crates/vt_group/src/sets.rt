@@ -56,7 +56,7 @@ impl<T: Element> Sets<T> {
         match self.sets.get_mut(&group) {
             Some(set) => set.insert(alloc, one),
             None => {
-                self.sets.insert(group, Set::Few(Some(one)))?;
+                self.sets.insert(group, Set::One(Some(one)))?;
                 Ok(())
             }
         }

@@ -1,15 +1,12 @@
 -- Mounts in the order of their numbers: what a binary search finds among them, and what an edit there does.
-use Rattle.std.proofs.Common.{Result, Ok, Err, IfOk, IfErr, ◌≡◌, ◌<◌, ◌≤◌, ℕ, zero, suc, Bool, true, false, cond, ◌&&◌, List, [], ◌∷◌, ◌++◌, filter, get_or, length, nat_eq, nat_lt, not, refl, sym, ap, subst, ◌∙◌, arith}
+use Rattle.std.proofs.Common.{◌≡◌, ◌<◌, ◌≤◌, ℕ, zero, suc, Bool, true, false, cond, ◌&&◌, List, [], ◌∷◌, ◌++◌, filter, get_or, length, nat_eq, nat_lt, not, refl, sym, ap, subst, ◌∙◌, arith}
 use Rattle.std.specs.List.{AllWithin, insert, remove}
-use Rattle.std.specs.List.Sorted.{IsBinarySearchResult, IsNonDecreasingBy, IsPartitionPoint, IsPartitionedBy, IsSearchInRange}
-use Rattle.std.specs.Ordering.{nat_cmp, ordering_index}
-use Rattle.std.specs.declared.cmp.Ordering.TheVariants.{Less, Equal, Greater}
+use Rattle.std.specs.List.Sorted.{IsNonDecreasingBy, IsPartitionPoint, IsPartitionedBy}
 use Rattle.std.proofs.lemmas.Bool.{ltb-true, ltb-false, not-true}
 use Rattle.std.proofs.lemmas.Bool.Decides.{nat_tests}
-use Rattle.std.proofs.lemmas.Cmp.{ranked}
 use Rattle.vt_location.specs.declared.numbers.MountId.{MountId}
 use Rattle.vt_mount.specs.Indexes.{pushed, put_in_place}
-use Rattle.vt_mount.specs.Rising.{IsAt, comes_last, inserted, none_below, rises, same_id}
+use Rattle.vt_mount.specs.Rising.{comes_last, inserted, none_below, rises, same_id}
 use Rattle.vt_spec.proofs.Truths.{and_true_left, and_true_right}
 
 both : (a b : Bool) → a ≡ true → b ≡ true → (a && b) ≡ true
@@ -161,24 +158,68 @@ others-all id (x ∷ list) apart =
     ap (λ b. cond (not b) (x ∷ others id list) (others id list)) (apart 0 x (omega arith))
     ∙ ap (λ rest. x ∷ rest) (others-all id list (λ k d within. apart (suc k) d (omega (arith, within))))
 
-pub others-parted : (id : MountId) (list : List MountId) (place : ℕ)
-    → IsPartitionPoint (λ other. nat_cmp other.count id.count ≡ Less) (λ other. nat_cmp other.count id.count ≡ Greater)
-    list place → others id list ≡ list
-others-parted id list place parted = others-all id list apart
+-- where those before a place have smaller numbers, and none from there on has
+
+abbrev pub parted : MountId → ℕ → List MountId → Bool
+parted id zero list = none_below id list
+parted id (suc place) [] = true
+parted id (suc place) (x ∷ list) = nat_lt x.count id.count && parted id place list
+
+none_below-all : (id : MountId) (list : List MountId)
+    → AllWithin (λ other. nat_lt other.count id.count ≡ false) list 0 (length list) → none_below id list ≡ true
+none_below-all id [] rest = refl
+none_below-all id (x ∷ list) rest =
+    both _ _ (ap not (rest 0 x (omega arith) (omega arith)))
+    (none_below-all id list (λ k d low high. rest (suc k) d (omega arith) (omega (arith, high))))
+
+parted-there : (id : MountId) (list : List MountId) (place : ℕ)
+    → AllWithin (λ other. nat_lt other.count id.count ≡ true) list 0 place
+    → AllWithin (λ other. nat_lt other.count id.count ≡ false) list place (length list)
+    → parted id place list ≡ true
+parted-there id list zero front rest = none_below-all id list rest
+parted-there id [] (suc place) front rest = refl
+parted-there id (x ∷ list) (suc place) front rest =
+    both _ _ (front 0 x (omega arith) (omega arith))
+    (parted-there id list place
+    (λ k d low high. front (suc k) d (omega arith) (omega (arith, high)))
+    (λ k d low high. rest (suc k) d (omega (arith, low)) (omega (arith, high))))
+
+pub parted-remove : (id : MountId) (list : List MountId) (place : ℕ) → parted id place list ≡ true
+    → parted id place (remove list place) ≡ true
+parted-remove id list zero parted = none_below-remove id list zero parted
+parted-remove id [] (suc place) parted = refl
+parted-remove id (x ∷ list) (suc place) parted =
+    both _ _ (and_true_left _ _ parted) (parted-remove id list place (and_true_right _ _ parted))
+
+others-above : (id x : MountId) (list : List MountId) → id.count < x.count → none_below x list ≡ true
+    → others id list ≡ list
+others-above id x list above below =
+    others-all id list (λ k d within. apart _ (not-below x list k d below within))
   where
-    less : (n : ℕ) → nat_cmp n id.count ≡ Less → nat_eq n id.count ≡ false
-    less n is = let ranks = ranked n id.count Less (sym is) in grind (arith, nat_tests, ranks)
+    apart : (n : ℕ) → x.count ≤ n → nat_eq n id.count ≡ false
+    apart n le = grind (arith, nat_tests, above)
 
-    greater : (n : ℕ) → nat_cmp n id.count ≡ Greater → nat_eq n id.count ≡ false
-    greater n is = let ranks = ranked n id.count Greater (sym is) in grind (arith, nat_tests, ranks)
-
-    at : (k : ℕ) (d : MountId) (b : Bool) → nat_lt k place ≡ b → k < length list
-        → same_id (get_or list k d) id ≡ false
-    at k d true is within = less _ (parted.0 k d (omega arith) (ltb-true k place is))
-    at k d false is within = greater _ (parted.1 k d (ltb-false k place is) within)
-
-    apart : (k : ℕ) (d : MountId) → k < length list → same_id (get_or list k d) id ≡ false
-    apart k d within = at k d (nat_lt k place) refl within
+-- a mount that is not at the place is not in the list
+pub others-parted : (id : MountId) (list : List MountId) (place : ℕ) → rises list ≡ true
+    → parted id place list ≡ true
+    → ((d : MountId) → place < length list → same_id (get_or list place d) id ≡ false) → others id list ≡ list
+others-parted id [] place rising parted apart = refl
+others-parted id (x ∷ list) zero rising parted apart =
+    ap (λ b. cond (not b) (x ∷ others id list) (others id list)) (apart x (omega arith))
+    ∙ ap (λ rest. x ∷ rest)
+    (others-above id x list (above (not-true _ (and_true_left _ _ parted)) (apart x (omega arith)))
+    (and_true_left _ _ rising))
+  where
+    above : nat_lt x.count id.count ≡ false → nat_eq x.count id.count ≡ false → id.count < x.count
+    above least other = let least = ltb-false x.count id.count least in grind (arith, nat_tests, least)
+others-parted id (x ∷ list) (suc place) rising parted apart =
+    ap (λ b. cond (not b) (x ∷ others id list) (others id list)) (less x.count (and_true_left _ _ parted))
+    ∙ ap (λ rest. x ∷ rest)
+    (others-parted id list place (and_true_right _ _ rising) (and_true_right _ _ parted)
+    (λ d within. apart d (omega (arith, within))))
+  where
+    less : (n : ℕ) → nat_lt n id.count ≡ true → nat_eq n id.count ≡ false
+    less n is = let less = ltb-true n id.count is in grind (arith, nat_tests)
 
 -- a mount is not among those before it
 pub others-last : (id : MountId) (list : List MountId) → comes_last id list ≡ true → others id list ≡ list
@@ -191,30 +232,6 @@ others-last id (x ∷ list) last =
     apart n is = let less = ltb-true n id.count is in grind (arith, nat_tests)
 
 -- what searches answer, where the slice that they go over is the list
-
-pub found : (id : MountId) (slice list : List MountId) → slice ≡ list → (r : Result ℕ ℕ)
-    → IsSearchInRange r (length slice) → IsBinarySearchResult (λ other. nat_cmp other.count id.count) slice r
-    → IfOk r (IsAt id list)
-found id slice list is (Ok place) within at =
-    subst (λ list. IsAt id list place) is
-    (within, λ d. is_same (get_or slice place d).count (at d))
-  where
-    is_same : (n : ℕ) → nat_cmp n id.count ≡ Equal → nat_eq n id.count ≡ true
-    is_same n tie = let same = ranked n id.count Equal (sym tie) in grind (arith, nat_tests, same)
-found id slice list is (Err place) within at = tt
-
-pub missing : (id : MountId) (slice list : List MountId) → slice ≡ list → rises list ≡ true → (r : Result ℕ ℕ)
-    → IsBinarySearchResult (λ other. nat_cmp other.count id.count) slice r → IfErr r (λ _. others id list ≡ list)
-missing id slice list is rising (Ok place) at = tt
-missing id slice list is rising (Err place) at =
-    subst (λ list. others id list ≡ list) is
-    (others-parted id slice place (at (comparisons_rise (subst (λ list. rises list ≡ true) (sym is) rising))))
-  where
-    comparisons_rise : rises slice ≡ true
-        → IsNonDecreasingBy (λ other. ordering_index (nat_cmp other.count id.count)) slice
-    comparisons_rise rising i j d le within =
-        let le : (get_or slice i d).count ≤ (get_or slice j d).count = counts_rise slice rising i j d le within in
-        grind (arith, nat_tests)
 
 pub is_parted : (id : MountId) (slice list : List MountId) → slice ≡ list → rises list ≡ true
     → IsPartitionedBy (λ other. not (nat_lt id.count other.count)) slice
@@ -232,3 +249,19 @@ pub placed : (id : MountId) (slice list : List MountId) → slice ≡ list → (
     → insert list place id ≡ inserted id list
 placed id slice list is place within point =
     subst (λ list. insert list place id ≡ inserted id list) is (inserted-there id slice place within point.0 point.1)
+
+pub is_parted_below : (id : MountId) (slice list : List MountId) → slice ≡ list → rises list ≡ true
+    → IsPartitionedBy (λ other. nat_lt other.count id.count) slice
+is_parted_below id slice list is rising i j d le within passes =
+    let le : (get_or slice i d).count ≤ (get_or slice j d).count =
+    counts_rise slice (subst (λ list. rises list ≡ true) (sym is) rising) i j d le within in
+    lower _ _ le (ltb-true _ id.count passes)
+  where
+    lower : (m n : ℕ) → m ≤ n → n < id.count → nat_lt m id.count ≡ true
+    lower m n le most = grind (arith, nat_tests)
+
+pub parted_at : (id : MountId) (slice list : List MountId) → slice ≡ list → (place : ℕ)
+    → IsPartitionPoint (λ other. nat_lt other.count id.count ≡ true) (λ other. nat_lt other.count id.count ≡ false)
+    slice place → parted id place list ≡ true
+parted_at id slice list is place point =
+    subst (λ list. parted id place list ≡ true) is (parted-there id slice place point.0 point.1)

@@ -1,6 +1,6 @@
 -- What is written to one mount.
 use Rattle.std.proofs.Common.{◌≡◌, ℕ, ◌+◌, ◌-◌, nat_eq, arith, Bool, true, false, cond, List, map, None, Some, option_map, refl, sym, ap, ◌∙◌}
-use Rattle.std.specs.Prelude.{IsSome, is_some, nat_lt, unwrap_or, ◌&&◌, ◌∷◌, []}
+use Rattle.std.specs.Prelude.{IsSome, is_some, unwrap_or, ◌&&◌, ◌∷◌, []}
 use Rattle.std.specs.List.{list_all}
 use Rattle.std.specs.Map.{lookup}
 use Rattle.indexmap.specs.IndexMap.{IndexMap, WritesThrough, get_by}

@@ -1,5 +1,5 @@
 -- Mounts that get other mount points together.
-use Rattle.std.specs.Prelude.{Bool, List, None, Option, Some, [], nat_eq, nat_lt, option_map, option_to_list, true, unwrap_or, ℕ, ◌&&◌, ◌++◌, ◌∷◌, ◌^◌}
+use Rattle.std.specs.Prelude.{Bool, List, None, Option, Some, [], nat_eq, option_map, option_to_list, true, unwrap_or, ℕ, ◌&&◌, ◌++◌, ◌∷◌}
 use Rattle.vt_location.specs.declared.locations.Location.{Location}
 use Rattle.vt_location.specs.Locations.{is_small_node, location_of}
 use Rattle.vt_location.specs.Numbers.{counted}

@@ -1,5 +1,5 @@
 -- Mounts in the order of their numbers.
-use Rattle.std.specs.Prelude.{Bool, List, None, Option, Some, Vec, [], if◌then◌else◌, length, nat_eq, nat_lt, not, option_to_list, slice_index_or, true, vec_capacity, vec_len, ℕ, ◌&&◌, ◌+◌, ◌<◌, ◌∷◌, ◌≡◌, ◌≤◌}
+use Rattle.std.specs.Prelude.{Bool, List, None, Option, Some, Vec, [], if◌then◌else◌, length, nat_eq, nat_lt, not, option_to_list, true, vec_capacity, vec_len, ℕ, ◌&&◌, ◌+◌, ◌∷◌, ◌≤◌}
 use Rattle.std.specs.List.{list_all}
 use Rattle.vt_location.specs.declared.numbers.MountId.{MountId}
 
@@ -23,10 +23,6 @@ rises (id ∷ list) = none_below id list && rises list
 abbrev pub inserted : MountId → List MountId → List MountId
 inserted id [] = id ∷ []
 inserted id (other ∷ list) = if nat_lt id.count other.count then id ∷ other ∷ list else other ∷ inserted id list
-
--- a mount is at this place of a list
-abbrev pub IsAt : MountId → List MountId → ℕ → Type 0
-IsAt id list place = (place < length list) × ((d : MountId) → same_id (slice_index_or list place d) id ≡ true)
 
 -- the mounts that are held: a single one in its place, or a list
 unfoldable pub held : {A : Type 0} → Option MountId → Option (Vec MountId A) → List MountId

@@ -1,8 +1,8 @@
 //! Mounts in the order of their numbers.
 #![tactic(auto, unfolding(crate::specs::Rising::held))]
 
-ghost use Rattle.std.specs.Prelude.{None, Some, ◌≡◌, ◌==◌, ◌+◌, ◌<◌, ◌≤◌, [], IfErr, IfOk, IsTrue, OnOk, filter, length, not, option_to_list, true, vec_capacity, vec_len};
-ghost use Rattle.vt_mount.specs.Rising.{HasRoom, IsAt, held, inserted, rises, same_id};
+ghost use Rattle.std.specs.Prelude.{None, Some, ◌≡◌, ◌==◌, ◌+◌, ◌<◌, ◌≤◌, [], IfOk, IsTrue, OnOk, filter, length, not, option_to_list, true, vec_capacity, vec_len};
+ghost use Rattle.vt_mount.specs.Rising.{HasRoom, held, inserted, rises, same_id};
 
 use std::alloc::{AllocError, Global};
 use vt_location::MountId;
@@ -158,16 +158,8 @@ fn remove_from(ids: &mut Vec<MountId>, mount: MountId)
     ensures len { vec_len ids.new ≤ vec_len ids.old }
     ensures capacity { vec_capacity ids.old ≤ vec_capacity ids.new }
 {
-    while let Ok(place) = find(ids, mount) {
+    let place = ids.partition_point(|other| other.count < mount.count);
+    while place < ids.len() && ids[place] == mount {
         ids.remove(place);
     }
-}
-
-// Where a mount is in a list, or where it would be.
-fn find(ids: &[MountId], mount: MountId) -> Result<usize, usize>
-    requires { rises ids.now ≡ true }
-    ensures found { IfOk result (IsAt mount ids.now) }
-    ensures missing { IfErr result (λ _. filter (λ other. not (same_id other mount)) ids.now ≡ ids.now) }
-{
-    ids.binary_search_by_key(&mount.count, |other| other.count)
 }

@@ -118,13 +118,24 @@ absent_removed count (entry ∷ overlays) none =
     by false none later = ap (λ l. entry ∷ l) (later none)
 
 -- those that are left stand still where their layers' trees are as they were
+stand_still : (old new : StoreValue) → All (StandsOnLayers old.plain) new.overlays
+    → All (λ (entry : OverlayEntry). All (IsSameTree old.plain new.plain) entry.overlay.lowers) new.overlays
+    → StandOnLayers new
+stand_still old new standing same place default within =
+    overlays_stand_still old.plain new.plain (get_or new.overlays place default) (standing place default within)
+    (same place default within)
+
 pub stand_without : (count : ℕ) (old new : StoreValue) → new.overlays ≡ without_overlay count old.overlays
     → StandOnLayers old
     → All (λ (entry : OverlayEntry). All (IsSameTree old.plain new.plain) entry.overlay.lowers) new.overlays
     → StandOnLayers new
-stand_without count old new overlays standing same place default within =
-    overlays_stand_still old.plain new.plain (get_or new.overlays place default)
-    (subst (All (StandsOnLayers old.plain)) (sym overlays)
+stand_without count old new overlays standing =
+    stand_still old new (subst (All (StandsOnLayers old.plain)) (sym overlays)
     (All-filter (λ (entry : OverlayEntry). not (nat_eq count entry.count)) (StandsOnLayers old.plain) old.overlays
-    standing) place default within)
-    (same place default within)
+    standing))
+
+pub stand_all : (old new : StoreValue) → new.overlays ≡ old.overlays → StandOnLayers old
+    → All (λ (entry : OverlayEntry). All (IsSameTree old.plain new.plain) entry.overlay.lowers) new.overlays
+    → StandOnLayers new
+stand_all old new overlays standing =
+    stand_still old new (subst (All (StandsOnLayers old.plain)) (sym overlays) standing)

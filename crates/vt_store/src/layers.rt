@@ -19,7 +19,7 @@ use vt_merge::LayerRef;
 
 impl Store {
     /// Makes an overlay of these lower layers, the highest first, which no mount shows yet. Each layer pins its
-    /// directory, and counts as a mount of its filesystem. The number of the overlay is above those of all others.
+    /// directory, and counts as a mount of its filesystem. The number is above those of all other overlays.
     ///
     /// It fails too where a directory or a filesystem has nearly 2^64 uses.
     pub fn add_overlay(

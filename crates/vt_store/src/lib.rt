@@ -4,6 +4,7 @@
 mod counting;
 mod laws;
 mod layers;
+mod leaving;
 mod looking;
 mod overlays;
 mod paths;

@@ -1,4 +1,4 @@
-use Rattle.std.proofs.Common.{ap, cond, is_some, option_map, refl, sym, unwrap_or, ◌∙◌, None, Some, []}
+use Rattle.std.proofs.Common.{ap, cond, is_some, option_map, sym, unwrap_or, ◌∙◌, None, Some, []}
 use Rattle.std.specs.List.{list_any}
 use Rattle.std.specs.Option.{option_copied_mut}
 use Rattle.vt_location.specs.declared.numbers.MountId.{MountId}

@@ -21,7 +21,7 @@ pub returns-in_ok-insert-in-None-clause-kept : goal.returns-in_ok-insert-in-None
 returns-in_ok-insert-in-None-clause-kept g c at other there =
     let none = sym c.get_mut.ensures.value ∙ ap option_copied_mut c.in-None.is in
     let new : Sets g.row.T.Denot = record { sets = c.insert-in-None.new.self } in
-    let one : Set g.row.T.Denot = Set.Few (Some c.args.one) in
+    let one : Set g.row.T.Denot = Set.One (Some c.args.one) in
     has-onto g.T.PartialEq.eq c.args.self.now new c.args.group [] (c.args.one ∷ [])
     (kept-written g.T.PartialEq.eq c.args.self.now new c.args.group (Some one)
     (λ at. c.in_ok-insert-in-None.ensures.updates.0 at
