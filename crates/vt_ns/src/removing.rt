@@ -30,13 +30,14 @@ impl World {
     {
         let directory = removed.directory.node;
         let gone = trees_on(&self.mounts, directory, self.alloc)?;
-        self.filesystems
+        self.store
+            .plain_mut()
             .unlink(removed.parent.node, removed.name.as_slice(), directory);
         if !gone.is_empty() {
             detach_together(
                 &mut self.mounts,
                 &mut self.groups,
-                &mut self.filesystems,
+                &mut self.store,
                 &gone,
             );
         }

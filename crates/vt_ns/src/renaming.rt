@@ -33,13 +33,14 @@ impl World {
             replaced,
         } = renamed;
         let gone = trees_replaced(&self.mounts, replaced, self.alloc)?;
-        self.filesystems
+        self.store
+            .plain_mut()
             .rename(from.node, old.as_slice(), to.node, new, object.node)?;
         if !gone.is_empty() {
             detach_together(
                 &mut self.mounts,
                 &mut self.groups,
-                &mut self.filesystems,
+                &mut self.store,
                 &gone,
             );
         }
