@@ -32,7 +32,7 @@ impl World {
         ensures err { OnErr result (self.new ≡ self.old) }
     {
         let root = namespace_root(&self.mounts, namespace).unwrap();
-        if !has_room(2, &self.mounts, self.store.plain(), root)
+        if !has_room(2, &self.mounts, &self.store, root)
             || !has_room_for_task(&self.namespaces, namespace)
         {
             return Err(AllocError);

@@ -82,12 +82,13 @@ impl World {
         ensures ok { OnOk result (Becomes self.old name.now (write_permit (Part part)) self.new) }
         ensures err { OnErr result (self.new ≡ self.old) }
     {
-        let filesystems = self.store.plain_mut();
         let bytes = part.bytes.as_slice();
         if bytes.is_empty() {
             return Ok(());
         }
-        filesystems.write_at(part.file.node, part.offset, bytes)
+        self.store
+            .plain_mut()
+            .write_at(part.file.node, part.offset, bytes)
     }
 
     /// Makes an inode under a name of a directory: mkdir(2), symlink(2), mknod(2).

@@ -15,7 +15,6 @@ use indexmap::IndexMap;
 use std::alloc::AllocError;
 use vt_cred::Cred;
 use vt_detach::uses::hold;
-use vt_fs::Filesystems;
 use vt_location::{Location, NamespaceId};
 use vt_mount::Mounts;
 use vt_request::TaskName;
@@ -35,8 +34,8 @@ impl World {
     {
         let parent = self.tasks.get(name).unwrap();
         let (namespace, root, directory) = (parent.namespace, parent.root, parent.directory);
-        if !has_room(2, &self.mounts, self.store.plain(), root)
-            || !has_room(2, &self.mounts, self.store.plain(), directory)
+        if !has_room(2, &self.mounts, &self.store, root)
+            || !has_room(2, &self.mounts, &self.store, directory)
             || !has_room_for_task(&self.namespaces, namespace)
         {
             return Err(AllocError);
@@ -50,12 +49,12 @@ impl World {
 }
 
 // Whether so many more uses of a location may be counted.
-pub(crate) fn has_room(more: u64, mounts: &Mounts, filesystems: &Filesystems, at: Location) -> bool
-    ensures { (result ≡ true) ↔ HasRoom more at mounts.now filesystems.now }
+pub(crate) fn has_room(more: u64, mounts: &Mounts, store: &Store, at: Location) -> bool
+    ensures { (result ≡ true) ↔ HasRoom more at mounts.now store.now.plain }
 {
     mounts.uses(at.mount) <= u64::MAX - more
         && mounts.writers(at.mount) < u64::MAX
-        && filesystems.uses(at.node) <= u64::MAX - more
+        && store.plain().uses(at.node) <= u64::MAX - more
 }
 
 // One use more of a location, for which there is room. It does not allocate.

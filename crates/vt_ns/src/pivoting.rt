@@ -41,7 +41,7 @@ impl World {
         let left = root.root_location();
         let entered = new_root.root_location();
         let moved = self.tasks.places_at(namespace, left);
-        if !has_room(moved + 1, &self.mounts, self.store.plain(), entered)
+        if !has_room(moved + 1, &self.mounts, &self.store, entered)
             || self.store.plain().uses(put.node) == u64::MAX
         {
             return Err(AllocError);

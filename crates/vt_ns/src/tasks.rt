@@ -102,7 +102,7 @@ impl World {
         ensures ok { OnOk result (Becomes self.old name.now (ToOpen (location_of file) (access_of access)) self.new) }
         ensures err { OnErr result (self.new ≡ self.old) }
     {
-        if !has_room(1, &self.mounts, self.store.plain(), file) {
+        if !has_room(1, &self.mounts, &self.store, file) {
             return Err(AllocError);
         }
         let opened = OpenFile {

@@ -18,7 +18,7 @@ use Rattle.vt_tasks.specs.declared.descriptors.OpenFile.{OpenFile}
 use Rattle.vt_detach.specs.Detached.{LeaveInTurn, LeaveTogether}
 use Rattle.vt_detach.specs.NamespacesLeft.{AreDetached, Detached, EndsIf, MountsAreLeft, NamespaceIsLeft, has_one_task, without_file}
 use Rattle.vt_detach.specs.Stored.{kept, merged_of}
-use Rattle.vt_detach.specs.Uses.{Kept, Merged, detached_use, inode_of, is_unused, kept_of, leave_filesystem, let_go_entry, let_go_mount, merged_at, merged_by, merged_left_by, merged_seen, released_use, without_attachment, without_location, without_mount}
+use Rattle.vt_detach.specs.Uses.{Kept, Merged, detached_use, inode_of, is_unused, kept_of, leave_filesystem, let_go_entry, let_go_mount, merged_at, merged_by, merged_left_by, merged_seen, overlays_kept, released_use, without_attachment, without_location, without_mount}
 use Rattle.vt_world.specs.Held.{IsHeld}
 use Rattle.vt_world.specs.StoredWorld.{overlay_of_store, overlays_of_store, with_store}
 use Rattle.vt_world.specs.WorldValue.{NamespaceEntry, WorldValue}
@@ -133,3 +133,9 @@ pub plain_changed : (P : WorldValue → Type 0) (base : WorldValue) (store : Sto
 plain_changed P base store held plain is =
     held_stored P (with_store store base) held (record (with_store store base) { filesystems = plain })
     (record store { plain = plain }) refl (none_there base store held) is
+
+-- no overlays stay with the mounts that are counted of them
+pub kept_still : (value : WorldValue) → IsHeld value → (overlays : List Merged)
+    → overlays_kept overlays value.overlays ≡ value.overlays
+kept_still value whole overlays =
+    subst (λ all. overlays_kept overlays all ≡ all) (sym whole.overlays.none_yet) refl
