@@ -1,5 +1,5 @@
 -- The store of a world. Nothing makes an overlay yet, so it keeps none, after each event, too.
-use Rattle.std.proofs.Common.{◌≡◌, refl, sym, ap, subst, ◌∙◌, ℕ, Bool, true, false, cond, fold, List, [], ◌∷◌, map, Option, Some, None}
+use Rattle.std.proofs.Common.{◌≡◌, refl, sym, ap, subst, ◌∙◌, ℕ, zero, suc, Bool, true, false, cond, fold, List, [], ◌∷◌, map, Option, Some, None}
 use Rattle.vt_spec.specs.Language.Calls.{TaskName}
 use Rattle.vt_spec.specs.Lists.{folded}
 use Rattle.vt_spec.specs.Machine.Permits.{Permit}
@@ -23,6 +23,7 @@ use Rattle.vt_world.specs.Held.{IsHeld}
 use Rattle.vt_world.specs.StoredWorld.{overlay_of_store, overlays_of_store, with_store}
 use Rattle.vt_world.specs.WorldValue.{NamespaceEntry, WorldValue}
 use Rattle.vt_detach.proofs.Staying.{IsDone}
+use Rattle.vt_ns.specs.Pivoting.{with_uses, without_uses}
 
 -- what a store keeps is what its world has
 pub kept_is : (base : WorldValue) (store : StoreValue) → kept base.mounts store ≡ kept_of (with_store store base)
@@ -139,3 +140,12 @@ pub kept_still : (value : WorldValue) → IsHeld value → (overlays : List Merg
     → overlays_kept overlays value.overlays ≡ value.overlays
 kept_still value whole overlays =
     subst (λ all. overlays_kept overlays all ≡ all) (sym whole.overlays.none_yet) refl
+
+-- uses of locations change no overlays
+pub none_with_uses : (n : ℕ) (at : Location) (k : Kept) → (with_uses n at k).overlays ≡ k.overlays
+none_with_uses zero at k = refl
+none_with_uses (suc n) at k = none_with_uses n at k
+
+pub none_without_uses : (n : ℕ) (at : Location) (k : Kept) → (without_uses n at k).overlays ≡ k.overlays
+none_without_uses zero at k = refl
+none_without_uses (suc n) at k = none_without_uses n at k
