@@ -3,6 +3,7 @@ use Rattle.std.proofs.Common.{◌≡◌, refl, sym, ap, subst, ◌∙◌, ℕ, z
 use Rattle.vt_spec.specs.Language.Calls.{TaskName}
 use Rattle.vt_spec.specs.Lists.{folded}
 use Rattle.vt_spec.specs.Machine.Permits.{Permit}
+use Rattle.vt_spec.specs.Machine.World.{Layer}
 use Rattle.vt_spec.proofs.Lists.{map_alike, map_twice}
 use Rattle.vt_fs.specs.FilesystemsValue.{Filesystems}
 use Rattle.vt_group.specs.Grouping.{Grouping}
@@ -10,7 +11,7 @@ use Rattle.vt_location.specs.declared.locations.Location.{Location}
 use Rattle.vt_location.specs.declared.mounts.Mount.{Mount as Attached}
 use Rattle.vt_location.specs.Numbers.{counted}
 use Rattle.vt_merge.specs.declared.layers.LayerRef.{LayerRef}
-use Rattle.vt_mount.specs.MountsValue.{MountEntry}
+use Rattle.vt_mount.specs.MountsValue.{MountEntry, entry_numbered}
 use Rattle.vt_overlay.specs.MergedTree.{layer_seen}
 use Rattle.vt_store.specs.OverlaysValue as stored
 use Rattle.vt_store.specs.StoreValue.{StoreValue}
@@ -33,7 +34,7 @@ kept_is base store = λ i. record (kept base.mounts store) { overlays = overlays
     overlays_are =
         map_alike merged_of (λ entry. merged_seen (overlay_of_store store.plain entry)) store.overlays
         (λ entry m. ap (λ layers. record (merged_of entry) { layers = layers })
-        (sym (map_twice (λ layer. (layer.filesystem, layer.directory)) layer_seen entry.overlay.lowers)))
+        (sym (map_twice (λ (layer : Layer ℕ). (layer.filesystem, layer.directory)) layer_seen entry.overlay.lowers)))
         ∙ sym (map_twice merged_seen (overlay_of_store store.plain) store.overlays)
 
 -- a world that holds a store keeps no overlay
@@ -55,15 +56,16 @@ none_of_entry number k none (Some entry) = by (is_unused entry)
     by false = none
 
 pub none_go : (number : ℕ) (k : Kept) → k.overlays ≡ [] → (let_go_mount number k).overlays ≡ []
-none_go number k none = none_of_entry number k none _
+none_go number k none = none_of_entry number k none (entry_numbered k.mounts number)
 
 pub none_without : (at : Location) (writes : Bool) (k : Kept) → k.overlays ≡ []
     → (without_location at writes k).overlays ≡ []
-none_without at writes k none = none_of_entry (counted at.mount.count) (released_use (counted at.mount.count) (inode_of at.node) writes k) none _
+none_without at writes k none =
+    none_go (counted at.mount.count) (released_use (counted at.mount.count) (inode_of at.node) writes k) none
 
 pub none_detached : (number : ℕ) (point : Option Location) (k : Kept) → k.overlays ≡ []
     → (without_attachment number point k).overlays ≡ []
-none_detached number point k none = none_of_entry number (detached_use number point k) none _
+none_detached number point k none = none_go number (detached_use number point k) none
 
 pub none_with_files : (files : List OpenFile) (k : Kept) → k.overlays ≡ [] → (fold without_file k files).overlays ≡ []
 none_with_files [] k none = none
@@ -77,7 +79,8 @@ none_in_turn (number ∷ rest) k last none turn =
 
 pub none_together : (gone : List ℕ) (old : Kept) (before : Grouping) (new : Kept) (now : Grouping) → old.overlays ≡ []
     → LeaveTogether gone old before new now → new.overlays ≡ []
-none_together gone old before new now none together = none_in_turn gone old _ none together.turn
+none_together gone old before new now none together = none_in_turn gone old
+    (record new { mounts = together.entries }) none together.turn
 
 none_each : (namespace : ℕ) (gone : List Detached) (old new : Kept) → old.overlays ≡ []
     → AreDetached namespace gone old new → new.overlays ≡ []
@@ -92,7 +95,7 @@ none_left namespace None old before new now none are = ap (λ (one : Kept). one.
 none_left namespace (Some entry) old before new now none are = by (has_one_task entry) are
   where
     by : (b : Bool) → EndsIf b namespace old before new now → new.overlays ≡ []
-    by true is = none_each namespace is.ends.gone old _ none is.ends.detached
+    by true is = none_each namespace is.ends.gone old (record new { mounts = is.entries }) none is.ends.detached
     by false is = ap (λ (one : Kept). one.overlays) is.0 ∙ none
 
 pub none_attached : (copies : List Attached) (all : List Merged) → all ≡ [] → folded merged_by all copies ≡ []

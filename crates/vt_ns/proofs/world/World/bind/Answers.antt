@@ -86,7 +86,7 @@ invariant_of-self-2 c =
     ≡ value.next + 2 * (length c.deref.result.now * length c.deref-2.result.now) =
     ap (λ n. c.self.inside.next + n) (c.in-Some.ensures.count ∙ (λ i. 2 * (one i * two i))) in
     held_stored IsHeld
-    (the_view c.self.inside) c.self.invariant _ c.attach_graft.new.store (kept_still (the_view c.self.inside) c.self.invariant _)
+    (the_view c.self.inside) c.self.invariant _ c.attach_graft.new.store (kept_still (the_view c.self.inside) c.self.invariant (map merged_of c.attach_graft.new.store.overlays))
     (ap (λ (k : Kept). k.overlays) (subst (λ k. IsGrafted graft counts k c.self.inside.groups (kept c.attach_graft.new.mounts c.attach_graft.new.store) c.attach_graft.new.groups)
     (kept_is (the_view c.self.inside) c.self.inside.store) c.in_ok-attach_graft.ensures.ok).done
     ∙ none_attached (subst (λ k. IsGrafted graft counts k c.self.inside.groups (kept c.attach_graft.new.mounts c.attach_graft.new.store) c.attach_graft.new.groups)
@@ -126,7 +126,8 @@ returns-clause-ok c =
     (c.self.inside.next + c.in-Some.taken)) { overlays = overlays_of_store c.attach_graft.new.store }))
     c.self.view_is
     (held_stored (λ new. Becomes (the_view c.self.inside) c.args.name.now (attachment_permit (Bind c.args.bind)) new)
-    (the_view c.self.inside) c.self.invariant _ c.attach_graft.new.store (kept_still (the_view c.self.inside) c.self.invariant _)
+    (the_view c.self.inside) c.self.invariant (grafted_value (the_view c.self.inside) c.attach_graft.new.mounts c.attach_graft.new.groups c.attach_graft.new.store.plain (map merged_of c.attach_graft.new.store.overlays)
+    (c.self.inside.next + c.in-Some.taken)) c.attach_graft.new.store (kept_still (the_view c.self.inside) c.self.invariant (map merged_of c.attach_graft.new.store.overlays))
     (ap (λ (k : Kept). k.overlays) (subst (λ k. IsGrafted graft counts k c.self.inside.groups (kept c.attach_graft.new.mounts c.attach_graft.new.store) c.attach_graft.new.groups)
     (kept_is (the_view c.self.inside) c.self.inside.store) c.in_ok-attach_graft.ensures.ok).done
     ∙ none_attached (subst (λ k. IsGrafted graft counts k c.self.inside.groups (kept c.attach_graft.new.mounts c.attach_graft.new.store) c.attach_graft.new.groups)

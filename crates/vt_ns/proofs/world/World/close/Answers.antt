@@ -39,7 +39,7 @@ returns-in-Some c =
       overlays = overlays_of_store c.leave.new.store;
     })) c.self.view_is
     (held_stored (λ new. Becomes (the_view c.self.inside) c.args.name.now (ToClose c.args.descriptor) new)
-    (the_view c.self.inside) c.self.invariant _ c.leave.new.store refl
+    (the_view c.self.inside) c.self.invariant (remade (the_view c.self.inside) c.leave.new.mounts c.leave.new.store.plain c.close.new.self) c.leave.new.store refl
     (ap (λ (k : Kept). k.overlays) (c.leave.ensures.left
     ∙ (λ i. without_location c.in-Some.closed.location (c.writes.ensures i) (kept_is (the_view c.self.inside) c.self.inside.store i)))
     ∙ none_without c.in-Some.closed.location _ (kept_of (the_view c.self.inside)) (none_kept (the_view c.self.inside) c.self.invariant))

@@ -84,7 +84,7 @@ returns-in-Some-clause-ok c =
     subst (λ value. Becomes value c.args.name.now
     (ToEnterNamespace (counted c.args.namespace.count)) new) c.self.view_is
     (held_stored (λ new. Becomes (the_view c.self.inside) c.args.name.now (ToEnterNamespace (counted c.args.namespace.count)) new)
-    (the_view c.self.inside) c.self.invariant _ c.leave_namespace.new.store refl
+    (the_view c.self.inside) c.self.invariant (record new { overlays = (the_view c.self.inside).overlays }) c.leave_namespace.new.store refl
     (none_left (counted left.namespace.count) _ (kept c.leave-in-Some.new.mounts c.leave-in-Some.new.store) c.self.inside.groups
     (kept c.leave_namespace.new.mounts c.leave_namespace.new.store) c.leave_namespace.new.groups
     (ap (λ (k : Kept). k.overlays) (c.leave-in-Some.ensures.left ∙ ap (without_location left.directory false)

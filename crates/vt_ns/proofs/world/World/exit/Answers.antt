@@ -62,7 +62,7 @@ returns c =
     } in
     subst (λ value. Becomes value c.args.name.now ToExit new) c.self.view_is
     (held_stored (λ new. Becomes (the_view c.self.inside) c.args.name.now ToExit new)
-    (the_view c.self.inside) c.self.invariant _ c.leave_namespace.new.store refl
+    (the_view c.self.inside) c.self.invariant (record new { overlays = (the_view c.self.inside).overlays }) c.leave_namespace.new.store refl
     (none_left (counted c.in-Some.task.namespace.count) (namespace_entry c.in-Some.task.namespace.count (entries_of c.self.inside.namespaces.entries))
     (kept c.leave_files.new.mounts c.leave_files.new.store) c.self.inside.groups
     (kept c.leave_namespace.new.mounts c.leave_namespace.new.store) c.leave_namespace.new.groups

@@ -52,7 +52,8 @@ returns-clause-ok c =
     (record (remade_in (the_view c.self.inside) c.hold_once_more-2.new.mounts c.hold_once_more-2.new.store.plain
     (entries_of c.count_task.new.namespaces.entries) c.fork.new.self) { overlays = overlays_of_store c.hold_once_more-2.new.store })) c.self.view_is
     (held_stored (λ new. Becomes (the_view c.self.inside) c.args.name.now (ToFork c.args.cred) new)
-    (the_view c.self.inside) c.self.invariant _ c.hold_once_more-2.new.store refl
+    (the_view c.self.inside) c.self.invariant (remade_in (the_view c.self.inside) c.hold_once_more-2.new.mounts c.hold_once_more-2.new.store.plain
+    (entries_of c.count_task.new.namespaces.entries) c.fork.new.self) c.hold_once_more-2.new.store refl
     (ap (λ (k : Kept). k.overlays) (c.hold_once_more-2.ensures.held
     ∙ ap (with_location c.unwrap-parent.result.now.directory false)
     (c.hold_once_more.ensures.held ∙ ap (with_location c.unwrap-parent.result.now.root false) (kept_is (the_view c.self.inside) c.self.inside.store))) ∙ (none_kept (the_view c.self.inside) c.self.invariant))

@@ -94,7 +94,7 @@ invariant_of-self-2 c =
     ap (λ n. c.self.inside.next + n) (c.in-Some.ensures.count ∙ (λ i. 2 * (one i * 2))) in
     let made = c.in_ok-mount_new.ensures.ok in
     held_stored IsHeld
-    (the_view c.self.inside) c.self.invariant _ c.mount_new.new.store (kept_still (the_view c.self.inside) c.self.invariant _)
+    (the_view c.self.inside) c.self.invariant _ c.mount_new.new.store (kept_still (the_view c.self.inside) c.self.invariant (map merged_of c.mount_new.new.store.overlays))
     (ap (λ (k : Kept). k.overlays) (subst (λ k. IsGrafted graft counts k c.self.inside.groups (kept c.mount_new.new.mounts c.mount_new.new.store) c.mount_new.new.groups)
     (λ i. kept_with c.self.inside.mounts (c.self.inside.store.plain ++ made.0 ∷ []) (kept_is (the_view c.self.inside) c.self.inside.store i).overlays) made.2).done
     ∙ none_attached _ (kept_of (the_view c.self.inside)).overlays (none_kept (the_view c.self.inside) c.self.invariant))
@@ -139,7 +139,8 @@ returns-clause-ok c =
     (c.self.inside.next + c.in-Some.taken)) { overlays = overlays_of_store c.mount_new.new.store }))
     c.self.view_is
     (held_stored (λ new. Becomes (the_view c.self.inside) c.args.name.now (ToMountPlain (location_of c.args.place) (flags_of c.args.flags)) new)
-    (the_view c.self.inside) c.self.invariant _ c.mount_new.new.store (kept_still (the_view c.self.inside) c.self.invariant _)
+    (the_view c.self.inside) c.self.invariant (grafted_value (the_view c.self.inside) c.mount_new.new.mounts c.mount_new.new.groups c.mount_new.new.store.plain (map merged_of c.mount_new.new.store.overlays)
+    (c.self.inside.next + c.in-Some.taken)) c.mount_new.new.store (kept_still (the_view c.self.inside) c.self.invariant (map merged_of c.mount_new.new.store.overlays))
     (ap (λ (k : Kept). k.overlays) (subst (λ k. IsGrafted graft counts k c.self.inside.groups (kept c.mount_new.new.mounts c.mount_new.new.store) c.mount_new.new.groups)
     (λ i. kept_with c.self.inside.mounts (c.self.inside.store.plain ++ made.0 ∷ []) (kept_is (the_view c.self.inside) c.self.inside.store i).overlays) made.2).done
     ∙ none_attached _ (kept_of (the_view c.self.inside)).overlays (none_kept (the_view c.self.inside) c.self.invariant))

@@ -101,7 +101,7 @@ returns-in-Some-clause-ok c =
       overlays = overlays_of_store (record c.self.inside.store { plain = c.unpin.new.self });
     })) c.self.view_is
     (held_stored (λ new. Becomes (the_view c.self.inside) c.args.name.now (ToMove (counted c.args.mount.count) (location_of c.args.place)) new)
-    (the_view c.self.inside) c.self.invariant _ (record c.self.inside.store { plain = c.unpin.new.self }) refl
+    (the_view c.self.inside) c.self.invariant (remade (the_view c.self.inside) c.move_to.new.self c.unpin.new.self c.self.inside.tasks) (record c.self.inside.store { plain = c.unpin.new.self }) refl
     (none_there (the_view c.self.inside) c.self.inside.store c.self.invariant)
     (subst (λ mounts. IsDone (the_view c.self.inside) c.args.name.now
     (ToMove (counted c.args.mount.count) (location_of c.args.place))
@@ -138,7 +138,7 @@ returns-in_default-clause-ok c =
       overlays = overlays_of_store (record c.self.inside.store { plain = c.pin.new.self });
     })) c.self.view_is
     (held_stored (λ new. Becomes (the_view c.self.inside) c.args.name.now (ToMove (counted c.args.mount.count) (location_of c.args.place)) new)
-    (the_view c.self.inside) c.self.invariant _ (record c.self.inside.store { plain = c.pin.new.self }) refl
+    (the_view c.self.inside) c.self.invariant (remade (the_view c.self.inside) c.move_to.new.self c.pin.new.self c.self.inside.tasks) (record c.self.inside.store { plain = c.pin.new.self }) refl
     (none_there (the_view c.self.inside) c.self.inside.store c.self.invariant)
     (subst (λ mounts. IsDone (the_view c.self.inside) c.args.name.now
     (ToMove (counted c.args.mount.count) (location_of c.args.place))

@@ -106,7 +106,7 @@ invariant_of-self-2 c =
     ≡ value.next + 2 * (length c.deref.result.now * length c.deref-2.result.now) =
     ap (λ n. c.self.inside.next + n) (c.in-Some.ensures.count ∙ (λ i. 2 * (one i * two i))) in
     held_stored IsHeld
-    (the_view c.self.inside) c.self.invariant _ c.move_tree.new.store (kept_still (the_view c.self.inside) c.self.invariant _)
+    (the_view c.self.inside) c.self.invariant _ c.move_tree.new.store (kept_still (the_view c.self.inside) c.self.invariant (map merged_of c.move_tree.new.store.overlays))
     (ap (λ (k : Kept). k.overlays) (subst (λ k. IsMovedBy graft counts k c.self.inside.groups (kept c.move_tree.new.mounts c.move_tree.new.store) c.move_tree.new.groups)
     (kept_is (the_view c.self.inside) c.self.inside.store) c.in_ok-move_tree.ensures.ok).done
     ∙ none_attached _ (kept_of (the_view c.self.inside)).overlays (none_kept (the_view c.self.inside) c.self.invariant))
@@ -156,7 +156,8 @@ returns-clause-ok c =
     (c.self.inside.next + c.in-Some.taken)) { overlays = overlays_of_store c.move_tree.new.store }))
     c.self.view_is
     (held_stored (λ new. Becomes (the_view c.self.inside) c.args.name.now (ToMove (counted c.args.mount.count) (location_of c.args.place)) new)
-    (the_view c.self.inside) c.self.invariant _ c.move_tree.new.store (kept_still (the_view c.self.inside) c.self.invariant _)
+    (the_view c.self.inside) c.self.invariant (grafted_value (the_view c.self.inside) c.move_tree.new.mounts c.move_tree.new.groups c.move_tree.new.store.plain (map merged_of c.move_tree.new.store.overlays)
+    (c.self.inside.next + c.in-Some.taken)) c.move_tree.new.store (kept_still (the_view c.self.inside) c.self.invariant (map merged_of c.move_tree.new.store.overlays))
     (ap (λ (k : Kept). k.overlays) (subst (λ k. IsMovedBy graft counts k c.self.inside.groups (kept c.move_tree.new.mounts c.move_tree.new.store) c.move_tree.new.groups)
     (kept_is (the_view c.self.inside) c.self.inside.store) c.in_ok-move_tree.ensures.ok).done
     ∙ none_attached _ (kept_of (the_view c.self.inside)).overlays (none_kept (the_view c.self.inside) c.self.invariant))

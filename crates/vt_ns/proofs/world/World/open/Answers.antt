@@ -44,7 +44,7 @@ returns-clause-ok c =
       overlays = overlays_of_store c.hold_once_more.new.store;
     })) c.self.view_is
     (held_stored (λ new. Becomes (the_view c.self.inside) c.args.name.now (ToOpen (location_of c.args.file) (access_of c.args.access)) new)
-    (the_view c.self.inside) c.self.invariant _ c.hold_once_more.new.store refl
+    (the_view c.self.inside) c.self.invariant (remade (the_view c.self.inside) c.hold_once_more.new.mounts c.hold_once_more.new.store.plain c.open.new.self) c.hold_once_more.new.store refl
     (ap (λ (k : Kept). k.overlays) (c.hold_once_more.ensures.held
     ∙ (λ i. with_location c.args.file (c.writes.ensures i) (kept_is (the_view c.self.inside) c.self.inside.store i))) ∙ (none_kept (the_view c.self.inside) c.self.invariant))
     (file_is_opened (the_view c.self.inside) c.args.name.now

@@ -145,7 +145,8 @@ returns-clause-ok c =
       overlays = overlays_of_store (record c.self.inside.store { plain = c.pin.new.self });
     })) c.self.view_is
     (held_stored (λ new. Becomes (the_view c.self.inside) c.args.name.now (descriptor_permit (OpenNew c.args.new)) new)
-    (the_view c.self.inside) c.self.invariant _ (record c.self.inside.store { plain = c.pin.new.self }) refl
+    (the_view c.self.inside) c.self.invariant (remade (with_filesystems (the_view c.self.inside) c.open_next.new.filesystems) c.hold.new.self c.pin.new.self
+    c.open_next.new.tasks) (record c.self.inside.store { plain = c.pin.new.self }) refl
     (none_there (the_view c.self.inside) c.self.inside.store c.self.invariant)
     (new_opens (the_view c.self.inside) c.self.invariant c.args.name.now c.args.new.directory c.args.new.name.items c.args.new.node
     (access_of c.args.new.access) (omega arith)

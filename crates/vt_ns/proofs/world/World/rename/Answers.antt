@@ -116,7 +116,7 @@ returns-clause-ok c = elim c.if-not-is_empty.branch [
         groups = w.detach_together.new.groups;
         overlays = overlays_of_store w.detach_together.new.store;
       })) c.self.view_is
-      (held_stored (λ new. Becomes (the_view c.self.inside) c.args.name.now (remove_permit (Rename c.args.renamed)) new) (the_view c.self.inside) c.self.invariant _ w.detach_together.new.store refl
+      (held_stored (λ new. Becomes (the_view c.self.inside) c.args.name.now (remove_permit (Rename c.args.renamed)) new) (the_view c.self.inside) c.self.invariant (record (remade (the_view c.self.inside) w.detach_together.new.mounts w.detach_together.new.store.plain (the_view c.self.inside).tasks) { groups = w.detach_together.new.groups }) w.detach_together.new.store refl
       (none_together _ (kept_of (with_filesystems (the_view c.self.inside) c.rename.new.self)) c.self.inside.groups (kept w.detach_together.new.mounts w.detach_together.new.store)
       w.detach_together.new.groups (none_kept (the_view c.self.inside) c.self.invariant) (subst (λ k. LeaveTogether _ k c.self.inside.groups (kept w.detach_together.new.mounts w.detach_together.new.store) w.detach_together.new.groups)
       (λ i. kept_with c.self.inside.mounts c.rename.new.self (kept_is (the_view c.self.inside) c.self.inside.store i).overlays)

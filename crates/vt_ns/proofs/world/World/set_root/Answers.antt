@@ -36,7 +36,7 @@ returns-in-Some-clause-ok c =
       overlays = overlays_of_store c.leave.new.store;
     })) c.self.view_is
     (held_stored (λ new. Becomes (the_view c.self.inside) c.args.name.now (ToSetRoot (location_of c.args.root)) new)
-    (the_view c.self.inside) c.self.invariant _ c.leave.new.store refl
+    (the_view c.self.inside) c.self.invariant (remade (the_view c.self.inside) c.leave.new.mounts c.leave.new.store.plain c.set_root.new.self) c.leave.new.store refl
     (ap (λ (k : Kept). k.overlays) (c.leave.ensures.left ∙ ap (without_location c.in-Some.left false)
     (c.in_ok-hold.ensures.ok ∙ ap (with_location c.args.root false) (kept_is (the_view c.self.inside) c.self.inside.store)))
     ∙ none_without c.in-Some.left false (with_location c.args.root false (kept_of (the_view c.self.inside))) (none_kept (the_view c.self.inside) c.self.invariant))

@@ -40,7 +40,8 @@ returns c =
     (record (remade (the_view c.self.inside) c.detach.new.mounts c.detach.new.store.plain
     (the_view c.self.inside).tasks) { overlays = overlays_of_store c.detach.new.store })) c.self.view_is
     (held_stored (λ new. Becomes (the_view c.self.inside) c.args.name.now (ToUnmount (counted c.args.mount.count)) new)
-    (the_view c.self.inside) c.self.invariant _ c.detach.new.store refl
+    (the_view c.self.inside) c.self.invariant (remade (the_view c.self.inside) c.detach.new.mounts c.detach.new.store.plain
+    (the_view c.self.inside).tasks) c.detach.new.store refl
     (ap (λ (k : Kept). k.overlays) (c.detach.ensures.left ∙ ap (without_attachment (counted c.args.mount.count) c.detach.result) (kept_is (the_view c.self.inside) c.self.inside.store))
     ∙ none_detached (counted c.args.mount.count) c.detach.result (kept_of (the_view c.self.inside)) (none_kept (the_view c.self.inside) c.self.invariant))
     (unmount_is_done (the_view c.self.inside) c.args.name.now

@@ -49,7 +49,8 @@ returns c =
     (record (remade (the_view c.self.inside) c.detach_each.new.mounts c.detach_each.new.store.plain
     (the_view c.self.inside).tasks) { overlays = overlays_of_store c.detach_each.new.store })) c.self.view_is
     (held_stored (λ new. Becomes (the_view c.self.inside) c.args.name.now (ToUnmountLazily number) new)
-    (the_view c.self.inside) c.self.invariant _ c.detach_each.new.store refl
+    (the_view c.self.inside) c.self.invariant (remade (the_view c.self.inside) c.detach_each.new.mounts c.detach_each.new.store.plain
+    (the_view c.self.inside).tasks) c.detach_each.new.store refl
     (none_in_turn tree (kept_of (the_view c.self.inside)) (kept c.detach_each.new.mounts c.detach_each.new.store) (none_kept (the_view c.self.inside) c.self.invariant)
     (subst (λ k. LeaveInTurn tree k (kept c.detach_each.new.mounts c.detach_each.new.store)) (kept_is (the_view c.self.inside) c.self.inside.store) c.detach_each.ensures))
     (lazy_unmount_is_done (the_view c.self.inside) c.args.name.now number tree c.detach_each.new.mounts
