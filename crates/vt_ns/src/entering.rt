@@ -46,13 +46,7 @@ impl World {
             leave(mounts, store, left.root, false);
             leave(mounts, store, left.directory, false);
             let groups = &mut self.groups;
-            leave_namespace(
-                mounts,
-                groups,
-                store,
-                &mut self.namespaces,
-                left.namespace,
-            );
+            leave_namespace(mounts, groups, store, &mut self.namespaces, left.namespace);
         }
         Ok(())
     }

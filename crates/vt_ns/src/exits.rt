@@ -30,13 +30,7 @@ impl World {
         leave(mounts, store, task.directory, false);
         leave_files(mounts, store, task.descriptors.files());
         let groups = &mut self.groups;
-        leave_namespace(
-            mounts,
-            groups,
-            store,
-            &mut self.namespaces,
-            task.namespace,
-        );
+        leave_namespace(mounts, groups, store, &mut self.namespaces, task.namespace);
     }
 }
 

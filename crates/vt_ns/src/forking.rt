@@ -58,12 +58,7 @@ pub(crate) fn has_room(more: u64, mounts: &Mounts, store: &Store, at: Location) 
 }
 
 // One use more of a location, for which there is room. It does not allocate.
-pub(crate) fn hold_once_more(
-    mounts: &mut Mounts,
-    store: &mut Store,
-    at: Location,
-    writes: bool,
-)
+pub(crate) fn hold_once_more(mounts: &mut Mounts, store: &mut Store, at: Location, writes: bool)
     requires { HasRoom 1 at mounts.old store.old.plain }
     ensures held { kept mounts.new store.new ≡ with_location at writes (kept mounts.old store.old) }
     ensures slot { at.node.slot < 2 ^ 64 }

@@ -34,12 +34,7 @@ impl World {
             .plain_mut()
             .unlink(removed.parent.node, removed.name.as_slice(), directory);
         if !gone.is_empty() {
-            detach_together(
-                &mut self.mounts,
-                &mut self.groups,
-                &mut self.store,
-                &gone,
-            );
+            detach_together(&mut self.mounts, &mut self.groups, &mut self.store, &gone);
         }
         Ok(())
     }

@@ -37,12 +37,7 @@ impl World {
             .plain_mut()
             .rename(from.node, old.as_slice(), to.node, new, object.node)?;
         if !gone.is_empty() {
-            detach_together(
-                &mut self.mounts,
-                &mut self.groups,
-                &mut self.store,
-                &gone,
-            );
+            detach_together(&mut self.mounts, &mut self.groups, &mut self.store, &gone);
         }
         Ok(())
     }

@@ -110,12 +110,7 @@ impl World {
             access,
         };
         let number = self.tasks.open(name, opened)?;
-        hold_once_more(
-            &mut self.mounts,
-            &mut self.store,
-            file,
-            access.writes(),
-        );
+        hold_once_more(&mut self.mounts, &mut self.store, file, access.writes());
         Ok(number)
     }
 }

@@ -22,9 +22,9 @@ invariant_of-self-2 c =
     (kept c.leave_files.new.mounts c.leave_files.new.store) c.self.inside.groups
     (kept c.leave_namespace.new.mounts c.leave_namespace.new.store) c.leave_namespace.new.groups
     (ap (λ (k : Kept). k.overlays) (c.leave_files.ensures.left
-          ∙ ap (λ k. fold without_file k c.files.result.now)
-          (c.leave-2.ensures.left ∙ ap (without_location c.in-Some.task.directory false)
-          (c.leave.ensures.left ∙ ap (without_location c.in-Some.task.root false) (kept_is (the_view c.self.inside) c.self.inside.store))))
+    ∙ ap (λ k. fold without_file k c.files.result.now)
+    (c.leave-2.ensures.left ∙ ap (without_location c.in-Some.task.directory false)
+    (c.leave.ensures.left ∙ ap (without_location c.in-Some.task.root false) (kept_is (the_view c.self.inside) c.self.inside.store))))
     ∙ none_with_files c.files.result.now _ (none_without c.in-Some.task.directory false _
     (none_without c.in-Some.task.root false (kept_of (the_view c.self.inside)) (none_kept (the_view c.self.inside) c.self.invariant))))
     c.leave_namespace.ensures.mounts)
@@ -67,9 +67,9 @@ returns c =
     (kept c.leave_files.new.mounts c.leave_files.new.store) c.self.inside.groups
     (kept c.leave_namespace.new.mounts c.leave_namespace.new.store) c.leave_namespace.new.groups
     (ap (λ (k : Kept). k.overlays) (c.leave_files.ensures.left
-          ∙ ap (λ k. fold without_file k c.files.result.now)
-          (c.leave-2.ensures.left ∙ ap (without_location c.in-Some.task.directory false)
-          (c.leave.ensures.left ∙ ap (without_location c.in-Some.task.root false) (kept_is (the_view c.self.inside) c.self.inside.store))))
+    ∙ ap (λ k. fold without_file k c.files.result.now)
+    (c.leave-2.ensures.left ∙ ap (without_location c.in-Some.task.directory false)
+    (c.leave.ensures.left ∙ ap (without_location c.in-Some.task.root false) (kept_is (the_view c.self.inside) c.self.inside.store))))
     ∙ none_with_files c.files.result.now _ (none_without c.in-Some.task.directory false _
     (none_without c.in-Some.task.root false (kept_of (the_view c.self.inside)) (none_kept (the_view c.self.inside) c.self.invariant))))
     c.leave_namespace.ensures.mounts)

@@ -37,14 +37,14 @@ invariant_of-result c =
 pub returns : goal.returns
 returns c = record {
   opening = ap (λ (store : StoreValue). world_of (record {
-      mounts = c.in-Ok-first_mounts.mounts;
-      groups = c.new-3.result;
-      filesystems = store.plain;
-      overlays = overlays_of_store store;
-      namespaces = entries_of c.in-Ok.namespaces.entries;
-      tasks = c.in_ok-tasks.tasks;
-      next = 3;
-    })) c.new-2.ensures
+    mounts = c.in-Ok-first_mounts.mounts;
+    groups = c.new-3.result;
+    filesystems = store.plain;
+    overlays = overlays_of_store store;
+    namespaces = entries_of c.in-Ok.namespaces.entries;
+    tasks = c.in_ok-tasks.tasks;
+    next = 3;
+  })) c.new-2.ensures
       ∙ opening_seen c.in-Ok-first_mounts.mounts c.new-3.result c.in-Ok-first_filesystems.filesystems
       (entries_of c.in-Ok.namespaces.entries)
       c.in_ok-tasks.tasks

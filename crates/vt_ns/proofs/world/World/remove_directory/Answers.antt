@@ -52,16 +52,16 @@ pub invariant_of-self : goal.invariant_of-self
 invariant_of-self c =
     let some : length c.in_ok-gone.gone.items ≢ 0 = search rules in
     (held_stored IsHeld (the_view c.self.inside) c.self.invariant _ c.detach_together.new.store refl
-      (none_together _ (kept_of (with_filesystems (the_view c.self.inside) c.unlink.new.self)) c.self.inside.groups (kept c.detach_together.new.mounts c.detach_together.new.store)
-      c.detach_together.new.groups (none_kept (the_view c.self.inside) c.self.invariant) (subst (λ k. LeaveTogether _ k c.self.inside.groups (kept c.detach_together.new.mounts c.detach_together.new.store) c.detach_together.new.groups)
-      (λ i. kept_with c.self.inside.mounts c.unlink.new.self (kept_is (the_view c.self.inside) c.self.inside.store i).overlays)
-      (subst (λ ids. LeaveTogether ids (kept c.self.inside.mounts (record c.self.inside.store { plain = c.unlink.new.self })) c.self.inside.groups (kept c.detach_together.new.mounts c.detach_together.new.store) c.detach_together.new.groups) (collected_are (the_view c.self.inside) c.self.invariant c.args.name.now c.args.removed.parent c.args.removed.name.items c.args.removed.directory (omega arith) (omega arith)
+    (none_together _ (kept_of (with_filesystems (the_view c.self.inside) c.unlink.new.self)) c.self.inside.groups (kept c.detach_together.new.mounts c.detach_together.new.store)
+    c.detach_together.new.groups (none_kept (the_view c.self.inside) c.self.invariant) (subst (λ k. LeaveTogether _ k c.self.inside.groups (kept c.detach_together.new.mounts c.detach_together.new.store) c.detach_together.new.groups)
+    (λ i. kept_with c.self.inside.mounts c.unlink.new.self (kept_is (the_view c.self.inside) c.self.inside.store i).overlays)
+    (subst (λ ids. LeaveTogether ids (kept c.self.inside.mounts (record c.self.inside.store { plain = c.unlink.new.self })) c.self.inside.groups (kept c.detach_together.new.mounts c.detach_together.new.store) c.detach_together.new.groups) (collected_are (the_view c.self.inside) c.self.invariant c.args.name.now c.args.removed.parent c.args.removed.name.items c.args.removed.directory (omega arith) (omega arith)
     (subst (λ value. Permits value c.args.name.now
     (remove_permit (Directory c.args.removed)))
     (sym c.self.view_is) c.requires)
     (map (λ id. counted id.count) c.in_ok-gone.gone.items) c.in_ok-gone.ensures.ok)
     (subst (λ ids. LeaveTogether (map (λ id. counted id.count) ids) (kept c.self.inside.mounts (record c.self.inside.store { plain = c.unlink.new.self })) c.self.inside.groups (kept c.detach_together.new.mounts c.detach_together.new.store) c.detach_together.new.groups) c.deref.ensures.value c.detach_together.ensures))))
-      (directory_is_removed (the_view c.self.inside) c.self.invariant c.args.name.now c.args.removed.parent c.args.removed.name.items c.args.removed.directory (omega arith) (omega arith)
+    (directory_is_removed (the_view c.self.inside) c.self.invariant c.args.name.now c.args.removed.parent c.args.removed.name.items c.args.removed.directory (omega arith) (omega arith)
     (subst (λ value. Permits value c.args.name.now
     (remove_permit (Directory c.args.removed)))
     (sym c.self.view_is) c.requires)
@@ -72,8 +72,8 @@ invariant_of-self c =
     (sym c.self.view_is) c.requires)
     (map (λ id. counted id.count) c.in_ok-gone.gone.items) c.in_ok-gone.ensures.ok) ∙ none)) (rw c.plain_mut.ensures.value at (rw c.as_slice.ensures.value at c.unlink.ensures))
     (subst (λ k. LeaveTogether _ k c.self.inside.groups (kept c.detach_together.new.mounts c.detach_together.new.store) c.detach_together.new.groups)
-      (λ i. kept_with c.self.inside.mounts c.unlink.new.self (kept_is (the_view c.self.inside) c.self.inside.store i).overlays)
-      (subst (λ ids. LeaveTogether ids (kept c.self.inside.mounts (record c.self.inside.store { plain = c.unlink.new.self })) c.self.inside.groups (kept c.detach_together.new.mounts c.detach_together.new.store) c.detach_together.new.groups) (collected_are (the_view c.self.inside) c.self.invariant c.args.name.now c.args.removed.parent c.args.removed.name.items c.args.removed.directory (omega arith) (omega arith)
+    (λ i. kept_with c.self.inside.mounts c.unlink.new.self (kept_is (the_view c.self.inside) c.self.inside.store i).overlays)
+    (subst (λ ids. LeaveTogether ids (kept c.self.inside.mounts (record c.self.inside.store { plain = c.unlink.new.self })) c.self.inside.groups (kept c.detach_together.new.mounts c.detach_together.new.store) c.detach_together.new.groups) (collected_are (the_view c.self.inside) c.self.invariant c.args.name.now c.args.removed.parent c.args.removed.name.items c.args.removed.directory (omega arith) (omega arith)
     (subst (λ value. Permits value c.args.name.now
     (remove_permit (Directory c.args.removed)))
     (sym c.self.view_is) c.requires)
@@ -84,7 +84,7 @@ pub invariant_of-self-else-not-is_empty : goal.invariant_of-self-else-not-is_emp
 invariant_of-self-else-not-is_empty c =
     let none : length c.in_ok-gone.gone.items ≡ 0 = search rules in
     (plain_changed IsHeld (the_view c.self.inside) c.self.inside.store c.self.invariant c.unlink.new.self
-      (alone_is_removed (the_view c.self.inside) c.self.invariant c.args.name.now c.args.removed.parent c.args.removed.name.items c.args.removed.directory (omega arith) (omega arith)
+    (alone_is_removed (the_view c.self.inside) c.self.invariant c.args.name.now c.args.removed.parent c.args.removed.name.items c.args.removed.directory (omega arith) (omega arith)
     (subst (λ value. Permits value c.args.name.now
     (remove_permit (Directory c.args.removed)))
     (sym c.self.view_is) c.requires)

@@ -64,15 +64,15 @@ pub invariant_of-self-then-not-is_empty : goal.invariant_of-self-then-not-is_emp
 invariant_of-self-then-not-is_empty c =
     let some : length c.in_ok-gone.gone.items ≢ 0 = search rules in
     (held_stored IsHeld (the_view c.self.inside) c.self.invariant _ c.detach_together.new.store refl
-      (none_together _ (kept_of (with_filesystems (the_view c.self.inside) c.rename.new.self)) c.self.inside.groups (kept c.detach_together.new.mounts c.detach_together.new.store)
-      c.detach_together.new.groups (none_kept (the_view c.self.inside) c.self.invariant) (subst (λ k. LeaveTogether _ k c.self.inside.groups (kept c.detach_together.new.mounts c.detach_together.new.store) c.detach_together.new.groups)
-      (λ i. kept_with c.self.inside.mounts c.rename.new.self (kept_is (the_view c.self.inside) c.self.inside.store i).overlays)
-      (subst (λ ids. LeaveTogether ids (kept c.self.inside.mounts (record c.self.inside.store { plain = c.rename.new.self })) c.self.inside.groups (kept c.detach_together.new.mounts c.detach_together.new.store) c.detach_together.new.groups) (replaced_collected (the_view c.self.inside) c.self.invariant c.args.name.now c.args.renamed.from c.args.renamed.old.items c.args.renamed.to c.args.renamed.new.items c.args.renamed.object c.args.renamed.replaced (omega arith) (omega arith) (omega arith) c.trees_replaced.ensures.slot
+    (none_together _ (kept_of (with_filesystems (the_view c.self.inside) c.rename.new.self)) c.self.inside.groups (kept c.detach_together.new.mounts c.detach_together.new.store)
+    c.detach_together.new.groups (none_kept (the_view c.self.inside) c.self.invariant) (subst (λ k. LeaveTogether _ k c.self.inside.groups (kept c.detach_together.new.mounts c.detach_together.new.store) c.detach_together.new.groups)
+    (λ i. kept_with c.self.inside.mounts c.rename.new.self (kept_is (the_view c.self.inside) c.self.inside.store i).overlays)
+    (subst (λ ids. LeaveTogether ids (kept c.self.inside.mounts (record c.self.inside.store { plain = c.rename.new.self })) c.self.inside.groups (kept c.detach_together.new.mounts c.detach_together.new.store) c.detach_together.new.groups) (replaced_collected (the_view c.self.inside) c.self.invariant c.args.name.now c.args.renamed.from c.args.renamed.old.items c.args.renamed.to c.args.renamed.new.items c.args.renamed.object c.args.renamed.replaced (omega arith) (omega arith) (omega arith) c.trees_replaced.ensures.slot
     (subst (λ value. Permits value c.args.name.now
     (remove_permit (Rename c.args.renamed))) (sym c.self.view_is) c.requires)
     (map (λ id. counted id.count) c.in_ok-gone.gone.items) c.in_ok-gone.ensures.ok)
     (subst (λ ids. LeaveTogether (map (λ id. counted id.count) ids) (kept c.self.inside.mounts (record c.self.inside.store { plain = c.rename.new.self })) c.self.inside.groups (kept c.detach_together.new.mounts c.detach_together.new.store) c.detach_together.new.groups) c.deref.ensures.value c.detach_together.ensures))))
-      (rename_is_done (the_view c.self.inside) c.self.invariant c.args.name.now c.args.renamed.from c.args.renamed.old.items c.args.renamed.to c.args.renamed.new.items c.args.renamed.object c.args.renamed.replaced (omega arith) (omega arith) (omega arith) c.trees_replaced.ensures.slot
+    (rename_is_done (the_view c.self.inside) c.self.invariant c.args.name.now c.args.renamed.from c.args.renamed.old.items c.args.renamed.to c.args.renamed.new.items c.args.renamed.object c.args.renamed.replaced (omega arith) (omega arith) (omega arith) c.trees_replaced.ensures.slot
     (subst (λ value. Permits value c.args.name.now
     (remove_permit (Rename c.args.renamed))) (sym c.self.view_is) c.requires)
     c.rename.new.self c.detach_together.new.store.plain (map merged_of c.detach_together.new.store.overlays) c.detach_together.new.mounts c.detach_together.new.groups
@@ -81,8 +81,8 @@ invariant_of-self-then-not-is_empty c =
     (remove_permit (Rename c.args.renamed))) (sym c.self.view_is) c.requires)
     (map (λ id. counted id.count) c.in_ok-gone.gone.items) c.in_ok-gone.ensures.ok) ∙ none)) (rw c.plain_mut.ensures.value at (rw c.as_slice.ensures.value at c.in_ok-rename.ensures.ok))
     (subst (λ k. LeaveTogether _ k c.self.inside.groups (kept c.detach_together.new.mounts c.detach_together.new.store) c.detach_together.new.groups)
-      (λ i. kept_with c.self.inside.mounts c.rename.new.self (kept_is (the_view c.self.inside) c.self.inside.store i).overlays)
-      (subst (λ ids. LeaveTogether ids (kept c.self.inside.mounts (record c.self.inside.store { plain = c.rename.new.self })) c.self.inside.groups (kept c.detach_together.new.mounts c.detach_together.new.store) c.detach_together.new.groups) (replaced_collected (the_view c.self.inside) c.self.invariant c.args.name.now c.args.renamed.from c.args.renamed.old.items c.args.renamed.to c.args.renamed.new.items c.args.renamed.object c.args.renamed.replaced (omega arith) (omega arith) (omega arith) c.trees_replaced.ensures.slot
+    (λ i. kept_with c.self.inside.mounts c.rename.new.self (kept_is (the_view c.self.inside) c.self.inside.store i).overlays)
+    (subst (λ ids. LeaveTogether ids (kept c.self.inside.mounts (record c.self.inside.store { plain = c.rename.new.self })) c.self.inside.groups (kept c.detach_together.new.mounts c.detach_together.new.store) c.detach_together.new.groups) (replaced_collected (the_view c.self.inside) c.self.invariant c.args.name.now c.args.renamed.from c.args.renamed.old.items c.args.renamed.to c.args.renamed.new.items c.args.renamed.object c.args.renamed.replaced (omega arith) (omega arith) (omega arith) c.trees_replaced.ensures.slot
     (subst (λ value. Permits value c.args.name.now
     (remove_permit (Rename c.args.renamed))) (sym c.self.view_is) c.requires)
     (map (λ id. counted id.count) c.in_ok-gone.gone.items) c.in_ok-gone.ensures.ok)
@@ -92,7 +92,7 @@ pub invariant_of-self-else-not-is_empty : goal.invariant_of-self-else-not-is_emp
 invariant_of-self-else-not-is_empty c =
     let none : length c.in_ok-gone.gone.items ≡ 0 = search rules in
     (plain_changed IsHeld (the_view c.self.inside) c.self.inside.store c.self.invariant c.rename.new.self
-      (rename_alone_is_done (the_view c.self.inside) c.self.invariant c.args.name.now c.args.renamed.from c.args.renamed.old.items c.args.renamed.to c.args.renamed.new.items c.args.renamed.object c.args.renamed.replaced (omega arith) (omega arith) (omega arith)
+    (rename_alone_is_done (the_view c.self.inside) c.self.invariant c.args.name.now c.args.renamed.from c.args.renamed.old.items c.args.renamed.to c.args.renamed.new.items c.args.renamed.object c.args.renamed.replaced (omega arith) (omega arith) (omega arith)
     (subst (λ value. Permits value c.args.name.now
     (remove_permit (Rename c.args.renamed))) (sym c.self.view_is) c.requires)
     (nothing_on_replaced (the_view c.self.inside) c.self.invariant c.args.name.now c.args.renamed.from c.args.renamed.old.items c.args.renamed.to c.args.renamed.new.items c.args.renamed.object c.args.renamed.replaced (omega arith) (omega arith) (omega arith) c.trees_replaced.ensures.slot
