@@ -28,10 +28,10 @@ create-requires-clause-free c =
 
 pub create-requires-clause-node : goal.create-requires-clause-node
 create-requires-clause-node c =
-    rw c.plain_mut.ensures.value (new_in_directory (the_view c.self.inside) c.self.invariant c.args.name.now c.args.new.directory c.args.new.name.items c.args.new.node (omega arith)
+    new_in_directory (the_view c.self.inside) c.self.invariant c.args.name.now c.args.new.directory c.args.new.name.items c.args.new.node (omega arith)
     (subst (λ value. Permits value c.args.name.now
     (make_permit (Node c.args.new)))
-    (sym c.self.view_is) c.requires))
+    (sym c.self.view_is) c.requires)
 
 pub invariant_of-self-2 : goal.invariant_of-self-2
 invariant_of-self-2 c =

@@ -20,11 +20,11 @@ use Rattle.vt_ns.proofs.world.World.remove_directory.Goals.{then-not-is_empty, e
 
 pub unlink-requires-clause-one_filesystem : goal.unlink-requires-clause-one_filesystem
 unlink-requires-clause-one_filesystem c =
-    rw c.plain_mut.ensures.value (removed_in (the_view c.self.inside) c.self.invariant c.args.name.now c.args.removed.parent c.args.removed.name.items c.args.removed.directory
+    removed_in (the_view c.self.inside) c.self.invariant c.args.name.now c.args.removed.parent c.args.removed.name.items c.args.removed.directory
     (omega arith) (omega arith)
     (subst (λ value. Permits value c.args.name.now
     (remove_permit (Directory c.args.removed)))
-    (sym c.self.view_is) c.requires))
+    (sym c.self.view_is) c.requires)
 
 pub unlink-requires-clause-there : goal.unlink-requires-clause-there
 unlink-requires-clause-there c =

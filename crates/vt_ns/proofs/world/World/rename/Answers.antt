@@ -20,15 +20,15 @@ use Rattle.vt_ns.proofs.world.World.rename.Goals.{then-not-is_empty, else-not-is
 
 pub rename-requires-clause-one_filesystem : goal.rename-requires-clause-one_filesystem
 rename-requires-clause-one_filesystem c =
-    rw c.plain_mut.ensures.value (renamed_to (the_view c.self.inside) c.self.invariant c.args.name.now c.args.renamed.from c.args.renamed.old.items c.args.renamed.to c.args.renamed.new.items c.args.renamed.object c.args.renamed.replaced (omega arith) (omega arith) (omega arith)
+    renamed_to (the_view c.self.inside) c.self.invariant c.args.name.now c.args.renamed.from c.args.renamed.old.items c.args.renamed.to c.args.renamed.new.items c.args.renamed.object c.args.renamed.replaced (omega arith) (omega arith) (omega arith)
     (subst (λ value. Permits value c.args.name.now
-    (remove_permit (Rename c.args.renamed))) (sym c.self.view_is) c.requires))
+    (remove_permit (Rename c.args.renamed))) (sym c.self.view_is) c.requires)
 
 pub rename-requires-clause-of_object : goal.rename-requires-clause-of_object
 rename-requires-clause-of_object c =
-    rw c.plain_mut.ensures.value (renamed_object (the_view c.self.inside) c.self.invariant c.args.name.now c.args.renamed.from c.args.renamed.old.items c.args.renamed.to c.args.renamed.new.items c.args.renamed.object c.args.renamed.replaced (omega arith) (omega arith) (omega arith)
+    renamed_object (the_view c.self.inside) c.self.invariant c.args.name.now c.args.renamed.from c.args.renamed.old.items c.args.renamed.to c.args.renamed.new.items c.args.renamed.object c.args.renamed.replaced (omega arith) (omega arith) (omega arith)
     (subst (λ value. Permits value c.args.name.now
-    (remove_permit (Rename c.args.renamed))) (sym c.self.view_is) c.requires))
+    (remove_permit (Rename c.args.renamed))) (sym c.self.view_is) c.requires)
 
 pub rename-requires-clause-there : goal.rename-requires-clause-there
 rename-requires-clause-there c =

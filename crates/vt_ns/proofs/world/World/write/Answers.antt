@@ -21,11 +21,11 @@ write-requires-clause-file c =
 
 pub write-requires-clause-size : goal.write-requires-clause-size
 write-requires-clause-size c =
-    rw c.plain_mut.ensures.value ((change_fits (the_view c.self.inside) c.self.invariant c.args.name.now c.args.file (omega arith)
+    (change_fits (the_view c.self.inside) c.self.invariant c.args.name.now c.args.file (omega arith)
     (SetBytes (number_of c.args.file.node) c.args.bytes.items)
     (subst (λ value. Permits value c.args.name.now
     (ToChange (location_of c.args.file) (SetBytes (number_of c.args.file.node) c.args.bytes.items)))
-    (sym c.self.view_is) c.requires)).1)
+    (sym c.self.view_is) c.requires)).1
 
 pub invariant_of-self : goal.invariant_of-self
 invariant_of-self c =
