@@ -37,7 +37,7 @@ use Rattle.vt_world.specs.WorldValue.{WorldValue, world_of}
 use Rattle.vt_detach.proofs.Midway.{IsShown, Midway, NoneUnused, Reached, gone_if, gone_number, point_left, points_left}
 use Rattle.vt_detach.proofs.MidwayBegins as Begins
 use Rattle.vt_detach.proofs.Moving.{Moves}
-use Rattle.vt_detach.proofs.Staying.{world_is_plain}
+use Rattle.vt_detach.proofs.Overlaid.{overlays_are, plain_ones_are}
 use Rattle.vt_spec.proofs.Lists.{map_alike, map_twice}
 
 flat_alike : {A B : Type 0} (f g : A → List B) (xs : List A) → ((x : A) → Among x xs → f x ≡ g x)
@@ -349,6 +349,7 @@ module _ (value : WorldValue) (whole : IsHeld value) (added : List (Mount ℕ)) 
 
   begins_midway : Midway value ended gained goes [] ended k []
   begins_midway = record {
+    held = whole;
     mounts = ap (map (gone_if goes)) (sym keeps.mounts);
     uses = uses_are;
     writers = λ entry m. let counts = keeps.writers entry m in let same = is.writes entry.mount.number in omega
@@ -361,13 +362,14 @@ module _ (value : WorldValue) (whole : IsHeld value) (added : List (Mount ℕ)) 
     shown = λ one m. let from = shown_was one m in subst (IsShown value ended gained []) (sym from.2)
         (shown_is from.0 from.1);
     exchanges = λ one m. exchanges_are (counted one.count);
-    numbers = map_twice (λ (f : Filesystem ℕ). f.number) filesystem_seen value.filesystems
+    numbers = ap (map (λ (f : Filesystem ℕ). f.number)) (plain_ones_are value whole.overlays)
+        ∙ map_twice (λ (f : Filesystem ℕ). f.number) filesystem_seen value.filesystems
         ∙ sym (map_twice (λ (one : Shown). counted one.count) shown_entry value.filesystems)
         ∙ sym (map_twice (λ (one : Shown). counted one.count) shown_so (shown value.filesystems))
         ∙ sym (ap (map (λ (one : Shown). counted one.count)) keeps.filesystems);
     stand = stand_ended;
     located = located_ended;
-    plain = world_is_plain value;
+    keeps = record { overlays = overlays_are value whole.overlays; rise = whole.overlays.all_rise };
     same = refl;
   }
 

@@ -14,13 +14,13 @@ use Rattle.vt_spec.specs.Machine.World.{World, mount_at}
 use Rattle.vt_spec.specs.Machine.Invariants.{is_located_well}
 use Rattle.vt_laws_counts.specs.Counted.{IsCounted}
 use Rattle.vt_laws_counts.proofs.using.MountRoots as Roots
-use Rattle.vt_fs.specs.FilesystemsValue.{Filesystems, filesystem_seen, inodes_seen}
+use Rattle.vt_fs.specs.FilesystemsValue.{Filesystems, inodes_seen}
 use Rattle.vt_group.specs.Grouping.{Grouping, HasGroup}
 use Rattle.vt_group.specs.Together.{new_group}
 use Rattle.vt_laws_rules.specs.Numbers.{KeepsTo}
 use Rattle.vt_laws_letting_go.proofs.mounting.AttachedSwept.{binds_keep_all}
-use Rattle.vt_laws_letting_go.proofs.Lists.{Among, among-map, among_from_all, any_passes}
-use Rattle.vt_laws_letting_go.proofs.sweeps.OfWorlds.{found_filesystem, mounts_of_worlds_stand, worlds_have_trees}
+use Rattle.vt_laws_letting_go.proofs.Lists.{Among, among_from_all, any_passes}
+use Rattle.vt_laws_letting_go.proofs.sweeps.OfWorlds.{mounts_of_worlds_stand, worlds_have_trees}
 use Rattle.vt_laws_letting_go.proofs.leaving.PlacesLeft.{found_is_there}
 use Rattle.vt_location.specs.declared.locations.Location.{Location}
 use Rattle.vt_location.specs.Locations.{location_of}
@@ -44,6 +44,7 @@ use Rattle.vt_world.specs.Held.{CountsItsMounts, IsHeld}
 use Rattle.vt_detach.specs.Uses.{kept}
 use Rattle.vt_world.specs.WorldValue.{WorldValue, world_of}
 use Rattle.vt_detach.proofs.FileEvents.{permit_fits}
+use Rattle.vt_detach.proofs.Overlaid.{found_plain_one}
 use Rattle.vt_detach.proofs.Places.{located_is_named}
 use Rattle.vt_detach.proofs.Staying.{IsDone}
 use Rattle.vt_attach.specs.AttachedGroups.{HasGroupsOf}
@@ -65,10 +66,10 @@ same_base value whole = record {
   trees = worlds_have_trees (world_of value) whole.in_world;
   in_use = (worlds_are_in_use (world_of value) whole.in_world).inodes;
   roots = whole.in_world.roots;
+  rise = whole.overlays.all_rise;
   inodes = λ entry m.
       subst (λ f. IsCounted (world_of value) f (inodes_seen entry))
-      (sym (found_filesystem (world_of value).filesystems whole.in_world.files.one_filesystem (filesystem_seen entry)
-      (among-map filesystem_seen value.filesystems entry m)))
+      (sym (found_plain_one value whole entry m))
       (among_from_all (CountsItsMounts (world_of value)) value.filesystems whole.filesystems entry m).inodes;
   mounts = λ entry m. (among_from_all
       (CountsItsMounts (world_of value)) value.filesystems whole.filesystems entry m).mounts;

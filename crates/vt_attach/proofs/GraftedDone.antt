@@ -1,11 +1,13 @@
 -- Attachments with copies at all receivers are done: the code's world is what the policy leaves, and counts what is in
 -- it.
-use Rattle.std.proofs.Common.{◌≡◌, refl, sym, ap, subst, ◌∙◌, ⊎_elim, inl, inr, ℕ, ◌+◌, nat_eq, Bool, true, false, cond, List, [], ◌∷◌, ◌++◌, map, Option, is_some}
+use Rattle.std.proofs.Common.{◌≡◌, refl, sym, ap, subst, ◌∙◌, ⊎_elim, inl, inr, ℕ, ◌+◌, nat_eq, Bool, true, false, cond, List, [], ◌∷◌, ◌++◌, map, filter, Option, is_some, arith}
 use Rattle.std.specs.Prelude.{All}
 use Rattle.std.specs.List.{list_all}
 use Rattle.vt_laws_counts.specs.Counted.{IsCounted}
 use Rattle.vt_laws_counts.specs.Using.{exchanged}
-use Rattle.vt_laws_counts.proofs.using.Exchanged.{uses_are_exchanged}
+use Rattle.vt_laws_counts.specs.OverlaysStay.{layer_count}
+use Rattle.vt_laws_counts.proofs.overlays.FilesystemUses.{no_upper_is_in_any}
+use Rattle.vt_laws_counts.proofs.using.Exchanged.{uses_are_exchanged_beside_overlays}
 use Rattle.vt_fs.specs.FilesystemsValue.{FilesystemEntry, Filesystems, Shown, filesystem_seen, filesystems_seen, inodes_seen, shown, shown_entry}
 use Rattle.vt_group.specs.Grouping.{Grouping, Has, master_in}
 use Rattle.vt_group.specs.Together.{Grows, new_group, typed}
@@ -15,6 +17,8 @@ use Rattle.vt_laws_letting_go.specs.InUse.{HasTrees, InodesInUse}
 use Rattle.vt_laws_letting_go.specs.OneByOne.{Inode}
 use Rattle.vt_laws_letting_go.proofs.Lists.{Among, all_from_among, among-append, among-from_map, among-map, among_from_all}
 use Rattle.vt_laws_letting_go.proofs.sweeps.UpperUses.{times_append}
+use Rattle.vt_laws_overlays_stay.specs.Woven.{ArePartedBy, are_rising}
+use Rattle.vt_laws_overlays_stay.proofs.weaving.WovenLists.{woven_lists_are_failing, woven_lists_are_passing}
 use Rattle.vt_location.specs.declared.locations.Location.{Location}
 use Rattle.vt_location.specs.declared.mounts.Mount.{Mount}
 use Rattle.vt_location.specs.Locations.{location_of}
@@ -37,16 +41,17 @@ use Rattle.vt_spec.specs.Machine.Mounts as meant
 use Rattle.vt_spec.specs.Machine.Mounts.{Propagation}
 use Rattle.vt_spec.specs.Machine.Permits.{Permit}
 use Rattle.vt_spec.specs.Machine.Receives.{has_members}
-use Rattle.vt_spec.specs.Machine.World.{Filesystem, World, filesystem_numbered}
+use Rattle.vt_spec.specs.Machine.World.{Filesystem, World, filesystem_numbered, is_overlay}
 use Rattle.vt_spec.specs.Machine.Invariants.{IsWorld, has_its_root}
 use Rattle.vt_laws_worlds.specs.Worlds.Kept.{IsUnderWay}
 use Rattle.vt_detach.specs.Events.{Permits, left_by}
-use Rattle.vt_world.specs.Held.{CountsItsUses, CountsWhatIsInIt, HasOwnInodes, IsHeld}
+use Rattle.vt_world.specs.Held.{CountsItsUses, CountsWhatIsInIt, HasOwnInodes, IsHeld, IsMountedSoOften}
 use Rattle.vt_detach.specs.Uses.{kept, unused_entry}
-use Rattle.vt_world.specs.WorldValue.{WorldValue, world_of}
-use Rattle.vt_detach.proofs.FilesSeen.{files_are_plain}
+use Rattle.vt_world.specs.WorldValue.{WorldValue, overlays_seen, world_of}
+use Rattle.vt_detach.proofs.BesideOverlays.{layers_alike}
 use Rattle.vt_detach.proofs.Finishing.{CountsBeside, own_exchanged}
 use Rattle.vt_detach.proofs.MountsChanged.{times_map}
+use Rattle.vt_detach.proofs.Overlaid.{KeepsOverlays, files_are_plain, is_plain_one, no_upper_midway, none_to_ask}
 use Rattle.vt_detach.proofs.OwnInodesKept.{IsOwn}
 use Rattle.vt_detach.proofs.Showing.{ShowsAs}
 use Rattle.vt_detach.proofs.Staying.{IsDone}
@@ -60,7 +65,7 @@ use Rattle.vt_attach.proofs.AddedUses.{gained_by, showing}
 use Rattle.vt_attach.proofs.AttachedCounts.{unused_counts}
 use Rattle.vt_mount.proofs.EnteringLemmas.{mounts_entered}
 use Rattle.vt_attach.proofs.FormedGroups.{formed_groups_begin, groups_of_copies_are_named}
-use Rattle.vt_attach.proofs.GraftedUses.{after, changed_at, exchanged_then, gained_there, nothing_goes}
+use Rattle.vt_attach.proofs.GraftedUses.{after, beside_overlays, changed_at, exchanged_then, gained_there, nothing_goes}
 use Rattle.vt_attach.proofs.GrownGroups.{ascending_rises, attached_worlds_grow}
 use Rattle.vt_attach.proofs.MovedPoints.{points_are_moved}
 use Rattle.vt_attach.proofs.PlannedCounts.{exchanged_on, inodes_of_points, planned_shown}
@@ -71,7 +76,7 @@ use Rattle.vt_spec.proofs.Lists.{map_twice}
 
 -- the world with these filesystems
 abbrev pub with_base : WorldValue → Filesystems → World ℕ
-with_base value base = record (world_of value) { filesystems = filesystems_seen base }
+with_base value base = record (world_of value) { filesystems = beside_overlays value base }
 
 -- in which the inodes of all these filesystems are in use, and count their uses
 pub record IsBase (value : WorldValue) (base : Filesystems) : Type 0 where
@@ -79,15 +84,35 @@ pub record IsBase (value : WorldValue) (base : Filesystems) : Type 0 where
   pub trees : HasTrees (with_base value base)
   pub in_use : InodesInUse (with_base value base)
   pub roots : list_all (has_its_root nat_eq (with_base value base)) (mounts_in value.mounts) ≡ true
+  pub rise : are_rising (beside_overlays value base) ≡ true
   pub inodes : (entry : FilesystemEntry) → Among entry base
       → IsCounted (with_base value base) (filesystem_numbered nat_eq (with_base value base) (counted entry.count))
       (inodes_seen entry)
   pub mounts : (entry : FilesystemEntry) → Among entry base
-      → entry.mounts ≡ mounts_showing (world_of value) (counted entry.count)
+      → entry.mounts
+      ≡ mounts_showing (world_of value) (counted entry.count) + layer_count (with_base value base) (counted entry.count)
 
 -- the code's world with mounts that were attached
 abbrev pub grafted_value : WorldValue → List MountEntry → Grouping → Filesystems → ℕ → WorldValue
 grafted_value value mounts groups filesystems next = record value { mounts = mounts; groups = groups; filesystems = filesystems; next = next }
+
+-- Beside the overlays of the code's world
+
+base_parted : (value : WorldValue) → IsHeld value → (base : Filesystems)
+    → ArePartedBy is_overlay (filesystems_seen base) (overlays_seen value.overlays)
+base_parted value whole base = record { fail = files_are_plain base; pass = whole.overlays.merged }
+
+pub base_overlays : (value : WorldValue) → IsHeld value → (base : Filesystems)
+    → filter is_overlay (beside_overlays value base) ≡ overlays_seen value.overlays
+base_overlays value whole base =
+    woven_lists_are_passing is_overlay (filesystems_seen base) (overlays_seen value.overlays)
+    (base_parted value whole base) whole.overlays.overlays_rise
+
+pub base_plain_ones : (value : WorldValue) → IsHeld value → (base : Filesystems)
+    → filter is_plain_one (beside_overlays value base) ≡ filesystems_seen base
+base_plain_ones value whole base =
+    woven_lists_are_failing is_overlay (filesystems_seen base) (overlays_seen value.overlays)
+    (base_parted value whole base)
 
 -- where a tree is copied, its plan is what the policy attaches
 pub plan_attaches : (world : World ℕ) (graft : Graft) (counts : Counts) (copies : List (meant.Mount ℕ))
@@ -208,6 +233,10 @@ module _ (value : WorldValue) (whole : IsHeld value) (base : Filesystems) (is_ba
       (own_exchanged from.0.count gains losses (inodes_seen from.0)
       (among_from_all HasOwnInodes base is_base.own from.0 from.1)))
 
+  -- overlays stay as they are
+  pub keeps_overlays : KeepsOverlays value entered_world
+  keeps_overlays = record { overlays = base_overlays value whole base; rise = is_base.rise }
+
   counted_then : IsWorld nat_eq entered_world → (entry : FilesystemEntry) → Among entry filesystems
       → IsCounted entered_world (filesystem_numbered nat_eq entered_world (counted entry.count)) (inodes_seen entry)
   counted_then is_world entry m =
@@ -221,8 +250,10 @@ module _ (value : WorldValue) (whole : IsHeld value) (base : Filesystems) (is_ba
       (nothing_goes value base master copies points kinds whole is_base.own
       (under is_world) is_base.roots is.once left is.left_are is.left_small is.taken_small is.slots ascending
       is_world)
-      (uses_are_exchanged (with_base value base) entered_world gains losses (counted from.0.count)
-      (inodes_seen from.0) is_base.trees is_base.in_use (files_are_plain base)
+      (uses_are_exchanged_beside_overlays (with_base value base) entered_world gains losses (counted from.0.count)
+      (inodes_seen from.0) is_base.trees is_base.in_use
+      (no_upper_is_in_any entered_world (counted from.0.count)
+      (no_upper_midway value whole.overlays entered_world keeps_overlays))
       (exchanged_then value base master copies points kinds whole is_base.own
       (under is_world) is_base.roots is.once left is.left_are is.left_small is.taken_small is.slots ascending
       (counted from.0.count))
@@ -233,10 +264,11 @@ module _ (value : WorldValue) (whole : IsHeld value) (base : Filesystems) (is_ba
 
   shows : Has entered_world groups → IsWorld nat_eq entered_world → ShowsAs entered_world new
   shows has is_world = record {
-    plain = files_are_plain base;
+    overlays = base_overlays value whole base;
+    rise = is_base.rise;
     mounts = sym is.seen;
     groups = has;
-    numbers = same_numbers;
+    numbers = ap (map (λ (f : Filesystem ℕ). f.number)) (base_plain_ones value whole base) ∙ same_numbers;
     inodes = counted_then is_world;
     namespaces = refl;
     tasks = refl;
@@ -271,11 +303,19 @@ module _ (value : WorldValue) (whole : IsHeld value) (base : Filesystems) (is_ba
     uses = all_from_among (CountsItsUses (world_of new)) mounts (λ entry m.
         typed_counts (world_of new) is.types (with_points points value.mounts ++ map unused_entry copies) counted_so
         entry (subst (Among entry) (ap (λ k. k.mounts) is.done) m));
-    mounts = λ entry m. let from = from_base entry m in
-        ap (λ (one : Shown). one.mounts) from.2
-        ∙ ap (λ n. n + showing from.0.count copies) (is_base.mounts from.0 from.1)
-        ∙ sym (showing_then from.0.count)
-        ∙ ap (λ count. mounts_showing (world_of new) (counted count)) (sym (ap (λ (one : Shown). one.count) from.2));
+    mounts = λ entry m.
+        let from = from_base entry m in
+        let was = is_base.mounts from.0 from.1 in
+        let more = showing_then from.0.count in
+        let layers = layers_alike (with_base value base) (world_of new)
+        (base_overlays value whole filesystems ∙ sym (base_overlays value whole base)) (counted from.0.count) in
+        let sum : from.0.mounts + showing from.0.count copies
+        ≡ mounts_showing (world_of new) (counted from.0.count) + layer_count (world_of new) (counted from.0.count) =
+        omega (arith, was, more, layers) in
+        ap (λ (one : Shown). one.mounts) from.2 ∙ sum
+        ∙ ap (λ count. mounts_showing (world_of new) (counted count) + layer_count (world_of new) (counted count))
+        (sym (ap (λ (one : Shown). one.count) from.2));
+    overlays = none_to_ask (IsMountedSoOften (world_of new)) value whole;
     namespaces = all_from_among (CountsWhatIsInIt (world_of new)) value.namespaces (λ entry m.
         let was = among_from_all (CountsWhatIsInIt (world_of value)) value.namespaces whole.namespaces entry m in
         record { tasks = was.tasks });
@@ -290,7 +330,7 @@ module _ (value : WorldValue) (whole : IsHeld value) (base : Filesystems) (is_ba
       → IsDone value name permit new
   entered_is_done has name permit permits takes left_is keeps =
       let is_world = subst (IsWorld nat_eq) left_is (left_is_world value whole name permit permits.task takes).0 in
-      numbers_are_kept value whole name permit permits.task takes new
+      numbers_are_kept value whole name permit permits.task takes new refl
       (subst (λ (left : World ℕ). ShowsAs left new) (sym left_is) (shows has is_world)) counts_then own_then keeps
 
 -- Copies that were attached

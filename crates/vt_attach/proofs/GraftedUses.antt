@@ -3,7 +3,7 @@ use Rattle.std.proofs.Common.{◌≡◌, refl, sym, ap, subst, ◌∙◌, inl, i
 use Rattle.std.specs.Prelude.{All, filter, filter_map, flat_map, option_to_list, unwrap_or}
 use Rattle.std.specs.List.{cons_option, list_all}
 use Rattle.std.specs.Map.{lookup}
-use Rattle.std.proofs.lemmas.Bool.{and_parts, ltb-true, ne_eqb}
+use Rattle.std.proofs.lemmas.Bool.{and_parts, ne_eqb}
 use Rattle.std.proofs.lemmas.List.{map-append}
 use Rattle.std.proofs.lemmas.List.Folds.{list_all-append}
 use Rattle.vt_laws_counts.specs.Using.{AreThere, Exchanges, is_inode, is_on, places_of}
@@ -18,6 +18,7 @@ use Rattle.vt_laws_letting_go.specs.InUse.{is_inode_used}
 use Rattle.vt_laws_letting_go.proofs.Lists.{Among, all_pass, among-append_left, among-append_right, among-filter_map, among-from_map, among-map, among_from_all, among_numbers, map_same, none_passes, passes}
 use Rattle.vt_laws_letting_go.proofs.sweeps.OfWorlds.{found_filesystem, mounts_of_worlds_stand}
 use Rattle.vt_laws_letting_go.proofs.sweeps.UpperUses.{times_append}
+use Rattle.vt_laws_overlays_stay.specs.Woven.{woven}
 use Rattle.vt_location.specs.declared.locations.Location.{Location}
 use Rattle.vt_location.specs.declared.mounts.Mount.{Mount}
 use Rattle.vt_location.specs.Locations.{location_of, number_of}
@@ -39,7 +40,7 @@ use Rattle.vt_laws_worlds.proofs.RaisedInUse.{worlds_are_in_use}
 use Rattle.vt_laws_worlds.proofs.worlds.Roots.{directory_there}
 use Rattle.vt_world.specs.Held.{HasOwnInodes, IsHeld}
 use Rattle.vt_detach.specs.Uses.{inode_of, unused_entry}
-use Rattle.vt_world.specs.WorldValue.{WorldValue, world_of}
+use Rattle.vt_world.specs.WorldValue.{WorldValue, overlays_seen, world_of}
 use Rattle.vt_detach.proofs.FilesSeen.{seen_in}
 use Rattle.vt_attach.specs.Planned.{Point, is_small, points_left, points_taken, with_points}
 use Rattle.vt_attach.specs.PlannedUses.{point_seen}
@@ -111,6 +112,16 @@ point_shown world base own files point small directory =
     seen.number_is
     ∙ ap counted (own_count seen.entry.count point.node (small_parts point.node small).slot seen.own)
 
+-- these filesystems, and the overlays of the code's world
+abbrev pub beside_overlays : WorldValue → Filesystems → List (Filesystem ℕ)
+beside_overlays value base = woven (filesystems_seen base) (overlays_seen value.overlays)
+
+-- which has none yet
+pub only_these : (value : WorldValue) → IsHeld value → (base : Filesystems)
+    → beside_overlays value base ≡ filesystems_seen base
+only_these value whole base =
+    ap (λ overlays. woven (filesystems_seen base) (overlays_seen overlays)) whole.overlays.none_yet
+
 -- Mounts that come behind others, which get other mount points
 
 abbrev number_of_mount : meant.Mount ℕ → ℕ
@@ -178,11 +189,11 @@ found_first number (mount ∷ rest) back there = by (nat_eq number mount.number)
 module _ (value : WorldValue) (base : Filesystems) (master : ℕ → Option ℕ) (copies : List Mount)
     (points : List Point) (kinds : List (ℕ × Propagation ℕ)) where
   abbrev pub middle : World ℕ
-  middle = record (world_of value) { filesystems = filesystems_seen base }
+  middle = record (world_of value) { filesystems = beside_overlays value base }
 
   abbrev pub after : World ℕ
   after = record (world_of value) {
-    filesystems = filesystems_seen base;
+    filesystems = beside_overlays value base;
     mounts = map (changed_at points kinds) (mounts_in value.mounts) ++ map mount_of copies;
     master = master;
   }
@@ -190,7 +201,7 @@ module _ (value : WorldValue) (base : Filesystems) (master : ℕ → Option ℕ)
   -- where types are still as they were
   abbrev untyped : World ℕ
   untyped = record (world_of value) {
-    filesystems = filesystems_seen base;
+    filesystems = beside_overlays value base;
     mounts = map (moved_at points) (mounts_in value.mounts) ++ map mount_of copies;
     master = master;
   }
@@ -198,7 +209,7 @@ module _ (value : WorldValue) (base : Filesystems) (master : ℕ → Option ℕ)
   -- where they have come, and none has moved yet
   abbrev come : World ℕ
   come = record (world_of value) {
-    filesystems = filesystems_seen base;
+    filesystems = beside_overlays value base;
     mounts = mounts_in value.mounts
         ++ map mount_of copies;
     master = master;
@@ -254,7 +265,7 @@ module _ (value : WorldValue) (base : Filesystems) (master : ℕ → Option ℕ)
     taken_inode point m =
         (λ i. come_as_after i (location_of point))
         ∙ (λ i. (
-          point_shown after base own refl point (passes is_small taken taken_small point m)
+          point_shown after base own (only_these value whole base) point (passes is_small taken taken_small point m)
               (taken_directory point m) i,
           number_of point.node,
         ))
@@ -288,7 +299,8 @@ module _ (value : WorldValue) (base : Filesystems) (master : ℕ → Option ℕ)
 
     left_shown : (point : Location) → Among point left
         → (mount_at nat_eq middle (location_of point)).filesystem ≡ counted point.node.filesystem.count
-    left_shown point m = point_shown middle base own refl point (passes is_small left left_small point m)
+    left_shown point m =
+        point_shown middle base own (only_these value whole base) point (passes is_small left left_small point m)
         (left_directory point m)
 
     left_inode : (point : Location) → Among point left → inode_at come (location_of point) ≡ inode_of point.node
@@ -340,7 +352,8 @@ module _ (value : WorldValue) (base : Filesystems) (master : ℕ → Option ℕ)
     -- each copy is found in the world that is left
     copies_found : (mount : Mount) → Among mount copies → IsFoundIn after mount
     copies_found = new_found after is_world
-        (map (changed_at points kinds) (mounts_in value.mounts)) copies refl slots base refl own
+        (map (changed_at points kinds) (mounts_in value.mounts)) copies refl slots base
+        (only_these value whole base) own
 
     found_come : (mount : Mount) → Among mount copies → IsFoundIn come mount
     found_come mount m = record {
@@ -404,7 +417,8 @@ module _ (value : WorldValue) (base : Filesystems) (master : ℕ → Option ℕ)
         || is_some ((inodes_seen entry).inode inode.1))
         (inodes_of_points taken) (gained_by copies)
         ∙ (λ i. taken_there i && new_uses_there after is_world
-        (map (changed_at points kinds) (mounts_in value.mounts)) copies refl slots base refl own entry m i)
+        (map (changed_at points kinds) (mounts_in value.mounts)) copies refl slots base
+        (only_these value whole base) own entry m i)
       where
         taken_there : list_all (λ (inode : Inode). not (nat_eq (counted entry.count) inode.0)
             || is_some ((inodes_seen entry).inode inode.1)) (inodes_of_points taken) ≡ true
@@ -412,12 +426,13 @@ module _ (value : WorldValue) (base : Filesystems) (master : ℕ → Option ℕ)
             all_pass (λ (inode : Inode). not (nat_eq (counted entry.count) inode.0)
             || is_some ((inodes_seen entry).inode inode.1)) (inodes_of_points taken) (λ inode n.
             let from = among-from_map (λ (point : Location). inode_of point.node) taken inode n in
-            let shown = point_shown after base own refl from.0 (passes is_small taken taken_small from.0 from.1)
+            let shown = point_shown after base own (only_these value whole base) from.0
+            (passes is_small taken taken_small from.0 from.1)
             (taken_directory from.0 from.1) in
             ap (λ (one : Inode). not (nat_eq (counted entry.count) one.0)
             || is_some ((inodes_seen entry).inode one.1)) from.2
             ∙ there_in after is_world (map (changed_at points kinds)
-            (mounts_in value.mounts)) copies refl slots base refl own entry m from.0.node
+            (mounts_in value.mounts)) copies refl slots base (only_these value whole base) own entry m from.0.node
             (ap (λ number. is_directory_node
             ((filesystem_numbered nat_eq after number).files.tree.node (number_of from.0.node))) (sym shown)
             ∙ taken_directory from.0 from.1))

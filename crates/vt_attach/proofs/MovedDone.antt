@@ -1,12 +1,12 @@
 -- The event that moves a tree to a shared mount, with copies at its receivers: mount(2) with MS_MOVE.
-use Rattle.std.proofs.Common.{◌≡◌, ◌<◌, refl, sym, ap, subst, ◌∙◌, ⊎_elim, inl, inr, true≢false, ℕ, zero, suc, ◌+◌, ◌*◌, ◌%◌, ◌==◌, nat_eq, eq-eqb, Bool, true, false, cond, ◌&&◌, ◌||◌, List, [], ◌∷◌, ◌++◌, map, length, Option, Some, None, is_some, arith}
+use Rattle.std.proofs.Common.{◌≡◌, ◌<◌, refl, sym, ap, subst, ◌∙◌, ⊎_elim, inl, inr, true≢false, ℕ, zero, suc, ◌+◌, ◌*◌, ◌%◌, ◌==◌, nat_eq, eq-eqb, Bool, true, false, cond, ◌&&◌, ◌||◌, List, [], ◌∷◌, ◌++◌, map, filter, length, Option, Some, None, is_some, arith}
 use Rattle.std.specs.Prelude.{Contains, drop, if◌then◌else◌, option_map, take, unwrap_or}
 use Rattle.std.specs.List.{list_all, list_any}
 use Rattle.std.specs.Map.{lookup}
 use Rattle.std.proofs.Math.Seq.{drop-append_seam, take-append_seam}
-use Rattle.std.proofs.lemmas.Bool.{ne_eqb, or_parts}
+use Rattle.std.proofs.lemmas.Bool.{ne_eqb, or_left, or_parts}
 use Rattle.std.proofs.lemmas.List.{drop-map, length-append, length-map, map-append}
-use Rattle.std.proofs.lemmas.List.Folds.{list_all-append}
+use Rattle.std.proofs.lemmas.List.Folds.{list_all-append, list_any-append}
 use Rattle.vt_spec.specs.Language.Calls.{TaskName}
 use Rattle.vt_spec.specs.Lists.{any_pair, first_of_list, folded, holds_of, is_among, rest_of}
 use Rattle.vt_spec.specs.Machine.Attach.{attach, attached_by, copies_from, masters_with, parts_of, type_at, type_on_shared}
@@ -16,18 +16,17 @@ use Rattle.vt_spec.specs.Machine.Mounts.Propagation.{Private, Shared, Slave, Unb
 use Rattle.vt_spec.specs.Machine.Permits.{Permit}
 use Rattle.vt_spec.specs.Machine.Permits.Permit.{ToMove}
 use Rattle.vt_spec.specs.Machine.Receives.{has_members}
-use Rattle.vt_spec.specs.Machine.Settled.{mount_lives, settled}
-use Rattle.vt_spec.specs.Machine.World.{Filesystem, World, is_overlay, mount_at, mount_numbered}
+use Rattle.vt_spec.specs.Machine.Settled.{is_mounted, mount_lives, settled}
+use Rattle.vt_spec.specs.Machine.World.{Filesystem, World, mount_at, mount_numbered}
 use Rattle.vt_spec.specs.Machine.Invariants.{IsWorld}
 use Rattle.vt_spec.proofs.Lists.{among_from_contains, contains_from_among, map_twice}
-use Rattle.vt_laws_counts.specs.Counted.{IsPlain}
 use Rattle.vt_laws_counts.specs.Using.{Exchanges}
 use Rattle.vt_laws_counts.proofs.using.MountRoots as Roots
-use Rattle.vt_fs.specs.FilesystemsValue.{Filesystems, Shown, filesystems_seen}
+use Rattle.vt_fs.specs.FilesystemsValue.{Filesystems, Shown}
 use Rattle.vt_group.specs.Grouping.{Grouping, Has, master_in}
 use Rattle.vt_group.specs.Together.{Grows, new_group, typed}
 use Rattle.vt_laws_rules.specs.Numbers.{KeepsTo}
-use Rattle.vt_laws_letting_go.proofs.Lists.{Among, all_from_among, among-from_map, among-map, among_from_all, is_among_numbers, none_passes, passes}
+use Rattle.vt_laws_letting_go.proofs.Lists.{Among, all_from_among, among-from_map, among-map, among_from_all, any-map, is_among_numbers, none_passes, passes}
 use Rattle.vt_laws_letting_go.proofs.sweeps.OfWorlds.{mounts_of_worlds_stand}
 use Rattle.vt_location.specs.declared.mounts.Mount.{Mount}
 use Rattle.vt_location.specs.Locations.{location_of}
@@ -38,7 +37,7 @@ use Rattle.vt_laws_mounts.proofs.mounts.MountsNumbered.{parts_apart}
 use Rattle.vt_laws_mounts.proofs.mounts.MountsReplaced.{one_number_by_numbers}
 use Rattle.vt_laws_mounts.proofs.moves.MovingRoots.{tree_placed}
 use Rattle.vt_laws_mounts.proofs.mounts.Standing.{trees_have_each_once}
-use Rattle.vt_laws_permits.proofs.left.PermitsLeave.{given_permits_are_under_way}
+use Rattle.vt_laws_overlays_stay.proofs.left.Given.{given_permits_are_under_way_without_upper}
 use Rattle.vt_propagate.specs.declared.copying.Counts.{Counts}
 use Rattle.vt_propagate.specs.declared.copying.Graft.{Graft}
 use Rattle.vt_propagate.specs.Attaching.{AttachesBy, IsMoved}
@@ -50,18 +49,17 @@ use Rattle.vt_laws_runs.specs.Handed.{counts_from, is_counted_before}
 use Rattle.vt_laws_worlds.specs.Worlds.Kept.{IsUnderWay}
 use Rattle.vt_laws_worlds.specs.Worlds.Permits.{MayMoveTo}
 use Rattle.vt_laws_worlds.proofs.RaisedInUse.{worlds_are_in_use}
-use Rattle.vt_laws_worlds.proofs.settling.SettledTasks.{under_way}
 use Rattle.vt_detach.specs.Events.{Permits, left_by}
 use Rattle.vt_world.specs.Held.{IsHeld}
 use Rattle.vt_detach.specs.Uses.{kept, unused_entry}
-use Rattle.vt_world.specs.WorldValue.{WorldValue, world_of}
+use Rattle.vt_world.specs.WorldValue.{WorldValue, overlays_seen, world_of}
 use Rattle.vt_detach.proofs.Bridging.{IsSwept, shows_left}
 use Rattle.vt_detach.proofs.FileEvents.{permit_fits}
-use Rattle.vt_detach.proofs.FilesSeen.{files_are_plain}
 use Rattle.vt_detach.proofs.Grouped.{settled_has}
+use Rattle.vt_detach.proofs.Overlaid.{AreStillMounted, is_plain_one, overlays_are, plain_ones_are, still_mounted}
 use Rattle.vt_detach.proofs.Places.{located_is_named}
 use Rattle.vt_detach.proofs.Showing.{ShowsAs}
-use Rattle.vt_detach.proofs.Staying.{IsDone, world_is_plain}
+use Rattle.vt_detach.proofs.Staying.{IsDone}
 use Rattle.vt_detach.proofs.TypesSet.{attached_named}
 use Rattle.vt_detach.proofs.TreesInNamespaces.{in_tree}
 use Rattle.vt_attach.specs.AttachedGroups.{HasGroupsOf, all_copies, groups_formed, type_of}
@@ -562,10 +560,8 @@ module _ (value : WorldValue) (whole : IsHeld value) (name : TaskName) (number :
     under : IsUnderWay then_world
     under =
         subst IsUnderWay moved_is
-        (under_way (attach nat_eq world (counts_from value.next) place true
-        (mount_tree nat_eq (mounts_in value.mounts) (mount_numbered nat_eq (world_of value) number)))
-        (given_permits_are_under_way world (counts_from value.next) permits.task permit whole.in_world
-        (world_is_plain value) permits.given))
+        (given_permits_are_under_way_without_upper world (counts_from value.next) permits.task permit whole.in_world
+        whole.overlays.read_only permits.given).0
 
     -- all is in use
 
@@ -576,19 +572,13 @@ module _ (value : WorldValue) (whole : IsHeld value) (name : TaskName) (number :
     its : (mount : meant.Mount ℕ) → Among mount (mount_of first ∷ map mount_of others) → Among mount world.mounts
     its mount m = tree_among mount (subst (Among mount) (sym (ap (map mount_of) tree_now)) m)
 
-    no_overlay : list_any is_overlay (filesystems_seen value.filesystems) ≡ false
-    no_overlay =
-        none_passes is_overlay (filesystems_seen value.filesystems)
-        (λ f m. among_from_all (λ (g : Filesystem ℕ). is_overlay g ≡ false) (filesystems_seen value.filesystems)
-        (files_are_plain value.filesystems) f m)
-
     living_is : in_use_of then_world ≡ then_world
     living_is =
         subst (λ (w : World ℕ). in_use_of w ≡ w) moved_is
         (subst (λ list. in_use_of (attach nat_eq world (counts_from value.next) place true list)
         ≡ attach nat_eq world (counts_from value.next) place true list) tree_list
         (living_moved world (worlds_are_in_use world whole.in_world) (mounts_of_worlds_stand world whole.in_world)
-        (Roots.locations_of_worlds_stand world whole.in_world) no_overlay
+        (Roots.locations_of_worlds_stand world whole.in_world)
         (copies_from nat_eq (counts_from value.next) (parts_of nat_eq world place)
         (mount_of first ∷ map mount_of others)) place (ap is_some may.destination.own) (mount_of first)
         (map mount_of others) its))
@@ -599,10 +589,24 @@ module _ (value : WorldValue) (whole : IsHeld value) (name : TaskName) (number :
         (subst (λ list. list_all (mount_lives nat_eq (attach nat_eq world (counts_from value.next) place true list))
         (attach nat_eq world (counts_from value.next) place true list).mounts ≡ true) tree_list
         (mounts_live world (worlds_are_in_use world whole.in_world) (mounts_of_worlds_stand world whole.in_world)
-        (Roots.locations_of_worlds_stand world whole.in_world) no_overlay
+        (Roots.locations_of_worlds_stand world whole.in_world)
         (copies_from nat_eq (counts_from value.next) (parts_of nat_eq world place)
         (mount_of first ∷ map mount_of others)) place (ap is_some may.destination.own) (mount_of first)
         (map mount_of others) its))
+
+    -- what was mounted is mounted still
+    overlays_mounted : AreStillMounted value then_world
+    overlays_mounted =
+        all_from_among (λ (overlay : Filesystem ℕ). is_mounted nat_eq then_world overlay.number ≡ true)
+        (overlays_seen value.overlays) (λ f m.
+        list_any-append (λ (mount : meant.Mount ℕ). nat_eq f.number mount.filesystem)
+        (map (changed_at points kinds) (mounts_in value.mounts)) (map mount_of come)
+        ∙ or_left (list_any (λ (mount : meant.Mount ℕ). nat_eq f.number mount.filesystem)
+        (map (changed_at points kinds) (mounts_in value.mounts))) _
+        (any-map (λ (mount : meant.Mount ℕ). nat_eq f.number mount.filesystem) (changed_at points kinds)
+        (mounts_in value.mounts) (λ mount. refl)
+        ∙ among_from_all (λ (overlay : Filesystem ℕ). is_mounted nat_eq world overlay.number ≡ true)
+        (overlays_seen value.overlays) (still_mounted value whole world (λ number. refl)) f m))
 
     has_settled : Has (settled nat_eq then_world) groups
     has_settled =
@@ -614,9 +618,13 @@ module _ (value : WorldValue) (whole : IsHeld value) (name : TaskName) (number :
     swept : IsSwept value then_world
         (inodes_of_points (points_taken points value.mounts) ++ gained_by come) (inodes_of_points is.left) new
     swept = record {
-      plain = files_are_plain value.filesystems;
+      midway = record { overlays = overlays_are value whole.overlays; rise = whole.overlays.all_rise };
+      mounted = subst (AreStillMounted value) (sym living_is) overlays_mounted;
+      overlays = refl;
       mounts = ap (λ (w : World ℕ). w.mounts) living_is ∙ sym mounts_seen;
-      numbers = ap (λ (w : World ℕ). map (λ (f : Filesystem ℕ). f.number) w.filesystems) living_is
+      numbers = ap (λ (w : World ℕ). map (λ (f : Filesystem ℕ). f.number) (filter is_plain_one w.filesystems))
+          living_is
+          ∙ ap (map (λ (f : Filesystem ℕ). f.number)) (plain_ones_are value whole.overlays)
           ∙ same_numbers value whole value.filesystems (same_base value whole) come points kinds is.left formed mounts
           groups filesystems next entered rising;
       entries = λ entry m.
@@ -640,10 +648,10 @@ module _ (value : WorldValue) (whole : IsHeld value) (name : TaskName) (number :
       tasks = refl;
     }
 
-    left_then : IsWorld nat_eq (settled nat_eq then_world) × IsPlain (settled nat_eq then_world)
+    left_then : IsWorld nat_eq (settled nat_eq then_world)
     left_then =
-        subst (λ (w : World ℕ). IsWorld nat_eq (settled nat_eq w) × IsPlain (settled nat_eq w)) moved_is
-        (left_is_world value whole name permit permits.task takes)
+        subst (λ (w : World ℕ). IsWorld nat_eq (settled nat_eq w)) moved_is
+        (left_is_world value whole name permit permits.task takes).0
 
     shows_then : ShowsAs (settled nat_eq then_world) new
     shows_then =
@@ -669,7 +677,7 @@ module _ (value : WorldValue) (whole : IsHeld value) (name : TaskName) (number :
         ≡ 2 * (length graft.parts.now * length graft.tree.now) =
         (λ i. 2 * (length (sym parts_are i) * length (sym tree_is i)))
         ∙ (λ i. 2 * (length-map graft.parts.now mount_of i * length-map graft.tree.now mount_of i)) in
-        numbers_are_kept value whole name permit permits.task takes new
+        numbers_are_kept value whole name permit permits.task takes new refl
         (subst (λ (w : World ℕ). ShowsAs (settled nat_eq w) new) (sym moved_is) shows_then)
         (counts_then value whole value.filesystems (same_base value whole) come points kinds is.left formed mounts
         groups filesystems next entered rising)

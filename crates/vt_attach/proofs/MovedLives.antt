@@ -5,11 +5,10 @@ use Rattle.std.specs.List.{list_all}
 use Rattle.vt_laws_letting_go.specs.InUse.{AllInUse}
 use Rattle.vt_laws_letting_go.specs.Keeping.{LocationsStand}
 use Rattle.vt_laws_letting_go.specs.Leaving.{MountsStand}
-use Rattle.vt_laws_letting_go.specs.OneByOne.{AllInUseBut, IsPlain}
-use Rattle.vt_laws_letting_go.specs.Mounting.{used_by_mounts}
+use Rattle.vt_laws_letting_go.specs.OneByOne.{FilesystemsInUseBut, MountsInUseBut}
 use Rattle.vt_laws_letting_go.proofs.mounting.Attached.{attached_groups, attached_loses}
 use Rattle.vt_laws_letting_go.proofs.Lists.{Among}
-use Rattle.vt_laws_letting_go.proofs.mounting.MountingLosers.{all_but_losers}
+use Rattle.vt_laws_letting_go.proofs.mounting.MountingOverlays.{all_but_those}
 use Rattle.vt_laws_letting_go.proofs.sweeps.OneByOne.{filesystems_go_one_by_one, mounts_go_one_by_one}
 use Rattle.vt_spec.specs.Machine.Attach.{Copies, attached_by}
 use Rattle.vt_spec.specs.Machine.Mounts.{Location, Mount}
@@ -18,28 +17,29 @@ use Rattle.vt_spec.specs.Machine.World.{World, mount_at}
 use Rattle.vt_laws_letting_go.specs.TreesOverlays.{in_use_of}
 
 module _ (world : World ℕ) (in_use : AllInUse world) (stand : MountsStand world) (located : LocationsStand world)
-    (plain : IsPlain world) (new : Copies ℕ) (place : Location ℕ)
+    (new : Copies ℕ) (place : Location ℕ)
     (at_attached : is_some (mount_at nat_eq world place).namespace ≡ true) (first : Mount ℕ) (rest : List (Mount ℕ))
     (its : (mount : Mount ℕ) → Among mount (first ∷ rest) → Among mount world.mounts) where
   abbrev after : World ℕ
   after = attached_by nat_eq world new place true (first ∷ rest)
 
-  in_use_then : AllInUseBut (used_by_mounts world [] (option_to_list first.mount_point) []) after
+  in_use_then : MountsInUseBut [] after × FilesystemsInUseBut [] (without_dead_mounts nat_eq after)
   in_use_then =
-      all_but_losers world after.mounts after.master world.filesystems world.namespaces world.tasks []
+      let all = all_but_those world after.mounts after.master world.filesystems world.namespaces world.tasks []
       (option_to_list first.mount_point) [] in_use stand
       (attached_loses world world.filesystems new place true first rest in_use stand located at_attached (λ e. its))
       (λ group among none.
       attached_groups world world.filesystems new place true first rest in_use stand located at_attached (λ e. its)
       group none)
-      (record { kept = λ f m. m; new = λ f m. inl m }) plain
+      (record { kept = λ f m. m; new = λ f m. inl m }) in
+      (all.mounts, all.filesystems)
 
   pub mounts_live : list_all (mount_lives nat_eq after) after.mounts ≡ true
-  mounts_live = in_use_then.mounts
+  mounts_live = in_use_then.0
 
   pub living_moved : in_use_of after ≡ after
   living_moved =
-      ap (without_dead_filesystems nat_eq) (mounts_go_one_by_one after [] in_use_then.mounts)
+      ap (without_dead_filesystems nat_eq) (mounts_go_one_by_one after [] in_use_then.0)
       ∙ subst (λ (w : World ℕ). without_dead_filesystems nat_eq w ≡ w)
-      (mounts_go_one_by_one after [] in_use_then.mounts)
-      (filesystems_go_one_by_one (without_dead_mounts nat_eq after) [] in_use_then.filesystems)
+      (mounts_go_one_by_one after [] in_use_then.0)
+      (filesystems_go_one_by_one (without_dead_mounts nat_eq after) [] in_use_then.1)

@@ -1,9 +1,10 @@
 -- A new filesystem stands beside the others before its mount comes: mount(2) of a tmpfs.
-use Rattle.std.proofs.Common.{◌≡◌, ◌⊎◌, refl, sym, ap, subst, ◌∙◌, inl, inr, ⊎_elim, ℕ, ◌<◌, ◌+◌, ◌*◌, nat_eq, eq-eqb, true, false, cond, not, ◌&&◌, ◌||◌, List, [], ◌∷◌, ◌++◌, map, filter, find, flat_map, Option, Some, None, is_some, option_map, arith}
-use Rattle.std.specs.Prelude.{filter_map, option_to_list, unwrap_or}
+use Rattle.std.proofs.Common.{◌≡◌, ◌⊎◌, refl, sym, ap, subst, ◌∙◌, inl, inr, ⊎_elim, ℕ, ◌<◌, ◌+◌, ◌*◌, nat_eq, eq-eqb, lt-ltb, nat_lt, true, false, cond, not, ◌&&◌, ◌||◌, List, [], ◌∷◌, ◌++◌, map, filter, find, flat_map, Option, Some, None, is_some, option_map, arith}
+use Rattle.std.specs.Prelude.{All, filter_map, option_to_list, unwrap_or}
 use Rattle.std.specs.List.{list_all}
 use Rattle.std.proofs.lemmas.Bool.{and_parts, ne_eqb}
 use Rattle.std.proofs.lemmas.List.{map-append}
+use Rattle.std.proofs.lemmas.List.Folds.{list_all-append}
 use Rattle.vt_spec.specs.Language.Calls.{MountFlags, TaskName}
 use Rattle.vt_spec.specs.FileTree.{is_directory_under}
 use Rattle.vt_spec.specs.Lists.{Fresh, is_among, odds}
@@ -14,23 +15,26 @@ use Rattle.vt_spec.specs.Machine.Mounts.{Location, group_of, mount_in}
 use Rattle.vt_spec.specs.Machine.NewMounts.{mounted, new_mount, plain_filesystem}
 use Rattle.vt_spec.specs.Machine.Permits.Permit.{ToMountPlain}
 use Rattle.vt_spec.specs.Machine.Receives.{receivers, receives}
-use Rattle.vt_spec.specs.Machine.Settled.{layers_in, located_in, named_in, objects_of_overlay, used_in}
-use Rattle.vt_spec.specs.Machine.World.{Filesystem, World, all_locations, filesystem_numbered, is_directory_at, layers_of, mount_at, new_plain, no_filesystem, root_attr}
+use Rattle.vt_spec.specs.Machine.Settled.{has_layer_on, layers_in, located_in, named_in, objects_of_overlay, used_in}
+use Rattle.vt_spec.specs.Machine.World.{Filesystem, World, all_locations, filesystem_numbered, is_directory_at, is_overlay, layers_of, mount_at, new_plain, no_filesystem, root_attr}
 use Rattle.vt_spec.specs.Machine.Invariants.{IsWorld, has_its_root, is_located_well}
 use Rattle.vt_spec.specs.Tree.{is_directory_node}
-use Rattle.vt_laws_counts.specs.Counted.{IsCounted, IsPlain}
+use Rattle.vt_laws_counts.specs.BesideOverlays.{OverlaysHaveNoUpper}
+use Rattle.vt_laws_counts.specs.Counted.{IsCounted}
+use Rattle.vt_laws_counts.specs.OverlaysStay.{layer_count}
 use Rattle.vt_laws_counts.specs.Using.{is_on, is_outside, one_counted, places_of}
-use Rattle.vt_laws_counts.proofs.using.Exchanged.{uses_are_exchanged}
+use Rattle.vt_laws_counts.proofs.overlays.FilesystemUses.{new_tree_is_counted_beside_overlays, no_upper_is_in_any, plain_ones_use_nothing}
+use Rattle.vt_laws_counts.proofs.using.Exchanged.{uses_are_exchanged_beside_overlays}
 use Rattle.vt_laws_counts.proofs.using.MountRoots as Roots
 use Rattle.vt_laws_counts.proofs.using.MountRoots.{places_stand}
-use Rattle.vt_laws_counts.proofs.using.Places.{new_tree_is_counted, others_use_nothing}
 use Rattle.vt_fs.specs.FilesystemsValue.{FilesystemEntry, Filesystems, IsNew, filesystem_seen, filesystems_seen, inodes_seen}
 use Rattle.vt_laws_letting_go.specs.Counts.{mounts_showing}
 use Rattle.vt_laws_letting_go.specs.InUse.{HasTrees, InodesInUse, is_inode_used}
 use Rattle.vt_laws_letting_go.proofs.mounting.AttachedSwept.{new_mounts_of_trees_keep_all}
-use Rattle.vt_laws_letting_go.proofs.Lists.{Among, all_from_among, all_pass, among-append, among-append_left, among-append_right, among-filter_map, among-from_filter, among-from_filter_map, among-from_map, among-map, among_from_all, among_numbers, filter_alike, passes}
+use Rattle.vt_laws_letting_go.proofs.Lists.{Among, all_from_among, all_pass, among-append, among-append_left, among-append_right, among-filter_map, among-from_filter, among-from_filter_map, among-from_map, among_from_all, among_numbers, filter_alike, passes}
 use Rattle.vt_laws_letting_go.proofs.sweeps.OfWorlds.{found_filesystem, mounts_of_worlds_stand, worlds_have_trees}
 use Rattle.vt_laws_letting_go.proofs.leaving.PlacesLeft.{found_itself}
+use Rattle.vt_laws_overlays_stay.specs.Woven.{are_rising}
 use Rattle.vt_location.specs.Numbers.{counted, inode_number}
 use Rattle.vt_mount.specs.MountsValue.{mounts_in}
 use Rattle.vt_laws_runs.specs.Handed.{handed_from}
@@ -38,13 +42,15 @@ use Rattle.vt_laws_worlds.proofs.RaisedInUse.{worlds_are_in_use}
 use Rattle.vt_laws_worlds.proofs.worlds.Roots.{directory_there}
 use Rattle.vt_detach.specs.Events.{Permits, left_by}
 use Rattle.vt_world.specs.Held.{CountsItsMounts, IsHeld}
-use Rattle.vt_world.specs.WorldValue.{WorldValue, world_of}
+use Rattle.vt_world.specs.WorldValue.{WorldValue, overlays_seen, world_of}
 use Rattle.vt_detach.proofs.FileEvents.{permit_fits}
+use Rattle.vt_detach.proofs.BesideOverlays.{layers_alike}
 use Rattle.vt_detach.proofs.FilesSeen.{seen_in}
 use Rattle.vt_detach.proofs.LookLemmas.{turned}
-use Rattle.vt_detach.proofs.Staying.{world_is_plain}
+use Rattle.vt_detach.proofs.Overlaid.{found_plain_one, only_plain_ones, overlays_are, there_as_kept}
 use Rattle.vt_attach.proofs.AttachedCounts.{times_none}
 use Rattle.vt_attach.proofs.GraftedDone.{IsBase, with_base}
+use Rattle.vt_attach.proofs.GraftedUses.{beside_overlays, only_these}
 use Rattle.vt_attach.proofs.NewFilesystems.{all_own, filesystem_counted}
 use Rattle.vt_attach.proofs.TakingNumbers.{TakesNumbers, left_is_world}
 
@@ -71,6 +77,24 @@ flat_before : {B : Type 0} (g : Filesystem ℕ → List B) (filesystems : List (
 flat_before g [] added none = λ i. none i ++ []
 flat_before g (first ∷ rest) added none = ap (λ list. g first ++ list) (flat_before g rest added none)
 
+overlays_before : (filesystems : List (Filesystem ℕ)) (added : Filesystem ℕ) → is_overlay added ≡ false
+    → filter is_overlay (filesystems ++ added ∷ []) ≡ filter is_overlay filesystems
+overlays_before [] added plain = ap (λ b. cond b (added ∷ []) []) plain
+overlays_before (first ∷ rest) added plain =
+    ap (λ list. cond (is_overlay first) (first ∷ list) list) (overlays_before rest added plain)
+
+-- where it is the last, numbers still rise
+rising_last : (filesystems : List (Filesystem ℕ)) (added : Filesystem ℕ) → are_rising filesystems ≡ true
+    → list_all (λ (f : Filesystem ℕ). nat_lt f.number added.number) filesystems ≡ true
+    → are_rising (filesystems ++ added ∷ []) ≡ true
+rising_last [] added rising lower = refl
+rising_last (first ∷ rest) added rising lower =
+    let parts = and_parts (list_all (λ (f : Filesystem ℕ). nat_lt first.number f.number) rest) _ rising in
+    let low = and_parts (nat_lt first.number added.number) _ lower in
+    λ i. (list_all-append (λ (f : Filesystem ℕ). nat_lt first.number f.number) rest (added ∷ [])
+    ∙ (λ j. parts.0 j && (low.0 j && true))) i
+    && rising_last rest added parts.1 low.1 i
+
 module _ (value : WorldValue) (whole : IsHeld value) (name : TaskName) (place : Location ℕ) (flags : MountFlags)
     (permits : Permits value name (ToMountPlain place flags)) where
   abbrev world : World ℕ
@@ -84,7 +108,7 @@ module _ (value : WorldValue) (whole : IsHeld value) (name : TaskName) (place : 
 
   abbrev pub middle : World ℕ
   middle = record (world_of value) {
-    filesystems = filesystems_seen value.filesystems
+    filesystems = (world_of value).filesystems
         ++ new_plain nat_eq (counted value.next) (inode_number value.next 0) ∷ [];
   }
 
@@ -112,9 +136,9 @@ module _ (value : WorldValue) (whole : IsHeld value) (name : TaskName) (place : 
   left = attach nat_eq middle (odds fresh) place false tree
 
   left_world : IsWorld nat_eq (attach nat_eq middle (odds fresh) place false tree)
-      × IsPlain (attach nat_eq middle (odds fresh) place false tree)
+      × OverlaysHaveNoUpper (attach nat_eq middle (odds fresh) place false tree)
   left_world =
-      subst (λ (w : World ℕ). IsWorld nat_eq w × IsPlain w) left_attached
+      subst (λ (w : World ℕ). IsWorld nat_eq w × OverlaysHaveNoUpper w) left_attached
       (left_is_world value whole name (ToMountPlain place flags) permits.task takes)
 
   -- No mount and no location is in the new filesystem
@@ -124,7 +148,8 @@ module _ (value : WorldValue) (whole : IsHeld value) (name : TaskName) (place : 
   others_elsewhere other m =
       let root = (and_parts _ _ (passes (has_its_root nat_eq world) world.mounts whole.in_world.roots other m)).0 in
       let seen = seen_in value.filesystems whole.own_inodes other.filesystem other.root
-      (directory_there ((filesystem_numbered nat_eq world other.filesystem).files.tree.node other.root) root) in
+      (there_as_kept value whole other.filesystem other.root
+      (directory_there ((filesystem_numbered nat_eq world other.filesystem).files.tree.node other.root) root)) in
       let low = filesystem_counted value whole seen.entry seen.among in
       let is = seen.number_is in
       ne_eqb (counted value.next) other.filesystem (λ same. absurd (omega (arith, low, is, same)))
@@ -189,7 +214,7 @@ module _ (value : WorldValue) (whole : IsHeld value) (name : TaskName) (place : 
       → filesystem_numbered nat_eq middle number ≡ filesystem_numbered nat_eq world number
   files_kept number other =
       ap (λ found. unwrap_or found (no_filesystem number))
-      (found_before (filesystems_seen value.filesystems) added number (turned number (counted value.next) ∙ other))
+      (found_before world.filesystems added number (turned number (counted value.next) ∙ other))
 
   roots_kept : list_all (has_its_root nat_eq middle) (mounts_in value.mounts) ≡ true
   roots_kept =
@@ -213,24 +238,24 @@ module _ (value : WorldValue) (whole : IsHeld value) (name : TaskName) (place : 
       f.files.tree.root ∷ (named_in f.files ++ located_in nat_eq world f.number
       ++ map (λ layer. layer.directory)
       (filter (λ layer. nat_eq f.number layer.filesystem)
-      (flat_before (of_overlay [] layers_of) (filesystems_seen value.filesystems) added refl i))
-      ++ flat_before (objects_of_overlay nat_eq f.number) (filesystems_seen value.filesystems) added refl i)
+      (flat_before (of_overlay [] layers_of) world.filesystems added refl i))
+      ++ flat_before (objects_of_overlay nat_eq f.number) world.filesystems added refl i)
 
   in_use_then : InodesInUse middle
   in_use_then =
       all_from_among (λ (f : Filesystem ℕ). list_all (is_inode_used middle f) f.files.numbers ≡ true)
-      (filesystems_seen value.filesystems ++ added ∷ []) (λ f m.
+      (world.filesystems ++ added ∷ []) (λ f m.
       ⊎_elim
       (λ old. ap (λ used. list_all (λ n. is_among nat_eq n used) f.files.numbers) (used_same f)
       ∙ among_from_all (λ (g : Filesystem ℕ). list_all (is_inode_used world g) g.files.numbers ≡ true)
-      (filesystems_seen value.filesystems)
+      world.filesystems
       (worlds_are_in_use world whole.in_world).inodes f old)
       (λ last. ⊎_elim
       (λ same. subst (λ (g : Filesystem ℕ). list_all (is_inode_used middle g) g.files.numbers ≡ true) (sym same)
       (λ i. (eq-eqb (inode_number value.next 0) (inode_number value.next 0) refl i
       || is_among nat_eq (inode_number value.next 0) (rest_used)) && true))
       (λ none. absurd none) last)
-      (among-append (filesystems_seen value.filesystems) (added ∷ []) f m))
+      (among-append world.filesystems (added ∷ []) f m))
     where
       rest_used : List ℕ
       rest_used =
@@ -241,9 +266,12 @@ module _ (value : WorldValue) (whole : IsHeld value) (name : TaskName) (place : 
     abbrev base : Filesystems
     base = value.filesystems ++ entry ∷ []
 
-    seen_base : filesystems_seen (value.filesystems ++ entry ∷ []) ≡ filesystems_seen value.filesystems ++ added ∷ []
-    seen_base = map-append filesystem_seen value.filesystems (entry ∷ [])
+    seen_base : beside_overlays value (value.filesystems ++ entry ∷ []) ≡ world.filesystems ++ added ∷ []
+    seen_base =
+        only_these value whole (value.filesystems ++ entry ∷ [])
+        ∙ map-append filesystem_seen value.filesystems (entry ∷ [])
         ∙ ap (λ filesystem. filesystems_seen value.filesystems ++ filesystem ∷ []) is_new.seen
+        ∙ ap (λ list. list ++ added ∷ []) (sym (only_plain_ones value whole))
 
     pub base_is : middle ≡ with_base value (value.filesystems ++ entry ∷ [])
     base_is = λ i. record (world_of value) { filesystems = sym seen_base i }
@@ -255,18 +283,50 @@ module _ (value : WorldValue) (whole : IsHeld value) (name : TaskName) (place : 
     old_counted : (was : FilesystemEntry) → Among was value.filesystems
         → IsCounted middle (filesystem_numbered nat_eq middle (counted was.count)) (inodes_seen was)
     old_counted was m =
-        uses_are_exchanged world middle [] [] (counted was.count) (inodes_seen was)
+        uses_are_exchanged_beside_overlays world middle [] [] (counted was.count) (inodes_seen was)
         (worlds_have_trees world whole.in_world)
-        (worlds_are_in_use world whole.in_world).inodes left_world.1
-        (others_use_nothing world middle (counted was.count) (world_is_plain value) left_world.1 refl refl
+        (worlds_are_in_use world whole.in_world).inodes
+        (no_upper_is_in_any middle (counted was.count) left_world.1)
+        (plain_ones_use_nothing world middle (counted was.count) refl refl
+        (overlays_before world.filesystems added refl)
         (files_kept (counted was.count)
         (let low = filesystem_counted value whole was m in ne_eqb (counted value.next) (counted was.count)
         (λ same. absurd (omega (arith, low, same))))))
         (subst (λ f. IsCounted world f (inodes_seen was))
-        (sym (found_filesystem world.filesystems whole.in_world.files.one_filesystem (filesystem_seen was)
-        (among-map filesystem_seen value.filesystems was m)))
+        (sym (found_plain_one value whole was m))
         (among_from_all (CountsItsMounts world) value.filesystems whole.filesystems was m).inodes)
         refl
+
+    -- no overlay has a layer in the new one
+    no_layer : All (λ merged. has_layer_on nat_eq (counted value.next) merged ≡ false) middle.filesystems
+    no_layer =
+        subst (All (λ merged. has_layer_on nat_eq (counted value.next) merged ≡ false))
+        (sym (only_these value whole base) ∙ seen_base)
+        (all_from_among (λ merged. has_layer_on nat_eq (counted value.next) merged ≡ false)
+        (filesystems_seen base)
+        (λ f m. ap (has_layer_on nat_eq (counted value.next)) (among-from_map filesystem_seen base f m).2))
+
+    -- nor in any other
+    base_overlays : filter is_overlay (with_base value (value.filesystems ++ entry ∷ [])).filesystems
+        ≡ filter is_overlay world.filesystems
+    base_overlays = ap (filter is_overlay) seen_base ∙ overlays_before world.filesystems added refl
+
+    none_layered : layer_count (with_base value (value.filesystems ++ entry ∷ [])) (counted value.next) ≡ 0
+    none_layered =
+        layers_alike (record (world_of value) { filesystems = [] })
+        (with_base value (value.filesystems ++ entry ∷ [])) (base_overlays ∙ overlays_are value whole.overlays
+        ∙ ap overlays_seen whole.overlays.none_yet) (counted value.next)
+
+    -- all others have lower numbers
+    all_lower : list_all (λ (f : Filesystem ℕ). nat_lt f.number added.number) world.filesystems ≡ true
+    all_lower =
+        subst (λ list. list_all (λ (f : Filesystem ℕ). nat_lt f.number (counted value.next)) list ≡ true)
+        (sym (only_plain_ones value whole))
+        (all_pass (λ (f : Filesystem ℕ). nat_lt f.number (counted value.next)) (filesystems_seen value.filesystems)
+        (λ f m. let from = among-from_map filesystem_seen value.filesystems f m in
+        let low = filesystem_counted value whole from.0 from.1 in
+        ap (λ (g : Filesystem ℕ). nat_lt g.number (counted value.next)) from.2
+        ∙ lt-ltb (counted from.0.count) (counted value.next) (omega (arith, low))))
 
     new_counted : IsCounted middle (filesystem_numbered nat_eq middle (counted entry.count)) (inodes_seen entry)
     new_counted =
@@ -274,11 +334,11 @@ module _ (value : WorldValue) (whole : IsHeld value) (name : TaskName) (place : 
         (sym is_new.counts)
         (subst (λ f. IsCounted middle f (inodes_seen entry))
         (sym (found_filesystem middle.filesystems left_world.0.files.one_filesystem added
-        (among-append_right (filesystems_seen value.filesystems) (added ∷ []) added (inl refl))))
+        (among-append_right world.filesystems (added ∷ []) added (inl refl))))
         (subst (IsCounted middle added) (sym is_new.inodes)
         (subst (λ n. IsCounted middle added (one_counted (inode_number value.next 0) (1 + n))) none_showing
-        (new_tree_is_counted middle (counted value.next)
-        (inode_number value.next 0) left_world.1 whole.in_world.mounts.one_number roots_elsewhere all_outside))))
+        (new_tree_is_counted_beside_overlays middle (counted value.next) (inode_number value.next 0) no_layer
+        whole.in_world.mounts.one_number roots_elsewhere all_outside))))
 
     pub new_base : value.next < 18446744073709551616 → IsBase value (value.filesystems ++ entry ∷ [])
     new_base small = record {
@@ -287,6 +347,7 @@ module _ (value : WorldValue) (whole : IsHeld value) (name : TaskName) (place : 
       in_use = subst InodesInUse base_is in_use_then;
       roots = subst (λ (w : World ℕ). list_all (has_its_root nat_eq w) (mounts_in value.mounts)
           ≡ true) base_is roots_kept;
+      rise = ap are_rising seen_base ∙ rising_last world.filesystems added whole.overlays.all_rise all_lower;
       inodes = λ was m.
           subst (λ (w : World ℕ). IsCounted w (filesystem_numbered nat_eq w (counted was.count))
           (inodes_seen was)) base_is
@@ -296,9 +357,14 @@ module _ (value : WorldValue) (whole : IsHeld value) (name : TaskName) (place : 
           (from_base was m));
       mounts = λ was m.
           ⊎_elim
-          (λ old. (among_from_all (CountsItsMounts world) value.filesystems whole.filesystems was old).mounts)
-          (λ last. ap (λ (one : FilesystemEntry). one.mounts) last ∙ is_new.unmounted ∙ sym none_showing
-          ∙ ap (λ count. mounts_showing world (counted count))
+          (λ old. (among_from_all (CountsItsMounts world) value.filesystems whole.filesystems was old).mounts
+          ∙ ap (λ n. mounts_showing world (counted was.count) + n)
+          (sym (layers_alike world (with_base value (value.filesystems ++ entry ∷ [])) base_overlays
+          (counted was.count))))
+          (λ last. ap (λ (one : FilesystemEntry). one.mounts) last ∙ is_new.unmounted
+          ∙ (λ i. sym none_showing i + sym none_layered i)
+          ∙ ap (λ count. mounts_showing world (counted count)
+          + layer_count (with_base value (value.filesystems ++ entry ∷ [])) (counted count))
           (sym (ap (λ (one : FilesystemEntry). one.count) last ∙ is_new.counts)))
           (from_base was m);
     }

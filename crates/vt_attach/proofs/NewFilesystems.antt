@@ -11,12 +11,13 @@ use Rattle.vt_spec.specs.Inodes.{Inodes}
 use Rattle.vt_laws_counts.specs.Using.{root_counted}
 use Rattle.vt_fs.specs.FilesystemsValue.{FilesystemEntry, Filesystems, IsNew, entry_of, filesystem_seen, inodes_seen, without}
 use Rattle.vt_laws_rules.proofs.numbers.Supports.{used_numbers_are_named}
-use Rattle.vt_laws_letting_go.proofs.Lists.{Among, all_from_among, among-append, among-append_left, among-append_right, among-flat_map, among-map, among_from_all, filter_here, filter_skip, is_among_numbers}
+use Rattle.vt_laws_letting_go.proofs.Lists.{Among, all_from_among, among-append, among-append_left, among-append_right, among-flat_map, among_from_all, filter_here, filter_skip, is_among_numbers}
 use Rattle.vt_location.specs.Numbers.{counted, inode_number, is_own_number}
 use Rattle.vt_location.proofs.NumberLemmas.{is_own}
 use Rattle.vt_laws_runs.specs.Handed.{is_counted_before}
 use Rattle.vt_world.specs.Held.{HasOwnInodes, IsHeld}
 use Rattle.vt_world.specs.WorldValue.{WorldValue, world_of}
+use Rattle.vt_detach.proofs.Overlaid.{plain_one_among}
 use Rattle.vt_detach.proofs.OwnInodesKept.{IsOwn}
 use Rattle.vt_laws_permits.proofs.in_use.InUseServes.{leaves_two}
 
@@ -42,7 +43,7 @@ filesystem_counted value whole entry m =
     (among-append_left (mounts_used ++ files_used) namespaces_used (counted entry.count)
     (among-append_right mounts_used files_used (counted entry.count)
     (among-flat_map used_by_filesystem (world_of value).filesystems (filesystem_seen entry) (counted entry.count)
-    (among-map filesystem_seen value.filesystems entry m) (inl refl))))))
+    (plain_one_among value whole.overlays.merged entry m) (inl refl))))))
   where
     mounts_used : List ℕ
     mounts_used = flat_map used_by_mount (world_of value).mounts

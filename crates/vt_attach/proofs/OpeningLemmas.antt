@@ -5,13 +5,15 @@ use Rattle.std.proofs.lemmas.List.Elements.{All-cons, All-nil}
 use Rattle.vt_spec.specs.declared.attributes.Attr.{Attr}
 use Rattle.vt_spec.specs.Language.Calls.{plain_flags}
 use Rattle.vt_spec.specs.Lists.{is_among}
+use Rattle.vt_spec.specs.Machine.Locked.{of_overlay}
 use Rattle.vt_spec.specs.Machine.Mounts.Propagation.{Private as IsPrivate}
 use Rattle.vt_spec.specs.Machine.World as meant
-use Rattle.vt_spec.specs.Machine.World.{Filesystem, World, first_mount, first_task, new_plain, opening, root_attr}
+use Rattle.vt_spec.specs.Machine.World.{Filesystem, first_mount, first_task, is_overlay, new_plain, opening, root_attr}
 use Rattle.vt_spec.specs.Machine.Invariants.{IsWorld}
 use Rattle.vt_spec.specs.Inodes.{Inodes, node_in, one_directory, pinned, tree_of, used_once_more}
 use Rattle.vt_spec.specs.Tree.{new_directory, tree_of_root}
 use Rattle.vt_laws_counts.specs.Counted.{IsCounted}
+use Rattle.vt_laws_counts.specs.OverlaysStay.{layer_count}
 use Rattle.vt_laws_counts.specs.Using.{one_counted, root_counted}
 use Rattle.vt_laws_counts.proofs.using.Places.{opening_is_counted}
 use Rattle.vt_laws_rules.specs.Numbers.{KeepsTo}
@@ -19,6 +21,7 @@ use Rattle.vt_laws_rules.proofs.numbers.Supports.{opening_keeps_to_four}
 use Rattle.vt_group.specs.Grouping.{Grouping, Has, no_groups}
 use Rattle.vt_group.proofs.Showing.{opening_has_no_groups}
 use Rattle.vt_laws_letting_go.specs.Counts.{mounts_showing}
+use Rattle.vt_laws_letting_go.specs.Keeping.{has_only_named}
 use Rattle.vt_cred.specs.declared.mount_flags.MountFlags.{MountFlags}
 use Rattle.vt_location.specs.declared.births.Birth.TheVariants.{Here}
 use Rattle.vt_location.specs.declared.locations.NodeRef.{NodeRef}
@@ -189,6 +192,7 @@ first_value entry =
       groups = no_groups;
       filesystems = entry
           ∷ [];
+      overlays = [];
       namespaces = first_namespace_entries;
       tasks = first_tasks;
       next = 3;
@@ -222,7 +226,8 @@ module _ (entry : FilesystemEntry) (counts : entry.count ≡ 2)
             (All-nil _));
         filesystems = subst (λ world. All (CountsItsMounts world) (entry ∷ [])) (sym first_world)
             (All-cons (CountsItsMounts (opening nat_eq opening_numbers)) entry [] (record {
-              mounts = mounts ∙ ap (λ count. mounts_showing (opening nat_eq opening_numbers) (counted count))
+              mounts = mounts ∙ ap (λ count. mounts_showing (opening nat_eq opening_numbers) (counted count)
+                  + layer_count (opening nat_eq opening_numbers) (counted count))
                   (sym counts);
               inodes = subst (λ (all : Inodes ℕ). IsCounted (opening nat_eq opening_numbers)
                   (filesystem_seen entry) all) (sym inodes)
@@ -231,6 +236,19 @@ module _ (entry : FilesystemEntry) (counts : entry.count ≡ 2)
                   (opening_is_counted opening_numbers));
             }) (All-nil _));
         own_inodes = All-cons HasOwnInodes entry [] (own entry counts inodes) (All-nil _);
+        overlays = record {
+          merged = All-nil _;
+          read_only = All-cons (λ (filesystem : Filesystem ℕ).
+              of_overlay false (λ overlay. is_some overlay.upper) filesystem ≡ false) (filesystem_seen entry) [] refl
+              (All-nil _);
+          named = All-cons (λ (filesystem : Filesystem ℕ). is_overlay filesystem ≡ true
+              → has_only_named filesystem ≡ true) (filesystem_seen entry) []
+              (λ e. absurd (true≢false (sym e))) (All-nil _);
+          overlays_rise = refl;
+          all_rise = refl;
+          mounts = All-nil _;
+          none_yet = refl;
+        };
         namespaces = subst (λ world. All (CountsWhatIsInIt world) first_namespace_entries) (sym first_world)
             (All-cons (CountsWhatIsInIt (opening nat_eq opening_numbers)) _ [] (record { tasks = refl }) (All-nil _));
       }
@@ -242,13 +260,29 @@ module _ (mounts : List MountEntry) (groups : Grouping) (filesystems : Filesyste
     (filesystems_are : shown filesystems ≡ first_shown 2)
     (namespaces_are : namespaces ≡ first_namespace_entries) (tasks_are : tasks ≡ first_tasks) where
   abbrev made : WorldValue
-  made = record { mounts = mounts; groups = groups; filesystems = filesystems; namespaces = namespaces; tasks = tasks; next = 3 }
+  made = record {
+    mounts = mounts;
+    groups = groups;
+    filesystems = filesystems;
+    overlays = [];
+    namespaces = namespaces;
+    tasks = tasks;
+    next = 3;
+  }
 
   abbrev first : IsFirst filesystems
   first = is_first filesystems filesystems_are
 
   is_made : made ≡ first_value first.entry
-  is_made = λ i. record { mounts = mounts_are i; groups = groups_are i; filesystems = first.alone i; namespaces = namespaces_are i; tasks = tasks_are i; next = 3 }
+  is_made = λ i. record {
+    mounts = mounts_are i;
+    groups = groups_are i;
+    filesystems = first.alone i;
+    overlays = [];
+    namespaces = namespaces_are i;
+    tasks = tasks_are i;
+    next = 3;
+  }
 
   pub opening_held : IsHeld made
   opening_held = subst IsHeld (sym is_made) (first_held first.entry first.counts first.inodes first.mounts)

@@ -6,24 +6,25 @@ use Rattle.vt_spec.specs.Machine.Permits.{Permit}
 use Rattle.vt_spec.specs.Machine.Permits.Permit.{ToUnshare}
 use Rattle.vt_spec.specs.Machine.World.{Task, mounts_of, task_called}
 use Rattle.vt_spec.specs.Machine.Invariants.{IsWorld}
-use Rattle.vt_laws_counts.specs.Counted.{IsPlain}
+use Rattle.vt_laws_counts.specs.BesideOverlays.{OverlaysHaveNoUpper}
 use Rattle.vt_fs.specs.FilesystemsValue.{FilesystemEntry, inodes_seen}
 use Rattle.vt_laws_rules.specs.Numbers.{KeepsTo}
 use Rattle.vt_laws_letting_go.proofs.Lists.{Among, all_from_among}
 use Rattle.vt_laws_permits.specs.Left.{IsGiven}
 use Rattle.vt_laws_permits.specs.Taken.{handed_to}
-use Rattle.vt_laws_permits.proofs.left.PermitsLeave.{given_permits_leave_worlds}
-use Rattle.vt_laws_permits.proofs.same.SameInUse.{same_worlds_are_worlds}
-use Rattle.vt_laws_permits.proofs.same.SameNumbers.{same_worlds_keep_to_numbers}
+use Rattle.vt_laws_one_text.proofs.same.SameNumbers.{any_same_worlds_keep_to_numbers}
+use Rattle.vt_laws_one_text.proofs.same.SameWhole.{any_same_worlds_are_worlds}
+use Rattle.vt_laws_overlays_stay.proofs.left.Given.{given_permits_give_no_upper}
 use Rattle.vt_laws_runs.specs.Handed.{is_counted_before}
 use Rattle.vt_detach.specs.Events.{left_by, supply_of}
 use Rattle.vt_world.specs.Held.{CountsItsMounts, HasOwnInodes, IsHeld}
-use Rattle.vt_world.specs.WorldValue.{WorldValue, world_of}
+use Rattle.vt_world.specs.WorldValue.{WorldValue, overlays_seen, world_of}
 use Rattle.vt_attach.proofs.NumbersByParts.{unshares_keep_to_numbers}
 use Rattle.vt_detach.proofs.Finishing.{CountsBeside}
+use Rattle.vt_detach.proofs.Overlaid.{none_still, overlays_hold_still, same_files_rise}
 use Rattle.vt_detach.proofs.OwnInodesKept.{IsOwn}
 use Rattle.vt_detach.proofs.Showing.{ShowsAs, shown_has, shown_is_counted, shown_is_same}
-use Rattle.vt_detach.proofs.Staying.{IsDone, becomes_so, world_is_plain}
+use Rattle.vt_detach.proofs.Staying.{IsDone, becomes_so}
 
 -- a permit of a task that takes numbers of the supply that it is handed
 pub record TakesNumbers (value : WorldValue) (name : TaskName) (permit : Permit ℕ) (task : Task ℕ) : Type 0 where
@@ -36,31 +37,36 @@ pub record TakesNumbers (value : WorldValue) (name : TaskName) (permit : Permit 
 module _ (value : WorldValue) (whole : IsHeld value) (name : TaskName) (permit : Permit ℕ) (task : Task ℕ)
     (takes : TakesNumbers value name permit task) where
   -- what is left is a world
-  pub left_is_world : IsWorld nat_eq (left_by value task permit) × IsPlain (left_by value task permit)
+  pub left_is_world : IsWorld nat_eq (left_by value task permit) × OverlaysHaveNoUpper (left_by value task permit)
   left_is_world =
-      given_permits_leave_worlds (world_of value) (supply_of value permit) task permit whole.in_world
-      (world_is_plain value) takes.given
+      given_permits_give_no_upper (world_of value) (supply_of value permit) task permit whole.in_world
+      whole.overlays.read_only takes.given
 
   -- what is left keeps to the counts before the next one, whatever numbers were taken
-  pub numbers_are_kept : (new : WorldValue) → ShowsAs (left_by value task permit) new → CountsBeside new
+  pub numbers_are_kept : (new : WorldValue) → overlays_seen new.overlays ≡ overlays_seen value.overlays
+      → ShowsAs (left_by value task permit) new → CountsBeside new
       → ((entry : FilesystemEntry) → Among entry new.filesystems → IsOwn entry.count (inodes_seen entry))
       → KeepsTo (is_counted_before new.next) (left_by value task permit) → IsDone value name permit new
-  numbers_are_kept new shows counts own keeps =
+  numbers_are_kept new same_overlays shows counts own keeps =
       let same = shown_is_same (left_by value task permit) new shows left_is_world.0 in
-      let world = same_worlds_are_worlds (left_by value task permit)
-      (world_of new) same left_is_world.1 left_is_world.0 in
+      let world = any_same_worlds_are_worlds (left_by value task permit) (world_of new) same left_is_world.0 in
       record {
         held = record {
-          in_world = world.0;
+          in_world = world;
           groups = shown_has (left_by value task permit) new shows left_is_world.0;
-          given = same_worlds_keep_to_numbers (is_counted_before new.next) (left_by value task permit)
-              (world_of new) same left_is_world.1 keeps;
+          given = any_same_worlds_keep_to_numbers (is_counted_before new.next) (left_by value task permit)
+              (world_of new) same keeps;
           mounts = counts.uses;
           filesystems = all_from_among (CountsItsMounts (world_of new)) new.filesystems (λ entry m. record {
             mounts = counts.mounts entry m;
-            inodes = shown_is_counted (left_by value task permit) new shows left_is_world.0 entry m world.0;
+            inodes = shown_is_counted (left_by value task permit) new shows left_is_world.0 entry m world;
           });
           own_inodes = all_from_among HasOwnInodes new.filesystems own;
+          overlays = overlays_hold_still value new whole.overlays (none_still value new whole same_overlays)
+              same_overlays
+              (same_files_rise (left_by value task permit).filesystems (world_of new).filesystems same.filesystems
+              shows.rise)
+              counts.overlays;
           namespaces = counts.namespaces;
         };
         becomes = becomes_so value name permit new task takes.called same;

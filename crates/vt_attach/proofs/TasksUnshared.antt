@@ -22,7 +22,7 @@ use Rattle.vt_detach.specs.Events.{Permits}
 use Rattle.vt_world.specs.Held.{IsHeld}
 use Rattle.vt_detach.specs.NamespacesLeft.{MountsAreLeft, namespace_entry, with_one_task_less}
 use Rattle.vt_detach.specs.Uses.{kept}
-use Rattle.vt_world.specs.WorldValue.{NamespaceEntry, WorldValue}
+use Rattle.vt_world.specs.WorldValue.{NamespaceEntry, WorldValue, overlays_seen}
 use Rattle.vt_detach.proofs.Staying.{IsDone}
 use Rattle.vt_attach.proofs.UnsharedDone as Done
 use Rattle.vt_attach.proofs.UnsharedInodes.{copies_gain, copies_there}
@@ -50,6 +50,7 @@ pub record IsUnshared (value : WorldValue) (name : TaskName) (own : Own) (root d
       (λ task. record task { namespace = counted value.next; root = location_of root; directory = location_of directory }) value.tasks
   pub before : list_all (λ mount. nat_lt mount.number (counted value.next)) (mounts_in value.mounts) ≡ true
   pub next : new.next ≡ value.next + 2 * length (attached_in (counted own.namespace.count) value.mounts)
+  pub overlays : overlays_seen new.overlays ≡ overlays_seen value.overlays
 
 pub task_is_unshared : (value : WorldValue) → IsHeld value → (name : TaskName) → Permits value name ToUnshare
     → (own : Own)
@@ -73,7 +74,7 @@ task_is_unshared value whole name permits own is root directory mounts grown fil
     (facts.namespaces_left ∙ ap (with_one_task_less own.namespace.count) facts.entered)
     tasks_are
     (facts.next ∙ ap (λ n. value.next + 2 * length (attached_in n value.mounts)) in_namespace)
-    facts.before
+    facts.before facts.overlays
   where
     own_is : task_of own ≡ permits.task
     own_is = same_Some (task_of own) permits.task (is ∙ permits.called)

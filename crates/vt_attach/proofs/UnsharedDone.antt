@@ -11,7 +11,6 @@ use Rattle.vt_spec.specs.Machine.SameWorlds.{SameWorlds}
 use Rattle.vt_spec.specs.Machine.Settled.{settled}
 use Rattle.vt_spec.specs.Machine.World.{Namespace, Task, World, mount_at, mounts_of}
 use Rattle.vt_spec.specs.Machine.Invariants.{IsWorld, MountInvariants}
-use Rattle.vt_laws_counts.specs.Counted.{IsPlain}
 use Rattle.vt_laws_counts.specs.Using.{AreThere, places_of}
 use Rattle.vt_fs.specs.FilesystemsValue.{FilesystemEntry, Filesystems, inodes_seen, shown}
 use Rattle.vt_group.specs.Grouping.{Grouping, Has, are_rising}
@@ -25,7 +24,7 @@ use Rattle.vt_location.specs.declared.mounts.Mount.{Mount as Attached}
 use Rattle.vt_location.specs.MountValue.{mount_of}
 use Rattle.vt_location.specs.Numbers.{counted}
 use Rattle.vt_mount.specs.MountsValue.{MountEntry, are_ascending, mounts_in}
-use Rattle.vt_laws_permits.proofs.same.SameNumbers.{same_worlds_keep_to_numbers}
+use Rattle.vt_laws_one_text.proofs.same.SameNumbers.{any_same_worlds_keep_to_numbers}
 use Rattle.vt_laws_runs.specs.Handed.{counts_from, is_counted_before}
 use Rattle.vt_tasks.specs.TasksValue.{Tasks}
 use Rattle.vt_mount.specs.Attached.{attached_in}
@@ -34,7 +33,7 @@ use Rattle.vt_detach.specs.Events.{Permits, left_by}
 use Rattle.vt_world.specs.Held.{CountsWhatIsInIt, IsHeld}
 use Rattle.vt_detach.specs.NamespacesLeft.{MountsAreLeft, namespace_entry, numbers_inside, with_one_task_less}
 use Rattle.vt_detach.specs.Uses.{kept, with_attached}
-use Rattle.vt_world.specs.WorldValue.{NamespaceEntry, WorldValue, namespace_of, world_of}
+use Rattle.vt_world.specs.WorldValue.{NamespaceEntry, WorldValue, namespace_of, overlays_seen, world_of}
 use Rattle.vt_attach.proofs.AddedBegins as Begins
 use Rattle.vt_attach.proofs.AddedBegins.{IsAdded, KeepsAdded, with_added}
 use Rattle.vt_attach.proofs.GrownGroups.{ascending_rises}
@@ -49,7 +48,8 @@ use Rattle.vt_detach.proofs.MidwayDone.{reached_counted, reached_swept}
 use Rattle.vt_attach.proofs.MovedUses as Moved
 use Rattle.vt_detach.proofs.NamespacesEnded.{ends, left_counted}
 use Rattle.vt_detach.proofs.NamespacesTyped.{gone_numbers, nowhere_private}
-use Rattle.vt_detach.proofs.Staying.{IsDone, becomes_so, world_is_plain}
+use Rattle.vt_detach.proofs.Overlaid.{keeps_itself, same_files_keep}
+use Rattle.vt_detach.proofs.Staying.{IsDone, becomes_so}
 use Rattle.vt_detach.proofs.TypedEvents.{counts_typed, swept_typed, typed_value}
 use Rattle.vt_detach.proofs.TypedWorlds.{settled_typed, settled_typed_has, typed_world}
 use Rattle.vt_attach.proofs.TakingNumbers.{TakesNumbers, left_is_world, left_keeps}
@@ -143,7 +143,8 @@ module _ (value : WorldValue) (whole : IsHeld value) (name : TaskName) (permits 
       (kept new.mounts new.filesystems) new.groups)
       (namespaces_are : new.namespaces ≡ with_one_task_less count entries) (tasks_are : new.tasks ≡ tasks)
       (next_is : new.next ≡ value.next + 2 * length (attached_in task.namespace value.mounts))
-      (before : list_all (λ mount. nat_lt mount.number (counted value.next)) (mounts_in value.mounts) ≡ true) where
+      (before : list_all (λ mount. nat_lt mount.number (counted value.next)) (mounts_in value.mounts) ≡ true)
+      (overlays_are : overlays_seen new.overlays ≡ overlays_seen value.overlays) where
     abbrev ended : World ℕ
     ended = Begins.ended value whole added tasks come_to gone_from inside
         (Worlds.nowhere_stays value whole name task permits.called permits.given.serves count in_namespace)
@@ -207,15 +208,15 @@ module _ (value : WorldValue) (whole : IsHeld value) (name : TaskName) (permits 
     swept =
         reached_swept value ended (gained_by copies) goes
         (kept ended_is_left.entries new.filesystems) ended_is_left.reached ended_is_left.all_gone untyped refl
-        (sym tasks_are)
-        (world_is_plain value)
+        (sym tasks_are) overlays_are
+        (same_files_keep value world ended refl (keeps_itself value whole.overlays))
         (ap (map (λ (n : Namespace ℕ). record n { change = 0 })) (ap (map namespace_of) (sym namespaces_are)))
 
     counts : CountsBeside untyped
     counts =
         reached_counted value ended (gained_by copies) goes
         (kept ended_is_left.entries new.filesystems) ended_is_left.reached ended_is_left.all_gone untyped refl
-        (sym tasks_are)
+        (sym tasks_are) overlays_are
         (subst (All (CountsWhatIsInIt (world_of untyped))) (sym namespaces_are)
         (left_counted count tasks entries
         (Worlds.entries_count value whole name task permits.called permits.given.serves count in_namespace)
@@ -239,9 +240,8 @@ module _ (value : WorldValue) (whole : IsHeld value) (name : TaskName) (permits 
     takes : TakesNumbers value name ToUnshare task
     takes = record { called = permits.called; given = permits.given; inode = 0; even = refl; supply = refl }
 
-    world_left : IsWorld nat_eq (settled nat_eq typed_ended) × IsPlain (settled nat_eq typed_ended)
-    world_left = subst (λ w. IsWorld nat_eq w × IsPlain w) typed_left
-        (left_is_world value whole name ToUnshare task takes)
+    world_left : IsWorld nat_eq (settled nat_eq typed_ended)
+    world_left = subst (IsWorld nat_eq) typed_left (left_is_world value whole name ToUnshare task takes).0
 
     typed_swept : IsSwept value typed_ended (gained_by copies) ended_is_left.reached.lost typed_new
     typed_swept = swept_typed new.groups untyped value ended (gained_by copies) ended_is_left.reached.lost swept
@@ -262,9 +262,9 @@ module _ (value : WorldValue) (whole : IsHeld value) (name : TaskName) (permits 
     keeps_numbers : KeepsTo (is_counted_before new.next) (world_of typed_new)
     keeps_numbers =
         subst (λ next. KeepsTo (is_counted_before next) (world_of typed_new)) (sym next_is)
-        (same_worlds_keep_to_numbers (is_counted_before
+        (any_same_worlds_keep_to_numbers (is_counted_before
         (value.next + 2 * length (attached_in task.namespace value.mounts))) (settled nat_eq typed_ended)
-        (world_of typed_new) settled_same world_left.1
+        (world_of typed_new) settled_same
         (subst (KeepsTo (is_counted_before (value.next + 2 * length (attached_in task.namespace value.mounts))))
         typed_left (left_keeps value whole name task takes)))
 

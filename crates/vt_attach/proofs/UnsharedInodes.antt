@@ -14,7 +14,7 @@ use Rattle.vt_spec.specs.Machine.Invariants.{has_its_root, is_located_well, is_t
 use Rattle.vt_spec.specs.Inodes.{node_in}
 use Rattle.vt_spec.specs.Inodes as Trees
 use Rattle.vt_laws_counts.specs.Using.{AreThere, places_of}
-use Rattle.vt_fs.specs.FilesystemsValue.{FilesystemEntry, filesystem_seen, inodes_seen}
+use Rattle.vt_fs.specs.FilesystemsValue.{FilesystemEntry, inodes_seen}
 use Rattle.vt_laws_letting_go.specs.Counts.{times}
 use Rattle.vt_laws_letting_go.specs.Mounting.{inode_at}
 use Rattle.vt_laws_letting_go.specs.OneByOne.{Inode}
@@ -37,8 +37,8 @@ use Rattle.vt_attach.proofs.AddedBegins.{nothing_moves, with_added}
 use Rattle.vt_attach.proofs.AddedUses.{IsFoundIn, gained_by, gained_uses}
 use Rattle.vt_detach.proofs.FilesSeen.{seen_in}
 use Rattle.vt_detach.proofs.MidwayBegins.{point_is_located}
+use Rattle.vt_detach.proofs.Overlaid.{found_plain_one, there_as_kept}
 use Rattle.vt_attach.proofs.UnsharedTasks.{added, copied, copy, copy_is, from_spec, new_namespace, one_number, tasks_moved, to_spec}
-use Rattle.vt_laws_letting_go.proofs.sweeps.OfWorlds.{found_filesystem}
 
 module _ (value : WorldValue) (whole : IsHeld value) (name : TaskName) (task : Task ℕ)
     (found : task_called (world_of value) name ≡ Some task)
@@ -122,7 +122,8 @@ module _ (value : WorldValue) (whole : IsHeld value) (name : TaskName) (task : T
       ap (λ (l : meant.Location ℕ). is_there nat_eq world (mount_at nat_eq world place).filesystem l.node) is
       ∙ (and_parts _ _ well).1 in
       let seen = seen_in value.filesystems whole.own_inodes (mount_at nat_eq world place).filesystem
-      (number_of point.node) there in
+      (number_of point.node)
+      (there_as_kept value whole (mount_at nat_eq world place).filesystem (number_of point.node) there) in
       let shown_in : (mount_at nat_eq world place).filesystem ≡ counted point.node.filesystem.count =
       seen.number_is ∙ ap counted (own_count seen.entry.count point.node small seen.own) in
       record {
@@ -177,8 +178,7 @@ module _ (value : WorldValue) (whole : IsHeld value) (name : TaskName) (task : T
       by true e =
           some_inode ((inodes_seen was).inode (number_of node))
           (ap (λ (f : Filesystem ℕ). is_some (f.files.tree.node (number_of node)))
-          (sym (found_filesystem world.filesystems whole.in_world.files.one_filesystem (filesystem_seen was)
-          (among-map filesystem_seen value.filesystems was m))
+          (sym (found_plain_one value whole was m)
           ∙ ap (filesystem_numbered nat_eq world) (eqb-true _ _ e)) ∙ there)
 
   pub copies_there : (was : FilesystemEntry) → Among was value.filesystems

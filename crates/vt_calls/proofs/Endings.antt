@@ -1,6 +1,6 @@
 -- How a call ends, from what its judgement and its event say.
-use Rattle.std.proofs.Common.{◌≡◌, refl, sym, ap, subst, ◌∙◌, ℕ, Bool, false, true, not, ◌||◌, nat_eq, Some, None, Result, Ok, Err, ok_or, inl, inr}
-use Rattle.std.specs.Prelude.{IfErr, OnErr, OnOk, ⊤}
+use Rattle.std.proofs.Common.{◌≡◌, refl, sym, ap, subst, ◌∙◌, ℕ, false, nat_eq, Some, None, Result, Ok, Err, ok_or, inl, inr}
+use Rattle.std.specs.Prelude.{OnErr, OnOk, ⊤}
 use Rattle.std.specs.declared.alloc.AllocError.{AllocError}
 use Rattle.vt_spec.specs.declared.errors.Deny.{Deny}
 use Rattle.vt_spec.specs.declared.errors.Rule.TheVariants.{S2, S5}

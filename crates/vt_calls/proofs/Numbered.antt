@@ -1,9 +1,8 @@
 -- A kernel's world is that of its events but for its change number, so a call ends alike in both.
-use Rattle.std.proofs.Common.{◌≡◌, refl, sym, ap, subst, ◌∙◌, ℕ, nat_eq, true, List, Result, Ok, Err, ◌⊎◌, inl, inr}
+use Rattle.std.proofs.Common.{◌≡◌, refl, sym, ap, subst, ◌∙◌, ℕ, nat_eq, List, Result, Ok, Err, inl, inr}
 use Rattle.std.specs.Prelude.{OnErr}
 use Rattle.vt_spec.specs.declared.errors.Deny.{Deny}
 use Rattle.vt_spec.specs.Language.Calls.{Call, TaskName}
-use Rattle.vt_spec.specs.Language.Script.{needs_no_layers}
 use Rattle.vt_spec.specs.Lists.{Fresh}
 use Rattle.vt_spec.specs.Language.Answers.{PeerLine}
 use Rattle.vt_spec.specs.Language.Answers.Answer.{PeerList}
@@ -13,19 +12,18 @@ use Rattle.vt_spec.specs.Machine.Policy.{policy}
 use Rattle.vt_spec.specs.Machine.SameWorlds.{SameWorlds}
 use Rattle.vt_spec.specs.Machine.Sealed.{directed}
 use Rattle.vt_laws_rules.specs.Numbers.{Allotment}
-use Rattle.vt_laws_permits.proofs.same.SameNumbers.{same_worlds_keep_to_numbers}
+use Rattle.vt_laws_one_text.proofs.answered.AlikeAnswered.{any_same_worlds_are_answered_alike, any_same_worlds_are_directed_alike}
+use Rattle.vt_laws_one_text.proofs.same.SameNumbers.{any_same_worlds_keep_to_numbers}
+use Rattle.vt_laws_one_text.specs.Answered.{AreAlike}
 use Rattle.vt_request.specs.Requests.{directive_of}
 use Rattle.vt_request.specs.declared.answer.Answer.{Answer}
 use Rattle.vt_request.specs.declared.request.Directive.{Directive}
 use Rattle.vt_request.specs.declared.request.Directive.TheVariants.{Peers}
-use Rattle.vt_laws_runs.proofs.answered.AlikeAnswered.{same_worlds_are_answered_alike, same_worlds_are_directed_alike}
 use Rattle.vt_laws_runs.proofs.answered.AlikeWorlds.{sameness_is_an_equivalence}
-use Rattle.vt_laws_runs.proofs.runs.GrammarsPlain.{marks_mount_no_overlay}
-use Rattle.vt_laws_runs.specs.Answered.{AreAlike}
 use Rattle.vt_laws_runs.specs.Handed.{may_be_given}
 use Rattle.vt_laws_runs.specs.Runs.{ServesInHand}
-use Rattle.vt_detach.proofs.Staying.{world_is_plain}
-use Rattle.vt_world.specs.WorldValue.{WorldValue, world_of}
+use Rattle.vt_world.specs.Held.{IsHeld}
+use Rattle.vt_world.specs.WorldValue.{world_of}
 use Rattle.vt_answers.specs.Ends as any
 use Rattle.vt_answers.specs.Ends.{MayBeRefusedMemory}
 use Rattle.vt_calls.proofs.Finishing.{same_but_for_changes}
@@ -43,19 +41,19 @@ pub serves_numbered : (kernel : KernelValue) (allotment : Allotment)
 serves_numbered kernel allotment it = record {
   serves = record {
     from_hand = it.serves.from_hand;
-    keeps = same_worlds_keep_to_numbers _ (world_of kernel.world) (kernel_world kernel) (numbered kernel)
-        (world_is_plain kernel.world) it.serves.keeps;
+    keeps = any_same_worlds_keep_to_numbers _ (world_of kernel.world) (kernel_world kernel) (numbered kernel)
+        it.serves.keeps;
   };
   stays = it.stays;
 }
 
 -- a call ends so
-module _ (old : KernelValue) (name : TaskName) (call : Call) (has : needs_no_layers call ≡ true) where
+module _ (old : KernelValue) (held : IsHeld old.world) (name : TaskName) (call : Call) where
   alike : (fresh : Fresh ℕ)
       → AreAlike (policy nat_eq fresh (world_of old.world) name call) (policy nat_eq fresh (kernel_world old) name call)
   alike fresh =
-      same_worlds_are_answered_alike (world_of old.world) (kernel_world old) (numbered old) (world_is_plain old.world)
-      fresh name call (marks_mount_no_overlay call has)
+      any_same_worlds_are_answered_alike (world_of old.world) (kernel_world old) (numbered old) held.in_world fresh name
+      call
 
   -- with the kernel that it leaves
   module _ (new : KernelValue) where
@@ -83,12 +81,12 @@ module _ (old : KernelValue) (name : TaskName) (call : Call) (has : needs_no_lay
     }
 
 -- the same of a kernel as a function sees it
-pub ends_seen : (seen old new : KernelValue) → seen ≡ old → (name : TaskName) (call : Call)
-    → needs_no_layers call ≡ true → (result : Result Answer Deny) → Ends seen.world name call result new.world
+pub ends_seen : (seen old new : KernelValue) → seen ≡ old → IsHeld seen.world → (name : TaskName) (call : Call)
+    → (result : Result Answer Deny) → Ends seen.world name call result new.world
     → OnErr result (new.world ≡ seen.world → new ≡ seen) → any.Ends kernel_world old name call result new
-ends_seen seen old new is name call has result it kept =
+ends_seen seen old new is held name call result it kept =
     subst (λ kernel. any.Ends kernel_world kernel name call result new) is
-    (ends_numbered seen name call has new result it kept)
+    (ends_numbered seen held name call new result it kept)
 
 -- and a directive is answered so
 pub directed_numbered : (seen kernel : KernelValue) → seen ≡ kernel → (directive : Directive) (lines : List PeerLine)
@@ -96,6 +94,6 @@ pub directed_numbered : (seen kernel : KernelValue) → seen ≡ kernel → (dir
     → (directed nat_eq (kernel_world kernel) (directive_of directive)).answer ≡ Ok (PeerList lines)
 directed_numbered seen kernel is Peers lines told =
     subst (λ other. (directed nat_eq (kernel_world other) (directive_of Peers)).answer ≡ Ok (PeerList lines)) is
-    (sym (same_worlds_are_directed_alike (world_of seen.world) (kernel_world seen) (numbered seen)
-    (world_is_plain seen.world) (directive_of Peers)).answer
+    (sym (any_same_worlds_are_directed_alike (world_of seen.world) (kernel_world seen) (numbered seen)
+    (directive_of Peers)).answer
     ∙ ap (λ some. Ok (PeerList some)) (sym told))

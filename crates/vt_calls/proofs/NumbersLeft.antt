@@ -7,11 +7,9 @@ use Rattle.vt_spec.specs.Machine.Policy.{policy}
 use Rattle.vt_spec.specs.Machine.SameWorlds.{SameWorlds}
 use Rattle.vt_laws_rules.specs.Numbers.{IsSuppliedFrom, KeepsTo}
 use Rattle.vt_laws_rules.proofs.numbers.Supports.{calls_keep_to_numbers}
-use Rattle.vt_laws_permits.proofs.same.SameNumbers.{same_worlds_keep_to_numbers}
-use Rattle.vt_laws_runs.proofs.answered.AlikeWorlds.{same_worlds_are_plain_alike, sameness_is_an_equivalence}
+use Rattle.vt_laws_one_text.proofs.same.SameNumbers.{any_same_worlds_keep_to_numbers}
 use Rattle.vt_laws_runs.specs.Handed.{counts_from, handed_from, may_be_given}
 use Rattle.vt_location.specs.Numbers.{inode_number}
-use Rattle.vt_detach.proofs.Staying.{world_is_plain}
 use Rattle.vt_detach.specs.Events.{next_inode, supply_of}
 use Rattle.vt_world.specs.Held.{IsHeld}
 use Rattle.vt_world.specs.WorldValue.{WorldValue, world_of}
@@ -51,8 +49,6 @@ numbers_left old new name call permit held vacant same =
     let kept : KeepsTo may_be_given (world_of old) =
     λ renaming leaves. serves.keeps renaming (λ number kept. leaves number (serves.from_hand number kept)) in
     numbers_kept (world_of new)
-    (same_worlds_keep_to_numbers may_be_given left (world_of new) same
-    (same_worlds_are_plain_alike (world_of new) left (sameness_is_an_equivalence.back left (world_of new) same)
-    (world_is_plain new))
+    (any_same_worlds_keep_to_numbers may_be_given left (world_of new) same
     (calls_keep_to_numbers may_be_given (supply_of old permit) (world_of old) name call kept
     (supply_given old permit vacant)))

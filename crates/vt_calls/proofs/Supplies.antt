@@ -10,7 +10,7 @@ use Rattle.vt_spec.specs.Machine.World.{task_called}
 use Rattle.vt_laws_rules.specs.Numbers.{Allotment}
 use Rattle.vt_laws_rules.proofs.numbers.Texts.{room_serves}
 use Rattle.vt_location.specs.Numbers.{inode_number}
-use Rattle.vt_laws_permits.proofs.in_use.InUseServes.{worlds_keep_to_named_before}
+use Rattle.vt_laws_overlays_stay.proofs.in_use.NamedBefore.{any_worlds_keep_to_named_before}
 use Rattle.vt_laws_permits.proofs.taken.TakenJudged.{judgements_do_not_see_supplies}
 use Rattle.vt_permits.specs.GrantValue.{permit_of}
 use Rattle.vt_permits.specs.declared.grant.Grant.{Grant}
@@ -25,7 +25,6 @@ use Rattle.vt_world.specs.WorldValue.{WorldValue, world_of}
 use Rattle.vt_laws_worlds.proofs.worlds.CallsKept.{name_found}
 use Rattle.vt_calls.specs.Permitted.{IsGivenFor}
 use Rattle.vt_laws_runs.proofs.runs.GrammarsPlain.{marks_mount_no_overlay}
-use Rattle.vt_detach.proofs.Staying.{world_is_plain}
 
 -- what a permit is handed beside counts is not in use
 abbrev pub AreVacant : WorldValue → Permit ℕ → Type 0
@@ -46,8 +45,7 @@ handed : (value : WorldValue) → IsHeld value → (place inode : ℕ) → IsVac
     → IsAllotted value (handed_from value.next place inode)
 handed value held place inode vacant =
     allotted_numbers_serve value.next place inode vacant.even (world_of value)
-    (worlds_keep_to_named_before value.next inode (world_of value) held.in_world (world_is_plain value) held.given
-    vacant.unused)
+    (any_worlds_keep_to_named_before value.next inode (world_of value) held.in_world held.given vacant.unused)
 
 pub allotted : (value : WorldValue) → IsHeld value → (permit : Permit ℕ) → AreVacant value permit
     → IsAllotted value (supply_of value permit)

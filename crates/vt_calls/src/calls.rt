@@ -51,6 +51,7 @@ impl Calls for Kernel {
     }
 
     fn call(&mut self, name: &TaskName, call: Call) -> Result<Answer, Deny> {
+        self.world.is_held();
         let after = change_after(&call, self.change);
         let answer = judged_call(&mut self.world, self.change, name, call)?;
         self.change = after;

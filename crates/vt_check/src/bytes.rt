@@ -1,7 +1,5 @@
 //! The bytes of a line that no word has, and escapes that spell none.
 use crate::finding::Span;
-use std::alloc::AllocError;
-use std::fmt::Write;
 use vt_io::line::LONGEST_LINE;
 
 /// Why bytes are of no word.
@@ -42,122 +40,89 @@ pub struct ByteFault {
     pub span: Span,
 }
 
-/// Where the reading of a token stands: outside escapes, or in one that began at this place.
-#[derive(Clone, Copy)]
-enum Stage {
-    Outside,
-    Backslash(usize),
-    X(usize),
-    High(usize),
-}
-
 /// Whether a byte stands for itself in a word.
 pub fn is_plain(byte: u8) -> bool {
     matches!(byte, 0x21..=0x7e) && byte != b'\\'
 }
 
-// The kind of a byte that is no part of a word, whatever stands around it.
-fn kind_of(byte: u8) -> ByteKind {
+// The kind of a byte that is no part of a word, by how many bytes of the line it begins.
+fn kind_of(byte: u8, left: usize) -> ByteKind {
     match byte {
         b'\t' => ByteKind::Tab,
+        b'\r' if left == 1 => ByteKind::Crlf,
         0x80.. => ByteKind::High,
         _ => ByteKind::Control,
     }
 }
 
-// A fault from this place up to the next.
-fn fault(kind: ByteKind, from: usize, to: usize) -> ByteFault {
+// A fault of so many bytes.
+fn fault(kind: ByteKind, column: usize, width: usize) -> ByteFault {
     ByteFault {
         kind,
-        span: Span {
-            column: from,
-            width: to.saturating_sub(from),
+        span: Span { column, width },
+    }
+}
+
+// Whether these bytes begin with the word `\e`, which is the empty text.
+fn is_empty_text(rest: &[u8]) -> bool {
+    rest.starts_with(b"\\e") && matches!(rest.get(2), None | Some(b' '))
+}
+
+// Whether a byte is a digit of an escape.
+fn is_digit(byte: u8) -> bool {
+    matches!(byte, b'0'..=b'9' | b'a'..=b'f')
+}
+
+// How many bytes from a backslash on spell no escape, up to the first that is wrong; nothing where four bytes are one.
+fn bad_escape(rest: &[u8]) -> Option<usize> {
+    for place in 1..4 {
+        match rest.get(place) {
+            None | Some(b' ') => return Some(place),
+            Some(b'x') if place == 1 => {}
+            Some(byte) if place > 1 && is_digit(*byte) => {}
+            Some(_) => return Some(place.saturating_add(1)),
+        }
+    }
+    None
+}
+
+// How many bytes the character at this place has, or what is wrong with it. It may be the first of a word.
+fn width_at(line: &[u8], place: usize, is_first: bool) -> Result<usize, ByteFault> {
+    let rest = line.get(place..).unwrap_or_default();
+    if is_first && is_empty_text(rest) {
+        return Ok(2);
+    }
+    match rest.first() {
+        Some(b'\\') => match bad_escape(rest) {
+            Some(width) => Err(fault(ByteKind::Escape, place, width)),
+            None => Ok(4),
         },
-    }
-}
-
-// The stage after a byte at this place, or the fault that it makes.
-fn after(stage: Stage, place: usize, byte: u8) -> Result<Stage, ByteFault> {
-    let next = place.saturating_add(1);
-    let is_digit = matches!(byte, b'0'..=b'9' | b'a'..=b'f');
-    match stage {
-        Stage::Outside if byte == b'\\' => Ok(Stage::Backslash(place)),
-        Stage::Outside if is_plain(byte) => Ok(Stage::Outside),
-        Stage::Outside => Err(fault(kind_of(byte), place, next)),
-        Stage::Backslash(from) if byte == b'x' => Ok(Stage::X(from)),
-        Stage::X(from) if is_digit => Ok(Stage::High(from)),
-        Stage::High(_) if is_digit => Ok(Stage::Outside),
-        Stage::Backslash(from) | Stage::X(from) | Stage::High(from) => {
-            Err(fault(ByteKind::Escape, from, next))
+        Some(byte) if !is_plain(*byte) && *byte != b' ' => {
+            Err(fault(kind_of(*byte, rest.len()), place, 1))
         }
-    }
-}
-
-// The first fault of a token.
-fn fault_in(token: &[u8]) -> Option<ByteFault> {
-    if token == b"\\e".as_slice() {
-        return None;
-    }
-    let mut stage = Stage::Outside;
-    for (place, byte) in token.iter().enumerate() {
-        match after(stage, place, *byte) {
-            Ok(next) => stage = next,
-            Err(fault) => return Some(fault),
-        }
-    }
-    match stage {
-        Stage::Outside => None,
-        Stage::Backslash(from) | Stage::X(from) | Stage::High(from) => {
-            Some(fault(ByteKind::Escape, from, token.len()))
-        }
-    }
-}
-
-// The fault with its place in the line, whose token begins at this column.
-fn in_line(line: &[u8], column: usize, found: ByteFault) -> ByteFault {
-    let column = column.saturating_add(found.span.column);
-    let is_last = line.get(column..) == Some(b"\r".as_slice());
-    ByteFault {
-        kind: if is_last { ByteKind::Crlf } else { found.kind },
-        span: Span {
-            column,
-            width: found.span.width,
-        },
+        _ => Ok(1),
     }
 }
 
 /// The first bytes of a line that are of no word, if there are any.
 pub fn byte_fault(line: &[u8]) -> Option<ByteFault> {
     if line.len() > LONGEST_LINE {
-        return Some(fault(ByteKind::Overlong, LONGEST_LINE, line.len()));
+        let width = line.len().saturating_sub(LONGEST_LINE);
+        return Some(fault(ByteKind::Overlong, LONGEST_LINE, width));
     }
     if line.starts_with(b"\xef\xbb\xbf") {
         return Some(fault(ByteKind::Mark, 0, 3));
     }
-    let mut column: usize = 0;
-    for token in line.split(|byte| *byte == b' ') {
-        if let Some(found) = fault_in(token) {
-            return Some(in_line(line, column, found));
+    let mut next: usize = 0;
+    let mut is_first = true;
+    for (place, byte) in line.iter().enumerate() {
+        if place == next {
+            match width_at(line, place, is_first) {
+                Ok(width) => next = place.saturating_add(width),
+                Err(fault) => return Some(fault),
+            }
         }
-        column = column.saturating_add(token.len()).saturating_add(1);
+        is_first = *byte == b' ';
     }
     None
-}
-
-/// Appends a byte as it is shown: itself, or `\xhh` where it is not printed.
-pub fn push_shown(text: &mut String, byte: u8) -> Result<(), AllocError> {
-    if matches!(byte, 0x20..=0x7e) {
-        text.push(char::from(byte))
-    } else {
-        write!(text, "\\x{byte:02x}")
-    }
-}
-
-/// Appends a byte as a word spells it; a space and a tab are spaces.
-pub fn push_spelled(text: &mut String, byte: u8) -> Result<(), AllocError> {
-    if byte == b'\t' {
-        text.push(' ')
-    } else {
-        push_shown(text, byte)
-    }
 }

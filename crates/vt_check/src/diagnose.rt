@@ -1,12 +1,12 @@
 //! What is wrong with a line that a run refuses.
-use crate::bytes::{ByteFault, ByteKind, byte_fault, push_shown, push_spelled};
-use crate::faults::{Fault, first_fault};
-use crate::finding::{Diagnosis, Help, Span};
+use crate::bytes::{ByteFault, ByteKind, byte_fault};
+use crate::draft::Draft;
+use crate::faults::{Fault, Wrong, first_fault};
+use crate::finding::{Diagnosis, Helper, Span};
 use crate::repair::help;
 use crate::words::{Given, words_of};
 use std::alloc::{AllocError, Global};
 use vt_line::version::Version;
-use vt_lines::proposal::Proposal;
 
 const NOT_THIS_VERSION: &str = "not in this version";
 
@@ -44,90 +44,101 @@ fn said_of(kind: ByteKind) -> (&'static str, &'static str) {
     }
 }
 
-// The line without a byte order mark and without a CR at its end, each other byte as a word spells it.
-fn spelled(alloc: Global, line: &[u8]) -> Result<String, AllocError> {
+// Escapes of other languages, each with the one that stands for it here.
+static ESCAPES: [(&str, &str); 8] = [
+    ("\\n", "\\x0a"),
+    ("\\t", "\\x09"),
+    ("\\r", "\\x0d"),
+    ("\\0", "\\x00"),
+    ("\\\\", "\\x5c"),
+    ("\\", "\\x5c"),
+    ("\\\"", "\\x22"),
+    ("\\'", "\\x27"),
+];
+
+// What stands for an escape of other languages, or nothing.
+fn escape_for(text: &str) -> &'static str {
+    for (from, escape) in &ESCAPES {
+        if *from == text {
+            return *escape;
+        }
+    }
+    ""
+}
+
+// The line without a byte order mark and without a CR at its end, each other byte as a word spells it, and a tab as a
+// space.
+fn spelled(helper: &Helper, line: &[u8]) -> Draft {
     let line = line.strip_prefix(b"\xef\xbb\xbf").unwrap_or(line);
     let line = line.strip_suffix(b"\r").unwrap_or(line);
-    let mut text = String::new(alloc);
+    let mut text = helper.draft();
     for byte in line {
-        push_spelled(&mut text, *byte)?;
+        text.push_byte(if *byte == b'\t' { b' ' } else { *byte });
     }
-    Ok(text)
+    text
 }
 
-// What stands for the two characters of an escape of other languages.
-fn escape_for(text: &str) -> Option<&'static str> {
-    match text {
-        "\\n" => Some("\\x0a"),
-        "\\t" => Some("\\x09"),
-        "\\r" => Some("\\x0d"),
-        "\\0" => Some("\\x00"),
-        "\\\\" | "\\" => Some("\\x5c"),
-        "\\\"" => Some("\\x22"),
-        "\\'" => Some("\\x27"),
-        _ => None,
+// Whether a text has hexadecimal digits alone.
+fn are_digits(text: &str) -> bool {
+    for byte in text.as_bytes() {
+        if !byte.is_ascii_hexdigit() {
+            return false;
+        }
     }
+    true
 }
 
-// An escape with its two digits in lower case, where it has two.
-fn lower_case(alloc: Global, rest: &str) -> Result<Option<String>, AllocError> {
+// Writes an escape with its two digits in lower case, where it has two, and says whether it has.
+fn write_lower_case(rest: &str, text: &mut Draft) -> bool {
     let Some(escape) = rest.get(..4) else {
-        return Ok(None);
+        return false;
     };
-    let digits = escape.get(2..).unwrap_or_default();
-    if !digits.bytes().all(|byte| byte.is_ascii_hexdigit()) {
-        return Ok(None);
+    if !are_digits(escape.get(2..).unwrap_or_default()) {
+        return false;
     }
-    Ok(Some(escape.to_ascii_lowercase(alloc)?))
+    for character in escape.chars() {
+        text.push_char(character.to_ascii_lowercase());
+    }
+    true
 }
 
-// The line with another text in the place of what begins at a column and has this width.
-fn with_escape(
-    version: Version,
-    alloc: Global,
-    line: &str,
-    column: usize,
-    width: usize,
-    text: &str,
-) -> Result<Option<Proposal>, AllocError> {
-    let before = line.get(..column).unwrap_or_default();
-    let after = line.get(column.saturating_add(width)..).unwrap_or_default();
-    Proposal::new(version, alloc, format!(in alloc; "{before}{text}{after}")?)
-}
-
-// The line with the escape that is meant.
-fn with_meant_escape(
-    version: Version,
-    alloc: Global,
-    line: &[u8],
-    span: Span,
-) -> Result<Option<Proposal>, AllocError> {
-    let Ok(line) = str::from_utf8(line) else {
-        return Ok(None);
-    };
+// Proposes the line with the escape that is meant at a column, in the place of one of this width.
+fn propose_escape(helper: &mut Helper, line: &str, span: Span) {
     let rest = line.get(span.column..).unwrap_or_default();
-    let escape = rest.get(..span.width).unwrap_or_default();
-    if let Some(text) = escape_for(escape) {
-        return with_escape(version, alloc, line, span.column, span.width, text);
-    }
-    match lower_case(alloc, rest)? {
-        Some(text) => with_escape(version, alloc, line, span.column, 4, text.as_str()),
-        None => Ok(None),
+    let escape = escape_for(rest.get(..span.width).unwrap_or_default());
+    let mut text = helper.draft();
+    text.push(line.get(..span.column).unwrap_or_default());
+    let width = if !escape.is_empty() {
+        text.push(escape);
+        span.width
+    } else if write_lower_case(rest, &mut text) {
+        4
+    } else {
+        return;
+    };
+    text.push(rest.get(width..).unwrap_or_default());
+    helper.propose(text);
+}
+
+// Proposes the line with good bytes in the place of bad ones.
+fn propose_good_bytes(helper: &mut Helper, line: &[u8], fault: ByteFault) {
+    match fault.kind {
+        ByteKind::Escape => {
+            propose_escape(helper, str::from_utf8(line).unwrap_or_default(), fault.span);
+        }
+        ByteKind::Overlong | ByteKind::Control => {}
+        _ => {
+            helper.propose(spelled(helper, line));
+        }
     }
 }
 
-// The line with good bytes in the place of bad ones.
-fn with_good_bytes(
-    version: Version,
-    alloc: Global,
-    line: &[u8],
-    fault: ByteFault,
-) -> Result<Option<Proposal>, AllocError> {
-    match fault.kind {
-        ByteKind::Escape => with_meant_escape(version, alloc, line, fault.span),
-        ByteKind::Overlong | ByteKind::Control => Ok(None),
-        _ => Proposal::new(version, alloc, spelled(alloc, line)?),
-    }
+// Writes that a part of the line is no escape.
+fn write_no_escape(line: &[u8], span: Span, text: &mut Draft) {
+    let rest = line.get(span.column..).unwrap_or_default();
+    text.push("`");
+    text.push_bytes(rest.get(..span.width).unwrap_or(rest));
+    text.push("` is no escape");
 }
 
 // What is wrong with the bytes of a line.
@@ -137,31 +148,33 @@ fn of_bytes(
     line: &[u8],
     fault: ByteFault,
 ) -> Result<Diagnosis, AllocError> {
-    let (message, words) = said_of(fault.kind);
-    let help = match with_good_bytes(version, alloc, line, fault)? {
-        Some(line) => Help::line(alloc, line, words)?,
-        None => Help::words(alloc, words),
-    };
-    Ok(Diagnosis {
-        span: fault.span,
-        message: match fault.kind {
-            ByteKind::Escape => of_escape(alloc, line, fault.span)?,
-            _ => String::from_str(alloc, message)?,
-        },
-        help,
-        note: "",
-    })
+    let (said, words) = said_of(fault.kind);
+    let mut message = Draft::new(alloc);
+    match fault.kind {
+        ByteKind::Escape => write_no_escape(line, fault.span, &mut message),
+        _ => message.push(said),
+    }
+    let mut helper = Helper::new(version, alloc);
+    propose_good_bytes(&mut helper, line, fault);
+    helper.say(words);
+    Diagnosis::new(fault.span, message, helper, "")
 }
 
-// That a part of the line is no escape.
-fn of_escape(alloc: Global, line: &[u8], span: Span) -> Result<String, AllocError> {
-    let rest = line.get(span.column..).unwrap_or_default();
-    let mut text = String::from_str(alloc, "`")?;
-    for byte in rest.iter().take(span.width) {
-        push_shown(&mut text, *byte)?;
+// What else is to be known of a fault.
+fn note_of(wrong: Wrong) -> &'static str {
+    match wrong {
+        Wrong::Later(_) => NOT_THIS_VERSION,
+        _ => "",
     }
-    text.push_str("` is no escape")?;
-    Ok(text)
+}
+
+// The diagnosis of a fault.
+fn of_fault(alloc: Global, line: Given<'_>, fault: Fault<'_>) -> Result<Diagnosis, AllocError> {
+    let mut message = Draft::new(alloc);
+    fault.write(line.version, &mut message);
+    let mut helper = Helper::new(line.version, alloc);
+    help(&mut helper, line, fault);
+    Diagnosis::new(fault.part.span(), message, helper, note_of(fault.wrong))
 }
 
 // What is wrong with the words of a line.
@@ -173,22 +186,14 @@ fn of_words(version: Version, alloc: Global, text: &str) -> Result<Diagnosis, Al
         words: words.as_slice(),
     };
     let fault = first_fault(alloc, line)?;
-    Ok(Diagnosis {
-        span: fault.span(line),
-        message: fault.message(version, alloc)?,
-        help: help(alloc, line, fault)?,
-        note: match fault {
-            Fault::Later(_, _) => NOT_THIS_VERSION,
-            _ => "",
-        },
-    })
+    of_fault(alloc, line, fault)
 }
 
 /// What is wrong with a line that a run refuses by S1 in a version of the language, where, and what to write in its
 /// place.
 pub fn diagnosis(version: Version, alloc: Global, line: &[u8]) -> Result<Diagnosis, AllocError> {
-    if let Some(fault) = byte_fault(line) {
-        return of_bytes(version, alloc, line, fault);
+    match byte_fault(line) {
+        Some(fault) => of_bytes(version, alloc, line, fault),
+        None => of_words(version, alloc, str::from_utf8(line).unwrap_or_default()),
     }
-    of_words(version, alloc, str::from_utf8(line).unwrap_or_default())
 }

@@ -40,6 +40,8 @@ pub struct KindWords {
     pub part: &'static str,
     /// The words that there are, where they can be listed.
     pub choices: &'static [&'static str],
+    /// Words of other systems, each with the one that stands for it here.
+    pub synonyms: &'static [(&'static str, &'static str)],
 }
 
 /// A word that a call takes, by the name that its usage gives it.
@@ -59,7 +61,7 @@ pub struct CallWords {
 }
 
 /// The capabilities that are modelled.
-pub const CAPABILITIES: [&str; 8] = [
+pub static CAPABILITIES: [&str; 8] = [
     "CAP_CHOWN",
     "CAP_DAC_OVERRIDE",
     "CAP_DAC_READ_SEARCH",
@@ -68,19 +70,6 @@ pub const CAPABILITIES: [&str; 8] = [
     "CAP_SETUID",
     "CAP_SYS_CHROOT",
     "CAP_SYS_ADMIN",
-];
-
-static FIRST_FLAGS: [&str; 4] = ["rw", "ro", "rw,noexec", "ro,noexec"];
-
-static SECOND_FLAGS: [&str; 8] = [
-    "rw",
-    "ro",
-    "rw,noexec",
-    "ro,noexec",
-    "rw,nosymfollow",
-    "ro,nosymfollow",
-    "rw,noexec,nosymfollow",
-    "ro,noexec,nosymfollow",
 ];
 
 const ACCESS: Argument = Argument {
@@ -203,8 +192,8 @@ const YES_OR_NO: Argument = Argument {
     kind: Kind::YesOrNo,
 };
 
-/// The calls of tasks that both versions of the language have.
-pub const CALLS: [CallWords; 39] = [
+// Calls of tasks about one object.
+static OBJECT_CALLS: [CallWords; 7] = [
     CallWords {
         name: "ls",
         usage: "`ls PATH`",
@@ -247,6 +236,10 @@ pub const CALLS: [CallWords; 39] = [
         needed: &[PATH],
         optional: &[],
     },
+];
+
+// Calls that make, move or remove objects, or change what is kept of them.
+static NAME_CALLS: [CallWords; 10] = [
     CallWords {
         name: "mkdir",
         usage: "`mkdir PATH [MODE]`",
@@ -307,6 +300,10 @@ pub const CALLS: [CallWords; 39] = [
         needed: &[PATH, YES_OR_NO],
         optional: &[],
     },
+];
+
+// Calls about descriptors, and about a task itself.
+static TASK_CALLS: [CallWords; 12] = [
     CallWords {
         name: "open",
         usage: "`open PATH r|w|rw [create MODE | excl MODE]`",
@@ -379,6 +376,10 @@ pub const CALLS: [CallWords; 39] = [
         needed: &[TASK],
         optional: &[],
     },
+];
+
+// Calls about mounts.
+static MOUNT_CALLS: [CallWords; 10] = [
     CallWords {
         name: "mount",
         usage: "`mount plain PATH [FLAGS]`",
@@ -441,178 +442,302 @@ pub const CALLS: [CallWords; 39] = [
     },
 ];
 
-/// Those that version 2 alone has.
-const SECOND_CALLS: [CallWords; 1] = [CallWords {
+// Those that version 2 alone has.
+static SECOND_CALLS: [CallWords; 1] = [CallWords {
     name: "pivot_root",
     usage: "`pivot_root NEW PUT`",
     needed: &[NEW, PUT],
     optional: &[],
 }];
 
+// What is said of the words of each kind.
+static ACCESS_WORDS: KindWords = KindWords {
+    before: "t open / ",
+    after: "",
+    said: "a file is opened for `r`, `w` or `rw`",
+    plain: "r",
+    part: "",
+    choices: &["r", "w", "rw"],
+    synonyms: &[
+        ("O_RDONLY", "r"),
+        ("O_WRONLY", "w"),
+        ("O_RDWR", "rw"),
+        ("read", "r"),
+        ("write", "w"),
+        ("ro", "r"),
+        ("wo", "w"),
+        ("wr", "rw"),
+        ("rb", "r"),
+        ("wb", "w"),
+        ("r+", "rw"),
+    ],
+};
+
+static BYTES_WORDS: KindWords = KindWords {
+    before: "t write / ",
+    after: "",
+    said: "BYTES is one word: a space in it is `\\x20`, and `\\e` is the empty text",
+    plain: "\\e",
+    part: "",
+    choices: &[],
+    synonyms: &[],
+};
+
+static CAPABILITIES_WORDS: KindWords = KindWords {
+    before: "t drop ",
+    after: "",
+    said: "CAPS is `-` (none), `*` (all that the caller holds), or names between commas",
+    plain: "-",
+    part: "capability",
+    choices: &[],
+    synonyms: &[("ALL", "*"), ("all", "*"), ("none", "-")],
+};
+
+static CREATION_WORDS: KindWords = KindWords {
+    before: "t open / r ",
+    after: " 0",
+    said: "`create MODE` makes a missing file, and `excl MODE` a file that must be missing",
+    plain: "create",
+    part: "",
+    choices: &["create", "excl"],
+    synonyms: &[
+        ("O_CREAT", "create"),
+        ("creat", "create"),
+        ("O_EXCL", "excl"),
+        ("O_CREAT|O_EXCL", "excl"),
+    ],
+};
+
+static DESCRIPTOR_WORDS: KindWords = KindWords {
+    before: "t close ",
+    after: "",
+    said: "FD is the number of a descriptor, at most 255",
+    plain: "",
+    part: "",
+    choices: &[],
+    synonyms: &[],
+};
+
+static FILESYSTEM_WORDS: KindWords = KindWords {
+    before: "t mount ",
+    after: " /",
+    said: "`mount plain PATH` mounts a new filesystem, `bind SOURCE PATH` a tree that exists",
+    plain: "plain",
+    part: "",
+    choices: &["plain"],
+    synonyms: &[("tmpfs", "plain")],
+};
+
+static GROUPS_WORDS: KindWords = KindWords {
+    before: "t fork 0 0 ",
+    after: " -",
+    said: "GROUPS is `-` (none), or 1 to 32 groups between commas",
+    plain: "-",
+    part: "group",
+    choices: &[],
+    synonyms: &[("none", "-")],
+};
+
+static IDENTITY_WORDS: KindWords = KindWords {
+    before: "t fork ",
+    after: " 0 - -",
+    said: "a user or group is a number, at most 4294967294",
+    plain: "",
+    part: "",
+    choices: &[],
+    synonyms: &[("root", "0")],
+};
+
+static KEPT_IDENTITY_WORDS: KindWords = KindWords {
+    before: "t chown / ",
+    after: " 0",
+    said: "UID and GID are numbers, at most 4294967294; `-` leaves what is there, but not both",
+    plain: "-",
+    part: "",
+    choices: &[],
+    synonyms: &[("root", "0")],
+};
+
+static MODE_WORDS: KindWords = KindWords {
+    before: "t umask ",
+    after: "",
+    said: "MODE is one to four octal digits, at most 1777; read is 4, write 2, execute 1",
+    plain: "644",
+    part: "",
+    choices: &[],
+    synonyms: &[],
+};
+
+static OFFSET_WORDS: KindWords = KindWords {
+    before: "t pread 0 ",
+    after: " 0",
+    said: "OFFSET and SIZE are numbers, at most 4294967295",
+    plain: "",
+    part: "",
+    choices: &[],
+    synonyms: &[],
+};
+
+static PATH_WORDS: KindWords = KindWords {
+    before: "t ls ",
+    after: "",
+    said: "",
+    plain: "",
+    part: "",
+    choices: &[],
+    synonyms: &[],
+};
+
+static PROPAGATION_WORDS: KindWords = KindWords {
+    before: "t type / ",
+    after: "",
+    said: "TYPE is `shared`, `slave`, `private` or `unbindable`",
+    plain: "",
+    part: "",
+    choices: &["shared", "slave", "private", "unbindable"],
+    synonyms: &[],
+};
+
+static TASK_WORDS: KindWords = KindWords {
+    before: "",
+    after: " exit",
+    said: "a task is `t`, or a child of a task, as `t.1` and `t.1.2`, numbered from 1 to 64",
+    plain: "",
+    part: "",
+    choices: &[],
+    synonyms: &[("root", "t")],
+};
+
+static YES_OR_NO_WORDS: KindWords = KindWords {
+    before: "t opaque / ",
+    after: "",
+    said: "`opaque PATH yes` marks a directory, and `opaque PATH no` takes the mark away",
+    plain: "",
+    part: "",
+    choices: &["yes", "no"],
+    synonyms: &[
+        ("y", "yes"),
+        ("true", "yes"),
+        ("1", "yes"),
+        ("n", "no"),
+        ("false", "no"),
+        ("0", "no"),
+    ],
+};
+
+// Flags as other systems spell them.
+const FLAG_SYNONYMS: &[(&str, &str)] = &[
+    ("defaults", "rw"),
+    ("noexec", "rw,noexec"),
+    ("noexec,rw", "rw,noexec"),
+    ("noexec,ro", "ro,noexec"),
+    ("readonly", "ro"),
+    ("MS_RDONLY", "ro"),
+    ("MS_NOEXEC", "rw,noexec"),
+    ("nosymfollow", "rw,nosymfollow"),
+    ("MS_NOSYMFOLLOW", "rw,nosymfollow"),
+    ("nosymfollow,rw", "rw,nosymfollow"),
+    ("nosymfollow,ro", "ro,nosymfollow"),
+    ("noexec,nosymfollow", "rw,noexec,nosymfollow"),
+];
+
+static FIRST_FLAGS_WORDS: KindWords = KindWords {
+    before: "t remount / ",
+    after: "",
+    said: "FLAGS is `rw`, `ro`, `rw,noexec` or `ro,noexec`",
+    plain: "rw",
+    part: "",
+    choices: &["rw", "ro", "rw,noexec", "ro,noexec"],
+    synonyms: FLAG_SYNONYMS,
+};
+
+static SECOND_FLAGS_WORDS: KindWords = KindWords {
+    before: "t remount / ",
+    after: "",
+    said: "FLAGS is `rw` or `ro`, then `,noexec` or nothing, then `,nosymfollow` or nothing",
+    plain: "rw",
+    part: "",
+    choices: &[
+        "rw",
+        "ro",
+        "rw,noexec",
+        "ro,noexec",
+        "rw,nosymfollow",
+        "ro,nosymfollow",
+        "rw,noexec,nosymfollow",
+        "ro,noexec,nosymfollow",
+    ],
+    synonyms: FLAG_SYNONYMS,
+};
+
 // What is said of the flags of a mount. Version 2 has one more.
-fn flags_words(version: Version) -> KindWords {
-    let (said, choices) = match version {
-        Version::One => (
-            "FLAGS is `rw`, `ro`, `rw,noexec` or `ro,noexec`",
-            FIRST_FLAGS.as_slice(),
-        ),
-        Version::Two => (
-            "FLAGS is `rw` or `ro`, then `,noexec` or nothing, then `,nosymfollow` or nothing",
-            SECOND_FLAGS.as_slice(),
-        ),
-    };
-    KindWords {
-        before: "t remount / ",
-        after: "",
-        said,
-        plain: "rw",
-        part: "",
-        choices,
+fn flags_words(version: Version) -> &'static KindWords {
+    match version {
+        Version::One => &FIRST_FLAGS_WORDS,
+        Version::Two => &SECOND_FLAGS_WORDS,
     }
 }
 
 impl Kind {
     /// What is said of its words, in a version of the language.
-    pub fn words(self, version: Version) -> KindWords {
+    pub fn words(self, version: Version) -> &'static KindWords {
         match self {
-            Kind::Access => KindWords {
-                before: "t open / ",
-                after: "",
-                said: "a file is opened for `r`, `w` or `rw`",
-                plain: "r",
-                part: "",
-                choices: &["r", "w", "rw"],
-            },
-            Kind::Bytes => KindWords {
-                before: "t write / ",
-                after: "",
-                said: "BYTES is one word: a space in it is `\\x20`, and `\\e` is the empty text",
-                plain: "\\e",
-                part: "",
-                choices: &[],
-            },
-            Kind::Capabilities => KindWords {
-                before: "t drop ",
-                after: "",
-                said: "CAPS is `-` (none), `*` (all that the caller holds), or names between commas",
-                plain: "-",
-                part: "capability",
-                choices: &[],
-            },
-            Kind::Creation => KindWords {
-                before: "t open / r ",
-                after: " 0",
-                said: "`create MODE` makes a missing file, and `excl MODE` a file that must be missing",
-                plain: "create",
-                part: "",
-                choices: &["create", "excl"],
-            },
-            Kind::Descriptor => KindWords {
-                before: "t close ",
-                after: "",
-                said: "FD is the number of a descriptor, at most 255",
-                plain: "",
-                part: "",
-                choices: &[],
-            },
-            Kind::Filesystem => KindWords {
-                before: "t mount ",
-                after: " /",
-                said: "`mount plain PATH` mounts a new filesystem, `bind SOURCE PATH` a tree that exists",
-                plain: "plain",
-                part: "",
-                choices: &["plain"],
-            },
+            Kind::Access => &ACCESS_WORDS,
+            Kind::Bytes => &BYTES_WORDS,
+            Kind::Capabilities => &CAPABILITIES_WORDS,
+            Kind::Creation => &CREATION_WORDS,
+            Kind::Descriptor => &DESCRIPTOR_WORDS,
+            Kind::Filesystem => &FILESYSTEM_WORDS,
             Kind::Flags => flags_words(version),
-            Kind::Groups => KindWords {
-                before: "t fork 0 0 ",
-                after: " -",
-                said: "GROUPS is `-` (none), or 1 to 32 groups between commas",
-                plain: "-",
-                part: "group",
-                choices: &[],
-            },
-            Kind::Identity => KindWords {
-                before: "t fork ",
-                after: " 0 - -",
-                said: "a user or group is a number, at most 4294967294",
-                plain: "",
-                part: "",
-                choices: &[],
-            },
-            Kind::KeptIdentity => KindWords {
-                before: "t chown / ",
-                after: " 0",
-                said: "UID and GID are numbers, at most 4294967294; `-` leaves what is there, but not both",
-                plain: "-",
-                part: "",
-                choices: &[],
-            },
-            Kind::Mode => KindWords {
-                before: "t umask ",
-                after: "",
-                said: "MODE is one to four octal digits, at most 1777; read is 4, write 2, execute 1",
-                plain: "644",
-                part: "",
-                choices: &[],
-            },
-            Kind::Offset => KindWords {
-                before: "t pread 0 ",
-                after: " 0",
-                said: "OFFSET and SIZE are numbers, at most 4294967295",
-                plain: "",
-                part: "",
-                choices: &[],
-            },
-            Kind::Path => KindWords {
-                before: "t ls ",
-                after: "",
-                said: "",
-                plain: "",
-                part: "",
-                choices: &[],
-            },
-            Kind::Propagation => KindWords {
-                before: "t type / ",
-                after: "",
-                said: "TYPE is `shared`, `slave`, `private` or `unbindable`",
-                plain: "",
-                part: "",
-                choices: &["shared", "slave", "private", "unbindable"],
-            },
-            Kind::Task => KindWords {
-                before: "",
-                after: " exit",
-                said: "a task is `t`, or a child of a task, as `t.1` and `t.1.2`, numbered from 1 to 64",
-                plain: "",
-                part: "",
-                choices: &[],
-            },
-            Kind::YesOrNo => KindWords {
-                before: "t opaque / ",
-                after: "",
-                said: "`opaque PATH yes` marks a directory, and `opaque PATH no` takes the mark away",
-                plain: "",
-                part: "",
-                choices: &["yes", "no"],
-            },
+            Kind::Groups => &GROUPS_WORDS,
+            Kind::Identity => &IDENTITY_WORDS,
+            Kind::KeptIdentity => &KEPT_IDENTITY_WORDS,
+            Kind::Mode => &MODE_WORDS,
+            Kind::Offset => &OFFSET_WORDS,
+            Kind::Path => &PATH_WORDS,
+            Kind::Propagation => &PROPAGATION_WORDS,
+            Kind::Task => &TASK_WORDS,
+            Kind::YesOrNo => &YES_OR_NO_WORDS,
         }
     }
 }
 
-/// The calls that a version of the language has beside those of both.
-pub fn further_calls(version: Version) -> &'static [CallWords] {
+// Those that version 2 alone has, if it is that one.
+fn further_calls(version: Version) -> &'static [CallWords] {
     match version {
         Version::One => &[],
-        Version::Two => SECOND_CALLS.as_slice(),
+        Version::Two => &SECOND_CALLS,
     }
+}
+
+/// The calls of a version of the language, in parts.
+pub fn calls(version: Version) -> [&'static [CallWords]; 5] {
+    [
+        &OBJECT_CALLS,
+        &NAME_CALLS,
+        &TASK_CALLS,
+        &MOUNT_CALLS,
+        further_calls(version),
+    ]
+}
+
+// The call of this name among some.
+fn call_among(calls: &'static [CallWords], name: &str) -> Option<&'static CallWords> {
+    for call in calls {
+        if call.name == name {
+            return Some(call);
+        }
+    }
+    None
 }
 
 /// The words of the call of this name, in a version of the language.
 pub fn call_named(version: Version, name: &str) -> Option<&'static CallWords> {
-    let both = CALLS.iter().find(|call| call.name == name);
-    if both.is_some() {
-        return both;
+    for part in calls(version) {
+        let call = call_among(part, name);
+        if call.is_some() {
+            return call;
+        }
     }
-    further_calls(version).iter().find(|call| call.name == name)
+    None
 }

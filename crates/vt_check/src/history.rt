@@ -1,4 +1,5 @@
 //! What the lines of a script leave for later ones, as far as it is known without a run, and warnings that come of it.
+use crate::draft::Draft;
 use std::alloc::{AllocError, Global};
 use std::collections::BTreeMap;
 use vt_request::{Call, Creation, DescriptorCall, MakeCall, TaskCall, TaskName};
@@ -23,7 +24,7 @@ struct Task {
 pub struct Warning {
     /// The place of the word in the line.
     pub word: usize,
-    pub message: String,
+    pub message: Draft,
     pub help: &'static str,
 }
 
@@ -42,65 +43,73 @@ fn new_task(umask: u16) -> Task {
     }
 }
 
-/// The name of the task that these numbers name.
-fn shown(alloc: Global, numbers: &[u8]) -> Result<String, AllocError> {
-    let mut name = String::from_str(alloc, "t")?;
+// Appends the name of the task that these numbers name.
+fn push_task(text: &mut Draft, numbers: &[u8]) {
+    text.push("t");
     for number in numbers {
-        let part = format!(in alloc; ".{number}")?;
-        name.push_str(part.as_str())?;
+        text.push(".");
+        text.push_number(u64::from(*number));
     }
-    Ok(name)
 }
 
-fn unforked(alloc: Global, numbers: &[u8]) -> Result<Warning, AllocError> {
-    let name = shown(alloc, numbers)?;
-    Ok(Warning {
+fn unforked(alloc: Global, numbers: &[u8]) -> Warning {
+    let mut message = Draft::new(alloc);
+    message.push("no line above forks `");
+    push_task(&mut message, numbers);
+    message.push("`");
+    Warning {
         word: 0,
-        message: format!(in alloc; "no line above forks `{name}`")?,
+        message,
         help: "a task's children are `.1`, `.2` and so on, in the order of its `fork` lines",
-    })
+    }
 }
 
 // A warning where the umask takes bits of a mode.
-fn umask_takes(
-    alloc: Global,
-    word: usize,
-    mode: Mode,
-    umask: u16,
-) -> Result<Option<Warning>, AllocError> {
+fn umask_takes(alloc: Global, word: usize, mode: Mode, umask: u16) -> Option<Warning> {
     let bits = mode.bits();
     let kept = bits & (0o1777 ^ (umask & 0o1777));
     if kept == bits {
-        return Ok(None);
+        return None;
     }
-    Ok(Some(Warning {
+    let mut message = Draft::new(alloc);
+    message.push("the umask ");
+    message.push_octal(umask, 3);
+    message.push(" makes ");
+    message.push_octal(kept, 1);
+    message.push(" of the mode ");
+    message.push_octal(bits, 1);
+    Some(Warning {
         word,
-        message: format!(in alloc; "the umask {umask:03o} makes {kept:o} of the mode {bits:o}")?,
+        message,
         help: "`chmod` sets a mode whatever the umask is",
-    }))
+    })
 }
 
-fn renumbered(alloc: Global, line: u64, numbers: &[u8], child: u64) -> Result<Warning, AllocError> {
-    let name = shown(alloc, numbers)?;
-    Ok(Warning {
+fn renumbered(alloc: Global, line: u64, numbers: &[u8], child: u64) -> Warning {
+    let mut message = Draft::new(alloc);
+    message.push("this makes `");
+    push_task(&mut message, numbers);
+    message.push(".");
+    message.push_number(child);
+    message.push("`, since line ");
+    message.push_number(line);
+    message.push(" is refused and forks nothing");
+    Warning {
         word: 1,
-        message: format!(in alloc;
-            "this makes `{name}.{child}`, since line {line} is refused and forks nothing"
-        )?,
+        message,
         help: "a refused line uses no number: mend it, or number the tasks anew",
-    })
+    }
 }
 
 /// What is said of a change of the root that no change of the working directory follows.
-pub fn unfollowed(alloc: Global) -> Result<Warning, AllocError> {
-    Ok(Warning {
+pub fn unfollowed(alloc: Global) -> Warning {
+    let mut message = Draft::new(alloc);
+    message.push("no `chdir` of this task follows: it stays in its old directory");
+    Warning {
         word: 1,
-        message: String::from_str(
-            alloc,
-            "no `chdir` of this task follows: it stays in its old directory",
-        )?,
+        message,
         help: "`chdir /` enters the new root; until then `..` leads out of it",
-    })
+    }
 }
 
 impl History {
@@ -128,29 +137,30 @@ impl History {
         task.forks = task.forks.saturating_add(1);
         let (forks, umask, refused) = (task.forks, task.umask, task.refused_fork);
         task.refused_fork = None;
-        let mut child = numbers.to_vec(alloc)?;
-        child.push(u8::try_from(forks).unwrap_or(u8::MAX))?;
-        self.meet(alloc, child.as_slice(), umask)?;
-        match refused {
-            Some(line) => Ok(Some(renumbered(alloc, line, numbers, forks)?)),
-            None => Ok(None),
-        }
+        self.meet_child(alloc, numbers, forks, umask)?;
+        Ok(match refused {
+            Some(line) => Some(renumbered(alloc, line, numbers, forks)),
+            None => None,
+        })
     }
 
-    // What a call of a task leaves for later ones.
-    fn apply(
+    // Begins to speak of the child of this number.
+    fn meet_child(
         &mut self,
         alloc: Global,
-        line: u64,
         numbers: &[u8],
-        call: &Call,
-    ) -> Result<Option<Warning>, AllocError> {
-        if matches!(call, Call::Task(TaskCall::Fork { .. })) {
-            return self.fork(alloc, numbers);
-        }
-        let Some(task) = self.tasks.get_mut(numbers) else {
-            return Ok(None);
-        };
+        number: u64,
+        umask: u16,
+    ) -> Result<(), AllocError> {
+        let mut child = numbers.to_vec(alloc)?;
+        child.push(u8::try_from(number).unwrap_or(u8::MAX))?;
+        self.meet(alloc, &child, umask)?;
+        Ok(())
+    }
+
+    // What a call of a task leaves for later ones, if it is no fork.
+    fn apply(&mut self, alloc: Global, line: u64, numbers: &[u8], call: &Call) -> Option<Warning> {
+        let task = self.tasks.get_mut(numbers)?;
         match call {
             Call::Task(TaskCall::Umask { mode }) => task.umask = mode.bits(),
             Call::Task(TaskCall::Chroot { .. }) => task.chroot = Some(line),
@@ -171,7 +181,7 @@ impl History {
             }
             _ => {}
         }
-        Ok(None)
+        None
     }
 
     /// Goes on by a task's call in this line, and warns of what is seldom meant.
@@ -184,11 +194,15 @@ impl History {
     ) -> Result<Option<Warning>, AllocError> {
         let numbers = name.numbers();
         let is_new = self.meet(alloc, numbers, UMASK)?;
-        let warning = self.apply(alloc, line, numbers, call)?;
-        if is_new {
-            return Ok(Some(unforked(alloc, numbers)?));
-        }
-        Ok(warning)
+        let warning = match call {
+            Call::Task(TaskCall::Fork { .. }) => self.fork(alloc, numbers)?,
+            _ => self.apply(alloc, line, numbers, call),
+        };
+        Ok(if is_new {
+            Some(unforked(alloc, numbers))
+        } else {
+            warning
+        })
     }
 
     /// Goes on by a line that was to fork a child of this task, and is refused.

@@ -1,6 +1,6 @@
 //! A report as JSON, one object a line.
 use crate::finding::{Diagnosis, Help};
-use crate::object::{Members, line_of, put, put_number, put_text, shown as shown_bytes};
+use crate::object::{Object, shown as shown_bytes};
 use crate::report::{Finding, Level, Report};
 use serde_json::Value;
 use std::alloc::{AllocError, Global};
@@ -15,49 +15,37 @@ fn proposed(alloc: Global, help: &Help) -> Result<Value, AllocError> {
 }
 
 // Adds where a finding is.
-fn put_place(
-    alloc: Global,
-    members: &mut Members,
-    name: &str,
-    finding: &Finding,
-) -> Result<(), AllocError> {
+fn put_place(object: &mut Object, name: &str, finding: &Finding) {
     let span = finding.diagnosis.span;
-    let text = shown_bytes(alloc, finding.text.as_slice())?;
-    put_text(alloc, members, "file", name)?;
-    put_number(alloc, members, "line", finding.line)?;
-    put_number(
-        alloc,
-        members,
-        "column",
-        (span.column as u64).saturating_add(1),
-    )?;
-    put_number(alloc, members, "width", span.width as u64)?;
-    put_text(alloc, members, "text", text.as_str())
+    object.put_text("file", name);
+    object.put_number("line", finding.line);
+    object.put_number("column", (span.column as u64).saturating_add(1));
+    object.put_number("width", span.width as u64);
 }
 
-// Adds how grave a finding is, where warnings are errors or not.
-fn put_level(
-    alloc: Global,
-    members: &mut Members,
-    level: Level,
-    strict: bool,
-) -> Result<(), AllocError> {
-    let (word, rule) = match level {
-        Level::Error => ("error", "S1"),
-        Level::Warning if strict => ("error", ""),
-        Level::Warning => ("warning", ""),
-    };
-    put_text(alloc, members, "level", word)?;
-    put_text(alloc, members, "rule", rule)
+// How grave a finding is, where warnings are errors or not.
+fn level_word(level: Level, strict: bool) -> &'static str {
+    match level {
+        Level::Error => "error",
+        Level::Warning if strict => "error",
+        Level::Warning => "warning",
+    }
+}
+
+// The rule by which a run refuses the line of a finding, or nothing.
+fn rule_of(level: Level) -> &'static str {
+    match level {
+        Level::Error => "S1",
+        Level::Warning => "",
+    }
 }
 
 // Adds what is said of a finding.
-fn put_words(alloc: Global, members: &mut Members, found: &Diagnosis) -> Result<(), AllocError> {
-    put_text(alloc, members, "message", found.message.as_str())?;
-    let lines = proposed(alloc, &found.help)?;
-    put(alloc, members, "write", lines)?;
-    put_text(alloc, members, "help", found.help.words)?;
-    put_text(alloc, members, "note", found.note)
+fn put_words(alloc: Global, object: &mut Object, found: &Diagnosis) {
+    object.put_text("message", found.message.as_str());
+    object.put("write", proposed(alloc, &found.help));
+    object.put_text("help", found.help.words);
+    object.put_text("note", found.note);
 }
 
 /// A finding of the file of this name, as an object and a newline.
@@ -67,18 +55,21 @@ pub fn shown(
     strict: bool,
     finding: &Finding,
 ) -> Result<String, AllocError> {
-    let mut members = Members::new(alloc);
-    put_place(alloc, &mut members, name, finding)?;
-    put_level(alloc, &mut members, finding.level, strict)?;
-    put_words(alloc, &mut members, &finding.diagnosis)?;
-    line_of(alloc, members)
+    let text = shown_bytes(alloc, &finding.text)?;
+    let mut object = Object::new(alloc);
+    put_place(&mut object, name, finding);
+    object.put_text("text", text.as_str());
+    object.put_text("level", level_word(finding.level, strict));
+    object.put_text("rule", rule_of(finding.level));
+    put_words(alloc, &mut object, &finding.diagnosis);
+    object.line()
 }
 
 /// How much was found in the file of this name, as an object and a newline.
 pub fn summary(alloc: Global, name: &str, report: &Report) -> Result<String, AllocError> {
-    let mut members = Members::new(alloc);
-    put_text(alloc, &mut members, "file", name)?;
-    put_number(alloc, &mut members, "errors", report.errors)?;
-    put_number(alloc, &mut members, "warnings", report.warnings)?;
-    line_of(alloc, members)
+    let mut object = Object::new(alloc);
+    object.put_text("file", name);
+    object.put_number("errors", report.errors);
+    object.put_number("warnings", report.warnings);
+    object.line()
 }

@@ -4,6 +4,7 @@
 pub mod bytes;
 pub mod check;
 pub mod diagnose;
+pub mod draft;
 pub mod faults;
 pub mod finding;
 pub mod grammar;

@@ -1,54 +1,48 @@
 //! Words that are like a given one.
-use crate::grammar::{CALLS, CAPABILITIES, Kind, further_calls};
+use crate::draft::Draft;
+use crate::grammar::{CAPABILITIES, CallWords, Kind, calls};
 use crate::unmodelled::is_unmodelled;
 use std::alloc::{AllocError, Global};
 use strsim::osa_distance;
 use vt_line::version::Version;
 
-/// Words that stand for others, each kind's.
-static SYNONYMS: [(Kind, &str, &str); 41] = [
-    (Kind::Access, "O_RDONLY", "r"),
-    (Kind::Access, "O_WRONLY", "w"),
-    (Kind::Access, "O_RDWR", "rw"),
-    (Kind::Access, "read", "r"),
-    (Kind::Access, "write", "w"),
-    (Kind::Access, "ro", "r"),
-    (Kind::Access, "wo", "w"),
-    (Kind::Access, "wr", "rw"),
-    (Kind::Access, "rb", "r"),
-    (Kind::Access, "wb", "w"),
-    (Kind::Access, "r+", "rw"),
-    (Kind::Capabilities, "ALL", "*"),
-    (Kind::Capabilities, "all", "*"),
-    (Kind::Capabilities, "none", "-"),
-    (Kind::Creation, "O_CREAT", "create"),
-    (Kind::Creation, "creat", "create"),
-    (Kind::Creation, "O_EXCL", "excl"),
-    (Kind::Creation, "O_CREAT|O_EXCL", "excl"),
-    (Kind::Filesystem, "tmpfs", "plain"),
-    (Kind::Flags, "defaults", "rw"),
-    (Kind::Flags, "noexec", "rw,noexec"),
-    (Kind::Flags, "noexec,rw", "rw,noexec"),
-    (Kind::Flags, "noexec,ro", "ro,noexec"),
-    (Kind::Flags, "readonly", "ro"),
-    (Kind::Flags, "MS_RDONLY", "ro"),
-    (Kind::Flags, "MS_NOEXEC", "rw,noexec"),
-    (Kind::Flags, "nosymfollow", "rw,nosymfollow"),
-    (Kind::Flags, "MS_NOSYMFOLLOW", "rw,nosymfollow"),
-    (Kind::Flags, "nosymfollow,rw", "rw,nosymfollow"),
-    (Kind::Flags, "nosymfollow,ro", "ro,nosymfollow"),
-    (Kind::Flags, "noexec,nosymfollow", "rw,noexec,nosymfollow"),
-    (Kind::Groups, "none", "-"),
-    (Kind::Identity, "root", "0"),
-    (Kind::KeptIdentity, "root", "0"),
-    (Kind::Task, "root", "t"),
-    (Kind::YesOrNo, "y", "yes"),
-    (Kind::YesOrNo, "true", "yes"),
-    (Kind::YesOrNo, "1", "yes"),
-    (Kind::YesOrNo, "n", "no"),
-    (Kind::YesOrNo, "false", "no"),
-    (Kind::YesOrNo, "0", "no"),
-];
+// The search for a word that is like a text.
+#[derive(Drop)]
+struct Search<'a> {
+    alloc: Global,
+    text: &'a str,
+    // The word that is most like it so far, and how many letters may differ of another.
+    found: Option<&'static str>,
+    least: usize,
+}
+
+impl<'a> Search<'a> {
+    // At most two letters may differ, or one of a text of up to four.
+    fn new(alloc: Global, text: &'a str) -> Self {
+        Search {
+            alloc,
+            text,
+            found: None,
+            least: if text.len() <= 4 { 2 } else { 3 },
+        }
+    }
+
+    fn compare(&mut self, word: &'static str) -> Result<(), AllocError> {
+        let distance = osa_distance(self.alloc, self.text, word)?;
+        if distance < self.least {
+            self.least = distance;
+            self.found = Some(word);
+        }
+        Ok(())
+    }
+
+    fn compare_calls(&mut self, calls: &'static [CallWords]) -> Result<(), AllocError> {
+        for call in calls {
+            self.compare(call.name)?;
+        }
+        Ok(())
+    }
+}
 
 /// The word of the list that is like the text: at most two letters differ, or one of a text of up to four.
 pub fn nearest(
@@ -56,124 +50,138 @@ pub fn nearest(
     text: &str,
     words: &[&'static str],
 ) -> Result<Option<&'static str>, AllocError> {
-    let mut least = if text.len() <= 4 { 2 } else { 3 };
-    let mut found = None;
+    let mut search = Search::new(alloc, text);
     for word in words {
-        let distance = osa_distance(alloc, text, word)?;
-        if distance < least {
-            least = distance;
-            found = Some(*word);
-        }
+        search.compare(*word)?;
     }
-    Ok(found)
+    Ok(search.found)
 }
 
-/// The name of the call that is like the text, in a version of the language.
+// The name of the call that is like a text in lower case.
+fn nearest_name(
+    version: Version,
+    alloc: Global,
+    text: &str,
+) -> Result<Option<&'static str>, AllocError> {
+    let mut search = Search::new(alloc, text);
+    for part in calls(version) {
+        search.compare_calls(part)?;
+    }
+    Ok(search.found)
+}
+
+/// The name of the call that is like the text in whichever case, in a version of the language.
 pub fn nearest_call(
     version: Version,
     alloc: Global,
     text: &str,
 ) -> Result<Option<&'static str>, AllocError> {
-    let mut names = Vec::new(alloc);
-    for call in CALLS.iter().chain(further_calls(version)) {
-        names.push(call.name)?;
-    }
-    nearest(alloc, text, names.as_slice())
+    let text = text.to_ascii_lowercase(alloc)?;
+    nearest_name(version, alloc, text.as_str())
 }
 
 // The word that stands for the text in a kind.
-fn synonym(kind: Kind, text: &str) -> Option<&'static str> {
-    let row = SYNONYMS
-        .iter()
-        .find(|(of, from, _)| *of == kind && *from == text)?;
-    Some(row.2)
+fn synonym(version: Version, kind: Kind, text: &str) -> Option<&'static str> {
+    for (from, word) in kind.words(version).synonyms {
+        if *from == text {
+            return Some(*word);
+        }
+    }
+    None
 }
 
 // The capability that a name means.
 fn capability(alloc: Global, name: &str) -> Result<Option<&'static str>, AllocError> {
-    let mut whole = name.to_ascii_uppercase(alloc)?;
-    if !whole.starts_with("CAP_") {
-        whole = format!(in alloc; "CAP_{whole}")?;
-    }
+    let name = name.to_ascii_uppercase(alloc)?;
+    let mut whole = Draft::new(alloc);
+    whole.push("CAP_");
+    whole.push(name.as_str().strip_prefix("CAP_").unwrap_or(name.as_str()));
+    let whole = whole.end()?;
     if is_unmodelled(whole.as_str()) {
         return Ok(None);
     }
-    nearest(alloc, whole.as_str(), CAPABILITIES.as_slice())
+    nearest(alloc, whole.as_str(), &CAPABILITIES)
 }
 
-// The names of capabilities between commas, each as it is meant.
-fn capabilities(alloc: Global, text: &str) -> Result<Option<String>, AllocError> {
-    let mut names = String::new(alloc);
+// Writes the names of capabilities, each as it is meant, and says whether all are clear.
+fn write_capabilities(alloc: Global, text: &str, names: &mut Draft) -> Result<bool, AllocError> {
     for part in text.split([',', '+', ';']) {
-        let Some(name) = capability(alloc, part)? else {
-            return Ok(None);
-        };
-        if !names.is_empty() {
-            names.push(',')?;
+        match capability(alloc, part)? {
+            Some(name) => names.push_after(",", name),
+            None => return Ok(false),
         }
-        names.push_str(name)?;
     }
-    Ok(Some(names))
+    Ok(true)
 }
 
-// A mode without what a shell or a language writes before it.
-fn mode(alloc: Global, text: &str) -> Result<Option<String>, AllocError> {
+// Writes a mode without what a shell or a language writes before it, and says whether there is something.
+fn write_mode(text: &str, mode: &mut Draft) -> bool {
     let digits = text.trim_start_matches("0o").trim_start_matches('0');
     if digits.is_empty() || digits.len() > 3 || digits.len() == text.len() {
-        return Ok(None);
+        return false;
     }
-    Ok(Some(format!(in alloc; "0{digits}")?))
+    mode.push("0");
+    mode.push(digits);
+    true
 }
 
-// A task's name, as `t.1` for `t1`, `1` and `t.01`.
-fn task(alloc: Global, text: &str) -> Result<Option<String>, AllocError> {
+// Writes a task's name, as `t.1` for `t1`, `1` and `t.01`, and says whether there is none of 0.
+fn write_task(text: &str, name: &mut Draft) -> bool {
     let text = text
         .trim_start_matches(['t', 'T', '$', '%'])
         .trim_end_matches(':');
-    let mut name = String::from_str(alloc, "t")?;
+    name.push("t");
     for part in text.split(['.', '/', '-']) {
         let number = part.trim_start_matches('0');
-        if number.is_empty() && !part.is_empty() {
-            return Ok(None);
-        }
         if !number.is_empty() {
-            name.push('.')?;
-            name.push_str(number)?;
+            name.push(".");
+            name.push(number);
+        } else if !part.is_empty() {
+            return false;
         }
     }
-    Ok(Some(name))
+    true
 }
 
-// Groups between commas, where others stand between them.
-fn groups(alloc: Global, text: &str) -> Result<Option<String>, AllocError> {
-    let mut numbers = String::new(alloc);
+// Writes groups between commas, where others stand between them.
+fn write_groups(text: &str, groups: &mut Draft) {
     for part in text.split([';', ':', '.', '+']) {
-        if !numbers.is_empty() {
-            numbers.push(',')?;
-        }
-        numbers.push_str(part)?;
+        groups.push_after(",", part);
     }
-    Ok(Some(numbers))
 }
 
-/// The word of a kind that a text means, if one is clear.
-pub fn corrected(
+// Writes the word of a list that is like the text, and says whether there is one.
+fn write_nearest(
+    alloc: Global,
+    text: &str,
+    words: &[&'static str],
+    word: &mut Draft,
+) -> Result<bool, AllocError> {
+    let found = nearest(alloc, text, words)?;
+    word.push(found.unwrap_or_default());
+    Ok(found.is_some())
+}
+
+/// Writes the word of a kind that a text means, and says whether one is clear.
+pub fn write_corrected(
     version: Version,
     alloc: Global,
     kind: Kind,
     text: &str,
-) -> Result<Option<String>, AllocError> {
-    if let Some(word) = synonym(kind, text) {
-        return Ok(Some(String::from_str(alloc, word)?));
+    word: &mut Draft,
+) -> Result<bool, AllocError> {
+    if let Some(synonym) = synonym(version, kind, text) {
+        word.push(synonym);
+        return Ok(true);
     }
     match kind {
-        Kind::Capabilities => capabilities(alloc, text),
-        Kind::Mode => mode(alloc, text),
-        Kind::Task => task(alloc, text),
-        Kind::Groups => groups(alloc, text),
-        _ => match nearest(alloc, text, kind.words(version).choices)? {
-            Some(word) => Ok(Some(String::from_str(alloc, word)?)),
-            None => Ok(None),
-        },
+        Kind::Capabilities => write_capabilities(alloc, text, word),
+        Kind::Mode => Ok(write_mode(text, word)),
+        Kind::Task => Ok(write_task(text, word)),
+        Kind::Groups => {
+            write_groups(text, word);
+            Ok(true)
+        }
+        _ => write_nearest(alloc, text, kind.words(version).choices, word),
     }
 }

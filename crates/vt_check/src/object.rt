@@ -1,5 +1,5 @@
 //! JSON objects, one a line.
-use crate::bytes::push_shown;
+use crate::draft::Draft;
 use serde_json::{Map, Value};
 use std::alloc::{AllocError, Global};
 
@@ -40,11 +40,9 @@ pub fn put_number(
 
 /// Bytes as they are shown.
 pub fn shown(alloc: Global, bytes: &[u8]) -> Result<String, AllocError> {
-    let mut text = String::new(alloc);
-    for byte in bytes {
-        push_shown(&mut text, *byte)?;
-    }
-    Ok(text)
+    let mut text = Draft::new(alloc);
+    text.push_bytes(bytes);
+    text.end()
 }
 
 /// The object as a line.
@@ -53,4 +51,74 @@ pub fn line_of(alloc: Global, members: Members) -> Result<String, AllocError> {
     let mut line = object.to_string(alloc)?;
     line.push('\n')?;
     Ok(line)
+}
+
+/// An object that is being written. An allocation that fails is noted, and told at the end.
+#[derive(Drop)]
+pub struct Object {
+    alloc: Global,
+    members: Members,
+    failed: bool,
+}
+
+impl Object {
+    /// The object without members.
+    pub fn new(alloc: Global) -> Self {
+        Object {
+            alloc,
+            members: Members::new(alloc),
+            failed: false,
+        }
+    }
+
+    // Adds a member, if there is memory for its value.
+    fn try_put(&mut self, name: &str, value: Result<Value, AllocError>) -> Result<(), AllocError> {
+        put(self.alloc, &mut self.members, name, value?)
+    }
+
+    /// Adds a member.
+    pub fn put(&mut self, name: &str, value: Result<Value, AllocError>) {
+        self.failed |= self.try_put(name, value).is_err();
+    }
+
+    /// Adds a text.
+    pub fn put_text(&mut self, name: &str, text: &str) {
+        self.put(name, Value::try_from_str(self.alloc, text));
+    }
+
+    /// Adds a text that was written.
+    pub fn put_draft(&mut self, name: &str, text: Draft) {
+        match text.end() {
+            Ok(text) => self.put_text(name, text.as_str()),
+            Err(_) => self.failed = true,
+        }
+    }
+
+    /// An empty text.
+    pub fn draft(&self) -> Draft {
+        Draft::new(self.alloc)
+    }
+
+    /// Adds a number.
+    pub fn put_number(&mut self, name: &str, number: u64) {
+        self.put(name, Ok(Value::from(number)));
+    }
+
+    /// The object as a value, if no allocation failed.
+    pub fn end(self) -> Result<Value, AllocError> {
+        if self.failed {
+            Err(AllocError)
+        } else {
+            Ok(Value::Object(self.members))
+        }
+    }
+
+    /// The object as a line, if no allocation failed.
+    pub fn line(self) -> Result<String, AllocError> {
+        if self.failed {
+            Err(AllocError)
+        } else {
+            line_of(self.alloc, self.members)
+        }
+    }
 }

@@ -1,13 +1,10 @@
 //! Lines that are proposed in the place of a refused one.
-use crate::faults::Fault;
-use crate::finding::Help;
+use crate::faults::{Fault, Wrong};
+use crate::finding::Helper;
 use crate::grammar::{Argument, CallWords, Kind, call_named};
-use crate::nearest::{corrected, nearest_call};
-use crate::rewrites::{is_known, rewritten};
-use crate::words::{Given, Word, joined, push_word, with_word};
-use std::alloc::{AllocError, Global};
-use vt_line::version::Version;
-use vt_lines::proposal::Proposal;
+use crate::nearest::{nearest_call, write_corrected};
+use crate::rewrites::{is_known, rewrite};
+use crate::words::{Given, Word};
 
 const LINE: &str = "a line is a task, a call and its words; a comment begins with `#`";
 
@@ -19,304 +16,317 @@ const SECOND: &str = "`--script 2` reads the file in that version";
 const SET_ID: &str =
     "the bits of set-user-ID and set-group-ID are not modelled; MODE is at most 1777";
 
-// The line with the text in a word's place, if a run takes it.
-fn replaced(
-    alloc: Global,
-    line: Given<'_>,
-    at: Word<'_>,
-    text: &str,
-) -> Result<Option<Proposal>, AllocError> {
-    Proposal::new(line.version, alloc, with_word(alloc, line.words, at, text)?)
+// Proposes the line with the text in a word's place.
+fn replace(helper: &mut Helper, line: Given<'_>, at: Word<'_>, text: &str) -> bool {
+    let mut whole = helper.draft();
+    for word in line.words {
+        whole.push_word(if word.column == at.column {
+            text
+        } else {
+            word.text
+        });
+    }
+    helper.propose(whole)
 }
 
-// The line with what a word of this kind means in its place.
-fn mended(
-    alloc: Global,
-    line: Given<'_>,
-    kind: Kind,
-    at: Word<'_>,
-) -> Result<Option<Proposal>, AllocError> {
-    match corrected(line.version, alloc, kind, at.text)? {
-        Some(text) => replaced(alloc, line, at, text.as_str()),
-        None => Ok(None),
+// Proposes the line with what a word of this kind means in its place.
+fn mend(helper: &mut Helper, line: Given<'_>, kind: Kind, at: Word<'_>) -> bool {
+    let mut text = helper.draft();
+    let is_clear = write_corrected(line.version, helper.alloc, kind, at.text, &mut text);
+    if !helper.noted(is_clear) {
+        return false;
+    }
+    match helper.ended(text) {
+        Some(text) => replace(helper, line, at, text.as_str()),
+        None => false,
     }
 }
 
-// The line with these two last words, the owner and the group, in the place of one with a colon.
-fn owner_and_group(
-    alloc: Global,
-    line: Given<'_>,
-    at: Word<'_>,
-) -> Result<Option<Proposal>, AllocError> {
+// What stands for an owner or a group, where it may be left out.
+fn or_dash(text: &str) -> &str {
+    if text.is_empty() { "-" } else { text }
+}
+
+// Proposes the line with these two last words, the owner and the group, in the place of one with a colon.
+fn split_owner(helper: &mut Helper, line: Given<'_>, at: Word<'_>) -> bool {
     let Some((user, group)) = at.text.split_once(':') else {
-        return Ok(None);
+        return false;
     };
-    let user = if user.is_empty() { "-" } else { user };
-    let group = if group.is_empty() { "-" } else { group };
-    let mut text = String::new(alloc);
+    let mut text = helper.draft();
     for word in line.words {
         if word.column != at.column {
-            push_word(&mut text, word.text)?;
+            text.push_word(word.text);
         }
     }
-    push_word(&mut text, user)?;
-    push_word(&mut text, group)?;
-    Proposal::new(line.version, alloc, text)
+    text.push_word(or_dash(user));
+    text.push_word(or_dash(group));
+    helper.propose(text)
 }
 
-// The line up to a word that begins a comment.
-fn without_comment(alloc: Global, line: Given<'_>) -> Result<Option<Proposal>, AllocError> {
-    let Some(place) = line
-        .words
-        .iter()
-        .position(|word| word.text.starts_with('#'))
-    else {
-        return Ok(None);
+// Proposes the line up to a word that begins a comment.
+fn leave_comment_out(helper: &mut Helper, line: Given<'_>) -> bool {
+    let mut text = helper.draft();
+    for word in line.words {
+        if word.text.starts_with('#') {
+            return helper.propose(text);
+        }
+        text.push_word(word.text);
+    }
+    false
+}
+
+// Proposes the line with its words from one on as one word, with spaces and without the quotes around them.
+fn join_words(helper: &mut Helper, line: Given<'_>, first: usize, said: &'static str) {
+    let mut rest = helper.draft();
+    for word in line.words.get(first..).unwrap_or_default() {
+        rest.push_after("\\x20", word.text);
+    }
+    let Some(rest) = helper.ended(rest) else {
+        return;
     };
-    let words = line.words.get(..place).unwrap_or_default();
-    Proposal::new(line.version, alloc, joined(alloc, words)?)
+    let mut whole = helper.draft();
+    whole.push_words(line.words.get(..first).unwrap_or_default());
+    whole.push_word(rest.as_str().trim_matches(['"', '\'']));
+    helper.propose_or_say(whole, said);
 }
 
-// The line with its words from one on as one word, with spaces and without the quotes around them.
-fn as_one_word(
-    alloc: Global,
-    line: Given<'_>,
-    first: usize,
-) -> Result<Option<Proposal>, AllocError> {
-    let before = line.words.get(..first).unwrap_or_default();
-    let rest = line.words.get(first..).unwrap_or_default();
-    let mut text = String::new(alloc);
-    for word in rest {
-        if !text.is_empty() {
-            text.push_str("\\x20")?;
-        }
-        text.push_str(word.text)?;
-    }
-    let bare = text.as_str().trim_matches(['"', '\'']);
-    let mut whole = joined(alloc, before)?;
-    push_word(&mut whole, bare)?;
-    Proposal::new(line.version, alloc, whole)
-}
-
-// The line with a plain word for each that is missing.
-fn completed(
-    alloc: Global,
-    line: Given<'_>,
-    call: &'static CallWords,
-) -> Result<Option<Proposal>, AllocError> {
-    let mut text = joined(alloc, line.words)?;
+// The words of a call that a line lacks.
+fn lacking(line: Given<'_>, call: &CallWords) -> &'static [Argument] {
     let given = line.arguments().len();
     let needed = call.needed.len();
-    let arguments = if given < needed {
-        call.needed
+    if given < needed {
+        call.needed.get(given..).unwrap_or_default()
     } else {
-        call.optional
-    };
-    let given = if given < needed {
-        given
-    } else {
-        given.saturating_sub(needed)
-    };
-    for argument in arguments.iter().skip(given) {
-        let plain = argument.kind.words(line.version).plain;
-        if plain.is_empty() {
-            return Ok(None);
-        }
-        push_word(&mut text, plain)?;
+        let further = given.saturating_sub(needed);
+        call.optional.get(further..).unwrap_or_default()
     }
-    Proposal::new(line.version, alloc, text)
 }
 
-// The line as help, or words alone.
-fn help_of(alloc: Global, line: Option<Proposal>, words: &'static str) -> Result<Help, AllocError> {
-    match line {
-        Some(line) => Help::line(alloc, line, ""),
-        None => Ok(Help::words(alloc, words)),
+// Proposes the line with a plain word for each that is missing.
+fn complete(helper: &mut Helper, line: Given<'_>, call: &CallWords) -> bool {
+    let mut text = helper.draft();
+    text.push_words(line.words);
+    for argument in lacking(line, call) {
+        let plain = argument.kind.words(line.version).plain;
+        if plain.is_empty() {
+            return false;
+        }
+        text.push_word(plain);
     }
+    helper.propose(text)
+}
+
+// Proposes these words as a line of the first task.
+fn give_to_first_task(helper: &mut Helper, words: &[Word<'_>], said: &'static str) {
+    let mut text = helper.draft();
+    text.push_word("t");
+    text.push_words(words);
+    helper.propose_or_say(text, said);
+}
+
+// Whether a text begins as a comment does elsewhere.
+fn is_comment(text: &str) -> bool {
+    text.starts_with("//") || text.starts_with(';') || text.starts_with("--")
+}
+
+// Proposes the line as a comment, without what begins one elsewhere.
+fn make_comment(helper: &mut Helper, line: Given<'_>) {
+    let mut text = helper.draft();
+    text.push("# ");
+    text.push(line.text.trim_start_matches([' ', '/', ';', '-']));
+    helper.propose_or_say(text, LINE);
 }
 
 // Help where a word is no task: the task that is meant, or the task that is missing before a call.
-fn for_task(alloc: Global, line: Given<'_>, at: Word<'_>) -> Result<Help, AllocError> {
-    if at.text.starts_with("//") || at.text.starts_with(';') || at.text.starts_with("--") {
-        return for_comment(alloc, line);
+fn help_task(helper: &mut Helper, line: Given<'_>, at: Word<'_>) {
+    if is_comment(at.text) {
+        make_comment(helper, line);
+    } else if call_named(line.version, at.text).is_some() {
+        give_to_first_task(helper, line.words, LINE);
+    } else if !mend(helper, line, Kind::Task, at) {
+        helper.say(Kind::Task.words(line.version).said);
     }
-    if call_named(line.version, at.text).is_some() {
-        let whole = joined(alloc, line.words)?;
-        let line = Proposal::new(line.version, alloc, format!(in alloc; "t {whole}")?)?;
-        return help_of(alloc, line, LINE);
-    }
-    let mended = mended(alloc, line, Kind::Task, at)?;
-    help_of(alloc, mended, Kind::Task.words(line.version).said)
 }
 
-// The line as a comment, behind what begins one elsewhere.
-fn for_comment(alloc: Global, line: Given<'_>) -> Result<Help, AllocError> {
-    let rest = line.text.trim_start_matches([' ', '/', ';', '-']);
-    let line = Proposal::new(line.version, alloc, format!(in alloc; "# {rest}")?)?;
-    help_of(alloc, line, LINE)
+// The name of the call that is like a word.
+fn call_like(helper: &mut Helper, line: Given<'_>, at: Word<'_>) -> Option<&'static str> {
+    match nearest_call(line.version, helper.alloc, at.text) {
+        Ok(name) => name,
+        Err(_) => {
+            helper.fail();
+            None
+        }
+    }
+}
+
+// How a call is used.
+fn usage_of(line: Given<'_>, name: &str) -> &'static str {
+    match call_named(line.version, name) {
+        Some(call) => call.usage,
+        None => "",
+    }
 }
 
 // Help where a word is no call: the call whose name is like it.
-fn for_call(alloc: Global, line: Given<'_>, at: Word<'_>) -> Result<Help, AllocError> {
+fn help_call(helper: &mut Helper, line: Given<'_>, at: Word<'_>) {
     if is_known(at.text) {
-        return Ok(Help::words(alloc, ""));
+        return;
     }
-    let name = at.text.to_ascii_lowercase(alloc)?;
-    let Some(near) = nearest_call(line.version, alloc, name.as_str())? else {
-        return Ok(Help::words(alloc, ""));
-    };
-    let usage = call_named(line.version, near).map_or("", |call| call.usage);
-    let line = replaced(alloc, line, at, near)?;
-    help_of(alloc, line, usage)
+    if let Some(name) = call_like(helper, line, at) {
+        if !replace(helper, line, at, name) {
+            helper.say(usage_of(line, name));
+        }
+    }
 }
 
 // Help where a word is no directive: the task's call of that name, or the one directive.
-fn for_directive(alloc: Global, line: Given<'_>, at: Word<'_>) -> Result<Help, AllocError> {
+fn help_directive(helper: &mut Helper, line: Given<'_>, at: Word<'_>) {
     if call_named(line.version, at.text).is_some() {
-        let rest = joined(alloc, line.request())?;
-        let line = Proposal::new(line.version, alloc, format!(in alloc; "t {rest}")?)?;
-        return help_of(alloc, line, "");
+        give_to_first_task(helper, line.request(), "");
+    } else {
+        propose_peers(helper);
     }
-    for_peers(line.version, alloc)
 }
 
 // Help where a word is not of its kind.
-fn for_word(alloc: Global, line: Given<'_>, kind: Kind, at: Word<'_>) -> Result<Help, AllocError> {
-    let said = kind.words(line.version).said;
+fn help_word(helper: &mut Helper, line: Given<'_>, kind: Kind, at: Word<'_>) {
     if kind == Kind::Mode && has_set_id(at.text) {
-        return Ok(Help::words(alloc, SET_ID));
+        helper.say(SET_ID);
+        return;
     }
-    if let Some(line) = mended(alloc, line, kind, at)? {
-        return Help::line(alloc, line, "");
+    let is_mended = mend(helper, line, kind, at)
+        || (kind == Kind::KeptIdentity && split_owner(helper, line, at));
+    if !is_mended {
+        helper.say(kind.words(line.version).said);
     }
-    if kind == Kind::KeptIdentity {
-        let line = owner_and_group(alloc, line, at)?;
-        return help_of(alloc, line, said);
+}
+
+// Whether the last word that a call needs is bytes.
+fn takes_bytes(call: &CallWords) -> bool {
+    match call.needed.last() {
+        Some(argument) => argument.kind == Kind::Bytes,
+        None => false,
     }
-    Ok(Help::words(alloc, said))
 }
 
 // Help where there is a word too many.
-fn for_further(alloc: Global, line: Given<'_>, call: &CallWords) -> Result<Help, AllocError> {
-    if let Some(line) = without_comment(alloc, line)? {
-        return Help::line(alloc, line, "a comment stands on a line of its own");
-    }
-    let is_of_bytes = |argument: &Argument| argument.kind == Kind::Bytes;
-    if call.needed.last().is_some_and(is_of_bytes) {
+fn help_further(helper: &mut Helper, line: Given<'_>, call: &CallWords) {
+    if leave_comment_out(helper, line) {
+        helper.say("a comment stands on a line of its own");
+    } else if takes_bytes(call) {
         let first = call.needed.len().saturating_add(1);
-        let whole = as_one_word(alloc, line, first)?;
-        return help_of(alloc, whole, Kind::Bytes.words(line.version).said);
+        join_words(helper, line, first, Kind::Bytes.words(line.version).said);
+    } else if call.name == "peers" {
+        propose_peers(helper);
     }
-    if call.name == "peers" {
-        return for_peers(line.version, alloc);
-    }
-    Ok(Help::words(alloc, ""))
 }
 
-// The one directive.
-fn for_peers(version: Version, alloc: Global) -> Result<Help, AllocError> {
-    let line = Proposal::new(version, alloc, String::from_str(alloc, "! peers")?)?;
-    help_of(alloc, line, "")
+// Proposes the one directive.
+fn propose_peers(helper: &mut Helper) {
+    let mut text = helper.draft();
+    text.push("! peers");
+    helper.propose(text);
 }
 
-// A directory's line for each directory of the last word's path, the outer one first.
-fn with_parents(alloc: Global, line: Given<'_>) -> Result<Option<Help>, AllocError> {
-    let (Some(who), Some(path)) = (line.words.first(), line.words.last()) else {
-        return Ok(None);
-    };
-    let (who, path) = (who.text, path.text);
-    let mut lines = Vec::new(alloc);
-    for (place, byte) in path.bytes().enumerate().skip(1) {
-        let end = place.saturating_add(1);
-        let front = match path.get(..place) {
-            Some(front) if byte == b'/' => front,
-            _ if end == path.len() => path,
-            _ => continue,
-        };
-        if let Some(line) = Proposal::new(
-            line.version,
-            alloc,
-            format!(in alloc; "{who} mkdir {front}")?,
-        )? {
-            lines.push(line)?;
+// Proposes a line for each directory of the last word's path, the outer one first.
+fn propose_parents(helper: &mut Helper, who: &str, path: &str) {
+    for (place, byte) in path.as_bytes().iter().enumerate() {
+        let is_last = place.saturating_add(1) == path.len();
+        if place > 0 && (*byte == b'/' || is_last) {
+            let end = if *byte == b'/' { place } else { path.len() };
+            let mut text = helper.draft();
+            text.push(who);
+            text.push(" mkdir ");
+            text.push(path.get(..end).unwrap_or(path));
+            helper.propose(text);
         }
     }
-    let words = "`mkdir` makes one directory a line";
-    Ok((lines.len() < 9).then_some(Help { lines, words }))
+}
+
+// Help where a directory is to be made with its parents.
+fn help_parents(helper: &mut Helper, line: Given<'_>) -> bool {
+    let (Some(who), Some(path)) = (line.words.first(), line.words.last()) else {
+        return false;
+    };
+    propose_parents(helper, who.text, path.text);
+    if helper.count() >= 9 {
+        helper.take_back();
+        return false;
+    }
+    helper.say("`mkdir` makes one directory a line");
+    true
 }
 
 // Whether the line is one of a test, with the answer that it wants, or the name of a script.
 fn is_of_test(line: Given<'_>) -> bool {
-    line.words.iter().any(|word| word.text == "=>")
-        || line.words.first().is_some_and(|word| word.text == "==")
+    for (place, word) in line.words.iter().enumerate() {
+        if word.text == "=>" || (place == 0 && word.text == "==") {
+            return true;
+        }
+    }
+    false
 }
 
 // Whether a mode has the bits of set-user-ID or set-group-ID.
 fn has_set_id(text: &str) -> bool {
-    text.len() == 4
-        && text.bytes().all(|byte| matches!(byte, b'0'..=b'7'))
-        && !text.starts_with(['0', '1'])
+    for byte in text.as_bytes() {
+        if !matches!(*byte, b'0'..=b'7') {
+            return false;
+        }
+    }
+    text.len() == 4 && !text.starts_with(['0', '1'])
+}
+
+// Help where the line ends before a word.
+fn help_lacking(helper: &mut Helper, line: Given<'_>, call: &CallWords, argument: Argument) {
+    if !complete(helper, line, call) {
+        helper.say(argument.kind.words(line.version).said);
+    }
 }
 
 // Help for a fault, where no row of the rewritten calls fits.
-fn for_fault(alloc: Global, line: Given<'_>, fault: Fault<'_>) -> Result<Help, AllocError> {
-    match fault {
-        Fault::NoTask(word) => for_task(alloc, line, word),
-        Fault::NoCall(word) => for_call(alloc, line, word),
-        Fault::NoDirective(word) => for_directive(alloc, line, word),
-        Fault::Bad(argument, word, _) => for_word(alloc, line, argument.kind, word),
-        Fault::Further(call, _) => for_further(alloc, line, call),
-        Fault::NoOption(call, _) => Ok(Help::words(alloc, call.usage)),
-        Fault::Lacks(call, argument) => {
-            let whole = completed(alloc, line, call)?;
-            help_of(alloc, whole, argument.kind.words(line.version).said)
-        }
-        Fault::Unmodelled(said, _) => Ok(Help::words(alloc, said)),
-        Fault::Later(_, _) => Ok(Help::words(alloc, "")),
-        Fault::OfSecond(_, _) => Ok(Help::words(alloc, SECOND)),
-        Fault::LacksCall | Fault::Other => Ok(Help::words(alloc, LINE)),
+fn help_fault(helper: &mut Helper, line: Given<'_>, fault: Fault<'_>) {
+    match fault.wrong {
+        Wrong::NoTask => help_task(helper, line, fault.word),
+        Wrong::NoCall => help_call(helper, line, fault.word),
+        Wrong::NoDirective => help_directive(helper, line, fault.word),
+        Wrong::Bad(argument) => help_word(helper, line, argument.kind, fault.word),
+        Wrong::Further(call) => help_further(helper, line, call),
+        Wrong::NoOption(call) => helper.say(call.usage),
+        Wrong::Lacks(call, argument) => help_lacking(helper, line, call, argument),
+        Wrong::Unmodelled(said) => helper.say(said),
+        Wrong::Later(_) => {}
+        Wrong::OfSecond(_) => helper.say(SECOND),
+        Wrong::LacksCall | Wrong::Other => helper.say(LINE),
     }
 }
 
-// Help of a bad word that is mended alone. A type is not: `rshared` is the type of another call.
-fn of_mended(
-    alloc: Global,
-    line: Given<'_>,
-    fault: Fault<'_>,
-) -> Result<Option<Proposal>, AllocError> {
-    match fault {
-        Fault::Bad(argument, word, _) if argument.kind != Kind::Propagation => {
-            mended(alloc, line, argument.kind, word)
+// Mends a bad word alone, and says whether it can. A type is not mended: `rshared` is the type of another call.
+fn mend_bad(helper: &mut Helper, line: Given<'_>, fault: Fault<'_>) -> bool {
+    match fault.wrong {
+        Wrong::Bad(argument) if argument.kind != Kind::Propagation => {
+            mend(helper, line, argument.kind, fault.word)
         }
-        _ => Ok(None),
+        _ => false,
     }
 }
 
-// Help of a call in other words, or of a directory with its parents.
-fn of_rewritten(
-    alloc: Global,
-    line: Given<'_>,
-    fault: Fault<'_>,
-) -> Result<Option<Help>, AllocError> {
-    match fault {
-        Fault::Later(_, _) | Fault::Unmodelled(_, _) | Fault::OfSecond(_, _) => Ok(None),
-        Fault::NoOption(call, word) if call.name == "mkdir" && word.text == "-p" => {
-            with_parents(alloc, line)
+// Help of a call in other words, or of a directory with its parents, if the line is one.
+fn help_rewritten(helper: &mut Helper, line: Given<'_>, fault: Fault<'_>) -> bool {
+    match fault.wrong {
+        Wrong::Later(_) | Wrong::Unmodelled(_) | Wrong::OfSecond(_) => false,
+        Wrong::NoOption(call) if call.name == "mkdir" && fault.word.text == "-p" => {
+            help_parents(helper, line)
         }
-        _ => rewritten(alloc, line),
+        _ => rewrite(helper, line),
     }
 }
 
-/// What to write in the place of a line with this fault.
-pub fn help(alloc: Global, line: Given<'_>, fault: Fault<'_>) -> Result<Help, AllocError> {
+/// Writes what to write in the place of a line with this fault.
+pub fn help(helper: &mut Helper, line: Given<'_>, fault: Fault<'_>) {
     if is_of_test(line) {
-        return Ok(Help::words(alloc, OF_TEST));
+        helper.say(OF_TEST);
+    } else if !mend_bad(helper, line, fault) && !help_rewritten(helper, line, fault) {
+        help_fault(helper, line, fault);
     }
-    if let Some(line) = of_mended(alloc, line, fault)? {
-        return Help::line(alloc, line, "");
-    }
-    if let Some(help) = of_rewritten(alloc, line, fault)? {
-        return Ok(help);
-    }
-    for_fault(alloc, line, fault)
 }

@@ -5,9 +5,10 @@ ghost use Rattle.vt_lines.specs.Refused.{is_refused, refused_in};
 
 use crate::bytes::byte_fault;
 use crate::diagnose::diagnosis;
+use crate::draft::Draft;
 use crate::finding::{Diagnosis, Help};
 use crate::history::{History, Warning, unfollowed};
-use crate::words::{Word, words_of};
+use crate::words::word_at;
 use std::alloc::{AllocError, Global};
 use strsim::osa_distance;
 use vt_line::line::Line;
@@ -72,7 +73,10 @@ impl Scan {
 
     // Whether the fault of a refused line was told before in this file.
     fn is_told(&mut self, line: &[u8]) -> bool {
-        let Some(place) = byte_fault(line).and_then(|fault| fault.kind.told_once()) else {
+        let Some(fault) = byte_fault(line) else {
+            return false;
+        };
+        let Some(place) = fault.kind.told_once() else {
             return false;
         };
         let Some(count) = self.told.get_mut(place) else {
@@ -102,6 +106,31 @@ impl Scan {
         Ok(())
     }
 
+    // Goes on by a refused line, if it was to fork a child.
+    fn refuse_fork(
+        &mut self,
+        version: Version,
+        alloc: Global,
+        number: u64,
+        line: &[u8],
+    ) -> Result<(), AllocError> {
+        let text = str::from_utf8(line).unwrap_or_default();
+        if !is_like_fork(alloc, word_at(text, 1).text)? {
+            return Ok(());
+        }
+        let read = exit_of(version, alloc, word_at(text, 0).text)?;
+        self.refuse_fork_of(number, &read);
+        drop(read);
+        Ok(())
+    }
+
+    // Goes on by a refused line of this number that was to fork a child of the task of another line.
+    fn refuse_fork_of(&mut self, number: u64, read: &Option<Line>) {
+        if let Some(Line::Call(task, _)) = read {
+            self.history.refused_fork(number, task);
+        }
+    }
+
     // Keeps what is wrong with a refused line.
     fn refuse(
         &mut self,
@@ -110,9 +139,7 @@ impl Scan {
         number: u64,
         line: &[u8],
     ) -> Result<(), AllocError> {
-        if let Some(name) = forking_task(version, alloc, line)? {
-            self.history.refused_fork(number, &name);
-        }
+        self.refuse_fork(version, alloc, number, line)?;
         if self.is_told(line) || self.findings.len() >= MOST_SHOWN {
             return Ok(());
         }
@@ -143,16 +170,27 @@ impl Scan {
     ) -> Result<bool, AllocError>
         ensures { IfOk result (λ refused. refused ≡ is_refused (version_of version) line.now) }
     {
-        match reading(version, alloc, line)? {
-            None => {
-                self.refuse(version, alloc, number, line)?;
-                Ok(true)
-            }
-            Some(Line::Call(name, call)) => {
-                self.called(alloc, number, line, &name, &call)?;
-                Ok(false)
-            }
-            Some(_) => Ok(false),
+        let read = reading(version, alloc, line)?;
+        let refused = read.is_none();
+        let followed = self.follow(version, alloc, number, line, &read);
+        drop(read);
+        followed?;
+        Ok(refused)
+    }
+
+    // Goes on by a line as a run reads it, or by one that it refuses.
+    fn follow(
+        &mut self,
+        version: Version,
+        alloc: Global,
+        number: u64,
+        line: &[u8],
+        read: &Option<Line>,
+    ) -> Result<(), AllocError> {
+        match read {
+            None => self.refuse(version, alloc, number, line),
+            Some(Line::Call(name, call)) => self.called(alloc, number, line, name, call),
+            Some(_) => Ok(()),
         }
     }
 
@@ -174,9 +212,7 @@ impl Scan {
     // Warns of each change of the root that no change of the working directory follows.
     fn warn_of_chroots(&mut self, alloc: Global, text: &[u8]) -> Result<(), AllocError> {
         for number in self.history.unfollowed_chroots(alloc)? {
-            let line = line_of(text, number);
-            let warning = unfollowed(alloc)?;
-            self.warn(alloc, number, line, warning)?;
+            self.warn(alloc, number, line_of(text, number), unfollowed(alloc))?;
         }
         Ok(())
     }
@@ -190,41 +226,27 @@ fn line_of(text: &[u8], number: u64) -> &[u8] {
         .unwrap_or_default()
 }
 
-// The task of a refused line that was to fork a child.
-fn forking_task(
-    version: Version,
-    alloc: Global,
-    line: &[u8],
-) -> Result<Option<TaskName>, AllocError> {
-    let Ok(text) = str::from_utf8(line) else {
-        return Ok(None);
-    };
-    let mut words = text.split(' ').filter(|word| !word.is_empty());
-    let (Some(who), Some(name)) = (words.next(), words.next()) else {
-        return Ok(None);
-    };
-    if !matches!(name.len(), 3..=5) || osa_distance(alloc, name, "fork")? > 1 {
-        return Ok(None);
-    }
-    let exit = format!(in alloc; "{who} exit")?;
-    Ok(match reading(version, alloc, exit.as_bytes())? {
-        Some(Line::Call(task, _call)) => Some(task),
-        _ => None,
-    })
+// Whether a word is `fork`, or one like it.
+fn is_like_fork(alloc: Global, word: &str) -> Result<bool, AllocError> {
+    Ok(matches!(word.len(), 3..=5) && osa_distance(alloc, word, "fork")? <= 1)
+}
+
+// The line by which a task of this name ends, if the name is one.
+fn exit_of(version: Version, alloc: Global, name: &str) -> Result<Option<Line>, AllocError> {
+    let mut exit = Draft::new(alloc);
+    exit.push(name);
+    exit.push(" exit");
+    let exit = exit.end()?;
+    reading(version, alloc, exit.as_bytes())
 }
 
 // A warning with its place in the line.
 fn warned(alloc: Global, line: &[u8], warning: Warning) -> Result<Diagnosis, AllocError> {
-    let words = words_of(alloc, str::from_utf8(line).unwrap_or_default())?;
-    let start = Word {
-        column: 0,
-        text: " ",
-    };
-    let word = words.get(warning.word).copied().unwrap_or(start);
+    let text = str::from_utf8(line).unwrap_or_default();
     Ok(Diagnosis {
-        span: word.span(),
-        message: warning.message,
+        span: word_at(text, warning.word).span(),
         help: Help::words(alloc, warning.help),
+        message: warning.message.end()?,
         note: "",
     })
 }

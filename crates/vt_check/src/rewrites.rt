@@ -1,31 +1,40 @@
 //! Calls as a shell, mount(8) or another system call spells them, and the calls that are meant.
 //!
-//! In a row's first text, `*` is any word, `/*` one that begins with a slash, and `...` stands for any that follow. In its second, `$k` is the k-th word behind the
-//! call's name, and a bar stands between lines; a line begins with the task, unless its first word is given. Where the
-//! second text is empty, nothing is proposed. The third says something about it, or nothing.
+//! In a row's first text, `*` is any word, `/*` one that begins with a slash, and `...` stands for any that follow. In
+//! its second, `$k` is the k-th word behind the call's name, and a bar stands between lines; a line begins with the
+//! task, unless its first word is given. Where the second text is empty, nothing is proposed. The third says something
+//! about it, or nothing.
+mod binds;
 mod files;
+mod links;
 mod modes;
 mod mounts;
 mod namespaces;
+mod objects;
+mod opening;
 mod privacy;
 mod propagation;
 mod tasks;
+mod unmounts;
 
-use crate::finding::Help;
-use crate::words::{Given, Word, push_word};
-use std::alloc::{AllocError, Global};
-use vt_line::version::Version;
-use vt_lines::proposal::Proposal;
+use crate::draft::Draft;
+use crate::finding::Helper;
+use crate::words::{Given, Word};
 
 /// A call in other words, the lines that are meant, and what is said about them.
 type Row = (&'static str, &'static str, &'static str);
 
-// All rows, by what they are about.
-fn tables() -> [&'static [Row]; 7] {
+// All rows, by what they are about. A long table costs its proof more than two short ones.
+fn tables() -> [&'static [Row]; 12] {
     [
         files::rows(),
+        objects::rows(),
+        links::rows(),
+        opening::rows(),
         modes::rows(),
         mounts::rows(),
+        binds::rows(),
+        unmounts::rows(),
         namespaces::rows(),
         propagation::rows(),
         privacy::rows(),
@@ -58,96 +67,87 @@ fn place_of(part: &str) -> Option<usize> {
     part.strip_prefix('$')?.parse().ok()
 }
 
-// A line of a row's second text, behind the task unless its first word is given.
-fn line_of(alloc: Global, who: &str, text: &str, words: &[Word<'_>]) -> Result<String, AllocError> {
-    let mut line = String::new(alloc);
+// Appends a part of a row's second text, or the word that it stands for.
+fn push_part(line: &mut Draft, part: &str, words: &[Word<'_>]) {
+    let place = place_of(part).unwrap_or(usize::MAX);
+    match words.get(place) {
+        Some(word) => line.push_word(word.text),
+        None => line.push_word(part),
+    }
+}
+
+// Writes a line of a row's second text, behind the task unless its first word is given.
+fn write_line(who: &str, text: &str, words: &[Word<'_>], line: &mut Draft) {
     if !text.starts_with('$') {
-        line.push_str(who)?;
+        line.push(who);
     }
     for part in text.split(' ') {
-        match place_of(part).and_then(|place| words.get(place)) {
-            Some(word) => push_word(&mut line, word.text)?,
-            None => push_word(&mut line, part)?,
-        }
+        push_part(line, part, words);
     }
-    Ok(line)
 }
 
-// The lines of a row, if a run takes all of them.
-fn lines_of(
-    version: Version,
-    alloc: Global,
-    who: &str,
-    to: &str,
-    words: &[Word<'_>],
-) -> Result<Option<Vec<Proposal>>, AllocError> {
-    let mut lines = Vec::new(alloc);
+// Proposes the lines of a row, if a run takes all of them, and says whether it does.
+fn propose_lines(helper: &mut Helper, who: &str, to: &str, words: &[Word<'_>]) -> bool {
     for text in to.split(" | ") {
-        let line = line_of(alloc, who, text, words)?;
-        let Some(line) = Proposal::new(version, alloc, line)? else {
-            return Ok(None);
-        };
-        lines.push(line)?;
-    }
-    Ok(Some(lines))
-}
-
-// What a row says of the line, if it fits.
-fn of_row(
-    version: Version,
-    alloc: Global,
-    who: &str,
-    words: &[Word<'_>],
-    row: &Row,
-) -> Result<Option<Help>, AllocError> {
-    let (from, to, said) = *row;
-    if !is_of(from, words) {
-        return Ok(None);
-    }
-    if to.is_empty() {
-        return Ok(Some(Help::words(alloc, said)));
-    }
-    match lines_of(version, alloc, who, to, words)? {
-        Some(lines) => Ok(Some(Help { lines, words: said })),
-        None => Ok(None),
-    }
-}
-
-// What the first row of a table says that fits.
-fn of_table(
-    version: Version,
-    alloc: Global,
-    who: &str,
-    words: &[Word<'_>],
-    rows: &[Row],
-) -> Result<Option<Help>, AllocError> {
-    for row in rows {
-        if let Some(help) = of_row(version, alloc, who, words, row)? {
-            return Ok(Some(help));
+        let mut line = helper.draft();
+        write_line(who, text, words, &mut line);
+        if !helper.propose(line) {
+            helper.take_back();
+            return false;
         }
     }
-    Ok(None)
+    true
 }
 
-/// What the first row says that fits the line.
-pub fn rewritten(alloc: Global, line: Given<'_>) -> Result<Option<Help>, AllocError> {
+// Helps as a row says, if it fits the line.
+fn help_by_row(helper: &mut Helper, who: &str, words: &[Word<'_>], row: &Row) -> bool {
+    let (from, to, said) = *row;
+    let fits = is_of(from, words) && (to.is_empty() || propose_lines(helper, who, to, words));
+    if fits {
+        helper.say(said);
+    }
+    fits
+}
+
+// Helps as the first row of a table says that fits.
+fn help_by_table(helper: &mut Helper, who: &str, words: &[Word<'_>], rows: &[Row]) -> bool {
+    for row in rows {
+        if help_by_row(helper, who, words, row) {
+            return true;
+        }
+    }
+    false
+}
+
+/// Helps as the first row says that fits the line, and says whether there is one.
+pub fn rewrite(helper: &mut Helper, line: Given<'_>) -> bool {
     let Some(who) = line.words.first() else {
-        return Ok(None);
+        return false;
     };
     for rows in tables() {
-        if let Some(help) = of_table(line.version, alloc, who.text, line.request(), rows)? {
-            return Ok(Some(help));
+        if help_by_table(helper, who.text, line.request(), rows) {
+            return true;
         }
     }
-    Ok(None)
+    false
 }
 
 // Whether a row of a table is about a call of this name.
 fn is_in(rows: &[Row], name: &str) -> bool {
-    rows.iter().any(|row| row.0.split(' ').next() == Some(name))
+    for (from, _, _) in rows {
+        if from.split(' ').next() == Some(name) {
+            return true;
+        }
+    }
+    false
 }
 
 /// Whether a row is about a call of this name: then the name is known, and none that is like it is meant.
 pub fn is_known(name: &str) -> bool {
-    tables().iter().any(|rows| is_in(rows, name))
+    for rows in tables() {
+        if is_in(rows, name) {
+            return true;
+        }
+    }
+    false
 }

@@ -1,5 +1,5 @@
 //! A report as text, in the form of a compiler's errors.
-use crate::bytes::push_shown;
+use crate::draft::Draft;
 use crate::finding::{Help, Span};
 use crate::report::{Finding, Level, Report};
 use std::alloc::{AllocError, Global};
@@ -10,10 +10,9 @@ const MOST_COLUMNS: usize = 84;
 // How many columns before a fault are shown of a long line.
 const COLUMNS_BEFORE: usize = 30;
 
-// A part of a line as it is shown, and where carets stand below it.
-#[derive(Drop)]
-struct Excerpt {
-    text: String,
+// Where carets stand below a part of a line.
+#[derive(Clone, Copy)]
+struct Carets {
     before: usize,
     width: usize,
 }
@@ -26,39 +25,37 @@ fn start_of(line: &[u8], span: Span) -> usize {
     span.column.saturating_sub(COLUMNS_BEFORE)
 }
 
-// The part of a line in which a fault stands.
-fn excerpt_of(alloc: Global, line: &[u8], span: Span) -> Result<Excerpt, AllocError> {
+// Appends the part of a line in which a fault stands.
+fn push_part(text: &mut Draft, line: &[u8], span: Span) -> Carets {
+    let begin = text.len();
     let from = start_of(line, span);
-    let mut text = String::from_str(alloc, if from == 0 { "" } else { "..." })?;
+    if from > 0 {
+        text.push("...");
+    }
     let end = span.column.saturating_add(span.width);
-    let mut before = span.column.saturating_sub(from).saturating_add(text.len());
+    let mut before = span
+        .column
+        .saturating_sub(from)
+        .saturating_add(text.len().saturating_sub(begin));
     let mut width: usize = 0;
-    for (place, byte) in line.iter().enumerate().skip(from) {
-        if text.len() >= MOST_COLUMNS {
-            text.push_str("...")?;
+    for (place, byte) in line.iter().enumerate() {
+        if place < from {
+            continue;
+        }
+        let shown = text.len().saturating_sub(begin);
+        if shown >= MOST_COLUMNS {
+            text.push("...");
             break;
         }
-        let shown = text.len();
-        push_shown(&mut text, *byte)?;
+        text.push_byte(*byte);
+        let now = text.len().saturating_sub(begin);
         if place < span.column {
-            before = text.len();
+            before = now;
         } else if place < end {
-            width = width.saturating_add(text.len().saturating_sub(shown));
+            width = width.saturating_add(now.saturating_sub(shown));
         }
     }
-    Ok(Excerpt {
-        text,
-        before,
-        width,
-    })
-}
-
-// Appends a character so often.
-fn push_times(text: &mut String, character: char, times: usize) -> Result<(), AllocError> {
-    for _ in 0..times {
-        text.push(character)?;
-    }
-    Ok(())
+    Carets { before, width }
 }
 
 // How a finding of a level is named, where warnings are errors or not.
@@ -70,62 +67,81 @@ fn level_word(level: Level, strict: bool) -> &'static str {
     }
 }
 
-// The lines of help in one sentence.
-fn proposed(alloc: Global, help: &Help) -> Result<String, AllocError> {
-    let mut text = String::new(alloc);
-    for line in &help.lines {
-        text.push_str(if text.is_empty() {
-            "write `"
-        } else {
-            ", then `"
-        })?;
-        text.push_str(line.as_str())?;
-        text.push('`')?;
+// The columns of a number.
+fn columns_of(number: u64) -> usize {
+    match number.checked_ilog10() {
+        Some(log) => (log as usize).saturating_add(1),
+        None => 1,
     }
-    Ok(text)
+}
+
+// Appends what a line without a number begins with: a space for each digit of the number of the finding, and a mark.
+fn push_margin(text: &mut Draft, number: u64, mark: &str) {
+    text.push_times(' ', columns_of(number));
+    text.push(mark);
 }
 
 // Appends a line that begins with `=`, if it says something.
-fn push_remark(text: &mut String, margin: &str, kind: &str, said: &str) -> Result<(), AllocError> {
-    if said.is_empty() {
-        return Ok(());
+fn push_remark(text: &mut Draft, number: u64, kind: &str, said: &str) {
+    if !said.is_empty() {
+        push_margin(text, number, " = ");
+        text.push(kind);
+        text.push(": ");
+        text.push(said);
+        text.push("\n");
     }
-    for part in [margin, " = ", kind, ": ", said, "\n"] {
-        text.push_str(part)?;
-    }
-    Ok(())
 }
 
-// What follows the excerpt: what to write, and what else is to be known.
-fn push_help(
-    alloc: Global,
-    text: &mut String,
-    margin: &str,
-    help: &Help,
-    note: &str,
-) -> Result<(), AllocError> {
-    let lines = proposed(alloc, help)?;
-    push_remark(text, margin, "help", lines.as_str())?;
-    let kind = if lines.is_empty() { "help" } else { "note" };
-    push_remark(text, margin, kind, help.words)?;
-    push_remark(text, margin, "note", note)
+// Appends the lines that are proposed, in one sentence.
+fn push_proposed(text: &mut Draft, number: u64, help: &Help) {
+    for (place, line) in help.lines.iter().enumerate() {
+        if place == 0 {
+            push_margin(text, number, " = help: write ");
+        } else {
+            text.push(", then ");
+        }
+        text.push_quoted(line.as_str());
+    }
+    if !help.lines.is_empty() {
+        text.push("\n");
+    }
 }
 
-// The excerpt with its carets.
-fn push_excerpt(
-    alloc: Global,
-    text: &mut String,
-    margin: &str,
-    finding: &Finding,
-) -> Result<(), AllocError> {
+// Appends what follows the excerpt: what to write, and what else is to be known.
+fn push_help(text: &mut Draft, number: u64, help: &Help, note: &str) {
+    push_proposed(text, number, help);
+    let kind = if help.lines.is_empty() {
+        "help"
+    } else {
+        "note"
+    };
+    push_remark(text, number, kind, help.words);
+    push_remark(text, number, "note", note);
+}
+
+// Appends the excerpt with its carets.
+fn push_excerpt(text: &mut Draft, finding: &Finding) {
     let number = finding.line;
-    let shown = excerpt_of(alloc, finding.text.as_slice(), finding.diagnosis.span)?;
-    let line = shown.text.as_str();
-    let head = format!(in alloc; "{margin} |\n{number} | {line}\n{margin} | ")?;
-    text.push_str(head.as_str())?;
-    push_times(text, ' ', shown.before)?;
-    push_times(text, '^', shown.width.max(1))?;
-    text.push('\n')
+    push_margin(text, number, " |\n");
+    text.push_number(number);
+    text.push(" | ");
+    let carets = push_part(text, &finding.text, finding.diagnosis.span);
+    text.push("\n");
+    push_margin(text, number, " | ");
+    text.push_times(' ', carets.before);
+    text.push_times('^', carets.width.max(1));
+    text.push("\n");
+}
+
+// Appends where a finding is.
+fn push_place(text: &mut Draft, name: &str, finding: &Finding) {
+    push_margin(text, finding.line, "--> ");
+    text.push(name);
+    text.push(":");
+    text.push_number(finding.line);
+    text.push(":");
+    text.push_number((finding.diagnosis.span.column as u64).saturating_add(1));
+    text.push("\n");
 }
 
 /// A finding of the file of this name, as several lines and an empty one.
@@ -135,83 +151,80 @@ pub fn shown(
     strict: bool,
     finding: &Finding,
 ) -> Result<String, AllocError> {
-    let number = finding.line;
-    let mut margin = String::new(alloc);
-    push_times(&mut margin, ' ', format!(in alloc; "{number}")?.len())?;
-    let margin = margin.as_str();
-    let level = level_word(finding.level, strict);
-    let message = finding.diagnosis.message.as_str();
-    let column = finding.diagnosis.span.column.saturating_add(1);
-    let mut text = format!(in alloc; "{level}: {message}\n{margin}--> {name}:{number}:{column}\n")?;
-    push_excerpt(alloc, &mut text, margin, finding)?;
     let found = &finding.diagnosis;
-    push_help(alloc, &mut text, margin, &found.help, found.note)?;
-    text.push('\n')?;
-    Ok(text)
+    let mut text = Draft::new(alloc);
+    text.push(level_word(finding.level, strict));
+    text.push(": ");
+    text.push(found.message.as_str());
+    text.push("\n");
+    push_place(&mut text, name, finding);
+    push_excerpt(&mut text, finding);
+    push_help(&mut text, finding.line, &found.help, found.note);
+    text.push("\n");
+    text.end()
 }
 
-// What is said of further lines with a fault that was told once.
-const FURTHER: [&str; 4] = [
-    "CR LF at the end",
-    "a byte order mark",
-    "a tab",
-    "a byte above 0x7e",
-];
-
 // Appends how many of a thing there are.
-fn push_count(
-    alloc: Global,
-    text: &mut String,
-    count: u64,
-    one: &str,
-    several: &str,
-) -> Result<(), AllocError> {
-    let word = if count == 1 { one } else { several };
-    let part = format!(in alloc; "{count} {word}")?;
-    text.push_str(part.as_str())
+fn push_count(text: &mut Draft, count: u64, one: &str, several: &str) {
+    text.push_number(count);
+    text.push(" ");
+    text.push(if count == 1 { one } else { several });
 }
 
 // Appends how many more lines have a fault that was told once.
-fn push_further(
-    alloc: Global,
-    text: &mut String,
-    count: u64,
-    what: &str,
-) -> Result<(), AllocError> {
-    if count == 0 {
-        return Ok(());
+fn push_further(text: &mut Draft, count: u64, what: &str) {
+    if count > 0 {
+        text.push("note: ");
+        push_count(text, count, "more line has ", "more lines have ");
+        text.push(what);
+        text.push("\n");
     }
-    let lines = if count == 1 { "line has" } else { "lines have" };
-    let part = format!(in alloc; "note: {count} more {lines} {what}\n")?;
-    text.push_str(part.as_str())
+}
+
+// How many lines have a fault that was told once before.
+fn told_before(report: &Report) -> u64 {
+    let mut told: u64 = 0;
+    for count in &report.further {
+        told = told.saturating_add(*count);
+    }
+    told
+}
+
+// Appends how many findings are not shown, if there are some.
+fn push_hidden(text: &mut Draft, report: &Report, found: u64) {
+    let shown = u64::try_from(report.findings.len()).unwrap_or(u64::MAX);
+    let hidden = found
+        .saturating_sub(told_before(report))
+        .saturating_sub(shown);
+    if hidden > 0 {
+        text.push("note: ");
+        text.push_number(hidden);
+        text.push(" more are not shown\n");
+    }
+}
+
+// Appends how many errors and warnings there are in a file.
+fn push_counts(text: &mut Draft, name: &str, report: &Report) {
+    text.push(name);
+    text.push(": ");
+    push_count(text, report.errors, "error", "errors");
+    text.push(", ");
+    push_count(text, report.warnings, "warning", "warnings");
+    text.push("\n");
 }
 
 /// What is said behind the findings of the file of this name; nothing where nothing was found.
 pub fn summary(alloc: Global, name: &str, report: &Report) -> Result<String, AllocError> {
-    let mut text = String::new(alloc);
+    let mut text = Draft::new(alloc);
     let [crlf, mark, tab, high] = report.further;
-    for (count, what) in [crlf, mark, tab, high].iter().zip(FURTHER.iter()) {
-        push_further(alloc, &mut text, *count, what)?;
-    }
+    push_further(&mut text, crlf, "CR LF at the end");
+    push_further(&mut text, mark, "a byte order mark");
+    push_further(&mut text, tab, "a tab");
+    push_further(&mut text, high, "a byte above 0x7e");
     let found = report.errors.saturating_add(report.warnings);
-    if found == 0 {
-        return Ok(text);
+    if found > 0 {
+        push_hidden(&mut text, report, found);
+        push_counts(&mut text, name, report);
     }
-    let told = report
-        .further
-        .iter()
-        .fold(0, |sum: u64, count| sum.saturating_add(*count));
-    let shown = u64::try_from(report.findings.len()).unwrap_or(u64::MAX);
-    let hidden = found.saturating_sub(told).saturating_sub(shown);
-    if hidden > 0 {
-        let part = format!(in alloc; "note: {hidden} more are not shown\n")?;
-        text.push_str(part.as_str())?;
-    }
-    text.push_str(name)?;
-    text.push_str(": ")?;
-    push_count(alloc, &mut text, report.errors, "error", "errors")?;
-    text.push_str(", ")?;
-    push_count(alloc, &mut text, report.warnings, "warning", "warnings")?;
-    text.push('\n')?;
-    Ok(text)
+    text.end()
 }

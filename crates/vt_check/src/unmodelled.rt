@@ -1,9 +1,8 @@
 //! Words of Linux that are not modelled: they are named so, and no other word is proposed for them.
-use crate::finding::Span;
 use crate::words::Word;
 
-/// Flags and options of mount(8), and capabilities of capabilities(7).
-const UNMODELLED: [&str; 68] = [
+// Flags and options of mount(8) and of system calls.
+static FLAGS: [&str; 35] = [
     "nosuid",
     "nodev",
     "noatime",
@@ -39,6 +38,10 @@ const UNMODELLED: [&str; 68] = [
     "CLONE_NEWTIME",
     "CLONE_FS",
     "CLONE_FILES",
+];
+
+// Capabilities of capabilities(7).
+static CAPABILITIES: [&str; 33] = [
     "CAP_AUDIT_CONTROL",
     "CAP_AUDIT_READ",
     "CAP_AUDIT_WRITE",
@@ -76,7 +79,7 @@ const UNMODELLED: [&str; 68] = [
 
 /// Whether the text is a word of Linux that is not modelled.
 pub fn is_unmodelled(text: &str) -> bool {
-    UNMODELLED.iter().any(|word| *word == text)
+    FLAGS.contains(&text) || CAPABILITIES.contains(&text)
 }
 
 // The part of a word, between commas or bars, that is not modelled.
@@ -93,5 +96,11 @@ fn part_of<'a>(word: Word<'a>) -> Option<Word<'a>> {
 
 /// The first part of the words that is not modelled.
 pub fn unmodelled_in<'a>(words: &[Word<'a>]) -> Option<Word<'a>> {
-    words.iter().find_map(|word| part_of(*word))
+    for word in words {
+        let part = part_of(*word);
+        if part.is_some() {
+            return part;
+        }
+    }
+    None
 }

@@ -39,11 +39,11 @@ impl<'a> Given<'a> {
         self.words.get(1..).unwrap_or_default()
     }
 
-    /// The place behind the last word.
-    pub fn end(self) -> Span {
-        Span {
+    /// The place behind the last word, as a word of one column.
+    pub fn end(self) -> Word<'a> {
+        Word {
             column: self.text.trim_end().len(),
-            width: 1,
+            text: " ",
         }
     }
 }
@@ -61,40 +61,21 @@ pub fn words_of<'a>(alloc: Global, line: &'a str) -> Result<Vec<Word<'a>>, Alloc
     Ok(words)
 }
 
-/// Appends a word, behind a space if there is one before it.
-pub fn push_word(line: &mut String, word: &str) -> Result<(), AllocError> {
-    if !line.is_empty() {
-        line.push(' ')?;
+/// The word at this place of a line, counted from 0, or its first column where there is none.
+pub fn word_at(line: &str, place: usize) -> Word<'_> {
+    let mut column: usize = 0;
+    let mut left = place;
+    for text in line.split(' ') {
+        if !text.is_empty() && left == 0 {
+            return Word { column, text };
+        }
+        if !text.is_empty() {
+            left -= 1;
+        }
+        column = column.saturating_add(text.len()).saturating_add(1);
     }
-    line.push_str(word)
-}
-
-/// These words with one space between them.
-pub fn joined(alloc: Global, words: &[Word<'_>]) -> Result<String, AllocError> {
-    let mut line = String::new(alloc);
-    for word in words {
-        push_word(&mut line, word.text)?;
+    Word {
+        column: 0,
+        text: " ",
     }
-    Ok(line)
-}
-
-/// The line with another text in the place of a word.
-pub fn with_word(
-    alloc: Global,
-    words: &[Word<'_>],
-    at: Word<'_>,
-    text: &str,
-) -> Result<String, AllocError> {
-    let mut line = String::new(alloc);
-    for word in words {
-        push_word(
-            &mut line,
-            if word.column == at.column {
-                text
-            } else {
-                word.text
-            },
-        )?;
-    }
-    Ok(line)
 }

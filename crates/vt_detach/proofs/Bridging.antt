@@ -1,27 +1,26 @@
 -- From what code counts to what the sweep leaves: where inodes got uses and lost uses, and mounts and filesystems went
 -- as the
 -- sweep says, the code's world is the one that the sweep leaves, and counts what is in it.
-use Rattle.std.proofs.Common.{◌≡◌, sym, subst, ◌∙◌, ℕ, nat_eq, not, List, map}
+use Rattle.std.proofs.Common.{◌≡◌, sym, subst, ◌∙◌, ℕ, nat_eq, List, filter, map}
 use Rattle.vt_spec.specs.Machine.SameWorlds.{SameWorlds, without_changes}
-use Rattle.vt_spec.specs.Machine.Settled.{only_used, settled, without_dead_in}
-use Rattle.vt_spec.specs.Machine.World.{World, filesystem_numbered, is_overlay}
+use Rattle.vt_spec.specs.Machine.Settled.{settled}
+use Rattle.vt_spec.specs.Machine.World.{World, filesystem_numbered}
 use Rattle.vt_spec.specs.Machine.Invariants.{IsWorld}
-use Rattle.vt_laws_counts.specs.Counted.{IsCounted, IsPlain}
+use Rattle.vt_laws_counts.specs.Counted.{IsCounted}
 use Rattle.vt_laws_counts.specs.Using.{AreThere, Exchanges, exchanged}
-use Rattle.vt_laws_counts.proofs.using.Exchanged.{numbers_mapped}
-use Rattle.vt_laws_counts.proofs.using.Sweeps.{uses_are_swept}
+use Rattle.vt_laws_counts.proofs.overlays.FilesystemUses.{no_upper_is_in_any}
+use Rattle.vt_laws_counts.proofs.using.Sweeps.{uses_are_swept_beside_overlays}
 use Rattle.vt_fs.specs.FilesystemsValue.{FilesystemEntry, filesystem_seen, inodes_seen}
 use Rattle.vt_group.specs.Grouping.{Has}
 use Rattle.vt_laws_letting_go.specs.OneByOne.{Inode}
-use Rattle.vt_laws_letting_go.proofs.Lists.{Among, among-map, among_from_all}
+use Rattle.vt_laws_letting_go.proofs.Lists.{Among, among_from_all}
 use Rattle.vt_laws_letting_go.proofs.sweeps.OfWorlds.{worlds_have_trees}
 use Rattle.vt_location.specs.Numbers.{counted}
 use Rattle.vt_mount.specs.MountsValue.{mounts_in}
-use Rattle.vt_laws_worlds.proofs.settling.SettledSeen.{used_number}
 use Rattle.vt_laws_worlds.proofs.RaisedInUse.{worlds_are_in_use}
 use Rattle.vt_world.specs.Held.{CountsItsMounts, IsHeld}
-use Rattle.vt_world.specs.WorldValue.{WorldValue, world_of}
-use Rattle.vt_laws_letting_go.proofs.sweeps.OfWorlds.{found_filesystem}
+use Rattle.vt_world.specs.WorldValue.{WorldValue, overlays_seen, world_of}
+use Rattle.vt_detach.proofs.Overlaid.{AreStillMounted, KeepsOverlays, found_plain_one, is_plain_one, no_upper_midway, plain_numbers_left, swept_keeps}
 use Rattle.vt_detach.proofs.Showing.{ShowsAs, shown_has, shown_is_counted, shown_is_same}
 use Rattle.vt_laws_letting_go.specs.TreesOverlays.{in_use_of}
 
@@ -35,18 +34,21 @@ pub record ComesFrom (old : WorldValue) (after : World ℕ) (gained lost : List 
   pub inodes : inodes_seen entry ≡ exchanged (counted was.count) gained lost (inodes_seen was)
   pub exchanges : Exchanges gained lost (counted was.count) (world_of old) (in_use_of after)
 
--- Mounts and filesystems are those that the sweep leaves, in their order.
+-- Mounts and filesystems are those that the sweep leaves, in their order, and overlays those of before.
 pub record IsSwept (old : WorldValue) (after : World ℕ) (gained lost : List Inode) (new : WorldValue) : Type 0 where
-  pub plain : IsPlain after
+  pub midway : KeepsOverlays old after
+  pub mounted : AreStillMounted old (in_use_of after)
+  pub overlays : overlays_seen new.overlays ≡ overlays_seen old.overlays
   pub mounts : (in_use_of after).mounts ≡ mounts_in new.mounts
-  pub numbers : map (λ f. f.number) (in_use_of after).filesystems ≡ map (λ entry. counted entry.count) new.filesystems
+  pub numbers : map (λ f. f.number) (filter is_plain_one (in_use_of after).filesystems)
+      ≡ map (λ entry. counted entry.count) new.filesystems
   pub entries : (entry : FilesystemEntry) → Among entry new.filesystems → ComesFrom old after gained lost entry
   pub namespaces : (without_changes after).namespaces ≡ (without_changes (world_of new)).namespaces
   pub tasks : (without_changes after).tasks ≡ (without_changes (world_of new)).tasks
 
 module _ (old : WorldValue) (held : IsHeld old) (after : World ℕ) (gained lost : List Inode) (new : WorldValue)
     (swept : IsSwept old after gained lost new) (has : Has (settled nat_eq after) new.groups)
-    (is : IsWorld nat_eq (settled nat_eq after) × IsPlain (settled nat_eq after)) where
+    (is : IsWorld nat_eq (settled nat_eq after)) where
   abbrev left : World ℕ
   left = settled nat_eq after
 
@@ -59,32 +61,27 @@ module _ (old : WorldValue) (held : IsHeld old) (after : World ℕ) (gained lost
       subst (λ count. IsCounted left (filesystem_numbered nat_eq left (counted count)) (inodes_seen entry))
       (sym from.count)
       (subst (IsCounted left (filesystem_numbered nat_eq left (counted from.was.count))) (sym from.inodes)
-      (uses_are_swept (world_of old) after gained lost (counted from.was.count) (inodes_seen from.was)
+      (uses_are_swept_beside_overlays (world_of old) after gained lost (counted from.was.count) (inodes_seen from.was)
       (worlds_have_trees (world_of old) held.in_world)
-      (worlds_are_in_use (world_of old) held.in_world).inodes swept.plain from.exchanges
+      (worlds_are_in_use (world_of old) held.in_world).inodes
+      (no_upper_is_in_any after (counted from.was.count) (no_upper_midway old held.overlays after swept.midway))
+      from.exchanges
       (subst (λ f. IsCounted (world_of old) f (inodes_seen from.was))
-      (sym (found_filesystem (world_of old).filesystems held.in_world.files.one_filesystem (filesystem_seen from.was)
-      (among-map filesystem_seen old.filesystems from.was from.among)))
-      was_counted)
+      (sym (found_plain_one old held from.was from.among)) was_counted)
       from.there))
 
-  numbers_left : map (λ f. f.number) left.filesystems ≡ map (λ f. f.number) (in_use_of after).filesystems
-  numbers_left =
-      numbers_mapped (λ f. only_used nat_eq first_round (not (is_overlay f)) f)
-      (λ f. used_number first_round (not (is_overlay f)) f) first_round.filesystems
-      ∙ numbers_mapped (λ f. only_used nat_eq (in_use_of after) (is_overlay f) f)
-      (λ f. used_number (in_use_of after) (is_overlay f) f) (in_use_of after).filesystems
-    where
-      first_round : World ℕ
-      first_round = without_dead_in nat_eq is_overlay (in_use_of after)
+  -- the sweep leaves the overlays
+  pub overlays_left : KeepsOverlays old left
+  overlays_left = swept_keeps old held.overlays after swept.midway swept.mounted
 
   -- what the sweep leaves shows as code's world does
   pub shows_left : ShowsAs left new
   shows_left = record {
-    plain = is.1;
+    overlays = overlays_left.overlays ∙ sym swept.overlays;
+    rise = overlays_left.rise;
     mounts = swept.mounts;
     groups = has;
-    numbers = numbers_left ∙ swept.numbers;
+    numbers = plain_numbers_left after ∙ swept.numbers;
     inodes = counted_left;
     namespaces = swept.namespaces;
     tasks = swept.tasks;
@@ -92,13 +89,13 @@ module _ (old : WorldValue) (held : IsHeld old) (after : World ℕ) (gained lost
 
   -- the code's world is the one that the sweep leaves
   pub swept_is_same : SameWorlds left (world_of new)
-  swept_is_same = shown_is_same left new shows_left is.0
+  swept_is_same = shown_is_same left new shows_left is
 
   -- and has the groups that are kept
   pub swept_has : Has (world_of new) new.groups
-  swept_has = shown_has left new shows_left is.0
+  swept_has = shown_has left new shows_left is
 
   -- and its inodes count what is in it
   pub swept_is_counted : (entry : FilesystemEntry) → Among entry new.filesystems → IsWorld nat_eq (world_of new)
       → IsCounted (world_of new) (filesystem_seen entry) (inodes_seen entry)
-  swept_is_counted = shown_is_counted left new shows_left is.0
+  swept_is_counted = shown_is_counted left new shows_left is

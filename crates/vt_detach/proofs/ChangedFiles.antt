@@ -1,7 +1,7 @@
 -- Where the counted inodes of one filesystem have changed, the code's world is the one that the sweep after the change
 -- leaves,
 -- and counts what is in it.
-use Rattle.std.proofs.Common.{◌≡◌, refl, sym, ap, subst, ◌∙◌, ⊎_elim, inl, inr, true≢false, ℕ, nat_eq, eq-eqb, eqb-true, Bool, true, false, cond, [], ◌∷◌, map, Some, None, is_some, unwrap_or}
+use Rattle.std.proofs.Common.{◌≡◌, refl, sym, ap, subst, ◌∙◌, ◌+◌, ⊎_elim, inl, inr, true≢false, ℕ, nat_eq, eq-eqb, eqb-true, Bool, true, false, cond, [], ◌∷◌, map, Some, None, is_some}
 use Rattle.std.specs.Prelude.{⊤}
 use Rattle.std.proofs.lemmas.Option.{same_Some}
 use Rattle.vt_spec.specs.Language.Calls.{TaskName}
@@ -13,17 +13,20 @@ use Rattle.vt_spec.specs.Machine.Mounts.{Location}
 use Rattle.vt_spec.specs.Machine.Permits.{Permit}
 use Rattle.vt_spec.specs.Machine.SameWorlds.{SameFiles, SameFilesystem, SameFilesystems, SameWorlds}
 use Rattle.vt_spec.specs.Machine.Settled.{settled}
-use Rattle.vt_spec.specs.Machine.World.{Filesystem, Task, World, filesystem_at, filesystem_numbered, replaced_if_numbered, with_filesystem}
+use Rattle.vt_spec.specs.Machine.World.{Filesystem, Task, World, filesystem_at, filesystem_numbered, is_overlay, replaced_if_numbered, with_filesystem}
 use Rattle.vt_spec.specs.Machine.Invariants.{IsWorld}
 use Rattle.vt_spec.specs.Fits.{Fits}
 use Rattle.vt_spec.specs.Inodes.{Inodes, changed, node_in, tree_of}
-use Rattle.vt_laws_counts.specs.Changing.{IsChange, LinksWhatIsThere, after_change, filesystem_of}
-use Rattle.vt_laws_counts.specs.Counted.{IsCounted, IsPlain}
-use Rattle.vt_laws_counts.proofs.Alike.{same_worlds_count_alike}
-use Rattle.vt_laws_counts.proofs.changing.Changes.{counts_follow_changes, only_files_change, other_counts_stay}
+use Rattle.vt_laws_counts.specs.BesideOverlays.{IsChangeOfPlain}
+use Rattle.vt_laws_counts.specs.Changing.{LinksWhatIsThere, after_change, filesystem_of}
+use Rattle.vt_laws_counts.specs.Counted.{IsCounted}
+use Rattle.vt_laws_counts.specs.OverlaysStay.{layer_count}
+use Rattle.vt_laws_counts.proofs.Alike.{any_same_worlds_count_alike}
+use Rattle.vt_laws_counts.proofs.changing.Changes.{counts_follow_changes_beside_overlays, only_files_change_beside_overlays, other_counts_stay_beside_overlays}
 use Rattle.vt_laws_counts.proofs.Listed.{same_numbers_are_permuted}
-use Rattle.vt_laws_counts.proofs.changing.SameAfter.{counted_changes_are_swept}
-use Rattle.vt_fs.specs.FilesystemsValue.{ChangesInodes, FilesystemEntry, Filesystems, Shown, entry_of, files_seen, filesystem_seen, filesystems_seen, inodes_seen, no_entry, numbers_seen, shown_entry, shown_if}
+use Rattle.vt_laws_counts.proofs.changing.SameAfter.{counted_changes_are_swept_beside_overlays}
+use Rattle.vt_laws_counts.proofs.using.Exchanged.{numbers_mapped}
+use Rattle.vt_fs.specs.FilesystemsValue.{ChangesInodes, FilesystemEntry, Filesystems, Shown, entry_of, files_seen, filesystem_seen, filesystems_seen, inodes_seen, numbers_seen, shown_entry, shown_if}
 use Rattle.vt_laws_rules.specs.Numbers.{IsSuppliedFrom, KeepsTo}
 use Rattle.vt_laws_letting_go.specs.Counts.{mounts_showing}
 use Rattle.vt_laws_letting_go.specs.TreeChanges.{with_tree}
@@ -31,17 +34,22 @@ use Rattle.vt_laws_letting_go.proofs.Lists.{Among, all_from_among, among_from_al
 use Rattle.vt_location.specs.Numbers.{counted, is_own_number}
 use Rattle.vt_location.proofs.NumberLemmas.{counted_same, counted_test}
 use Rattle.vt_laws_permits.specs.Named.{permit_named}
-use Rattle.vt_laws_permits.proofs.named.PermitsKeepTo.{same_keeps_to_numbers_too}
-use Rattle.vt_laws_permits.proofs.left.PermitsLeave.{same_is_a_world_too}
+use Rattle.vt_laws_permits.proofs.named.PermitsKeepTo.{permits_keep_to_numbers}
+use Rattle.vt_laws_letting_go.proofs.sweeps.OfWorlds.{found_filesystem}
+use Rattle.vt_laws_one_text.proofs.same.SameNumbers.{any_same_worlds_keep_to_numbers}
+use Rattle.vt_laws_overlays_stay.specs.Woven.{are_rising}
+use Rattle.vt_laws_overlays_stay.proofs.left.Given.{same_gives_no_upper}
+use Rattle.vt_laws_overlays_stay.proofs.weaving.WovenLists.{woven_lists_are_alike}
 use Rattle.vt_laws_runs.specs.Handed.{is_counted_before}
-use Rattle.vt_laws_runs.proofs.answered.AlikeWorlds.{same_worlds_are_plain_alike, sameness_is_an_equivalence}
+use Rattle.vt_laws_runs.proofs.answered.AlikeWorlds.{sameness_is_an_equivalence}
 use Rattle.vt_detach.specs.Events.{Becomes, Permits, left_by, supply_of}
 use Rattle.vt_world.specs.Held.{CountsItsMounts, CountsItsUses, CountsWhatIsInIt, HasOwnInodes, IsHeld}
-use Rattle.vt_world.specs.WorldValue.{WorldValue, world_of}
+use Rattle.vt_world.specs.WorldValue.{WorldValue, overlays_seen, world_of}
 use Rattle.vt_detach.proofs.ChangedNumbers.{MakesOther, none_stays}
 use Rattle.vt_detach.proofs.Grouped.{same_has}
-use Rattle.vt_detach.proofs.FilesSeen.{files_are_plain, one_entry}
-use Rattle.vt_fs.proofs.Numbers.{found_by_number, numbers_apart_each, numbers_listed}
+use Rattle.vt_detach.proofs.FilesSeen.{one_entry}
+use Rattle.vt_detach.proofs.Overlaid.{found_plain_one, layers_kept, overlay_apart, overlays_counted, overlays_hold_still, plain_one_among, plain_ones_apart, same_files_rise, same_numbers_rise, woven_mapped}
+use Rattle.vt_fs.proofs.Numbers.{numbers_apart_each, numbers_listed}
 
 abbrev pub with_filesystems : WorldValue → Filesystems → WorldValue
 with_filesystems value filesystems = record value { filesystems = filesystems }
@@ -165,13 +173,12 @@ module _ (value : WorldValue) (held : IsHeld value) (location : Location ℕ) (c
   filesystem_is : filesystem_at nat_eq (world_of value) location ≡ filesystem_seen made.entry
   filesystem_is =
       ap (filesystem_numbered nat_eq (world_of value)) made.shows
-      ∙ found_by_number value.filesystems count
-      ∙ ap (λ found. filesystem_seen (unwrap_or found (no_entry count))) made.found
+      ∙ found_plain_one value held made.entry made.among
 
-  pub is_change : IsChange (world_of value) location (inodes_seen made.entry) change
+  pub is_change : IsChangeOfPlain (world_of value) location (inodes_seen made.entry) change
   is_change = record {
     in_world = held.in_world;
-    plain = files_are_plain value.filesystems;
+    plain = ap is_overlay filesystem_is;
     counted =
         subst (λ f. IsCounted (world_of value) f (inodes_seen made.entry)) (sym filesystem_is)
         (among_from_all (CountsItsMounts
@@ -184,7 +191,7 @@ module _ (value : WorldValue) (held : IsHeld value) (location : Location ℕ) (c
       → entry ≡ made.entry
   the_one entry m same =
       same_Some entry made.entry
-      (sym (one_entry value.filesystems held.in_world.files.one_filesystem entry m)
+      (sym (one_entry value.filesystems (plain_ones_apart value held) entry m)
       ∙ ap (entry_of value.filesystems) (sym (eqb-true count entry.count same))
       ∙ made.found)
 
@@ -232,6 +239,13 @@ module _ (value : WorldValue) (held : IsHeld value) (location : Location ℕ) (c
         overlay = refl;
       }
 
+  numbers_kept : (f : Filesystem ℕ) → (replaced_if_numbered nat_eq put f).number ≡ f.number
+  numbers_kept f = by (nat_eq put.number f.number) refl
+    where
+      by : (b : Bool) → nat_eq put.number f.number ≡ b → (cond b put f).number ≡ f.number
+      by true e = eqb-true put.number f.number e
+      by false e = refl
+
   same_with_tree : SameWorlds (with_tree (world_of value) (filesystem_of (world_of value) location)
       (files_seen partner.entry)) (world_of new)
   same_with_tree =
@@ -240,7 +254,16 @@ module _ (value : WorldValue) (held : IsHeld value) (location : Location ℕ) (c
       (sym filesystem_is) (record {
         mounts = refl;
         master = refl;
-        filesystems = same_put value.filesystems filesystems (λ entry m. m) pairs;
+        filesystems =
+            subst (λ list. SameFilesystems list (world_of new).filesystems)
+            (sym (woven_mapped (replaced_if_numbered nat_eq put) numbers_kept (filesystems_seen value.filesystems)
+            (overlays_seen value.overlays) (λ f m.
+            ap (λ b. cond b put f) (overlay_apart value held made.entry made.among f m))))
+            (woven_lists_are_alike (map (replaced_if_numbered nat_eq put) (filesystems_seen value.filesystems))
+            (overlays_seen value.overlays) (filesystems_seen filesystems) (overlays_seen value.overlays)
+            (same_put value.filesystems filesystems (λ entry m. m) pairs)
+            (sameness_is_an_equivalence.itself
+            (record (world_of value) { filesystems = overlays_seen value.overlays })).filesystems);
         namespaces = refl;
         tasks = refl;
       })
@@ -255,7 +278,7 @@ module _ (value : WorldValue) (held : IsHeld value) (location : Location ℕ) (c
       (with_tree (world_of value) (filesystem_of (world_of value) location) (files_seen partner.entry)) (world_of new)
       (sameness_is_an_equivalence.back
       (with_tree (world_of value) (filesystem_of (world_of value) location) (files_seen partner.entry)) (after fresh)
-      (counted_changes_are_swept fresh (world_of value) location (inodes_seen made.entry) change is_change
+      (counted_changes_are_swept_beside_overlays fresh (world_of value) location (inodes_seen made.entry) change is_change
       (files_seen partner.entry) (ap tree_of inodes_after) (numbers_apart_each partner.entry)
       (numbers_listed partner.entry)))
       same_with_tree
@@ -265,17 +288,11 @@ module _ (value : WorldValue) (held : IsHeld value) (location : Location ℕ) (c
   abbrev fresh : Fresh ℕ
   fresh k = 0
 
-  plain_after : IsPlain (after fresh)
-  plain_after =
-      same_worlds_are_plain_alike (world_of new) (after fresh)
-      (sameness_is_an_equivalence.back (after fresh) (world_of new) (change_is_swept fresh))
-      (files_are_plain filesystems)
-
   at_the_one : filesystem_at nat_eq (after fresh) location ≡ filesystem_numbered nat_eq (after fresh) (counted count)
   at_the_one =
       subst (λ w. filesystem_at nat_eq w location
       ≡ filesystem_numbered nat_eq w (filesystem_of (world_of value) location))
-      (sym (only_files_change fresh (world_of value) location (inodes_seen made.entry) change is_change)) refl
+      (sym (only_files_change_beside_overlays fresh (world_of value) location (inodes_seen made.entry) change is_change)) refl
       ∙ ap (filesystem_numbered nat_eq (after fresh)) made.shows
 
   counted_then : (was entry : FilesystemEntry) → Among was value.filesystems
@@ -294,17 +311,15 @@ module _ (value : WorldValue) (held : IsHeld value) (location : Location ℕ) (c
           (subst (IsCounted (after fresh) (filesystem_numbered nat_eq (after fresh) (counted count)))
           (ap (λ x. changed nat_eq (inodes_seen x) change) (sym same) ∙ sym inodes)
           (subst (λ f. IsCounted (after fresh) f (changed nat_eq (inodes_seen made.entry) change)) at_the_one
-          (counts_follow_changes fresh (world_of value) location (inodes_seen made.entry) change is_change)))
+          (counts_follow_changes_beside_overlays fresh (world_of value) location (inodes_seen made.entry) change is_change)))
       by false e inodes =
           subst (IsCounted (after fresh) (filesystem_numbered nat_eq (after fresh) (counted was.count))) (sym inodes)
-          (other_counts_stay fresh (world_of value) location (inodes_seen made.entry) change is_change
+          (other_counts_stay_beside_overlays fresh (world_of value) location (inodes_seen made.entry) change is_change
           (counted was.count) (inodes_seen was)
           (λ same. true≢false (sym (eq-eqb count was.count (counted_same count was.count (sym (same ∙ made.shows))))
           ∙ e))
           (subst (λ f. IsCounted (world_of value) f (inodes_seen was))
-          (sym (found_by_number value.filesystems was.count
-          ∙ ap (λ found. filesystem_seen (unwrap_or found (no_entry was.count)))
-          (one_entry value.filesystems held.in_world.files.one_filesystem was m)))
+          (sym (found_plain_one value held was m))
           (among_from_all (CountsItsMounts (world_of value)) value.filesystems held.filesystems was m).inodes))
 
   own_after : (entry : FilesystemEntry) → Among entry filesystems → HasOwnInodes entry
@@ -343,26 +358,43 @@ module _ (value : WorldValue) (held : IsHeld value) (location : Location ℕ) (c
         let was = among_from_all (CountsItsMounts
         (world_of value)) value.filesystems held.filesystems source.was source.among in
         record {
-          mounts = source.is.mounts_are ∙ was.mounts ∙ ap (λ n. mounts_of_filesystem n) (sym source.is.count_is);
+          mounts = source.is.mounts_are ∙ was.mounts ∙ ap (λ n. mounts_of_filesystem n) (sym source.is.count_is)
+              ∙ ap (λ layers. mounts_showing (world_of value) (counted entry.count) + layers)
+              (sym (layers_kept value new held.overlays refl (counted entry.count)));
           inodes =
               subst (λ f. IsCounted (world_of new) f (inodes_seen entry))
-              (found_by_number filesystems entry.count
-              ∙ ap (λ found. filesystem_seen (unwrap_or found (no_entry entry.count)))
-              (one_entry filesystems is.files.one_filesystem entry m))
+              (found_filesystem (world_of new).filesystems is.files.one_filesystem (filesystem_seen entry)
+              (plain_one_among new held.overlays.merged entry m))
               (subst (λ n. IsCounted (world_of new) (filesystem_numbered nat_eq (world_of new) (counted n))
               (inodes_seen entry)) (sym source.is.count_is)
-              (same_worlds_count_alike (after fresh) (world_of new) (counted source.was.count) (inodes_seen entry)
-              (change_is_swept fresh) plain_after
+              (any_same_worlds_count_alike (after fresh) (world_of new) (counted source.was.count) (inodes_seen entry)
+              (change_is_swept fresh)
               (counted_then source.was entry source.among source.is)));
         });
     own_inodes = all_from_among HasOwnInodes filesystems own_after;
+    overlays = overlays_hold_still value new held.overlays held.overlays.none_yet refl
+        (same_files_rise
+        (with_tree (world_of value) (filesystem_of (world_of value) location) (files_seen partner.entry)).filesystems
+        (world_of new).filesystems same_with_tree.filesystems rising_with_tree)
+        (overlays_counted value new held.overlays refl (λ number. refl));
     namespaces = all_from_among (CountsWhatIsInIt (world_of new)) value.namespaces (λ entry m.
         let was = among_from_all (CountsWhatIsInIt (world_of value)) value.namespaces held.namespaces entry m in
         record { tasks = was.tasks });
   }
     where
       mounts_of_filesystem : ℕ → ℕ
-      mounts_of_filesystem n = mounts_showing (world_of value) (counted n)
+      mounts_of_filesystem n = mounts_showing (world_of value) (counted n) + layer_count (world_of value) (counted n)
+
+      rising_with_tree : are_rising (with_tree (world_of value) (filesystem_of (world_of value) location)
+          (files_seen partner.entry)).filesystems ≡ true
+      rising_with_tree =
+          subst (λ f. are_rising (with_filesystem nat_eq (world_of value)
+          (with_files f (files_seen partner.entry))).filesystems ≡ true)
+          (sym filesystem_is)
+          (same_numbers_rise (world_of value).filesystems
+          (map (replaced_if_numbered nat_eq put) (world_of value).filesystems)
+          (numbers_mapped (replaced_if_numbered nat_eq put) numbers_kept (world_of value).filesystems)
+          held.overlays.all_rise)
 
 -- an event that leaves the invariants and does what its permit says
 pub record IsFilesEvent (value : WorldValue) (name : TaskName) (permit : Permit ℕ) (new : WorldValue) : Type 0 where
@@ -389,14 +421,14 @@ pub files_are_changed : (value : WorldValue) (name : TaskName) (permit : Permit 
     → IsFilesEvent value name permit (with_filesystems value filesystems)
 files_are_changed value name permit location change filesystems held permits asks made = record {
   held = change_is_held value held location change filesystems made
-      (same_is_a_world_too (world_of value) (supply_of value permit) permits.task permit (world_of new) held.in_world
-      (files_are_plain value.filesystems) permits.given same).0
-      (same_keeps_to_numbers_too (is_counted_before value.next) asks.named_supply (world_of value) permits.task permit
-      (world_of new)
-      permits.given.called held.given asks.are_named asks.named
+      (same_gives_no_upper (world_of value) (supply_of value permit) permits.task permit (world_of new) held.in_world
+      held.overlays.read_only permits.given same).0
+      (any_same_worlds_keep_to_numbers (is_counted_before value.next)
+      (settled nat_eq (apply nat_eq asks.named_supply (world_of value) permits.task permit).world) (world_of new)
       (subst (λ w. SameWorlds (settled nat_eq w) (world_of new)) (sym asks.applied_named)
       (change_is_swept value held location change filesystems made asks.named_rest))
-      (files_are_plain filesystems));
+      (permits_keep_to_numbers (is_counted_before value.next) asks.named_supply (world_of value) permits.task permit
+      permits.given.called held.given asks.are_named asks.named));
   becomes = λ other called.
       subst (λ task. SameWorlds (left_by value task permit) (world_of new))
       (same_Some permits.task other (sym permits.called ∙ called)) same;

@@ -4,7 +4,6 @@ use Rattle.std.specs.Option.{option_and_then}
 use Rattle.std.proofs.lemmas.Bool.{and_parts, eqb-true, leb-true}
 use Rattle.std.proofs.lemmas.List.{map-append}
 use Rattle.vt_spec.specs.Language.Calls.{TaskName, opens_for_writing}
-use Rattle.vt_spec.specs.Machine.Mounts as meant
 use Rattle.vt_spec.specs.Machine.Descriptors.{without_descriptor}
 use Rattle.vt_spec.specs.Machine.Permits.Permit.{ToClose}
 use Rattle.vt_spec.specs.Machine.Rules.Descriptors.{descriptor_numbered}

@@ -33,7 +33,8 @@ use Rattle.vt_detach.proofs.Moving.{Moves, Use, inodes_of_uses, same_moved_mount
 use Rattle.vt_detach.proofs.NamespaceMounts.{inside_stays}
 use Rattle.vt_detach.proofs.NamespacesEnded.{CountsOneMore, ends, in_ended_is, left_counted, namespaces_are}
 use Rattle.vt_detach.proofs.NamespacesTyped.{nowhere_private, taken_is_left}
-use Rattle.vt_detach.proofs.Staying.{IsDone, after, world_is_plain}
+use Rattle.vt_detach.proofs.Staying.{IsDone, after}
+use Rattle.vt_detach.proofs.Overlaid.{keeps_itself, same_files_keep}
 use Rattle.vt_detach.proofs.TypedEvents.{typed_done}
 use Rattle.std.proofs.Math.Bool.{and-false}
 
@@ -139,14 +140,14 @@ module _ (value : WorldValue) (whole : IsHeld value) (tasks : Tasks) (more less 
         (all_gone : (entry : MountEntry) → Among entry mounts → going entry.mount ≡ false) where
       left_swept : IsSwept value start gained at.lost (untyped mounts)
       left_swept =
-          reached_swept value start gained going (kept mounts filesystems) at all_gone (untyped mounts) refl refl
-          (world_is_plain value)
+          reached_swept value start gained going (kept mounts filesystems) at all_gone (untyped mounts) refl refl refl
+          (same_files_keep value world start refl (keeps_itself value whole.overlays))
           (ap (map (λ (n : Namespace ℕ). record n { change = 0 }))
           (namespaces_are count tasks entries counts next refl same_namespaces ∙ ap (map namespace_of) (sym are)))
 
       left_counts : CountsBeside (untyped mounts)
       left_counts =
-          reached_counted value start gained going (kept mounts filesystems) at all_gone (untyped mounts) refl refl
+          reached_counted value start gained going (kept mounts filesystems) at all_gone (untyped mounts) refl refl refl
           (subst (λ all. Rattle.std.specs.Prelude.All (CountsWhatIsInIt (world_of (untyped mounts))) all) (sym are)
           (left_counted count tasks entries counts (world_of (untyped mounts)) refl))
 

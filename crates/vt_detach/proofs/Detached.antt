@@ -1,10 +1,11 @@
 -- Mounts of a list leave their namespaces one after the other.
-use Rattle.std.proofs.Common.{◌≡◌, refl, sym, ap, subst, ◌∙◌, ℕ, nat_eq, Bool, true, false, true≢false, cond, ◌||◌, List, [], ◌∷◌, ◌++◌, map, Option, Some, None, option_map, is_some, unwrap_or}
+use Rattle.std.proofs.Common.{◌≡◌, refl, sym, ap, subst, ◌∙◌, ℕ, nat_eq, Bool, true, false, true≢false, cond, ◌+◌, ◌||◌, List, [], ◌∷◌, ◌++◌, map, Option, Some, None, option_map, is_some, unwrap_or}
 use Rattle.std.specs.Option.{option_and_then}
 use Rattle.std.specs.Prelude.{IfSome, option_to_list, ◌<◌}
 use Rattle.vt_spec.specs.Lists.{folded, is_among}
 use Rattle.vt_spec.specs.Machine.Mounts.{Mount, detached, mount_in, no_mount}
 use Rattle.vt_spec.specs.Machine.World.{World, mount_at}
+use Rattle.vt_laws_counts.specs.OverlaysStay.{layer_count}
 use Rattle.vt_laws_counts.specs.Using.{Exchanges, pinned_if, unpinned_if}
 use Rattle.vt_fs.specs.FilesystemsValue.{Shown, inodes_seen}
 use Rattle.vt_laws_letting_go.specs.Counts.{mounts_showing}
@@ -137,7 +138,7 @@ module _ (old : WorldValue) (number : ℕ) (pending : List ℕ) (gained lost : L
             (sym (mounts_detached number k.mounts)))
             was.exchanges;
         mounts = ap (λ (x : Shown). x.mounts) from.2 ∙ was.mounts
-            ∙ ap (λ n. mounts_showing world (counted n)) (sym count);
+            ∙ ap (λ n. mounts_showing world (counted n) + layer_count world (counted n)) (sym count);
       }
 
   numbers_now : map (λ (one : Shown). counted one.count) k.filesystems
@@ -149,6 +150,7 @@ module _ (old : WorldValue) (number : ℕ) (pending : List ℕ) (gained lost : L
   -- the mount is detached, and not yet looked at
   detached_kept : IsKeptBut old (number ∷ pending) pending gained (lost ++ more) world kept_now
   detached_kept = record {
+    held = is.held;
     mounts = is.mounts
         ∙ map_alike (detached_in (number ∷ pending)) (λ mount. detached_in pending (detached_if number mount))
         (mounts_in k.mounts)
@@ -166,7 +168,7 @@ module _ (old : WorldValue) (number : ℕ) (pending : List ℕ) (gained lost : L
     located = is.located;
     in_use = is.in_use;
     mounted = is.mounted;
-    plain = is.plain;
+    keeps = is.keeps;
     points = λ mount m one p small.
         let from = among-from_map (detached_if number) (mounts_in k.mounts) mount
         (subst (λ all. Among mount all) (mounts_detached number k.mounts) m) in

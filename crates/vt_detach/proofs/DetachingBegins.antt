@@ -7,9 +7,9 @@ use Rattle.std.proofs.lemmas.Bool.{or_parts}
 use Rattle.vt_spec.specs.Lists.{any_pair, folded, is_among}
 use Rattle.vt_spec.specs.Machine.Mounts.{Location as Place, Mount, detached, mount_in, no_mount}
 use Rattle.vt_spec.specs.Machine.Settled.{filesystem_lives, is_mounted, mount_lives, without_dead_filesystems}
-use Rattle.vt_spec.specs.Machine.World.{Filesystem, World, all_locations, is_overlay, mount_at, with_mounts}
+use Rattle.vt_spec.specs.Machine.World.{Filesystem, World, all_locations, mount_at, with_mounts}
 use Rattle.vt_spec.specs.Machine.Invariants.{is_nowhere_or_attached}
-use Rattle.vt_laws_counts.specs.Counted.{IsPlain}
+use Rattle.vt_laws_counts.specs.OverlaysStay.{layer_count}
 use Rattle.vt_laws_counts.specs.Using.{Exchanges}
 use Rattle.vt_laws_counts.proofs.using.Places.{exchanges_follow, mount_is_placed}
 use Rattle.vt_fs.specs.FilesystemsValue.{Shown}
@@ -25,13 +25,15 @@ use Rattle.vt_laws_letting_go.proofs.Lists.{Among, all_from_among, all_pass, amo
 use Rattle.vt_laws_letting_go.proofs.sweeps.OneByOne.{mounts_go_one_by_one}
 use Rattle.vt_location.specs.Numbers.{counted}
 use Rattle.vt_mount.specs.MountsValue.{mounts_in}
-use Rattle.vt_world.specs.Held.{CountsItsUses}
+use Rattle.vt_world.specs.Held.{CountsItsUses, IsHeld}
 use Rattle.vt_detach.specs.Uses.{Kept}
 use Rattle.vt_world.specs.WorldValue.{WorldValue, world_of}
+use Rattle.vt_detach.proofs.BesideOverlays.{lives_alike, lives_more, overlays_live}
 use Rattle.vt_detach.proofs.Detached.{IsDetaching, detach_first}
-use Rattle.vt_detach.proofs.Keeping.{IsKeptBut, IsShownIn, detached_in, lives_plainly, looked_at, no_more, points_lost, same_number}
+use Rattle.vt_detach.proofs.Keeping.{IsKeptBut, IsShownIn, detached_in, looked_at, no_more, points_lost, same_number}
 use Rattle.vt_detach.proofs.MountsGone.{found_mapped, none_numbered, pending_filesystem, pending_number}
 use Rattle.vt_detach.proofs.Moving.{map_itself, swap_eq}
+use Rattle.vt_detach.proofs.Overlaid.{KeepsOverlays, none_to_mount, same_files_keep}
 use Rattle.vt_spec.proofs.Lists.{map_alike, map_twice}
 use Rattle.vt_spec.proofs.Worlds.{shown-mapped}
 use Rattle.vt_laws_letting_go.specs.TreesOverlays.{in_use_of}
@@ -201,22 +203,17 @@ module _ (before : World ℕ) where
 -- To look at mounts one after the other, each time with the filesystems, is to look at all mounts and then at the
 -- filesystems.
 
-module _ (world : World ℕ) (plain : IsPlain world) (number : ℕ) where
+module _ (old : WorldValue) (held : IsHeld old) (world : World ℕ) (keeps : KeepsOverlays old world) (number : ℕ) where
   abbrev once : World ℕ
   once = Looks.let_go_mount world number
 
   abbrev between : World ℕ
   between = Looks.let_go_mount (without_dead_filesystems nat_eq world) number
 
-  plain_between : IsPlain between
-  plain_between = all_from_among (λ f. is_overlay f ≡ false) between.filesystems (λ f m.
-      among_from_all (λ f. is_overlay f ≡ false) world.filesystems plain f
-      (among-from_filter (filesystem_lives nat_eq world) world.filesystems f m).0)
-
-  mounted_before : (f : Filesystem ℕ) → is_mounted nat_eq once f.number ≡ true → is_mounted nat_eq world f.number ≡ true
-  mounted_before f h =
-      let one = one_passes (λ (mount : Mount ℕ). nat_eq f.number mount.filesystem) once.mounts h in
-      any_passes (λ (mount : Mount ℕ). nat_eq f.number mount.filesystem) world.mounts one.0
+  mounted_before : (n : ℕ) → is_mounted nat_eq once n ≡ true → is_mounted nat_eq world n ≡ true
+  mounted_before n h =
+      let one = one_passes (λ (mount : Mount ℕ). nat_eq n mount.filesystem) once.mounts h in
+      any_passes (λ (mount : Mount ℕ). nat_eq n mount.filesystem) world.mounts one.0
       (among-from_filter (λ (mount : Mount ℕ). not (nat_eq mount.number number)
       || mount_lives nat_eq world mount) world.mounts one.0 one.1).0 one.2
 
@@ -229,8 +226,7 @@ module _ (world : World ℕ) (plain : IsPlain world) (number : ℕ) where
   follows f = by (filesystem_lives nat_eq once f) refl
     where
       by : (b : Bool) → filesystem_lives nat_eq once f ≡ b → b ≡ (filesystem_lives nat_eq world f && b)
-      by true e = ap (λ c. c && true)
-          (sym (lives_plainly world plain f ∙ mounted_before f (sym (lives_plainly once plain f) ∙ e)))
+      by true e = ap (λ c. c && true) (sym (lives_more once world (λ g m. m) mounted_before f e))
       by false e = no_and (filesystem_lives nat_eq world f)
 
   looked_once : looked_at (without_dead_filesystems nat_eq world) number ≡ without_dead_filesystems nat_eq once
@@ -238,17 +234,18 @@ module _ (world : World ℕ) (plain : IsPlain world) (number : ℕ) where
       ap (λ all. record once { filesystems = all })
       (filter_alike (filesystem_lives nat_eq between) (filesystem_lives nat_eq once)
       (filter (filesystem_lives nat_eq world) world.filesystems)
-      (λ f m. lives_plainly between plain_between f ∙ sym (lives_plainly once plain f))
+      (λ f m. lives_alike once between (overlays_live old world keeps (none_to_mount old held world)) (λ n. refl) f)
       ∙ filter_twice (filesystem_lives nat_eq once) (filesystem_lives nat_eq world) (filesystem_lives nat_eq once)
       (λ f. follows f) world.filesystems)
 
-looked_all : (world : World ℕ) → IsPlain world → (numbers : List ℕ)
+looked_all : (old : WorldValue) → IsHeld old → (world : World ℕ) → KeepsOverlays old world → (numbers : List ℕ)
     → folded looked_at (without_dead_filesystems nat_eq world) numbers
     ≡ without_dead_filesystems nat_eq (Looks.let_go_mounts world numbers)
-looked_all world plain [] = refl
-looked_all world plain (number ∷ numbers) =
-    ap (λ one. folded looked_at one numbers) (looked_once world plain number)
-    ∙ looked_all (Looks.let_go_mount world number) plain numbers
+looked_all old held world keeps [] = refl
+looked_all old held world keeps (number ∷ numbers) =
+    ap (λ one. folded looked_at one numbers) (looked_once old held world keeps number)
+    ∙ looked_all old held (Looks.let_go_mount world number)
+    (same_files_keep old world (Looks.let_go_mount world number) refl keeps) numbers
 
 -- The begin
 
@@ -289,7 +286,7 @@ module _ (old : WorldValue) (gained lost : List Inode) (world : World ℕ) (k : 
             (world_of old) after) (no_more lost)
             (exchanges_follow (world_of old) world after gained (lost ++ []) []
             (points_lost (world_of old) (mounts_in k.mounts) gone) f was.exchanges (begun_points f)));
-        mounts = was.mounts ∙ sym (showing (counted one.count));
+        mounts = was.mounts ∙ ap (λ n. n + layer_count world (counted one.count)) (sym (showing (counted one.count)));
       }
 
   -- a mount with a mount point stays
@@ -367,13 +364,17 @@ module _ (old : WorldValue) (gained lost : List Inode) (world : World ℕ) (k : 
   begun_mounted : FilesystemsInUse after
   begun_mounted =
       all_pass (filesystem_lives nat_eq after) world.filesystems (λ f m.
-      lives_plainly after is.plain f
-      ∙ any-map (λ (mount : Mount ℕ). nat_eq f.number mount.filesystem) (detached_in gone) world.mounts
-      (λ mount. ap (nat_eq f.number) (pending_filesystem gone mount))
-      ∙ sym (lives_plainly world is.plain f) ∙ passes (filesystem_lives nat_eq world) world.filesystems is.mounted f m)
+      lives_alike world after refl
+      (λ n. any-map (λ (mount : Mount ℕ). nat_eq n mount.filesystem) (detached_in gone) world.mounts
+      (λ mount. ap (nat_eq n) (pending_filesystem gone mount))) f
+      ∙ passes (filesystem_lives nat_eq world) world.filesystems is.mounted f m)
+
+  begun_keeps : KeepsOverlays old after
+  begun_keeps = same_files_keep old world after refl is.keeps
 
   begun_kept : IsKeptBut old gone gone gained lost after k
   begun_kept = record {
+    held = is.held;
     mounts = ap (map (detached_in gone)) same_mounts;
     uses = all_from_among (CountsItsUses after) k.mounts (λ entry m.
         let counts = among_from_all (CountsItsUses world) k.mounts is.uses entry m in
@@ -384,7 +385,7 @@ module _ (old : WorldValue) (gained lost : List Inode) (world : World ℕ) (k : 
     located = begun_located;
     in_use = begun_in_use;
     mounted = begun_mounted;
-    plain = is.plain;
+    keeps = begun_keeps;
     points = is.points;
     places = λ mount m place p.
         let from = among-from_map (detached_in gone) world.mounts mount m in
@@ -397,7 +398,7 @@ module _ (old : WorldValue) (gained lost : List Inode) (world : World ℕ) (k : 
   ends_living : folded looked_at after gone ≡ in_use_of after
   ends_living =
       ap (λ one. folded looked_at one gone) (sym all_live)
-      ∙ looked_all after is.plain gone
+      ∙ looked_all old is.held after begun_keeps gone
       ∙ ap (without_dead_filesystems nat_eq) (sym (mounts_go_one_by_one after gone begun_in_use))
     where
       all_live : without_dead_filesystems nat_eq after ≡ after

@@ -1,6 +1,7 @@
 -- The begin in a world with its invariants, and the end: where all mounts of a list are detached, the sweep's world is
 -- left.
-use Rattle.std.proofs.Common.{◌≡◌, refl, sym, ap, subst, ◌∙◌, inl, ℕ, nat_eq, Bool, true, false, true≢false, cond, ◌&&◌, List, [], map, Option, Some, None, option_map, is_some}
+use Rattle.std.proofs.lemmas.List.Elements.{All-nil}
+use Rattle.std.proofs.Common.{◌≡◌, refl, sym, ap, subst, ◌∙◌, inl, ℕ, ◌+◌, nat_eq, Bool, true, false, true≢false, cond, ◌&&◌, List, [], map, Option, Some, None, option_map, is_some}
 use Rattle.std.specs.Prelude.{All, option_to_list}
 use Rattle.std.specs.List.{list_all}
 use Rattle.std.proofs.lemmas.Bool.{and_parts}
@@ -16,7 +17,7 @@ use Rattle.vt_spec.specs.Machine.Settled.{is_located}
 use Rattle.vt_spec.specs.Machine.World.{Filesystem, Task, World, filesystem_numbered, is_directory_at, mount_at, node_at, with_mounts}
 use Rattle.vt_spec.specs.Machine.Invariants.{has_its_root, is_located_well, is_nowhere_or_attached, is_there}
 use Rattle.vt_spec.specs.Tree.{is_directory_node}
-use Rattle.vt_laws_counts.specs.Counted.{IsPlain}
+use Rattle.vt_laws_counts.specs.OverlaysStay.{layer_count}
 use Rattle.vt_laws_counts.specs.Using.{Exchanges}
 use Rattle.vt_laws_counts.proofs.using.MountRoots as Roots
 use Rattle.vt_fs.specs.FilesystemsValue.{Filesystems, Shown, filesystem_seen, shown_entry}
@@ -34,9 +35,10 @@ use Rattle.vt_location.specs.Numbers.{counted}
 use Rattle.vt_mount.specs.MountsValue.{MountEntry, mounts_in}
 use Rattle.vt_laws_worlds.proofs.RaisedInUse.{worlds_are_in_use}
 use Rattle.vt_laws_worlds.proofs.worlds.Roots.{directory_there}
-use Rattle.vt_world.specs.Held.{CountsItsMounts, CountsItsUses, CountsWhatIsInIt, IsHeld, writes_of}
+use Rattle.vt_world.specs.Held.{CountsItsMounts, CountsItsUses, CountsWhatIsInIt, IsHeld, IsMountedSoOften, writes_of}
 use Rattle.vt_detach.specs.Uses.{kept}
-use Rattle.vt_world.specs.WorldValue.{WorldValue, world_of}
+use Rattle.vt_world.specs.WorldValue.{WorldValue, overlays_seen, world_of}
+use Rattle.vt_detach.proofs.BesideOverlays.{layers_of_value}
 use Rattle.vt_detach.proofs.Bridging.{IsSwept}
 use Rattle.vt_detach.proofs.Detached.{IsDetaching}
 use Rattle.vt_detach.proofs.DetachingBegins.{HasChildrenOf, detached_world}
@@ -46,8 +48,9 @@ use Rattle.vt_detach.proofs.Grouped.{settled_has, stays_private}
 use Rattle.vt_detach.proofs.Keeping.{IsKeptBut, detached_in, no_more}
 use Rattle.vt_detach.proofs.LocationsSeen.{seen_where_located}
 use Rattle.vt_detach.proofs.Moving.{map_itself}
+use Rattle.vt_detach.proofs.Overlaid.{KeepsOverlays, keeps_itself, none_still, none_to_mount, plain_ones_are, same_files_keep}
 use Rattle.vt_detach.proofs.Remaining.{remade}
-use Rattle.vt_detach.proofs.Staying.{IsDone, world_is_plain}
+use Rattle.vt_detach.proofs.Staying.{IsDone}
 use Rattle.vt_detach.proofs.TypedEvents.{typed_done, typed_value}
 use Rattle.vt_spec.proofs.Lists.{map_alike, map_twice}
 use Rattle.vt_spec.proofs.Truths.{or_false_left}
@@ -92,9 +95,11 @@ module _ (value : WorldValue) (whole : IsHeld value) where
 
   pub held_is_kept : IsKeptBut value [] [] [] [] world (kept value.mounts value.filesystems)
   held_is_kept = record {
+    held = whole;
     mounts = map_itself (mounts_in value.mounts);
     uses = whole.mounts;
-    numbers = map_twice (λ (f : Filesystem ℕ). f.number) filesystem_seen value.filesystems
+    numbers = ap (map (λ (f : Filesystem ℕ). f.number)) (plain_ones_are value whole.overlays)
+        ∙ map_twice (λ (f : Filesystem ℕ). f.number) filesystem_seen value.filesystems
         ∙ sym (map_twice (λ (one : Shown). counted one.count) shown_entry value.filesystems);
     filesystems = λ one m. let from = among-from_map shown_entry value.filesystems one m in record {
       was = from.0;
@@ -105,13 +110,14 @@ module _ (value : WorldValue) (whole : IsHeld value) where
       exchanges = record { same = refl; uses = λ n. refl };
       mounts = ap (λ (x : Shown). x.mounts) from.2
           ∙ (among_from_all (CountsItsMounts world) value.filesystems whole.filesystems from.0 from.1).mounts
-          ∙ ap (λ n. mounts_showing world (counted n)) (sym (ap (λ (x : Shown). x.count) from.2));
+          ∙ ap (λ n. mounts_showing world (counted n) + layer_count world (counted n))
+          (sym (ap (λ (x : Shown). x.count) from.2));
     };
     stand = mounts_of_worlds_stand world whole.in_world;
     located = Roots.locations_of_worlds_stand world whole.in_world;
     in_use = (worlds_are_in_use world whole.in_world).mounts;
     mounted = (worlds_are_in_use world whole.in_world).filesystems;
-    plain = world_is_plain value;
+    keeps = keeps_itself value whole.overlays;
     points = λ mount m point p few. seen_where_located value whole point few
         (point_located mount m (location_of point) p);
     places = λ mount m place p. refl;
@@ -121,15 +127,18 @@ module _ (value : WorldValue) (whole : IsHeld value) where
 
 module _ (old : WorldValue) (after : World ℕ) (gained lost : List Inode) (new : WorldValue)
     (is : IsKeptBut old [] [] gained lost (in_use_of after) (kept new.mounts new.filesystems))
-    (same_tasks : after.tasks ≡ new.tasks) where
+    (same_tasks : after.tasks ≡ new.tasks)
+    (same_overlays : overlays_seen new.overlays ≡ overlays_seen old.overlays) where
   mounts_are : (in_use_of after).mounts ≡ mounts_in new.mounts
   mounts_are = is.mounts ∙ sym (map_itself (mounts_in new.mounts))
 
-  pub detached_swept : IsPlain after
+  pub detached_swept : KeepsOverlays old after
       → (without_changes after).namespaces ≡ (without_changes (world_of new)).namespaces
       → (without_changes after).tasks ≡ (without_changes (world_of new)).tasks → IsSwept old after gained lost new
-  detached_swept plain namespaces tasks = record {
-    plain = plain;
+  detached_swept keeps namespaces tasks = record {
+    midway = keeps;
+    mounted = none_to_mount old is.held (in_use_of after);
+    overlays = same_overlays;
     mounts = mounts_are;
     numbers = is.numbers ∙ map_twice (λ (one : Shown). counted one.count) shown_entry new.filesystems;
     entries = λ entry m. let from = is.filesystems (shown_entry entry)
@@ -156,7 +165,10 @@ module _ (old : WorldValue) (after : World ℕ) (gained lost : List Inode) (new 
         });
     mounts = λ entry m.
         (is.filesystems (shown_entry entry) (among-map shown_entry new.filesystems entry m)).mounts
-        ∙ (λ i. times (λ (mount : Mount ℕ). nat_eq (counted entry.count) mount.filesystem) (mounts_are i));
+        ∙ (λ i. times (λ (mount : Mount ℕ). nat_eq (counted entry.count) mount.filesystem) (mounts_are i)
+        + sym (layers_of_value old new is.held.overlays same_overlays (in_use_of after) is.keeps
+        (counted entry.count)) i);
+    overlays = subst (All (IsMountedSoOften (world_of new))) (sym (none_still old new is.held same_overlays)) (All-nil _);
     namespaces = inside;
   }
 
@@ -229,11 +241,12 @@ detached_done value name permit task gone mounts filesystems whole closed free i
           ∙ alone_regroups world value.groups whole.groups live gone free;
     })
     [] detaching.lost new
-    (detached_swept value after [] detaching.lost new kept_last refl (world_is_plain value) refl refl)
+    (detached_swept value after [] detaching.lost new kept_last refl refl
+    (same_files_keep value (world_of value) after refl (keeps_itself value whole.overlays)) refl refl)
     (settled_has after value.groups (alone_has world value.groups whole.groups live gone free) (λ mount m dead.
     ap is_ungrouped (detached_is_private world gone whole.in_world.mounts.nowhere mount m
     (or_false_left (is_some mount.namespace) (is_located nat_eq after mount.number) dead))))
-    (detached_counted value after [] detaching.lost new kept_last refl
+    (detached_counted value after [] detaching.lost new kept_last refl refl
     (all_from_among (CountsWhatIsInIt (world_of new)) value.namespaces (λ entry m.
     let was = among_from_all (CountsWhatIsInIt
     (world_of value)) value.namespaces whole.namespaces entry m in record { tasks = was.tasks })))
@@ -257,8 +270,9 @@ detached_typed value name permit task gone groups mounts filesystems whole close
     groups (subst (λ one. Has one groups) regroups (follows (world_of value) whole.groups whole.in_world.mounts.groups))
     (detached_is_private (world_of value) gone whole.in_world.mounts.nowhere)
     [] detaching.lost new
-    (detached_swept value after [] detaching.lost new kept_last refl (world_is_plain value) refl refl)
-    (detached_counted value after [] detaching.lost new kept_last refl
+    (detached_swept value after [] detaching.lost new kept_last refl refl
+    (same_files_keep value (world_of value) after refl (keeps_itself value whole.overlays)) refl refl)
+    (detached_counted value after [] detaching.lost new kept_last refl refl
     (all_from_among (CountsWhatIsInIt (world_of new)) value.namespaces (λ entry m.
     let was = among_from_all (CountsWhatIsInIt
     (world_of value)) value.namespaces whole.namespaces entry m in record { tasks = was.tasks })))

@@ -19,21 +19,22 @@ use Rattle.vt_laws_permits.proofs.sees.SeesFit.{given_changes_fit}
 use Rattle.vt_laws_permits.proofs.sees.SeesTasks.{given_permits_are_seen_to}
 use Rattle.vt_laws_runs.specs.Handed.{is_counted_before}
 use Rattle.vt_laws_worlds.specs.Worlds.Permits.{IsFitPermit}
-use Rattle.vt_laws_worlds.proofs.worlds.FitPermitsNamed.{permits_fit}
+use Rattle.vt_laws_worlds.proofs.worlds.FitPermitsNamed.{all_permits_fit}
 use Rattle.vt_detach.specs.Events.{Permits, supply_of}
 use Rattle.vt_world.specs.Held.{IsHeld}
 use Rattle.vt_world.specs.WorldValue.{WorldValue, world_of}
 use Rattle.vt_detach.proofs.ChangedFiles.{IsFilesEvent, changed_by, files_are_changed, with_filesystems}
 use Rattle.vt_detach.proofs.ChangedNumbers.{MakesOther}
-use Rattle.vt_detach.proofs.FilesSeen.{IsLocated, files_are_plain, nodes_named, located, located_filesystem, located_inodes}
+use Rattle.vt_detach.proofs.Overlaid.{world_is_plain}
+use Rattle.vt_detach.proofs.FilesSeen.{IsLocated, nodes_named, located, located_filesystem, located_inodes}
 
 -- what the permit of a call names is there
 pub permit_fits : (value : WorldValue) → IsHeld value
     → (name : TaskName) (permit : Permit ℕ) (permits : Permits value name permit)
     → IsFitPermit (supply_of value permit) (world_of value) permits.task permit
 permit_fits value held name permit permits =
-    permits_fit (world_of value) (supply_of value permit) permits.task permits.given.call permit held.in_world
-    (files_are_plain value.filesystems) permits.given.serves permits.given.called permits.given.no_overlay permits.given.judged
+    all_permits_fit (world_of value) (supply_of value permit) permits.task permits.given.call permit held.in_world
+    permits.given.serves permits.given.called permits.given.no_overlay permits.given.judged
 
 -- an inode of a location that is there, in the slots of its filesystem
 abbrev pub IsSmall : Location → Type 0
@@ -71,8 +72,8 @@ module _ (value : WorldValue) (held : IsHeld value) (name : TaskName) (at : Loca
         fits =
             given_changes_fit (world_of value) (supply_of value (ToChange (location_of at) change)) permits.task
             (ToChange (location_of at) change) (location_of at) change (inodes_seen change_at.entry) held.in_world
-            (files_are_plain value.filesystems) permits.given refl
-            (ap (λ filesystem. filesystem.files.tree) (sym (located_filesystem value at change_at)));
+            (world_is_plain value held) permits.given refl
+            (ap (λ filesystem. filesystem.files.tree) (sym (located_filesystem value held at change_at)));
         links = links;
         changes =
             subst (λ count. ChangesInodes count (changed_by change) value.filesystems filesystems)
@@ -83,16 +84,16 @@ module _ (value : WorldValue) (held : IsHeld value) (name : TaskName) (at : Loca
   pub change_sees : SeesToChange (world_of value) (location_of at) change
   change_sees =
       given_permits_are_seen_to (world_of value) (supply_of value (ToChange (location_of at) change)) permits.task
-      (ToChange (location_of at) change) held.in_world (files_are_plain value.filesystems) permits.given
+      (ToChange (location_of at) change) held.in_world (world_is_plain value held) permits.given
 
   pub change_fits : Fits (inodes_at value.filesystems at.node.filesystem.count) change
   change_fits =
       given_changes_fit (world_of value) (supply_of value (ToChange (location_of at) change)) permits.task
       (ToChange (location_of at) change) (location_of at) change
       (inodes_at value.filesystems at.node.filesystem.count) held.in_world
-      (files_are_plain value.filesystems) permits.given refl
+      (world_is_plain value held) permits.given refl
       (ap tree_of (located_inodes value at change_at)
-      ∙ ap (λ filesystem. filesystem.files.tree) (sym (located_filesystem value at change_at)))
+      ∙ ap (λ filesystem. filesystem.files.tree) (sym (located_filesystem value held at change_at)))
 
 -- chmod(2), chown(2)
 pub attr_is_set : (value : WorldValue) → IsHeld value

@@ -7,14 +7,14 @@ use Rattle.std.specs.List.{list_any}
 use Rattle.vt_spec.specs.Lists.{any_pair, is_among}
 use Rattle.vt_spec.specs.Machine.Mounts.{Mount, source_of}
 use Rattle.vt_spec.specs.Machine.Run.{used_by_filesystem, used_by_mount}
-use Rattle.vt_spec.specs.Machine.World.{Filesystem, Namespace, filesystem_at, filesystem_numbered, is_overlay, mount_at, node_at}
+use Rattle.vt_spec.specs.Machine.World.{Filesystem, Namespace, filesystem_at, filesystem_numbered, mount_at, node_at}
 use Rattle.vt_spec.specs.Machine.Invariants.{is_located_well}
 use Rattle.vt_spec.specs.Inodes.{Inodes, node_in}
 use Rattle.vt_spec.specs.TreeInvariant.{IsTree}
 use Rattle.vt_fs.specs.FilesystemsValue.{FilesystemEntry, Filesystems, entry_of, files_at, filesystem_seen, filesystems_seen, inodes_at, inodes_seen, no_entry}
 use Rattle.vt_laws_rules.specs.Numbers.{location_named}
 use Rattle.vt_laws_rules.proofs.numbers.Supports.{used_numbers_are_named}
-use Rattle.vt_laws_letting_go.proofs.Lists.{Among, all_from_among, among_from_all, among-from_map, among-map, fails}
+use Rattle.vt_laws_letting_go.proofs.Lists.{Among, among_from_all, among-map, fails}
 use Rattle.vt_location.specs.declared.locations.Location.{Location}
 use Rattle.vt_location.specs.declared.locations.NodeRef.{NodeRef}
 use Rattle.vt_location.specs.declared.births.Birth.TheVariants.{Here}
@@ -26,19 +26,11 @@ use Rattle.vt_location.proofs.NumberLemmas.{counted_same, counted_test}
 use Rattle.vt_laws_runs.specs.Handed.{is_counted_before}
 use Rattle.vt_world.specs.Held.{HasOwnInodes, IsHeld}
 use Rattle.vt_world.specs.WorldValue.{WorldValue, world_of}
+use Rattle.vt_detach.proofs.Overlaid.{found_as_kept, found_plain_one, plain_one_among, there_as_kept}
 use Rattle.vt_detach.proofs.FilesystemsFound.{found as filesystem_found, found_if}
 use Rattle.vt_fs.proofs.Numbers.{found_by_number}
 use Rattle.vt_laws_permits.proofs.in_use.InUseServes.{leaves_two}
 use Rattle.vt_spec.proofs.Found.{is_among_left}
-
--- No filesystem is an overlay
-
--- no filesystem of code's world is an overlay
-pub files_are_plain : (filesystems : Filesystems)
-    → All (λ filesystem. is_overlay filesystem ≡ false) (filesystems_seen filesystems)
-files_are_plain filesystems =
-    all_from_among (λ filesystem. is_overlay filesystem ≡ false) (filesystems_seen filesystems) (λ filesystem m.
-    ap is_overlay (among-from_map filesystem_seen filesystems filesystem m).2)
 
 -- Filesystems by their counts
 
@@ -177,7 +169,9 @@ located value held at small there =
     let parts = and_parts (is_among nat_eq (counted at.mount.count)
     (map (λ (mount : Mount ℕ). mount.number) (world_of value).mounts)) _ there in
     let seen = seen_in value.filesystems held.own_inodes (mount_at nat_eq (world_of value) (location_of at)).filesystem
-    (number_of at.node) parts.1 in
+    (number_of at.node)
+    (there_as_kept value held (mount_at nat_eq (world_of value) (location_of at)).filesystem (number_of at.node)
+    parts.1) in
     record {
       entry = seen.entry;
       among = seen.among;
@@ -190,12 +184,10 @@ located value held at small there =
     }
 
 -- the definitions find it there
-pub located_filesystem : (value : WorldValue) (at : Location) (seen : IsLocated value at)
+pub located_filesystem : (value : WorldValue) → IsHeld value → (at : Location) (seen : IsLocated value at)
     → filesystem_at nat_eq (world_of value) (location_of at) ≡ filesystem_seen seen.entry
-located_filesystem value at seen =
-    ap (filesystem_numbered nat_eq (world_of value)) seen.shows
-    ∙ found_by_number value.filesystems seen.entry.count
-    ∙ ap (λ found. filesystem_seen (unwrap_or found (no_entry seen.entry.count))) seen.found
+located_filesystem value held at seen =
+    ap (filesystem_numbered nat_eq (world_of value)) seen.shows ∙ found_plain_one value held seen.entry seen.among
 
 -- and so does code
 pub located_inodes : (value : WorldValue) (at : Location) (seen : IsLocated value at)
@@ -205,13 +197,13 @@ located_inodes value at seen =
     ∙ ap (λ found. inodes_seen (unwrap_or found (no_entry seen.entry.count))) seen.found
 
 -- which has the same inodes there
-pub kept_there : (value : WorldValue) (at : Location) (seen : IsLocated value at) (number : ℕ)
+pub kept_there : (value : WorldValue) → IsHeld value → (at : Location) (seen : IsLocated value at) (number : ℕ)
     → is_some ((filesystem_at nat_eq (world_of value) (location_of at)).files.tree.node number) ≡ true
     → is_some ((files_at value.filesystems at.node.filesystem.count).tree.node number) ≡ true
-kept_there value at seen number there =
+kept_there value held at seen number there =
     ap (λ (inodes : Inodes ℕ). is_some (node_in (inodes.inode number))) (located_inodes value at seen)
     ∙ ap (λ (filesystem : Filesystem ℕ). is_some (filesystem.files.tree.node number))
-    (sym (located_filesystem value at seen))
+    (sym (located_filesystem value held at seen))
     ∙ there
 
 -- another inode of that filesystem
@@ -221,7 +213,9 @@ pub also_there : (value : WorldValue) → IsHeld value → (at : Location) (seen
     → object.filesystem ≡ at.node.filesystem
 also_there value held at seen object small there =
     let own = seen_in value.filesystems held.own_inodes (mount_at nat_eq (world_of value) (location_of at)).filesystem
-    (number_of object) there in
+    (number_of object)
+    (there_as_kept value held (mount_at nat_eq (world_of value) (location_of at)).filesystem (number_of object) there)
+    in
     let same : object.filesystem.count ≡ at.node.filesystem.count =
     sym (own_count own.entry.count object small own.own)
     ∙ counted_same own.entry.count seen.entry.count (sym own.number_is ∙ seen.shows)
@@ -234,14 +228,16 @@ pub tree_of_entry : (value : WorldValue) → IsHeld value → (entry : Filesyste
 tree_of_entry value held entry m =
     among_from_all (λ (filesystem : Filesystem ℕ). IsTree filesystem.files.tree)
     (world_of value).filesystems held.in_world.files.trees
-    (filesystem_seen entry) (among-map filesystem_seen value.filesystems entry m)
+    (filesystem_seen entry) (plain_one_among value held.overlays.merged entry m)
 
 -- what has something was born here
 pub seen_here : (value : WorldValue) → IsHeld value → (at : Location) → at.node.slot < 18446744073709551616
     → is_some (node_at nat_eq (world_of value) (location_of at)) ≡ true → at.node.birth ≡ Here
 seen_here value held at small there =
     let seen = seen_in value.filesystems held.own_inodes (mount_at nat_eq (world_of value) (location_of at)).filesystem
-    (number_of at.node) there in
+    (number_of at.node)
+    (there_as_kept value held (mount_at nat_eq (world_of value) (location_of at)).filesystem (number_of at.node) there)
+    in
     own_birth seen.entry.count at.node small seen.own
 
 -- what is at a location, as the definitions look and as code does
@@ -251,10 +247,14 @@ pub looked_node : (value : WorldValue) → IsHeld value → (at : Location) → 
     ≡ node_at nat_eq (world_of value) (location_of at)
 looked_node value held at small there =
     let seen = seen_in value.filesystems held.own_inodes (mount_at nat_eq (world_of value) (location_of at)).filesystem
-    (number_of at.node) there in
+    (number_of at.node)
+    (there_as_kept value held (mount_at nat_eq (world_of value) (location_of at)).filesystem (number_of at.node) there)
+    in
     let count_is = own_count seen.entry.count at.node small seen.own in
     ap (λ count. (files_at value.filesystems count).tree.node (number_of at.node)) (sym count_is)
     ∙ ap (λ (filesystem : Filesystem ℕ). filesystem.files.tree.node (number_of at.node))
     (sym (found_by_number value.filesystems seen.entry.count))
+    ∙ ap (λ (filesystem : Filesystem ℕ). filesystem.files.tree.node (number_of at.node))
+    (sym (found_as_kept value held (counted seen.entry.count)))
     ∙ ap (λ number. (filesystem_numbered nat_eq (world_of value) number).files.tree.node (number_of at.node))
     (sym seen.number_is)

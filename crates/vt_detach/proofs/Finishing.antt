@@ -1,5 +1,5 @@
 -- The end of an event: the world that the sweep leaves has its invariants, and counts what is in it.
-use Rattle.std.proofs.Common.{◌≡◌, refl, sym, subst, ℕ, nat_eq, Bool, true, false, cond, List, [], ◌∷◌, Some}
+use Rattle.std.proofs.Common.{◌≡◌, refl, sym, subst, ℕ, nat_eq, Bool, true, false, cond, List, [], ◌∷◌, Some, ◌+◌}
 use Rattle.std.specs.Prelude.{All}
 use Rattle.vt_spec.specs.Language.Calls.{TaskName}
 use Rattle.vt_spec.specs.Lists.{Fresh, folded}
@@ -10,7 +10,7 @@ use Rattle.vt_spec.specs.Machine.Settled.{settled}
 use Rattle.vt_spec.specs.Machine.World.{Task, World, task_called}
 use Rattle.vt_spec.specs.Machine.Invariants.{IsWorld}
 use Rattle.vt_spec.specs.Inodes.{Inodes, pinned, unpinned}
-use Rattle.vt_laws_counts.specs.Counted.{IsPlain}
+use Rattle.vt_laws_counts.specs.OverlaysStay.{layer_count}
 use Rattle.vt_laws_counts.specs.Using.{exchanged, pinned_if, unpinned_if}
 use Rattle.vt_fs.specs.FilesystemsValue.{FilesystemEntry, inodes_seen}
 use Rattle.vt_group.specs.Grouping.{Has}
@@ -22,16 +22,17 @@ use Rattle.vt_location.specs.Numbers.{counted}
 use Rattle.vt_laws_permits.specs.Left.{IsGiven}
 use Rattle.vt_laws_permits.specs.Named.{permit_named}
 use Rattle.vt_laws_permits.proofs.named.PermitsKeepTo.{permits_keep_to_numbers}
-use Rattle.vt_laws_permits.proofs.left.PermitsLeave.{given_permits_leave_worlds}
-use Rattle.vt_laws_permits.proofs.same.SameInUse.{same_worlds_are_worlds}
-use Rattle.vt_laws_permits.proofs.same.SameNumbers.{same_worlds_keep_to_numbers}
+use Rattle.vt_laws_one_text.proofs.same.SameNumbers.{any_same_worlds_keep_to_numbers}
+use Rattle.vt_laws_one_text.proofs.same.SameWhole.{any_same_worlds_are_worlds}
+use Rattle.vt_laws_overlays_stay.proofs.left.Given.{given_permits_give_no_upper}
 use Rattle.vt_laws_runs.specs.Handed.{is_counted_before}
 use Rattle.vt_detach.specs.Events.{supply_of}
-use Rattle.vt_world.specs.Held.{CountsItsMounts, CountsItsUses, CountsWhatIsInIt, HasOwnInodes, IsHeld}
+use Rattle.vt_world.specs.Held.{CountsItsMounts, CountsItsUses, CountsWhatIsInIt, HasOwnInodes, IsHeld, IsMountedSoOften}
 use Rattle.vt_world.specs.WorldValue.{WorldValue, world_of}
 use Rattle.vt_detach.proofs.OwnInodesKept.{IsOwn, own_pinned, own_unpinned}
-use Rattle.vt_detach.proofs.Bridging.{IsSwept, swept_has, swept_is_counted, swept_is_same}
-use Rattle.vt_detach.proofs.Staying.{IsDone, becomes_so, world_is_plain}
+use Rattle.vt_detach.proofs.Bridging.{IsSwept, overlays_left, swept_has, swept_is_counted, swept_is_same}
+use Rattle.vt_detach.proofs.Overlaid.{none_still, overlays_hold_still, same_files_rise}
+use Rattle.vt_detach.proofs.Staying.{IsDone, becomes_so}
 
 -- inodes that get uses and lose uses keep numbers of their own
 
@@ -74,33 +75,40 @@ pub record IsApplied (value : WorldValue) (name : TaskName) (permit : Permit ℕ
 pub record CountsBeside (new : WorldValue) : Type 0 where
   pub uses : All (CountsItsUses (world_of new)) new.mounts
   pub mounts : (entry : FilesystemEntry) → Among entry new.filesystems
-      → entry.mounts ≡ mounts_showing (world_of new) (counted entry.count)
+      → entry.mounts
+      ≡ mounts_showing (world_of new) (counted entry.count) + layer_count (world_of new) (counted entry.count)
+  pub overlays : All (IsMountedSoOften (world_of new)) new.overlays
   pub namespaces : All (CountsWhatIsInIt (world_of new)) new.namespaces
 
 -- what is left is a world, so the code's world has its invariants
 module _ (value : WorldValue) (whole : IsHeld value) (next : World ℕ)
-    (left : IsWorld nat_eq (settled nat_eq next) × IsPlain (settled nat_eq next)) where
+    (left : IsWorld nat_eq (settled nat_eq next)) where
   -- what holds of each world holds of the one that the sweep leaves
   pub swept_held : (gained lost : List Inode) (new : WorldValue) → IsSwept value next gained lost new
       → Has (settled nat_eq next) new.groups
       → CountsBeside new → KeepsTo (is_counted_before new.next) (world_of new) → IsHeld new
   swept_held gained lost new swept has counts keeps =
       let same = swept_is_same value whole next gained lost new swept has left in
-      let world = same_worlds_are_worlds (settled nat_eq next) (world_of new) same left.1 left.0 in
+      let world = any_same_worlds_are_worlds (settled nat_eq next) (world_of new) same left in
       record {
-        in_world = world.0;
+        in_world = world;
         groups = swept_has value whole next gained lost new swept has left;
         given = keeps;
         mounts = counts.uses;
         filesystems = all_from_among (CountsItsMounts (world_of new)) new.filesystems (λ entry m. record {
           mounts = counts.mounts entry m;
-          inodes = swept_is_counted value whole next gained lost new swept has left entry m world.0;
+          inodes = swept_is_counted value whole next gained lost new swept has left entry m world;
         });
         own_inodes = all_from_among HasOwnInodes new.filesystems (λ entry m. let from = swept.entries entry m in
             subst (λ count. IsOwn count (inodes_seen entry)) (sym from.count)
             (subst (IsOwn from.was.count) (sym from.inodes)
             (own_exchanged from.was.count gained lost (inodes_seen from.was)
             (among_from_all HasOwnInodes value.filesystems whole.own_inodes from.was from.among))));
+        overlays = overlays_hold_still value new whole.overlays (none_still value new whole swept.overlays)
+            swept.overlays
+            (same_files_rise (settled nat_eq next).filesystems (world_of new).filesystems same.filesystems
+            (overlays_left value whole next gained lost new swept has left).rise)
+            counts.overlays;
         namespaces = counts.namespaces;
       }
 
@@ -108,12 +116,11 @@ module _ (value : WorldValue) (whole : IsHeld value) (name : TaskName) (permit :
     (next : World ℕ)
     (is : IsApplied value name permit task next) where
   -- what is left is a world
-  pub is_left : IsWorld nat_eq (settled nat_eq next) × IsPlain (settled nat_eq next)
+  pub is_left : IsWorld nat_eq (settled nat_eq next)
   is_left =
-      subst (λ world. IsWorld nat_eq (settled nat_eq world) × IsPlain (settled nat_eq world))
-      (is.applied (supply_of value permit))
-      (given_permits_leave_worlds (world_of value) (supply_of value permit) task permit whole.in_world
-      (world_is_plain value) is.given)
+      subst (λ world. IsWorld nat_eq (settled nat_eq world)) (is.applied (supply_of value permit))
+      (given_permits_give_no_upper (world_of value) (supply_of value permit) task permit whole.in_world
+      whole.overlays.read_only is.given).0
 
   -- the settled world names numbers that were counted
   pub keeps_left : KeepsTo (is_counted_before value.next) (settled nat_eq next)
@@ -129,13 +136,12 @@ module _ (value : WorldValue) (whole : IsHeld value) (name : TaskName) (permit :
       → new.next ≡ value.next
       → IsDone value name permit new
   finished_as after alike gained lost new swept has counts same_next =
-      let left = subst (λ (world : World ℕ). IsWorld nat_eq world × IsPlain world) alike is_left in
+      let left = subst (IsWorld nat_eq) alike is_left in
       let same = swept_is_same value whole after gained lost new swept has left in
       record {
         held = swept_held value whole after left gained lost new swept has counts
             (subst (λ count. KeepsTo (is_counted_before count) (world_of new)) (sym same_next)
-            (same_worlds_keep_to_numbers (is_counted_before value.next) (settled nat_eq after)
-            (world_of new) same left.1
+            (any_same_worlds_keep_to_numbers (is_counted_before value.next) (settled nat_eq after) (world_of new) same
             (subst (KeepsTo (is_counted_before value.next)) alike keeps_left)));
         becomes = becomes_so value name permit new task is.called
             (subst (λ one. SameWorlds (settled nat_eq one) (world_of new)) (sym (is.applied (supply_of value permit)))

@@ -7,30 +7,29 @@ use Rattle.vt_spec.specs.Language.Calls.{TaskName}
 use Rattle.vt_spec.specs.Lists.{folded, holds_of, is_among}
 use Rattle.vt_spec.specs.Machine.Mounts.{Location, Mount, mount_in}
 use Rattle.vt_spec.specs.Machine.Permits.{Permit}
-use Rattle.vt_spec.specs.Machine.Settled.{filesystem_lives, is_located, is_mounted, without_dead_filesystems, without_dead_mounts}
-use Rattle.vt_spec.specs.Machine.World.{Filesystem, Task, World, all_locations, is_overlay, mount_numbered}
+use Rattle.vt_spec.specs.Machine.Settled.{is_located, without_dead_filesystems, without_dead_mounts}
+use Rattle.vt_spec.specs.Machine.World.{Filesystem, Task, World, all_locations, mount_numbered}
 use Rattle.vt_spec.specs.Machine.Invariants.{is_located_well}
-use Rattle.vt_laws_counts.specs.Counted.{IsPlain}
+use Rattle.vt_laws_counts.specs.OverlaysStay.{layer_count}
 use Rattle.vt_laws_counts.specs.Using.{Exchanges, unpinned_if}
 use Rattle.vt_laws_counts.proofs.going.Gone.{mount_takes_its_count}
 use Rattle.vt_laws_counts.proofs.using.MountRoots as Roots
-use Rattle.vt_laws_counts.proofs.using.Places.{exchanges_follow, others_use_nothing}
-use Rattle.vt_laws_counts.proofs.using.Swept.{plain_of}
+use Rattle.vt_laws_counts.proofs.using.Places.{exchanges_follow}
 use Rattle.vt_fs.specs.FilesystemsValue.{FilesystemEntry, Filesystems, Shown, filesystem_seen, shown, shown_entry}
 use Rattle.vt_laws_letting_go.specs.Counts.{mount_uses, mounts_showing, times}
 use Rattle.vt_laws_letting_go.specs.Keeping.{LocationsStand}
 use Rattle.vt_laws_letting_go.specs.Leaving.{MountsStand}
 use Rattle.vt_laws_letting_go.specs.Mounting.{inode_at}
 use Rattle.vt_laws_letting_go.specs.OneByOne.{Inode, is_mount_used, without_mount}
-use Rattle.vt_laws_letting_go.proofs.Lists.{Among, all_from_among, all_pass, among-append, among-append_left, among-append_right, among-from_filter, among-from_map, among-map, among_from_all, filter_all, filter_alike, passes, filter_less}
+use Rattle.vt_laws_letting_go.proofs.Lists.{Among, all_from_among, all_pass, among-append, among-append_left, among-append_right, among-from_filter, among-from_map, among-map, among_from_all, passes, filter_less}
 use Rattle.vt_laws_letting_go.proofs.sweeps.OfWorlds.{mounts_of_worlds_stand}
-use Rattle.vt_laws_letting_go.proofs.leaving.PlacesLeft.{found_itself, no_layers}
-use Rattle.vt_laws_letting_go.proofs.sweeps.UsesCounted.{located_while_counted, mounted_while_counted}
+use Rattle.vt_laws_letting_go.proofs.leaving.PlacesLeft.{found_itself}
+use Rattle.vt_laws_letting_go.proofs.sweeps.UsesCounted.{located_while_counted}
 use Rattle.vt_location.specs.Numbers.{counted}
 use Rattle.vt_mount.specs.MountsValue.{MountEntry, mounts_in, without}
 use Rattle.vt_tasks.specs.TasksValue.{Tasks}
 use Rattle.vt_laws_worlds.proofs.RaisedInUse.{worlds_are_in_use}
-use Rattle.vt_world.specs.Held.{CountsItsMounts, CountsItsUses, CountsWhatIsInIt, IsHeld}
+use Rattle.vt_world.specs.Held.{CountsItsMounts, CountsItsUses, CountsWhatIsInIt, IsHeld, IsMountedSoOften}
 use Rattle.vt_detach.specs.Uses as meant
 use Rattle.vt_detach.specs.Uses.{kept, mounts_shown, released_if}
 use Rattle.vt_world.specs.WorldValue.{WorldValue, world_of}
@@ -39,10 +38,11 @@ use Rattle.vt_detach.proofs.Finishing.{CountsBeside, IsApplied, finished}
 use Rattle.vt_detach.proofs.Grouped.{left_has}
 use Rattle.vt_detach.proofs.Moving.{Moves, Use, entry_counts, exchanged_shown, filesystems_moved, gained_there, held_counts, hold_if, inodes_of_uses, locations, mounts_moved, moved_kept, release_if, released_counts, swap_eq, uses_moved}
 use Rattle.vt_detach.proofs.Remaining.{remade}
-use Rattle.vt_detach.proofs.Staying.{IsDone, after, world_is_plain}
-use Rattle.vt_detach.proofs.LostUses.{found_unless, positive, shown_by_rule}
+use Rattle.vt_detach.proofs.Staying.{IsDone, after}
+use Rattle.vt_detach.proofs.BesideOverlays.{layers_of_value}
+use Rattle.vt_detach.proofs.FilesystemsLeft.{MountGoes, let_go_is, living_is, numbers_left, others_stay, stays_at, world_left}
+use Rattle.vt_detach.proofs.Overlaid.{KeepsOverlays, is_plain_one, keeps_itself, none_to_ask, none_to_mount, plain_ones_are, same_files_keep}
 use Rattle.vt_spec.proofs.Lists.{map_alike, map_twice}
-use Rattle.std.proofs.Math.Bool.{or-false, or-true}
 use Rattle.vt_laws_letting_go.specs.TreesOverlays.{in_use_of}
 
 -- Lists
@@ -139,13 +139,14 @@ module _ (value : WorldValue) (whole : IsHeld value) (tasks : Tasks) (more : Lis
   step_is : (was : FilesystemEntry) → Among was value.filesystems
       → ((step (shown_entry was)).count ≡ was.count)
       × ((step (shown_entry was)).inodes ≡ (exchanged_shown gained lost (shown_entry was)).inodes)
-      × ((step (shown_entry was)).mounts ≡ mounts_showing mounted (counted was.count))
+      × ((step (shown_entry was)).mounts
+      ≡ mounts_showing mounted (counted was.count) + layer_count next (counted was.count))
   step_is was m =
       by (nat_eq mount.filesystem (counted was.count))
       (among_from_all (CountsItsMounts world) value.filesystems whole.filesystems was m).mounts
       (takes (counted was.count))
     where
-      by : (b : Bool) → was.mounts ≡ mounts_showing world (counted was.count)
+      by : (b : Bool) → was.mounts ≡ mounts_showing world (counted was.count) + layer_count next (counted was.count)
           → mounts_showing world (counted was.count) ≡ mounts_showing mounted (counted was.count) + cond b 1 0
           → ((cond b (record (exchanged_shown gained lost (shown_entry was)) { mounts = was.mounts - 1 })
           (exchanged_shown gained lost (shown_entry was))).count ≡ was.count)
@@ -153,15 +154,13 @@ module _ (value : WorldValue) (whole : IsHeld value) (tasks : Tasks) (more : Lis
           (exchanged_shown gained lost (shown_entry was))).inodes
           ≡ (exchanged_shown gained lost (shown_entry was)).inodes)
           × ((cond b (record (exchanged_shown gained lost (shown_entry was)) { mounts = was.mounts - 1 })
-          (exchanged_shown gained lost (shown_entry was))).mounts ≡ mounts_showing mounted (counted was.count))
+          (exchanged_shown gained lost (shown_entry was))).mounts
+          ≡ mounts_showing mounted (counted was.count) + layer_count next (counted was.count))
       by true counts took = (refl, refl, omega (arith, counts, took))
       by false counts took = (refl, refl, omega (arith, counts, took))
 
-  abbrev none_left : Bool
-  none_left = nat_eq (mounts_shown mount.filesystem stepped) 0
-
   abbrev stays_numbered : ℕ → Bool
-  stays_numbered n = not none_left || not (nat_eq mount.filesystem n)
+  stays_numbered = stays_at mount.filesystem stepped
 
   shown_are : shown filesystems ≡ filter (λ (one : Shown). stays_numbered (counted one.count)) stepped
   shown_are =
@@ -177,12 +176,7 @@ module _ (value : WorldValue) (whole : IsHeld value) (tasks : Tasks) (more : Lis
       (exchanged_shown gained (inode_at world left_use.location ∷ [])) (shown value.filesystems))
       ∙ ap (meant.let_go_filesystem mount.filesystem)
       (map_twice (released_if mount.filesystem) (exchanged_shown gained lost) (shown value.filesystems))
-      ∙ by none_left
-    where
-      by : (b : Bool) → cond b (meant.without_filesystem mount.filesystem stepped) stepped
-          ≡ filter (λ (one : Shown). not b || not (nat_eq mount.filesystem (counted one.count))) stepped
-      by true = refl
-      by false = sym (filter_all (λ (one : Shown). true) stepped (λ one m. refl))
+      ∙ let_go_is mount.filesystem stepped
 
   shown_was : (entry : FilesystemEntry) → Among entry filesystems
       → (was : FilesystemEntry) × Among was value.filesystems × (shown_entry entry ≡ step (shown_entry was))
@@ -194,67 +188,46 @@ module _ (value : WorldValue) (whole : IsHeld value) (tasks : Tasks) (more : Lis
       let first = among-from_map shown_entry value.filesystems from.0 from.1 in
       (first.0, first.1, from.2 ∙ ap step first.2, kept_one.1)
 
-  lives_is : (filesystem : Filesystem ℕ) → Among filesystem world.filesystems
-      → filesystem_lives nat_eq mounted filesystem ≡ stays_numbered filesystem.number
-  lives_is filesystem m =
-      let from = among-from_map filesystem_seen value.filesystems filesystem m in
-      ap (filesystem_lives nat_eq mounted) from.2
-      ∙ ap (λ b. is_mounted nat_eq mounted (counted from.0.count) || b)
-      (no_layers (counted from.0.count) mounted world.filesystems (plain_of world (world_is_plain value)))
-      ∙ or-false (is_mounted nat_eq mounted (counted from.0.count))
-      ∙ mounted_while_counted mounted (counted from.0.count)
-      ∙ positive (mounts_showing mounted (counted from.0.count))
-      ∙ by from.0 from.1 (nat_eq mount.filesystem (counted from.0.count)) refl
-      ∙ ap (λ (f : Filesystem ℕ). stays_numbered f.number) (sym from.2)
-    where
-      was_mounted : (was : FilesystemEntry) → Among was value.filesystems
-          → not (nat_eq (mounts_showing world (counted was.count)) 0) ≡ true
-      was_mounted was n =
-          sym (positive (mounts_showing world (counted was.count)))
-          ∙ sym (mounted_while_counted world (counted was.count))
-          ∙ sym (or-false (is_mounted nat_eq world (counted was.count)))
-          ∙ sym (ap (λ b. is_mounted nat_eq world (counted was.count) || b)
-          (no_layers (counted was.count) world world.filesystems (plain_of world (world_is_plain value))))
-          ∙ passes (filesystem_lives nat_eq world) world.filesystems
-          (worlds_are_in_use world whole.in_world).filesystems (filesystem_seen was)
-          (among-map filesystem_seen value.filesystems was n)
+  stepped_counts : (one : Shown) → Among one stepped
+      → one.mounts ≡ mounts_showing mounted (counted one.count) + layer_count next (counted one.count)
+  stepped_counts one m =
+      let from = among-from_map step (shown value.filesystems) one m in
+      let first = among-from_map shown_entry value.filesystems from.0 from.1 in
+      let is = step_is first.0 first.1 in
+      let same : one ≡ step (shown_entry first.0) = from.2 ∙ ap step first.2 in
+      ap (λ (x : Shown). x.mounts) same ∙ is.2
+      ∙ ap (λ n. mounts_showing mounted n + layer_count next n)
+      (ap counted (sym is.0) ∙ ap (λ (x : Shown). counted x.count) (sym same))
 
-      by : (was : FilesystemEntry) → Among was value.filesystems → (b : Bool)
-          → nat_eq mount.filesystem (counted was.count) ≡ b
-          → not (nat_eq (mounts_showing mounted (counted was.count)) 0) ≡ stays_numbered (counted was.count)
-      by was n true e =
-          let same : mount.filesystem ≡ counted was.count = eqb-true mount.filesystem (counted was.count) e in
-          let counts = shown_by_rule mount.filesystem (mounts_showing mounted) stepped
-          (λ one o. let from = among-from_map step (shown value.filesystems) one o in
-          let first = among-from_map shown_entry value.filesystems from.0 from.1 in
-          let is = step_is first.0 first.1 in
-          ap (λ (x : Shown). x.mounts) (from.2 ∙ ap step first.2) ∙ is.2
-          ∙ ap (λ count. mounts_showing mounted (counted count)) (sym is.0)
-          ∙ ap (λ (x : Shown). mounts_showing mounted (counted x.count)) (sym (from.2 ∙ ap step first.2)))
-          (step (shown_entry was)) (among-map step (shown value.filesystems) (shown_entry was)
-          (among-map shown_entry value.filesystems was n))
-          (same ∙ ap counted (sym (step_is was n).0)) in
-          ap (λ k. not (nat_eq (mounts_showing mounted k) 0)) (sym same)
-          ∙ ap (λ k. not (nat_eq k 0)) (sym counts)
-          ∙ sym (or-false (not none_left))
-          ∙ ap (λ b. not none_left || not b) (sym e)
-      by was n false e =
-          let took : mounts_showing world (counted was.count) ≡ mounts_showing mounted (counted was.count) + 0 =
-          takes (counted was.count) ∙ ap (λ b. mounts_showing mounted (counted was.count) + cond b 1 0) e in
-          let same : mounts_showing mounted (counted was.count)
-          ≡ mounts_showing world (counted was.count) = omega (arith, took) in
-          ap (λ k. not (nat_eq k 0)) same ∙ was_mounted was n
-          ∙ sym (or-true (not none_left)) ∙ ap (λ b. not none_left || not b) (sym e)
+  stepped_numbers : map (λ (f : Filesystem ℕ). f.number) (filter is_plain_one world.filesystems)
+      ≡ map (λ (one : Shown). counted one.count) stepped
+  stepped_numbers =
+      ap (map (λ (f : Filesystem ℕ). f.number)) (plain_ones_are value whole.overlays)
+      ∙ map_twice (λ (f : Filesystem ℕ). f.number) filesystem_seen value.filesystems
+      ∙ map_alike (λ (was : FilesystemEntry). counted was.count)
+      (λ (was : FilesystemEntry). counted (step (shown_entry was)).count) value.filesystems
+      (λ was m. ap counted (sym (step_is was m).0))
+      ∙ sym (map_twice (λ (one : Shown). counted (step one).count) shown_entry value.filesystems)
+      ∙ sym (map_twice (λ (one : Shown). counted one.count) step (shown value.filesystems))
+
+  keeps_next : KeepsOverlays value next
+  keeps_next = same_files_keep value world next refl (keeps_itself value whole.overlays)
+
+  goes : MountGoes value next number mount.filesystem stepped
+  goes = record {
+    keeps = keeps_next;
+    living = (worlds_are_in_use world whole.in_world).filesystems;
+    still = none_to_mount value whole mounted;
+    takes = takes;
+    counts = stepped_counts;
+    numbers = stepped_numbers;
+  }
 
   abbrev remaining : World ℕ
-  remaining = record mounted { filesystems = filter (λ (f : Filesystem ℕ). stays_numbered f.number) world.filesystems }
+  remaining = world_left next number stays_numbered
 
-  living_is : in_use_of next ≡ remaining
-  living_is =
-      ap (without_dead_filesystems nat_eq) dead
-      ∙ ap (λ all. record mounted { filesystems = all })
-      (filter_alike (filesystem_lives nat_eq mounted)
-      (λ (f : Filesystem ℕ). stays_numbered f.number) world.filesystems lives_is)
+  living_now : in_use_of next ≡ remaining
+  living_now = ap (without_dead_filesystems nat_eq) dead ∙ living_is value next number mount.filesystem stepped goes
 
   -- Exchanges
 
@@ -290,52 +263,34 @@ module _ (value : WorldValue) (whole : IsHeld value) (tasks : Tasks) (more : Lis
       ∙ ap (λ b. b || is_located nat_eq next number) nowhere
       ∙ located_while_counted next number ∙ ap (nat_lt 0) unused
 
-  plain_mounted : IsPlain mounted
-  plain_mounted = world_is_plain value
-
-  plain_remaining : IsPlain remaining
-  plain_remaining =
-      all_from_among (λ f. is_overlay f ≡ false) remaining.filesystems (λ f m.
-      among_from_all (λ f. is_overlay f ≡ false) world.filesystems (world_is_plain value) f
-      (among-from_filter (λ (f : Filesystem ℕ). stays_numbered f.number) world.filesystems f m).0)
-
   exchanges_are : (k : ℕ) → stays_numbered k ≡ true → Exchanges gained lost k world (in_use_of next)
   exchanges_are k stays =
       let first = uses_moved value whole tasks more less moves k in
       let second = subst (λ (x : Mount ℕ). Exchanges [] ((x.filesystem, x.root) ∷ []) k next mounted) found_so
       (Roots.mounts_leave_their_roots next number stand located there unused_so k) in
-      let third = others_use_nothing mounted remaining k plain_mounted plain_remaining refl refl
-      (found_unless (λ (f : Filesystem ℕ). stays_numbered f.number) world.filesystems k
-      (λ x m e. ap stays_numbered e ∙ stays)) in
+      let third = others_stay value next number mount.filesystem stepped goes k stays in
       let all = exchanges_follow world mounted remaining (gained ++ []) lost [] [] k
       (exchanges_follow world next mounted gained (inode_at world left_use.location ∷ []) []
       ((mount.filesystem, mount.root) ∷ []) k first second) third in
-      subst (Exchanges gained lost k world) (sym living_is)
+      subst (Exchanges gained lost k world) (sym living_now)
       (subst (λ all_gained. Exchanges all_gained lost k world remaining)
       (append-nil (gained ++ []) ∙ append-nil gained) all)
 
-  numbers_are : map (λ (f : Filesystem ℕ). f.number) remaining.filesystems
+  numbers_are : map (λ (f : Filesystem ℕ). f.number) (filter is_plain_one remaining.filesystems)
       ≡ map (λ (entry : FilesystemEntry). counted entry.count) filesystems
   numbers_are =
-      map_filtered (λ (f : Filesystem ℕ). f.number) (λ (f : Filesystem ℕ). stays_numbered f.number) stays_numbered
-      (λ f. refl) world.filesystems
-      ∙ ap (filter stays_numbered)
-      (map_twice (λ (f : Filesystem ℕ). f.number) filesystem_seen value.filesystems
-      ∙ map_alike (λ (was : FilesystemEntry). counted was.count)
-      (λ (was : FilesystemEntry). counted (step (shown_entry was)).count) value.filesystems
-      (λ was m. ap counted (sym (step_is was m).0))
-      ∙ sym (map_twice (λ (one : Shown). counted (step one).count) shown_entry value.filesystems)
-      ∙ sym (map_twice (λ (one : Shown). counted one.count) step (shown value.filesystems)))
-      ∙ sym (map_filtered (λ (one : Shown). counted one.count)
-      (λ (one : Shown). stays_numbered (counted one.count)) stays_numbered (λ one. refl) stepped)
+      numbers_left value next number mount.filesystem stepped goes
       ∙ sym (ap (map (λ (one : Shown). counted one.count)) shown_are)
       ∙ map_twice (λ (one : Shown). counted one.count) shown_entry filesystems
 
   gone_swept : IsSwept value next gained lost (remade value mounts filesystems tasks)
   gone_swept = record {
-    plain = world_is_plain value;
-    mounts = ap (λ (one : World ℕ). one.mounts) living_is ∙ sym mounts_are;
-    numbers = ap (λ (one : World ℕ). map (λ (f : Filesystem ℕ). f.number) one.filesystems) living_is ∙ numbers_are;
+    midway = keeps_next;
+    mounted = none_to_mount value whole (in_use_of next);
+    overlays = refl;
+    mounts = ap (λ (one : World ℕ). one.mounts) living_now ∙ sym mounts_are;
+    numbers = ap (λ (one : World ℕ). map (λ (f : Filesystem ℕ). f.number) (filter is_plain_one one.filesystems))
+        living_now ∙ numbers_are;
     entries = λ entry m. let from = shown_was entry m in let is = step_is from.0 from.1 in
         let count : entry.count ≡ from.0.count = ap (λ (one : Shown). one.count) from.2 ∙ is.0 in record {
           was = from.0;
@@ -381,9 +336,14 @@ module _ (value : WorldValue) (whole : IsHeld value) (tasks : Tasks) (more : Lis
         (entry_counts value whole tasks more less moves from.0 from.1) in
         record { uses = counts.uses; writers = counts.writers });
     mounts = λ entry m. let from = shown_was entry m in let is = step_is from.0 from.1 in
+        let same : counted from.0.count ≡ counted entry.count =
+        ap counted (sym (ap (λ (one : Shown). one.count) from.2 ∙ is.0)) in
         ap (λ (one : Shown). one.mounts) from.2 ∙ is.2
-        ∙ (λ i. times (λ (x : Mount ℕ). nat_eq
-        (counted (sym (ap (λ (one : Shown). one.count) from.2 ∙ is.0) i)) x.filesystem) (sym mounts_are i));
+        ∙ (λ i. times (λ (x : Mount ℕ). nat_eq (same i) x.filesystem) (sym mounts_are i) + layer_count next (same i))
+        ∙ ap (λ n. mounts_showing (world_of (remade value mounts filesystems tasks)) (counted entry.count) + n)
+        (sym (layers_of_value value (remade value mounts filesystems tasks) whole.overlays refl next keeps_next
+        (counted entry.count)));
+    overlays = none_to_ask (IsMountedSoOften (world_of (remade value mounts filesystems tasks))) value whole;
     namespaces = all_from_among (CountsWhatIsInIt (world_of (remade value mounts filesystems tasks))) value.namespaces
         (λ entry m.
         let was = among_from_all (CountsWhatIsInIt world) value.namespaces whole.namespaces entry m in

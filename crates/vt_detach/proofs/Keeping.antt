@@ -1,14 +1,13 @@
 -- What code keeps of a world while mounts leave their namespaces, and what it keeps once one that nothing uses has
 -- gone.
-use Rattle.std.proofs.Common.{◌≡◌, refl, sym, ap, ◌∙◌, ℕ, nat_eq, eqb-true, Bool, true, false, cond, not, ◌||◌, List, [], ◌∷◌, ◌++◌, map, filter, find, Some, None, unwrap_or}
+use Rattle.std.proofs.Common.{◌≡◌, refl, sym, ap, ◌∙◌, ℕ, ◌+◌, nat_eq, eqb-true, Bool, true, false, cond, not, List, [], ◌∷◌, ◌++◌, map, filter, find, Some, None, unwrap_or}
 use Rattle.std.specs.Prelude.{All, if◌then◌else◌, option_to_list, ◌<◌}
 use Rattle.vt_spec.specs.Lists.{is_among}
 use Rattle.vt_spec.specs.Machine.Mounts.{Location as Place, Mount, detached, mount_in, no_mount}
-use Rattle.vt_spec.specs.Machine.Settled.{filesystem_lives, is_mounted, without_dead_filesystems}
+use Rattle.vt_spec.specs.Machine.Settled.{without_dead_filesystems}
 use Rattle.vt_spec.specs.Machine.World.{Filesystem, World, mount_at}
-use Rattle.vt_laws_counts.specs.Counted.{IsPlain}
+use Rattle.vt_laws_counts.specs.OverlaysStay.{layer_count}
 use Rattle.vt_laws_counts.specs.Using.{AreThere, Exchanges, exchanged}
-use Rattle.vt_laws_counts.proofs.using.Swept.{plain_of}
 use Rattle.vt_fs.specs.FilesystemsValue.{FilesystemEntry, Shown, inodes_seen}
 use Rattle.vt_laws_letting_go.specs.Counts.{mounts_showing}
 use Rattle.vt_laws_letting_go.specs.Detaching.{detached_if}
@@ -19,16 +18,16 @@ use Rattle.vt_laws_letting_go.specs.Mounting.{inode_at}
 use Rattle.vt_laws_letting_go.specs.OneByOne.{Inode, MountsInUseBut}
 use Rattle.vt_laws_letting_go.specs.OneByOne as Looks
 use Rattle.vt_laws_letting_go.proofs.Lists.{Among, filter-map}
-use Rattle.vt_laws_letting_go.proofs.leaving.PlacesLeft.{found_in_filter, no_layers}
+use Rattle.vt_laws_letting_go.proofs.leaving.PlacesLeft.{found_in_filter}
 use Rattle.vt_location.specs.declared.locations.Location.{Location}
 use Rattle.vt_location.specs.Locations.{location_of}
 use Rattle.vt_location.specs.Numbers.{counted}
 use Rattle.vt_mount.specs.MountsValue.{mounts_in}
-use Rattle.vt_world.specs.Held.{CountsItsUses}
+use Rattle.vt_world.specs.Held.{CountsItsUses, IsHeld}
 use Rattle.vt_detach.specs.Uses.{Kept}
 use Rattle.vt_world.specs.WorldValue.{WorldValue, world_of}
 use Rattle.vt_detach.proofs.Moving.{swap_eq}
-use Rattle.std.proofs.Math.Bool.{or-false}
+use Rattle.vt_detach.proofs.Overlaid.{KeepsOverlays, is_plain_one}
 
 -- Mounts that are still to be detached
 
@@ -52,7 +51,7 @@ pub record IsShownIn (old : WorldValue) (gained lost later : List Inode) (world 
   pub there : AreThere (counted was.count) (inodes_seen was) gained
   pub inodes : one.inodes ≡ exchanged (counted was.count) gained lost (inodes_seen was)
   pub exchanges : Exchanges gained (lost ++ later) (counted was.count) (world_of old) world
-  pub mounts : one.mounts ≡ mounts_showing world (counted one.count)
+  pub mounts : one.mounts ≡ mounts_showing world (counted one.count) + layer_count world (counted one.count)
 
 -- code's mount points are in the filesystems that the definitions see there
 abbrev pub PointsAreSeen : WorldValue → List (Mount ℕ) → Type 0
@@ -62,13 +61,13 @@ PointsAreSeen old mounts =
     → (mount_at nat_eq (world_of old) (location_of point)).filesystem ≡ counted point.node.filesystem.count
 
 -- What is kept of a world in which the pending mounts are detached, while code has them still attached. Mounts but the
--- losers
--- are in use.
+-- losers are in use. Overlays are those of before.
 pub record IsKeptBut (old : WorldValue) (losers pending : List ℕ) (gained lost : List Inode) (world : World ℕ)
     (k : Kept) : Type 0 where
+  pub held : IsHeld old
   pub mounts : world.mounts ≡ map (detached_in pending) (mounts_in k.mounts)
   pub uses : All (CountsItsUses world) k.mounts
-  pub numbers : map (λ (f : Filesystem ℕ). f.number) world.filesystems
+  pub numbers : map (λ (f : Filesystem ℕ). f.number) (filter is_plain_one world.filesystems)
       ≡ map (λ (one : Shown). counted one.count) k.filesystems
   pub filesystems : (one : Shown) → Among one k.filesystems
       → IsShownIn old gained lost (points_lost (world_of old) (mounts_in k.mounts) pending) world one
@@ -76,7 +75,7 @@ pub record IsKeptBut (old : WorldValue) (losers pending : List ℕ) (gained lost
   pub located : LocationsStand world
   pub in_use : MountsInUseBut losers world
   pub mounted : FilesystemsInUse world
-  pub plain : IsPlain world
+  pub keeps : KeepsOverlays old world
   pub points : PointsAreSeen old (mounts_in k.mounts)
   pub places : (mount : Mount ℕ) → Among mount world.mounts → (place : Place ℕ) → mount.mount_point ≡ Some place
       → (mount_at nat_eq world place).filesystem ≡ (mount_at nat_eq (world_of old) place).filesystem
@@ -96,13 +95,6 @@ no_more (inode ∷ rest) = ap (λ others. inode ∷ others) (no_more rest)
 pub append_three : {A : Type 0} (xs ys zs : List A) → (xs ++ ys) ++ zs ≡ xs ++ (ys ++ zs)
 append_three [] ys zs = refl
 append_three (x ∷ xs) ys zs = ap (λ rest. x ∷ rest) (append_three xs ys zs)
-
--- Filesystems of plain worlds live by their mounts
-pub lives_plainly : (world : World ℕ) → IsPlain world → (f : Filesystem ℕ)
-    → filesystem_lives nat_eq world f ≡ is_mounted nat_eq world f.number
-lives_plainly world plain f =
-    ap (λ b. is_mounted nat_eq world f.number || b) (no_layers f.number world world.filesystems (plain_of world plain))
-    ∙ or-false (is_mounted nat_eq world f.number)
 
 -- where a mount has no mount point, the inodes lost are the same without it
 found_none : (mounts : List (Mount ℕ)) (number : ℕ)

@@ -1,4 +1,5 @@
 pub mod FilesystemsFound
+pub mod Overlaid
 pub mod LookLemmas
 pub mod OwnInodesKept
 pub mod ChangedNumbers
@@ -53,3 +54,5 @@ pub mod Departing
 pub mod Exiting
 pub mod TreesInNamespaces
 pub mod Entered
+pub mod BesideOverlays
+pub mod FilesystemsLeft

@@ -31,6 +31,7 @@ pub use Rattle.vt_spec.proofs.Truths.{nat_eq_turned as turned}
 use Rattle.vt_world.specs.Held.{IsHeld}
 use Rattle.vt_detach.specs.Looking.{is_seen}
 use Rattle.vt_world.specs.WorldValue.{WorldValue, world_of}
+use Rattle.vt_detach.proofs.Overlaid.{found_as_kept, seen_one_among, there_as_kept}
 use Rattle.vt_detach.proofs.FilesystemsFound.{found, found_number, found_plain, holds_at, in_no_other, no_counted_inode, own_filesystem}
 use Rattle.vt_fs.proofs.Parents.{parents_named}
 use Rattle.vt_fs.proofs.TreesLookedAt.{nowhere_removed, nowhere_under, under_nowhere}
@@ -66,7 +67,8 @@ module _ (value : WorldValue) (held : IsHeld value) where
   tree_is : (filesystem : Filesystem ℕ) → Among filesystem (filesystems_seen value.filesystems)
       → IsTree filesystem.files.tree
   tree_is filesystem m = among_from_all (λ (x : Filesystem ℕ). IsTree x.files.tree)
-      (filesystems_seen value.filesystems) held.in_world.files.trees filesystem m
+      (world_of value).filesystems held.in_world.files.trees filesystem
+      (seen_one_among value held.overlays.merged filesystem m)
 
   -- in each tree directories are named by their parents
   pub parents_named_at : (count : ℕ) → ParentsAreNamed (files_at value.filesystems count).tree
@@ -76,7 +78,8 @@ module _ (value : WorldValue) (held : IsHeld value) where
       (filesystems_seen value.filesystems)
       (λ filesystem m. parents_named filesystem.files.tree (tree_is filesystem m)
       (among_from_all (λ (x : Filesystem ℕ). HasOwnParents x.files.tree)
-      (filesystems_seen value.filesystems) held.in_world.files.own_parents filesystem m)))
+      (world_of value).filesystems held.in_world.files.own_parents filesystem
+      (seen_one_among value held.overlays.merged filesystem m))))
       count
       (λ directory other. ap not (sym (eq-eqb directory directory refl)))
 
@@ -106,7 +109,7 @@ module _ (value : WorldValue) (held : IsHeld value) where
       (among_from_list_all (has_its_root nat_eq (world_of value))
       (mounts_in value.mounts) held.in_world.roots mount m) in
       let place = own_filesystem value.filesystems held.own_inodes mount.filesystem mount.root
-      (directory_there _ shows.0) in
+      (there_as_kept value held mount.filesystem mount.root (directory_there _ shows.0)) in
       (place.0, place.1))
       (λ none. (number, ap (λ (mount : meant.Mount ℕ). mount.filesystem) none))
       (found_or_none (mounts_in value.mounts) (counted number))
@@ -120,19 +123,23 @@ module _ (value : WorldValue) (held : IsHeld value) where
         ap (filesystem_numbered nat_eq (world_of value))
         (eqb-true (mount_at nat_eq (world_of value) (location_of at)).filesystem
         (counted at.node.filesystem.count) seen)
+        ∙ found_as_kept value held (counted at.node.filesystem.count)
         ∙ found_by_number value.filesystems at.node.filesystem.count
 
     -- one that is not seen has no inode
     pub unseen_node : is_seen value at ≡ false → node_at nat_eq (world_of value) (location_of at) ≡ None
     unseen_node unseen =
-        in_no_other value.filesystems held.own_inodes (mount_at nat_eq (world_of value) (location_of at)).filesystem
+        ap (λ (filesystem : Filesystem ℕ). filesystem.files.tree.node (number_of at.node))
+        (found_as_kept value held (mount_at nat_eq (world_of value) (location_of at)).filesystem)
+        ∙ in_no_other value.filesystems held.own_inodes (mount_at nat_eq (world_of value) (location_of at)).filesystem
         at.node small unseen
 
     -- and counts as removed
     pub unseen_removed : is_seen value at ≡ false → is_removed_at nat_eq (world_of value) (location_of at) ≡ true
     unseen_removed unseen =
         let shown = shown_counted at.mount.count in
-        let is = ap (filesystem_numbered nat_eq (world_of value)) shown.1 ∙ found_by_number value.filesystems shown.0 in
+        let is = ap (filesystem_numbered nat_eq (world_of value)) shown.1 ∙ found_as_kept value held (counted shown.0)
+        ∙ found_by_number value.filesystems shown.0 in
         let none = ap (λ (filesystem : Filesystem ℕ). filesystem.files.tree.node (number_of at.node)) (sym is)
         ∙ unseen_node unseen in
         ap (λ (filesystem : Filesystem ℕ). is_removed nat_eq filesystem.files.tree (number_of at.node)) is
@@ -153,7 +160,9 @@ module _ (value : WorldValue) (held : IsHeld value) where
         (λ seen other.
         nowhere_under (filesystem_at nat_eq (world_of value) (location_of at)).files (number_of at.node)
         (number_of directory)
-        (in_no_other value.filesystems held.own_inodes (mount_at nat_eq (world_of value) (location_of at)).filesystem
+        (ap (λ (filesystem : Filesystem ℕ). filesystem.files.tree.node (number_of directory))
+        (found_as_kept value held (mount_at nat_eq (world_of value) (location_of at)).filesystem)
+        ∙ in_no_other value.filesystems held.own_inodes (mount_at nat_eq (world_of value) (location_of at)).filesystem
         directory directory_small
         (ap (λ n. nat_eq n (counted directory.filesystem.count))
         (eqb-true (mount_at nat_eq (world_of value) (location_of at)).filesystem
@@ -166,7 +175,11 @@ module _ (value : WorldValue) (held : IsHeld value) where
         ≡ ((mount_at nat_eq (world_of value) (location_of at)).filesystem, number_of at.node) ∷ []
     points_are =
         let shown = (mount_at nat_eq (world_of value) (location_of at)).filesystem in
-        λ i. (found_number value.filesystems shown i, number_of at.node)
+        ap (λ (filesystem : Filesystem ℕ). (filesystem.number, number_of at.node)
+        ∷ overlay_or [] (λ overlay. upper_points (world_of value) filesystem overlay (number_of at.node))
+        filesystem.overlay)
+        (found_as_kept value held shown)
+        ∙ λ i. (found_number value.filesystems shown i, number_of at.node)
         ∷ overlay_or [] (λ overlay. upper_points (world_of value) (found value.filesystems shown) overlay
         (number_of at.node))
         (found_plain value.filesystems shown i)
@@ -194,7 +207,8 @@ module _ (value : WorldValue) (held : IsHeld value) where
         there place is false e = sym (and-false (is_seen value at))
         there place is true e =
             let own = own_filesystem value.filesystems held.own_inodes
-            (mount_at nat_eq (world_of value) place).filesystem place.node is in
+            (mount_at nat_eq (world_of value) place).filesystem place.node
+            (there_as_kept value held (mount_at nat_eq (world_of value) place).filesystem place.node is) in
             let one = own_count own.0 at.node small
             (ap (is_own_number own.0) (sym (eqb-true place.node (number_of at.node) e)) ∙ own.2) in
             ap (λ n. nat_eq n (mount_at nat_eq (world_of value) (location_of at)).filesystem) (own.1 ∙ ap counted one)
@@ -238,7 +252,7 @@ module _ (value : WorldValue) (held : IsHeld value) where
         (among_from_list_all (has_its_root nat_eq (world_of value))
         (mounts_in value.mounts) held.in_world.roots mount m) in
         let own = own_filesystem value.filesystems held.own_inodes mount.filesystem mount.root
-        (directory_there _ shows.0) in
+        (there_as_kept value held mount.filesystem mount.root (directory_there _ shows.0)) in
         let one = own_count own.0 at.node small
         (ap (is_own_number own.0) (sym same) ∙ own.2) in
         true≢false (sym (eq-eqb mount.filesystem (counted at.node.filesystem.count) (own.1 ∙ ap counted one)) ∙ unseen))
@@ -264,8 +278,11 @@ module _ (value : WorldValue) (held : IsHeld value) where
         ap (λ (mount : meant.Mount ℕ). is_directory_under nat_eq
         (filesystem_numbered nat_eq (world_of value) mount.filesystem).files
         mount.root (number_of at.node)) none
-        ∙ under_nowhere (found value.filesystems (counted at.mount.count)).files (counted at.mount.count)
+        ∙ under_nowhere (filesystem_numbered nat_eq (world_of value) (counted at.mount.count)).files
+        (counted at.mount.count)
         (number_of at.node)
-        (no_counted_inode value.filesystems held.own_inodes (counted at.mount.count) at.mount.count)
+        (ap (λ (filesystem : Filesystem ℕ). filesystem.files.tree.node (counted at.mount.count))
+        (found_as_kept value held (counted at.mount.count))
+        ∙ no_counted_inode value.filesystems held.own_inodes (counted at.mount.count) at.mount.count)
         ∙ ne_eqb (counted at.mount.count) (number_of at.node)
         (counted_inode at.mount.count (born_in at.node.filesystem.count at.node.birth) at.node.slot)

@@ -1,7 +1,7 @@
 -- Between the first and the last use that a task leaves: what code counts then. Uses are left and mounts are detached
 -- in
 -- whatever order; what is no longer used goes at once, and at the end that is gone which the sweep takes.
-use Rattle.std.proofs.Common.{◌≡◌, refl, sym, ap, subst, ◌∙◌, ℕ, ◌+◌, nat_eq, eqb-true, Bool, true, false, true≢false, cond, not, ◌||◌, List, [], ◌∷◌, ◌++◌, map, flat_map, Option, Some, None, option_map, is_some, append_assoc, arith}
+use Rattle.std.proofs.Common.{◌≡◌, refl, sym, ap, subst, ◌∙◌, ℕ, ◌+◌, nat_eq, eqb-true, Bool, true, false, true≢false, cond, not, ◌||◌, List, [], ◌∷◌, ◌++◌, map, filter, flat_map, Option, Some, None, option_map, is_some, append_assoc, arith}
 use Rattle.std.specs.Prelude.{IfSome, option_to_list, ◌<◌}
 use Rattle.std.specs.List.{list_all, list_any}
 use Rattle.std.proofs.lemmas.Bool.{and_parts, or_parts}
@@ -10,7 +10,7 @@ use Rattle.vt_spec.specs.Lists.{any_pair, folded}
 use Rattle.vt_spec.specs.Machine.Mounts.{Mount, detached}
 use Rattle.vt_spec.specs.Machine.World.{Filesystem, World}
 use Rattle.vt_spec.specs.Machine.Invariants.{is_located_well}
-use Rattle.vt_laws_counts.specs.Counted.{IsPlain}
+use Rattle.vt_laws_counts.specs.OverlaysStay.{layer_count}
 use Rattle.vt_laws_counts.specs.Using.{AreThere, Exchanges, exchanged, is_inode, pinned_if, unpinned_if}
 use Rattle.vt_fs.specs.FilesystemsValue.{FilesystemEntry, Shown, inodes_seen}
 use Rattle.vt_laws_letting_go.specs.Counts.{mount_uses, mounts_showing, times}
@@ -32,6 +32,7 @@ use Rattle.vt_detach.specs.Uses.{Kept, detached_entry, is_unused, unpinned_at, u
 use Rattle.vt_world.specs.WorldValue.{WorldValue, world_of}
 use Rattle.vt_detach.proofs.LocationsSeen.{seen_where_located}
 use Rattle.vt_detach.proofs.LostUses.{entry_found_at, entry_itself, folded_append, lost_alike, mounts_unchanged}
+use Rattle.vt_detach.proofs.Overlaid.{KeepsOverlays, is_plain_one}
 use Rattle.vt_detach.proofs.Moving.{Use, inodes_of_uses, is_use_on, lose, release_if, released_counts, writes_on_mount}
 use Rattle.vt_spec.proofs.Lists.{map_alike, map_twice}
 use Rattle.vt_laws_letting_go.specs.TreesOverlays.{in_use_of}
@@ -54,13 +55,14 @@ pub record IsShown (value : WorldValue) (now : World ℕ) (gained lost : List In
   pub count : one.count ≡ was.count
   pub there : AreThere (counted was.count) (inodes_seen was) gained
   pub inodes : one.inodes ≡ exchanged (counted was.count) gained lost (inodes_seen was)
-  pub mounts : one.mounts ≡ mounts_showing now (counted one.count)
+  pub mounts : one.mounts ≡ mounts_showing now (counted one.count) + layer_count now (counted one.count)
   pub mounted : nat_eq one.mounts 0 ≡ false
 
 -- In `now` tasks have left the uses `left`, and mounts that `goes` tells are detached; code has yet to leave and detach
--- them.
+-- them. Overlays are those of before.
 pub record Midway (value : WorldValue) (start : World ℕ) (gained : List Inode) (goes : Mount ℕ → Bool)
     (left : List Use) (now : World ℕ) (k : Kept) (lost : List Inode) : Type 0 where
+  pub held : IsHeld value
   pub mounts : now.mounts ≡ map (gone_if goes) (mounts_in k.mounts)
   pub uses : (entry : MountEntry) → Among entry k.mounts
       → entry.uses ≡ mount_uses now entry.mount.number + times (is_use_on entry.mount.number) left
@@ -72,11 +74,11 @@ pub record Midway (value : WorldValue) (start : World ℕ) (gained : List Inode)
   pub exchanges : (one : Shown) → Among one k.filesystems
       → Exchanges gained (lost ++ (inodes_of_uses (world_of value) left ++ points_left (world_of value) goes k.mounts))
       (counted one.count) (world_of value) now
-  pub numbers : map (λ (f : Filesystem ℕ). f.number) now.filesystems
+  pub numbers : map (λ (f : Filesystem ℕ). f.number) (filter is_plain_one now.filesystems)
       ≡ map (λ (one : Shown). counted one.count) k.filesystems
   pub stand : MountsStand now
   pub located : LocationsStand now
-  pub plain : IsPlain now
+  pub keeps : KeepsOverlays value now
   pub same : in_use_of now ≡ in_use_of start
 
 -- nothing waits to go, or one mount alone
@@ -200,6 +202,7 @@ module _ (value : WorldValue) (whole : IsHeld value) (start : World ℕ) (gained
 
     pub use_left : Midway value start gained goes left now new (lost ++ (inode ∷ []))
     use_left = record {
+      held = mid.held;
       mounts = mid.mounts ∙ ap (map (gone_if goes)) (sym same_mounts);
       uses = λ entry m. let from = entry_was entry m in
           subst (λ (e : MountEntry). e.uses ≡ mount_uses now e.mount.number + times (is_use_on e.mount.number) left)
@@ -226,7 +229,7 @@ module _ (value : WorldValue) (whole : IsHeld value) (start : World ℕ) (gained
       numbers = mid.numbers ∙ sym (map_twice (λ (one : Shown). counted one.count) unpinned_one k.filesystems);
       stand = mid.stand;
       located = mid.located;
-      plain = mid.plain;
+      keeps = mid.keeps;
       same = mid.same;
     }
 
@@ -440,6 +443,7 @@ module _ (value : WorldValue) (whole : IsHeld value) (start : World ℕ) (gained
 
     pub mount_taken : Midway value start gained goes left now taken (lost ++ lost_here)
     mount_taken = record {
+      held = mid.held;
       mounts = same_now;
       uses = λ e m. let from = entry_before e m in let keeps = take_keeps from.0 in
           subst (λ (x : MountEntry). x.uses ≡ mount_uses now x.mount.number + times (is_use_on x.mount.number) left)
@@ -469,7 +473,7 @@ module _ (value : WorldValue) (whole : IsHeld value) (start : World ℕ) (gained
           ∙ sym (ap (map (λ (one : Shown). counted one.count)) unpinned_are);
       stand = mid.stand;
       located = mid.located;
-      plain = mid.plain;
+      keeps = mid.keeps;
       same = mid.same;
     }
 

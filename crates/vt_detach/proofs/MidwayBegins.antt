@@ -7,14 +7,13 @@ use Rattle.std.proofs.lemmas.Option.{same_Some}
 use Rattle.std.proofs.lemmas.List.{append-nil}
 use Rattle.vt_spec.specs.Lists.{any_pair, folded, is_among}
 use Rattle.vt_spec.specs.Machine.Mounts.{Location, Mount, detached, mount_in, no_mount, root_of}
-use Rattle.vt_spec.specs.Machine.Settled.{is_located, is_mounted, mount_lives, filesystem_lives}
+use Rattle.vt_spec.specs.Machine.Settled.{is_located, mount_lives, filesystem_lives}
 use Rattle.vt_spec.specs.Machine.World.{Filesystem, Namespace, World, all_locations, is_directory_at, mount_at, mount_numbered, node_at}
 use Rattle.vt_spec.specs.Machine.Invariants.{Stands, has_its_root, is_located_well, is_nowhere_or_attached}
 use Rattle.vt_spec.specs.Machine.Invariants.Stands.{at_root, on_parent}
 use Rattle.vt_laws_counts.specs.Using.{Exchanges, pinned_if, places_of}
 use Rattle.vt_laws_counts.proofs.using.MountRoots as Roots
 use Rattle.vt_laws_counts.proofs.using.Places.{exchanges_follow, locations_use_mounts, mount_is_placed}
-use Rattle.vt_laws_counts.proofs.using.Swept.{plain_of}
 use Rattle.vt_fs.specs.FilesystemsValue.{FilesystemEntry, Shown, filesystem_seen, shown, shown_entry}
 use Rattle.vt_laws_letting_go.specs.Counts.{mount_uses, mounts_showing, times}
 use Rattle.vt_laws_letting_go.specs.Keeping.{LocationsStand}
@@ -23,8 +22,8 @@ use Rattle.vt_laws_letting_go.specs.Mounting.{inode_at}
 use Rattle.vt_laws_letting_go.specs.OneByOne.{Inode}
 use Rattle.vt_laws_letting_go.proofs.Lists.{Among, all_pass, among-append, among-append_left, among-append_right, among-filter_map, among-from_map, among-map, among_from_all, passes}
 use Rattle.vt_laws_letting_go.proofs.sweeps.OfWorlds.{mounts_of_worlds_stand}
-use Rattle.vt_laws_letting_go.proofs.leaving.PlacesLeft.{found_itself, no_layers}
-use Rattle.vt_laws_letting_go.proofs.sweeps.UsesCounted.{located_while_counted, mounted_while_counted}
+use Rattle.vt_laws_letting_go.proofs.leaving.PlacesLeft.{found_itself}
+use Rattle.vt_laws_letting_go.proofs.sweeps.UsesCounted.{located_while_counted}
 use Rattle.vt_location.specs.Numbers.{counted}
 use Rattle.vt_mount.specs.MountsValue.{MountEntry, mounts_in}
 use Rattle.vt_tasks.specs.TasksValue.{Tasks}
@@ -38,9 +37,11 @@ use Rattle.vt_world.specs.WorldValue.{WorldValue, world_of}
 use Rattle.vt_detach.proofs.LostUses.{positive}
 use Rattle.vt_detach.proofs.Midway.{IsShown, Midway, NoneUnused, Reached, gone_if, gone_number, point_left, points_left}
 use Rattle.vt_detach.proofs.Moving.{Moves, Use, filesystems_gained, gain, gained_there, held_counts, hold_if, inodes_of_uses, is_use_on, locations, mounts_gained, same_moved_mounts, times_mapped, uses_moved, writes_on_mount}
-use Rattle.vt_detach.proofs.Staying.{after, world_is_plain}
+use Rattle.vt_detach.proofs.Staying.{after}
 use Rattle.vt_spec.proofs.Lists.{map_alike, map_twice}
-use Rattle.std.proofs.Math.Bool.{or-false}
+use Rattle.vt_laws_counts.specs.OverlaysStay.{layer_count}
+use Rattle.vt_detach.proofs.BesideOverlays.{lives_midway, mounted_at_first}
+use Rattle.vt_detach.proofs.Overlaid.{keeps_itself, plain_one_among, plain_ones_are, same_files_keep}
 
 -- Mounts that are detached at once, in a world
 
@@ -382,13 +383,11 @@ module _ (value : WorldValue) (whole : IsHeld value) (tasks : Tasks) (more less 
       turned (nat_eq was.mounts 0)
       (ap (λ n. not (nat_eq n 0)) (among_from_all
       (CountsItsMounts world) value.filesystems whole.filesystems was m).mounts
-      ∙ sym (positive (mounts_showing world (counted was.count)))
-      ∙ sym (mounted_while_counted world (counted was.count))
-      ∙ sym (or-false (is_mounted nat_eq world (counted was.count)))
-      ∙ sym (ap (λ b. is_mounted nat_eq world (counted was.count) || b)
-      (no_layers (counted was.count) world world.filesystems (plain_of world (world_is_plain value))))
+      ∙ sym (positive (mounts_showing world (counted was.count) + layer_count world (counted was.count)))
+      ∙ sym (lives_midway value world (keeps_itself value whole.overlays) (mounted_at_first value whole)
+      (filesystem_seen was))
       ∙ passes (filesystem_lives nat_eq world) world.filesystems (worlds_are_in_use world whole.in_world).filesystems
-      (filesystem_seen was) (among-map filesystem_seen value.filesystems was m))
+      (filesystem_seen was) (plain_one_among value whole.overlays.merged was m))
     where
       turned : (b : Bool) → not b ≡ true → b ≡ false
       turned true e = absurd (true≢false (sym e))
@@ -403,7 +402,7 @@ module _ (value : WorldValue) (whole : IsHeld value) (tasks : Tasks) (more less 
     there = gained_there value whole tasks more less moves was m;
     inodes = refl;
     mounts = (among_from_all (CountsItsMounts world) value.filesystems whole.filesystems was m).mounts
-        ∙ sym (shows_still (counted was.count) world.mounts);
+        ∙ ap (λ n. n + layer_count world (counted was.count)) (sym (shows_still (counted was.count) world.mounts));
     mounted = is_mounted_so was m;
   }
 
@@ -423,6 +422,7 @@ module _ (value : WorldValue) (whole : IsHeld value) (tasks : Tasks) (more less 
 
   begins_midway : Midway value ended gained goes less ended k_begins []
   begins_midway = record {
+    held = whole;
     mounts = ap (map (gone_if goes)) (sym same_entries);
     uses = λ entry m. let from = entry_was entry m in
         subst (λ (e : MountEntry). e.uses ≡ mount_uses next e.mount.number + times (is_use_on e.mount.number) less)
@@ -438,14 +438,15 @@ module _ (value : WorldValue) (whole : IsHeld value) (tasks : Tasks) (more less 
     shown = λ one m. let from = shown_was one m in subst (IsShown value ended gained []) (sym from.2)
         (shown_is from.0 from.1);
     exchanges = λ one m. exchanges_are (counted one.count);
-    numbers = map_twice (λ (f : Filesystem ℕ). f.number) filesystem_seen value.filesystems
+    numbers = ap (map (λ (f : Filesystem ℕ). f.number)) (plain_ones_are value whole.overlays)
+        ∙ map_twice (λ (f : Filesystem ℕ). f.number) filesystem_seen value.filesystems
         ∙ sym (map_twice (λ (one : Shown). counted one.count) shown_entry value.filesystems)
         ∙ sym (map_twice (λ (one : Shown). counted one.count) pinned_one (shown value.filesystems))
         ∙ sym (ap (map (λ (one : Shown). counted one.count))
         (filesystems_gained world more (kept value.mounts value.filesystems)));
     stand = stand_ended;
     located = located_ended;
-    plain = world_is_plain value;
+    keeps = same_files_keep value world ended refl (keeps_itself value whole.overlays);
     same = refl;
   }
 

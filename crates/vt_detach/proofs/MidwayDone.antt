@@ -1,38 +1,38 @@
 -- The steps by which tasks leave uses and namespaces, and the world after the last of them.
-use Rattle.std.proofs.Common.{◌≡◌, refl, sym, ap, subst, ◌∙◌, ℕ, nat_eq, Bool, true, false, true≢false, cond, not, ◌&&◌, ◌||◌, List, [], ◌∷◌, ◌++◌, map, flat_map, Option, Some, is_some, arith}
+use Rattle.std.proofs.lemmas.List.Elements.{All-nil}
+use Rattle.std.proofs.Common.{◌≡◌, refl, sym, ap, subst, ◌∙◌, ℕ, ◌+◌, nat_eq, Bool, true, false, true≢false, cond, not, ◌&&◌, ◌||◌, List, [], ◌∷◌, ◌++◌, map, filter, flat_map, Option, Some, is_some, arith}
 use Rattle.std.specs.Prelude.{All}
 use Rattle.std.proofs.lemmas.List.{append-nil}
 use Rattle.vt_spec.specs.Lists.{folded}
 use Rattle.vt_spec.specs.Machine.Mounts.{Location, Mount, detached}
 use Rattle.vt_spec.specs.Machine.SameWorlds.{without_changes}
-use Rattle.vt_spec.specs.Machine.Settled.{filesystem_lives, is_located, is_mounted, mount_lives, without_dead_filesystems, without_dead_mounts}
-use Rattle.vt_spec.specs.Machine.World.{Filesystem, Task, World}
-use Rattle.vt_laws_counts.specs.Counted.{IsPlain}
+use Rattle.vt_spec.specs.Machine.Settled.{filesystem_lives, is_located, mount_lives, without_dead_filesystems, without_dead_mounts}
+use Rattle.vt_spec.specs.Machine.World.{Filesystem, Task, World, is_overlay}
+use Rattle.vt_laws_counts.specs.OverlaysStay.{layer_count}
 use Rattle.vt_laws_counts.specs.Using.{Exchanges}
-use Rattle.vt_laws_counts.proofs.using.Swept.{plain_of}
 use Rattle.vt_fs.specs.FilesystemsValue.{FilesystemEntry, Shown, shown_entry}
 use Rattle.vt_laws_letting_go.specs.Counts.{mount_uses, mounts_showing}
 use Rattle.vt_laws_letting_go.specs.OneByOne.{Inode}
 use Rattle.vt_laws_letting_go.specs.Mounting.{inode_at}
-use Rattle.vt_laws_letting_go.proofs.Lists.{Among, all_from_among, among-from_map, among-map, filter_all, flat_map_none, map_same}
-use Rattle.vt_laws_letting_go.proofs.leaving.PlacesLeft.{no_layers}
-use Rattle.vt_laws_letting_go.proofs.sweeps.UsesCounted.{located_while_counted, mounted_while_counted}
+use Rattle.vt_laws_letting_go.proofs.Lists.{Among, all_from_among, among-filter, among-from_map, among-map, filter_all, flat_map_none, map_same}
+use Rattle.vt_laws_letting_go.proofs.sweeps.UsesCounted.{located_while_counted}
 use Rattle.vt_location.specs.declared.locations.Location.{Location as Place}
 use Rattle.vt_location.specs.Numbers.{counted}
 use Rattle.vt_mount.specs.MountsValue.{MountEntry, mounts_in}
 use Rattle.vt_laws_letting_go.specs.Attaching.{inodes_of_mount_point}
-use Rattle.vt_world.specs.Held.{CountsItsUses, CountsWhatIsInIt, IsHeld, writes_of}
+use Rattle.vt_world.specs.Held.{CountsItsUses, CountsWhatIsInIt, IsHeld, IsMountedSoOften, writes_of}
 use Rattle.vt_detach.specs.NamespacesLeft.{AreDetached, Detached}
 use Rattle.vt_detach.specs.Uses.{Kept, kept, without_attachment, without_use}
-use Rattle.vt_world.specs.WorldValue.{WorldValue, world_of}
+use Rattle.vt_world.specs.WorldValue.{WorldValue, overlays_seen, world_of}
+use Rattle.vt_detach.proofs.BesideOverlays.{layers_of_value, lives_midway, overlay_lives}
 use Rattle.vt_detach.proofs.Bridging.{IsSwept}
 use Rattle.vt_detach.proofs.Finishing.{CountsBeside}
 use Rattle.vt_detach.proofs.Midway.{IsGoing, Midway, Reached, gone_if, left_alone, mount_taken, point_left, points_left, taken_alone, use_left}
 use Rattle.vt_detach.proofs.MidwayGoes.{mount_looked_at}
 use Rattle.vt_detach.proofs.Moving.{Use, inodes_of_uses}
 use Rattle.vt_detach.proofs.LostUses.{positive}
+use Rattle.vt_detach.proofs.Overlaid.{KeepsOverlays, is_plain_one, none_still, none_to_mount}
 use Rattle.vt_spec.proofs.Lists.{map_twice}
-use Rattle.std.proofs.Math.Bool.{or-false}
 use Rattle.vt_laws_letting_go.specs.TreesOverlays.{in_use_of}
 
 -- one use less of a location of a world, as code leaves it
@@ -79,7 +79,8 @@ module _ (value : WorldValue) (whole : IsHeld value) (start : World ℕ) (gained
 module _ (value : WorldValue) (start : World ℕ) (gained : List Inode) (goes : Mount ℕ → Bool) (k : Kept)
     (at : Reached value start gained goes [] k)
     (all_gone : (entry : MountEntry) → Among entry k.mounts → goes entry.mount ≡ false)
-    (new : WorldValue) (is_kept : kept new.mounts new.filesystems ≡ k) (same_tasks : start.tasks ≡ new.tasks) where
+    (new : WorldValue) (is_kept : kept new.mounts new.filesystems ≡ k) (same_tasks : start.tasks ≡ new.tasks)
+    (same_overlays : overlays_seen new.overlays ≡ overlays_seen value.overlays) where
   abbrev now : World ℕ
   now = at.now
 
@@ -134,17 +135,21 @@ module _ (value : WorldValue) (start : World ℕ) (gained : List Inode) (goes : 
               ∙ ap (λ n. not (nat_eq n 0)) (sym same) ∙ ap not e
 
   filesystem_is_used : (f : Filesystem ℕ) → Among f now.filesystems → filesystem_lives nat_eq now f ≡ true
-  filesystem_is_used f m =
-      let from = among-from_map (λ (one : Shown). counted one.count) k.filesystems f.number
-      (subst (λ all. Among f.number all) mid.numbers
-      (among-map (λ (x : Filesystem ℕ). x.number) now.filesystems f m)) in
-      let is = mid.shown from.0 from.1 in
-      ap (λ b. is_mounted nat_eq now f.number || b) (no_layers f.number now now.filesystems (plain_of now mid.plain))
-      ∙ or-false (is_mounted nat_eq now f.number)
-      ∙ mounted_while_counted now f.number
-      ∙ positive (mounts_showing now f.number)
-      ∙ ap (λ n. not (nat_eq n 0)) (ap (mounts_showing now) from.2 ∙ sym is.mounts)
-      ∙ ap not is.mounted
+  filesystem_is_used f m = by (is_overlay f) refl
+    where
+      by : (b : Bool) → is_overlay f ≡ b → filesystem_lives nat_eq now f ≡ true
+      by true e = overlay_lives value now mid.keeps (none_to_mount value mid.held now) f m e
+      by false e =
+          let from = among-from_map (λ (one : Shown). counted one.count) k.filesystems f.number
+          (subst (λ all. Among f.number all) mid.numbers
+          (among-map (λ (x : Filesystem ℕ). x.number) (filter is_plain_one now.filesystems) f
+          (among-filter is_plain_one now.filesystems f m (ap not e)))) in
+          let is = mid.shown from.0 from.1 in
+          lives_midway value now mid.keeps (none_to_mount value mid.held now) f
+          ∙ positive (mounts_showing now f.number + layer_count now f.number)
+          ∙ ap (λ n. not (nat_eq n 0))
+          (ap (λ n. mounts_showing now n + layer_count now n) from.2 ∙ sym is.mounts)
+          ∙ ap not is.mounted
 
   living_is : in_use_of start ≡ now
   living_is =
@@ -165,13 +170,16 @@ module _ (value : WorldValue) (start : World ℕ) (gained : List Inode) (goes : 
   entry_of : (entry : MountEntry) → Among entry new.mounts → Among entry k.mounts
   entry_of entry m = subst (λ (one : Kept). Among entry one.mounts) is_kept m
 
-  pub reached_swept : IsPlain start
+  pub reached_swept : KeepsOverlays value start
       → (without_changes start).namespaces ≡ (without_changes (world_of new)).namespaces
       → IsSwept value start gained at.lost new
-  reached_swept plain namespaces = record {
-    plain = plain;
+  reached_swept keeps namespaces = record {
+    midway = keeps;
+    mounted = none_to_mount value mid.held (in_use_of start);
+    overlays = same_overlays;
     mounts = ap (λ (w : World ℕ). w.mounts) living_is ∙ mounts_are;
-    numbers = ap (λ (w : World ℕ). map (λ (f : Filesystem ℕ). f.number) w.filesystems) living_is ∙ mid.numbers
+    numbers = ap (λ (w : World ℕ). map (λ (f : Filesystem ℕ). f.number) (filter is_plain_one w.filesystems)) living_is
+        ∙ mid.numbers
         ∙ ap (λ (one : Kept). map (λ (x : Shown). counted x.count) one.filesystems) (sym is_kept)
         ∙ map_twice (λ (x : Shown). counted x.count) shown_entry new.filesystems;
     entries = λ entry m. let is = mid.shown (shown_entry entry) (shown_of entry m) in record {
@@ -203,7 +211,10 @@ module _ (value : WorldValue) (start : World ℕ) (gained : List Inode) (goes : 
           writers = written ∙ ap (writes_of entry.mount.number) tasks_are;
         });
     mounts = λ entry m. let is = mid.shown (shown_entry entry) (shown_of entry m) in
-        is.mounts ∙ ap (Rattle.vt_laws_letting_go.specs.Counts.times
-        (λ (x : Mount ℕ). nat_eq (counted entry.count) x.filesystem)) mounts_are;
+        is.mounts
+        ∙ (λ i. Rattle.vt_laws_letting_go.specs.Counts.times
+        (λ (x : Mount ℕ). nat_eq (counted entry.count) x.filesystem) (mounts_are i)
+        + sym (layers_of_value value new mid.held.overlays same_overlays now mid.keeps (counted entry.count)) i);
+    overlays = subst (All (IsMountedSoOften (world_of new))) (sym (none_still value new mid.held same_overlays)) (All-nil _);
     namespaces = namespaces;
   }

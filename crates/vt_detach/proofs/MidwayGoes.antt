@@ -4,7 +4,7 @@
 use Rattle.std.proofs.Common.{◌≡◌, refl, sym, ap, subst, ◌∙◌, ℕ, ◌+◌, ◌-◌, nat_eq, eqb-true, eq-eqb, Bool, true, false, true≢false, cond, not, ◌&&◌, ◌||◌, List, [], ◌∷◌, ◌++◌, map, filter, find, flat_map, Option, Some, None, is_some, arith}
 use Rattle.std.specs.Prelude.{nat_lt, option_to_list}
 use Rattle.std.specs.List.{list_all, list_any}
-use Rattle.std.proofs.lemmas.Bool.{and_parts}
+use Rattle.std.proofs.lemmas.Bool.{and_parts, or_parts}
 use Rattle.std.proofs.lemmas.Option.{same_Some}
 use Rattle.std.proofs.lemmas.List.{append-nil}
 use Rattle.vt_spec.specs.Lists.{folded, is_among}
@@ -12,19 +12,19 @@ use Rattle.vt_spec.specs.Machine.Mounts.{Location, Mount, detached, mount_in}
 use Rattle.vt_spec.specs.Machine.Settled.{filesystem_lives, is_located, is_mounted, mount_lives, without_dead_mounts}
 use Rattle.vt_spec.specs.Machine.World.{Filesystem, World, all_locations, is_overlay, mount_at, mount_numbered}
 use Rattle.vt_spec.specs.Machine.Invariants.{is_nowhere_or_attached}
-use Rattle.vt_laws_counts.specs.Counted.{IsPlain}
+use Rattle.vt_laws_counts.specs.OverlaysStay.{layer_count}
 use Rattle.vt_laws_counts.specs.Using.{Exchanges, is_inode, pinned_if, unpinned_if}
 use Rattle.vt_laws_counts.proofs.going.Gone.{mount_takes_its_count}
 use Rattle.vt_laws_counts.proofs.using.MountRoots as Roots
-use Rattle.vt_laws_counts.proofs.using.Places.{exchanges_follow, others_use_nothing}
-use Rattle.vt_laws_counts.proofs.using.Swept.{plain_of}
+use Rattle.vt_laws_counts.proofs.overlays.FilesystemUses.{plain_ones_use_nothing}
+use Rattle.vt_laws_counts.proofs.using.Places.{exchanges_follow}
 use Rattle.vt_fs.specs.FilesystemsValue.{Shown, inodes_seen}
 use Rattle.vt_laws_letting_go.specs.Counts.{mount_uses, mounts_showing, times}
 use Rattle.vt_laws_letting_go.specs.Keeping.{LocationsStand}
 use Rattle.vt_laws_letting_go.specs.Leaving.{MountsStand, stands_on_attached}
 use Rattle.vt_laws_letting_go.specs.OneByOne.{Inode, is_mount_used, without_mount}
-use Rattle.vt_laws_letting_go.proofs.Lists.{Among, all_from_among, all_pass, among-filter, among-from_filter, among-from_map, among-map, among_from_all, among_numbers, fails, filter-map, filter_all, filter_alike, is_among_numbers, none_passes, passes, filter_less}
-use Rattle.vt_laws_letting_go.proofs.leaving.PlacesLeft.{found_itself, no_layers}
+use Rattle.vt_laws_letting_go.proofs.Lists.{Among, all_pass, among-filter, among-from_filter, among-from_map, among-map, among_numbers, fails, filter-map, filter_alike, is_among_numbers, none_passes, or_second, passes, filter_less}
+use Rattle.vt_laws_letting_go.proofs.leaving.PlacesLeft.{found_itself}
 use Rattle.vt_laws_letting_go.proofs.sweeps.UsesCounted.{located_while_counted, mounted_while_counted}
 use Rattle.vt_location.specs.Numbers.{counted}
 use Rattle.vt_mount.specs.MountsValue.{MountEntry, entry_numbered, mounts_in, without}
@@ -39,22 +39,21 @@ use Rattle.vt_detach.proofs.LostUses.{entry_found_at, entry_itself, flat_map_les
 use Rattle.vt_detach.proofs.Midway.{IsShown, Midway, NoneUnused, Reached, UnusedOnly, gone_if, gone_number, one_number_kept, point_left, points_left, unused_parts}
 use Rattle.vt_detach.proofs.Moving.{Use, inodes_of_uses, swap_eq}
 use Rattle.vt_spec.proofs.Lists.{map_alike, map_twice}
-use Rattle.std.proofs.Math.Bool.{or-false}
 use Rattle.vt_laws_letting_go.specs.TreesOverlays.{in_use_of}
-use Rattle.vt_detach.proofs.Keeping.{lives_plainly}
+use Rattle.vt_detach.proofs.BesideOverlays.{dead_unshown, layers_alike, lives_alike, overlays_left, plain_ones_left, stays_beside}
+use Rattle.vt_detach.proofs.FilesystemsLeft.{let_go_is, stays_at, world_left}
+use Rattle.vt_detach.proofs.Overlaid.{is_plain_one}
+use Rattle.vt_laws_overlays_stay.proofs.weaving.WovenLists.{rising_filtered}
 
 -- What the sweep leaves when a dead mount and filesystems that no mount shows are gone already
 
-module _ (now : World ℕ) (number : ℕ) (stays : ℕ → Bool) (plain : IsPlain now)
+module _ (now : World ℕ) (number : ℕ) (stays : ℕ → Bool)
     (dead : (mount : Mount ℕ) → Among mount now.mounts → not (nat_eq mount.number number) ≡ false
     → mount_lives nat_eq now mount ≡ false)
-    (bare : (f : Filesystem ℕ) → Among f now.filesystems → stays f.number ≡ false
-    → is_mounted nat_eq (without_mount now number) f.number ≡ false) where
-  abbrev pub second : World ℕ
-  second = record (without_mount now number) {
-    filesystems = filter
-        (λ (f : Filesystem ℕ). stays f.number) now.filesystems;
-  }
+    (bare : (f : Filesystem ℕ) → Among f now.filesystems → stays_beside stays f ≡ false
+    → (is_mounted nat_eq (without_mount now number) f.number ≡ false) × (layer_count now f.number ≡ 0)) where
+  abbrev second : World ℕ
+  second = world_left now number stays
 
   abbrev mounts_left : List (Mount ℕ)
   mounts_left = filter (mount_lives nat_eq now) now.mounts
@@ -66,35 +65,28 @@ module _ (now : World ℕ) (number : ℕ) (stays : ℕ → Bool) (plain : IsPlai
   abbrev showing : List (Mount ℕ) → ℕ → Bool
   showing mounts f = list_any (λ (mount : Mount ℕ). nat_eq f mount.filesystem) mounts
 
-  pub second_is_plain : IsPlain second
-  second_is_plain =
-      all_from_among (λ f. is_overlay f ≡ false) second.filesystems (λ f m.
-      among_from_all (λ f. is_overlay f ≡ false) now.filesystems plain f
-      (among-from_filter (λ (f : Filesystem ℕ). stays f.number) now.filesystems f m).0)
-
-  not_shown : (f : Filesystem ℕ) → Among f now.filesystems → stays f.number ≡ false
-      → showing mounts_left f.number ≡ false
-  not_shown f m gone =
-      ap (λ mounts. showing mounts f.number) (sym same_left)
+  not_living : (f : Filesystem ℕ) → Among f now.filesystems → stays_beside stays f ≡ false
+      → filesystem_lives nat_eq (without_dead_mounts nat_eq now) f ≡ false
+  not_living f m gone =
+      dead_unshown (without_dead_mounts nat_eq now) f
+      (ap (λ mounts. showing mounts f.number) (sym same_left)
       ∙ none_passes (λ (mount : Mount ℕ). nat_eq f.number mount.filesystem)
       (filter (mount_lives nat_eq now) (filter (λ mount. not (nat_eq mount.number number)) now.mounts))
       (λ mount n. fails (λ (mount : Mount ℕ). nat_eq f.number mount.filesystem)
       (filter (λ mount. not (nat_eq mount.number number)) now.mounts)
-      (bare f m gone) mount (among-from_filter (mount_lives nat_eq now)
-      (filter (λ mount. not (nat_eq mount.number number)) now.mounts) mount n).0)
+      (bare f m gone).0 mount (among-from_filter (mount_lives nat_eq now)
+      (filter (λ mount. not (nat_eq mount.number number)) now.mounts) mount n).0))
+      (bare f m gone).1
 
   same_filesystems : filter (filesystem_lives nat_eq (without_dead_mounts nat_eq second)) second.filesystems
       ≡ filter (filesystem_lives nat_eq (without_dead_mounts nat_eq now)) now.filesystems
   same_filesystems =
       filter_alike (filesystem_lives nat_eq (without_dead_mounts nat_eq second))
-      (λ (f : Filesystem ℕ). showing mounts_left f.number) second.filesystems
-      (λ f m. lives_plainly (without_dead_mounts nat_eq second) second_is_plain f
-      ∙ ap (λ mounts. showing mounts f.number) same_left)
-      ∙ filter_less (λ (f : Filesystem ℕ). showing mounts_left f.number)
-      (λ (f : Filesystem ℕ). stays f.number) now.filesystems not_shown
-      ∙ filter_alike (λ (f : Filesystem ℕ). showing mounts_left f.number)
-      (filesystem_lives nat_eq (without_dead_mounts nat_eq now)) now.filesystems
-      (λ f m. sym (lives_plainly (without_dead_mounts nat_eq now) plain f))
+      (filesystem_lives nat_eq (without_dead_mounts nat_eq now)) second.filesystems
+      (λ f m. lives_alike (without_dead_mounts nat_eq now) (without_dead_mounts nat_eq second)
+      (overlays_left stays now.filesystems) (λ n. ap (λ mounts. showing mounts n) same_left) f)
+      ∙ filter_less (filesystem_lives nat_eq (without_dead_mounts nat_eq now)) (stays_beside stays) now.filesystems
+      not_living
 
   pub living_alike : in_use_of second ≡ in_use_of now
   living_alike = λ i. record now { mounts = same_left i; filesystems = same_filesystems i }
@@ -204,15 +196,19 @@ module _ (value : WorldValue) (whole : IsHeld value) (start : World ℕ) (gained
     none_left = nat_eq (mounts_shown f stepped) 0
 
     abbrev stays : ℕ → Bool
-    stays n = not none_left || not (nat_eq f n)
+    stays = stays_at f stepped
+
+    -- what is counted of a filesystem once the mount has gone
+    abbrev counts_of : ℕ → ℕ
+    counts_of n = mounts_showing first n + layer_count now n
 
     step_is : (was : Shown) → Among was k.filesystems
         → ((step was).count ≡ was.count) × ((step was).inodes ≡ unpinned_if (counted was.count) was.inodes root)
-        × ((step was).mounts ≡ mounts_showing first (counted was.count))
+        × ((step was).mounts ≡ counts_of (counted was.count))
         × (nat_eq f (counted was.count) ≡ false → (step was).mounts ≡ was.mounts)
     step_is was m = by (nat_eq f (counted was.count)) (mid.shown was m).mounts (takes (counted was.count))
       where
-        by : (b : Bool) → was.mounts ≡ mounts_showing now (counted was.count)
+        by : (b : Bool) → was.mounts ≡ mounts_showing now (counted was.count) + layer_count now (counted was.count)
             → mounts_showing now (counted was.count) ≡ mounts_showing first (counted was.count) + cond b 1 0
             → ((cond b (record was {
               inodes = unpinned_if
@@ -233,7 +229,7 @@ module _ (value : WorldValue) (whole : IsHeld value) (start : World ℕ) (gained
               mounts = was.mounts - 1;
             })
             (record was { inodes = unpinned_if (counted was.count) was.inodes root })).mounts
-            ≡ mounts_showing first (counted was.count))
+            ≡ counts_of (counted was.count))
             × (b ≡ false → (cond b (record was {
               inodes = unpinned_if
                   (counted was.count) was.inodes root;
@@ -244,35 +240,39 @@ module _ (value : WorldValue) (whole : IsHeld value) (start : World ℕ) (gained
         by false counts took = (refl, refl, omega (arith, counts, took), (λ e. refl))
 
     -- what is shown of a number is what its mounts are
-    stepped_counts : (one : Shown) → Among one stepped → one.mounts ≡ mounts_showing first (counted one.count)
+    stepped_counts : (one : Shown) → Among one stepped → one.mounts ≡ counts_of (counted one.count)
     stepped_counts one m =
         let from = among-from_map step k.filesystems one m in let is = step_is from.0 from.1 in
         ap (λ (x : Shown). x.mounts) from.2 ∙ is.2
-        ∙ ap (λ count. mounts_showing first (counted count)) (sym is.0)
-        ∙ ap (λ (x : Shown). mounts_showing first (counted x.count)) (sym from.2)
+        ∙ ap (λ count. counts_of (counted count)) (sym is.0)
+        ∙ ap (λ (x : Shown). counts_of (counted x.count)) (sym from.2)
 
     shown_here : (one : Shown) → Among one stepped → f ≡ counted one.count
-        → mounts_shown f stepped ≡ mounts_showing first f
-    shown_here one m same = shown_by_rule f (mounts_showing first) stepped stepped_counts one m same
+        → mounts_shown f stepped ≡ counts_of f
+    shown_here one m same = shown_by_rule f counts_of stepped stepped_counts one m same
 
-    -- each filesystem of the world is shown
-    shown_of : (g : Filesystem ℕ) → Among g now.filesystems
+    -- each plain filesystem of the world is shown
+    shown_of : (g : Filesystem ℕ) → Among g (filter is_plain_one now.filesystems)
         → (one : Shown) × Among one k.filesystems × (g.number ≡ counted one.count)
     shown_of g m =
         among-from_map (λ (one : Shown). counted one.count) k.filesystems g.number
-        (subst (λ all. Among g.number all) mid.numbers (among-map (λ (x : Filesystem ℕ). x.number) now.filesystems g m))
+        (subst (λ all. Among g.number all) mid.numbers
+        (among-map (λ (x : Filesystem ℕ). x.number) (filter is_plain_one now.filesystems) g m))
 
-    bare : (g : Filesystem ℕ) → Among g now.filesystems → stays g.number ≡ false
-        → is_mounted nat_eq first g.number ≡ false
+    bare : (g : Filesystem ℕ) → Among g now.filesystems → stays_beside stays g ≡ false
+        → (is_mounted nat_eq first g.number ≡ false) × (layer_count now g.number ≡ 0)
     bare g m gone =
-        let from = shown_of g m in
-        let parts = both none_left (nat_eq f g.number) gone in
+        let kinds = or_parts (is_overlay g) (stays g.number) gone in
+        let from = shown_of g (among-filter is_plain_one now.filesystems g m (ap not kinds.0)) in
+        let parts = both none_left (nat_eq f g.number) kinds.1 in
         let same : f ≡ g.number = eqb-true f g.number parts.1 in
         let counts = shown_here (step from.0) (among-map step k.filesystems from.0 from.1)
         (same ∙ from.2 ∙ ap counted (sym (step_is from.0 from.1).0)) in
-        let none : mounts_showing first g.number ≡ 0 = ap (mounts_showing first) (sym same) ∙ sym counts
+        let none : mounts_showing first g.number + layer_count now g.number ≡ 0 = ap counts_of (sym same) ∙ sym counts
         ∙ eqb-true (mounts_shown f stepped) 0 parts.0 in
-        mounted_while_counted first g.number ∙ ap (nat_lt 0) none
+        let unshown : mounts_showing first g.number ≡ 0 = omega (arith, none) in
+        let unlayered : layer_count now g.number ≡ 0 = omega (arith, none) in
+        (mounted_while_counted first g.number ∙ ap (nat_lt 0) unshown, unlayered)
       where
         both : (a b : Bool) → (not a || not b) ≡ false → (a ≡ true) × (b ≡ true)
         both true true e = (refl, refl)
@@ -280,7 +280,7 @@ module _ (value : WorldValue) (whole : IsHeld value) (start : World ℕ) (gained
         both false b e = absurd (true≢false e)
 
     abbrev after : World ℕ
-    after = second now number stays mid.plain dead bare
+    after = world_left now number stays
 
     -- Mounts
 
@@ -367,15 +367,10 @@ module _ (value : WorldValue) (whole : IsHeld value) (start : World ℕ) (gained
     kept_is : kept_left ≡ meant.without_mount number mount k
     kept_is = λ i. record { mounts = without number k.mounts; filesystems = so i }
       where
-        by : (b : Bool) → filter (λ (one : Shown). not b || not (nat_eq f (counted one.count))) stepped
-            ≡ cond b (meant.without_filesystem f stepped) stepped
-        by true = refl
-        by false = filter_all (λ (one : Shown). true) stepped (λ one m. refl)
-
         so : filter (λ (one : Shown). stays (counted one.count)) stepped
             ≡ meant.let_go_filesystem f (meant.released_in f (meant.unpinned_in root k.filesystems))
         so =
-            by none_left
+            sym (let_go_is f stepped)
             ∙ ap (meant.let_go_filesystem f)
             (sym (map_twice (released_if f)
             (λ (one : Shown). record one { inodes = unpinned_if (counted one.count) one.inodes root }) k.filesystems))
@@ -421,7 +416,7 @@ module _ (value : WorldValue) (whole : IsHeld value) (start : World ℕ) (gained
     still_mounted was m stay = by (nat_eq f (counted was.count)) refl
       where
         is : ((step was).count ≡ was.count) × ((step was).inodes ≡ unpinned_if (counted was.count) was.inodes root)
-            × ((step was).mounts ≡ mounts_showing first (counted was.count))
+            × ((step was).mounts ≡ counts_of (counted was.count))
             × (nat_eq f (counted was.count) ≡ false → (step was).mounts ≡ was.mounts)
         is = step_is was m
 
@@ -433,7 +428,7 @@ module _ (value : WorldValue) (whole : IsHeld value) (start : World ℕ) (gained
         by true e =
             let same : f ≡ counted (step was).count = eqb-true f (counted was.count) e ∙ ap counted (sym is.0) in
             ap (λ n. nat_eq n 0)
-            (is.2 ∙ ap (mounts_showing first) (sym (eqb-true f (counted was.count) e))
+            (is.2 ∙ ap counts_of (sym (eqb-true f (counted was.count) e))
             ∙ sym (shown_here (step was) (among-map step k.filesystems was m) same))
             ∙ some none_left (ap (λ b. not none_left || not b) (sym (ap (λ n. nat_eq f n) (ap counted is.0) ∙ e))
             ∙ stay)
@@ -449,7 +444,9 @@ module _ (value : WorldValue) (whole : IsHeld value) (start : World ℕ) (gained
       inodes = is.1 ∙ (λ i. unpinned_if (counted (had.count i)) (had.inodes i) root)
           ∙ sym (folded_append (unpinned_if (counted had.was.count))
           (folded (pinned_if (counted had.was.count)) (inodes_seen had.was) gained) lost (root ∷ []));
-      mounts = is.2 ∙ ap (λ count. mounts_showing first (counted count)) (sym is.0);
+      mounts = is.2 ∙ ap (λ count. counts_of (counted count)) (sym is.0)
+          ∙ ap (λ n. mounts_showing first (counted (step was).count) + n)
+          (sym (layers_alike first after (overlays_left stays now.filesystems) (counted (step was).count)));
       mounted = still_mounted was m stay;
     }
 
@@ -464,9 +461,9 @@ module _ (value : WorldValue) (whole : IsHeld value) (start : World ℕ) (gained
         let root_is : Exchanges [] (root ∷ []) c now first = subst
         (λ (x : Mount ℕ). Exchanges [] ((x.filesystem, x.root) ∷ []) c now first) mount_is
         (Roots.mounts_leave_their_roots now number mid.stand mid.located mount_listed not_used c) in
-        let gone = others_use_nothing first after c mid.plain
-        (second_is_plain now number stays mid.plain dead bare) refl refl
-        (found_unless (λ (g : Filesystem ℕ). stays g.number) now.filesystems c (λ x m e. ap stays e ∙ stay)) in
+        let gone = plain_ones_use_nothing first after c refl refl (overlays_left stays now.filesystems)
+        (found_unless (stays_beside stays) now.filesystems c
+        (λ x m e. or_second (is_overlay x) (stays x.number) (ap stays e ∙ stay))) in
         let all = exchanges_follow world first after (gained ++ []) ((lost ++ rest) ++ (root ∷ [])) [] [] c
         (exchanges_follow world now first gained (lost ++ rest) [] (root ∷ []) c before root_is) gone in
         subst (λ points. Exchanges gained (lost_now ++ (inodes_of_uses world left ++ points)) c world after)
@@ -486,10 +483,11 @@ module _ (value : WorldValue) (whole : IsHeld value) (start : World ℕ) (gained
             let e = times_append test lost (root ∷ []) in
             omega (arith, a, b, c, d, e)
 
-    numbers_are : map (λ (g : Filesystem ℕ). g.number) after.filesystems
+    numbers_are : map (λ (g : Filesystem ℕ). g.number) (filter is_plain_one after.filesystems)
         ≡ map (λ (one : Shown). counted one.count) kept_left.filesystems
     numbers_are =
-        sym (filter-map stays (λ (g : Filesystem ℕ). g.number) now.filesystems (λ g. refl))
+        ap (map (λ (g : Filesystem ℕ). g.number)) (plain_ones_left stays now.filesystems)
+        ∙ sym (filter-map stays (λ (g : Filesystem ℕ). g.number) (filter is_plain_one now.filesystems) (λ g. refl))
         ∙ ap (filter stays)
         (mid.numbers
         ∙ map_alike (λ (one : Shown). counted one.count) (λ (one : Shown). counted (step one).count) k.filesystems
@@ -503,6 +501,7 @@ module _ (value : WorldValue) (whole : IsHeld value) (start : World ℕ) (gained
 
     gone_midway : Midway value start gained goes left after kept_left lost_now
     gone_midway = record {
+      held = mid.held;
       mounts = same_mounts;
       uses = λ e m. mid.uses e (still_there e m).0;
       writers = λ e m. mid.writers e (still_there e m).0;
@@ -519,8 +518,11 @@ module _ (value : WorldValue) (whole : IsHeld value) (start : World ℕ) (gained
       numbers = numbers_are;
       stand = record { one_number = stand_first.one_number; nowhere = stand_first.nowhere; on_attached = stand_first.on_attached };
       located = located_first;
-      plain = second_is_plain now number stays mid.plain dead bare;
-      same = living_alike now number stays mid.plain dead bare ∙ mid.same;
+      keeps = record {
+        overlays = overlays_left stays now.filesystems ∙ mid.keeps.overlays;
+        rise = rising_filtered (stays_beside stays) now.filesystems mid.keeps.rise;
+      };
+      same = living_alike now number stays dead bare ∙ mid.same;
     }
 
     gone_none : UnusedOnly number k → NoneUnused kept_left

@@ -1,7 +1,7 @@
 -- Events that change one mount, which stays where it is attached or gets another mount point: mount(2) with MS_REMOUNT,
 -- with
 -- MS_PRIVATE or MS_UNBINDABLE, and with MS_MOVE.
-use Rattle.std.proofs.Common.{◌≡◌, refl, sym, ap, subst, ◌∙◌, ◌+◌, ℕ, nat_eq, eqb-true, Bool, true, false, true≢false, cond, ◌||◌, ◌&&◌, List, [], ◌∷◌, ◌++◌, map, find, Option, Some, None, option_map, is_some, unwrap_or}
+use Rattle.std.proofs.Common.{◌≡◌, refl, sym, ap, subst, ◌∙◌, ◌+◌, ℕ, nat_eq, eqb-true, Bool, true, false, true≢false, cond, ◌||◌, ◌&&◌, List, [], ◌∷◌, ◌++◌, map, filter, find, Option, Some, None, option_map, is_some, unwrap_or}
 use Rattle.std.specs.Prelude.{option_to_list}
 use Rattle.std.specs.List.{list_any}
 use Rattle.std.proofs.lemmas.Bool.{or_parts}
@@ -12,6 +12,7 @@ use Rattle.vt_spec.specs.Machine.Mounts.{Mount, no_mount}
 use Rattle.vt_spec.specs.Machine.Permits.{Permit}
 use Rattle.vt_spec.specs.Machine.Settled.{filesystem_lives, has_layer_on, is_located, is_mounted, mount_lives, settled, without_dead_filesystems, without_dead_mounts}
 use Rattle.vt_spec.specs.Machine.World.{Filesystem, Task, World, mount_numbered, with_mounts}
+use Rattle.vt_laws_counts.specs.OverlaysStay.{layer_count}
 use Rattle.vt_laws_counts.specs.Using.{AreThere, Exchanges}
 use Rattle.vt_laws_counts.proofs.using.Places.{mount_is_placed}
 use Rattle.vt_fs.specs.FilesystemsValue.{FilesystemEntry, Filesystems, Shown, filesystem_seen, inodes_seen, shown, shown_entry}
@@ -32,7 +33,8 @@ use Rattle.vt_detach.proofs.Grouped.{changed_has}
 use Rattle.vt_detach.proofs.Moving.{exchanged_shown}
 use Rattle.vt_detach.proofs.Remaining.{remade}
 use Rattle.vt_detach.proofs.Shown.{found_entry}
-use Rattle.vt_detach.proofs.Staying.{IsDone, world_is_plain}
+use Rattle.vt_detach.proofs.Overlaid.{is_plain_one, keeps_itself, layers_kept, overlays_counted, plain_ones_are, same_files_keep, still_mounted}
+use Rattle.vt_detach.proofs.Staying.{IsDone}
 use Rattle.vt_spec.proofs.Lists.{map_twice}
 use Rattle.vt_laws_letting_go.specs.TreesOverlays.{in_use_of}
 
@@ -185,10 +187,11 @@ module _ (value : WorldValue) (whole : IsHeld value) (number : ℕ) (change : Mo
         let first = among-from_map shown_entry value.filesystems from.0 from.1 in
         (first.0, first.1, from.2 ∙ ap (exchanged_shown gained lost) first.2)
 
-    same_numbers : map (λ f. f.number) (world_of value).filesystems
+    same_numbers : map (λ f. f.number) (filter is_plain_one (world_of value).filesystems)
         ≡ map (λ (entry : FilesystemEntry). counted entry.count) filesystems
     same_numbers =
-        map_twice (λ (f : Filesystem ℕ). f.number) filesystem_seen value.filesystems
+        ap (map (λ (f : Filesystem ℕ). f.number)) (plain_ones_are value whole.overlays)
+        ∙ map_twice (λ (f : Filesystem ℕ). f.number) filesystem_seen value.filesystems
         ∙ sym (map_twice (λ (one : Shown). counted one.count) shown_entry value.filesystems)
         ∙ sym (map_twice (λ (one : Shown). counted one.count) (exchanged_shown gained lost) (shown value.filesystems))
         ∙ sym (ap (map (λ (one : Shown). counted one.count)) shown_are)
@@ -196,9 +199,13 @@ module _ (value : WorldValue) (whole : IsHeld value) (number : ℕ) (change : Mo
 
     swept : IsSwept value next_of gained lost new
     swept = record {
-      plain = world_is_plain value;
+      midway = same_files_keep value (world_of value) next_of refl (keeps_itself value whole.overlays);
+      mounted = still_mounted value whole (in_use_of next_of) (λ filesystem.
+          ap (λ (world : World ℕ). is_mounted nat_eq world filesystem) living_is ∙ same_mounted filesystem);
+      overlays = refl;
       mounts = ap (λ (world : World ℕ). world.mounts) living_is;
-      numbers = ap (λ (world : World ℕ). map (λ (f : Filesystem ℕ). f.number) world.filesystems) living_is
+      numbers = ap (λ (world : World ℕ). map (λ (f : Filesystem ℕ). f.number)
+          (filter is_plain_one world.filesystems)) living_is
           ∙ same_numbers;
       entries = λ entry m. let from = shown_was entry m in record {
         was = from.0;
@@ -223,8 +230,11 @@ module _ (value : WorldValue) (whole : IsHeld value) (number : ℕ) (change : Mo
       mounts = λ entry m. let from = shown_was entry m in
           ap (λ (one : Shown). one.mounts) from.2
           ∙ (among_from_all (CountsItsMounts (world_of value)) value.filesystems whole.filesystems from.0 from.1).mounts
-          ∙ ap (λ count. mounts_showing (world_of value) (counted count)) (sym (ap (λ (one : Shown). one.count) from.2))
-          ∙ sym (same_showing (counted entry.count));
+          ∙ ap (λ count. mounts_showing (world_of value) (counted count) + layer_count (world_of value) (counted count))
+          (sym (ap (λ (one : Shown). one.count) from.2))
+          ∙ (λ i. sym (same_showing (counted entry.count)) i
+          + sym (layers_kept value new whole.overlays refl (counted entry.count)) i);
+      overlays = overlays_counted value new whole.overlays refl same_showing;
       namespaces = all_from_among (CountsWhatIsInIt (world_of new)) value.namespaces (λ entry m.
           let was = among_from_all (CountsWhatIsInIt (world_of value)) value.namespaces whole.namespaces entry m in
           record { tasks = was.tasks });

@@ -6,13 +6,12 @@ use Rattle.std.proofs.lemmas.Bool.{eqb-false, lt-ltb}
 use Rattle.vt_spec.specs.Lists.{folded, is_among}
 use Rattle.vt_spec.specs.Machine.Mounts.{Location as Place, Mount, detached, no_mount}
 use Rattle.vt_spec.specs.Machine.Settled.{filesystem_lives, is_located, mount_lives, without_dead_filesystems}
-use Rattle.vt_spec.specs.Machine.World.{Filesystem, World, all_locations, is_overlay, mount_at, mount_numbered}
+use Rattle.vt_spec.specs.Machine.World.{World, all_locations, mount_at, mount_numbered}
 use Rattle.vt_spec.specs.Machine.Invariants.{is_nowhere_or_attached}
-use Rattle.vt_laws_counts.specs.Counted.{IsPlain}
+use Rattle.vt_laws_counts.specs.OverlaysStay.{layer_count}
 use Rattle.vt_laws_counts.specs.Using.{Exchanges, is_inode, pinned_if, unpinned_if}
 use Rattle.vt_laws_counts.proofs.going.Gone.{mount_goes_at_zero, mount_takes_its_count}
 use Rattle.vt_laws_counts.proofs.using.MountRoots as Roots
-use Rattle.vt_laws_counts.proofs.using.Places.{others_use_nothing}
 use Rattle.vt_fs.specs.FilesystemsValue.{Shown, inodes_seen}
 use Rattle.vt_laws_letting_go.specs.Counts.{mount_uses, mounts_showing}
 use Rattle.vt_laws_letting_go.specs.Keeping.{LocationsStand}
@@ -20,10 +19,10 @@ use Rattle.vt_laws_letting_go.specs.Leaving.{MountsStand, stands_on_attached}
 use Rattle.vt_laws_letting_go.specs.Mounting.{root_inode}
 use Rattle.vt_laws_letting_go.specs.OneByOne.{Inode, is_mount_used, without_mount}
 use Rattle.vt_laws_letting_go.specs.OneByOne as Looks
-use Rattle.vt_laws_letting_go.proofs.Lists.{Among, all_from_among, all_pass, among-filter, among-from_filter, among-from_map, among-map, among_from_all, among_numbers, fails, filter-map, filter_all, filter_alike, is_among_numbers, or_second, passes, found_in}
+use Rattle.vt_laws_letting_go.proofs.Lists.{Among, all_from_among, all_pass, among-filter, among-from_filter, among-from_map, among-map, among_from_all, among_numbers, fails, filter-map, filter_all, is_among_numbers, or_second, passes, found_in}
 use Rattle.vt_laws_letting_go.proofs.leaving.PlacesLeft.{found_in_filter}
 use Rattle.vt_laws_letting_go.proofs.sweeps.UpperUses.{times_append}
-use Rattle.vt_laws_letting_go.proofs.sweeps.UsesCounted.{located_while_counted, mounted_while_counted}
+use Rattle.vt_laws_letting_go.proofs.sweeps.UsesCounted.{located_while_counted}
 use Rattle.vt_location.specs.Numbers.{counted}
 use Rattle.vt_mount.specs.MountsValue.{MountEntry, entry_numbered, mounts_in, without}
 use Rattle.vt_world.specs.Held.{CountsItsUses}
@@ -31,12 +30,13 @@ use Rattle.vt_detach.specs.Uses as meant
 use Rattle.vt_detach.specs.Uses.{Kept, mounts_shown, released_if}
 use Rattle.vt_world.specs.WorldValue.{WorldValue, world_of}
 use Rattle.vt_detach.proofs.Going.{map_filtered}
-use Rattle.vt_detach.proofs.Keeping.{IsKeptBut, IsShownIn, detached_in, lives_plainly, looked_at, points_lost, points_without}
+use Rattle.vt_detach.proofs.Keeping.{IsKeptBut, IsShownIn, detached_in, looked_at, points_lost, points_without}
 use Rattle.vt_detach.proofs.Moving.{swap_eq}
 use Rattle.vt_detach.proofs.Shown.{found_entry}
-use Rattle.vt_detach.proofs.LostUses.{found_unless, positive, shown_by_rule, folded_append}
+use Rattle.vt_detach.proofs.FilesystemsLeft.{MountGoes, keeps_left, layers_left, let_go_is, living_is, living_left, numbers_left, others_stay, stays_at, world_left}
+use Rattle.vt_detach.proofs.LostUses.{folded_append}
+use Rattle.vt_detach.proofs.Overlaid.{none_to_mount}
 use Rattle.vt_spec.proofs.Lists.{map_alike, map_twice, pair-filter}
-use Rattle.std.proofs.Math.Bool.{or-false, or-true}
 
 -- Mounts that are changed, by their numbers
 
@@ -124,6 +124,7 @@ module _ (old : WorldValue) (number : ℕ) (pending : List ℕ) (gained lost : L
   mount_stays : Looks.let_go_mount world number ≡ world
       → IsKeptBut old pending pending gained lost (looked_at world number) k
   mount_stays stay = subst (λ one. IsKeptBut old pending pending gained lost one k) (sym same) (record {
+    held = is.held;
     mounts = is.mounts;
     uses = is.uses;
     numbers = is.numbers;
@@ -139,7 +140,7 @@ module _ (old : WorldValue) (number : ℕ) (pending : List ℕ) (gained lost : L
         || mount_lives nat_eq world mount) world.mounts mount
         (subst (λ all. Among mount all) (sym (ap (λ (one : World ℕ). one.mounts) stay)) m)).1);
     mounted = is.mounted;
-    plain = is.plain;
+    keeps = is.keeps;
     points = is.points;
     places = is.places;
   })
@@ -229,11 +230,8 @@ module _ (old : WorldValue) (number : ℕ) (pending : List ℕ) (gained lost : L
       abbrev stepped : List Shown
       stepped = map step k.filesystems
 
-      abbrev none_left : Bool
-      none_left = nat_eq (mounts_shown mount.filesystem stepped) 0
-
       abbrev stays_numbered : ℕ → Bool
-      stays_numbered n = not none_left || not (nat_eq mount.filesystem n)
+      stays_numbered = stays_at mount.filesystem stepped
 
       abbrev kept_now : Kept
       kept_now = meant.without_mount number mount k
@@ -245,12 +243,7 @@ module _ (old : WorldValue) (number : ℕ) (pending : List ℕ) (gained lost : L
       shown_are =
           ap (meant.let_go_filesystem mount.filesystem)
           (map_twice (released_if mount.filesystem) unpinned_one k.filesystems)
-          ∙ by none_left
-        where
-          by : (b : Bool) → cond b (meant.without_filesystem mount.filesystem stepped) stepped
-              ≡ filter (λ (one : Shown). not b || not (nat_eq mount.filesystem (counted one.count))) stepped
-          by true = refl
-          by false = sym (filter_all (λ (one : Shown). true) stepped (λ one m. refl))
+          ∙ let_go_is mount.filesystem stepped
 
       takes : (n : ℕ) → mounts_showing world n ≡ mounts_showing mounted n + cond (nat_eq mount.filesystem n) 1 0
       takes n =
@@ -260,17 +253,17 @@ module _ (old : WorldValue) (number : ℕ) (pending : List ℕ) (gained lost : L
 
       step_is : (one : Shown) → Among one k.filesystems
           → ((step one).count ≡ one.count) × ((step one).inodes ≡ unpinned_if (counted one.count) one.inodes root)
-          × ((step one).mounts ≡ mounts_showing mounted (counted one.count))
+          × ((step one).mounts ≡ mounts_showing mounted (counted one.count) + layer_count world (counted one.count))
       step_is one m = by (nat_eq mount.filesystem (counted one.count)) (is.filesystems one m).mounts
           (takes (counted one.count))
         where
-          by : (b : Bool) → one.mounts ≡ mounts_showing world (counted one.count)
+          by : (b : Bool) → one.mounts ≡ mounts_showing world (counted one.count) + layer_count world (counted one.count)
               → mounts_showing world (counted one.count) ≡ mounts_showing mounted (counted one.count) + cond b 1 0
               → ((cond b (record (unpinned_one one) { mounts = one.mounts - 1 }) (unpinned_one one)).count ≡ one.count)
               × ((cond b (record (unpinned_one one) { mounts = one.mounts - 1 }) (unpinned_one one)).inodes
               ≡ unpinned_if (counted one.count) one.inodes root)
               × ((cond b (record (unpinned_one one) { mounts = one.mounts - 1 }) (unpinned_one one)).mounts
-              ≡ mounts_showing mounted (counted one.count))
+              ≡ mounts_showing mounted (counted one.count) + layer_count world (counted one.count))
           by true counts took = (refl, refl, omega (arith, counts, took))
           by false counts took = (refl, refl, omega (arith, counts, took))
 
@@ -282,66 +275,28 @@ module _ (old : WorldValue) (number : ℕ) (pending : List ℕ) (gained lost : L
           let from = among-from_map step k.filesystems new kept_one.0 in
           (from.0, from.1, from.2, kept_one.1)
 
-      lives_is : (f : Filesystem ℕ) → Among f world.filesystems
-          → filesystem_lives nat_eq mounted f ≡ stays_numbered f.number
-      lives_is f m =
-          lives_plainly mounted is.plain f
-          ∙ mounted_while_counted mounted f.number
-          ∙ positive (mounts_showing mounted f.number)
-          ∙ by (nat_eq mount.filesystem f.number) refl
-        where
-          shown_one : (one : Shown) × Among one k.filesystems × (f.number ≡ counted one.count)
-          shown_one = among-from_map (λ (one : Shown). counted one.count) k.filesystems f.number
-              (subst (λ all. Among f.number all) is.numbers
-              (among-map (λ (g : Filesystem ℕ). g.number) world.filesystems f m))
-
-          was_mounted : not (nat_eq (mounts_showing world f.number) 0) ≡ true
-          was_mounted =
-              sym (positive (mounts_showing world f.number)) ∙ sym (mounted_while_counted world f.number)
-              ∙ sym (lives_plainly world is.plain f)
-              ∙ passes (filesystem_lives nat_eq world) world.filesystems is.mounted f m
-
-          by : (b : Bool) → nat_eq mount.filesystem f.number ≡ b
-              → not (nat_eq (mounts_showing mounted f.number) 0) ≡ stays_numbered f.number
-          by true h =
-              let same : mount.filesystem ≡ f.number = eqb-true mount.filesystem f.number h in
-              let counts = shown_by_rule mount.filesystem (mounts_showing mounted) stepped
-              (λ one o. let from = among-from_map step k.filesystems one o in
-              let s = step_is from.0 from.1 in
-              ap (λ (x : Shown). x.mounts) from.2 ∙ s.2
-              ∙ ap (λ count. mounts_showing mounted (counted count)) (sym s.0)
-              ∙ ap (λ (x : Shown). mounts_showing mounted (counted x.count)) (sym from.2))
-              (step shown_one.0) (among-map step k.filesystems shown_one.0 shown_one.1)
-              (same ∙ shown_one.2 ∙ ap counted (sym (step_is shown_one.0 shown_one.1).0)) in
-              ap (λ n. not (nat_eq (mounts_showing mounted n) 0)) (sym same)
-              ∙ ap (λ n. not (nat_eq n 0)) (sym counts)
-              ∙ sym (or-false (not none_left))
-              ∙ ap (λ b. not none_left || not b) (sym h)
-          by false h =
-              let took : mounts_showing world f.number ≡ mounts_showing mounted f.number + 0 =
-              takes f.number ∙ ap (λ b. mounts_showing mounted f.number + cond b 1 0) h in
-              let same : mounts_showing mounted f.number ≡ mounts_showing world f.number = omega (arith, took) in
-              ap (λ n. not (nat_eq n 0)) same ∙ was_mounted
-              ∙ sym (or-true (not none_left)) ∙ ap (λ b. not none_left || not b) (sym h)
-
-      abbrev remaining : World ℕ
-      remaining = record mounted {
-        filesystems = filter
-            (λ (f : Filesystem ℕ). stays_numbered f.number) world.filesystems;
+      goes : MountGoes old world number mount.filesystem stepped
+      goes = record {
+        keeps = is.keeps;
+        living = is.mounted;
+        still = none_to_mount old is.held mounted;
+        takes = takes;
+        counts = λ new m. let from = among-from_map step k.filesystems new m in
+            let s = step_is from.0 from.1 in
+            ap (λ (x : Shown). x.mounts) from.2 ∙ s.2
+            ∙ ap (λ n. mounts_showing mounted n + layer_count world n)
+            (ap counted (sym s.0) ∙ ap (λ (x : Shown). counted x.count) (sym from.2));
+        numbers = is.numbers
+            ∙ map_alike (λ (one : Shown). counted one.count) (λ (one : Shown). counted (step one).count) k.filesystems
+            (λ one m. ap counted (sym (step_is one m).0))
+            ∙ sym (map_twice (λ (one : Shown). counted one.count) step k.filesystems);
       }
 
-      looked_is : looked_at world number ≡ remaining
-      looked_is =
-          ap (without_dead_filesystems nat_eq) dead
-          ∙ ap (λ all. record mounted { filesystems = all })
-          (filter_alike (filesystem_lives nat_eq mounted)
-          (λ (f : Filesystem ℕ). stays_numbered f.number) world.filesystems lives_is)
+      abbrev remaining : World ℕ
+      remaining = world_left world number stays_numbered
 
-      plain_remaining : IsPlain remaining
-      plain_remaining =
-          all_from_among (λ f. is_overlay f ≡ false) remaining.filesystems (λ f m.
-          among_from_all (λ f. is_overlay f ≡ false) world.filesystems is.plain f
-          (among-from_filter (λ (f : Filesystem ℕ). stays_numbered f.number) world.filesystems f m).0)
+      looked_is : looked_at world number ≡ remaining
+      looked_is = ap (without_dead_filesystems nat_eq) dead ∙ living_is old world number mount.filesystem stepped goes
 
       not_located : is_located nat_eq world number ≡ false
       not_located = located_while_counted world number ∙ ap (nat_lt 0) unused
@@ -357,9 +312,7 @@ module _ (old : WorldValue) (number : ℕ) (pending : List ℕ) (gained lost : L
       root_goes n stays =
           let first = subst (λ inode. Exchanges [] (inode ∷ []) n world mounted) root_is
           (Roots.mounts_leave_their_roots world number is.stand is.located mount_listed unused_so n) in
-          let second = others_use_nothing mounted remaining n is.plain plain_remaining refl refl
-          (found_unless (λ (f : Filesystem ℕ). stays_numbered f.number) world.filesystems n
-          (λ x m f. ap stays_numbered f ∙ stays)) in
+          let second = others_stay old world number mount.filesystem stepped goes n stays in
           record {
             same = second.same ∙ first.same;
             uses = λ one. let a = first.uses one in let b = second.uses one in omega (arith, a, b);
@@ -457,11 +410,14 @@ module _ (old : WorldValue) (number : ℕ) (pending : List ℕ) (gained lost : L
                 (root_goes (counted was.was.count)
                 (ap (λ n. stays_numbered (counted n)) (sym (count ∙ was.count)) ∙ from.3)));
             mounts = ap (λ (x : Shown). x.mounts) from.2 ∙ s.2
-                ∙ ap (λ n. mounts_showing mounted (counted n)) (sym count);
+                ∙ ap (λ n. mounts_showing mounted (counted n) + layer_count world (counted n)) (sym count)
+                ∙ ap (λ n. mounts_showing mounted (counted new.count) + n)
+                (sym (layers_left old world number mount.filesystem stepped goes (counted new.count)));
           }
 
       remaining_kept : IsKeptBut old pending pending gained (lost ++ root ∷ []) remaining kept_now
       remaining_kept = record {
+        held = is.held;
         mounts = ap (filter is_other) is.mounts
             ∙ filter-map is_other (detached_in pending) (mounts_in k.mounts)
             (λ x. ap (λ n. not (nat_eq n number)) (pending_number pending x))
@@ -470,15 +426,7 @@ module _ (old : WorldValue) (number : ℕ) (pending : List ℕ) (gained lost : L
             let counts = among_from_all (CountsItsUses world) k.mounts is.uses one
             (among-from_filter (λ (x : MountEntry). not (nat_eq number x.mount.number)) k.mounts one m).0 in
             record { uses = counts.uses; writers = counts.writers });
-        numbers = map_filtered (λ (f : Filesystem ℕ). f.number)
-            (λ (f : Filesystem ℕ). stays_numbered f.number) stays_numbered (λ f. refl) world.filesystems
-            ∙ ap (filter stays_numbered)
-            (is.numbers
-            ∙ map_alike (λ (one : Shown). counted one.count) (λ (one : Shown). counted (step one).count) k.filesystems
-            (λ one m. ap counted (sym (step_is one m).0))
-            ∙ sym (map_twice (λ (one : Shown). counted one.count) step k.filesystems))
-            ∙ sym (map_filtered (λ (one : Shown). counted one.count)
-            (λ (one : Shown). stays_numbered (counted one.count)) stays_numbered (λ one. refl) stepped)
+        numbers = numbers_left old world number mount.filesystem stepped goes
             ∙ sym (ap (map (λ (one : Shown). counted one.count)) shown_are);
         filesystems = shown_now;
         stand = stand_still;
@@ -488,11 +436,8 @@ module _ (old : WorldValue) (number : ℕ) (pending : List ℕ) (gained lost : L
             other (nat_eq x.number number) (is_among nat_eq x.number pending) (mount_lives nat_eq world x)
             (passes (λ x. is_among nat_eq x.number (number ∷ pending)
             || mount_lives nat_eq world x) world.mounts is.in_use x from.0) from.1);
-        mounted = all_pass (filesystem_lives nat_eq remaining) remaining.filesystems (λ f m.
-            let from = among-from_filter (λ (f : Filesystem ℕ). stays_numbered f.number) world.filesystems f m in
-            lives_plainly remaining plain_remaining f ∙ sym (lives_plainly mounted is.plain f) ∙ lives_is f from.0
-            ∙ from.1);
-        plain = plain_remaining;
+        mounted = living_left old world number mount.filesystem stepped goes;
+        keeps = keeps_left old world number mount.filesystem stepped goes;
         points = λ x m point p few.
             is.points x (among-from_filter is_other (mounts_in k.mounts) x
             (subst (λ all. Among x all) mounts_are m)).0 point p few;

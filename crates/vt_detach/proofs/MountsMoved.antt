@@ -17,7 +17,7 @@ use Rattle.vt_spec.specs.Inodes.{node_in}
 use Rattle.vt_spec.specs.Tree.{is_directory_node}
 use Rattle.vt_spec.proofs.Lists as spec
 use Rattle.vt_laws_counts.specs.Using.{AreThere, Exchanges}
-use Rattle.vt_fs.specs.FilesystemsValue.{FilesystemEntry, Filesystems, filesystem_seen, inodes_seen, shown}
+use Rattle.vt_fs.specs.FilesystemsValue.{FilesystemEntry, Filesystems, inodes_seen, shown}
 use Rattle.vt_laws_letting_go.specs.Mounting.{inode_at}
 use Rattle.vt_laws_letting_go.specs.OneByOne.{Inode}
 use Rattle.vt_laws_letting_go.specs.Leaving.{stands_on_attached}
@@ -40,7 +40,7 @@ use Rattle.vt_detach.specs.Events.{Permits}
 use Rattle.vt_world.specs.Held.{IsHeld}
 use Rattle.vt_detach.specs.Uses.{inode_of, pinned_in, unpinned_at, unpinned_in}
 use Rattle.vt_world.specs.WorldValue.{WorldValue, world_of}
-use Rattle.vt_laws_letting_go.proofs.sweeps.OfWorlds.{found_filesystem}
+use Rattle.vt_detach.proofs.Overlaid.{found_plain_one}
 use Rattle.vt_detach.proofs.FileEvents.{permit_fits}
 use Rattle.vt_detach.proofs.LocationsSeen.{seen_where_located}
 use Rattle.vt_detach.proofs.LookLemmas.{turned}
@@ -317,8 +317,7 @@ module _ (value : WorldValue) (whole : IsHeld value) (name : TaskName) (number :
       by true e =
           sym (some_inode ((inodes_seen was).inode (number_of place.node)))
           ∙ ap (λ (f : Filesystem ℕ). is_some (f.files.tree.node (number_of place.node)))
-          (sym (found_filesystem there_world.filesystems whole.in_world.files.one_filesystem (filesystem_seen was)
-          (among-map filesystem_seen value.filesystems was m))
+          (sym (found_plain_one value whole was m)
           ∙ ap (filesystem_numbered nat_eq there_world) (eqb-true _ _ e))
           ∙ (and_parts _ _ place_located).1
 

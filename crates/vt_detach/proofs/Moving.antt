@@ -10,7 +10,7 @@ use Rattle.vt_spec.specs.Inodes.{node_in}
 use Rattle.vt_spec.specs.Inodes as Trees
 use Rattle.vt_laws_counts.specs.Using.{AreThere, Exchanges, exchanged, pinned_if, unpinned_if}
 use Rattle.vt_laws_counts.proofs.using.Places.{locations_are_uses, locations_use_mounts}
-use Rattle.vt_fs.specs.FilesystemsValue.{FilesystemEntry, Shown, filesystem_seen, inodes_seen}
+use Rattle.vt_fs.specs.FilesystemsValue.{FilesystemEntry, Shown, inodes_seen}
 use Rattle.vt_laws_letting_go.specs.Counts.{mount_uses, times}
 use Rattle.vt_laws_letting_go.specs.Leaving.{is_location_among, only_these_are_left}
 use Rattle.vt_laws_letting_go.specs.Mounting.{inode_at}
@@ -23,7 +23,7 @@ pub use Rattle.vt_spec.proofs.Truths.{nat_eq_turned as swap_eq}
 use Rattle.vt_world.specs.Held.{CountsItsUses, IsHeld, writes_of}
 use Rattle.vt_detach.specs.Uses.{Kept, released_use, with_use}
 use Rattle.vt_world.specs.WorldValue.{WorldValue, world_of}
-use Rattle.vt_laws_letting_go.proofs.sweeps.OfWorlds.{found_filesystem}
+use Rattle.vt_detach.proofs.Overlaid.{found_plain_one}
 use Rattle.vt_detach.proofs.Staying.{after}
 use Rattle.vt_spec.proofs.Lists.{map_alike, map_twice}
 
@@ -322,8 +322,7 @@ module _ (value : WorldValue) (whole : IsHeld value) (tasks : Tasks) (more less 
           ≡ true = (and_parts _ _ well).1 in
           sym (some_inode ((inodes_seen was).inode location.node))
           ∙ ap (λ (f : Filesystem ℕ). is_some (f.files.tree.node location.node))
-          (sym (found_filesystem world.filesystems whole.in_world.files.one_filesystem (filesystem_seen was)
-          (among-map filesystem_seen value.filesystems was m))
+          (sym (found_plain_one value whole was m)
           ∙ ap (filesystem_numbered nat_eq world) number)
           ∙ seen
       by location false e well = refl

@@ -1,14 +1,15 @@
 -- Events of tasks after which all mounts are still in use.
-use Rattle.std.proofs.Common.{◌≡◌, refl, sym, ap, subst, ◌∙◌, ℕ, nat_eq, List, map}
+use Rattle.std.proofs.Common.{◌≡◌, refl, sym, ap, subst, ◌∙◌, ◌+◌, ℕ, nat_eq, List, filter, map}
 use Rattle.vt_spec.specs.Language.Calls.{TaskName}
 use Rattle.vt_spec.specs.Lists.{folded}
 use Rattle.vt_spec.specs.Machine.Mounts.{Mount}
 use Rattle.vt_spec.specs.Machine.Permits.{Permit}
-use Rattle.vt_spec.specs.Machine.Settled.{filesystem_lives, without_dead_filesystems, without_dead_mounts}
+use Rattle.vt_spec.specs.Machine.Settled.{filesystem_lives, is_mounted, without_dead_filesystems, without_dead_mounts}
 use Rattle.vt_spec.specs.Machine.World.{Filesystem, Task, World}
 use Rattle.vt_laws_counts.specs.Using.{Exchanges}
 use Rattle.vt_fs.specs.FilesystemsValue.{FilesystemEntry, Filesystems, Shown, filesystem_seen, shown, shown_entry}
-use Rattle.vt_laws_letting_go.specs.Counts.{times}
+use Rattle.vt_laws_counts.specs.OverlaysStay.{layer_count}
+use Rattle.vt_laws_letting_go.specs.Counts.{mounts_showing, times}
 use Rattle.vt_laws_letting_go.specs.OneByOne.{Inode}
 use Rattle.vt_laws_letting_go.proofs.Lists.{Among, all_from_among, among-from_map, among-map, among_from_all, filter_all, passes}
 use Rattle.vt_location.specs.Numbers.{counted}
@@ -22,7 +23,8 @@ use Rattle.vt_detach.proofs.Bridging.{IsSwept}
 use Rattle.vt_detach.proofs.Finishing.{CountsBeside, IsApplied, finished}
 use Rattle.vt_detach.proofs.Grouped.{left_has}
 use Rattle.vt_detach.proofs.Moving.{Moves, Use, entry_counts, exchanged_shown, filesystems_moved, gained_there, held_counts, hold_if, inodes_of_uses, mounts_moved, moved_kept, release_if, released_counts, uses_moved}
-use Rattle.vt_detach.proofs.Staying.{IsDone, after, world_is_plain}
+use Rattle.vt_detach.proofs.Overlaid.{is_plain_one, keeps_itself, layers_kept, overlays_counted, plain_ones_are, same_files_keep, still_mounted}
+use Rattle.vt_detach.proofs.Staying.{IsDone, after}
 use Rattle.vt_spec.proofs.Lists.{map_alike, map_twice}
 use Rattle.vt_laws_letting_go.specs.TreesOverlays.{in_use_of}
 
@@ -77,10 +79,11 @@ module _ (value : WorldValue) (whole : IsHeld value) (tasks : Tasks) (more less 
       let first = among-from_map shown_entry value.filesystems from.0 from.1 in
       (first.0, first.1, from.2 ∙ ap (exchanged_shown gained lost) first.2)
 
-  pub same_numbers : map (λ f. f.number) (world_of value).filesystems
+  pub same_numbers : map (λ f. f.number) (filter is_plain_one (world_of value).filesystems)
       ≡ map (λ (entry : FilesystemEntry). counted entry.count) filesystems
   same_numbers =
-      map_twice (λ (f : Filesystem ℕ). f.number) filesystem_seen value.filesystems
+      ap (map (λ (f : Filesystem ℕ). f.number)) (plain_ones_are value whole.overlays)
+      ∙ map_twice (λ (f : Filesystem ℕ). f.number) filesystem_seen value.filesystems
       ∙ sym (map_twice (λ (one : Shown). counted one.count) shown_entry value.filesystems)
       ∙ sym (map_twice (λ (one : Shown). counted one.count) (exchanged_shown gained lost) (shown value.filesystems))
       ∙ sym (ap (map (λ (one : Shown). counted one.count)) shown_are)
@@ -98,9 +101,13 @@ module _ (value : WorldValue) (whole : IsHeld value) (tasks : Tasks) (more less 
 
     pub remains_swept : IsSwept value next gained lost (remade value mounts filesystems tasks)
     remains_swept = record {
-      plain = world_is_plain value;
+      midway = same_files_keep value (world_of value) next refl (keeps_itself value whole.overlays);
+      mounted = still_mounted value whole (in_use_of next) (λ number.
+          ap (λ (world : World ℕ). is_mounted nat_eq world number) living_is);
+      overlays = refl;
       mounts = ap (λ (world : World ℕ). world.mounts) living_is ∙ sym same_mounts;
-      numbers = ap (λ (world : World ℕ). map (λ (f : Filesystem ℕ). f.number) world.filesystems) living_is
+      numbers = ap (λ (world : World ℕ). map (λ (f : Filesystem ℕ). f.number)
+          (filter is_plain_one world.filesystems)) living_is
           ∙ same_numbers;
       entries = λ entry m. let from = shown_was entry m in record {
         was = from.0;
@@ -129,7 +136,12 @@ module _ (value : WorldValue) (whole : IsHeld value) (tasks : Tasks) (more less 
           ap (λ (one : Shown). one.mounts) from.2
           ∙ (among_from_all (CountsItsMounts (world_of value)) value.filesystems whole.filesystems from.0 from.1).mounts
           ∙ (λ i. times (λ (mount : Mount ℕ). nat_eq
-          (counted (sym (ap (λ (one : Shown). one.count) from.2) i)) mount.filesystem) (sym same_mounts i));
+          (counted (sym (ap (λ (one : Shown). one.count) from.2) i)) mount.filesystem) (sym same_mounts i)
+          + layer_count (world_of value) (counted (sym (ap (λ (one : Shown). one.count) from.2) i)))
+          ∙ ap (λ n. mounts_showing (world_of (remade value mounts filesystems tasks)) (counted entry.count) + n)
+          (sym (layers_kept value (remade value mounts filesystems tasks) whole.overlays refl (counted entry.count)));
+      overlays = overlays_counted value (remade value mounts filesystems tasks) whole.overlays refl (λ number.
+          ap (times (λ (mount : Mount ℕ). nat_eq number mount.filesystem)) same_mounts);
       namespaces = all_from_among (CountsWhatIsInIt (world_of (remade value mounts filesystems tasks))) value.namespaces
           (λ entry m.
           let was = among_from_all (CountsWhatIsInIt (world_of value)) value.namespaces whole.namespaces entry m in

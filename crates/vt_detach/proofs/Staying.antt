@@ -23,21 +23,21 @@ use Rattle.vt_location.specs.Numbers.{counted}
 use Rattle.vt_laws_runs.proofs.answered.AlikeWorlds.{sameness_is_an_equivalence}
 use Rattle.vt_tasks.specs.Counts.{one_if}
 use Rattle.vt_laws_worlds.proofs.RaisedInUse.{worlds_are_in_use}
-use Rattle.vt_laws_letting_go.proofs.sweeps.OfWorlds.{mounts_of_worlds_stand, worlds_have_trees}
-use Rattle.vt_laws_letting_go.proofs.leaving.PlacesLeft.{staying_keeps_all}
+use Rattle.vt_laws_letting_go.proofs.sweeps.OfWorlds.{mounts_of_worlds_stand, worlds_are_settled, worlds_have_trees}
+use Rattle.vt_laws_letting_go.proofs.leaving.LeftWithOverlays.{staying_keeps_overlays}
 use Rattle.vt_laws_counts.proofs.using.Swept.{plain_of}
 use Rattle.vt_laws_permits.specs.Left.{IsGiven}
 use Rattle.vt_laws_permits.specs.Named.{permit_named}
 use Rattle.vt_laws_permits.proofs.named.PermitsKeepTo.{permits_keep_to_numbers}
-use Rattle.vt_laws_permits.proofs.left.PermitsLeave.{given_permits_leave_worlds}
+use Rattle.vt_laws_overlays_stay.proofs.left.Given.{given_permits_give_no_upper}
 use Rattle.vt_laws_runs.specs.Handed.{is_counted_before}
 use Rattle.vt_tasks.specs.TasksValue.{Tasks, changed_by, changed_called, replaced}
-use Rattle.vt_laws_worlds.specs.Worlds.Kept.{IsPlain}
 use Rattle.vt_detach.specs.Events.{Becomes, Permits, credentials_called, left_by, supply_of}
 use Rattle.vt_world.specs.Held.{CountsItsMounts, CountsItsUses, CountsWhatIsInIt, IsHeld, writes_of, writes_of_task, writes_on}
 use Rattle.vt_world.specs.WorldValue.{WorldValue, world_of}
 use Rattle.vt_detach.proofs.Splits.{locations_stay, replaced_split, times_replaced, writes_replaced}
-use Rattle.vt_detach.proofs.FilesSeen.{files_are_plain}
+pub use Rattle.vt_detach.proofs.Overlaid.{world_is_plain}
+use Rattle.vt_detach.proofs.Overlaid.{overlays_counted}
 use Rattle.vt_detach.proofs.Grouped.{same_has}
 
 -- the world with other tasks
@@ -46,17 +46,13 @@ after value tasks = record value { tasks = tasks }
 
 -- The world of the code
 
--- no filesystem of code's world is an overlay
-pub world_is_plain : (value : WorldValue) → IsPlain (world_of value)
-world_is_plain value = files_are_plain value.filesystems
-
--- a world that code has is settled
-pub held_is_settled : (value : WorldValue) → IsWorld nat_eq (world_of value) → IsSettledPlain (world_of value)
-held_is_settled value is = record {
-  in_use = worlds_are_in_use (world_of value) is;
-  plain = plain_of (world_of value) (world_is_plain value);
-  trees = worlds_have_trees (world_of value) is;
-  mounts = mounts_of_worlds_stand (world_of value) is;
+-- a world that code has is settled; nothing makes an overlay yet
+pub held_is_settled : (value : WorldValue) → IsHeld value → IsSettledPlain (world_of value)
+held_is_settled value held = record {
+  in_use = worlds_are_in_use (world_of value) held.in_world;
+  plain = plain_of (world_of value) (world_is_plain value held);
+  trees = worlds_have_trees (world_of value) held.in_world;
+  mounts = mounts_of_worlds_stand (world_of value) held.in_world;
 }
 
 -- Where all locations are as they were, all counts are.
@@ -109,6 +105,15 @@ module _ (value : WorldValue) (tasks : Tasks)
           };
         });
     own_inodes = held.own_inodes;
+    overlays = record {
+      merged = held.overlays.merged;
+      read_only = held.overlays.read_only;
+      named = held.overlays.named;
+      overlays_rise = held.overlays.overlays_rise;
+      all_rise = held.overlays.all_rise;
+      mounts = overlays_counted value (after value tasks) held.overlays refl (λ number. refl);
+      none_yet = held.overlays.none_yet;
+    };
     namespaces = all_from_among (CountsWhatIsInIt (world_of (after value tasks))) value.namespaces (λ entry m.
         let was = among_from_all (CountsWhatIsInIt
         (world_of value)) value.namespaces held.namespaces entry m in record {
@@ -155,7 +160,7 @@ module _ (value : WorldValue) (name : TaskName) (permit : Permit ℕ) (task new 
       → settled nat_eq (apply nat_eq fresh (world_of value) task permit).world ≡ world_of (after value tasks_after)
   stayed_exactly fresh =
       ap (settled nat_eq) (stays.applied fresh)
-      ∙ staying_keeps_all (world_of value) tasks_after (held_is_settled value held.in_world)
+      ∙ staying_keeps_overlays (world_of value) tasks_after (worlds_are_settled (world_of value) held.in_world)
       (none_left value tasks_after places_stay)
 
   -- and code's world but for change numbers
@@ -179,8 +184,8 @@ module _ (value : WorldValue) (name : TaskName) (permit : Permit ℕ) (task new 
       (λ number. one_if (nat_eq namespace number)) stays.same_namespace in
       omega (arith, moved, own))
       (subst (IsWorld nat_eq) (stayed_exactly (supply_of value permit))
-      (given_permits_leave_worlds (world_of value) (supply_of value permit) task permit held.in_world
-      (world_is_plain value) stays.given).0)
+      (given_permits_give_no_upper (world_of value) (supply_of value permit) task permit held.in_world
+      held.overlays.read_only stays.given).0)
       (subst (KeepsTo (is_counted_before value.next)) (stayed_exactly (λ k. 0))
       (permits_keep_to_numbers (is_counted_before value.next) (λ k. 0)
       (world_of value) task permit stays.given.called held.given (λ k. refl) stays.named))

@@ -1,26 +1,29 @@
 -- Events after which mounts have the types of other groups: they are done if they are but for the types.
-use Rattle.std.proofs.Common.{◌≡◌, sym, ap, subst, ◌∙◌, ℕ, nat_eq, false, List, map, is_some}
+use Rattle.std.proofs.Common.{◌≡◌, refl, sym, ap, subst, ◌∙◌, ◌+◌, ℕ, nat_eq, true, false, List, filter, map, is_some}
 use Rattle.vt_spec.specs.Language.Calls.{TaskName}
 use Rattle.vt_spec.specs.Machine.Mounts.{Mount}
 use Rattle.vt_spec.specs.Machine.Mounts.Propagation.{Private}
 use Rattle.vt_spec.specs.Machine.Permits.{Permit}
 use Rattle.vt_spec.specs.Machine.Receives.{regrouped}
+use Rattle.vt_spec.specs.Machine.Settled.{is_mounted}
 use Rattle.vt_spec.specs.Machine.World.{Filesystem, Task, World}
+use Rattle.vt_laws_counts.specs.OverlaysStay.{layer_count}
 use Rattle.vt_laws_counts.specs.Using.{Exchanges}
 use Rattle.vt_group.specs.Grouping.{Grouping, Has}
 use Rattle.vt_group.specs.Laws.{typed_by}
-use Rattle.vt_laws_letting_go.specs.Counts.{times}
+use Rattle.vt_laws_letting_go.specs.Counts.{mounts_showing, times}
 use Rattle.vt_laws_letting_go.specs.OneByOne.{Inode}
 use Rattle.vt_laws_letting_go.proofs.Lists.{Among, all_from_among, among-from_map, among_from_all}
 use Rattle.vt_location.specs.Numbers.{counted}
 use Rattle.vt_mount.specs.MountsValue.{MountEntry, mounts_in}
-use Rattle.vt_world.specs.Held.{CountsItsUses, CountsWhatIsInIt, IsHeld}
+use Rattle.vt_world.specs.Held.{CountsItsUses, CountsWhatIsInIt, IsHeld, IsMountedSoOften}
 use Rattle.vt_retype.specs.Retyping.{typed_entry}
-use Rattle.vt_world.specs.WorldValue.{WorldValue, world_of}
+use Rattle.vt_world.specs.WorldValue.{WorldValue, overlays_seen, world_of}
 use Rattle.vt_detach.proofs.Bridging.{IsSwept}
 use Rattle.vt_detach.proofs.Finishing.{CountsBeside, IsApplied, finished_as}
+use Rattle.vt_detach.proofs.Overlaid.{is_plain_one, same_files_keep}
 use Rattle.vt_detach.proofs.Staying.{IsDone}
-use Rattle.vt_detach.proofs.TypedWorlds.{exchanges_typed, living_typed, mounts_showing_typed, settled_typed, settled_typed_has, typed_world}
+use Rattle.vt_detach.proofs.TypedWorlds.{exchanges_typed, living_typed, mounted_still, mounts_showing_typed, settled_typed, settled_typed_has, typed_world}
 use Rattle.vt_spec.proofs.Lists.{map_twice}
 use Rattle.vt_laws_letting_go.specs.TreesOverlays.{in_use_of}
 
@@ -37,10 +40,17 @@ module _ (groups : Grouping) (new : WorldValue) where
   pub swept_typed : (old : WorldValue) (start : World ℕ) (gained lost : List Inode) → IsSwept old start gained lost new
       → IsSwept old (typed_world groups start) gained lost (typed_value groups new)
   swept_typed old start gained lost swept = record {
-    plain = swept.plain;
+    midway = same_files_keep old start (typed_world groups start) refl swept.midway;
+    mounted = all_from_among
+        (λ (overlay : Filesystem ℕ). is_mounted nat_eq (in_use_of (typed_world groups start)) overlay.number ≡ true)
+        (overlays_seen old.overlays) (λ f m.
+        mounted_still groups start f.number
+        ∙ among_from_all (λ (overlay : Filesystem ℕ). is_mounted nat_eq (in_use_of start) overlay.number ≡ true)
+        (overlays_seen old.overlays) swept.mounted f m);
+    overlays = swept.overlays;
     mounts = ap (λ (world : World ℕ). world.mounts) (living_typed groups start)
         ∙ ap (map (typed_by groups)) swept.mounts ∙ sym mounts_typed;
-    numbers = ap (λ (world : World ℕ). map (λ (f : Filesystem ℕ). f.number) world.filesystems)
+    numbers = ap (λ (world : World ℕ). map (λ (f : Filesystem ℕ). f.number) (filter is_plain_one world.filesystems))
         (living_typed groups start) ∙ swept.numbers;
     entries = λ entry m. let from = swept.entries entry m in record {
       was = from.was;
@@ -57,6 +67,12 @@ module _ (groups : Grouping) (new : WorldValue) where
     tasks = swept.tasks;
   }
 
+  showing_typed : (number : ℕ)
+      → mounts_showing (world_of (typed_value groups new)) number ≡ mounts_showing (world_of new) number
+  showing_typed number =
+      ap (times (λ (mount : Mount ℕ). nat_eq number mount.filesystem)) mounts_typed
+      ∙ mounts_showing_typed groups (world_of new) number
+
   pub counts_typed : CountsBeside new → CountsBeside (typed_value groups new)
   counts_typed counts = record {
     uses = all_from_among (CountsItsUses (world_of (typed_value groups new))) (map (typed_entry groups) new.mounts)
@@ -66,8 +82,11 @@ module _ (groups : Grouping) (new : WorldValue) where
         subst (CountsItsUses (world_of (typed_value groups new))) (sym from.2)
         (record { uses = was.uses; writers = was.writers }));
     mounts = λ entry m. counts.mounts entry m
-        ∙ sym (mounts_showing_typed groups (world_of new) (counted entry.count))
-        ∙ ap (times (λ (mount : Mount ℕ). nat_eq (counted entry.count) mount.filesystem)) (sym mounts_typed);
+        ∙ ap (λ showing. showing + layer_count (world_of new) (counted entry.count))
+        (sym (showing_typed (counted entry.count)));
+    overlays = all_from_among (IsMountedSoOften (world_of (typed_value groups new))) new.overlays (λ entry m.
+        among_from_all (IsMountedSoOften (world_of new)) new.overlays counts.overlays entry m
+        ∙ sym (showing_typed entry.number));
     namespaces = all_from_among (CountsWhatIsInIt (world_of (typed_value groups new))) new.namespaces (λ entry m.
         let was = among_from_all (CountsWhatIsInIt (world_of new)) new.namespaces counts.namespaces entry m in
         record { tasks = was.tasks });

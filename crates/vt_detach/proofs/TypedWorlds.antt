@@ -40,7 +40,7 @@ module _ (groups : Grouping) where
       filter-map (mount_lives nat_eq (typed_world world)) {q = mount_lives nat_eq world} (typed_by groups) world.mounts
       (λ mount. refl)
 
-  mounted_still : (world : World ℕ) (number : ℕ)
+  pub mounted_still : (world : World ℕ) (number : ℕ)
       → is_mounted nat_eq (without_dead_mounts nat_eq (typed_world world)) number
       ≡ is_mounted nat_eq (without_dead_mounts nat_eq world) number
   mounted_still world number =

@@ -1,7 +1,7 @@
 -- Mounts that get other types with their groups, and stay where they are: mount(2) with MS_SHARED, MS_SLAVE, MS_PRIVATE
 -- and
 -- MS_UNBINDABLE, and MS_REC. Whatever groups there are, the code's world is the one that the policy leaves.
-use Rattle.std.proofs.Common.{◌≡◌, refl, sym, ap, subst, ◌∙◌, ℕ, nat_eq, Bool, true, false, cond, List, [], ◌∷◌, ◌++◌, map, filter, flat_map, Option, None}
+use Rattle.std.proofs.Common.{◌≡◌, refl, sym, ap, subst, ◌∙◌, ◌+◌, ℕ, nat_eq, Bool, true, false, cond, List, [], ◌∷◌, ◌++◌, map, filter, flat_map, Option, None}
 use Rattle.std.specs.Prelude.{filter_map}
 use Rattle.std.specs.List.{cons_option, list_any}
 use Rattle.vt_spec.specs.Language.Calls.{TaskName, TypeWord}
@@ -16,6 +16,7 @@ use Rattle.vt_spec.specs.Machine.World.{Filesystem, World, all_locations}
 use Rattle.vt_fs.specs.FilesystemsValue.{filesystem_seen}
 use Rattle.vt_group.specs.Grouping.{Grouping, Has, are_rising, master_in, peers_of}
 use Rattle.vt_laws_rules.specs.Numbers.{KeepsTo}
+use Rattle.vt_laws_counts.specs.OverlaysStay.{layer_count}
 use Rattle.vt_laws_letting_go.specs.Counts.{inode_uses, mounts_showing, times}
 use Rattle.vt_laws_letting_go.specs.Detaching.{with_changed}
 use Rattle.vt_laws_letting_go.specs.InUse.{GroupsInUse}
@@ -25,14 +26,15 @@ use Rattle.vt_laws_letting_go.proofs.leaving.UsesKept.{types_keep_all}
 use Rattle.vt_location.specs.Numbers.{counted}
 use Rattle.vt_mount.specs.MountsValue.{MountEntry, mounts_in}
 use Rattle.vt_retype.specs.Retyping.{retyped as retyped_entry}
-use Rattle.vt_laws_permits.proofs.left.PermitsLeave.{given_permits_leave_worlds}
+use Rattle.vt_laws_overlays_stay.proofs.left.Given.{given_permits_give_no_upper}
 use Rattle.vt_laws_runs.specs.Handed.{counts_from, is_counted_before}
 use Rattle.vt_laws_worlds.proofs.RaisedInUse.{worlds_are_in_use}
 use Rattle.vt_detach.specs.Events.{Permits, left_by, supply_of}
 use Rattle.vt_world.specs.Held.{CountsItsMounts, CountsItsUses, CountsWhatIsInIt, IsHeld}
 use Rattle.vt_world.specs.WorldValue.{WorldValue, world_of}
 use Rattle.vt_detach.proofs.MountsChanged.{times_map}
-use Rattle.vt_detach.proofs.Staying.{IsDone, becomes_so, world_is_plain}
+use Rattle.vt_detach.proofs.Overlaid.{overlays_counted}
+use Rattle.vt_detach.proofs.Staying.{IsDone, becomes_so}
 use Rattle.vt_laws_letting_go.proofs.SweptBetween.{settled_without_groups}
 use Rattle.vt_laws_runs.proofs.answered.AlikeWorlds.{sameness_is_an_equivalence}
 use Rattle.vt_spec.proofs.Lists.{map_twice}
@@ -171,7 +173,9 @@ module _ (value : WorldValue) (whole : IsHeld value) (group : ℕ → ℕ) (word
     filesystems = all_from_among (CountsItsMounts (world_of (retyped_value next))) value.filesystems (λ entry m.
         let was = among_from_all (CountsItsMounts (world_of value)) value.filesystems whole.filesystems entry m in
         subst (λ (world : World ℕ). CountsItsMounts world entry) (now_is next) (record {
-          mounts = was.mounts ∙ sym (same_showing (world_of value) kind (master_in groups) (counted entry.count));
+          mounts = was.mounts
+              ∙ ap (λ showing. showing + layer_count (world_of value) (counted entry.count))
+              (sym (same_showing (world_of value) kind (master_in groups) (counted entry.count)));
           inodes = record {
             root = was.inodes.root;
             node = was.inodes.node;
@@ -182,6 +186,17 @@ module _ (value : WorldValue) (whole : IsHeld value) (group : ℕ → ℕ) (word
           };
         }));
     own_inodes = whole.own_inodes;
+    overlays = record {
+      merged = whole.overlays.merged;
+      read_only = whole.overlays.read_only;
+      named = whole.overlays.named;
+      overlays_rise = whole.overlays.overlays_rise;
+      all_rise = whole.overlays.all_rise;
+      mounts = overlays_counted value (retyped_value next) whole.overlays refl (λ number.
+          ap (λ (world : World ℕ). mounts_showing world number) (sym (now_is next))
+          ∙ same_showing (world_of value) kind (master_in groups) number);
+      none_yet = whole.overlays.none_yet;
+    };
     namespaces = all_from_among (CountsWhatIsInIt (world_of (retyped_value next))) value.namespaces (λ entry m.
         let was = among_from_all (CountsWhatIsInIt (world_of value)) value.namespaces whole.namespaces entry m in
         record { tasks = was.tasks });
@@ -212,8 +227,8 @@ module _ (value : WorldValue) (whole : IsHeld value) (name : TaskName) (number :
     types_are_set next given = record {
       held = types_held value whole group word named kind groups mounts has next
           (subst (IsWorld nat_eq) settles
-          (given_permits_leave_worlds (world_of value) (supply_of value (ToSetType number word recursive)) permits.task
-          (ToSetType number word recursive) whole.in_world (world_is_plain value) permits.given).0)
+          (given_permits_give_no_upper (world_of value) (supply_of value (ToSetType number word recursive)) permits.task
+          (ToSetType number word recursive) whole.in_world whole.overlays.read_only permits.given).0)
           given;
       becomes = becomes_so value name (ToSetType number word recursive)
           (retyped_value value whole group word named kind groups mounts has next) permits.task permits.called

@@ -13,6 +13,7 @@ use crate::asked::{PathAsked, paths_of};
 use crate::changes::{Sides, changes};
 use crate::holders::{Look, holders};
 use crate::known::{Known, known_mounts};
+use crate::later::{Refused, later_rules, names_of, words_of};
 use crate::names;
 use crate::opened::openings_of;
 use crate::report::Format;
@@ -86,12 +87,13 @@ fn push_line(text: &mut String, what: &str, words: &str) -> Result<(), AllocErro
     text.push('\n')
 }
 
-// The line, its answer, and the rule that refuses it, as text.
+// The line, its answer, the rule that refuses it, and the later ones, as text.
 fn head_text(
     asked: Asked<'_>,
     line: &str,
     answer: &str,
     rule: Option<Rule>,
+    later: &[Rule],
 ) -> Result<String, AllocError> {
     let number = asked.line.number;
     let mut text = format!(in asked.alloc; "LINE {number}: {line}\n")?;
@@ -101,15 +103,23 @@ fn head_text(
         push_line(&mut text, "  rule         ", page.meaning)?;
         push_line(&mut text, "  manual       ", page.manual)?;
     }
+    if !later.is_empty() {
+        push_line(
+            &mut text,
+            "  also         ",
+            words_of(asked.alloc, later)?.as_str(),
+        )?;
+    }
     Ok(text)
 }
 
-// The line, its answer, and the rule that refuses it, as an object.
+// The line, its answer, the rule that refuses it, and the later ones, as an object.
 fn head_object(
     asked: Asked<'_>,
     line: &str,
     answer: &str,
     rule: Option<Rule>,
+    later: &[Rule],
 ) -> Result<String, AllocError> {
     let alloc = asked.alloc;
     let mut members = Members::new(alloc);
@@ -123,14 +133,19 @@ fn head_object(
             put_text(alloc, &mut members, "rule", rule.name())?;
             put_text(alloc, &mut members, "meaning", page.meaning)?;
             put_text(alloc, &mut members, "manual", page.manual)?;
+            put(alloc, &mut members, "also", names_of(alloc, later)?)?;
         }
         None => put(alloc, &mut members, "rule", Value::Null)?,
     }
     line_of(alloc, members)
 }
 
-// The line, its answer, and the rule that refuses it.
-fn head(asked: Asked<'_>, outcome: &Result<Answer, Deny>) -> Result<String, AllocError> {
+// The line, its answer, the rule that refuses it, and the later ones.
+fn head(
+    asked: Asked<'_>,
+    outcome: &Result<Answer, Deny>,
+    later: &[Rule],
+) -> Result<String, AllocError> {
     let line = shown(asked.alloc, asked.line.text)?;
     let answer = answer_text(asked, outcome)?;
     let rule = match outcome {
@@ -138,8 +153,8 @@ fn head(asked: Asked<'_>, outcome: &Result<Answer, Deny>) -> Result<String, Allo
         Err(deny) => Some(deny.rule),
     };
     match asked.format {
-        Format::Text => head_text(asked, line.as_str(), answer.as_str(), rule),
-        Format::Json => head_object(asked, line.as_str(), answer.as_str(), rule),
+        Format::Text => head_text(asked, line.as_str(), answer.as_str(), rule, later),
+        Format::Json => head_object(asked, line.as_str(), answer.as_str(), rule, later),
     }
 }
 
@@ -314,6 +329,26 @@ fn push_changes(
     changes(asked.alloc, sides)?.write(asked.format, text)
 }
 
+// The later rules that a call would fail too, if it is refused.
+fn later_of(
+    asked: Asked<'_>,
+    world: &World,
+    name: &TaskName,
+    outcome: &Result<Answer, Deny>,
+) -> Result<Vec<Rule>, AllocError> {
+    let refused = Refused {
+        version: asked.version,
+        alloc: asked.alloc,
+        world,
+        name,
+        line: asked.line.text,
+    };
+    match outcome {
+        Ok(_) => Ok(Vec::new(asked.alloc)),
+        Err(deny) => later_rules(refused, deny.rule),
+    }
+}
+
 // A call explained, and made.
 fn explain_call(
     asked: Asked<'_>,
@@ -328,7 +363,8 @@ fn explain_call(
     let before = told_before(asked, kernel.world(), name, &call)?;
     let kind = call.kind();
     let outcome = kernel.call(name, call);
-    let mut text = head(asked, &outcome)?;
+    let later = later_of(asked, kernel.world(), name, &outcome)?;
+    let mut text = head(asked, &outcome, later.as_slice())?;
     text.push_str(before.text.as_str())?;
     match &outcome {
         Ok(_) => push_changes(asked, kernel.world(), kind, &before, &mut text)?,
@@ -363,7 +399,7 @@ pub fn explain(
     match Line::parse_as(version, alloc, line.text) {
         Ok(Line::Silent) => Ok(String::new(alloc)),
         Ok(Line::Call(name, call)) => explain_call(asked, kernel, &name, call),
-        Ok(Line::Ask(directive)) => head(asked, &kernel.direct(directive)),
-        Err(deny) => head(asked, &Err(deny)),
+        Ok(Line::Ask(directive)) => head(asked, &kernel.direct(directive), &[]),
+        Err(deny) => head(asked, &Err(deny), &[]),
     }
 }

@@ -7,6 +7,7 @@ mod changes;
 mod explaining;
 mod holders;
 mod known;
+mod later;
 mod lines;
 mod names;
 mod opened;

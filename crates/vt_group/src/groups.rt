@@ -76,13 +76,6 @@ impl Groups {
         }
     }
 
-    // A theorem, which does nothing: each mount has one type.
-    fn are_ordered(&self)
-        ensures { is_ordered self.now ≡ true }
-    {
-        let _ = &self.mounts;
-    }
-
     /// The propagation type of a mount that is in a group or a slave of one. Any other is private or unbindable.
     pub fn propagation_of(&self, mount: MountId) -> Option<Propagation>
         ensures { type_or_private result ≡ propagation_in self.now (mount_number mount) }
@@ -101,7 +94,6 @@ impl Groups {
     pub fn ends_with(&self, mount: MountId) -> Option<GroupId>
         ensures { option_map group_number result ≡ lone_group self.now (mount_number mount) }
     {
-        self.are_ordered();
         let group = own_group(self.propagation_of(mount)?)?;
         for other in self.members(group) {
             if self.is_other_member(*other, mount, group) {
@@ -121,8 +113,10 @@ impl Groups {
 
     // Mounts among which each member of a group is.
     fn members(&self, group: GroupId) -> &[MountId]
-        ensures { (mount : ℕ) → is_member_of (group_number group) self.now mount ≡ true
+        ensures members { (mount : ℕ) → is_member_of (group_number group) self.now mount ≡ true
             → is_among nat_eq mount (map mount_number result.now) ≡ true }
+        // each mount has one type
+        ensures order { is_ordered self.now ≡ true }
     {
         self.index.members(group)
     }
@@ -296,7 +290,6 @@ impl Groups {
         ensures types { (other : ℕ) → propagation_in self.new other
             ≡ type_once_slave self.old (mount_number mount) other }
     {
-        self.are_ordered();
         let Some(kind) = self.propagation_of(mount) else {
             return;
         };
@@ -311,7 +304,7 @@ impl Groups {
         requires { propagation_in self.old (mount_number mount) ≡ SharedIn (group_number group) }
         ensures new { self.new ≡ retyped (mount_number mount) (SlaveOf (group_number group)) self.old }
         ensures types { (other : ℕ) → propagation_in self.new other
-            ≡ type_once_retyped self.old (mount_number mount) (SlaveOf (group_number group)) other }
+            ≡ type_once_slave self.old (mount_number mount) other }
     {
         let member = Propagation::Shared(group);
         let slave = Propagation::Slave(group);
@@ -534,7 +527,6 @@ impl Groups {
     fn has_members(&self, group: GroupId) -> bool
         ensures { result ≡ has_peers (group_number group) self.now }
     {
-        self.are_ordered();
         for mount in self.members(group) {
             if self.is_member(*mount, group) {
                 return true;

@@ -11,23 +11,6 @@ use Rattle.vt_laws_members_changes.specs.Changes.{EndsAlike, IsCallOfTheirs}
 use Rattle.vt_laws_containers.specs.Footholds.{GivesNoFoothold}
 use Rattle.vt_laws_containers.specs.Scripts.{Along, EachEndsAlike, IsSealedOffAt, KeepsOthersOut, Stand, StaysSealed, asked, own_answers}
 
--- The calls of which it is proved that they give others no foothold: all but these.
-abbrev pub keeps_others_out : Call → Bool
-keeps_others_out (MountPlain path flags) = false
-keeps_others_out (MountOverlay path words flags) = false
-keeps_others_out (Bind source path recursive) = false
-keeps_others_out (MoveMount source path) = false
-keeps_others_out (SetType path word recursive) = false
-keeps_others_out Unshare = false
-keeps_others_out call = true
-
--- Granted or refused, each of them gives others none.
-abbrev pub CallsGiveNoFoothold : Type 0
-CallsGiveNoFoothold =
-    (world : World ℕ) (names : List TaskName) (name : TaskName) (call : Call) → IsCallOfTheirs world names name call
-    → names_few_groups call ≡ true → (fresh : Fresh ℕ) → Serves nat_eq world fresh → keeps_others_out call ≡ true
-    → GivesNoFoothold world names name call fresh
-
 -- in each world in which a call is one of theirs, it ends alike and gives others no foothold
 abbrev pub AlwaysEndsAlike : Call → Type 0
 AlwaysEndsAlike call =
@@ -46,24 +29,6 @@ abbrev pub RunsEndAlike : Type 0
 RunsEndAlike =
     (others : Bool) (at : Stand) (grammar : Grammar) (lines : List (List ℕ))
     → TheirCallsAlwaysEndAlike others at grammar lines → EachEndsAlike others at (map (asked grammar) lines)
-
--- Each call but those few does both.
-abbrev pub TheseAlwaysEndAlike : Type 0
-TheseAlwaysEndAlike = (call : Call) → keeps_others_out call ≡ true → AlwaysEndsAlike call
-
--- each call of theirs that a run makes is one of these
-abbrev pub TheirCallsAreOfThese : (others : Bool) → Stand → Grammar → List (List ℕ) → Type 0
-TheirCallsAreOfThese others at grammar lines =
-    Along (λ here name call. is_among same_name name here.names ≡ true → keeps_others_out call ≡ true) others at
-    (map (asked grammar) lines)
-
--- A set that makes no other calls has the answers that it has alone.
-abbrev pub SetsOfTheseCallsAreAnsweredAsAlone : Type 0
-SetsOfTheseCallsAreAnsweredAsAlone =
-    (at : Stand) (grammar : Grammar) (lines : List (List ℕ)) → IsSealedOffAt at
-    → StaysSealed at (map (asked grammar) lines)
-    → TheirCallsAreOfThese true at grammar lines → TheirCallsAreOfThese false at grammar lines
-    → own_answers true at (map (asked grammar) lines) ≡ own_answers false at (map (asked grammar) lines)
 
 -- Every call ends alike. So a set has these answers in each script in which none of its calls gives others a foothold.
 abbrev pub SetsThatKeepOthersOutAreAnsweredAsAlone : Type 0

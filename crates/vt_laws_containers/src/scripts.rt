@@ -1,5 +1,5 @@
 //! The answers to the calls of a sealed set, over scripts.
-ghost use Rattle.vt_laws_containers.specs.Calls.{CallsGiveNoFoothold, RunsEndAlike, SetsOfTheseCallsAreAnsweredAsAlone, SetsThatKeepOthersOutAreAnsweredAsAlone, TheseAlwaysEndAlike};
+ghost use Rattle.vt_laws_containers.specs.Calls.{RunsEndAlike, SetsThatKeepOthersOutAreAnsweredAsAlone};
 ghost use Rattle.vt_laws_containers.specs.Scripts.{SealedSetsStandSo, SetsAreAnsweredAsAlone};
 
 /// A set of tasks is sealed off before some line of a script, and the world has all invariants. Then **the later calls
@@ -13,21 +13,11 @@ ghost use Rattle.vt_laws_containers.specs.Scripts.{SealedSetsStandSo, SetsAreAns
 /// has none of them before. So it stands after the lines of any script, from the opening world on (`after_lines`).
 ///
 /// Every call of theirs ends alike, so it is enough that none of them gives others a foothold (`kept_out`). Calls that
-/// do both in every world do so along each run (`runs`). All calls do but `mount`, `bind`, `move`, `type` and `unshare`
-/// (`keeps_others_out`), so it holds of all sets that make none of these (`these`). Of those calls, and so of every set,
-/// see `sealed_sets_are_answered_as_if_alone` of `vt_laws_sealed_scripts`.
+/// do both in every world do so along each run (`runs`). All calls do: of every set see
+/// `sealed_sets_are_answered_as_if_alone` of `vt_laws_sealed_scripts`.
 pub fn sealed_sets_are_answered_as_alone()
     ensures alone { SetsAreAnsweredAsAlone }
     ensures runs { RunsEndAlike }
-    ensures these { SetsOfTheseCallsAreAnsweredAsAlone }
     ensures after_lines { SealedSetsStandSo }
     ensures kept_out { SetsThatKeepOthersOutAreAnsweredAsAlone }
-{}
-
-/// Every call of theirs but `mount`, `bind`, `move`, `type` and `unshare` gives others no foothold, granted or refused
-/// (`footholds`). It ends in the part of the set as in the world, too (`ends`), as every call does. Of the others see
-/// `no_call_of_theirs_gives_a_foothold` of `vt_laws_sealed_scripts`.
-pub fn many_calls_of_theirs_end_alike()
-    ensures footholds { CallsGiveNoFoothold }
-    ensures ends { TheseAlwaysEndAlike }
 {}

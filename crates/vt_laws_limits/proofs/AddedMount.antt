@@ -1,8 +1,8 @@
 -- What a new mount leaves at a destination that is not shared: one mount more, and the filesystem that it shows.
-use Rattle.std.proofs.Common.{◌≡◌, refl, ap, subst, ◌∙◌, ℕ, nat_eq, eq-eqb, Bool, true, false, not, List, [], ◌∷◌, ◌++◌, Option, None, Some, filter, flat_map, is_some, map, option_map}
+use Rattle.std.proofs.Common.{◌≡◌, refl, ap, subst, ◌∙◌, ℕ, nat_eq, eq-eqb, Bool, true, false, not, List, [], ◌∷◌, ◌++◌, Option, None, Some, filter, flat_map, is_some, map}
 use Rattle.std.proofs.lemmas.List.{append-nil}
 use Rattle.std.specs.List.{cons_option}
-use Rattle.std.specs.Prelude.{if◌then◌else◌, unwrap_or}
+use Rattle.std.specs.Prelude.{if◌then◌else◌}
 use Rattle.vt_spec.specs.Language.Calls.{MountFlags}
 use Rattle.vt_spec.specs.Lists.{Fresh, folded, odds, then_some, when}
 use Rattle.vt_spec.specs.Machine.Apply.{apply}
@@ -11,7 +11,7 @@ use Rattle.vt_spec.specs.Machine.Mounts.{Location, Mount, group_of}
 use Rattle.vt_spec.specs.Machine.Mounts.Propagation.{Private}
 use Rattle.vt_spec.specs.Machine.NewMounts.{new_mount, plain_filesystem, with_new_filesystem}
 use Rattle.vt_spec.specs.Machine.Permits.Permit.{ToMountPlain}
-use Rattle.vt_spec.specs.Machine.Receives.{is_member_of, receivers}
+use Rattle.vt_spec.specs.Machine.Receives.{is_member_of}
 use Rattle.vt_spec.specs.Machine.World.{Filesystem, Task, World, mount_at, mount_numbered}
 use Rattle.vt_spec.specs.Machine.Run.{Serves}
 use Rattle.vt_spec.proofs.Lists.{among_numbers}
@@ -85,9 +85,7 @@ module _ (fresh : Fresh ℕ) (world : World ℕ) (place : Location ℕ) (flags :
   -- a mount that is not shared has no receivers
   no_receivers : group_of destination.propagation ≡ None
       → filter (takes_part nat_eq larger place) (receivers_of nat_eq larger destination) ≡ []
-  no_receivers unshared =
-      ap (λ group. filter (takes_part nat_eq larger place)
-      (unwrap_or (option_map (receivers nat_eq larger) group) [])) unshared
+  no_receivers unshared = cc
 
   -- without receivers no mount is pushed up
   nothing_is_pushed : (list : List (Mount ℕ))
@@ -118,9 +116,7 @@ module _ (fresh : Fresh ℕ) (world : World ℕ) (place : Location ℕ) (flags :
           else copy_type nat_eq larger alone_copies (destination ∷ []) destination
           (twig_of alone_copies (group_of destination.propagation) origin) destination.propagation) ≡ Private
       by true = ap (λ kind. type_at alone_copies (group_of kind) origin) private
-      by false =
-          ap (copy_type nat_eq larger alone_copies (destination ∷ []) destination
-          (twig_of alone_copies (group_of destination.propagation) origin)) private
+      by false = cc private
 
   -- on a private mount one mount comes, the last one
   pub mounts-new_mount : destination.propagation ≡ Private → (task : Task ℕ)
@@ -151,13 +147,7 @@ module _ (fresh : Fresh ℕ) (world : World ℕ) (place : Location ℕ) (flags :
                 (twig_of alone_copies (group_of destination.propagation) origin) (world.master group),
           ))) ≡ None
       by true = ap (λ kind. twig_master (twig_of alone_copies (group_of kind) origin)) private
-      by false = ap (λ kind. then_some (group_of kind) (λ group.
-          when (not (is_member_of nat_eq group destination)) (
-            image nat_eq alone_copies destination
-                (twig_of alone_copies (group_of destination.propagation) origin) group,
-            nearest_image nat_eq larger alone_copies (destination ∷ []) destination
-                (twig_of alone_copies (group_of destination.propagation) origin) (world.master group),
-          ))) private
+      by false = cc private
 
       master_with : List (Mount ℕ) → ℕ → Option ℕ
       master_with others =

@@ -1,17 +1,15 @@
 -- How a call ends by its judgement.
-use Rattle.std.proofs.Common.{◌≡◌, refl, sym, ap, ◌∙◌, ℕ, nat_eq, Bool, true, false, ◌||◌, [], Some, Err, ok_or}
+use Rattle.std.proofs.Common.{◌≡◌, refl, ap, ◌∙◌, ℕ, nat_eq, Bool, true, false, ◌||◌, [], Some, Err, ok_or}
 use Rattle.vt_spec.specs.declared.errors.Deny.{Deny}
 use Rattle.vt_spec.specs.declared.errors.Rule.TheVariants.{S2}
 use Rattle.vt_spec.specs.Errors.{denial}
-use Rattle.vt_spec.specs.Language.Calls.{Call, TaskName, same_name}
+use Rattle.vt_spec.specs.Language.Calls.{Call, TaskName}
 use Rattle.vt_spec.specs.Lists.{Fresh}
 use Rattle.vt_spec.specs.Machine.Apply.{apply}
 use Rattle.vt_spec.specs.Machine.Judge.{Judgement, judge_in}
 use Rattle.vt_spec.specs.Machine.Outcomes.{Outcome, after, denied}
 use Rattle.vt_spec.specs.Machine.Policy.{filesystems_changed_by, finished, finished_by, only_looks, policy}
 use Rattle.vt_spec.specs.Machine.World.{Task, World, task_called}
-use Rattle.vt_spec.proofs.Found.{found_passes}
-use Rattle.vt_spec.proofs.Worlds.{same_task_name}
 use Rattle.vt_laws_rules.proofs.judged.CallsJudged.{policy_judges_then_applies}
 
 module _ (world : World ℕ) (fresh : Fresh ℕ) (name : TaskName) (task : Task ℕ) (call : Call)

@@ -2,7 +2,7 @@
 use Rattle.std.proofs.Common.{◌≡◌, ap, ◌∙◌, ℕ, nat_eq, true, false, not, List, [], ◌∷◌, None, Some, Result, Ok, option_map, ok_or, reverse}
 use Rattle.std.specs.Prelude.{if◌then◌else◌}
 use Rattle.vt_spec.specs.declared.errors.Deny.{Deny}
-use Rattle.vt_spec.specs.declared.errors.Rule.TheVariants.{W3, W6, W8}
+use Rattle.vt_spec.specs.declared.errors.Rule.TheVariants.{W6, W8}
 use Rattle.vt_spec.specs.Errors.{and_then, denial}
 use Rattle.vt_spec.specs.Machine.Mounts.{Location, topmost}
 use Rattle.vt_spec.specs.Machine.Rightful.{mounter_allows, node_allows}
@@ -97,17 +97,11 @@ module _ (world : World ℕ) (task : Task ℕ) (path : List ℕ) (end : Here ℕ
     (walked : path_walked nat_eq world task path ≡ Ok end) (is : IsDestination world end.location) where
   -- a path that leads to such a place is walked to it as to a directory
   pub directory_is_walked : directory_walk nat_eq world task path ≡ Ok end
-  directory_is_walked =
-      ap (λ walk. then_walk walk (λ here.
-      walk_unless here.steps ((not (is_directory_at nat_eq world here.location), W3) ∷ []) here)) walked
-      ∙ ap (λ b. walk_unless end.steps ((not b, W3) ∷ []) end) is.directory
+  directory_is_walked = cc (walked, is.directory)
 
   -- and as to a source
   source_is_walked : source_walk nat_eq world task path ≡ Ok end
-  source_is_walked =
-      ap (λ walk. then_walk walk (λ here.
-      walk_unless here.steps ((is_removed_at nat_eq world here.location, W8) ∷ []) here)) directory_is_walked
-      ∙ ap (λ b. walk_unless end.steps ((b, W8) ∷ []) end) is.stays
+  source_is_walked = cc (directory_is_walked, is.stays)
 
   -- and as to a destination, where it is the topmost mount
   pub destination_is_walked : destination_walk nat_eq world task path ≡ Ok end

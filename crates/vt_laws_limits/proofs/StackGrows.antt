@@ -1,7 +1,6 @@
 -- A stack of mounts with one mount more.
 use Rattle.std.proofs.Common.{◌≡◌, refl, sym, ap, subst, ◌∙◌, inl, true≢false, ℕ, suc, nat_eq, nat_lt, eq-eqb, Bool, true, false, cond, not, ◌||◌, ◌&&◌, ◌<◌, ◌≤◌, List, [], ◌∷◌, ◌++◌, Option, None, Some, Ok, find, is_some, map, arith}
 use Rattle.std.specs.Prelude.{unwrap_or}
-use Rattle.std.specs.Option.{option_or}
 use Rattle.std.proofs.lemmas.Bool.Decides.{nat_tests}
 use Rattle.std.proofs.lemmas.List.Folds.{find-append}
 use Rattle.vt_spec.specs.declared.errors.Rule.TheVariants.{M9}
@@ -13,7 +12,7 @@ use Rattle.vt_spec.specs.Language.Limits.{most_mounts}
 use Rattle.vt_spec.specs.Lists.{Fresh}
 use Rattle.vt_spec.specs.Machine.Filesystems.{raised_if_changed}
 use Rattle.vt_spec.specs.Machine.Invariants.{IsWorld}
-use Rattle.vt_spec.specs.Machine.Mounts.{Mount, child_at, mount_in, root_of, stands_at, topmost}
+use Rattle.vt_spec.specs.Machine.Mounts.{Mount, child_at, root_of, stands_at, topmost}
 use Rattle.vt_spec.specs.Machine.Outcomes.{denied, granted}
 use Rattle.vt_spec.specs.Machine.Permits.Permit.{ToMountPlain}
 use Rattle.vt_spec.specs.Machine.Policy.{numbers_raised, policy, raised_namespace, raised_task, same_mounts_in}
@@ -62,10 +61,7 @@ filesystem_stays world added number node directory = by (find has_number world.f
     by None e =
         absurd (true≢false (sym directory
         ∙ ap (λ found. is_directory_node ((unwrap_or found (no_filesystem number)).files.tree.node node)) e))
-    by (Some filesystem) e =
-        ap (λ found. unwrap_or found (no_filesystem number))
-        (find-append has_number world.filesystems (added ∷ [])
-        ∙ ap (λ found. option_or found (find has_number (added ∷ []))) e ∙ sym e)
+    by (Some filesystem) e = cc (find-append has_number world.filesystems (added ∷ []))
 
 -- where no filesystem changed, all keep their change numbers
 pub filesystems_not_raised : (filesystems : List (Filesystem ℕ)) → map (raised_if_changed nat_eq []) filesystems
@@ -213,10 +209,11 @@ module _ (world : World ℕ) (name : TaskName) (path word : List ℕ) (one : Has
     -- it is the topmost mount over the place of the stack
     new_is_topmost : topmost nat_eq stacked_world.mounts (record { mount = stack.task.root.mount; node = stack.object })
         ≡ root_of new
-    new_is_topmost =
-        ap (λ mounts. topmost nat_eq mounts (record { mount = stack.task.root.mount; node = stack.object })) mounts_are
-        ∙ topmost_is_new world.mounts new stack.top _ stack.way.leads top_is_free (same_location_itself stack.top)
-        nothing_on_new new_stands_apart
+    new_is_topmost = cc (
+      mounts_are,
+      topmost_is_new world.mounts new stack.top _ stack.way.leads top_is_free (same_location_itself stack.top)
+          nothing_on_new new_stands_apart,
+    )
 
     -- and nothing covers it
     new_is_free : topmost nat_eq stacked_world.mounts (root_of new) ≡ root_of new
@@ -226,10 +223,11 @@ module _ (world : World ℕ) (name : TaskName) (path word : List ℕ) (one : Has
 
     -- the task's root
     root_mount_stays : mount_at nat_eq stacked_world stack.task.root ≡ mount_at nat_eq world stack.task.root
-    root_mount_stays =
-        ap (λ mounts. mount_in nat_eq mounts stack.task.root.mount) mounts_are
-        ∙ found-append world.mounts (new ∷ []) stack.task.root.mount
-        (root_found world stack.is stack.task (own_name world name stack.task stack.called)).0.0
+    root_mount_stays = cc (
+      mounts_are,
+      found-append world.mounts (new ∷ []) stack.task.root.mount (root_found world stack.is stack.task (own_name
+          world name stack.task stack.called)).0.0,
+    )
 
     -- the root directory of the task stays
     root_stays : node_at nat_eq stacked_world stack.task.root ≡ node_at nat_eq world stack.task.root

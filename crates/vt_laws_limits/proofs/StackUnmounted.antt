@@ -100,9 +100,8 @@ module _ (world : World ℕ) (name : TaskName) (path word : List ℕ) (one : Has
   -- the mount is found by its number
   top_is_in : (one : World ℕ) → one ≡ with_mount → mount_numbered nat_eq one new.number ≡ new
   top_is_in one same =
-      ap (λ (w : World ℕ). mount_numbered nat_eq w new.number) same
-      ∙ new_is_found world fresh stack.top flags stack.is stack.plain serves stack.private (ap is_some stack.inside)
-      stacked.tasks stacked.namespaces stacked.change same_locations given_back_in_use
+      cc (new_is_found world fresh stack.top flags stack.is stack.plain serves stack.private (ap is_some
+      stack.inside) stacked.tasks stacked.namespaces stacked.change same_locations given_back_in_use)
 
   -- nothing stands on it, and no task uses it
   not_busy : (one : World ℕ) → one ≡ with_mount → is_busy nat_eq one new.number ≡ false

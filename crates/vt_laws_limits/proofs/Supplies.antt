@@ -33,10 +33,7 @@ more_are_handed last number is = grind (arith, nat_tests)
 
 -- what a line is handed stands in its row
 handed_in_row : (last place : ℕ) → is_handed_until (suc last) (numbers_for (suc last) place) ≡ true
-handed_in_row last place =
-    ap (λ n. nat_le (row n) (suc last)) (spread_for last place)
-    ∙ ap (λ n. nat_le n (suc last)) (row-spread (suc last) place)
-    ∙ itself (suc last)
+handed_in_row last place = cc (spread_for last place, row-spread (suc last) place, itself (suc last))
   where
     itself : (number : ℕ) → nat_le number number ≡ true
     itself number = grind (arith, nat_tests)

@@ -1,8 +1,7 @@
 -- The topmost mount over a place once one more mount is stacked there.
-use Rattle.std.proofs.Common.{◌≡◌, refl, sym, ap, ◌∙◌, ℕ, zero, suc, nat_eq, Bool, true, false, cond, List, [], ◌∷◌, ◌++◌, Option, None, Some, find, length, option_map, arith}
+use Rattle.std.proofs.Common.{◌≡◌, refl, sym, ap, ◌∙◌, ℕ, zero, suc, nat_eq, Bool, true, false, cond, List, [], ◌∷◌, ◌++◌, Option, None, Some, length, option_map, arith}
 use Rattle.std.proofs.lemmas.List.{length-append}
 use Rattle.std.proofs.lemmas.List.Folds.{find-append}
-use Rattle.std.specs.Option.{option_or}
 use Rattle.vt_spec.specs.Lists.{chain, last_or}
 use Rattle.vt_spec.specs.Machine.Mounts.{Location, Mount, child_at, root_of, stands_at, topmost}
 use Rattle.vt_spec.proofs.Lists.{chain_ends, chain_goes_on}
@@ -13,11 +12,9 @@ module _ {A : Type 0} (step grown : A → Option A) (end next : A)
     (kept : (a b : A) → step a ≡ Some b → grown a ≡ Some b) (ended : grown end ≡ Some next)
     (ends : grown next ≡ None) where
   one_more_step : (n : ℕ) (a d : A) → a ≡ end → last_or d (chain (suc n) grown a) ≡ next
-  one_more_step zero a d is =
-      ap (last_or d) (chain_goes_on grown zero a next (ap grown is ∙ ended))
+  one_more_step zero a d is = cc (chain_goes_on grown zero a next (ap grown is ∙ ended))
   one_more_step (suc n) a d is =
-      ap (last_or d)
-      (chain_goes_on grown (suc n) a next (ap grown is ∙ ended) ∙ ap (λ rest. a ∷ rest) (chain_ends grown n next ends))
+      cc (chain_goes_on grown (suc n) a next (ap grown is ∙ ended), chain_ends grown n next ends)
 
   -- wherever it began
   pub chain_grows : (n : ℕ) (a d e : A) → last_or d (chain n step a) ≡ end → last_or e (chain (suc n) grown a) ≡ next
@@ -29,9 +26,10 @@ module _ {A : Type 0} (step grown : A → Option A) (end next : A)
           → last_or e (chain (suc (suc n)) grown a) ≡ next
       by None found later =
           one_more_step (suc n) a e (sym (ap (last_or d) (chain_ends step n a found)) ∙ is)
-      by (Some b) found later =
-          ap (last_or e) (chain_goes_on grown (suc n) a b (kept a b found))
-          ∙ later b a a (sym (ap (last_or d) (chain_goes_on step n a b found)) ∙ is)
+      by (Some b) found later = cc (
+        chain_goes_on grown (suc n) a b (kept a b found),
+        later b a a (sym (ap (last_or d) (chain_goes_on step n a b found)) ∙ is),
+      )
 
 module _ (mounts : List (Mount ℕ)) (new : Mount ℕ) (top : Location ℕ) where
   abbrev step_up : List (Mount ℕ) → Location ℕ → Option (Location ℕ)
@@ -40,18 +38,13 @@ module _ (mounts : List (Mount ℕ)) (new : Mount ℕ) (top : Location ℕ) wher
   -- a child that there was is found first
   child_stays : (here : Location ℕ) (child : Mount ℕ) → child_at nat_eq mounts here ≡ Some child
       → child_at nat_eq (mounts ++ (new ∷ [])) here ≡ Some child
-  child_stays here child is =
-      find-append (stands_at nat_eq here) mounts (new ∷ [])
-      ∙ ap (λ found. option_or found (find (stands_at nat_eq here) (new ∷ []))) is
+  child_stays here child is = cc (find-append (stands_at nat_eq here) mounts (new ∷ []))
 
   -- where no child was, the new mount is one if it stands there
   child_alone : (here : Location ℕ) (stands : Bool) → child_at nat_eq mounts here ≡ None
       → stands_at nat_eq here new ≡ stands
       → child_at nat_eq (mounts ++ (new ∷ [])) here ≡ cond stands (Some new) None
-  child_alone here stands none is =
-      find-append (stands_at nat_eq here) mounts (new ∷ [])
-      ∙ ap (λ found. option_or found (find (stands_at nat_eq here) (new ∷ []))) none
-      ∙ ap (λ b. cond b (Some new) None) is
+  child_alone here stands none is = cc (find-append (stands_at nat_eq here) mounts (new ∷ []))
 
   -- a mount on the root of the topmost one is the topmost
   pub topmost_is_new : (place : Location ℕ) → topmost nat_eq mounts place ≡ top → child_at nat_eq mounts top ≡ None

@@ -1,5 +1,5 @@
 -- A new mount on a private mount, unmounted again: when what nothing uses is gone, the world is as it was before.
-use Rattle.std.proofs.Common.{◌≡◌, refl, sym, ap, ◌∙◌, inl, inr, ⊎_elim, true≢false, ℕ, nat_eq, eq-eqb, eqb-true, Bool, true, false, cond, not, ◌||◌, ◌&&◌, List, [], ◌∷◌, ◌++◌, Option, None, Some, filter, find, flat_map, is_some, map}
+use Rattle.std.proofs.Common.{◌≡◌, refl, sym, ap, ◌∙◌, inl, ⊎_elim, true≢false, ℕ, nat_eq, eq-eqb, eqb-true, Bool, true, false, cond, not, ◌||◌, ◌&&◌, List, [], ◌∷◌, ◌++◌, Option, None, Some, filter, find, flat_map, is_some, map}
 use Rattle.std.specs.Prelude.{option_to_list, unwrap_or}
 use Rattle.std.specs.List.{list_all, list_any}
 use Rattle.std.proofs.Math.Bool.{or-false}
@@ -9,7 +9,7 @@ use Rattle.std.proofs.lemmas.List.Elements.{filter-append}
 use Rattle.std.proofs.lemmas.List.Folds.{find-append, list_any-append}
 use Rattle.std.specs.Option.{option_or}
 use Rattle.vt_spec.specs.Language.Calls.{MountFlags}
-use Rattle.vt_spec.specs.Lists.{Fresh, holds_of, is_among, then_some}
+use Rattle.vt_spec.specs.Lists.{Fresh, holds_of, is_among}
 use Rattle.vt_spec.specs.Machine.Detach.{going, going_from, has_child, is_used, unmounted}
 use Rattle.vt_spec.specs.Machine.Invariants.{HasLivingGroups, IsWorld, Lives, has_its_root}
 use Rattle.vt_spec.specs.Machine.Invariants.Lives.{has_master, has_no_master}
@@ -87,9 +87,10 @@ module _ (world : World ℕ) (fresh : Fresh ℕ) (place : Location ℕ) (flags :
           ∙ ap (λ found. is_directory_node
           ((unwrap_or found (no_filesystem mount.filesystem)).files.tree.node mount.root)) e))
       by (Some filesystem) e =
-          ap (nat_eq added.number)
-          (eqb-true mount.filesystem filesystem.number (found_passes has_number world.filesystems filesystem e))
-          ∙ other_filesystem filesystem (found_among has_number world.filesystems filesystem e)
+          cc (
+            eqb-true mount.filesystem filesystem.number (found_passes has_number world.filesystems filesystem e),
+            other_filesystem filesystem (found_among has_number world.filesystems filesystem e),
+          )
 
   -- The world with the new mount, of tasks that use the same locations
   module _ (tasks : List (Task ℕ)) (namespaces : List (Namespace ℕ)) (change : ℕ)
@@ -119,11 +120,9 @@ module _ (world : World ℕ) (fresh : Fresh ℕ) (place : Location ℕ) (flags :
         by : (mount : Mount ℕ) → Among mount world.mounts → (point : Option (Location ℕ)) → mount.mount_point ≡ point
             → stands_on nat_eq new.number mount ≡ false
         by mount m None e = ap (λ o. holds_of (λ (at : Location ℕ). nat_eq new.number at.mount) o) e
-        by mount m (Some at) e =
-            ap (λ o. holds_of (λ (at : Location ℕ). nat_eq new.number at.mount) o) e
-            ∙ nat_eq_false_turned at.mount new.number (other_number fresh world place flags serves at.mount
-            (attached_is_mount world at.mount
-            (place_attached world (mounts_of_worlds_stand world is) mount m at e)))
+        by mount m (Some at) e = cc (
+            nat_eq_false_turned at.mount new.number (other_number fresh world place flags serves at.mount
+            (attached_is_mount world at.mount (place_attached world (mounts_of_worlds_stand world is) mount m at e))))
 
     -- it is found by its number
     pub new_is_found : mount_numbered nat_eq (with_new new) new.number ≡ new
@@ -156,9 +155,10 @@ module _ (world : World ℕ) (fresh : Fresh ℕ) (place : Location ℕ) (flags :
     -- no group loses its members
     same_members : (group : ℕ)
         → has_members nat_eq (world.mounts ++ (detached new ∷ [])) group ≡ has_members nat_eq world.mounts group
-    same_members group =
-        list_any-append (is_member_of nat_eq group) world.mounts (detached new ∷ [])
-        ∙ or-false (has_members nat_eq world.mounts group)
+    same_members group = cc (
+      list_any-append (is_member_of nat_eq group) world.mounts (detached new ∷ []),
+      or-false (has_members nat_eq world.mounts group),
+    )
 
     -- each group of a mount has its members and its master
     no_group_is_lost : (mount : Mount ℕ) → Among mount (world.mounts ++ (detached new ∷ []))
@@ -180,14 +180,10 @@ module _ (world : World ℕ) (fresh : Fresh ℕ) (place : Location ℕ) (flags :
 
         by : Among mount world.mounts → (source : Option ℕ) → source_of mount.propagation ≡ source
             → lost_a_group nat_eq (with_new (detached new)) mount ≡ false
-        by old None e =
-            ap (λ source. is_lost_group nat_eq (with_new (detached new)) source
-            || is_lost_group nat_eq (with_new (detached new)) (then_some source world.master)) e
+        by old None e = cc
         by old (Some group) e =
-            ap (λ source. is_lost_group nat_eq (with_new (detached new)) source
-            || is_lost_group nat_eq (with_new (detached new)) (then_some source world.master)) e
-            ∙ of_master group
-            (among_from_all (HasLivingGroups nat_eq world) world.mounts is.mounts.groups mount old group e)
+            cc (of_master group (among_from_all (HasLivingGroups nat_eq world) world.mounts is.mounts.groups mount
+            old group e))
 
     -- so the unmount detaches the new mount, and changes nothing else
     unmounted_is : unmounted nat_eq (with_new new) new.number ≡ with_new (detached new)
@@ -200,13 +196,13 @@ module _ (world : World ℕ) (fresh : Fresh ℕ) (place : Location ℕ) (flags :
 
     -- the sweep takes the mount and its filesystem
     located_elsewhere : mount_lives nat_eq (with_new (detached new)) (detached new) ≡ false
-    located_elsewhere =
-        ap (list_any (λ location. nat_eq new.number location.mount)) same_locations
-        ∙ none_from_among (λ (location : Location ℕ). nat_eq new.number location.mount) (all_locations world)
-        (λ location m. nat_eq_false_turned location.mount new.number
-        (other_number fresh world place flags serves location.mount
-        (passes (λ (at : Location ℕ). is_among nat_eq at.mount (numbers_of world.mounts)) (all_locations world)
-        (locations_of_worlds_stand world is) location m)))
+    located_elsewhere = cc (
+      same_locations,
+      none_from_among (λ (location : Location ℕ). nat_eq new.number location.mount) (all_locations world) (λ
+          location m. nat_eq_false_turned location.mount new.number (other_number fresh world place flags serves
+          location.mount (passes (λ (at : Location ℕ). is_among nat_eq at.mount (numbers_of world.mounts))
+          (all_locations world) (locations_of_worlds_stand world is) location m))),
+    )
 
     -- the sweep leaves the mounts that were there
     mounts_left : filter (mount_lives nat_eq (with_new (detached new))) (world.mounts ++ (detached new ∷ []))

@@ -14,7 +14,6 @@ pub mod ExitLast
 pub mod Exiting
 pub mod Gone
 pub mod Heard
-pub mod LazyAlone
 pub mod Leaving
 pub mod LessSeen
 pub mod Moving

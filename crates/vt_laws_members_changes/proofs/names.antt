@@ -4,7 +4,6 @@ pub mod Elsewhere
 pub mod GrantedNames
 pub mod NamesEnding
 pub mod NewOpensEnding
-pub mod NothingMounted
 pub mod RemovalsEnding
 pub mod Swept
 pub mod TreesEnding

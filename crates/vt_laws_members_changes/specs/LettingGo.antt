@@ -47,14 +47,6 @@ UmountsEndAlike =
     → IsCallOfTheirs world names name (Umount path) → (fresh other : Fresh ℕ)
     → EndsAlike world names name (Umount path) fresh other
 
--- So does each granted call of umount(2) with MNT_DETACH of a mount without children.
-abbrev pub LazyUmountsEndAlike : Type 0
-LazyUmountsEndAlike =
-    (world : World ℕ) (names : List TaskName) (name : TaskName) (path : List ℕ)
-    → IsCallOfTheirs world names name (Lazy path) → (task : Task ℕ) → task_called world name ≡ Some task
-    → (fresh other : Fresh ℕ) (mount : ℕ) → judge_in nat_eq fresh world task (Lazy path) ≡ Ok (ToUnmountLazily mount)
-    → has_child nat_eq world mount ≡ false → EndsAlike world names name (Lazy path) fresh other
-
 -- So does each call of setns(2), to the namespace of a task of the set.
 abbrev pub SetnsEndsAlike : Type 0
 SetnsEndsAlike =

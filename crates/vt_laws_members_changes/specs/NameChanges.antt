@@ -73,36 +73,3 @@ abbrev pub UnlinksEndAlike : Type 0
 UnlinksEndAlike =
     (world : World ℕ) (names : List TaskName) (name : TaskName) (path : List ℕ)
     → PlainChangeEndsAlike world names name (Unlink path)
-
--- the mount is in a namespace of theirs, and not in the caller's
-abbrev pub stands_elsewhere : World ℕ → List TaskName → Task ℕ → Mount ℕ → Bool
-stands_elsewhere world names task mount =
-    holds_of (λ namespace. is_own_namespace nat_eq world names namespace && not (nat_eq task.namespace namespace))
-    mount.namespace
-
--- such a mount stands on what goes, if something does
-abbrev pub mounted_elsewhere : World ℕ → List TaskName → Task ℕ → Option (Location ℕ) → Bool
-mounted_elsewhere world names task None = false
-mounted_elsewhere world names task (Some object) =
-    list_any (stands_elsewhere world names task) (mounts_on nat_eq world object)
-
--- So does rmdir(2), if no mount of theirs of another namespace stands on the directory,
-abbrev pub RmdirsEndAlike : Type 0
-RmdirsEndAlike =
-    (world : World ℕ) (names : List TaskName) (name : TaskName) (path : List ℕ)
-    → IsCallOfTheirs world names name (Rmdir path) → (task : Task ℕ) → task_called world name ≡ Some task
-    → (fresh other : Fresh ℕ) (parent : Location ℕ) (entry : List ℕ) (directory : Location ℕ)
-    → judge_in nat_eq fresh world task (Rmdir path) ≡ Ok (ToRemoveDirectory parent entry directory)
-    → is_overlay (filesystem_at nat_eq world parent) ≡ false → mounted_elsewhere world names task (Some directory) ≡ false
-    → EndsAlike world names name (Rmdir path) fresh other
-
--- and rename(2), if none stands on what it replaces.
-abbrev pub RenamesEndAlike : Type 0
-RenamesEndAlike =
-    (world : World ℕ) (names : List TaskName) (name : TaskName) (old new : List ℕ)
-    → IsCallOfTheirs world names name (Rename old new) → (task : Task ℕ) → task_called world name ≡ Some task
-    → (fresh other : Fresh ℕ) (from : Location ℕ) (entry : List ℕ) (to : Location ℕ) (entry_new : List ℕ)
-    (object : Location ℕ) (replaced : Option (Location ℕ))
-    → judge_in nat_eq fresh world task (Rename old new) ≡ Ok (ToRename from entry to entry_new object replaced)
-    → is_overlay (filesystem_at nat_eq world from) ≡ false → mounted_elsewhere world names task replaced ≡ false
-    → EndsAlike world names name (Rename old new) fresh other

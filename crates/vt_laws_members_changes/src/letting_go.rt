@@ -1,5 +1,5 @@
 //! Calls of members that let something go.
-ghost use Rattle.vt_laws_members_changes.specs.LettingGo.{ChdirsEndAlike, ChrootsEndAlike, ClosesEndAlike, ExitsEndAlike, LazyUmountsEndAlike, LessIsSeenAlike, SetnsEndsAlike, SweepsAlike, UmountsEndAlike};
+ghost use Rattle.vt_laws_members_changes.specs.LettingGo.{ChdirsEndAlike, ChrootsEndAlike, ClosesEndAlike, ExitsEndAlike, LessIsSeenAlike, SetnsEndsAlike, SweepsAlike, UmountsEndAlike};
 
 /// In a world with all invariants in which a set of tasks is sealed off, **each `close`, `chdir` and `chroot` of one of
 /// them does in the part of the set what it does in the world** (`EndAlike`), granted or refused. What nothing uses any
@@ -11,22 +11,20 @@ ghost use Rattle.vt_laws_members_changes.specs.LettingGo.{ChdirsEndAlike, Chroot
 /// change alike, and so do the change numbers of their namespaces.
 ///
 /// So does each `umount` of one of them (`umount`). The unmount event reaches the same mounts in both. A mount that covers
-/// one of them takes its mount point. A granted `lazy` of a mount without children (`lazy`) does the same, whatever uses
-/// the mount.
+/// one of them takes its mount point.
 ///
 /// So does each `setns` of one of them to the namespace of a task of the set (`setns`). The root of the entered namespace
 /// and the mounts over it are the same in both. Where the caller was the last task of the namespace that it leaves, that
 /// one ends in both, as after an `exit`.
 ///
-/// After each of these calls the set may see less, and need not be sealed off any more. Of a `lazy` of a mount with
-/// children see `lazy_umounts_of_theirs_detach_alike` of `vt_laws_members_detached`.
+/// After each of these calls the set may see less, and need not be sealed off any more. Of `lazy` see
+/// `lazy_umounts_of_theirs_detach_alike` of `vt_laws_members_detached`.
 pub fn calls_of_theirs_that_let_locations_go_end_alike()
     ensures close { ClosesEndAlike }
     ensures chdir { ChdirsEndAlike }
     ensures chroot { ChrootsEndAlike }
     ensures exit { ExitsEndAlike }
     ensures umount { UmountsEndAlike }
-    ensures lazy { LazyUmountsEndAlike }
     ensures setns { SetnsEndsAlike }
 {}
 

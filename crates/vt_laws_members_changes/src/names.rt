@@ -1,5 +1,5 @@
 //! Calls of members that make, give and take names.
-ghost use Rattle.vt_laws_members_changes.specs.NameChanges.{LinksEndAlike, MkdirsEndAlike, NewFilesEndAlike, NewOpensEndAlike, RenamesEndAlike, RmdirsEndAlike, SymlinksEndAlike, UnlinksEndAlike, WhiteoutsEndAlike};
+ghost use Rattle.vt_laws_members_changes.specs.NameChanges.{LinksEndAlike, MkdirsEndAlike, NewFilesEndAlike, NewOpensEndAlike, SymlinksEndAlike, UnlinksEndAlike, WhiteoutsEndAlike};
 
 /// In a world with all invariants in which a set of tasks is sealed off, **a granted call of one of them that makes an
 /// inode on a plain filesystem does in the part of the set what it does in the world** (`EndAlike`): `mkdir`,
@@ -19,20 +19,14 @@ pub fn calls_of_theirs_that_make_names_end_alike()
 {}
 
 /// In a world with all invariants in which a set of tasks is sealed off, **a granted call of one of them that takes a
-/// name on a plain filesystem does in the part of the set what it does in the world** (`EndAlike`): `unlink`, `rmdir`
-/// and `rename`. The numbers handed in do not matter.
-///
-/// Of `rmdir` and `rename` this asks that no mount of another namespace of theirs stands on what is removed or replaced
-/// (`mounted_elsewhere`): so it is where the set has one namespace. None of the caller's namespace stands there (P1),
-/// and none of others.
+/// name on a plain filesystem does in the part of the set what it does in the world** (`EndAlike`): `unlink`. The numbers
+/// handed in do not matter.
 ///
 /// The set uses the filesystem alone, for one in which others have a foothold is locked (L1). So each inode of it is
 /// used in both or in none, and what lost its last use goes in both.
 ///
-/// Where mounts of theirs are taken away with a directory see `removals_of_theirs_detach_alike` of
+/// Of `rmdir` and `rename`, which take mounts away with a directory, see `removals_of_theirs_detach_alike` of
 /// `vt_laws_members_detached`, and of overlays `vt_laws_members_names`.
 pub fn calls_of_theirs_that_take_names_end_alike()
     ensures unlink { UnlinksEndAlike }
-    ensures rmdir { RmdirsEndAlike }
-    ensures rename { RenamesEndAlike }
 {}

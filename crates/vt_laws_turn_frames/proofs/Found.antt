@@ -43,8 +43,7 @@ module _ {A : Type 0} (number_of : A → ℕ) where
       → numbered number (map change list) ≡ option_map change (numbered number list)
   found_map change number [] same = refl
   found_map change number (first ∷ rest) same =
-      ap (λ k. cond (nat_eq number k) (Some (change first)) (numbered number (map change rest))) (same first)
-      ∙ by (nat_eq number (number_of first)) (found_map change number rest same)
+      cc (same first, by (nat_eq number (number_of first)) (found_map change number rest same))
     where
       by : (b : Bool) → numbered number (map change rest) ≡ option_map change (numbered number rest)
           → cond b (Some (change first)) (numbered number (map change rest))

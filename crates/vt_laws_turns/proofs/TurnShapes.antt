@@ -101,7 +101,8 @@ module _ (sched : Sched ℕ) where
               → queue_of sched.queues (Someone task.name) ≡ record { line = line; item = Calls call } ∷ rest
               → task_called sched.world task.name ≡ Some task
               → Shape sched (Someone task.name) (Some given)
-              (queue_turn nat_eq sched (Someone task.name) (record { line = line; item = Calls call } ∷ rest) (Some given))
+              (queue_turn nat_eq sched (Someone task.name) (record { line = line; item = Calls call } ∷ rest)
+              (Some given))
           at_queue task line call given rest f t =
               subst (λ (items : List Queued). Shape sched (Someone task.name) (Some given)
               (queue_turn nat_eq sched (Someone task.name) items (Some given))) f

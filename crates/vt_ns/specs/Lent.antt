@@ -1,7 +1,7 @@
 -- What is lent for a location: the inode as its tree keeps it, its entries and its parent by slots.
 use Rattle.std.specs.Prelude.{None, Option, Some, option_map, refl, ℕ, ◌≡◌, ◌-◌, ◌/◌}
 use Rattle.vt_spec.specs.Machine.Mounts as meant
-use Rattle.vt_spec.specs.Machine.Renaming.{renamed_content, renamed_node}
+use Rattle.vt_spec.specs.Machine.Renaming.{renamed_node}
 use Rattle.vt_spec.specs.Tree.{Content, Node}
 use Rattle.vt_spec.specs.Tree.Content.{Directory, Regular, Symlink, Whiteout}
 use Rattle.vt_location.specs.Numbers.{exchanged}

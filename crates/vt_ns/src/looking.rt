@@ -149,26 +149,32 @@ impl Look for World {
     // No filesystem is an overlay, since no call mounts one: so nothing is locked, and no mounter is asked.
 
     fn is_overlay(&self, _at: Location) -> bool {
+        self.is_held();
         false
     }
 
     fn has_no_upper(&self, _at: Location) -> bool {
+        self.is_held();
         false
     }
 
     fn is_locked(&self, _at: Location) -> bool {
+        self.is_held();
         false
     }
 
     fn has_lower_directory(&self, _at: Location, _name: &[u8]) -> bool {
+        self.is_held();
         false
     }
 
     fn is_only_below(&self, _at: Location) -> bool {
+        self.is_held();
         false
     }
 
     fn mounter_may(&self, _at: Location, _wanted: Rights) -> bool {
+        self.is_held();
         true
     }
 
@@ -180,10 +186,12 @@ impl Look for World {
         _object: &Node,
         _wanted: Rights,
     ) -> bool {
+        self.is_held();
         true
     }
 
     fn mounter_may_change(&self, _at: Location, _asked: Asked) -> Result<(), Deny> {
+        self.is_held();
         Ok(())
     }
 }

@@ -24,6 +24,7 @@ pub struct World {
 }
 
 impl Model for World {
+    ghost use Rattle.std.specs.Prelude.{[]};
     ghost use Rattle.vt_world.specs.WorldValue.{WorldValue, entries_of};
     ghost use Rattle.vt_world.specs.Held.{IsHeld};
 
@@ -33,6 +34,7 @@ impl Model for World {
       mounts = w.mounts;
       groups = w.groups;
       filesystems = w.filesystems;
+      overlays = [];
       namespaces = entries_of w.namespaces.entries;
       tasks = w.tasks;
       next = w.next;
@@ -42,6 +44,7 @@ impl Model for World {
       mounts = w.mounts;
       groups = w.groups;
       filesystems = w.filesystems;
+      overlays = [];
       namespaces = entries_of w.namespaces.entries;
       tasks = w.tasks;
       next = w.next;

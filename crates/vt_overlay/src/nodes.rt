@@ -25,6 +25,7 @@ impl Overlay {
     pub fn root(&self) -> Option<NodeRef>
         ensures root { (trees : Trees) → AreLayers trees self.now.lowers
             → IfSome result (λ root. number_of root ≡ (merged_tree trees self.now).root) }
+        ensures own { IfSome result (λ root. root.filesystem ≡ self.now.number) }
         ensures some { 0 < length self.now.lowers → IsSome result }
     {
         let top = self.layer_at(0)?;

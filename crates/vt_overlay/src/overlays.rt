@@ -51,6 +51,20 @@ impl Overlay {
         }
     }
 
+    /// The lower layers, the highest first.
+    pub fn lowers(&self) -> &[LayerRef]
+        ensures { result.now ≡ self.now.lowers }
+    {
+        self.lowers.as_slice()
+    }
+
+    /// The credentials that it was mounted with.
+    pub fn mounter(&self) -> &Cred
+        ensures { result.now ≡ self.now.mounter }
+    {
+        &self.mounter
+    }
+
     /// The way to a directory of the overlay: the names that lead to it from the root, found by going up in the layer in
     /// which it was born. There is none to a node that is no directory, or that the layers do not show. It does not
     /// allocate.

@@ -1,70 +1,100 @@
 //! Tables of text, each column as wide as its widest word.
 use std::alloc::{AllocError, Global};
+use vt_check::draft::Draft;
 
 /// What stands between two columns.
 const GAP: usize = 2;
 
-/// Rows of words. The last word of a row is not padded.
+/// Rows of words, with as many columns as there are words above them. The last word of a row is not padded.
 #[derive(Drop)]
 pub struct Table {
     alloc: Global,
-    rows: Vec<Vec<String>>,
+    cells: Vec<String>,
     widths: Vec<usize>,
+    // The column of the next word.
+    column: usize,
+    failed: bool,
 }
 
 impl Table {
     /// A table with these words above its columns.
-    pub fn new(alloc: Global, heads: &[&str]) -> Result<Self, AllocError> {
-        let mut row = Vec::new(alloc);
-        for head in heads {
-            row.push(String::from_str(alloc, head)?)?;
-        }
+    pub fn new(alloc: Global, heads: &[&str]) -> Self {
         let mut table = Table {
             alloc,
-            rows: Vec::new(alloc),
+            cells: Vec::new(alloc),
             widths: Vec::new(alloc),
+            column: 0,
+            failed: false,
         };
-        table.push(row)?;
-        Ok(table)
+        for _ in heads {
+            table.failed |= table.widths.push(0).is_err();
+        }
+        for head in heads {
+            table.add_text(head);
+        }
+        table
     }
 
-    /// Adds a row.
-    pub fn push(&mut self, row: Vec<String>) -> Result<(), AllocError> {
-        self.widen(&row)?;
-        self.rows.push(row)?;
+    /// An empty text.
+    pub fn draft(&self) -> Draft {
+        Draft::new(self.alloc)
+    }
+
+    /// Adds a word.
+    pub fn add(&mut self, word: Draft) {
+        self.failed |= self.try_add(word).is_err();
+    }
+
+    /// Adds a word.
+    pub fn add_text(&mut self, word: &str) {
+        let mut text = self.draft();
+        text.push(word);
+        self.add(text);
+    }
+
+    /// Adds a number.
+    pub fn add_number(&mut self, number: u64) {
+        let mut text = self.draft();
+        text.push_number(number);
+        self.add(text);
+    }
+
+    // Adds a word, if there is memory for it. Its column is as wide as the word at least.
+    fn try_add(&mut self, word: Draft) -> Result<(), AllocError> {
+        let word = word.end()?;
+        if let Some(width) = self.widths.get_mut(self.column) {
+            *width = (*width).max(word.len());
+        }
+        self.column = self.after(self.column);
+        self.cells.push(word)?;
         Ok(())
     }
 
-    // Each column is as wide as the word that it gets.
-    fn widen(&mut self, row: &[String]) -> Result<(), AllocError> {
-        for (column, word) in row.iter().enumerate() {
-            match self.widths.get_mut(column) {
-                Some(width) => *width = (*width).max(word.len()),
-                None => self.widths.push(word.len())?,
-            }
-        }
-        Ok(())
+    // The column behind one.
+    fn after(&self, column: usize) -> usize {
+        let next = column.saturating_add(1);
+        if next < self.widths.len() { next } else { 0 }
     }
 
-    // Appends a row and a newline.
-    fn push_row(&self, text: &mut String, row: &[String]) -> Result<(), AllocError> {
-        let last = row.len().saturating_sub(1);
-        for (column, word) in row.iter().enumerate() {
-            text.push_str(word.as_str())?;
-            if column < last {
-                let width = self.widths.get(column).copied().unwrap_or_default();
-                let spaces = width.saturating_sub(word.len()).saturating_add(GAP);
-                text.push_str(" ".repeat(self.alloc, spaces)?.as_str())?;
-            }
+    // Appends what stands between a word of this length and the next.
+    fn push_space(&self, text: &mut Draft, column: usize, length: usize) {
+        if self.after(column) == 0 {
+            text.push("\n");
+            return;
         }
-        text.push('\n')
+        if let Some(width) = self.widths.get(column) {
+            text.push_times(' ', (*width).saturating_sub(length).saturating_add(GAP));
+        }
     }
 
-    /// Appends the rows, each with a newline.
-    pub fn write(&self, text: &mut String) -> Result<(), AllocError> {
-        for row in &self.rows {
-            self.push_row(text, row)?;
+    /// Appends the rows, each with a newline, or tells that an allocation failed.
+    pub fn write(&self, text: &mut Draft) -> Result<(), AllocError> {
+        let mut column: usize = 0;
+        for cell in &self.cells {
+            text.push(cell.as_str());
+            self.push_space(text, column, cell.len());
+            column = self.after(column);
         }
-        Ok(())
+        if self.failed { Err(AllocError) } else { Ok(()) }
     }
 }

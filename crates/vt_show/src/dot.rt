@@ -1,103 +1,114 @@
 //! Who receives from whom, as a graph of Graphviz.
 use crate::names;
-use crate::picture::{MountShown, Picture};
-use std::alloc::{AllocError, Global};
-use vt_request::PeerLine;
+use crate::picture::{MountShown, NamespaceShown, Picture};
+use vt_check::draft::Draft;
+use vt_request::{MountPlace, PeerLine};
 
-// Appends a text between quotes.
-fn push_quoted(text: &mut String, words: &str) -> Result<(), AllocError> {
-    text.push('"')?;
+// Appends a text as it stands between quotes.
+fn push_escaped(text: &mut Draft, words: &str) {
     for character in words.chars() {
         if matches!(character, '"' | '\\') {
-            text.push('\\')?;
+            text.push("\\");
         }
-        text.push(character)?;
+        text.push_char(character);
     }
-    text.push('"')
+}
+
+// Appends a mount's number between quotes.
+fn push_number(text: &mut Draft, place: MountPlace) {
+    text.push("\"");
+    names::push_mount(text, place);
+    text.push("\"");
+}
+
+// Appends a peer group's name between quotes.
+fn push_group_name(text: &mut Draft, group: usize) {
+    text.push("\"group ");
+    names::push_count(text, group);
+    text.push("\"");
 }
 
 // Appends a mount, with its number and its path.
-fn push_mount(alloc: Global, text: &mut String, mount: &MountShown) -> Result<(), AllocError> {
-    let number = names::mount(alloc, mount.place)?;
-    let path = match &mount.target {
-        Some(path) => path.as_str(),
-        None => names::GONE,
-    };
-    let number = number.as_str();
-    let label = format!(in alloc; "{number} {path}")?;
-    let head = format!(in alloc; "    \"{number}\" [label=")?;
-    text.push_str(head.as_str())?;
-    push_quoted(text, label.as_str())?;
-    text.push_str("];\n")
+fn push_mount(text: &mut Draft, mount: &MountShown) {
+    text.push("    ");
+    push_number(text, mount.place);
+    text.push(" [label=\"");
+    names::push_mount(text, mount.place);
+    text.push(" ");
+    push_escaped(
+        text,
+        match &mount.target {
+            Some(path) => path.as_str(),
+            None => names::GONE,
+        },
+    );
+    text.push("\"];\n");
 }
 
-// Appends the mounts of the namespaces, each namespace in a frame.
-fn push_namespaces(
-    alloc: Global,
-    text: &mut String,
-    picture: &Picture<'_>,
-) -> Result<(), AllocError> {
-    for namespace in &picture.namespaces {
-        let number = namespace.number;
-        let head = format!(in alloc;
-            "  subgraph cluster_{number} {{\n    label=\"namespace {number}\";\n"
-        )?;
-        text.push_str(head.as_str())?;
-        for mount in &namespace.mounts {
-            push_mount(alloc, text, mount)?;
-        }
-        text.push_str("  }\n")?;
+// Appends the mounts of a namespace in a frame.
+fn push_namespace(text: &mut Draft, namespace: &NamespaceShown) {
+    text.push("  subgraph cluster_");
+    names::push_count(text, namespace.number);
+    text.push(" {\n    label=\"namespace ");
+    names::push_count(text, namespace.number);
+    text.push("\";\n");
+    for mount in &namespace.mounts {
+        push_mount(text, mount);
     }
-    Ok(())
+    text.push("  }\n");
 }
 
 // Appends that members of a group receive from it, and it from them.
-fn push_members(alloc: Global, text: &mut String, line: &PeerLine) -> Result<(), AllocError> {
-    let group = line.group;
+fn push_members(text: &mut Draft, line: &PeerLine) {
     for place in &line.members {
-        let mount = names::mount(alloc, *place)?;
-        let mount = mount.as_str();
-        let edge = format!(in alloc; "  \"{mount}\" -> \"group {group}\" [dir=both];\n")?;
-        text.push_str(edge.as_str())?;
+        text.push("  ");
+        push_number(text, *place);
+        text.push(" -> ");
+        push_group_name(text, line.group);
+        text.push(" [dir=both];\n");
     }
-    Ok(())
 }
 
 // Appends that slaves of a group receive from it.
-fn push_slaves(alloc: Global, text: &mut String, line: &PeerLine) -> Result<(), AllocError> {
-    let group = line.group;
+fn push_slaves(text: &mut Draft, line: &PeerLine) {
     for place in &line.slaves {
-        let mount = names::mount(alloc, *place)?;
-        let mount = mount.as_str();
-        let edge = format!(in alloc; "  \"group {group}\" -> \"{mount}\";\n")?;
-        text.push_str(edge.as_str())?;
+        text.push("  ");
+        push_group_name(text, line.group);
+        text.push(" -> ");
+        push_number(text, *place);
+        text.push(";\n");
     }
-    Ok(())
+}
+
+// Appends that a group receives from its master.
+fn push_master(text: &mut Draft, group: usize, master: usize) {
+    text.push("  ");
+    push_group_name(text, master);
+    text.push(" -> ");
+    push_group_name(text, group);
+    text.push(";\n");
 }
 
 // Appends a peer group with all that receives from it or sends to it.
-fn push_group(alloc: Global, text: &mut String, line: &PeerLine) -> Result<(), AllocError> {
-    let group = line.group;
-    let head = format!(in alloc; "  \"group {group}\" [shape=ellipse];\n")?;
-    text.push_str(head.as_str())?;
+fn push_group(text: &mut Draft, line: &PeerLine) {
+    text.push("  ");
+    push_group_name(text, line.group);
+    text.push(" [shape=ellipse];\n");
     if let Some(master) = line.master {
-        let edge = format!(in alloc; "  \"group {master}\" -> \"group {group}\";\n")?;
-        text.push_str(edge.as_str())?;
+        push_master(text, line.group, master);
     }
-    push_members(alloc, text, line)?;
-    push_slaves(alloc, text, line)
+    push_members(text, line);
+    push_slaves(text, line);
 }
 
-/// Mounts and peer groups as a graph: an edge leads from who sends to who receives.
-pub fn shown(alloc: Global, picture: &Picture<'_>) -> Result<String, AllocError> {
-    let mut text = String::from_str(
-        alloc,
-        "digraph vtree {\n  rankdir=LR;\n  node [shape=box];\n",
-    )?;
-    push_namespaces(alloc, &mut text, picture)?;
-    for line in &picture.groups {
-        push_group(alloc, &mut text, line)?;
+/// Appends mounts and peer groups as a graph: an edge leads from who sends to who receives.
+pub fn push_shown(text: &mut Draft, picture: &Picture<'_>) {
+    text.push("digraph vtree {\n  rankdir=LR;\n  node [shape=box];\n");
+    for namespace in &picture.namespaces {
+        push_namespace(text, namespace);
     }
-    text.push_str("}\n")?;
-    Ok(text)
+    for line in &picture.groups {
+        push_group(text, line);
+    }
+    text.push("}\n");
 }

@@ -5,22 +5,30 @@ use crate::places::Place;
 use crate::tree_walk::{Found, TreeWalk};
 use serde_json::Value;
 use std::alloc::{AllocError, Global};
-use vt_check::object::{Members, line_of, put, put_number, put_text};
+use vt_check::draft::Draft;
+use vt_check::object::Object;
 use vt_location::FilesystemId;
 use vt_node::{Kind, Node};
-use vt_request::{MountPlace, PeerLine, TypeLine};
+use vt_request::{MountPlace, PeerLine, Spot, TypeLine};
 
-// A number as a value.
-fn number(number: usize) -> Value {
-    Value::from(number as u64)
+// Adds a number.
+fn put_count(object: &mut Object, name: &str, number: usize) {
+    object.put_number(name, number as u64);
 }
 
-// A number that may be missing.
-fn number_or_null(number: Option<usize>) -> Value {
+// Adds a number that may be missing.
+fn put_count_or_null(object: &mut Object, name: &str, number: Option<usize>) {
     match number {
-        Some(number) => Value::from(number as u64),
-        None => Value::Null,
+        Some(number) => put_count(object, name, number),
+        None => object.put(name, Ok(Value::Null)),
     }
+}
+
+// Adds a mount by its number.
+fn put_mount(object: &mut Object, name: &str, place: MountPlace) {
+    let mut text = object.draft();
+    names::push_mount(&mut text, place);
+    object.put_draft(name, text);
 }
 
 // Where an object is, as an object of its mount and its path, or nothing.
@@ -28,21 +36,19 @@ fn place(alloc: Global, place: &Place) -> Result<Value, AllocError> {
     let Place::At { mount, path } = place else {
         return Ok(Value::Null);
     };
-    let mut members = Members::new(alloc);
-    let mount = names::mount(alloc, *mount)?;
-    put_text(alloc, &mut members, "mount", mount.as_str())?;
-    put_text(alloc, &mut members, "path", path.as_str())?;
-    Ok(Value::Object(members))
+    let mut object = Object::new(alloc);
+    put_mount(&mut object, "mount", *mount);
+    object.put_text("path", path.as_str());
+    object.end()
 }
 
 // An open file.
 fn open_file(alloc: Global, file: &OpenShown) -> Result<Value, AllocError> {
-    let mut members = Members::new(alloc);
-    put_number(alloc, &mut members, "descriptor", u64::from(file.number))?;
-    put_text(alloc, &mut members, "access", names::access(file.access))?;
-    let at = place(alloc, &file.place)?;
-    put(alloc, &mut members, "at", at)?;
-    Ok(Value::Object(members))
+    let mut object = Object::new(alloc);
+    object.put_number("descriptor", u64::from(file.number));
+    object.put_text("access", names::access(file.access));
+    object.put("at", place(alloc, &file.place));
+    object.end()
 }
 
 // The open files of a task.
@@ -64,107 +70,116 @@ fn group_ids(alloc: Global, groups: &[u32]) -> Result<Value, AllocError> {
 }
 
 // Adds who a task acts as.
-fn put_credentials(
-    alloc: Global,
-    members: &mut Members,
-    shown: &TaskShown<'_>,
-) -> Result<(), AllocError> {
+fn put_credentials(alloc: Global, object: &mut Object, shown: &TaskShown<'_>) {
     let cred = &shown.task.cred;
-    let groups = group_ids(alloc, cred.groups())?;
-    let capabilities = names::capabilities(alloc, cred.caps())?;
-    put_number(alloc, members, "uid", u64::from(cred.uid()))?;
-    put_number(alloc, members, "gid", u64::from(cred.gid()))?;
-    put(alloc, members, "groups", groups)?;
-    put_text(alloc, members, "capabilities", capabilities.as_str())?;
-    let umask = shown.task.umask.bits();
-    let umask = format!(in alloc; "{umask:03o}")?;
-    put_text(alloc, members, "umask", umask.as_str())
+    object.put_number("uid", u64::from(cred.uid()));
+    object.put_number("gid", u64::from(cred.gid()));
+    object.put("groups", group_ids(alloc, cred.groups()));
+    let mut capabilities = object.draft();
+    names::push_capabilities(&mut capabilities, cred.caps());
+    object.put_draft("capabilities", capabilities);
+    let mut umask = object.draft();
+    umask.push_octal(shown.task.umask.bits(), 3);
+    object.put_draft("umask", umask);
 }
 
 // A task as an object and a newline.
 fn task(alloc: Global, shown: &TaskShown<'_>) -> Result<String, AllocError> {
-    let name = names::task(alloc, &shown.task.name)?;
-    let mut members = Members::new(alloc);
-    put_text(alloc, &mut members, "task", name.as_str())?;
-    put(alloc, &mut members, "namespace", number(shown.namespace))?;
-    put_credentials(alloc, &mut members, shown)?;
-    let root = place(alloc, &shown.root)?;
-    put(alloc, &mut members, "root", root)?;
-    let directory = place(alloc, &shown.directory)?;
-    put(alloc, &mut members, "directory", directory)?;
-    let files = open_files(alloc, &shown.files)?;
-    put(alloc, &mut members, "open", files)?;
-    line_of(alloc, members)
+    let mut object = Object::new(alloc);
+    let mut name = object.draft();
+    names::push_task(&mut name, &shown.task.name);
+    object.put_draft("task", name);
+    put_count(&mut object, "namespace", shown.namespace);
+    put_credentials(alloc, &mut object, shown);
+    object.put("root", place(alloc, &shown.root));
+    object.put("directory", place(alloc, &shown.directory));
+    object.put("open", open_files(alloc, &shown.files));
+    object.line()
 }
 
 // Adds the type of a mount: its group, and that from which it receives.
-fn put_kind(alloc: Global, members: &mut Members, kind: TypeLine) -> Result<(), AllocError> {
+fn put_kind(object: &mut Object, kind: TypeLine) {
     let (word, group, master) = match kind {
         TypeLine::Shared { group, master } => ("shared", Some(group), master),
         TypeLine::Slave { master } => ("slave", None, Some(master)),
         TypeLine::Private => ("private", None, None),
         TypeLine::Unbindable => ("unbindable", None, None),
     };
-    put_text(alloc, members, "propagation", word)?;
-    put(alloc, members, "group", number_or_null(group))?;
-    put(alloc, members, "master", number_or_null(master))
+    object.put_text("propagation", word);
+    put_count_or_null(object, "group", group);
+    put_count_or_null(object, "master", master);
+}
+
+// Adds where in its filesystem the tree begins that a mount shows.
+fn put_root(object: &mut Object, root: &Spot) {
+    match root {
+        Spot::Gone => object.put("root", Ok(Value::Null)),
+        Spot::Reached(names) => {
+            let mut steps = object.draft();
+            names::push_steps(&mut steps, names);
+            steps.push_if_empty("/");
+            object.put_draft("root", steps);
+        }
+    }
 }
 
 // Adds what a mount shows.
-fn put_source(alloc: Global, members: &mut Members, mount: &MountShown) -> Result<(), AllocError> {
-    put(alloc, members, "filesystem", number(mount.filesystem))?;
-    let root = names::spot(alloc, &mount.root)?;
-    put(alloc, members, "root", text_or_null(alloc, &root)?)?;
-    put_text(alloc, members, "type", "plain")?;
-    let flags = names::flags(alloc, mount.flags)?;
-    put_text(alloc, members, "options", flags.as_str())
+fn put_source(object: &mut Object, mount: &MountShown) {
+    put_count(object, "filesystem", mount.filesystem);
+    put_root(object, &mount.root);
+    object.put_text("type", "plain");
+    let mut flags = object.draft();
+    names::push_flags(&mut flags, mount.flags);
+    object.put_draft("options", flags);
 }
 
-// A text that may be missing.
-fn text_or_null(alloc: Global, text: &Option<String>) -> Result<Value, AllocError> {
-    match text {
-        Some(text) => Value::try_from_str(alloc, text.as_str()),
-        None => Ok(Value::Null),
+// Adds what a mount stands on, and its path.
+fn put_target(object: &mut Object, mount: &MountShown) {
+    match mount.parent {
+        Some(parent) => put_mount(object, "parent", parent),
+        None => object.put("parent", Ok(Value::Null)),
+    }
+    match &mount.target {
+        Some(path) => object.put_text("target", path.as_str()),
+        None => object.put("target", Ok(Value::Null)),
     }
 }
 
 // A mount as an object and a newline.
 fn mount(alloc: Global, shown: &MountShown) -> Result<String, AllocError> {
-    let name = names::mount(alloc, shown.place)?;
-    let parent = match shown.parent {
-        Some(parent) => Some(names::mount(alloc, parent)?),
-        None => None,
-    };
-    let mut members = Members::new(alloc);
-    put_text(alloc, &mut members, "mount", name.as_str())?;
-    put(alloc, &mut members, "parent", text_or_null(alloc, &parent)?)?;
-    let target = text_or_null(alloc, &shown.target)?;
-    put(alloc, &mut members, "target", target)?;
-    put_source(alloc, &mut members, shown)?;
-    put_kind(alloc, &mut members, shown.kind)?;
-    line_of(alloc, members)
+    let mut object = Object::new(alloc);
+    put_mount(&mut object, "mount", shown.place);
+    put_target(&mut object, shown);
+    put_source(&mut object, shown);
+    put_kind(&mut object, shown.kind);
+    object.line()
+}
+
+// A mount by its number.
+fn mount_value(alloc: Global, place: MountPlace) -> Result<Value, AllocError> {
+    let mut text = Draft::new(alloc);
+    names::push_mount(&mut text, place);
+    let text = text.end()?;
+    Value::try_from_str(alloc, text.as_str())
 }
 
 // Mounts by their numbers.
 fn mounts(alloc: Global, places: &[MountPlace]) -> Result<Value, AllocError> {
     let mut all = Vec::new(alloc);
     for place in places {
-        let name = names::mount(alloc, *place)?;
-        all.push(Value::try_from_str(alloc, name.as_str())?)?;
+        all.push(mount_value(alloc, *place)?)?;
     }
     Ok(Value::Array(all))
 }
 
 // A peer group as an object and a newline.
 fn group(alloc: Global, line: &PeerLine) -> Result<String, AllocError> {
-    let mut members = Members::new(alloc);
-    put(alloc, &mut members, "peers", number(line.group))?;
-    put(alloc, &mut members, "master", number_or_null(line.master))?;
-    let places = mounts(alloc, &line.members)?;
-    put(alloc, &mut members, "members", places)?;
-    let places = mounts(alloc, &line.slaves)?;
-    put(alloc, &mut members, "slaves", places)?;
-    line_of(alloc, members)
+    let mut object = Object::new(alloc);
+    put_count(&mut object, "peers", line.group);
+    put_count_or_null(&mut object, "master", line.master);
+    object.put("members", mounts(alloc, &line.members));
+    object.put("slaves", mounts(alloc, &line.slaves));
+    object.line()
 }
 
 // The word of a kind.
@@ -185,24 +200,29 @@ fn object(
     node: &Node,
 ) -> Result<String, AllocError> {
     let attr = node.attr();
-    let mode = attr.mode.bits();
-    let mode = format!(in alloc; "{mode:04o}")?;
-    let path = names::rooted(alloc, found.path.as_str())?;
-    let mut members = Members::new(alloc);
-    put(alloc, &mut members, "filesystem", number(filesystem))?;
-    put_text(alloc, &mut members, "path", path.as_str())?;
-    put_text(alloc, &mut members, "kind", kind_word(node.kind()))?;
-    put_text(alloc, &mut members, "mode", mode.as_str())?;
-    put_number(alloc, &mut members, "uid", u64::from(attr.uid))?;
-    put_number(alloc, &mut members, "gid", u64::from(attr.gid))?;
-    put(alloc, &mut members, "size", number(node.bytes().len()))?;
-    line_of(alloc, members)
+    let mut object = Object::new(alloc);
+    put_count(&mut object, "filesystem", filesystem);
+    object.put_text("path", names::or_root(found.path.as_str()));
+    object.put_text("kind", kind_word(node.kind()));
+    let mut mode = object.draft();
+    mode.push_octal(attr.mode.bits(), 4);
+    object.put_draft("mode", mode);
+    object.put_number("uid", u64::from(attr.uid));
+    object.put_number("gid", u64::from(attr.gid));
+    put_count(&mut object, "size", node.bytes().len());
+    object.line()
+}
+
+// Appends a line that was written, unless an allocation failed.
+fn push_line(text: &mut Draft, line: Result<String, AllocError>) -> Result<(), AllocError> {
+    text.push(line?.as_str());
+    Ok(())
 }
 
 // Appends the objects of a filesystem.
 fn push_tree(
     alloc: Global,
-    text: &mut String,
+    text: &mut Draft,
     picture: &Picture<'_>,
     filesystem: usize,
     id: FilesystemId,
@@ -217,15 +237,14 @@ fn push_tree(
             break;
         };
         if let Some(node) = filesystems.node(found.node) {
-            let line = object(alloc, filesystem, &found, node)?;
-            text.push_str(line.as_str())?;
+            push_line(text, object(alloc, filesystem, &found, node))?;
         }
     }
     Ok(())
 }
 
 // Appends the objects of the filesystems that mounts show.
-fn push_trees(alloc: Global, text: &mut String, picture: &Picture<'_>) -> Result<(), AllocError> {
+fn push_trees(alloc: Global, text: &mut Draft, picture: &Picture<'_>) -> Result<(), AllocError> {
     for (index, id) in picture.filesystems.iter().enumerate() {
         let number = index.saturating_add(1);
         if picture.shows_filesystem(number) {
@@ -235,43 +254,38 @@ fn push_trees(alloc: Global, text: &mut String, picture: &Picture<'_>) -> Result
     Ok(())
 }
 
-// Appends the tasks.
-fn push_tasks(alloc: Global, text: &mut String, tasks: &[TaskShown<'_>]) -> Result<(), AllocError> {
-    for shown in tasks {
-        let line = task(alloc, shown)?;
-        text.push_str(line.as_str())?;
-    }
-    Ok(())
-}
-
 // Appends the mounts of a namespace.
-fn push_mounts(alloc: Global, text: &mut String, shown: &[MountShown]) -> Result<(), AllocError> {
+fn push_mounts(alloc: Global, text: &mut Draft, shown: &[MountShown]) -> Result<(), AllocError> {
     for one in shown {
-        let line = mount(alloc, one)?;
-        text.push_str(line.as_str())?;
+        push_line(text, mount(alloc, one))?;
     }
     Ok(())
 }
 
-// Appends the peer groups.
-fn push_groups(alloc: Global, text: &mut String, groups: &[PeerLine]) -> Result<(), AllocError> {
-    for one in groups {
-        let line = group(alloc, one)?;
-        text.push_str(line.as_str())?;
+// Appends tasks, namespaces and peer groups.
+fn push_all(alloc: Global, text: &mut Draft, picture: &Picture<'_>) -> Result<(), AllocError> {
+    for one in &picture.tasks {
+        push_line(text, task(alloc, one))?;
     }
-    Ok(())
-}
-
-/// A world as JSON, with the objects of its trees if they are asked for.
-pub fn shown(alloc: Global, picture: &Picture<'_>, files: bool) -> Result<String, AllocError> {
-    let mut text = String::new(alloc);
-    push_tasks(alloc, &mut text, &picture.tasks)?;
     for namespace in &picture.namespaces {
-        push_mounts(alloc, &mut text, &namespace.mounts)?;
+        push_mounts(alloc, text, &namespace.mounts)?;
     }
-    push_groups(alloc, &mut text, &picture.groups)?;
+    for one in &picture.groups {
+        push_line(text, group(alloc, one))?;
+    }
+    Ok(())
+}
+
+/// Appends a world as JSON, with the objects of its trees if they are asked for.
+pub fn push_shown(
+    alloc: Global,
+    text: &mut Draft,
+    picture: &Picture<'_>,
+    files: bool,
+) -> Result<(), AllocError> {
+    push_all(alloc, text, picture)?;
     if files {
-        push_trees(alloc, &mut text, picture)?;
+        push_trees(alloc, text, picture)?;
     }
-    Ok(text)
+    Ok(())
 }

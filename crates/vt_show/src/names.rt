@@ -1,8 +1,7 @@
 //! Names, paths and words as they are written: each byte as a word of a script spells it.
 use crate::places::Place;
-use std::alloc::{AllocError, Global};
-use std::fmt::Write;
 use vt_check::bytes::is_plain;
+use vt_check::draft::Draft;
 use vt_cred::{Caps, Flags, Kind, Mode, MountFlags};
 use vt_request::{Access, MountPlace, Spot, TaskName, TypeLine};
 
@@ -13,7 +12,7 @@ pub const GONE: &str = "(gone)";
 pub const NOTHING: &str = "-";
 
 /// The capabilities with their names, in the order in which they are written.
-pub const CAPABILITIES: [(Caps, &str); 8] = [
+pub static CAPABILITIES: [(Caps, &str); 8] = [
     (Caps::CAP_CHOWN, "CAP_CHOWN"),
     (Caps::CAP_DAC_OVERRIDE, "CAP_DAC_OVERRIDE"),
     (Caps::CAP_DAC_READ_SEARCH, "CAP_DAC_READ_SEARCH"),
@@ -25,102 +24,91 @@ pub const CAPABILITIES: [(Caps, &str); 8] = [
 ];
 
 // Appends a byte: itself, or its escape.
-fn push_byte(text: &mut String, byte: u8) -> Result<(), AllocError> {
+fn push_byte(text: &mut Draft, byte: u8) {
     if is_plain(byte) {
-        text.push(char::from(byte))
+        text.push_char(char::from(byte));
     } else {
-        write!(text, "\\x{byte:02x}")
+        text.push_escape(byte);
     }
 }
 
 /// Appends a name.
-pub fn push_name(text: &mut String, name: &[u8]) -> Result<(), AllocError> {
+pub fn push_name(text: &mut Draft, name: &[u8]) {
     for byte in name {
-        push_byte(text, *byte)?;
+        push_byte(text, *byte);
     }
-    Ok(())
 }
 
 /// Appends the names of a path, a slash before each.
-pub fn push_steps(text: &mut String, names: &[Vec<u8>]) -> Result<(), AllocError> {
+pub fn push_steps(text: &mut Draft, names: &[Vec<u8>]) {
     for name in names {
-        text.push('/')?;
-        push_name(text, name)?;
+        text.push("/");
+        push_name(text, name);
     }
-    Ok(())
 }
 
 /// A path, or that of the root where it has no names.
-pub fn rooted(alloc: Global, steps: &str) -> Result<String, AllocError> {
-    String::from_str(alloc, if steps.is_empty() { "/" } else { steps })
+pub fn or_root(steps: &str) -> &str {
+    if steps.is_empty() { "/" } else { steps }
 }
 
-/// A path from a root, or nothing where there is none any more.
-pub fn spot(alloc: Global, spot: &Spot) -> Result<Option<String>, AllocError> {
-    match spot {
-        Spot::Gone => Ok(None),
-        Spot::Reached(names) => {
-            let mut steps = String::new(alloc);
-            push_steps(&mut steps, names)?;
-            Ok(Some(rooted(alloc, steps.as_str())?))
-        }
-    }
-}
-
-/// Where a tree begins that a mount shows, between brackets; nothing where it is its filesystem's.
-pub fn bracketed(alloc: Global, root: &Spot) -> Result<String, AllocError> {
-    let mut text = String::new(alloc);
+/// Appends where a tree begins that a mount shows, between brackets; nothing where it is its filesystem's.
+pub fn push_bracketed(text: &mut Draft, root: &Spot) {
     match root {
-        Spot::Gone => write!(text, "[{GONE}]")?,
+        Spot::Gone => {
+            text.push("[");
+            text.push(GONE);
+            text.push("]");
+        }
         Spot::Reached(names) if names.is_empty() => {}
         Spot::Reached(names) => {
-            text.push('[')?;
-            push_steps(&mut text, names)?;
-            text.push(']')?;
+            text.push("[");
+            push_steps(text, names);
+            text.push("]");
         }
     }
-    Ok(text)
 }
 
-/// A mount by its namespace and its place there.
-pub fn mount(alloc: Global, place: MountPlace) -> Result<String, AllocError> {
-    let (namespace, place) = (place.namespace, place.place);
-    format!(in alloc; "{namespace}.{place}")
+/// Appends a number.
+pub fn push_count(text: &mut Draft, number: usize) {
+    text.push_number(number as u64);
 }
 
-/// Several mounts, or that there is none.
-pub fn mounts(alloc: Global, places: &[MountPlace]) -> Result<String, AllocError> {
-    let mut text = String::new(alloc);
-    for place in places {
-        if !text.is_empty() {
-            text.push(',')?;
+/// Appends a mount, by its namespace and its place there.
+pub fn push_mount(text: &mut Draft, place: MountPlace) {
+    push_count(text, place.namespace);
+    text.push(".");
+    push_count(text, place.place);
+}
+
+/// Writes several mounts, or that there is none.
+pub fn write_mounts(text: &mut Draft, places: &[MountPlace]) {
+    for (index, place) in places.iter().enumerate() {
+        if index > 0 {
+            text.push(",");
         }
-        let one = mount(alloc, *place)?;
-        text.push_str(one.as_str())?;
+        push_mount(text, *place);
     }
-    if text.is_empty() {
-        text.push_str(NOTHING)?;
-    }
-    Ok(text)
+    text.push_if_empty(NOTHING);
 }
 
-/// A task.
-pub fn task(alloc: Global, name: &TaskName) -> Result<String, AllocError> {
-    let mut text = String::from_str(alloc, "t")?;
+/// Appends a task.
+pub fn push_task(text: &mut Draft, name: &TaskName) {
+    text.push("t");
     for number in name.numbers() {
-        write!(text, ".{number}")?;
+        text.push(".");
+        text.push_number(u64::from(*number));
     }
-    Ok(text)
 }
 
-/// Where an object is.
-pub fn place(alloc: Global, place: &Place) -> Result<String, AllocError> {
+/// Appends where an object is.
+pub fn push_place(text: &mut Draft, place: &Place) {
     match place {
-        Place::Gone => String::from_str(alloc, GONE),
-        Place::At { mount: at, path } => {
-            let at = mount(alloc, *at)?;
-            let (at, path) = (at.as_str(), path.as_str());
-            format!(in alloc; "{path} on {at}")
+        Place::Gone => text.push(GONE),
+        Place::At { mount, path } => {
+            text.push(path.as_str());
+            text.push(" on ");
+            push_mount(text, *mount);
         }
     }
 }
@@ -134,75 +122,90 @@ pub fn access(access: Access) -> &'static str {
     }
 }
 
-/// The flags of a mount between commas.
-pub fn flags(alloc: Global, flags: MountFlags) -> Result<String, AllocError> {
-    let mut text = String::from_str(alloc, if flags.is_read_only() { "ro" } else { "rw" })?;
+/// Appends the flags of a mount between commas.
+pub fn push_flags(text: &mut Draft, flags: MountFlags) {
+    text.push(if flags.is_read_only() { "ro" } else { "rw" });
     if flags.is_noexec() {
-        text.push_str(",noexec")?;
+        text.push(",noexec");
     }
     if flags.is_nosymfollow() {
-        text.push_str(",nosymfollow")?;
+        text.push(",nosymfollow");
     }
-    Ok(text)
 }
 
-/// The propagation type of a mount.
-pub fn kind(alloc: Global, kind: TypeLine) -> Result<String, AllocError> {
+// Appends the number of a peer group.
+fn push_group(text: &mut Draft, what: &str, group: usize) {
+    text.push(what);
+    push_count(text, group);
+}
+
+/// Appends the propagation type of a mount.
+pub fn push_kind(text: &mut Draft, kind: TypeLine) {
     match kind {
-        TypeLine::Shared {
-            group,
-            master: None,
-        } => format!(in alloc; "shared:{group}"),
-        TypeLine::Shared {
-            group,
-            master: Some(master),
-        } => format!(in alloc; "shared:{group},slave:{master}"),
-        TypeLine::Slave { master } => format!(in alloc; "slave:{master}"),
-        TypeLine::Private => String::from_str(alloc, "private"),
-        TypeLine::Unbindable => String::from_str(alloc, "unbindable"),
+        TypeLine::Shared { group, master } => {
+            push_group(text, "shared:", group);
+            if let Some(master) = master {
+                push_group(text, ",slave:", master);
+            }
+        }
+        TypeLine::Slave { master } => push_group(text, "slave:", master),
+        TypeLine::Private => text.push("private"),
+        TypeLine::Unbindable => text.push("unbindable"),
     }
 }
 
-/// Supplementary groups between commas, or that there are none.
-pub fn groups(alloc: Global, groups: &[u32]) -> Result<String, AllocError> {
-    let mut text = String::new(alloc);
-    for group in groups {
-        let comma = if text.is_empty() { "" } else { "," };
-        write!(text, "{comma}{group}")?;
+/// Appends supplementary groups between commas, or that there are none.
+pub fn push_groups(text: &mut Draft, groups: &[u32]) {
+    if groups.is_empty() {
+        text.push(NOTHING);
     }
-    if text.is_empty() {
-        text.push_str(NOTHING)?;
+    for (index, group) in groups.iter().enumerate() {
+        if index > 0 {
+            text.push(",");
+        }
+        text.push_number(u64::from(*group));
     }
-    Ok(text)
 }
 
-// The capabilities of a set that a task has, or those that it has not, between commas.
-fn named(alloc: Global, caps: Caps, has: bool) -> Result<String, AllocError> {
-    let mut text = String::new(alloc);
+// How long the names are of the capabilities of a set that a task has, or of those that it has not, with commas.
+fn length_of(caps: Caps, has: bool) -> usize {
+    let mut length: usize = 0;
     for (one, name) in &CAPABILITIES {
         if caps.contains(*one) == has {
-            let comma = if text.is_empty() { "" } else { "," };
-            write!(text, "{comma}{name}")?;
+            let comma = usize::from(length > 0);
+            length = length.saturating_add(comma).saturating_add(name.len());
         }
     }
-    Ok(text)
+    length
 }
 
-/// The capabilities of a task. Where it has most of them, those are told that it has not.
-pub fn capabilities(alloc: Global, caps: Caps) -> Result<String, AllocError> {
-    let has = named(alloc, caps, true)?;
-    let lacks = named(alloc, caps, false)?;
-    if lacks.is_empty() {
-        return String::from_str(alloc, "all");
+// Appends those names between commas.
+fn push_named(text: &mut Draft, caps: Caps, has: bool) {
+    let mut is_first = true;
+    for (one, name) in &CAPABILITIES {
+        if caps.contains(*one) == has {
+            if !is_first {
+                text.push(",");
+            }
+            text.push(*name);
+            is_first = false;
+        }
     }
-    if has.is_empty() {
-        return String::from_str(alloc, NOTHING);
+}
+
+/// Appends the capabilities of a task. Where it has most of them, those are told that it has not.
+pub fn push_capabilities(text: &mut Draft, caps: Caps) {
+    let (has, lacks) = (length_of(caps, true), length_of(caps, false));
+    if lacks == 0 {
+        text.push("all");
+    } else if has == 0 {
+        text.push(NOTHING);
+    } else if has <= lacks {
+        push_named(text, caps, true);
+    } else {
+        text.push("all but ");
+        push_named(text, caps, false);
     }
-    if has.len() <= lacks.len() {
-        return Ok(has);
-    }
-    let lacks = lacks.as_str();
-    format!(in alloc; "all but {lacks}")
 }
 
 // The letter of a kind, as ls(1) has it.
@@ -230,17 +233,24 @@ fn last_letter(bits: u16) -> char {
     }
 }
 
-/// Kind and mode of an object, as ls(1) writes them.
-pub fn mode_text(alloc: Global, kind: Kind, mode: Mode) -> Result<String, AllocError> {
+// The bits of a mode, each with its letter, up to the others' search bit.
+static LETTERS: [(u16, char); 8] = [
+    (0o400, 'r'),
+    (0o200, 'w'),
+    (0o100, 'x'),
+    (0o40, 'r'),
+    (0o20, 'w'),
+    (0o10, 'x'),
+    (0o4, 'r'),
+    (0o2, 'w'),
+];
+
+/// Appends kind and mode of an object, as ls(1) writes them.
+pub fn push_mode(text: &mut Draft, kind: Kind, mode: Mode) {
     let bits = mode.bits();
-    let mut text = String::new(alloc);
-    text.push(kind_letter(kind))?;
-    for (bit, word) in [(0o400, 'r'), (0o200, 'w'), (0o100, 'x'), (0o40, 'r')] {
-        text.push(letter(bits, bit, word))?;
+    text.push_char(kind_letter(kind));
+    for (bit, word) in &LETTERS {
+        text.push_char(letter(bits, *bit, *word));
     }
-    for (bit, word) in [(0o20, 'w'), (0o10, 'x'), (0o4, 'r'), (0o2, 'w')] {
-        text.push(letter(bits, bit, word))?;
-    }
-    text.push(last_letter(bits))?;
-    Ok(text)
+    text.push_char(last_letter(bits));
 }

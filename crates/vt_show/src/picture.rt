@@ -4,7 +4,7 @@ use crate::places::{Place, Places};
 use indexmap::IndexSet;
 use std::alloc::{AllocError, Global};
 use vt_cred::MountFlags;
-use vt_location::{FilesystemId, Mount, NamespaceId};
+use vt_location::{FilesystemId, Mount, MountId, NamespaceId};
 use vt_ns::World;
 use vt_request::{Access, MountPlace, PeerLine, Spot, TypeLine};
 use vt_tasks::Task;
@@ -64,59 +64,6 @@ pub struct Picture<'a> {
     pub filesystems: IndexSet<FilesystemId>,
 }
 
-// What mounts are shown by.
-#[derive(Drop)]
-struct Numbers<'a> {
-    places: &'a Places<'a>,
-    groups: GroupNumbers,
-    filesystems: IndexSet<FilesystemId>,
-}
-
-impl<'a> Numbers<'a> {
-    // The number of a filesystem, which is the next one where it is new.
-    fn filesystem(&mut self, id: FilesystemId) -> Result<usize, AllocError> {
-        self.filesystems.insert(id)?;
-        let index = self.filesystems.get_index_of(&id).unwrap_or_default();
-        Ok(index.saturating_add(1))
-    }
-
-    // A mount at this place.
-    fn mount(
-        &mut self,
-        world: &World,
-        place: MountPlace,
-        mount: &Mount,
-    ) -> Result<MountShown, AllocError> {
-        let parent = mount.mount_point;
-        Ok(MountShown {
-            place,
-            parent: parent.and_then(|point| self.places.of(point.mount)),
-            target: self.places.target(mount)?,
-            filesystem: self.filesystem(mount.root.filesystem)?,
-            root: world.root_spot_of(mount)?,
-            flags: mount.flags,
-            kind: self.groups.shown(mount.propagation),
-        })
-    }
-
-    // The mounts of a namespace that has this number.
-    fn namespace(
-        &mut self,
-        alloc: Global,
-        world: &World,
-        number: usize,
-        namespace: NamespaceId,
-    ) -> Result<NamespaceShown, AllocError> {
-        let mut mounts = Vec::new(alloc);
-        for id in world.all_mounts().attached_in(namespace) {
-            if let (Some(place), Some(mount)) = (self.places.of(*id), world.all_mounts().get(*id)) {
-                mounts.push(self.mount(world, place, &mount)?)?;
-            }
-        }
-        Ok(NamespaceShown { number, mounts })
-    }
-}
-
 // The open files of a task.
 fn files_of(alloc: Global, places: &Places<'_>, task: &Task) -> Result<Vec<OpenShown>, AllocError> {
     let mut files = Vec::new(alloc);
@@ -138,47 +85,157 @@ fn namespace_number(world: &World, id: NamespaceId) -> usize {
     index.unwrap_or_default().saturating_add(1)
 }
 
-// The tasks, in the order in which they were forked.
-fn tasks_of<'a>(
+// A task, as it is shown.
+fn task_of<'a>(
+    alloc: Global,
+    world: &World,
+    places: &Places<'_>,
+    task: &'a Task,
+) -> Result<TaskShown<'a>, AllocError> {
+    let root = places.place_of(task.root)?;
+    let directory = places.place_of(task.directory)?;
+    let files = files_of(alloc, places, task)?;
+    Ok(TaskShown {
+        task,
+        namespace: namespace_number(world, task.namespace),
+        root,
+        directory,
+        files,
+    })
+}
+
+impl<'a> Picture<'a> {
+    // The number of a filesystem, which is the next one where it is new.
+    fn filesystem(&mut self, id: FilesystemId) -> Result<usize, AllocError> {
+        self.filesystems.insert(id)?;
+        let index = self.filesystems.get_index_of(&id).unwrap_or_default();
+        Ok(index.saturating_add(1))
+    }
+
+    // A mount at this place.
+    fn mount(
+        &mut self,
+        places: &Places<'_>,
+        groups: &GroupNumbers,
+        place: MountPlace,
+        mount: &Mount,
+    ) -> Result<MountShown, AllocError> {
+        let parent = match mount.mount_point {
+            Some(point) => places.of(point.mount),
+            None => None,
+        };
+        let filesystem = self.filesystem(mount.root.filesystem)?;
+        let target = places.target(mount)?;
+        let root = self.world.root_spot_of(mount)?;
+        Ok(MountShown {
+            place,
+            parent,
+            target,
+            filesystem,
+            root,
+            flags: mount.flags,
+            kind: groups.shown(mount.propagation),
+        })
+    }
+
+    // Adds a mount to those of a namespace, if it is attached.
+    fn add_mount(
+        &mut self,
+        places: &Places<'_>,
+        groups: &GroupNumbers,
+        id: MountId,
+        mounts: &mut Vec<MountShown>,
+    ) -> Result<(), AllocError> {
+        let (Some(place), Some(mount)) = (places.of(id), self.world.all_mounts().get(id)) else {
+            return Ok(());
+        };
+        mounts.push(self.mount(places, groups, place, &mount)?)?;
+        Ok(())
+    }
+
+    // Adds a namespace of this number, with its mounts.
+    fn add_namespace(
+        &mut self,
+        alloc: Global,
+        places: &Places<'_>,
+        groups: &GroupNumbers,
+        number: usize,
+        namespace: NamespaceId,
+    ) -> Result<(), AllocError> {
+        let mut mounts = Vec::new(alloc);
+        for id in self.world.all_mounts().attached_in(namespace) {
+            self.add_mount(places, groups, *id, &mut mounts)?;
+        }
+        self.namespaces.push(NamespaceShown { number, mounts })?;
+        Ok(())
+    }
+
+    // Adds the namespaces, in the order in which they were made.
+    fn add_namespaces(
+        &mut self,
+        alloc: Global,
+        places: &Places<'_>,
+        groups: &GroupNumbers,
+    ) -> Result<(), AllocError> {
+        for (index, id) in self.world.namespaces().iter().enumerate() {
+            self.add_namespace(alloc, places, groups, index.saturating_add(1), *id)?;
+        }
+        Ok(())
+    }
+
+    // Adds the tasks, in the order in which they were forked.
+    fn add_tasks(&mut self, alloc: Global, places: &Places<'_>) -> Result<(), AllocError> {
+        for task in self.world.tasks().kept() {
+            self.tasks.push(task_of(alloc, self.world, places, task)?)?;
+        }
+        self.tasks.sort_by_key(|shown| shown.task.birth)?;
+        Ok(())
+    }
+
+    // Adds all that is shown by the places of mounts.
+    fn add_all(&mut self, alloc: Global, places: &Places<'_>) -> Result<(), AllocError> {
+        let groups = GroupNumbers::new(alloc, self.world, &self.groups)?;
+        let added = self.add_namespaces(alloc, places, &groups);
+        drop(groups);
+        added?;
+        self.add_tasks(alloc, places)
+    }
+}
+
+// A picture without tasks and namespaces.
+fn empty_picture<'a>(alloc: Global, world: &'a World) -> Result<Picture<'a>, AllocError> {
+    let groups = world.peers()?;
+    Ok(Picture {
+        world,
+        tasks: Vec::new(alloc),
+        namespaces: Vec::new(alloc),
+        groups,
+        filesystems: IndexSet::new(alloc),
+    })
+}
+
+// The picture by the places of mounts.
+fn picture_by<'a>(
     alloc: Global,
     world: &'a World,
     places: &Places<'_>,
-) -> Result<Vec<TaskShown<'a>>, AllocError> {
-    let mut tasks = Vec::new(alloc);
-    for task in world.tasks().kept() {
-        tasks.push(TaskShown {
-            task,
-            namespace: namespace_number(world, task.namespace),
-            root: places.place_of(task.root)?,
-            directory: places.place_of(task.directory)?,
-            files: files_of(alloc, places, task)?,
-        })?;
+) -> Result<Picture<'a>, AllocError> {
+    let mut picture = empty_picture(alloc, world)?;
+    match picture.add_all(alloc, places) {
+        Ok(()) => Ok(picture),
+        Err(_) => {
+            drop(picture);
+            Err(AllocError)
+        }
     }
-    tasks.sort_by_key(|shown| shown.task.birth)?;
-    Ok(tasks)
 }
 
 /// What is shown of a world.
 pub fn picture_of<'a>(alloc: Global, world: &'a World) -> Result<Picture<'a>, AllocError> {
     let places = Places::new(alloc, world)?;
-    let groups = world.peers()?;
-    let mut numbers = Numbers {
-        places: &places,
-        groups: GroupNumbers::new(alloc, world, &groups)?,
-        filesystems: IndexSet::new(alloc),
-    };
-    let mut namespaces = Vec::new(alloc);
-    for (index, id) in world.namespaces().iter().enumerate() {
-        let number = index.saturating_add(1);
-        namespaces.push(numbers.namespace(alloc, world, number, *id)?)?;
-    }
-    Ok(Picture {
-        world,
-        tasks: tasks_of(alloc, world, &places)?,
-        namespaces,
-        groups,
-        filesystems: numbers.filesystems,
-    })
+    let picture = picture_by(alloc, world, &places);
+    drop(places);
+    picture
 }
 
 impl Picture<'_> {

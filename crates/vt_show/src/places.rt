@@ -1,8 +1,9 @@
 //! Where mounts and objects are, as paths from the root mount of their namespace.
-use crate::names::{push_steps, rooted};
-use crate::tree_walk::path_to;
+use crate::names::push_steps;
+use crate::tree_walk::push_path_to;
 use indexmap::IndexMap;
 use std::alloc::{AllocError, Global};
+use vt_check::draft::Draft;
 use vt_location::{Location, Mount, MountId};
 use vt_ns::World;
 use vt_request::{MountPlace, Spot};
@@ -31,11 +32,22 @@ impl<'a> Places<'a> {
             world,
             by_mount: IndexMap::new(alloc),
         };
-        for (index, namespace) in world.namespaces().iter().enumerate() {
-            let listed = world.all_mounts().attached_in(*namespace);
-            places.add(index.saturating_add(1), listed)?;
+        match places.add_all() {
+            Ok(()) => Ok(places),
+            Err(_) => {
+                drop(places);
+                Err(AllocError)
+            }
         }
-        Ok(places)
+    }
+
+    // Adds the mounts of all namespaces.
+    fn add_all(&mut self) -> Result<(), AllocError> {
+        for (index, namespace) in self.world.namespaces().iter().enumerate() {
+            let listed = self.world.all_mounts().attached_in(*namespace);
+            self.add(index.saturating_add(1), listed)?;
+        }
+        Ok(())
     }
 
     // Adds the mounts of a namespace.
@@ -67,43 +79,68 @@ impl<'a> Places<'a> {
         Ok(spots)
     }
 
-    // The path to a mount's root, empty for that of the root mount, or nothing where it is reached no longer.
-    fn steps_to(&self, mount: &Mount) -> Result<Option<String>, AllocError> {
-        let mut steps = String::new(self.alloc);
+    // Appends the path to a mount's root, nothing for that of the root mount, and says whether it is still reached.
+    fn push_steps_to(&self, mount: &Mount, path: &mut Draft) -> Result<bool, AllocError> {
         for spot in self.spots_up(mount)?.iter().rev() {
             match spot {
-                Spot::Gone => return Ok(None),
-                Spot::Reached(names) => push_steps(&mut steps, names)?,
+                Spot::Gone => return Ok(false),
+                Spot::Reached(names) => push_steps(path, names),
             }
         }
-        Ok(Some(steps))
+        Ok(true)
     }
 
     /// The path to the root of a mount, or nothing where it is reached no longer.
     pub fn target(&self, mount: &Mount) -> Result<Option<String>, AllocError> {
-        match self.steps_to(mount)? {
-            Some(steps) => Ok(Some(rooted(self.alloc, steps.as_str())?)),
-            None => Ok(None),
+        let mut path = Draft::new(self.alloc);
+        if !self.push_steps_to(mount, &mut path)? {
+            return Ok(None);
+        }
+        path.push_if_empty("/");
+        Ok(Some(path.end()?))
+    }
+
+    // Whether an object is a directory.
+    fn is_directory(&self, at: Location) -> bool {
+        match self.world.filesystems().node(at.node) {
+            Some(node) => node.is_directory(),
+            None => false,
         }
     }
 
-    // The path from a mount's root to an object that it shows, or nothing where there is none.
-    fn steps_on(&self, mount: &Mount, at: Location) -> Result<Option<String>, AllocError> {
-        let filesystems = self.world.filesystems();
-        let is_directory = filesystems
-            .node(at.node)
-            .is_some_and(|node| node.is_directory());
-        if !is_directory {
-            return path_to(self.alloc, filesystems, mount.root, at.node);
-        }
-        let mut steps = String::new(self.alloc);
+    // Appends the path from a mount's root to a directory that it shows, and says whether there is one.
+    fn push_spot(&self, at: Location, path: &mut Draft) -> Result<bool, AllocError> {
         match self.world.spot_of(at)? {
-            Spot::Gone => Ok(None),
+            Spot::Gone => Ok(false),
             Spot::Reached(names) => {
-                push_steps(&mut steps, &names)?;
-                Ok(Some(steps))
+                push_steps(path, &names);
+                Ok(true)
             }
         }
+    }
+
+    // Appends the path from a mount's root to an object that it shows, and says whether there is one.
+    fn push_steps_on(
+        &self,
+        mount: &Mount,
+        at: Location,
+        path: &mut Draft,
+    ) -> Result<bool, AllocError> {
+        if self.is_directory(at) {
+            return self.push_spot(at, path);
+        }
+        push_path_to(
+            self.alloc,
+            self.world.filesystems(),
+            mount.root,
+            at.node,
+            path,
+        )
+    }
+
+    // Appends the path of a place, and says whether it is still reached.
+    fn push_path(&self, mount: &Mount, at: Location, path: &mut Draft) -> Result<bool, AllocError> {
+        Ok(self.push_steps_to(mount, path)? && self.push_steps_on(mount, at, path)?)
     }
 
     /// Where a root, a working directory or an open file is.
@@ -114,16 +151,14 @@ impl<'a> Places<'a> {
         let Some(mount) = self.world.all_mounts().get(at.mount) else {
             return Ok(Place::Gone);
         };
-        let Some(mut path) = self.steps_to(&mount)? else {
+        let mut path = Draft::new(self.alloc);
+        if !self.push_path(&mount, at, &mut path)? {
             return Ok(Place::Gone);
-        };
-        let Some(steps) = self.steps_on(&mount, at)? else {
-            return Ok(Place::Gone);
-        };
-        path.push_str(steps.as_str())?;
+        }
+        path.push_if_empty("/");
         Ok(Place::At {
             mount: place,
-            path: rooted(self.alloc, path.as_str())?,
+            path: path.end()?,
         })
     }
 }

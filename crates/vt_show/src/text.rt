@@ -6,9 +6,10 @@ use crate::picture::{MountShown, NamespaceShown, OpenShown, Picture, TaskShown};
 use crate::places::Place;
 use crate::tree_text::push_trees;
 use std::alloc::{AllocError, Global};
-use vt_request::PeerLine;
+use vt_check::draft::Draft;
+use vt_request::{MountPlace, PeerLine};
 
-const MOUNT_HEADS: [&str; 6] = [
+static MOUNT_HEADS: [&str; 6] = [
     "MOUNT",
     "TARGET",
     "SOURCE",
@@ -17,155 +18,177 @@ const MOUNT_HEADS: [&str; 6] = [
     "PROPAGATION",
 ];
 
-const GROUP_HEADS: [&str; 4] = ["GROUP", "MASTER", "MEMBERS", "SLAVES"];
+static GROUP_HEADS: [&str; 4] = ["GROUP", "MASTER", "MEMBERS", "SLAVES"];
 
-// Appends a line of a task: what is told, and in which words.
-fn push_line(text: &mut String, what: &str, words: &str) -> Result<(), AllocError> {
-    let line = format!(in *text.allocator(); "  {what:<13}{words}\n")?;
-    text.push_str(line.as_str())
+// The columns that a line of a task has before its words.
+const WORDS: usize = 13;
+
+// Begins a line of a task by what is told.
+fn begin_line(text: &mut Draft, what: &str) {
+    text.push("  ");
+    text.push(what);
+    text.push_times(' ', WORDS.saturating_sub(what.len()));
 }
 
 // Appends where an object is.
-fn push_place(
-    alloc: Global,
-    text: &mut String,
-    what: &str,
-    place: &Place,
-) -> Result<(), AllocError> {
-    let words = names::place(alloc, place)?;
-    push_line(text, what, words.as_str())
+fn push_place(text: &mut Draft, what: &str, place: &Place) {
+    begin_line(text, what);
+    names::push_place(text, place);
+    text.push("\n");
 }
 
 // Appends an open file.
-fn push_open(alloc: Global, text: &mut String, file: &OpenShown) -> Result<(), AllocError> {
-    let (number, access) = (file.number, names::access(file.access));
-    let place = names::place(alloc, &file.place)?;
-    let place = place.as_str();
-    let what = format!(in alloc; "open {number}")?;
-    let words = format!(in alloc; "{access} {place}")?;
-    push_line(text, what.as_str(), words.as_str())
+fn push_open(text: &mut Draft, file: &OpenShown) {
+    let begin = text.len();
+    text.push("  open ");
+    text.push_number(u64::from(file.number));
+    let shown = text.len().saturating_sub(begin).saturating_sub(2);
+    text.push_times(' ', WORDS.saturating_sub(shown));
+    text.push(names::access(file.access));
+    text.push(" ");
+    names::push_place(text, &file.place);
+    text.push("\n");
 }
 
 // Appends who a task acts as.
-fn push_credentials(
-    alloc: Global,
-    text: &mut String,
-    shown: &TaskShown<'_>,
-) -> Result<(), AllocError> {
+fn push_credentials(text: &mut Draft, shown: &TaskShown<'_>) {
     let cred = &shown.task.cred;
-    let (uid, gid) = (cred.uid(), cred.gid());
-    let groups = names::groups(alloc, cred.groups())?;
-    let groups = groups.as_str();
-    let ids = format!(in alloc; "uid {uid}, gid {gid}, groups {groups}")?;
-    push_line(text, "ids", ids.as_str())?;
-    let capabilities = names::capabilities(alloc, cred.caps())?;
-    push_line(text, "capabilities", capabilities.as_str())?;
-    let umask = shown.task.umask.bits();
-    let umask = format!(in alloc; "{umask:03o}")?;
-    push_line(text, "umask", umask.as_str())
+    begin_line(text, "ids");
+    text.push("uid ");
+    text.push_number(u64::from(cred.uid()));
+    text.push(", gid ");
+    text.push_number(u64::from(cred.gid()));
+    text.push(", groups ");
+    names::push_groups(text, cred.groups());
+    text.push("\n");
+    begin_line(text, "capabilities");
+    names::push_capabilities(text, cred.caps());
+    text.push("\n");
+    begin_line(text, "umask");
+    text.push_octal(shown.task.umask.bits(), 3);
+    text.push("\n");
 }
 
 // Appends a task.
-fn push_task(alloc: Global, text: &mut String, shown: &TaskShown<'_>) -> Result<(), AllocError> {
-    let name = names::task(alloc, &shown.task.name)?;
-    let (name, namespace) = (name.as_str(), shown.namespace);
-    let head = format!(in alloc; "TASK {name} in namespace {namespace}\n")?;
-    text.push_str(head.as_str())?;
-    push_credentials(alloc, text, shown)?;
-    push_place(alloc, text, "root", &shown.root)?;
-    push_place(alloc, text, "directory", &shown.directory)?;
+fn push_task(text: &mut Draft, shown: &TaskShown<'_>) {
+    text.push("TASK ");
+    names::push_task(text, &shown.task.name);
+    text.push(" in namespace ");
+    names::push_count(text, shown.namespace);
+    text.push("\n");
+    push_credentials(text, shown);
+    push_place(text, "root", &shown.root);
+    push_place(text, "directory", &shown.directory);
     for file in &shown.files {
-        push_open(alloc, text, file)?;
+        push_open(text, file);
     }
-    Ok(())
 }
 
-// The path of a mount behind its branch.
-fn target_of(alloc: Global, branch: &Branch<'_>) -> Result<String, AllocError> {
-    let mut target = String::from_str(alloc, branch.lead.as_str())?;
-    match &branch.mount.target {
-        Some(path) => target.push_str(path.as_str())?,
-        None => target.push_str(names::GONE)?,
-    }
-    Ok(target)
+// Adds the path of a mount behind its branch.
+fn add_target(table: &mut Table, branch: &Branch<'_>) {
+    let mut target = table.draft();
+    branch.push(&mut target);
+    target.push(match &branch.mount.target {
+        Some(path) => path.as_str(),
+        None => names::GONE,
+    });
+    table.add(target);
 }
 
-/// What a mount shows: its filesystem, and where in it.
-pub fn source_of(alloc: Global, mount: &MountShown) -> Result<String, AllocError> {
-    let number = mount.filesystem;
-    let root = names::bracketed(alloc, &mount.root)?;
-    let root = root.as_str();
-    format!(in alloc; "plain:{number}{root}")
+// Adds what a mount shows: its filesystem, and where in it.
+fn add_source(table: &mut Table, mount: &MountShown) {
+    let mut source = table.draft();
+    source.push("plain:");
+    names::push_count(&mut source, mount.filesystem);
+    names::push_bracketed(&mut source, &mount.root);
+    table.add(source);
 }
 
-// The row of a mount.
-fn mount_row(alloc: Global, branch: &Branch<'_>) -> Result<Vec<String>, AllocError> {
+// Adds the row of a mount.
+fn add_mount(table: &mut Table, branch: &Branch<'_>) {
     let mount = branch.mount;
-    let mut row = Vec::new(alloc);
-    row.push(names::mount(alloc, mount.place)?)?;
-    row.push(target_of(alloc, branch)?)?;
-    row.push(source_of(alloc, mount)?)?;
-    row.push(String::from_str(alloc, "plain")?)?;
-    row.push(names::flags(alloc, mount.flags)?)?;
-    row.push(names::kind(alloc, mount.kind)?)?;
-    Ok(row)
+    let mut place = table.draft();
+    names::push_mount(&mut place, mount.place);
+    table.add(place);
+    add_target(table, branch);
+    add_source(table, mount);
+    table.add_text("plain");
+    let mut flags = table.draft();
+    names::push_flags(&mut flags, mount.flags);
+    table.add(flags);
+    let mut kind = table.draft();
+    names::push_kind(&mut kind, mount.kind);
+    table.add(kind);
 }
 
 // Appends the mounts of a namespace.
 fn push_namespace(
     alloc: Global,
-    text: &mut String,
+    text: &mut Draft,
     namespace: &NamespaceShown,
 ) -> Result<(), AllocError> {
-    let number = namespace.number;
-    let head = format!(in alloc; "\nNAMESPACE {number}\n")?;
-    text.push_str(head.as_str())?;
-    let mut table = Table::new(alloc, MOUNT_HEADS.as_slice())?;
+    text.push("\nNAMESPACE ");
+    names::push_count(text, namespace.number);
+    text.push("\n");
+    let mut table = Table::new(alloc, &MOUNT_HEADS);
     for branch in &branches(alloc, &namespace.mounts)? {
-        table.push(mount_row(alloc, branch)?)?;
+        add_mount(&mut table, branch);
     }
     table.write(text)
 }
 
-// The row of a peer group.
-fn group_row(alloc: Global, line: &PeerLine) -> Result<Vec<String>, AllocError> {
-    let group = line.group;
-    let mut row = Vec::new(alloc);
-    row.push(format!(in alloc; "{group}")?)?;
-    row.push(match line.master {
-        Some(master) => format!(in alloc; "{master}")?,
-        None => String::from_str(alloc, names::NOTHING)?,
-    })?;
-    row.push(names::mounts(alloc, &line.members)?)?;
-    row.push(names::mounts(alloc, &line.slaves)?)?;
-    Ok(row)
+// Adds mounts by their numbers.
+fn add_mounts(table: &mut Table, places: &[MountPlace]) {
+    let mut text = table.draft();
+    names::write_mounts(&mut text, places);
+    table.add(text);
+}
+
+// Adds the row of a peer group.
+fn add_group(table: &mut Table, line: &PeerLine) {
+    table.add_number(line.group as u64);
+    match line.master {
+        Some(master) => table.add_number(master as u64),
+        None => table.add_text(names::NOTHING),
+    }
+    add_mounts(table, &line.members);
+    add_mounts(table, &line.slaves);
 }
 
 // Appends the peer groups, if there are any.
-fn push_groups(alloc: Global, text: &mut String, groups: &[PeerLine]) -> Result<(), AllocError> {
+fn push_groups(alloc: Global, text: &mut Draft, groups: &[PeerLine]) -> Result<(), AllocError> {
     if groups.is_empty() {
         return Ok(());
     }
-    text.push_str("\nPEER GROUPS\n")?;
-    let mut table = Table::new(alloc, GROUP_HEADS.as_slice())?;
+    text.push("\nPEER GROUPS\n");
+    let mut table = Table::new(alloc, &GROUP_HEADS);
     for line in groups {
-        table.push(group_row(alloc, line)?)?;
+        add_group(&mut table, line);
     }
     table.write(text)
 }
 
-/// A world as text, with the trees of its filesystems if they are asked for.
-pub fn shown(alloc: Global, picture: &Picture<'_>, files: bool) -> Result<String, AllocError> {
-    let mut text = String::new(alloc);
+// Appends the tasks and the namespaces.
+fn push_all(alloc: Global, text: &mut Draft, picture: &Picture<'_>) -> Result<(), AllocError> {
     for task in &picture.tasks {
-        push_task(alloc, &mut text, task)?;
+        push_task(text, task);
     }
     for namespace in &picture.namespaces {
-        push_namespace(alloc, &mut text, namespace)?;
+        push_namespace(alloc, text, namespace)?;
     }
-    push_groups(alloc, &mut text, &picture.groups)?;
+    push_groups(alloc, text, &picture.groups)
+}
+
+/// Appends a world as text, with the trees of its filesystems if they are asked for.
+pub fn push_shown(
+    alloc: Global,
+    text: &mut Draft,
+    picture: &Picture<'_>,
+    files: bool,
+) -> Result<(), AllocError> {
+    push_all(alloc, text, picture)?;
     if files {
-        push_trees(alloc, picture, &mut text)?;
+        push_trees(alloc, picture, text)?;
     }
-    Ok(text)
+    Ok(())
 }

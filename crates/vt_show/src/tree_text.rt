@@ -1,52 +1,56 @@
 //! The tree of a filesystem as text.
 use crate::columns::Table;
-use crate::names::{mode_text, push_name};
+use crate::names::{push_count, push_mode, push_name};
 use crate::picture::Picture;
 use crate::tree_walk::{Found, TreeWalk};
 use std::alloc::{AllocError, Global};
+use vt_check::draft::Draft;
 use vt_fs::Filesystems;
 use vt_location::FilesystemId;
 use vt_node::{Kind, Node};
 
-const HEADS: [&str; 5] = ["MODE", "UID", "GID", "SIZE", "NAME"];
+static HEADS: [&str; 5] = ["MODE", "UID", "GID", "SIZE", "NAME"];
 
-// The name of an object behind two spaces for each name above it, and what a symlink leads to.
-fn name_of(alloc: Global, found: &Found, node: &Node) -> Result<String, AllocError> {
-    let mut text = " ".repeat(alloc, found.depth.saturating_mul(2))?;
-    let name = found.path.as_str().rsplit('/').next().unwrap_or_default();
-    text.push_str(if found.depth == 0 { "/" } else { name })?;
+// Adds the name of an object behind two spaces for each name above it, and what a symlink leads to.
+fn add_name(table: &mut Table, found: &Found, node: &Node) {
+    let mut text = table.draft();
+    text.push_times(' ', found.depth.saturating_mul(2));
+    text.push(if found.depth == 0 {
+        "/"
+    } else {
+        found.path.as_str().get(found.name..).unwrap_or_default()
+    });
     if node.kind() == Kind::Symlink {
-        text.push_str(" -> ")?;
-        push_name(&mut text, node.bytes())?;
+        text.push(" -> ");
+        push_name(&mut text, node.bytes());
     }
     if node.is_opaque() {
-        text.push_str(" (opaque)")?;
+        text.push(" (opaque)");
     }
-    Ok(text)
+    table.add(text);
 }
 
-// The row of an object.
-fn row_of(alloc: Global, found: &Found, node: &Node) -> Result<Vec<String>, AllocError> {
+// Adds the row of an object.
+fn add_object(table: &mut Table, found: &Found, node: &Node) {
     let attr = node.attr();
-    let (uid, gid, size) = (attr.uid, attr.gid, node.bytes().len());
-    let mut row = Vec::new(alloc);
-    row.push(mode_text(alloc, node.kind(), attr.mode)?)?;
-    row.push(format!(in alloc; "{uid}")?)?;
-    row.push(format!(in alloc; "{gid}")?)?;
-    row.push(format!(in alloc; "{size}")?)?;
-    row.push(name_of(alloc, found, node)?)?;
-    Ok(row)
+    let mut mode = table.draft();
+    push_mode(&mut mode, node.kind(), attr.mode);
+    table.add(mode);
+    table.add_number(u64::from(attr.uid));
+    table.add_number(u64::from(attr.gid));
+    table.add_number(node.bytes().len() as u64);
+    add_name(table, found, node);
 }
 
-// The tree of a filesystem.
-fn table_of(
+// Adds the objects of a filesystem.
+fn add_objects(
     alloc: Global,
+    table: &mut Table,
     filesystems: &Filesystems,
     id: FilesystemId,
-) -> Result<Table, AllocError> {
-    let mut table = Table::new(alloc, HEADS.as_slice())?;
+) -> Result<(), AllocError> {
     let Some(root) = filesystems.root(id) else {
-        return Ok(table);
+        return Ok(());
     };
     let mut walk = TreeWalk::new(alloc, filesystems, root)?;
     for _ in 0..u64::MAX {
@@ -54,24 +58,37 @@ fn table_of(
             break;
         };
         if let Some(node) = filesystems.node(found.node) {
-            table.push(row_of(alloc, &found, node)?)?;
+            add_object(table, &found, node);
         }
     }
-    Ok(table)
+    Ok(())
+}
+
+// Appends the tree of a filesystem.
+fn push_tree(
+    alloc: Global,
+    picture: &Picture<'_>,
+    id: FilesystemId,
+    text: &mut Draft,
+) -> Result<(), AllocError> {
+    let mut table = Table::new(alloc, &HEADS);
+    add_objects(alloc, &mut table, picture.world.filesystems(), id)?;
+    table.write(text)
 }
 
 /// Appends the trees of the filesystems that mounts show.
 pub fn push_trees(
     alloc: Global,
     picture: &Picture<'_>,
-    text: &mut String,
+    text: &mut Draft,
 ) -> Result<(), AllocError> {
     for (index, id) in picture.filesystems.iter().enumerate() {
         let number = index.saturating_add(1);
         if picture.shows_filesystem(number) {
-            let head = format!(in alloc; "\nFILESYSTEM plain:{number}\n")?;
-            text.push_str(head.as_str())?;
-            table_of(alloc, picture.world.filesystems(), *id)?.write(text)?;
+            text.push("\nFILESYSTEM plain:");
+            push_count(text, number);
+            text.push("\n");
+            push_tree(alloc, picture, *id, text)?;
         }
     }
     Ok(())

@@ -1,6 +1,7 @@
 //! The objects of a tree, one after the other.
 use crate::names::push_name;
 use std::alloc::{AllocError, Global};
+use vt_check::draft::Draft;
 use vt_fs::Filesystems;
 use vt_location::NodeRef;
 
@@ -9,6 +10,8 @@ use vt_location::NodeRef;
 pub struct Found {
     /// The path from the top, empty for the top itself.
     pub path: String,
+    /// Where the last of its names begins.
+    pub name: usize,
     /// How many names the path has.
     pub depth: usize,
     pub node: NodeRef,
@@ -17,11 +20,14 @@ pub struct Found {
 impl Found {
     // What a name in it leads to.
     fn child(&self, alloc: Global, name: &[u8], node: NodeRef) -> Result<Self, AllocError> {
-        let mut path = String::from_str(alloc, self.path.as_str())?;
-        path.push('/')?;
-        push_name(&mut path, name)?;
+        let mut path = Draft::new(alloc);
+        path.push(self.path.as_str());
+        path.push("/");
+        let begin = path.len();
+        push_name(&mut path, name);
         Ok(Found {
-            path,
+            path: path.end()?,
+            name: begin,
             depth: self.depth.saturating_add(1),
             node,
         })
@@ -46,6 +52,7 @@ impl<'a> TreeWalk<'a> {
         let mut waiting = Vec::new(alloc);
         waiting.push(Found {
             path: String::new(alloc),
+            name: 0,
             depth: 0,
             node: top,
         })?;
@@ -80,20 +87,23 @@ impl<'a> TreeWalk<'a> {
     }
 }
 
-/// The path from a directory to the first name of an object below it, or nothing where there is none.
-pub fn path_to(
+/// Appends the path from a directory to the first name of an object below it, and says whether there is one.
+pub fn push_path_to(
     alloc: Global,
     filesystems: &Filesystems,
     top: NodeRef,
     object: NodeRef,
-) -> Result<Option<String>, AllocError> {
+    path: &mut Draft,
+) -> Result<bool, AllocError> {
     let mut walk = TreeWalk::new(alloc, filesystems, top)?;
     for _ in 0..u64::MAX {
-        match walk.next()? {
-            Some(found) if found.node == object => return Ok(Some(found.path)),
-            Some(_) => {}
-            None => break,
+        let Some(found) = walk.next()? else {
+            return Ok(false);
+        };
+        if found.node == object {
+            path.push(found.path.as_str());
+            return Ok(true);
         }
     }
-    Ok(None)
+    Ok(false)
 }

@@ -1,3 +1,12 @@
+pub mod KeptOverlays
+pub mod LayersCounted
+pub mod LayersStanding
 pub mod Lending
 pub mod Looked
+pub mod MountsCounted
+pub mod NodesAlike
+pub mod OverlaysAlike
+pub mod OverlaysCome
+pub mod TreesStay
 pub mod Woven
+pub mod WovenLast

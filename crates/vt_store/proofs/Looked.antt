@@ -1,16 +1,20 @@
 -- What is found in a filesystem of a store, through an overlay or in a plain tree.
-use Rattle.std.proofs.Common.{◌≡◌, ◌∙◌, ◌≤◌, ap, Bool, false, length, None, option_map, Option, refl, Some, subst, sym, true, ℕ}
+use Rattle.std.proofs.Common.{◌≡◌, ◌∙◌, ◌<◌, ◌≤◌, ap, Bool, false, length, None, option_map, Option, refl, Some, subst, sym, true, true≢false, ℕ}
+use Rattle.std.specs.Prelude.{IfSome, IsSome}
 use Rattle.std.proofs.lemmas.Option.{same_Some}
+use Rattle.vt_spec.proofs.Lists.{among_from_all}
 use Rattle.vt_spec.proofs.Options.{none_is_some}
 use Rattle.vt_spec.specs.FileTree.{FileTree}
 use Rattle.vt_spec.specs.Lists.{when}
 use Rattle.vt_spec.specs.Tree.{Node, is_directory_node, parent_in}
+use Rattle.vt_location.specs.declared.locations.NodeRef.{NodeRef}
+use Rattle.vt_location.specs.Locations.{number_of}
 use Rattle.vt_fs.specs.FilesystemsValue.{Filesystems, files_at, node_seen}
 use Rattle.vt_overlay.specs.Alike.{real_lent}
 use Rattle.vt_overlay.specs.MergedTree.{AreLayers, OverlayValue, merged_files, merged_tree}
-use Rattle.vt_store.specs.StoreValue.{StandOnLayers, StoreValue, files_in, lent_by, lent_in, overlay_in}
+use Rattle.vt_store.specs.StoreValue.{StandOnLayers, StandsOnLayers, StoreValue, files_in, lent_by, lent_in, overlay_in}
 use Rattle.vt_store.proofs.Lending.{its_own_parent}
-use Rattle.vt_store.proofs.Woven.{files_over, files_plain}
+use Rattle.vt_store.proofs.Woven.{files_over, files_plain, is_over}
 
 -- the parent of a directory, or what is no directory itself
 pub when_is : (b : Bool) (a m : ℕ) → Some m ≡ when b a → m ≡ a
@@ -41,11 +45,21 @@ module _ (store : StoreValue) (plain : Filesystems) (same : plain ≡ store.plai
         ap (λ p. real_lent p overlay number) same ∙ ap (lent_by store.plain count number) (sym is)
 
     module _ (standing : StandOnLayers store) where
+      pub over_stands : StandsOnLayers store.plain (record { count = count; overlay = overlay; mounts = 0 })
+      over_stands =
+          let over = is_over store count overlay is in
+          let stands = among_from_all (StandsOnLayers store.plain) store.overlays standing over.entry over.among in
+          record {
+            layers = subst (λ (one : OverlayValue). AreLayers store.plain one.lowers) over.holds stands.layers;
+            some = subst (λ (one : OverlayValue). 0 < length one.lowers) over.holds stands.some;
+            few = subst (λ (one : OverlayValue). length one.lowers ≤ 129) over.holds stands.few;
+          }
+
       pub over_layers : AreLayers plain overlay.lowers
-      over_layers = subst (λ p. AreLayers p overlay.lowers) (sym same) (standing.layers count overlay is)
+      over_layers = subst (λ p. AreLayers p overlay.lowers) (sym same) over_stands.layers
 
       pub over_few : length overlay.lowers ≤ 129
-      over_few = standing.few count overlay is
+      over_few = over_stands.few
 
   module _ (none : overlay_in store count ≡ None) where
     pub plain_files : files_at plain count ≡ files_in store count
@@ -64,3 +78,9 @@ module _ (store : StoreValue) (plain : Filesystems) (same : plain ≡ store.plai
     pub plain_seen : (number : ℕ)
         → option_map (node_seen count) ((files_in store count).tree.node number) ≡ lent_in store count number
     plain_seen number = ap (option_map (node_seen count)) (sym (plain_node number)) ∙ plain_lent number
+
+-- a root that is there, by its number
+pub root_there : (root : Option NodeRef) (number : ℕ) → IsSome root → IfSome root (λ one. number_of one ≡ number)
+    → option_map number_of root ≡ Some number
+root_there None number some is = absurd (true≢false (sym some))
+root_there (Some root) number some is = ap Some is

@@ -1,20 +1,19 @@
 -- Plain filesystems and overlays, found by their numbers.
-use Rattle.std.proofs.Common.{◌≡◌, ◌∙◌, ◌∷◌, [], arith, ap, Bool, Bor, cond, eqb-true, false, List, ltb-true, map, nat_eq, nat_lt, None, option_map, Option, refl, Some, sym, true, ℕ}
+use Rattle.std.proofs.Common.{◌≡◌, ◌∙◌, ◌∷◌, ◌⊎◌, [], arith, ap, Bool, Bor, cond, eqb-true, false, List, ltb-true, inl, inr, nat_eq, nat_lt, None, option_map, Option, refl, Some, sym, true, ℕ}
 use Rattle.std.specs.List.{find}
-use Rattle.std.specs.Map.{lookup}
-use Rattle.std.specs.Prelude.{IfSome, is_some, option_copied, unwrap_or}
+use Rattle.std.specs.Prelude.{is_some, option_copied, unwrap_or}
 use Rattle.std.proofs.lemmas.Option.{same_Some}
+use Rattle.vt_spec.proofs.Found.{found_among}
+use Rattle.vt_spec.proofs.Lists.{Among}
 use Rattle.vt_spec.proofs.Options.{none_is_some}
 use Rattle.vt_spec.specs.Machine.World.{Filesystem, no_filesystem}
 use Rattle.vt_location.proofs.NumberLemmas.{counted_test}
-use Rattle.vt_location.proofs.OrderLemmas.{looked-in_order}
-use Rattle.vt_location.specs.declared.numbers.FilesystemId.{FilesystemId}
-use Rattle.vt_location.specs.InOrder.{in_order_by}
 use Rattle.vt_location.specs.Numbers.{counted}
 use Rattle.vt_fs.proofs.Numbers.{found_by_number}
-use Rattle.vt_fs.specs.FilesystemsValue.{Filesystems, entry_at, files_at, filesystem_seen, filesystems_seen}
+use Rattle.vt_fs.specs.FilesystemsValue.{FilesystemEntry, Filesystems, entry_at, entry_of, files_at, filesystem_seen, filesystems_seen, inodes_seen}
 use Rattle.vt_overlay.specs.MergedTree.{OverlayValue, merged_files}
-use Rattle.vt_store.specs.StoreValue.{AreOwn, OverlayEntry, StoreValue, entry_in, filesystem_in, files_in, kept_overlay, kept_overlays, overlay_filesystem, overlay_in, put_in, woven}
+use Rattle.vt_store.specs.OverlaysValue.{OverlayEntry}
+use Rattle.vt_store.specs.StoreValue.{StoreValue, entry_in, filesystem_found, filesystem_in, files_in, overlay_filesystem, overlay_in, put_in, root_in, woven}
 
 -- what is put in is found by its number, and all others as before
 find-put_in : (number : ℕ) (filesystem : Filesystem ℕ) (others : List (Filesystem ℕ))
@@ -49,6 +48,31 @@ find-put_in number filesystem (first ∷ rest) =
         ∙ turned (nat_eq number first.number) (nat_eq number filesystem.number) refl refl less
     by false less later = refl
 
+-- what is put in is there, and all others are
+among-put_in : (one filesystem : Filesystem ℕ) (others : List (Filesystem ℕ))
+    → (one ≡ filesystem) ⊎ Among one others → Among one (put_in filesystem others)
+among-put_in one filesystem [] among = among
+among-put_in one filesystem (first ∷ rest) among =
+    by (nat_lt first.number filesystem.number) (among-put_in one filesystem rest) among
+  where
+    by : (b : Bool) → ((one ≡ filesystem) ⊎ Among one rest → Among one (put_in filesystem rest))
+        → (one ≡ filesystem) ⊎ Among one (first ∷ rest)
+        → Among one (cond b (first ∷ put_in filesystem rest) (filesystem ∷ first ∷ rest))
+    by true later (inl same) = inr (later (inl same))
+    by true later (inr (inl same)) = inl same
+    by true later (inr (inr among)) = inr (later (inr among))
+    by false later among = among
+
+pub among-woven : (plain : Filesystems) (entry : OverlayEntry) (entries : List OverlayEntry) → Among entry entries
+    → Among (overlay_filesystem plain entry) (woven plain entries)
+among-woven plain entry [] among = absurd among
+among-woven plain entry (first ∷ entries) (inl same) =
+    among-put_in (overlay_filesystem plain entry) (overlay_filesystem plain first) (woven plain entries)
+    (inl (ap (overlay_filesystem plain) same))
+among-woven plain entry (first ∷ entries) (inr later) =
+    among-put_in (overlay_filesystem plain entry) (overlay_filesystem plain first) (woven plain entries)
+    (inr (among-woven plain entry entries later))
+
 -- the overlay of this count, or what is found among others
 abbrev over : Filesystems → Option OverlayEntry → Option (Filesystem ℕ) → Option (Filesystem ℕ)
 over plain None other = other
@@ -82,16 +106,21 @@ find-woven plain count (entry ∷ entries) =
     by false later = later
 
 module _ (store : StoreValue) (count : ℕ) where
+  found_by : (o : Option OverlayEntry) → entry_in store count ≡ o
+      → filesystem_found store count
+      ≡ over store.plain o
+      (find (λ (one : Filesystem ℕ). nat_eq (counted count) one.number) (filesystems_seen store.plain))
+  found_by o e =
+      find-woven store.plain count store.overlays
+      ∙ ap (λ o. over store.plain o
+      (find (λ (one : Filesystem ℕ). nat_eq (counted count) one.number) (filesystems_seen store.plain))) e
+
   found_so : (o : Option OverlayEntry) → entry_in store count ≡ o
       → filesystem_in store count
       ≡ unwrap_or (over store.plain o
       (find (λ (one : Filesystem ℕ). nat_eq (counted count) one.number) (filesystems_seen store.plain)))
       (no_filesystem (counted count))
-  found_so o e =
-      ap (λ found. unwrap_or found (no_filesystem (counted count)))
-      (find-woven store.plain count store.overlays
-      ∙ ap (λ o. over store.plain o
-      (find (λ (one : Filesystem ℕ). nat_eq (counted count) one.number) (filesystems_seen store.plain))) e)
+  found_so o e = ap (λ found. unwrap_or found (no_filesystem (counted count))) (found_by o e)
 
   -- a filesystem without an overlay of its count is a plain one
   pub is_plain : overlay_in store count ≡ None
@@ -108,16 +137,22 @@ module _ (store : StoreValue) (count : ℕ) where
   pub record IsOver (overlay : OverlayValue) : Type 0 where
     pub entry : OverlayEntry
     pub holds : entry.overlay ≡ overlay
+    pub among : Among entry store.overlays
     pub is : filesystem_in store count ≡ overlay_filesystem store.plain entry
 
-  is_over : (overlay : OverlayValue) → overlay_in store count ≡ Some overlay → IsOver overlay
+  pub is_over : (overlay : OverlayValue) → overlay_in store count ≡ Some overlay → IsOver overlay
   is_over overlay some = by (entry_in store count) refl some
     where
       by : (o : Option OverlayEntry) → entry_in store count ≡ o
           → option_map (λ (entry : OverlayEntry). entry.overlay) o ≡ Some overlay → IsOver overlay
       by None e some = none_is_some overlay some
       by (Some entry) e some =
-          record { entry = entry; holds = same_Some entry.overlay overlay some; is = found_so (Some entry) e }
+          record {
+            entry = entry;
+            holds = same_Some entry.overlay overlay some;
+            among = found_among (λ (one : OverlayEntry). nat_eq count one.count) store.overlays entry e;
+            is = found_so (Some entry) e;
+          }
 
   pub files_over : (overlay : OverlayValue) → overlay_in store count ≡ Some overlay
       → merged_files store.plain overlay ≡ files_in store count
@@ -138,40 +173,61 @@ module _ (store : StoreValue) (count : ℕ) where
       by (Some overlay) e =
           sym (ap (λ (filesystem : Filesystem ℕ). is_some filesystem.overlay) (is_over overlay e).is)
 
--- as the map keeps them
-abbrev count_of : FilesystemId → ℕ
-count_of id = id.count
-
-abbrev pub is_key : ℕ → FilesystemId → Bool
-is_key count id = nat_eq count id.count
-
-find-kept : (count : ℕ) (kept : List (FilesystemId × OverlayValue))
-    → option_map (λ (entry : OverlayEntry). entry.overlay)
-    (find (λ (entry : OverlayEntry). nat_eq count entry.count) (map kept_overlay kept))
-    ≡ lookup (is_key count) kept
-find-kept count [] = refl
-find-kept count (one ∷ kept) = by (nat_eq count one.0.count) (find-kept count kept)
+-- a plain filesystem is found by its count
+found_plain : (plain : Filesystems) (count : ℕ)
+    → find (λ (one : Filesystem ℕ). nat_eq (counted count) one.number) (filesystems_seen plain)
+    ≡ option_map filesystem_seen (entry_of plain count)
+found_plain [] count = refl
+found_plain (entry ∷ plain) count =
+    ap (λ b. cond b (Some (filesystem_seen entry))
+    (find (λ (one : Filesystem ℕ). nat_eq (counted count) one.number) (filesystems_seen plain)))
+    (counted_test count entry.count)
+    ∙ by (nat_eq count entry.count) (found_plain plain count)
   where
-    found : Option OverlayEntry
-    found = find (λ (entry : OverlayEntry). nat_eq count entry.count) (map kept_overlay kept)
-
-    by : (b : Bool) → option_map (λ (entry : OverlayEntry). entry.overlay) found ≡ lookup (is_key count) kept
-        → option_map (λ (entry : OverlayEntry). entry.overlay) (cond b (Some (kept_overlay one)) found)
-        ≡ cond b (Some one.1) (lookup (is_key count) kept)
+    by : (b : Bool)
+        → find (λ (one : Filesystem ℕ). nat_eq (counted count) one.number) (filesystems_seen plain)
+        ≡ option_map filesystem_seen (entry_of plain count)
+        → cond b (Some (filesystem_seen entry))
+        (find (λ (one : Filesystem ℕ). nat_eq (counted count) one.number) (filesystems_seen plain))
+        ≡ option_map filesystem_seen (cond b (Some entry) (entry_of plain count))
     by true later = refl
     by false later = later
 
-pub overlay_kept : (plain : Filesystems) (id : FilesystemId) (kept : List (FilesystemId × OverlayValue))
-    → overlay_in (record { plain = plain; overlays = kept_overlays kept }) id.count ≡ lookup (is_key id.count) kept
-overlay_kept plain id kept =
-    find-kept id.count (in_order_by count_of kept) ∙ looked-in_order count_of id kept
+-- The root directory
 
-pub is_own : (id : FilesystemId) (kept : List (FilesystemId × OverlayValue)) → AreOwn kept
-    → (o : Option (Bor OverlayValue)) → option_copied o ≡ lookup (is_key id.count) kept
-    → IfSome o (λ overlay. overlay.now.number ≡ id)
-is_own id kept own None e = tt
-is_own id kept own (Some overlay) e = own id overlay.now (sym e)
+-- of a plain filesystem,
+pub root_plain : (store : StoreValue) (count : ℕ) → overlay_in store count ≡ None
+    → option_map (λ entry. (inodes_seen entry).root) (entry_of store.plain count) ≡ root_in store count
+root_plain store count none = by (entry_in store count) refl none
+  where
+    same : (o : Option FilesystemEntry) → option_map (λ entry. (inodes_seen entry).root) o
+        ≡ option_map (λ (one : Filesystem ℕ). one.files.tree.root) (option_map filesystem_seen o)
+    same None = refl
+    same (Some entry) = refl
 
+    by : (o : Option OverlayEntry) → entry_in store count ≡ o
+        → option_map (λ (entry : OverlayEntry). entry.overlay) o ≡ None
+        → option_map (λ entry. (inodes_seen entry).root) (entry_of store.plain count) ≡ root_in store count
+    by None e none =
+        same (entry_of store.plain count)
+        ∙ ap (option_map (λ (one : Filesystem ℕ). one.files.tree.root))
+        (sym (found_by store count None e ∙ found_plain store.plain count))
+    by (Some entry) e none = none_is_some entry.overlay (sym none)
+
+-- and of an overlay
+pub root_over : (store : StoreValue) (count : ℕ) (overlay : OverlayValue) → overlay_in store count ≡ Some overlay
+    → Some (merged_files store.plain overlay).tree.root ≡ root_in store count
+root_over store count overlay some = by (entry_in store count) refl some
+  where
+    by : (o : Option OverlayEntry) → entry_in store count ≡ o
+        → option_map (λ (entry : OverlayEntry). entry.overlay) o ≡ Some overlay
+        → Some (merged_files store.plain overlay).tree.root ≡ root_in store count
+    by None e some = none_is_some overlay some
+    by (Some entry) e some =
+        ap (λ one. Some (merged_files store.plain one).tree.root) (sym (same_Some entry.overlay overlay some))
+        ∙ ap (option_map (λ (one : Filesystem ℕ). one.files.tree.root)) (sym (found_by store count (Some entry) e))
+
+-- what is found is there just if something is lent
 pub some_copied : (o : Option (Bor OverlayValue)) → is_some o ≡ is_some (option_copied o)
 some_copied None = refl
 some_copied (Some overlay) = refl

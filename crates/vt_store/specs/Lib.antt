@@ -1,1 +1,6 @@
+pub mod OverlaysValue
 pub mod StoreValue
+pub mod Counts
+pub mod LayersHeld
+pub mod Lends
+pub mod Laws

@@ -1,48 +1,27 @@
 -- What contracts see of all filesystems, and what the definitions see of them.
-use Rattle.std.specs.Prelude.{List, None, Option, Some, [], find, if◌then◌else◌, map, nat_eq, nat_lt, option_map, ℕ, ◌∷◌, ◌≡◌, ◌≤◌, length}
-use Rattle.std.specs.Map.{lookup}
+use Rattle.std.specs.Prelude.{All, List, None, Option, Some, [], find, if◌then◌else◌, length, nat_eq, nat_lt, option_map, ℕ, ◌<◌, ◌∷◌, ◌≤◌}
 use Rattle.vt_spec.specs.FileTree.{FileTree}
 use Rattle.vt_spec.specs.Machine.World.{Filesystem, Overlay, World, filesystem_numbered}
 use Rattle.vt_spec.specs.Tree.{Node}
 use Rattle.vt_laws_seen.specs.TreesSeen.{real_seen}
-use Rattle.vt_location.specs.declared.numbers.FilesystemId.{FilesystemId}
-use Rattle.vt_location.specs.InOrder.{in_order_by}
 use Rattle.vt_location.specs.Numbers.{counted}
 use Rattle.vt_fs.specs.FilesystemsValue.{Filesystems, files_at, filesystems_seen, node_seen}
 use Rattle.vt_merge.specs.declared.merging.TheConstants.{MOST_LAYERS}
 use Rattle.vt_overlay.specs.Alike.{real_lent}
 use Rattle.vt_overlay.specs.MergedTree.{AreLayers, OverlayValue, longest, merged_files, overlay_seen, plain_world, real_number}
-
--- an overlay, and the count of its filesystem
-pub record OverlayEntry : Type 0 where
-  pub count : ℕ
-  pub overlay : OverlayValue
+use Rattle.vt_store.specs.OverlaysValue.{OverlayEntry, Overlays, entry_kept, overlay_of}
 
 -- the plain filesystems and the overlays, each in the order in which they were made
 pub record StoreValue : Type 0 where
   pub plain : Filesystems
-  pub overlays : List OverlayEntry
+  pub overlays : Overlays
 
--- each overlay under its count
-abbrev pub kept_overlay : FilesystemId × OverlayValue → OverlayEntry
-kept_overlay kept = record { count = kept.0.count; overlay = kept.1 }
-
--- those that are kept by hash, in the order of their counts
-abbrev pub kept_overlays : List (FilesystemId × OverlayValue) → List OverlayEntry
-kept_overlays kept = map kept_overlay (in_order_by (λ id. id.count) kept)
-
--- each is kept under its own number
-abbrev pub AreOwn : List (FilesystemId × OverlayValue) → Type 0
-AreOwn kept =
-    (id : FilesystemId) (overlay : OverlayValue) → lookup (λ other. nat_eq id.count other.count) kept ≡ Some overlay
-    → overlay.number ≡ id
-
+-- the overlay of a count, if there is one
 abbrev pub entry_in : StoreValue → ℕ → Option OverlayEntry
-entry_in store count = find (λ entry. nat_eq count entry.count) store.overlays
+entry_in store count = entry_kept store.overlays count
 
--- the overlay of a count
 abbrev pub overlay_in : StoreValue → ℕ → Option OverlayValue
-overlay_in store count = option_map (λ entry. entry.overlay) (entry_in store count)
+overlay_in store count = overlay_of store.overlays count
 
 -- the overlays as the definitions see them: layers, mounter, and the real object of each inode,
 abbrev pub layers_and_objects : Filesystems → OverlayValue → Overlay ℕ
@@ -67,7 +46,7 @@ put_in filesystem (first ∷ rest) =
     if nat_lt first.number filesystem.number then first ∷ put_in filesystem rest else filesystem ∷ first ∷ rest
 
 -- all filesystems, in the order in which they were made
-abbrev pub woven : Filesystems → List OverlayEntry → List (Filesystem ℕ)
+abbrev pub woven : Filesystems → Overlays → List (Filesystem ℕ)
 woven plain [] = filesystems_seen plain
 woven plain (entry ∷ rest) = put_in (overlay_filesystem plain entry) (woven plain rest)
 
@@ -78,6 +57,13 @@ filesystems_of store = woven store.plain store.overlays
 abbrev pub store_world : StoreValue → World ℕ
 store_world store = record (plain_world store.plain) { filesystems = filesystems_of store }
 
+-- the filesystem of a count, if there is one, and its root directory
+abbrev pub filesystem_found : StoreValue → ℕ → Option (Filesystem ℕ)
+filesystem_found store count = find (λ one. nat_eq (counted count) one.number) (filesystems_of store)
+
+abbrev pub root_in : StoreValue → ℕ → Option ℕ
+root_in store count = option_map (λ one. one.files.tree.root) (filesystem_found store count)
+
 -- the filesystem of a count, and its tree
 abbrev pub filesystem_in : StoreValue → ℕ → Filesystem ℕ
 filesystem_in store count = filesystem_numbered nat_eq (store_world store) (counted count)
@@ -85,12 +71,15 @@ filesystem_in store count = filesystem_numbered nat_eq (store_world store) (coun
 abbrev pub files_in : StoreValue → ℕ → FileTree ℕ
 files_in store count = (filesystem_in store count).files
 
--- each overlay has layers that are directories of plain trees, and not too many
-pub record StandOnLayers (store : StoreValue) : Type 0 where
-  pub layers : (count : ℕ) (overlay : OverlayValue) → overlay_in store count ≡ Some overlay
-      → AreLayers store.plain overlay.lowers
-  pub few : (count : ℕ) (overlay : OverlayValue) → overlay_in store count ≡ Some overlay
-      → length overlay.lowers ≤ MOST_LAYERS
+-- an overlay has layers that are directories of plain trees: one at least, and not too many
+pub record StandsOnLayers (plain : Filesystems) (entry : OverlayEntry) : Type 0 where
+  pub layers : AreLayers plain entry.overlay.lowers
+  pub some : 0 < length entry.overlay.lowers
+  pub few : length entry.overlay.lowers ≤ MOST_LAYERS
+
+-- and so have all
+abbrev pub StandOnLayers : StoreValue → Type 0
+StandOnLayers store = All (StandsOnLayers store.plain) store.overlays
 
 -- what is lent for a node: an inode of a plain tree by its slots, or the real object
 abbrev pub lent_by : Filesystems → ℕ → ℕ → Option OverlayValue → Option (Node ℕ)

@@ -1,20 +1,34 @@
 //! What is looked at in a filesystem, a plain tree or an overlay.
-ghost use Rattle.std.specs.Prelude.{◌≡◌, [], IfOk, IsOk, Some, map, nat_eq, not, option_copied, option_map};
+ghost use Rattle.std.specs.Prelude.{◌≡◌, [], IfOk, IfSome, IsOk, Some, map, nat_eq, not, option_copied, option_map};
 ghost use Rattle.vt_spec.specs.FileTree.{is_directory_under, is_removed};
-ghost use Rattle.vt_spec.specs.Lists.{is_empty_list};
-ghost use Rattle.vt_spec.specs.Tree.{entries_in, entry_named, names_in};
+ghost use Rattle.vt_spec.specs.Lists.{is_empty_list, when};
+ghost use Rattle.vt_spec.specs.Tree.{entries_in, entry_named, is_directory_node, names_in, parent_in};
 ghost use Rattle.vt_location.specs.Locations.{number_of};
-ghost use Rattle.vt_fs.specs.Laws.{ParentsAreNamed};
-ghost use Rattle.vt_store.specs.StoreValue.{StandOnLayers, files_in, lent_in};
+ghost use Rattle.vt_fs.specs.FilesystemsValue.{files_at};
+ghost use Rattle.vt_fs.specs.Laws.{LieUnderRoot, ParentsAreNamed, is_lost_under};
+ghost use Rattle.vt_store.specs.StoreValue.{StandOnLayers, files_in, lent_in, root_in};
 
 use crate::store::Store;
 use std::alloc::{AllocError, Global};
-use vt_location::NodeRef;
-use vt_node::Node;
+use vt_fs::Filesystems;
+use vt_location::{FilesystemId, NodeRef};
+use vt_node::{Node, NodeId};
 
 impl Store {
-    /// The real object of a node: owner, group, mode, kind and content are the node's. Entries, parent and emptiness are
-    /// `entry`, `parent` and `is_nonempty`. It does not allocate.
+    /// The root directory of a filesystem, if there is such a filesystem.
+    pub fn root(&self, filesystem: FilesystemId) -> Option<NodeRef>
+        requires { StandOnLayers self.now }
+        ensures number { option_map number_of result ≡ root_in self.now filesystem.count }
+        ensures filesystem { IfSome result (λ root. root.filesystem ≡ filesystem) }
+    {
+        match self.overlay(filesystem) {
+            Some(overlay) => overlay.root(),
+            None => self.plain.root(filesystem),
+        }
+    }
+
+    /// The real object of a node: owner, group, mode, kind and content are the node's. Entries, parent and emptiness
+    /// are `entry`, `parent` and `is_nonempty`. It does not allocate.
     pub fn object(&self, node: NodeRef) -> Option<&Node>
         requires { StandOnLayers self.now }
         ensures { option_copied result ≡ lent_in self.now node.filesystem.count (number_of node) }
@@ -38,6 +52,22 @@ impl Store {
                 let entry = object.entry(name)?;
                 Some(NodeRef::new(directory.filesystem, entry))
             }
+        }
+    }
+
+    /// The parent of a directory; of anything else, itself. It does not allocate.
+    pub fn parent(&self, node: NodeRef) -> NodeRef
+        requires { StandOnLayers self.now }
+        ensures { number_of result
+            ≡ parent_in (number_of node) ((files_in self.now node.filesystem.count).tree.node (number_of node)) }
+    {
+        let parent = match self.overlay(node.filesystem) {
+            Some(overlay) => overlay.parent(&self.plain, node),
+            None => plain_parent(&self.plain, node),
+        };
+        match parent {
+            Some(parent) => parent,
+            None => node,
         }
     }
 
@@ -68,8 +98,9 @@ impl Store {
         }
     }
 
-    /// Whether a directory other than the root has no name, as after rmdir(2) of a directory in use. What is no directory
-    /// counts as removed. Directories must be named in their parents, as for `is_under`. It does not allocate.
+    /// Whether a directory other than the root has no name, as after rmdir(2) of a directory in use. What is no
+    /// directory counts as removed. Directories must be named in their parents, as for `is_under`. It does not
+    /// allocate.
     pub fn is_removed(&self, directory: NodeRef) -> bool
         requires standing { StandOnLayers self.now }
         requires named { ParentsAreNamed (files_in self.now directory.filesystem.count).tree }
@@ -79,6 +110,28 @@ impl Store {
         match self.overlay(directory.filesystem) {
             Some(overlay) => overlay.is_removed(&self.plain, directory),
             None => self.plain.is_removed(directory),
+        }
+    }
+
+    /// Whether `..` of a directory leads nowhere on a mount with this root: the directory is removed, or does not lie
+    /// under the root.
+    ///
+    /// A directory that is not removed must lie under the root of its filesystem, and directories must be named in
+    /// their parents, as in every tree of a world. It does not allocate.
+    pub fn is_lost(&self, root: NodeRef, directory: NodeRef) -> bool
+        requires standing { StandOnLayers self.now }
+        requires named { ParentsAreNamed (files_in self.now root.filesystem.count).tree }
+        requires rooted { LieUnderRoot (files_in self.now root.filesystem.count) }
+        requires one_filesystem { directory.filesystem ≡ root.filesystem }
+        ensures { result
+            ≡ is_lost_under (files_in self.now root.filesystem.count) (number_of root) (number_of directory) }
+    {
+        match self.overlay(root.filesystem) {
+            Some(overlay) => {
+                overlay.is_removed(&self.plain, directory)
+                    || !overlay.is_under(&self.plain, root, directory)
+            }
+            None => self.plain.is_lost(root, directory),
         }
     }
 
@@ -107,4 +160,18 @@ fn has_entries(node: Option<&Node>) -> bool
         Some(node) => node.is_nonempty(),
         None => false,
     }
+}
+
+// The parent of a directory of a plain tree.
+fn plain_parent(plain: &Filesystems, node: NodeRef) -> Option<NodeRef>
+    ensures { option_map number_of result
+        ≡ when (is_directory_node ((files_at plain.now node.filesystem.count).tree.node (number_of node)))
+        (parent_in (number_of node) ((files_at plain.now node.filesystem.count).tree.node (number_of node))) }
+{
+    let directory = plain.node(node)?;
+    if !directory.is_directory() {
+        return None;
+    }
+    let parent = directory.parent(NodeId::new(node.slot));
+    Some(NodeRef::new(node.filesystem, parent))
 }

@@ -1,10 +1,9 @@
 //! `Store`: the plain filesystems, and the overlays.
-ghost use Rattle.std.specs.Prelude.{◌≡◌, ◌∷◌, ◌++◌, [], IfOk, IfSome, OnErr, OnOk, Some, is_some, nat_lt, option_copied, true};
-ghost use Rattle.std.specs.List.{list_all};
-ghost use Rattle.vt_store.specs.StoreValue.{filesystem_in, overlay_in};
+ghost use Rattle.std.specs.Prelude.{◌≡◌, [], IfSome, is_some, option_copied};
+ghost use Rattle.std.specs.Borrow.{sem};
 
-use indexmap::IndexMap;
-use std::alloc::{AllocError, Global};
+use crate::overlays::Overlays;
+use std::alloc::Global;
 use std::marker::Model;
 use vt_fs::Filesystems;
 use vt_location::FilesystemId;
@@ -16,27 +15,28 @@ use vt_overlay::Overlay;
 #[derive(Debug, Drop)]
 pub struct Store {
     pub(crate) plain: Filesystems,
-    overlays: IndexMap<FilesystemId, Overlay>,
+    pub(crate) overlays: Overlays,
 }
 
 impl Model for Store {
-    ghost use Rattle.vt_store.specs.StoreValue.{AreOwn, StoreValue, kept_overlays};
+    ghost use Rattle.vt_store.specs.StoreValue.{StoreValue};
 
     ghost Value = { StoreValue };
 
-    ghost view = { λ store. record { plain = store.plain; overlays = kept_overlays store.overlays.entries } };
-
-    ghost invariant = { λ store. AreOwn store.overlays.entries };
+    ghost view = { λ store. record { plain = store.plain; overlays = store.overlays } };
 }
 
 impl Store {
+    ghost use Rattle.vt_store.specs.StoreValue.{filesystem_in, overlay_in};
+    ghost use Rattle.vt_store.specs.Lends.{lends_plain};
+
     /// These plain filesystems, and no overlays. It does not allocate.
     pub fn new(alloc: Global, plain: Filesystems) -> Self
         ensures { result ≡ record { plain = plain; overlays = [] } }
     {
         Store {
             plain,
-            overlays: IndexMap::new(alloc),
+            overlays: Overlays::new(alloc),
         }
     }
 
@@ -47,13 +47,22 @@ impl Store {
         &self.plain
     }
 
+    /// The plain filesystems, for a change. It leaves the overlays as they are: what these show changes only with the
+    /// trees of their layers.
+    pub fn plain_mut(&mut self) -> &mut Filesystems
+        ensures* writes_back { sem 𝓛 (lends_plain self.entry result) }
+        ensures value { result.now ≡ self.old.plain }
+    {
+        &mut self.plain
+    }
+
     /// The overlay of a filesystem, if it is one.
     #[inline(always)]
     pub fn overlay(&self, filesystem: FilesystemId) -> Option<&Overlay>
         ensures value { option_copied result ≡ overlay_in self.now filesystem.count }
         ensures own { IfSome result (λ overlay. overlay.now.number ≡ filesystem) }
     {
-        self.overlays.get(&filesystem)
+        self.overlays.get(filesystem)
     }
 
     /// Whether a filesystem is an overlay.

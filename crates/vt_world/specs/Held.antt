@@ -1,9 +1,12 @@
 -- What holds of each world of the code: the invariants of a world, and that what is kept beside it, groups and counts,
 -- is what the definitions say.
-use Rattle.std.specs.Prelude.{All, Bool, List, None, [], false, nat_eq, ℕ, ◌&&◌, ◌+◌, ◌∷◌, ◌≡◌}
-use Rattle.vt_spec.specs.Machine.World.{Descriptor, Task, World}
+use Rattle.std.specs.Prelude.{All, Bool, List, None, [], false, nat_eq, true, ℕ, ◌&&◌, ◌+◌, ◌∷◌, ◌≡◌}
+use Rattle.vt_spec.specs.Machine.World.{Descriptor, Task, World, is_overlay}
 use Rattle.vt_spec.specs.Machine.Invariants.{IsWorld}
+use Rattle.vt_laws_counts.specs.BesideOverlays.{OverlaysHaveNoUpper}
 use Rattle.vt_laws_counts.specs.Counted.{IsCounted}
+use Rattle.vt_laws_counts.specs.OverlaysStay.{OverlaysAreNamed, layer_count}
+use Rattle.vt_laws_overlays_stay.specs.Woven.{are_rising}
 use Rattle.vt_fs.specs.FilesystemsValue.{FilesystemEntry, filesystem_seen, inodes_seen}
 use Rattle.vt_group.specs.Grouping.{Has}
 use Rattle.vt_laws_rules.specs.Numbers.{KeepsTo}
@@ -11,7 +14,7 @@ use Rattle.vt_laws_letting_go.specs.Counts.{mount_uses, mounts_showing, times}
 use Rattle.vt_location.specs.Numbers.{counted, is_own_number}
 use Rattle.vt_mount.specs.MountsValue.{MountEntry}
 use Rattle.vt_laws_runs.specs.Handed.{is_counted_before}
-use Rattle.vt_world.specs.WorldValue.{NamespaceEntry, WorldValue, world_of}
+use Rattle.vt_world.specs.WorldValue.{NamespaceEntry, OverlayEntry, WorldValue, overlays_seen, world_of}
 
 -- the descriptors of a task that are open for writing on a mount
 abbrev pub writes_on : ℕ → Descriptor ℕ → Bool
@@ -29,10 +32,27 @@ pub record CountsItsUses (world : World ℕ) (entry : MountEntry) : Type 0 where
   pub uses : entry.uses ≡ mount_uses world entry.mount.number
   pub writers : entry.writers ≡ writes_of entry.mount.number world.tasks
 
--- a filesystem counts the mounts that show it, and its inodes their uses
+-- a filesystem counts the mounts that show it and the layers that overlays have in it, and its inodes their uses
 pub record CountsItsMounts (world : World ℕ) (entry : FilesystemEntry) : Type 0 where
-  pub mounts : entry.mounts ≡ mounts_showing world (counted entry.count)
+  pub mounts : entry.mounts
+      ≡ mounts_showing world (counted entry.count) + layer_count world (counted entry.count)
   pub inodes : IsCounted world (filesystem_seen entry) (inodes_seen entry)
+
+-- an overlay counts the mounts that show it
+abbrev pub IsMountedSoOften : World ℕ → OverlayEntry → Type 0
+IsMountedSoOften world entry = entry.mounts ≡ mounts_showing world entry.number
+
+-- The overlays of a world are read-only, and each of their inodes is the root or has a name. They are kept in the order
+-- of their numbers, as all filesystems are.
+pub record HoldsOverlays (value : WorldValue) : Type 0 where
+  pub merged : All (λ filesystem. is_overlay filesystem ≡ true) (overlays_seen value.overlays)
+  pub read_only : OverlaysHaveNoUpper (world_of value)
+  pub named : OverlaysAreNamed (world_of value)
+  pub overlays_rise : are_rising (overlays_seen value.overlays) ≡ true
+  pub all_rise : are_rising (world_of value).filesystems ≡ true
+  pub mounts : All (IsMountedSoOften (world_of value)) value.overlays
+  -- nothing makes an overlay yet
+  pub none_yet : value.overlays ≡ []
 
 -- the number of each inode is one that its filesystem gives to a slot
 abbrev pub HasOwnInodes : FilesystemEntry → Type 0
@@ -49,4 +69,5 @@ pub record IsHeld (value : WorldValue) : Type 0 where
   pub mounts : All (CountsItsUses (world_of value)) value.mounts
   pub filesystems : All (CountsItsMounts (world_of value)) value.filesystems
   pub own_inodes : All HasOwnInodes value.filesystems
+  pub overlays : HoldsOverlays value
   pub namespaces : All (CountsWhatIsInIt (world_of value)) value.namespaces

@@ -54,8 +54,7 @@ pub record OthersAsBefore (world left : World ℕ) (names set : List TaskName) :
 
 -- What layers say of an overlay
 overlays_alike : (one other : Filesystem ℕ) → layered_as one ≡ layered_as other → is_overlay one ≡ is_overlay other
-overlays_alike one other same =
-    sym (stripped one.overlay) ∙ ap is_some same ∙ stripped other.overlay
+overlays_alike one other same = cc (stripped one.overlay, stripped other.overlay)
   where
     stripped : (o : Option (Overlay ℕ)) → is_some (option_map without_real o) ≡ is_some o
     stripped None = refl
@@ -63,8 +62,7 @@ overlays_alike one other same =
 
 layers_alike : (number : ℕ) (one other : Filesystem ℕ) → layered_as one ≡ layered_as other
     → has_layer_on nat_eq number one ≡ has_layer_on nat_eq number other
-layers_alike number one other same =
-    sym (stripped one.overlay) ∙ ap on same ∙ stripped other.overlay
+layers_alike number one other same = cc (stripped one.overlay, stripped other.overlay)
   where
     on : Option (Overlay ℕ) → Bool
     on o = overlay_or false (λ (overlay : Overlay ℕ). list_any (λ layer. nat_eq number layer.filesystem)
@@ -76,8 +74,7 @@ layers_alike number one other same =
 
 pub changes_alike : (one other : Filesystem ℕ) → layered_as one ≡ layered_as other
     → change_layers one ≡ change_layers other
-changes_alike one other same =
-    sym (stripped one.overlay) ∙ ap on same ∙ stripped other.overlay
+changes_alike one other same = cc (stripped one.overlay, stripped other.overlay)
   where
     on : Option (Overlay ℕ) → List ℕ
     on o = overlay_or [] (λ (overlay : Overlay ℕ). map (λ (layer : Layer ℕ). layer.filesystem)
@@ -102,9 +99,7 @@ layered_overlay number merged = by merged.overlay
 any_alike : {A : Type 0} (p q : A → Bool) (list : List A) → ((x : A) → Among x list → p x ≡ q x)
     → list_any p list ≡ list_any q list
 any_alike p q [] same = refl
-any_alike p q (x ∷ rest) same =
-    ap (λ b. b || list_any p rest) (same x (inl refl))
-    ∙ ap (λ b. q x || b) (any_alike p q rest (λ y m. same y (inr m)))
+any_alike p q (x ∷ rest) same = cc (same x (inl refl), any_alike p q rest (λ y m. same y (inr m)))
 
 -- what an overlay has a layer on is there
 layer_is_there : (world : World ℕ) (names : List TaskName) → IsWorld nat_eq world → (merged : Filesystem ℕ)
@@ -162,19 +157,13 @@ module _ (world left : World ℕ) (names set : List TaskName) (is : IsWorld nat_
     (others : OthersAsBefore world left names set) where
   -- others are on the same filesystems
   no_outsider_same : (number : ℕ) → no_outsider_on nat_eq left set number ≡ no_outsider_on nat_eq world names number
-  no_outsider_same number =
-      ap (λ list. not (list_any (λ (mount : Mount ℕ). nat_eq number mount.filesystem) list)
-      && not (list_any (λ (l : Location ℕ). nat_eq number (mount_at nat_eq left l).filesystem)
-      (locations (outsiders left set)))) others.mounts
-      ∙ ap (λ tasks. not (list_any (λ (mount : Mount ℕ). nat_eq number mount.filesystem)
-      (other_mounts nat_eq world names))
-      && not (list_any (λ (l : Location ℕ). nat_eq number (mount_at nat_eq left l).filesystem) (locations tasks)))
-      others.others
-      ∙ ap (λ b. not (list_any (λ (mount : Mount ℕ). nat_eq number mount.filesystem) (other_mounts nat_eq world names))
-      && not b)
-      (any_alike (λ (l : Location ℕ). nat_eq number (mount_at nat_eq left l).filesystem)
-      (λ (l : Location ℕ). nat_eq number (mount_at nat_eq world l).filesystem) (locations (outsiders world names))
-      (λ l m. ap (nat_eq number) (others.shown l m)))
+  no_outsider_same number = cc (
+    others.mounts,
+    others.others,
+    any_alike (λ (l : Location ℕ). nat_eq number (mount_at nat_eq left l).filesystem) (λ (l : Location ℕ). nat_eq
+        number (mount_at nat_eq world l).filesystem) (locations (outsiders world names)) (λ l m. ap (nat_eq number)
+        (others.shown l m)),
+  )
 
   abbrev free_in : World ℕ → List TaskName → ℕ → Filesystem ℕ → Bool
   free_in w q number merged = not (has_layer_on nat_eq number merged) || no_outsider_on nat_eq w q merged.number

@@ -81,10 +81,7 @@ module _ (world left : World ℕ) (names set : List TaskName) (others : OthersAs
               → find (λ (y : Mount ℕ). nat_eq location.mount y.number)
               (cond a (x ∷ filter (mount_lives nat_eq left) rest) (filter (mount_lives nat_eq left) rest))
               ≡ cond b (Some x) (find (λ (y : Mount ℕ). nat_eq location.mount y.number) rest)
-          by true g b h later =
-              ap (λ c. cond c (Some x) (find (λ (y : Mount ℕ). nat_eq location.mount y.number)
-              (filter (mount_lives nat_eq left) rest))) h
-              ∙ ap (cond b (Some x)) later
+          by true g b h later = cc
           by false g true h later = absurd (true≢false (sym (located x h) ∙ g))
           by false g false h later = later
 
@@ -188,10 +185,11 @@ module _ (world left : World ℕ) (names set : List TaskName) (others : OthersAs
   raise = raised_task name
 
   own_same : (n : ℕ) → is_own_namespace nat_eq raised_left set n ≡ is_own_namespace nat_eq left set n
-  own_same n =
-      ap (list_any (λ (t : Task ℕ). nat_eq n t.namespace)) (raised_members set name left.tasks)
-      ∙ any_mapped (λ (t : Task ℕ). nat_eq n t.namespace) (λ (t : Task ℕ). nat_eq n t.namespace) raise
-      (members left set) (λ t m. ap (nat_eq n) (raised_is name (λ (x : Task ℕ). x.namespace) (λ x. refl) t))
+  own_same n = cc (
+    raised_members set name left.tasks,
+    any_mapped (λ (t : Task ℕ). nat_eq n t.namespace) (λ (t : Task ℕ). nat_eq n t.namespace) raise (members left
+        set) (λ t m. ap (nat_eq n) (raised_is name (λ (x : Task ℕ). x.namespace) (λ x. refl) t)),
+  )
 
   -- the caller is none of the others
   unraised : (t : Task ℕ) → Among t (outsiders left set) → raise t ≡ t
@@ -213,8 +211,7 @@ module _ (world left : World ℕ) (names set : List TaskName) (others : OthersAs
   map_same : (f : Task ℕ → Task ℕ) (list : List (Task ℕ)) → ((t : Task ℕ) → Among t list → f t ≡ t)
       → map f list ≡ list
   map_same f [] same = refl
-  map_same f (t ∷ rest) same =
-      ap (λ x. x ∷ map f rest) (same t (inl refl)) ∙ ap (λ l. t ∷ l) (map_same f rest (λ x m. same x (inr m)))
+  map_same f (t ∷ rest) same = cc (same t (inl refl), map_same f rest (λ x m. same x (inr m)))
 
   outsiders_same : outsiders raised_left set ≡ outsiders left set
   outsiders_same =
@@ -233,9 +230,7 @@ module _ (world left : World ℕ) (names set : List TaskName) (others : OthersAs
     where
       flat : (list : List (Task ℕ)) → flat_map locations_of (map raise list) ≡ flat_map locations_of list
       flat [] = refl
-      flat (t ∷ rest) =
-          ap (λ l. l ++ flat_map locations_of (map raise rest)) (raised_is name locations_of (λ x. refl) t)
-          ∙ ap (λ l. locations_of t ++ l) (flat rest)
+      flat (t ∷ rest) = cc (raised_is name locations_of (λ x. refl) t, flat rest)
 
   direct_same : used_directly nat_eq raised_left set ≡ used_directly nat_eq left set
   direct_same i =

@@ -48,10 +48,7 @@ kept_among test number e (x ∷ rest) = by (test x) refl (kept_among test number
         ≡ (nat_eq number x || is_among nat_eq number rest)
     by true f later = ap (λ b. nat_eq number x || b) later
     by false f later =
-        later
-        ∙ ap (λ b. b || is_among nat_eq number rest)
-        (sym (false_from_ne_true (nat_eq number x)
-        (λ h. true≢false (sym e ∙ ap test (eqb-true number x h) ∙ f))))
+        cc (false_from_ne_true (nat_eq number x) (λ h. true≢false (sym e ∙ ap test (eqb-true number x h) ∙ f)))
 
 none_among : (test : ℕ → Bool) (number : ℕ) → test number ≡ false → (list : List ℕ)
     → is_among nat_eq number (filter test list) ≡ false
@@ -61,18 +58,13 @@ none_among test number e (x ∷ rest) = by (test x) refl (none_among test number
     by : (b : Bool) → test x ≡ b → is_among nat_eq number (filter test rest) ≡ false
         → is_among nat_eq number (cond b (x ∷ filter test rest) (filter test rest)) ≡ false
     by true f later =
-        ap (λ b. b || is_among nat_eq number (filter test rest))
-        (false_from_ne_true (nat_eq number x)
-        (λ h. true≢false (sym f ∙ sym (ap test (eqb-true number x h)) ∙ e)))
-        ∙ later
+        cc (false_from_ne_true (nat_eq number x) (λ h. true≢false (sym f ∙ sym (ap test (eqb-true number x h)) ∙ e)))
     by false f later = later
 
 maps_alike : (f g : Mount ℕ → Mount ℕ) (list : List (Mount ℕ)) → ((x : Mount ℕ) → Among x list → f x ≡ g x)
     → map f list ≡ map g list
 maps_alike f g [] same = refl
-maps_alike f g (x ∷ rest) same =
-    ap (λ y. y ∷ map f rest) (same x (inl refl))
-    ∙ ap (λ l. g x ∷ l) (maps_alike f g rest (λ y m. same y (inr m)))
+maps_alike f g (x ∷ rest) same = cc (same x (inl refl), maps_alike f g rest (λ y m. same y (inr m)))
 
 none_found : (p : Mount ℕ → Bool) (list : List (Mount ℕ)) → list_any p list ≡ false → find p list ≡ None
 none_found p [] h = refl
@@ -80,9 +72,7 @@ none_found p (x ∷ rest) h = by (p x) refl (none_found p rest)
   where
     by : (b : Bool) → p x ≡ b → (list_any p rest ≡ false → find p rest ≡ None) → find p (x ∷ rest) ≡ None
     by true e later = absurd (true≢false (sym (ap (λ b. b || list_any p rest) e) ∙ h))
-    by false e later =
-        ap (λ b. cond b (Some x) (find p rest)) e
-        ∙ later (sym (ap (λ b. b || list_any p rest) e) ∙ h)
+    by false e later = cc (later (sym (ap (λ b. b || list_any p rest) e) ∙ h))
 
 module _ (world : World ℕ) (gone : List ℕ) where
   abbrev pub is_mount : ℕ → Bool
@@ -97,18 +87,13 @@ module _ (world : World ℕ) (gone : List ℕ) where
     where
       none_there : is_mount point.mount ≡ false → (b : Bool)
           → Path (Option (Location ℕ)) None (cond b (mount_at nat_eq world point).mount_point None)
-      none_there e true =
-          sym (ap (λ (o : Option (Mount ℕ)). (unwrap_or o (no_mount point.mount)).mount_point)
-          (none_found (λ (mount : Mount ℕ). nat_eq point.mount mount.number) world.mounts e))
+      none_there e true = cc (none_found (λ (mount : Mount ℕ). nat_eq point.mount mount.number) world.mounts e)
       none_there e false = refl
 
       by : (b : Bool) → is_mount point.mount ≡ b
           → mount_point_of_parent nat_eq world gone_there point ≡ mount_point_of_parent nat_eq world gone point
-      by true e =
-          ap (λ b. cond b (mount_at nat_eq world point).mount_point None) (kept_among is_mount point.mount e gone)
-      by false e =
-          ap (λ b. cond b (mount_at nat_eq world point).mount_point None) (none_among is_mount point.mount e gone)
-          ∙ none_there e (is_going nat_eq gone point.mount)
+      by true e = cc (kept_among is_mount point.mount e gone)
+      by false e = cc (none_among is_mount point.mount e gone, none_there e (is_going nat_eq gone point.mount))
 
   after_same : (mount : Mount ℕ) → Among mount world.mounts
       → after_going nat_eq world gone_there mount ≡ after_going nat_eq world gone mount
@@ -124,8 +109,7 @@ module _ (world : World ℕ) (gone : List ℕ) where
 
   pub taken_there : taken_away nat_eq world gone_there ≡ taken_away nat_eq world gone
   taken_there =
-      ap (λ list. regrouped nat_eq (with_mounts world list))
-      (maps_alike (after_going nat_eq world gone_there) (after_going nat_eq world gone) world.mounts after_same)
+      cc (maps_alike (after_going nat_eq world gone_there) (after_going nat_eq world gone) world.mounts after_same)
 
   pub taken_filesystems : (taken_away nat_eq world gone).filesystems ≡ world.filesystems
   taken_filesystems =

@@ -22,22 +22,16 @@ use Rattle.vt_laws_sealed.proofs.outsiders.StandingApart.{StandsApart}
 -- Filters
 filter_all : {A : Type 0} (p : A → Bool) (xs : List A) → ((x : A) → Among x xs → p x ≡ true) → filter p xs ≡ xs
 filter_all p [] all = refl
-filter_all p (x ∷ xs) all =
-    ap (λ b. cond b (x ∷ filter p xs) (filter p xs)) (all x (inl refl))
-    ∙ ap (λ l. x ∷ l) (filter_all p xs (λ y m. all y (inr m)))
+filter_all p (x ∷ xs) all = cc (all x (inl refl), filter_all p xs (λ y m. all y (inr m)))
 
 filter_none : {A : Type 0} (p : A → Bool) (xs : List A) → ((x : A) → Among x xs → p x ≡ false) → filter p xs ≡ []
 filter_none p [] none = refl
-filter_none p (x ∷ xs) none =
-    ap (λ b. cond b (x ∷ filter p xs) (filter p xs)) (none x (inl refl))
-    ∙ filter_none p xs (λ y m. none y (inr m))
+filter_none p (x ∷ xs) none = cc (none x (inl refl), filter_none p xs (λ y m. none y (inr m)))
 
 pub filter_alike : {A : Type 0} (p q : A → Bool) (xs : List A) → ((x : A) → Among x xs → p x ≡ q x)
     → filter p xs ≡ filter q xs
 filter_alike p q [] same = refl
-filter_alike p q (x ∷ xs) same =
-    ap (λ b. cond b (x ∷ filter p xs) (filter p xs)) (same x (inl refl))
-    ∙ ap (λ l. cond (q x) (x ∷ l) l) (filter_alike p q xs (λ y m. same y (inr m)))
+filter_alike p q (x ∷ xs) same = cc (same x (inl refl), filter_alike p q xs (λ y m. same y (inr m)))
 
 -- Two mounts share events, whichever is first.
 or_turned : (a b : Bool) → (a || b) ≡ (b || a)
@@ -211,8 +205,7 @@ module _ (world : World ℕ) (names : List TaskName) (apart : IsApart world name
     events =
         (λ i. ShareNone (share_events nat_eq world) (own_is_other i) (other_is_own i))
         ∙ none_turned world (own_mounts nat_eq world names) (other_mounts nat_eq world names) apart.events;
-    locations = ap (λ tasks. list_all (λ (l : Location ℕ). not
-        (is_own_mount nat_eq mirror their_names (mount_at nat_eq world l))) (locations tasks)) none_there;
+    locations = cc none_there;
     not_stood = not_on_ours;
     own_listed = λ number own.
         let at = any_among (λ (t : Task ℕ). nat_eq number t.namespace) out (sym (own_out number) ∙ own) in

@@ -89,11 +89,12 @@ module _ (world : World ℕ) (names : List TaskName) (name : TaskName) (call : C
     plain_alone : is_overlay (filesystem_at nat_eq world location) ≡ false
         → used_alone nat_eq world names (filesystem_at nat_eq world gone).number ≡ true
     plain_alone plain =
-        ap (λ (f : Filesystem ℕ). used_alone nat_eq world names f.number) one_filesystem
-        ∙ ap (used_alone nat_eq world names)
-        (found_numbered (mount_at nat_eq world location).filesystem world.filesystems)
-        ∙ naming_alone world names name call it fresh fresh fresh serves task called same_set permit judged location
-        change asks names_it plain
+        cc (
+          one_filesystem,
+          found_numbered (mount_at nat_eq world location).filesystem world.filesystems,
+          naming_alone world names name call it fresh fresh fresh serves task called same_set permit judged
+              location change asks names_it plain,
+        )
 
     points_own : (point : ℕ × ℕ) → Among point (points_of nat_eq world gone)
         → used_alone nat_eq world names point.0 ≡ true

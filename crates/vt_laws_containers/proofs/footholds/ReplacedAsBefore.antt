@@ -57,8 +57,7 @@ pub record ReplacesOwn (world : World ℕ) (names : List TaskName) (change : Mou
 map_fixed : (f : Mount ℕ → Mount ℕ) (list : List (Mount ℕ)) → ((m : Mount ℕ) → Among m list → f m ≡ m)
     → map f list ≡ list
 map_fixed f [] same = refl
-map_fixed f (m ∷ rest) same =
-    ap (λ x. x ∷ map f rest) (same m (inl refl)) ∙ ap (λ l. m ∷ l) (map_fixed f rest (λ x n. same x (inr n)))
+map_fixed f (m ∷ rest) same = cc (same m (inl refl), map_fixed f rest (λ x n. same x (inr n)))
 
 module _ (world : World ℕ) (names : List TaskName) (is : IsWorld nat_eq world)
     (sealed_off : sealed nat_eq world names ≡ true) (change : Mount ℕ → Mount ℕ)
@@ -79,9 +78,7 @@ module _ (world : World ℕ) (names : List TaskName) (is : IsWorld nat_eq world)
       → value (mount_in nat_eq (map change list) number) ≡ value (mount_in nat_eq list number)
   found_in value same number [] = refl
   found_in {B} value same number (mount ∷ rest) =
-      ap (λ n. value (unwrap_or (cond (nat_eq number n) (Some (change mount))
-      (find (λ (m : Mount ℕ). nat_eq number m.number) (map change rest))) (no_mount number))) (replaces.number mount)
-      ∙ by (nat_eq number mount.number) (found_in value same number rest)
+      cc (replaces.number mount, by (nat_eq number mount.number) (found_in value same number rest))
     where
       by : (b : Bool)
           → value (mount_in nat_eq (map change rest) number) ≡ value (mount_in nat_eq rest number)
@@ -105,12 +102,12 @@ module _ (world : World ℕ) (names : List TaskName) (is : IsWorld nat_eq world)
   owned_by own list = filter (λ (mount : Mount ℕ). holds_of own mount.namespace) list
 
   others_fixed : others_by ours (map change world.mounts) ≡ other_mounts nat_eq world names
-  others_fixed =
-      filter-map (λ (mount : Mount ℕ). holds_of (λ n. not (ours n)) mount.namespace) change world.mounts
-      (λ mount. ap (holds_of (λ n. not (ours n))) (replaces.namespace mount))
-      ∙ map_fixed change (other_mounts nat_eq world names) (λ mount m.
-      let from = among-from_filter (λ (x : Mount ℕ). holds_of (λ n. not (ours n)) x.namespace) world.mounts mount m in
-      by mount from.0 mount.namespace refl from.1)
+  others_fixed = cc (
+    filter-map (λ (mount : Mount ℕ). holds_of (λ n. not (ours n)) mount.namespace) change world.mounts (λ mount. ap
+        (holds_of (λ n. not (ours n))) (replaces.namespace mount)),
+    map_fixed change (other_mounts nat_eq world names) (λ mount m. let from = among-from_filter (λ (x : Mount ℕ).
+        holds_of (λ n. not (ours n)) x.namespace) world.mounts mount m in by mount from.0 mount.namespace refl from.1),
+  )
     where
       by : (mount : Mount ℕ) → Among mount world.mounts → (o : Option ℕ) → mount.namespace ≡ o
           → holds_of (λ n. not (ours n)) o ≡ true → change mount ≡ mount
@@ -130,13 +127,13 @@ module _ (world : World ℕ) (names : List TaskName) (is : IsWorld nat_eq world)
   no_events : ShareNone (share_events nat_eq world) (map change (own_mounts nat_eq world names))
       (other_mounts nat_eq world names) ≡ true
   no_events =
-      all-map_same
-      (λ own. list_all (λ other. not (share_events nat_eq world own other)) (other_mounts nat_eq world names))
-      (λ own. list_all (λ other. not (share_events nat_eq world own other)) (other_mounts nat_eq world names)) change
-      (own_mounts nat_eq world names)
-      (λ own. ap (λ kind. list_all (λ (other : Mount ℕ). not (share_by kind other.propagation))
-      (other_mounts nat_eq world names)) (replaces.kind own))
-      ∙ apart.events
+      cc (
+        all-map_same (λ own. list_all (λ other. not (share_events nat_eq world own other)) (other_mounts nat_eq
+            world names)) (λ own. list_all (λ other. not (share_events nat_eq world own other)) (other_mounts nat_eq
+            world names)) change (own_mounts nat_eq world names) (λ own. ap (λ kind. list_all (λ (other : Mount ℕ). not
+            (share_by kind other.propagation)) (other_mounts nat_eq world names)) (replaces.kind own)),
+        apart.events,
+      )
 
   abbrev mounted : List ℕ
   mounted = map (λ (x : Mount ℕ). x.filesystem) (own_mounts nat_eq world names)
@@ -153,9 +150,7 @@ module _ (world : World ℕ) (names : List TaskName) (is : IsWorld nat_eq world)
       twice : (list : List (Mount ℕ))
           → map (λ (x : Mount ℕ). x.filesystem) (map change list) ≡ map (λ (x : Mount ℕ). x.filesystem) list
       twice [] = refl
-      twice (m ∷ rest) =
-          ap (λ n. n ∷ map (λ (x : Mount ℕ). x.filesystem) (map change rest)) (replaces.filesystem m)
-          ∙ ap (λ l. m.filesystem ∷ l) (twice rest)
+      twice (m ∷ rest) = cc (replaces.filesystem m, twice rest)
 
   direct_was : (number : ℕ) → Among number (used_directly nat_eq left names)
       → Among number (used_directly nat_eq world names)
@@ -215,8 +210,7 @@ module _ (world : World ℕ) (names : List TaskName) (name : TaskName) (call : C
   same_mount : (number : ℕ) (mount : Mount ℕ) → Among mount world.mounts → nat_eq number mount.number ≡ true
       → mount_numbered nat_eq world number ≡ mount
   same_mount number mount m e =
-      ap (mount_numbered nat_eq world) (eqb-true number mount.number e)
-      ∙ found_itself world.mounts it.is.mounts.one_number mount m
+      cc (eqb-true number mount.number e, found_itself world.mounts it.is.mounts.one_number mount m)
 
   -- a mount in another namespace is not one of the caller's namespace
   clash : (number : ℕ) → (mount_numbered nat_eq world number).namespace ≡ Some task.namespace → (mount : Mount ℕ)
@@ -279,10 +273,7 @@ module _ (world : World ℕ) (names : List TaskName) (name : TaskName) (call : C
 
       same_set : (mount : Mount ℕ) → Among mount world.mounts
           → replaced_if_same nat_eq (record old { flags = flags }) mount ≡ set world number flags mount
-      same_set mount m =
-          ap (λ n. cond (nat_eq n mount.number) (record old { flags = flags }) mount)
-          (number-mount_in world.mounts number)
-          ∙ by (nat_eq number mount.number) refl
+      same_set mount m = cc (number-mount_in world.mounts number, by (nat_eq number mount.number) refl)
         where
           by : (b : Bool) → nat_eq number mount.number ≡ b
               → cond b (record old { flags = flags }) mount ≡ cond b (record mount { flags = flags }) mount
@@ -456,9 +447,7 @@ module _ (world : World ℕ) (names : List TaskName) (name : TaskName) (call : C
       where
         tasks_fixed : (list : List (Task ℕ)) → ((t : Task ℕ) → Among t list → turned t ≡ t) → map turned list ≡ list
         tasks_fixed [] same = refl
-        tasks_fixed (t ∷ rest) same =
-            ap (λ x. x ∷ map turned rest) (same t (inl refl))
-            ∙ ap (λ l. t ∷ l) (tasks_fixed rest (λ x m. same x (inr m)))
+        tasks_fixed (t ∷ rest) same = cc (same t (inl refl), tasks_fixed rest (λ x m. same x (inr m)))
 
     pivot_before : Before world names name call it few fresh serves task called (ToPivot new put)
     pivot_before =

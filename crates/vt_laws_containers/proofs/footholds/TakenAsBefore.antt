@@ -106,9 +106,7 @@ module _ (world : World ℕ) (names set : List TaskName) (is : IsWorld nat_eq wo
   own_left n = list_any (λ (t : Task ℕ). nat_eq n t.namespace) (filter (is_member_task set) tasks)
 
   own_left_is : (n : ℕ) → is_own_namespace nat_eq left set n ≡ own_left n
-  own_left_is n =
-      ap (λ list. list_any (λ (t : Task ℕ). nat_eq n t.namespace) (filter (is_member_task set) list))
-      (taken_tasks world tasks gone)
+  own_left_is n = cc (taken_tasks world tasks gone)
 
   -- The mirror
   abbrev others_names : List TaskName
@@ -202,44 +200,45 @@ module _ (world : World ℕ) (names set : List TaskName) (is : IsWorld nat_eq wo
 
   mirror_own : (n : ℕ) → is_own_namespace nat_eq mirror_left others_names n
       ≡ list_any (λ (t : Task ℕ). nat_eq n t.namespace) (out world names apart)
-  mirror_own n =
-      ap (λ list. list_any (λ (t : Task ℕ). nat_eq n t.namespace) (filter (is_member_task others_names) list))
-      (taken_tasks world (out world names apart) gone)
-      ∙ own_out world names apart n
+  mirror_own n = cc (taken_tasks world (out world names apart) gone, own_out world names apart n)
 
   others_alike : other_mounts nat_eq left set ≡ own_mounts nat_eq mirror_left others_names
-  others_alike =
-      ap (filter (λ (x : Mount ℕ). holds_of (λ n. not (is_own_namespace nat_eq left set n)) x.namespace)) left_mounts
-      ∙ filter_alike (λ (x : Mount ℕ). holds_of (λ n. not (is_own_namespace nat_eq left set n)) x.namespace)
-      (is_own_mount nat_eq mirror_left others_names) taken_ones (λ mount m. by mount m mount.namespace refl)
-      ∙ ap (filter (is_own_mount nat_eq mirror_left others_names)) (sym mirror_mounts)
+  others_alike = cc (
+    left_mounts,
+    filter_alike (λ (x : Mount ℕ). holds_of (λ n. not (is_own_namespace nat_eq left set n)) x.namespace)
+        (is_own_mount nat_eq mirror_left others_names) taken_ones (λ mount m. by mount m mount.namespace refl),
+    mirror_mounts,
+  )
     where
       by : (mount : Mount ℕ) → Among mount taken_ones → (o : Option ℕ) → mount.namespace ≡ o
           → holds_of (λ n. not (is_own_namespace nat_eq left set n)) o
           ≡ holds_of (is_own_namespace nat_eq mirror_left others_names) o
       by mount m None e = refl
-      by mount m (Some n) e =
-          ap not (own_left_is n ∙ same_own mount m n e)
-          ∙ sym (out_if_not_ours world names apart n (listed_still mount m n e))
-          ∙ sym (mirror_own n)
+      by mount m (Some n) e = cc (
+        own_left_is n,
+        same_own mount m n e,
+        out_if_not_ours world names apart n (listed_still mount m n e),
+        mirror_own n,
+      )
 
   owns_alike : own_mounts nat_eq left set ≡ other_mounts nat_eq mirror_left others_names
-  owns_alike =
-      ap (filter (is_own_mount nat_eq left set)) left_mounts
-      ∙ filter_alike (is_own_mount nat_eq left set)
-      (λ (x : Mount ℕ). holds_of (λ n. not (is_own_namespace nat_eq mirror_left others_names n)) x.namespace) taken_ones
-      (λ mount m. by mount m mount.namespace refl)
-      ∙ ap (filter (λ (x : Mount ℕ). holds_of (λ n. not (is_own_namespace nat_eq mirror_left others_names n))
-      x.namespace)) (sym mirror_mounts)
+  owns_alike = cc (
+    left_mounts,
+    filter_alike (is_own_mount nat_eq left set) (λ (x : Mount ℕ). holds_of (λ n. not (is_own_namespace nat_eq
+        mirror_left others_names n)) x.namespace) taken_ones (λ mount m. by mount m mount.namespace refl),
+    mirror_mounts,
+  )
     where
       by : (mount : Mount ℕ) → Among mount taken_ones → (o : Option ℕ) → mount.namespace ≡ o
           → holds_of (is_own_namespace nat_eq left set) o
           ≡ holds_of (λ n. not (is_own_namespace nat_eq mirror_left others_names n)) o
       by mount m None e = refl
-      by mount m (Some n) e =
-          own_left_is n ∙ same_own mount m n e
-          ∙ sym (ours_if_not_out world names apart n (listed_still mount m n e))
-          ∙ ap not (sym (mirror_own n))
+      by mount m (Some n) e = cc (
+        own_left_is n,
+        same_own mount m n e,
+        ours_if_not_out world names apart n (listed_still mount m n e),
+        mirror_own n,
+      )
 
   -- What is seen
   seen : KeepsWhatIsSeen world left

@@ -86,10 +86,8 @@ filter_twice {A} p q r (x ∷ xs) same none =
   where
     by : (b : Bool) → q x ≡ b → filter p (filter q xs) ≡ filter r xs
         → filter p (cond b (x ∷ filter q xs) (filter q xs)) ≡ cond (r x) (x ∷ filter r xs) (filter r xs)
-    by true e later = ap (λ c. cond c (x ∷ filter p (filter q xs)) (filter p (filter q xs))) (same x (inl refl) e)
-        ∙ ap (λ l. cond (r x) (x ∷ l) l) later
-    by false e later =
-        later ∙ sym (ap (λ c. cond c (x ∷ filter r xs) (filter r xs)) (none x (inl refl) e))
+    by true e later = cc (same x (inl refl) e)
+    by false e later = cc (none x (inl refl) e)
 
 module _ (world : World ℕ) (names : List TaskName) (name : TaskName) (call : Call)
     (it : IsCallOfTheirs world names name call) where

@@ -93,8 +93,7 @@ module _ (world : World ℕ) (names set : List TaskName) (is : IsWorld nat_eq wo
 map_itself : (f : Task ℕ → Task ℕ) (list : List (Task ℕ)) → ((t : Task ℕ) → Among t list → f t ≡ t)
     → map f list ≡ list
 map_itself f [] same = refl
-map_itself f (t ∷ rest) same =
-    ap (λ x. x ∷ map f rest) (same t (inl refl)) ∙ ap (λ l. t ∷ l) (map_itself f rest (λ x m. same x (inr m)))
+map_itself f (t ∷ rest) same = cc (same t (inl refl), map_itself f rest (λ x m. same x (inr m)))
 
 -- The tasks of the world
 pub tasks_beside : (world : World ℕ) (names : List TaskName) (is : IsWorld nat_eq world)

@@ -32,8 +32,7 @@ use Rattle.vt_laws_containers.proofs.scripts.UsedThere.{used_is_there}
 pub used_by_parts : (world other : World ℕ) (names : List TaskName)
     → part_of nat_eq world names ≡ part_of nat_eq other names
     → used_filesystems nat_eq world names ≡ used_filesystems nat_eq other names
-used_by_parts world other names same =
-    sym (same_used world names) ∙ ap (λ part. used_filesystems nat_eq part names) same ∙ same_used other names
+used_by_parts world other names same = cc (same_used world names, same_used other names)
 
 -- A run stands here.
 abbrev stand : ℕ → World ℕ → List TaskName → Stand
@@ -156,13 +155,12 @@ module _ (number : ℕ) (full lone : World ℕ) (names : List TaskName) (both : 
 
           by : (b : Bool) → is_among nat_eq filesystem (used_filesystems nat_eq full names) ≡ b
               → used_alone nat_eq of_full.world left filesystem ≡ true
-          by true was =
-              full_left.as_before filesystem used was
-              ∙ both.no_more filesystem
-              (contains_from_among (used_filesystems nat_eq full names) filesystem
-              (among_numbers (used_filesystems nat_eq full names) filesystem was))
-              (sym (lone_out.as_before filesystem used_too
-              (ap (is_among nat_eq filesystem) (sym used_both) ∙ was)) ∙ alone)
+          by true was = cc (
+            full_left.as_before filesystem used was,
+            both.no_more filesystem (contains_from_among (used_filesystems nat_eq full names) filesystem
+                (among_numbers (used_filesystems nat_eq full names) filesystem was)) (sym (lone_out.as_before
+                filesystem used_too (ap (is_among nat_eq filesystem) (sym used_both) ∙ was)) ∙ alone),
+          )
           by false new = full_left.none_on_new filesystem used new
 
       module _ (stays : sealed nat_eq of_lone.world left ≡ true) where

@@ -17,7 +17,7 @@ use Rattle.vt_laws_members_changes.specs.Changes.{IsCallOfTheirs}
 use Rattle.vt_laws_members_changes.proofs.looks.Told.{ran}
 use Rattle.vt_laws_members_changes.proofs.tasks.Denied.{run_by}
 use Rattle.vt_laws_members_calls.proofs.each_call.EachCall.{each_call_ends_alike}
-use Rattle.vt_laws_containers.specs.Calls.{AlwaysEndsAlike, CallsGiveNoFoothold, RunsEndAlike, SetsOfTheseCallsAreAnsweredAsAlone, SetsThatKeepOthersOutAreAnsweredAsAlone, TheseAlwaysEndAlike, keeps_others_out}
+use Rattle.vt_laws_containers.specs.Calls.{AlwaysEndsAlike, RunsEndAlike, SetsThatKeepOthersOutAreAnsweredAsAlone}
 use Rattle.vt_laws_containers.specs.Footholds.{GivesNoFoothold}
 use Rattle.vt_laws_containers.specs.PermitFootholds.{is_of_detaching, is_of_files, is_of_removing, is_of_replacing, is_of_tasks}
 use Rattle.vt_laws_containers.specs.Scripts.{Along, Asked, EachEndsAlike, EndsInThePart, Stand, asked, next}
@@ -26,6 +26,16 @@ use Rattle.vt_laws_containers.proofs.footholds.ReplacedAsBefore.{replacing_gives
 use Rattle.vt_laws_containers.proofs.footholds.TakingPermits.{detaching_gives_no_foothold}
 use Rattle.vt_laws_containers.proofs.footholds.TasksPermits.{denials_give_no_foothold, files_give_no_foothold, tasks_give_no_foothold}
 use Rattle.vt_laws_containers.proofs.scripts.AnsweredAlike.{AreFew, lines_are_few, sets_are_answered_as_alone}
+
+-- the calls but those that attach or copy mounts, or change their types
+abbrev pub keeps_others_out : Call → Bool
+keeps_others_out (MountPlain path flags) = false
+keeps_others_out (MountOverlay path words flags) = false
+keeps_others_out (Bind source path recursive) = false
+keeps_others_out (MoveMount source path) = false
+keeps_others_out (SetType path word recursive) = false
+keeps_others_out Unshare = false
+keeps_others_out call = true
 
 -- By the permit
 module _ (world : World ℕ) (names : List TaskName) (name : TaskName) (call : Call)
@@ -132,15 +142,12 @@ module _ (world : World ℕ) (names : List TaskName) (name : TaskName) (call : C
           (ap (λ found. is_ok (ran name call world fresh found).answer) e)
       by (Some task) e = judged_by task e (judge_in nat_eq fresh world task call) refl
 
-pub calls_give_no_foothold : CallsGiveNoFoothold
+-- Granted or refused, each of them gives others no foothold.
+pub calls_give_no_foothold : (world : World ℕ) (names : List TaskName) (name : TaskName) (call : Call)
+    → IsCallOfTheirs world names name call → names_few_groups call ≡ true → (fresh : Fresh ℕ)
+    → Serves nat_eq world fresh → keeps_others_out call ≡ true → GivesNoFoothold world names name call fresh
 calls_give_no_foothold world names name call it few fresh serves keeps =
     keeping world names name call it few fresh serves keeps
-
-pub these_always_end_alike : TheseAlwaysEndAlike
-these_always_end_alike call e world names name fresh it few serves = (
-  each_call_ends_alike world names name call it fresh serves,
-  calls_give_no_foothold world names name call it few fresh serves e,
-)
 
 -- along a run
 each_so : (others : Bool) (calls : List Asked) → AreFew calls → (at : Stand)
@@ -166,23 +173,6 @@ each_so others (Some call ∷ calls) few at always =
 pub runs_end_alike : RunsEndAlike
 runs_end_alike others at grammar lines always =
     each_so others (map (asked grammar) lines) (lines_are_few grammar lines) at always
-
-along_these : (others : Bool) (calls : List Asked) (at : Stand)
-    → Along (λ here name call. is_among same_name name here.names ≡ true → keeps_others_out call ≡ true) others at
-    calls
-    → Along (λ here name call. is_among same_name name here.names ≡ true → AlwaysEndsAlike call) others at calls
-along_these others [] at these = tt
-along_these others (None ∷ calls) at these = (tt, along_these others calls (next others at None) these.1)
-along_these others (Some call ∷ calls) at these = (
-  λ theirs. these_always_end_alike call.1 (these.0 theirs),
-  along_these others calls (next others at (Some call)) these.1,
-)
-
-pub sets_of_these_calls_are_answered_as_alone : SetsOfTheseCallsAreAnsweredAsAlone
-sets_of_these_calls_are_answered_as_alone at grammar lines off stays full lone =
-    sets_are_answered_as_alone at grammar lines off stays
-    (runs_end_alike true at grammar lines (along_these true (map (asked grammar) lines) at full))
-    (runs_end_alike false at grammar lines (along_these false (map (asked grammar) lines) at lone))
 
 -- every call of theirs ends alike, along each run
 all_in_part : (others : Bool) (calls : List Asked) (at : Stand) → Along EndsInThePart others at calls

@@ -159,5 +159,4 @@ one_refusal = refl
 
 -- so the last one is
 pub last_of_many_mounts_is_refused : LastOfManyMountsIsRefused
-last_of_many_mounts_is_refused version =
-    full_namespace_refuses version 1 ∙ ap (λ last. numbered 1 4096 (codes " ok\n") ++ last) one_refusal
+last_of_many_mounts_is_refused version = cc (full_namespace_refuses version 1, one_refusal)

@@ -1,6 +1,6 @@
 -- Whether a mount in the first namespace has room: it comes to the shared mount, and to its peer in the other
 -- namespace.
-use Rattle.std.proofs.Common.{◌≡◌, refl, sym, ap, subst, ◌∙◌, inl, inr, ⊎_elim, true≢false, ℕ, suc, nat_eq, nat_lt, eqb-true, Bool, true, false, cond, not, ◌&&◌, ◌||◌, ◌+◌, ◌*◌, List, [], ◌∷◌, ◌++◌, Option, None, Some, Ok, filter, find, is_some, length, map, option_map}
+use Rattle.std.proofs.Common.{◌≡◌, refl, sym, ap, subst, ◌∙◌, true≢false, ℕ, suc, nat_eq, nat_lt, eqb-true, Bool, true, false, cond, not, ◌&&◌, ◌||◌, ◌+◌, ◌*◌, List, [], ◌∷◌, ◌++◌, Option, None, Some, Ok, filter, find, is_some, length, map, option_map}
 use Rattle.std.proofs.Math.Bool.{or-false}
 use Rattle.std.specs.Prelude.{codes, option_to_list, unwrap_or}
 use Rattle.std.specs.List.{list_all, list_any}
@@ -73,9 +73,7 @@ topmost_of_one : (mounts : List (Mount ℕ)) (at : Location ℕ) (child : Mount 
     → child_at nat_eq mounts (root_of child) ≡ None → (some : ℕ) → length mounts ≡ suc some
     → topmost nat_eq mounts at ≡ root_of child
 topmost_of_one mounts at child stands free some long =
-    ap (λ n. last_or at (chain n up at)) long
-    ∙ ap (last_or at) (chain_goes_on up some at (root_of child) (ap (option_map root_of) stands))
-    ∙ by some
+    cc (chain_goes_on up some at (root_of child) (ap (option_map root_of) stands), by some)
   where
     up : Location ℕ → Option (Location ℕ)
     up here = option_map root_of (child_at nat_eq mounts here)
@@ -120,25 +118,20 @@ module _ (first second : Filesystem ℕ) (trees : TwoTrees first second) (world 
 
   -- nothing stands on the root of the shared mount
   nothing_on_root : child_at nat_eq world.mounts (record { mount = 17; node = 22 }) ≡ None
-  nothing_on_root =
-      ap (λ mounts. child_at nat_eq mounts (record { mount = 17; node = 22 })) has.mounts
-      ∙ find_none (stands_at nat_eq (record { mount = 17; node = 22 })) has.rest
-      (λ mount m. rest_stands_apart mount m 22)
+  nothing_on_root = cc (
+    has.mounts,
+    find_none (stands_at nat_eq (record { mount = 17; node = 22 })) has.rest (λ mount m. rest_stands_apart mount m
+        22),
+  )
 
   -- nor at the place
   nothing_on_place : child_at nat_eq world.mounts place ≡ None
   nothing_on_place =
-      ap (λ mounts. child_at nat_eq mounts place) has.mounts
-      ∙ find_none (stands_at nat_eq place) has.rest (λ mount m. rest_stands_apart mount m 24)
+      cc (has.mounts, find_none (stands_at nat_eq place) has.rest (λ mount m. rest_stands_apart mount m 24))
 
   -- Filesystems
   first_is_found : filesystem_numbered nat_eq world 2 ≡ first
-  first_is_found =
-      ap (λ list. unwrap_or (find (λ (filesystem : Filesystem ℕ). nat_eq 2 filesystem.number) list) (no_filesystem 2))
-      has.filesystems
-      ∙ ap (λ n. unwrap_or (cond (nat_eq 2 n) (Some first)
-      (find (λ (filesystem : Filesystem ℕ). nat_eq 2 filesystem.number) (second ∷ has.more))) (no_filesystem 2))
-      trees.first_number
+  first_is_found = cc (has.filesystems, trees.first_number)
 
   -- the filesystem of the shared mount
   second_is_found : filesystem_numbered nat_eq world 13 ≡ second

@@ -46,14 +46,13 @@ IsEdit change = ⊥
 -- an inode is edited, and its entries stay
 module _ (files : FileTree ℕ) (number : ℕ) (f : Option (Node ℕ) → Option (Node ℕ))
     (same : (o : Option (Node ℕ)) → entries_in (f o) ≡ entries_in o) where
-  targets_stay : (d : ℕ) → targets_in ((changed_node nat_eq files number f).tree.node d) ≡ targets_in (files.tree.node d)
+  targets_stay : (d : ℕ) → targets_in ((changed_node nat_eq files number f).tree.node d)
+      ≡ targets_in (files.tree.node d)
   targets_stay d = by (nat_eq d number) refl
     where
       by : (b : Bool) → nat_eq d number ≡ b
           → targets_in (cond b (f (files.tree.node number)) (files.tree.node d)) ≡ targets_in (files.tree.node d)
-      by true e =
-          ap (map (λ (entry : List ℕ × ℕ). entry.1)) (same (files.tree.node number))
-          ∙ ap (λ n. targets_in (files.tree.node n)) (sym (eqb-true d number e))
+      by true e = cc (same (files.tree.node number), eqb-true d number e)
       by false e = refl
 
   names_stay : named_in (changed_node nat_eq files number f) ≡ named_in files
@@ -61,7 +60,8 @@ module _ (files : FileTree ℕ) (number : ℕ) (f : Option (Node ℕ) → Option
 
 -- so root, numbers and names stay
 pub edits_keep : (files : FileTree ℕ) (change : Change ℕ) → IsEdit change
-    → ((changed nat_eq files change).tree.root ≡ files.tree.root) × ((changed nat_eq files change).numbers ≡ files.numbers)
+    → ((changed nat_eq files change).tree.root ≡ files.tree.root)
+    × ((changed nat_eq files change).numbers ≡ files.numbers)
     × (named_in (changed nat_eq files change) ≡ named_in files)
 edits_keep files (SetBytes file bytes) is =
     (refl, refl, names_stay files file (node_with_bytes bytes) (entries-node_with_bytes bytes))
@@ -113,7 +113,8 @@ module _ (world : World ℕ) (names : List TaskName) (is : IsWorld nat_eq world)
       (make_rules one task place (unnumbered place (new_file task file_mode bytes)))
       (Ok (make_permit place (new_file task file_mode bytes))) tt)
   written_there place bytes (Some file) found =
-      of_rules Edited (rewrite_rules one task file bytes) (Ok (ToChange file (SetBytes file.node bytes))) (found file refl, tt)
+      of_rules Edited (rewrite_rules one task file bytes) (Ok (ToChange file (SetBytes file.node bytes)))
+      (found file refl, tt)
 
   pub writes_edit : (path bytes : List ℕ) → IfOk (write_permit nat_eq one task path bytes) Edited
   unfolding write_permit

@@ -16,9 +16,7 @@ use Rattle.vt_laws_letting_go.specs.TreesOverlays.{with_filesystems}
 filter_map_changed : {A : Type 0} (f g : A → Option A) (h : A → A) (xs : List A)
     → ((x : A) → f (h x) ≡ option_map h (g x)) → filter_map f (map h xs) ≡ map h (filter_map g xs)
 filter_map_changed f g h [] same = refl
-filter_map_changed {A} f g h (x ∷ xs) same =
-    ap (λ o. cons_option o (filter_map f (map h xs))) (same x)
-    ∙ by (g x) (filter_map_changed f g h xs same)
+filter_map_changed {A} f g h (x ∷ xs) same = cc (same x, by (g x) (filter_map_changed f g h xs same))
   where
     by : (o : Option A) → filter_map f (map h xs) ≡ map h (filter_map g xs)
         → cons_option (option_map h o) (filter_map f (map h xs)) ≡ map h (cons_option o (filter_map g xs))
@@ -48,17 +46,15 @@ module _ (world : World ℕ) (names : List TaskName) (h : Filesystem ℕ → Fil
           → what (unwrap_or (find (λ (f : Filesystem ℕ). nat_eq k f.number) (map h list)) (no_filesystem k))
           ≡ what (unwrap_or (find (λ (f : Filesystem ℕ). nat_eq k f.number) list) (no_filesystem k))
       search [] all = refl
-      search (x ∷ rest) all =
-          ap (λ n. what (unwrap_or (cond (nat_eq k n) (Some (h x))
-          (find (λ (f : Filesystem ℕ). nat_eq k f.number) (map h rest))) (no_filesystem k))) (numbered x)
-          ∙ by (nat_eq k x.number) refl (search rest (λ y m. all y (inr m)))
+      search (x ∷ rest) all = cc (numbered x, by (nat_eq k x.number) refl (search rest (λ y m. all y (inr m))))
         where
           by : (b : Bool) → nat_eq k x.number ≡ b
               → what (unwrap_or (find (λ (f : Filesystem ℕ). nat_eq k f.number) (map h rest)) (no_filesystem k))
               ≡ what (unwrap_or (find (λ (f : Filesystem ℕ). nat_eq k f.number) rest) (no_filesystem k))
               → what (unwrap_or (cond b (Some (h x)) (find (λ (f : Filesystem ℕ). nat_eq k f.number) (map h rest)))
               (no_filesystem k))
-              ≡ what (unwrap_or (cond b (Some x) (find (λ (f : Filesystem ℕ). nat_eq k f.number) rest)) (no_filesystem k))
+              ≡ what (unwrap_or (cond b (Some x) (find (λ (f : Filesystem ℕ). nat_eq k f.number) rest))
+              (no_filesystem k))
           by true e rest_same = same x (all x (inl refl)) e
           by false e rest_same = rest_same
 
@@ -86,7 +82,8 @@ module _ (world : World ℕ) (names : List TaskName) (h : Filesystem ℕ → Fil
   abbrev used_now : List ℕ
   used_now = used_filesystems nat_eq world names
 
-  unused_found : (k : ℕ) → is_among nat_eq k used_now ≡ false → filesystem_numbered nat_eq now k ≡ filesystem_numbered nat_eq world k
+  unused_found : (k : ℕ) → is_among nat_eq k used_now ≡ false
+      → filesystem_numbered nat_eq now k ≡ filesystem_numbered nat_eq world k
   unused_found k e =
       found world names h numbered (λ (f : Filesystem ℕ). f) k
       (λ x there m. kept x (ap (λ n. is_among nat_eq n used_now) (sym (eqb-true k x.number m)) ∙ e))
@@ -122,15 +119,14 @@ module _ (world : World ℕ) (names : List TaskName) (h : Filesystem ℕ → Fil
       ∙ ap (λ l. cond (is_among nat_eq (h x).number used_now) (Some (h x))
       (when (list_any (λ (layer : Layer ℕ). nat_eq (h x).number layer.filesystem) l)
       (part_of_lower nat_eq now names (h x)))) same_lowers
-      ∙ ap (λ n. cond (is_among nat_eq n used_now) (Some (h x)) (when (has_lower n) (part_of_lower nat_eq now names (h x))))
+      ∙ ap (λ n. cond (is_among nat_eq n used_now) (Some (h x))
+      (when (has_lower n) (part_of_lower nat_eq now names (h x))))
       (numbered x)
       ∙ by (is_among nat_eq x.number used_now) refl
     where
       low : is_among nat_eq x.number used_now ≡ false → (c : Bool)
           → when c (part_of_lower nat_eq now names (h x)) ≡ option_map h (when c (part_of_lower nat_eq world names x))
-      low e true =
-          ap Some (ap (part_of_lower nat_eq now names) (kept x e) ∙ lower_later x e
-          ∙ sym (kept (part_of_lower nat_eq world names x) e))
+      low e true = cc (kept x e, lower_later x e, kept (part_of_lower nat_eq world names x) e)
       low e false = refl
 
       by : (b : Bool) → is_among nat_eq x.number used_now ≡ b

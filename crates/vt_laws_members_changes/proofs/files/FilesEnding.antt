@@ -40,8 +40,10 @@ pub no_overlay : (o : Option (Overlay ℕ)) → is_some o ≡ false → o ≡ No
 no_overlay None e = refl
 no_overlay (Some overlay) e = absurd (true≢false e)
 
-module _ (world : World ℕ) (names : List TaskName) (name : TaskName) (call : Call) (it : IsCallOfTheirs world names name call)
-    (fresh other : Fresh ℕ) (task : Task ℕ) (found : task_called world name ≡ Some task) (looks : only_looks call ≡ false)
+module _ (world : World ℕ) (names : List TaskName) (name : TaskName) (call : Call)
+    (it : IsCallOfTheirs world names name call)
+    (fresh other : Fresh ℕ) (task : Task ℕ) (found : task_called world name ≡ Some task)
+    (looks : only_looks call ≡ false)
     (stays : grown names name call (Ok Done) ≡ names) (location : Location ℕ) (change : Change ℕ) (is : IsEdit change)
     (plain : is_overlay (filesystem_at nat_eq world location) ≡ false)
     (used : is_among nat_eq (mount_at nat_eq world location).filesystem (used_filesystems nat_eq world names) ≡ true)
@@ -83,10 +85,10 @@ module _ (world : World ℕ) (names : List TaskName) (name : TaskName) (call : C
   raised_members tasks = filter (is_member_task names) (map (raised_task name) tasks)
 
   tasks_alike : raised_members world.tasks ≡ raised_members part.tasks
-  tasks_alike =
-      of_map world.tasks ∙ ap (map (raised_task name)) (sym (same_members world names)) ∙ sym (of_map part.tasks)
+  tasks_alike = cc (of_map world.tasks, same_members world names, of_map part.tasks)
     where
-      of_map : (tasks : List (Task ℕ)) → raised_members tasks ≡ map (raised_task name) (filter (is_member_task names) tasks)
+      of_map : (tasks : List (Task ℕ))
+          → raised_members tasks ≡ map (raised_task name) (filter (is_member_task names) tasks)
       of_map tasks =
           filter-map (is_member_task names) (raised_task name) tasks
           (λ t. ap (λ n. is_among same_name n names) (raised_is name (λ (x : Task ℕ). x.name) (λ x. refl) t))
@@ -99,10 +101,13 @@ module _ (world : World ℕ) (names : List TaskName) (name : TaskName) (call : C
 
   parts_alike : part_of nat_eq left_here names ≡ part_of nat_eq left_there names
   parts_alike =
-      part_left old files world name names (old_used world names it.is number used) (one_in_world world names it.is number used)
-      ∙ (λ i. record (with_filesystems (sym (part_again world names it.is) i) (both old files)) { tasks = tasks_alike i })
+      part_left old files world name names (old_used world names it.is number used)
+      (one_in_world world names it.is number used)
+      ∙ (λ i. record (with_filesystems (sym (part_again world names it.is) i)
+      (both old files)) { tasks = tasks_alike i })
       ∙ sym (part_left old files part name names
-      (ap (is_among nat_eq old.number) (same_used world names) ∙ (old_used world names it.is number used)) (one_in_part world names it.is number used))
+      (ap (is_among nat_eq old.number) (same_used world names)
+      ∙ (old_used world names it.is number used)) (one_in_part world names it.is number used))
 
   pub edit_ends : ran name call world fresh (Some task)
       ≡ run_by world names name call it fresh other world fresh task (Ok (ToChange location change))
@@ -112,12 +117,14 @@ module _ (world : World ℕ) (names : List TaskName) (name : TaskName) (call : C
   edit_ends one two =
       let first : policy nat_eq fresh world name call ≡ granted Done left_here =
       ap (ran name call world fresh) found ∙ one ∙ changes_so world fresh refl
-      ∙ ap (granted Done) (left_so old files world name (in_use world (all_in_use world it.is) (one_in_world world names it.is number used))) in
+      ∙ ap (granted Done) (left_so old files world name
+      (in_use world (all_in_use world it.is) (one_in_world world names it.is number used))) in
       let second : policy nat_eq other part name call ≡ granted Done left_there =
       ap (ran name call part other) (same_caller world names it.is it.sealed_off name it.theirs ∙ found) ∙ two
       ∙ changes_so part other (sym alike)
       ∙ ap (granted Done)
-      (left_so old files part name (in_use part (part_in_use world names it.is it.sealed_off) (one_in_part world names it.is number used))) in
+      (left_so old files part name (in_use part (part_in_use world names it.is it.sealed_off)
+      (one_in_part world names it.is number used))) in
       subst (λ p. EndAlike (grown names name call (policy nat_eq fresh world name call).answer)
       (policy nat_eq fresh world name call) p) (sym second)
       (subst (λ o. EndAlike (grown names name call o.answer) o (granted Done left_there)) (sym first)
@@ -125,7 +132,8 @@ module _ (world : World ℕ) (names : List TaskName) (name : TaskName) (call : C
       (record { answer = refl; part = parts_alike })))
 
 -- A call whose walk leads to what it edits
-module _ (world : World ℕ) (names : List TaskName) (name : TaskName) (call : Call) (it : IsCallOfTheirs world names name call)
+module _ (world : World ℕ) (names : List TaskName) (name : TaskName) (call : Call)
+    (it : IsCallOfTheirs world names name call)
     (task : Task ℕ) (found : task_called world name ≡ Some task) (fresh other : Fresh ℕ) (location : Location ℕ)
     (change : Change ℕ) (granted_so : judge_in nat_eq fresh world task call ≡ Ok (ToChange location change))
     (plain : is_overlay (filesystem_at nat_eq world location) ≡ false) (looks : only_looks call ≡ false)
@@ -145,24 +153,28 @@ module _ (world : World ℕ) (names : List TaskName) (name : TaskName) (call : C
 
 pub writes_end_alike : WritesEndAlike
 writes_end_alike world names name path bytes it task found fresh other location change granted_so plain =
-    walked_edit_ends world names name (Write path bytes) it task found fresh other location change granted_so plain refl refl
+    walked_edit_ends world names name
+    (Write path bytes) it task found fresh other location change granted_so plain refl refl
     (writes_edit world names it.is it.sealed_off task
     (member_called world names it.is it.sealed_off name it.theirs task found) path bytes)
 
 pub chmods_end_alike : ChmodsEndAlike
 chmods_end_alike world names name path mode it task found fresh other location change granted_so plain =
-    walked_edit_ends world names name (Chmod path mode) it task found fresh other location change granted_so plain refl refl
+    walked_edit_ends world names name
+    (Chmod path mode) it task found fresh other location change granted_so plain refl refl
     (chmods_edit world names it.is it.sealed_off task
     (member_called world names it.is it.sealed_off name it.theirs task found) path mode)
 
 pub chowns_end_alike : ChownsEndAlike
 chowns_end_alike world names name path uid gid it task found fresh other location change granted_so plain =
-    walked_edit_ends world names name (Chown path uid gid) it task found fresh other location change granted_so plain refl refl
+    walked_edit_ends world names name
+    (Chown path uid gid) it task found fresh other location change granted_so plain refl refl
     (chowns_edit world names it.is it.sealed_off task
     (member_called world names it.is it.sealed_off name it.theirs task found) path uid gid)
 
 pub opaques_end_alike : OpaquesEndAlike
 opaques_end_alike world names name path mark it task found fresh other location change granted_so plain =
-    walked_edit_ends world names name (Opaque path mark) it task found fresh other location change granted_so plain refl refl
+    walked_edit_ends world names name
+    (Opaque path mark) it task found fresh other location change granted_so plain refl refl
     (opaques_edit world names it.is it.sealed_off task
     (member_called world names it.is it.sealed_off name it.theirs task found) path mark)

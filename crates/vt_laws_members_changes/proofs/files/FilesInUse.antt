@@ -15,7 +15,8 @@ use Rattle.vt_laws_letting_go.proofs.sweeps.InUse.{filesystems_stay, mounts_stay
 
 -- names and real objects stay
 module _ (world : World ℕ) (in_use : AllInUse world) (change : Filesystem ℕ → Filesystem ℕ)
-    (changes : (after : World ℕ) (f : Filesystem ℕ) → Among f world.filesystems → ChangesFilesystem after [] f (change f))
+    (changes : (after : World ℕ) (f : Filesystem ℕ) → Among f world.filesystems
+    → ChangesFilesystem after [] f (change f))
   where
     abbrev changed : World ℕ
     changed = with_filesystems world change
@@ -24,14 +25,16 @@ module _ (world : World ℕ) (in_use : AllInUse world) (change : Filesystem ℕ 
     none = record { mounts = []; filesystems = []; inodes = []; groups = [] }
 
     stays : in_use_of world ≡ world
-    stays = ap (without_dead_filesystems nat_eq) (mounts_stay world in_use.mounts) ∙ filesystems_stay world in_use.filesystems
+    stays = cc (mounts_stay world in_use.mounts, filesystems_stay world in_use.filesystems)
 
     in_use_before : AllInUseBut none world
     in_use_before = record {
       mounts = in_use.mounts;
       filesystems = subst (FilesystemsInUseBut []) (sym (mounts_stay world in_use.mounts)) in_use.filesystems;
       inodes = subst (InodesInUseBut []) (sym stays) in_use.inodes;
-      groups = subst (GroupsInUseBut []) (sym (mounts_stay world in_use.mounts)) (λ group among empty. in_use.groups group empty);
+      groups =
+          subst (GroupsInUseBut []) (sym (mounts_stay world in_use.mounts))
+          (λ group among empty. in_use.groups group empty);
     }
 
     filesystems_after : FilesystemsInUse changed
@@ -44,8 +47,7 @@ module _ (world : World ℕ) (in_use : AllInUse world) (change : Filesystem ℕ 
         ∙ passes (filesystem_lives nat_eq world) world.filesystems in_use.filesystems from.0 from.1)
 
     all_stay : in_use_of changed ≡ changed
-    all_stay =
-        ap (without_dead_filesystems nat_eq) (mounts_stay changed in_use.mounts) ∙ filesystems_stay changed filesystems_after
+    all_stay = cc (mounts_stay changed in_use.mounts, filesystems_stay changed filesystems_after)
 
     all_but_none : AllInUseBut none changed
     all_but_none =
@@ -74,15 +76,13 @@ module _ (world : World ℕ) (old : Filesystem ℕ) (files : FileTree ℕ) (plai
     number = refl;
     root = root;
     layers = refl;
-    inodes =
-        ap (λ l. list_all (λ k. is_among nat_eq k old.files.numbers || is_among nat_eq k (named_in files)
-        || is_among nat_eq k (upper_objects after old.number)) l) numbers
-        ∙ all_pass (λ k. is_among nat_eq k old.files.numbers || is_among nat_eq k (named_in files)
-        || is_among nat_eq k (upper_objects after old.number)) old.files.numbers (λ k m.
-        or_first (is_among nat_eq k old.files.numbers || is_among nat_eq k (named_in files))
-        (is_among nat_eq k (upper_objects after old.number))
-        (or_first (is_among nat_eq k old.files.numbers) (is_among nat_eq k (named_in files))
-        (is_among_numbers k old.files.numbers m)));
+    inodes = cc (
+      numbers,
+      all_pass (λ k. is_among nat_eq k old.files.numbers || is_among nat_eq k (named_in files) || is_among nat_eq k
+          (upper_objects after old.number)) old.files.numbers (λ k m. or_first (is_among nat_eq k old.files.numbers ||
+          is_among nat_eq k (named_in files)) (is_among nat_eq k (upper_objects after old.number)) (or_first (is_among
+          nat_eq k old.files.numbers) (is_among nat_eq k (named_in files)) (is_among_numbers k old.files.numbers m))),
+    );
     names =
         ap (λ l. list_all (λ k. is_among nat_eq k l || is_inode_among old.number k []) (named_in old.files)) named
         ∙ all_pass (λ k. is_among nat_eq k (named_in old.files) || is_inode_among old.number k []) (named_in old.files)

@@ -65,9 +65,7 @@ module _ (old : Filesystem ℕ) (files : FileTree ℕ) where
       by false e = refl
 
   pub both_kept : (x : Filesystem ℕ) → nat_eq old.number x.number ≡ false → both x ≡ x
-  both_kept x e =
-      ap (λ b. raised_if_changed nat_eq (old.number ∷ []) (cond b (with_files old files) x)) e
-      ∙ ap (λ b. cond (b || false) (record x { change = raised x.change }) x) e
+  both_kept x e = cc
 
   module _ (world : World ℕ) (name : TaskName) where
     -- what the call leaves
@@ -101,14 +99,13 @@ module _ (old : Filesystem ℕ) (files : FileTree ℕ) where
           tasks = filter (is_member_task names) (map (raised_task name) world.tasks);
         }
     part_left names used one =
-        retasked later names names (map (raised_task name) world.tasks) (raised world.change)
-        (sees_alike later names (raised_task name) (raised_is name (λ (t : Task ℕ). t.name) (λ t. refl))
-        (λ t m. raised_is name (λ (t : Task ℕ). t.namespace) (λ t. refl) t)
-        (λ t m. raised_is name (λ (t : Task ℕ). t.root ∷ t.directory ∷ []) (λ t. refl) t)
-        (raised world.change)
-        (λ t m. raised_is name locations_of (λ t. refl) t))
-        ∙ ap (λ (w : World ℕ). record w { tasks = filter (is_member_task names) (map (raised_task name) world.tasks) })
-        (part_with_files world names both both_numbered (λ x m. both_overlaid x (one x m)) kept)
+        cc (
+          retasked later names names (map (raised_task name) world.tasks) (raised world.change) (sees_alike later
+              names (raised_task name) (raised_is name (λ (t : Task ℕ). t.name) (λ t. refl)) (λ t m. raised_is name (λ
+              (t : Task ℕ). t.namespace) (λ t. refl) t) (λ t m. raised_is name (λ (t : Task ℕ). t.root ∷ t.directory ∷
+              []) (λ t. refl) t) (raised world.change) (λ t m. raised_is name locations_of (λ t. refl) t)),
+          part_with_files world names both both_numbered (λ x m. both_overlaid x (one x m)) kept,
+        )
       where
         later : World ℕ
         later = with_filesystems world both
@@ -117,7 +114,8 @@ module _ (old : Filesystem ℕ) (files : FileTree ℕ) where
             → nat_eq old.number x.number ≡ b → both x ≡ x
         other x unused true e =
             absurd (true≢false (sym used
-            ∙ ap (λ n. is_among nat_eq n (used_filesystems nat_eq world names)) (eqb-true old.number x.number e) ∙ unused))
+            ∙ ap (λ n. is_among nat_eq n (used_filesystems nat_eq world names)) (eqb-true old.number x.number e)
+            ∙ unused))
         other x unused false e = both_kept x e
 
         kept : (x : Filesystem ℕ) → is_among nat_eq x.number (used_filesystems nat_eq world names) ≡ false → both x ≡ x

@@ -19,7 +19,8 @@ found_numbered k (x ∷ rest) = by (nat_eq k x.number) refl (found_numbered k re
   where
     by : (b : Bool) → nat_eq k x.number ≡ b
         → (unwrap_or (find (λ (f : Filesystem ℕ). nat_eq k f.number) rest) (no_filesystem k)).number ≡ k
-        → (unwrap_or (cond b (Some x) (find (λ (f : Filesystem ℕ). nat_eq k f.number) rest)) (no_filesystem k)).number ≡ k
+        → (unwrap_or (cond b (Some x) (find (λ (f : Filesystem ℕ). nat_eq k f.number) rest)) (no_filesystem k)).number
+        ≡ k
     by true e later = sym (eqb-true k x.number e)
     by false e later = later
 
@@ -58,5 +59,6 @@ module _ (world : World ℕ) (names : List TaskName) (is : IsWorld nat_eq world)
   pub there_in_part : Among old world.filesystems → Among old part.filesystems
   there_in_part there =
       among-filter_map (part_of_filesystem nat_eq world names) world.filesystems old old there
-      (ap (λ b. cond b (Some old) (when (list_any (λ layer. nat_eq old.number layer.filesystem) (own_lowers nat_eq world names))
+      (ap (λ b. cond b (Some old) (when
+      (list_any (λ layer. nat_eq old.number layer.filesystem) (own_lowers nat_eq world names))
       (part_of_lower nat_eq world names old))) old_used)

@@ -63,7 +63,8 @@ module _ (world : World ℕ) (names : List TaskName) (is : IsWorld nat_eq world)
           task.descriptors descriptor e) descriptor.writes
 
 pub part_writes_end_alike : PartWritesEndAlike
-part_writes_end_alike world names name descriptor offset byte bytes it task called fresh other file at written granted_so plain =
+part_writes_end_alike world names name descriptor offset byte bytes it task called fresh other file at written
+    granted_so plain =
     edit_ends world names name call it fresh other task called refl refl file
     (SetBytes file.node (overwritten at (byte ∷ bytes) (bytes_in (node_at nat_eq world file)))) tt plain
     (located_used world names it.is file theirs.0)

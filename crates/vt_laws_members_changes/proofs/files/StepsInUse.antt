@@ -12,7 +12,8 @@ use Rattle.vt_laws_letting_go.proofs.sweeps.InUse.{filesystems_stay, mounts_stay
 
 -- In the world after the change each filesystem has its number, its layers, and uses of its inodes.
 module _ (w : World ℕ) (in_use : AllInUse w) (step : Filesystem ℕ → Filesystem ℕ)
-    (changes : (f : Filesystem ℕ) → Among f w.filesystems → ChangesFilesystem (with_filesystems w step) [] f (step f)) where
+    (changes : (f : Filesystem ℕ) → Among f w.filesystems
+    → ChangesFilesystem (with_filesystems w step) [] f (step f)) where
   abbrev changed : World ℕ
   changed = with_filesystems w step
 
@@ -27,7 +28,8 @@ module _ (w : World ℕ) (in_use : AllInUse w) (step : Filesystem ℕ → Filesy
     mounts = in_use.mounts;
     filesystems = subst (FilesystemsInUseBut []) (sym (mounts_stay w in_use.mounts)) in_use.filesystems;
     inodes = subst (InodesInUseBut []) (sym stays) in_use.inodes;
-    groups = subst (GroupsInUseBut []) (sym (mounts_stay w in_use.mounts)) (λ group among empty. in_use.groups group empty);
+    groups =
+        subst (GroupsInUseBut []) (sym (mounts_stay w in_use.mounts)) (λ group among empty. in_use.groups group empty);
   }
 
   filesystems_after : FilesystemsInUse changed
@@ -35,13 +37,13 @@ module _ (w : World ℕ) (in_use : AllInUse w) (step : Filesystem ℕ → Filesy
       all_pass (filesystem_lives nat_eq changed) changed.filesystems
       (λ x m. let from = among-from_map step w.filesystems x m in
       ap (filesystem_lives nat_eq changed) from.2
-      ∙ lives_alike w step (λ g n. ChangesFilesystem.number (changes g n)) (λ g n. ChangesFilesystem.layers (changes g n))
+      ∙ lives_alike w step (λ g n. ChangesFilesystem.number (changes g n))
+      (λ g n. ChangesFilesystem.layers (changes g n))
       from.0 from.1
       ∙ passes (filesystem_lives nat_eq w) w.filesystems in_use.filesystems from.0 from.1)
 
   all_stay : in_use_of changed ≡ changed
-  all_stay =
-      ap (without_dead_filesystems nat_eq) (mounts_stay changed in_use.mounts) ∙ filesystems_stay changed filesystems_after
+  all_stay = cc (mounts_stay changed in_use.mounts, filesystems_stay changed filesystems_after)
 
   all_but : AllInUseBut (with_lost none []) changed
   all_but =

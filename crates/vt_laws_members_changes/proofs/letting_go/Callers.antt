@@ -171,9 +171,11 @@ module _ (world : World ℕ) (names : List TaskName) (name : TaskName) (call : C
   pub all_in_set : (t : Task ℕ) → Among t (map replaced part.tasks) → is_member_task names t ≡ true
   all_in_set t m =
       let from = among-from_map replaced part.tasks t m in
-      ap (is_member_task names) from.2
-      ∙ ap (λ n. is_among same_name n names) (name-replaced_if_called mine from.0)
-      ∙ (among-from_filter (is_member_task names) world.tasks from.0 from.1).1
+      cc (
+        from.2,
+        name-replaced_if_called mine from.0,
+        (among-from_filter (is_member_task names) world.tasks from.0 from.1).1,
+      )
 
   pub moved_alike : (fresh other : Fresh ℕ) → grown names name call (Ok Done) ≡ names
       → ((n : ℕ) → list_any (λ (t : Task ℕ). nat_eq n t.namespace) (map replaced theirs)

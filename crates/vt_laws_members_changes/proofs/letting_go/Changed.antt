@@ -36,11 +36,12 @@ pub mount_parent : (b : World ℕ) → MountInvariants nat_eq b → (m : Mount �
 mount_parent b kept m l at point = by m.namespace refl
   where
     below : m.namespace ≡ (mount_numbered nat_eq b l.mount).namespace
-    below =
-        sym (ap (λ (y : Mount ℕ). y.namespace) (found_itself b.mounts kept.one_number m at))
-        ∙ namespace_below b m.number l
-        (among_from_all (λ (y : Mount ℕ). Stands nat_eq b y.number) b.mounts kept.standing m at)
-        (ap (λ (y : Mount ℕ). y.mount_point) (found_itself b.mounts kept.one_number m at) ∙ point)
+    below = cc (
+      found_itself b.mounts kept.one_number m at,
+      namespace_below b m.number l (among_from_all (λ (y : Mount ℕ). Stands nat_eq b y.number) b.mounts
+          kept.standing m at) (ap (λ (y : Mount ℕ). y.mount_point) (found_itself b.mounts kept.one_number m at) ∙
+          point),
+    )
 
     by : (o : Option ℕ) → m.namespace ≡ o
         → (n : ℕ) × (m.namespace ≡ Some n) × (k : Mount ℕ) × Among k b.mounts × (l.mount ≡ k.number)
@@ -151,10 +152,7 @@ module _ (world : World ℕ) (names : List TaskName) (is : IsWorld nat_eq world)
             ∙ sym (ap (λ b. kept_as b (at new m)) g)
         by false e false f false g true h =
             absurd (⊎_elim (λ whole. true≢false (sym whole ∙ e)) (λ there. true≢false (sym there ∙ f)) (at_was m n h))
-        by false e false f false g false h =
-            ap (λ b. then_some (kept_as b (at old m)) (keep world names new)) e
-            ∙ ap (λ b. then_some (when b (stub m)) (keep world names new)) f
-            ∙ sym (ap (λ b. kept_as b (at new m)) g ∙ ap (λ b. when b (stub m)) h)
+        by false e false f false g false h = cc
 
     abbrev shows : Location ℕ → ℕ
     shows l = (mount_at nat_eq world l).filesystem

@@ -25,11 +25,8 @@ filter_in p q r (x ∷ xs) same none =
   where
     by : (b : Bool) → r x ≡ b → filter p (filter r xs) ≡ filter q xs
         → filter p (cond b (x ∷ filter r xs) (filter r xs)) ≡ cond (q x) (x ∷ filter q xs) (filter q xs)
-    by true e later =
-        ap (λ b. cond b (x ∷ filter p (filter r xs)) (filter p (filter r xs))) (same x (inl refl) e)
-        ∙ ap (λ l. cond (q x) (x ∷ l) l) later
-    by false e later =
-        later ∙ sym (ap (λ b. cond b (x ∷ filter q xs) (filter q xs)) (none x (inl refl) e))
+    by true e later = cc (same x (inl refl) e)
+    by false e later = cc (none x (inl refl) e)
 
 among_both : (used chosen : List ℕ) (n : ℕ)
     → is_among nat_eq n (filter (λ k. is_among nat_eq k used) chosen)
@@ -65,8 +62,7 @@ cut_twice used chosen files = λ i. record {
     node : (n : ℕ) → cond (is_among nat_eq n used) (cond (is_among nat_eq n chosen) (files.tree.node n) None) None
         ≡ cond (is_among nat_eq n both) (files.tree.node n) None
     node n =
-        swap (is_among nat_eq n used) (is_among nat_eq n chosen) (files.tree.node n)
-        ∙ ap (λ b. cond b (files.tree.node n) None) (sym (among_both used chosen n))
+        cc (swap (is_among nat_eq n used) (is_among nat_eq n chosen) (files.tree.node n), among_both used chosen n)
 
     numbers : filter (λ k. is_among nat_eq k used) (filter (λ k. is_among nat_eq k chosen) files.numbers)
         ≡ filter (λ k. is_among nat_eq k both) files.numbers
@@ -259,11 +255,8 @@ module _ (number : ℕ) (lowers : List (Layer ℕ)) where
         node : (n : ℕ) (b : Bool) → is_among nat_eq n left ≡ b
             → cond (is_among nat_eq n left) (cond (is_among nat_eq n chosen) (whole.tree.node n) None) None
             ≡ cond (is_among nat_eq n left) (whole.tree.node n) None
-        node n true e =
-            ap (λ c. cond (is_among nat_eq n left) (cond c (whole.tree.node n) None) None) (left_chosen n e)
-        node n false e =
-            ap (λ c. cond c (cond (is_among nat_eq n chosen) (whole.tree.node n) None) None) e
-            ∙ sym (ap (λ c. cond c (whole.tree.node n) None) e)
+        node n true e = cc (left_chosen n e)
+        node n false e = cc
 
         out : (n : ℕ) → is_among nat_eq n chosen ≡ false → (b : Bool) → is_among nat_eq n left ≡ b → b ≡ false
         out n e true f = absurd (true≢false (sym (left_chosen n f) ∙ e))
@@ -274,10 +267,11 @@ module _ (number : ℕ) (lowers : List (Layer ℕ)) where
       → ((object : ℕ) → Among object (only_among nat_eq chosen whole).numbers
       → lies_under (only_among nat_eq chosen whole) object ≡ true → is_among nat_eq object used ≡ true)
       → cut_to (only_among nat_eq used (only_among nat_eq chosen whole)) ≡ cut_to (only_among nat_eq chosen whole)
-  cut_still whole chosen has used enough =
-      ap cut_to (cut_twice used chosen whole)
-      ∙ cut_alike whole (filter (λ k. is_among nat_eq k used) chosen) has_both
-      ∙ sym (cut_alike whole chosen has)
+  cut_still whole chosen has used enough = cc (
+    cut_twice used chosen whole,
+    cut_alike whole (filter (λ k. is_among nat_eq k used) chosen) has_both,
+    cut_alike whole chosen has,
+  )
     where
       has_both : HasLowers whole (filter (λ k. is_among nat_eq k used) chosen)
       has_both = record {
@@ -305,5 +299,4 @@ uncut files listed = λ i. record {
     node : (n : ℕ) (b : Bool) → is_among nat_eq n files.numbers ≡ b
         → cond (is_among nat_eq n files.numbers) (files.tree.node n) None ≡ files.tree.node n
     node n true e = ap (λ c. cond c (files.tree.node n) None) e
-    node n false e =
-        ap (λ c. cond c (files.tree.node n) None) e ∙ gone (files.tree.node n) (sym (listed n) ∙ e)
+    node n false e = cc (gone (files.tree.node n) (sym (listed n) ∙ e))

@@ -37,8 +37,7 @@ same_list_alike f g [] [] same = refl
 same_list_alike f g [] (y ∷ ys) same = refl
 same_list_alike f g (x ∷ xs) [] same = refl
 same_list_alike f g (x ∷ xs) (y ∷ ys) same =
-    ap (λ b. b && same_list f xs ys) (same x y (inl refl) (inl refl))
-    ∙ ap (λ b. g x y && b) (same_list_alike f g xs ys (λ u v m n. same u v (inr m) (inr n)))
+    cc (same x y (inl refl) (inl refl), same_list_alike f g xs ys (λ u v m n. same u v (inr m) (inr n)))
 
 -- what passes of changed elements, where those that pass are kept
 kept_alike : (p : Mount ℕ → Bool) (f g : Mount ℕ → Mount ℕ) (k : Mount ℕ → Option (Mount ℕ)) (xs : List (Mount ℕ))
@@ -52,21 +51,15 @@ kept_alike p f g k (x ∷ xs) pass fail =
     skip : (o : Option (Mount ℕ)) → k x ≡ o → p (f x) ≡ false
         → filter p (map g (cons_option o (filter_map k xs))) ≡ filter p (map g (filter_map k xs))
     skip None e h = refl
-    skip (Some y) e h =
-        ap (λ b. cond b (g y ∷ filter p (map g (filter_map k xs))) (filter p (map g (filter_map k xs))))
-        (fail x y (inl refl) h e)
+    skip (Some y) e h = cc (fail x y (inl refl) h e)
 
     by : (b : Bool) → p (f x) ≡ b → filter p (map g (filter_map k xs)) ≡ filter p (map f xs)
         → filter p (map g (cons_option (k x) (filter_map k xs)))
         ≡ cond (p (f x)) (f x ∷ filter p (map f xs)) (filter p (map f xs))
     by true h later =
         let its = pass x (inl refl) h in
-        ap (λ o. filter p (map g (cons_option o (filter_map k xs)))) its.0
-        ∙ ap (λ y. cond (p y) (y ∷ filter p (map g (filter_map k xs))) (filter p (map g (filter_map k xs)))) its.1
-        ∙ ap (λ l. cond (p (f x)) (f x ∷ l) l) later
-    by false h later =
-        skip (k x) refl h ∙ later
-        ∙ sym (ap (λ b. cond b (f x ∷ filter p (map f xs)) (filter p (map f xs))) h)
+        cc (its.0, its.1)
+    by false h later = cc (skip (k x) refl h)
 
 -- the namespace of a mount after does not depend on the groups
 space_same : (b : Bool) (t u w x : World ℕ) (gone : List ℕ) (m : Mount ℕ)
@@ -95,7 +88,8 @@ member_source (Slave h) g e = none_is_some g e
 member_source Private g e = none_is_some g e
 member_source Unbindable g e = none_is_some g e
 
-pub raised_number : (before after : World ℕ) (n : Namespace ℕ) → (raised_namespace nat_eq before after n).number ≡ n.number
+pub raised_number : (before after : World ℕ) (n : Namespace ℕ)
+    → (raised_namespace nat_eq before after n).number ≡ n.number
 raised_number before after n = by (same_mounts_in nat_eq before after n.number)
   where
     by : (b : Bool) → (cond b n (record n { change = raised n.change })).number ≡ n.number
@@ -302,10 +296,7 @@ module _ (world : World ℕ) (names : List TaskName) (is : IsWorld nat_eq world)
 
   -- so has its master
   settled_master : (g : ℕ) → Heard g → u_part.master g ≡ u.master g
-  settled_master g heard =
-      ap (λ c. cond c (v_part.master g) None) (members_after g heard)
-      ∙ ap (λ o. cond (has_members nat_eq u.mounts g) o None)
-      (master_alike world names is sealed_off gone own_go b g heard)
+  settled_master g heard = cc (members_after g heard, master_alike world names is sealed_off gone own_go b g heard)
 
   above_after : (m : Mount ℕ) → Among m owns → is_going nat_eq gone m.number ≡ false → master_above u_part
       (after m) ≡ master_above u (after m)
@@ -317,21 +308,17 @@ module _ (world : World ℕ) (names : List TaskName) (is : IsWorld nat_eq world)
 
   -- the mounts of a namespace of theirs changed in both, or in none
   spaces_alike : (n : ℕ) → is_theirs n ≡ true → same_mounts_in nat_eq part u_part n ≡ same_mounts_in nat_eq world u n
-  spaces_alike n own =
-      ap (λ l. same_list (same_mount nat_eq part u_part) l (mounts_of nat_eq u_part n))
-      (space_in_part world names is sealed_off n own)
-      ∙ ap (same_list (same_mount nat_eq part u_part) (mounts_of nat_eq world n)) (mounts_after n own)
-      ∙ same_list_alike (same_mount nat_eq part u_part) (same_mount nat_eq world u) (mounts_of nat_eq world n)
-      (mounts_of nat_eq u n)
-      (λ x y m l.
-      let first = among-from_filter (its_in n) world.mounts x m in
-      let second = among-from_filter (its_in n) v.mounts y
-      (subst (Among y) (settled_mounts v n) l) in
-      let from = among-from_map after world.mounts y second.0 in
-      let its = after_in n from.0 (ap (its_in n) (sym from.2) ∙ second.1) in
-      compared x y (above_before x (mine x first.0 (own_in world names is sealed_off n own x first.1)))
-      (subst (λ (q : Mount ℕ). master_above u_part q ≡ master_above u q) (sym from.2)
-      (above_after from.0 (mine from.0 from.1 (own_in world names is sealed_off n own from.0 its.0)) its.1)))
+  spaces_alike n own = cc (
+    space_in_part world names is sealed_off n own,
+    mounts_after n own,
+    same_list_alike (same_mount nat_eq part u_part) (same_mount nat_eq world u) (mounts_of nat_eq world n)
+        (mounts_of nat_eq u n) (λ x y m l. let first = among-from_filter (its_in n) world.mounts x m in let second =
+        among-from_filter (its_in n) v.mounts y (subst (Among y) (settled_mounts v n) l) in let from = among-from_map
+        after world.mounts y second.0 in let its = after_in n from.0 (ap (its_in n) (sym from.2) ∙ second.1) in
+        compared x y (above_before x (mine x first.0 (own_in world names is sealed_off n own x first.1))) (subst (λ (q
+        : Mount ℕ). master_above u_part q ≡ master_above u q) (sym from.2) (above_after from.0 (mine from.0 from.1
+        (own_in world names is sealed_off n own from.0 its.0)) its.1))),
+  )
     where
       same_ones : Mount ℕ → Mount ℕ → Bool
       same_ones x y =
@@ -340,9 +327,7 @@ module _ (world : World ℕ) (names : List TaskName) (is : IsWorld nat_eq world)
 
       compared : (x y : Mount ℕ) → master_above part x ≡ master_above world x → master_above u_part y ≡ master_above u y
           → same_mount nat_eq part u_part x y ≡ same_mount nat_eq world u x y
-      compared x y e f =
-          ap (λ o. same_ones x y && same_option nat_eq o (master_above u_part y)) e
-          ∙ ap (λ o. same_ones x y && same_option nat_eq (master_above world x) o) f
+      compared x y e f = cc
 
   abbrev spaces : List (Task ℕ) → Namespace ℕ → Bool
   spaces ts n = list_any (λ (t : Task ℕ). nat_eq n.number t.namespace) ts
@@ -354,18 +339,15 @@ module _ (world : World ℕ) (names : List TaskName) (is : IsWorld nat_eq world)
   pub raised_alike : filter (spaces new) (map (raised_namespace nat_eq part u_part) v_part.namespaces)
       ≡ filter (spaces new) (map (raised_namespace nat_eq world u) v.namespaces)
   raised_alike =
-      filter-map (spaces new) (raised_namespace nat_eq part u_part) v_part.namespaces
-      (λ n. ap (λ i. list_any (λ (t : Task ℕ). nat_eq i t.namespace) new) (raised_number part u_part n))
-      ∙ ap (map (raised_namespace nat_eq part u_part))
-      (filter_mid (spaces new) stays (spaces old) world.namespaces (λ n h.
-      entered_was world names is sealed_off set gone own_go lasts
-      tasks tasks_too change change_too same fewer b n.number h))
-      ∙ map_alike (raised_namespace nat_eq part u_part) (raised_namespace nat_eq world u)
-      (filter (spaces new) (filter stays world.namespaces))
-      (λ n m. ap (λ c. cond c n (record n { change = raised n.change }))
-      (spaces_alike n.number
-      (entered_was world names is sealed_off set gone own_go lasts
-      tasks tasks_too change change_too same fewer b n.number
-      (among-from_filter (spaces new) (filter stays world.namespaces) n m).1)))
-      ∙ sym (filter-map (spaces new) (raised_namespace nat_eq world u) v.namespaces
-      (λ n. ap (λ i. list_any (λ (t : Task ℕ). nat_eq i t.namespace) new) (raised_number world u n)))
+      cc (
+        filter-map (spaces new) (raised_namespace nat_eq part u_part) v_part.namespaces (λ n. ap (λ i. list_any (λ
+            (t : Task ℕ). nat_eq i t.namespace) new) (raised_number part u_part n)),
+        filter_mid (spaces new) stays (spaces old) world.namespaces (λ n h. entered_was world names is sealed_off
+            set gone own_go lasts tasks tasks_too change change_too same fewer b n.number h),
+        map_alike (raised_namespace nat_eq part u_part) (raised_namespace nat_eq world u) (filter (spaces new)
+            (filter stays world.namespaces)) (λ n m. ap (λ c. cond c n (record n { change = raised n.change }))
+            (spaces_alike n.number (entered_was world names is sealed_off set gone own_go lasts tasks tasks_too change
+            change_too same fewer b n.number (among-from_filter (spaces new) (filter stays world.namespaces) n m).1))),
+        filter-map (spaces new) (raised_namespace nat_eq world u) v.namespaces (λ n. ap (λ i. list_any (λ (t : Task
+            ℕ). nat_eq i t.namespace) new) (raised_number world u n)),
+      )

@@ -1,5 +1,5 @@
 -- A call by which tasks of a sealed set let locations go ends in the part as in the world.
-use Rattle.std.proofs.Common.{◌≡◌, refl, sym, ap, subst, ◌∙◌, ⊎_elim, ℕ, nat_eq, Bool, true, false, cond, List, [], ◌∷◌, Some, Ok, filter, is_some, map, not, ◌&&◌, ◌||◌}
+use Rattle.std.proofs.Common.{◌≡◌, refl, sym, ap, subst, ◌∙◌, ⊎_elim, ℕ, nat_eq, true, List, [], ◌∷◌, Some, Ok, filter, is_some, map, not, ◌&&◌, ◌||◌}
 use Rattle.std.proofs.lemmas.Bool.{and_parts}
 use Rattle.vt_spec.specs.Language.Answers.{Answer}
 use Rattle.vt_spec.specs.Language.Calls.{Call, TaskName, same_name}
@@ -17,6 +17,7 @@ use Rattle.vt_laws_letting_go.specs.InUse.{AllInUse}
 use Rattle.vt_laws_letting_go.proofs.Lists.{filter-map}
 use Rattle.vt_laws_letting_go.proofs.sweeps.OfWorlds.{all_in_use}
 use Rattle.vt_laws_part.proofs.part.PartOfPart.{keep, kept_how}
+pub use Rattle.vt_laws_members_changes.proofs.files.FilesRaised.{raised_is}
 use Rattle.vt_laws_members_changes.specs.Changes.{EndAlike, EndsAlike, IsCallOfTheirs, grown}
 use Rattle.vt_laws_members_changes.proofs.looks.Told.{ran, same_caller}
 use Rattle.vt_laws_members_changes.proofs.part.SettledPart.{part_in_use}
@@ -26,15 +27,6 @@ use Rattle.vt_laws_members_changes.proofs.tasks.Rights.{sees_alike}
 use Rattle.vt_laws_members_changes.proofs.letting_go.Changed.{LetsGo}
 use Rattle.vt_laws_members_changes.proofs.letting_go.Raised.{DetachedArePrivate, swept_raised}
 use Rattle.vt_laws_members_changes.proofs.letting_go.SweptAlike.{swept_alike}
-
-pub raised_is : {A : Type 0} (name : TaskName) (what : Task ℕ → A)
-    → ((t : Task ℕ) → what (record t { change = raised t.change }) ≡ what t) → (t : Task ℕ)
-    → what (raised_task name t) ≡ what t
-raised_is {A} name what same t = by (same_name name t.name)
-  where
-    by : (b : Bool) → what (cond b (record t { change = raised t.change }) t) ≡ what t
-    by true = same t
-    by false = refl
 
 -- a task whose change number is raised stays a member
 pub raised_members : (set : List TaskName) (name : TaskName) (list : List (Task ℕ))

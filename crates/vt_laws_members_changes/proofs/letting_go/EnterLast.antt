@@ -30,13 +30,14 @@ use Rattle.vt_laws_members_changes.proofs.tasks.Denied.{denial_ends_alike, run_b
 use Rattle.vt_laws_members_changes.proofs.letting_go.Callers.{all_in_set, of_set, others_left, places_left, replaced_apart, roots_left, same_set}
 use Rattle.vt_laws_members_changes.proofs.letting_go.CutNamespace.{in_same, in_space, numbers_in}
 use Rattle.vt_laws_members_changes.proofs.letting_go.Detached.{detached_parts}
-use Rattle.vt_laws_members_changes.proofs.letting_go.Entering.{Enters, called_name, entered, entered_itself, entered_was, entering_alike, enters, exit_it, mine, replaced, root_alike, stands}
+use Rattle.vt_laws_members_changes.proofs.letting_go.Entering.{Enters, entered, entered_itself, entered_was, entering_alike, enters, exit_it, mine, replaced, root_alike, stands}
 use Rattle.vt_laws_members_changes.proofs.letting_go.ExitLast.{ends_so}
 use Rattle.vt_laws_members_changes.proofs.letting_go.Heard.{own_in, space_in_part}
 use Rattle.vt_laws_members_changes.proofs.letting_go.Leaving.{in_world, part_listed}
 use Rattle.vt_laws_members_changes.proofs.letting_go.NamespaceLess.{SetIsLess, ended, ended_part}
 use Rattle.vt_laws_members_changes.proofs.letting_go.PartMounts.{part_mounts}
 use Rattle.vt_laws_members_changes.proofs.letting_go.Regrouped.{flags_same}
+use Rattle.vt_laws_worlds.proofs.worlds.CallsKept.{name_found}
 
 module _ (world : World ℕ) (names : List TaskName) (name called_so : TaskName)
     (it : IsCallOfTheirs world names name (Setns called_so)) (task : Task ℕ)
@@ -131,7 +132,7 @@ module _ (world : World ℕ) (names : List TaskName) (name called_so : TaskName)
       (λ same. ap (in_space_of k) same.0
       ∙ none_among (in_space_of k) (filter (λ (t : Task ℕ). not (same_name name t.name)) world.tasks) empty from.0
       (among-filter (λ (t : Task ℕ). not (same_name name t.name)) world.tasks from.0 (within from.0 from.1)
-      (ap not (ap (λ n. same_name n from.0.name) (called_name world name task called) ∙ same.1))))
+      (ap not (ap (λ n. same_name n from.0.name) (name_found world name task called) ∙ same.1))))
       (how from.0 (within from.0 from.1)))
 
   mounts_stay : (m : Mount ℕ) → Among m world.mounts → is_going nat_eq gone m.number ≡ false
@@ -153,10 +154,13 @@ module _ (world : World ℕ) (names : List TaskName) (name called_so : TaskName)
       (stands world names name called_so it task called target target_in)
 
   abbrev v : World ℕ
-  v = ended world names it.is it.sealed_off names gone own_go lasts rest rest_too world.change part.change same less flag
+  v =
+      ended world names it.is it.sealed_off names gone own_go lasts rest rest_too world.change part.change same less
+      flag
 
   abbrev v_part : World ℕ
-  v_part = ended_part world names it.is it.sealed_off names gone own_go lasts rest rest_too world.change part.change same
+  v_part =
+      ended_part world names it.is it.sealed_off names gone own_go lasts rest rest_too world.change part.change same
       less flag
 
   others_live : (w : World ℕ) (list : List (Task ℕ)) → ((t : Task ℕ) → Among t list → Among t world.tasks)
@@ -236,7 +240,8 @@ module _ (world : World ℕ) (names : List TaskName) (name called_so : TaskName)
       })))))
       (root_alike world names name called_so it task called target target_in)
       ∙ ap (λ w. granted Done (numbers_raised nat_eq part name [] (settled nat_eq w))) part_ends in
-      subst (λ p. EndAlike (grown names name (Setns called_so) (policy nat_eq fresh world name (Setns called_so)).answer)
+      subst (λ p. EndAlike (grown names name (Setns called_so)
+      (policy nat_eq fresh world name (Setns called_so)).answer)
       (policy nat_eq fresh world name (Setns called_so)) p) (sym second)
       (subst (λ o. EndAlike (grown names name (Setns called_so) o.answer) o (granted Done left_too)) (sym first)
       (record { answer = refl; part = parts }))

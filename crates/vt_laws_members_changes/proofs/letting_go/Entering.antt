@@ -21,10 +21,9 @@ use Rattle.vt_spec.specs.Machine.Settled.{settled}
 use Rattle.vt_spec.specs.Machine.World.{Namespace, Task, World, mounts_of, replaced_if_called, root_mount, task_called}
 use Rattle.vt_spec.specs.Machine.Invariants.{IsWorld}
 use Rattle.vt_spec.specs.Rights.{cap_sys_admin, cap_sys_chroot}
-use Rattle.vt_spec.proofs.Found.{found_among, found_passes}
+use Rattle.vt_spec.proofs.Found.{found_among}
 use Rattle.vt_spec.proofs.Lists.{Among, among-from_filter, among-from_map, among-map, among_from_list_all, any_among, any_from_among, list_all_from_among}
 use Rattle.vt_spec.proofs.Truths.{same_truth}
-use Rattle.vt_spec.proofs.Worlds.{same_task_name}
 use Rattle.vt_laws_later_calls.proofs.last_use.Groups.{none_lost}
 use Rattle.vt_laws_members.proofs.judging.Grounds.{IsTheirs, theirs_from, theirs_test}
 use Rattle.vt_laws_members.proofs.judging.MountTrees.{own_theirs}
@@ -49,7 +48,8 @@ module _ (world : World ℕ) (names : List TaskName) (is : IsWorld nat_eq world)
   enters_by : (called : TaskName) → is_among same_name called names ≡ true → (o : Option (Task ℕ))
       → task_called world called ≡ o
       → IfOk (and_then (ok_or (option_map (λ (t : Task ℕ). t.namespace) o) (denial S2)) (λ namespace.
-      unless ((lacks task cap_sys_admin || lacks task cap_sys_chroot, K1) ∷ []) (Ok (ToEnterNamespace namespace)))) Enters
+      unless ((lacks task cap_sys_admin || lacks task cap_sys_chroot, K1) ∷ []) (Ok (ToEnterNamespace namespace))))
+      Enters
   enters_by called theirs None e = tt
   enters_by called theirs (Some target) e =
       of_rules Enters ((lacks task cap_sys_admin || lacks task cap_sys_chroot, K1) ∷ [])
@@ -62,18 +62,14 @@ module _ (world : World ℕ) (names : List TaskName) (is : IsWorld nat_eq world)
   enters called theirs = enters_by called theirs (task_called world called) refl
 
 -- the task that is found has the name
-pub called_name : (world : World ℕ) (name : TaskName) (task : Task ℕ) → task_called world name ≡ Some task
-    → name ≡ task.name
-called_name world name task called =
-    same_task_name name task.name (found_passes (λ (t : Task ℕ). same_name name t.name) world.tasks task called)
-
 abbrev is_exit : Call → Bool
 is_exit Exit = true
 is_exit call = false
 
 module _ (world : World ℕ) (names : List TaskName) (name called_so : TaskName)
     (it : IsCallOfTheirs world names name (Setns called_so)) (task : Task ℕ)
-    (called : task_called world name ≡ Some task) (target : Task ℕ) (target_in : Among target (members world names)) where
+    (called : task_called world name ≡ Some task) (target : Task ℕ)
+    (target_in : Among target (members world names)) where
   abbrev part : World ℕ
   part = part_of nat_eq world names
 
@@ -112,9 +108,7 @@ module _ (world : World ℕ) (names : List TaskName) (name called_so : TaskName)
 
   pub root_alike : namespace_root nat_eq part space ≡ namespace_root nat_eq world space
   root_alike =
-      ap (λ l. option_map (λ m. topmost nat_eq part.mounts (root_of m)) (find is_root l))
-      (space_in_part world names it.is it.sealed_off space space_own)
-      ∙ by (root_mount nat_eq world space) refl
+      cc (space_in_part world names it.is it.sealed_off space space_own, by (root_mount nat_eq world space) refl)
     where
       by : (o : Option (Mount ℕ)) → root_mount nat_eq world space ≡ o
           → option_map (λ m. topmost nat_eq part.mounts (root_of m)) o
@@ -219,7 +213,10 @@ module _ (world : World ℕ) (names : List TaskName) (name called_so : TaskName)
         (ap (run_by world names name (Setns called_so) it fresh supply part supply task)
         (sym (same_judgement world names name (Setns called_so) it fresh supply task called) ∙ judged)
         ∙ ap (λ o. granted Done (numbers_raised nat_eq part name [] (settled nat_eq (namespaces_ended nat_eq
-        (record part { tasks = map (replaced_if_called (entered_at task space (unwrap_or o task.root))) part.tasks })))))
+        (record part {
+          tasks = map (replaced_if_called
+              (entered_at task space (unwrap_or o task.root))) part.tasks;
+        })))))
         root_alike
         ∙ ap (λ w. granted Done (numbers_raised nat_eq part name [] (settled nat_eq w))) part_stays)
 
@@ -227,9 +224,7 @@ module _ (world : World ℕ) (names : List TaskName) (name called_so : TaskName)
   module _ (other_task : Task ℕ) (there : Among other_task world.tasks)
       (together : other_task.namespace ≡ task.namespace) (differ : same_name name other_task.name ≡ false) where
     other_same : replaced other_task ≡ other_task
-    other_same =
-        ap (λ b. cond b mine other_task)
-        (ap (λ n. same_name n other_task.name) (sym (its_name world names name exit_it task called)) ∙ differ)
+    other_same = cc (its_name world names name exit_it task called, differ)
 
     other_in : Among other_task theirs
     other_in = in_old world names name exit_it task called other_task there together differ

@@ -140,11 +140,13 @@ module _ (world : World ℕ) (names : List TaskName) (name : TaskName) (it : IsC
 
   abbrev v : World ℕ
   v = ended world names it.is it.sealed_off set gone own_go lasts rest rest_too world.change part.change
-      (same_left world names name it task called) (less_of_fewer world names it.is set rest (new_old world names name it task called)) flag
+      (same_left world names name it task called)
+      (less_of_fewer world names it.is set rest (new_old world names name it task called)) flag
 
   abbrev v_part : World ℕ
   v_part = ended_part world names it.is it.sealed_off set gone own_go lasts rest rest_too world.change part.change
-      (same_left world names name it task called) (less_of_fewer world names it.is set rest (new_old world names name it task called)) flag
+      (same_left world names name it task called)
+      (less_of_fewer world names it.is set rest (new_old world names name it task called)) flag
 
   world_ends : namespaces_ended nat_eq (record world { tasks = rest }) ≡ v
   world_ends =
@@ -200,7 +202,8 @@ module _ (world : World ℕ) (names : List TaskName) (name : TaskName) (it : IsC
       ≡ part_of nat_eq (numbers_raised nat_eq part name [] (settled nat_eq v_part)) set
   parts =
       detached_parts world names it.is it.sealed_off set gone own_go lasts rest rest_too world.change part.change
-      (same_left world names name it task called) (less_of_fewer world names it.is set rest (new_old world names name it task called))
+      (same_left world names name it task called)
+      (less_of_fewer world names it.is set rest (new_old world names name it task called))
       (others_left world names name it task called) (all_left world names name it task called) mounts_stay flag kept
       kept_there name
 

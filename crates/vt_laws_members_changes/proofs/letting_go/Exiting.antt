@@ -42,8 +42,7 @@ use Rattle.vt_laws_members_changes.proofs.letting_go.Leaving.{all_left, is_task,
 -- a world whose namespaces have tasks, and whose groups have members, stays
 pub none_ends : (b : World ℕ) → MountsAreListed b → list_all (has_tasks nat_eq b) b.namespaces ≡ true
     → list_any (lost_a_group nat_eq b) b.mounts ≡ false → namespaces_ended nat_eq b ≡ b
-none_ends b listed all none =
-    no_namespace_ends b listed all ∙ ap (λ lost. regrouped_by nat_eq lost b) none
+none_ends b listed all none = cc (no_namespace_ends b listed all)
 
 module _ (world : World ℕ) (names : List TaskName) (name : TaskName) (it : IsCallOfTheirs world names name Exit)
     (task : Task ℕ) (called : task_called world name ≡ Some task) where

@@ -15,7 +15,8 @@ use Rattle.vt_laws_part.proofs.Kept.{among-from_each_once}
 use Rattle.vt_laws_part.proofs.part.Observed.{lowers_same, part_same, used_same}
 use Rattle.vt_laws_sealed.proofs.outsiders.SeenLater.{changed_of, lower_of}
 use Rattle.vt_laws_members_changes.proofs.letting_go.CutAgain.{lies_under}
-use Rattle.vt_laws_members_changes.proofs.letting_go.Ready.{Alone, OverlaysMounted, Ready, direct_mounted, layered}
+use Rattle.vt_laws_members_changes.proofs.letting_go.Ready.{Alone, OverlaysMounted, Ready, direct_mounted}
+use Rattle.vt_laws_members.proofs.judging.Locks.{has_layer}
 
 -- each world shows what it shows
 pub sees_itself : (a : World ℕ) (set : List TaskName) → SeesTheSame a a set
@@ -38,8 +39,7 @@ kept_filtered k later p (x ∷ xs) same none =
   where
     by : (b : Bool) → p x ≡ b → filter_map later (filter p xs) ≡ filter_map k xs
         → filter_map later (cond b (x ∷ filter p xs) (filter p xs)) ≡ cons_option (k x) (filter_map k xs)
-    by true e rest =
-        ap (λ o. cons_option o (filter_map later (filter p xs))) (same x (inl refl) e) ∙ ap (cons_option (k x)) rest
+    by true e rest = cc (same x (inl refl) e)
     by false e rest = rest ∙ sym (ap (λ o. cons_option o (filter_map k xs)) (none x (inl refl) e))
 
 module _ (a : World ℕ) (set : List TaskName) (used : List ℕ) (lowers : List (Layer ℕ))
@@ -72,7 +72,7 @@ module _ (a : World ℕ) (set : List TaskName) (used : List ℕ) (lowers : List 
   lower_alive number h =
       let at = any_among (λ (layer : Layer ℕ). nat_eq number layer.filesystem) lowers_there h in
       let of = lower_of a a set (sees_itself a set) at.0 at.1 in
-      layer_alive number of.0 of.1 of.4 (layered number of.0 at.0 of.3 at.2)
+      layer_alive number of.0 of.1 of.4 (has_layer number of.0 at.0 of.3 at.2)
 
   direct_alive : (number : ℕ) → Among number direct → alive number ≡ true
   direct_alive number m = or_left (is_mounted nat_eq a number) _ (direct_mounted a set used lowers it number m)
@@ -81,7 +81,7 @@ module _ (a : World ℕ) (set : List TaskName) (used : List ℕ) (lowers : List 
   used_alive number m =
       ⊎_elim (direct_alive number)
       (λ changed. let of = changed_of a set number changed in
-      layer_alive number of.0 of.1 of.2 (layered number of.0 of.3 of.4 (eq-eqb number of.3.filesystem of.5)))
+      layer_alive number of.0 of.1 of.2 (has_layer number of.0 of.3 of.4 (eq-eqb number of.3.filesystem of.5)))
       (among-append direct _ number
       (among-from_each_once (direct ++ flat_map (λ n. change_layers (filesystem_numbered nat_eq a n)) direct) number m))
 
@@ -104,10 +104,7 @@ module _ (a : World ℕ) (set : List TaskName) (used : List ℕ) (lowers : List 
               → find (λ (x : Filesystem ℕ). nat_eq number x.number)
               (cond c (f ∷ filter (filesystem_lives nat_eq a) rest) (filter (filesystem_lives nat_eq a) rest))
               ≡ cond b (Some f) (find (λ (x : Filesystem ℕ). nat_eq number x.number) rest)
-          by true g b h later =
-              ap (λ c. cond c (Some f) (find (λ (x : Filesystem ℕ). nat_eq number x.number)
-              (filter (filesystem_lives nat_eq a) rest))) h
-              ∙ ap (cond b (Some f)) later
+          by true g b h later = cc
           by false g true h later = absurd (true≢false (sym is ∙ ap alive (eqb-true number f.number h) ∙ g))
           by false g false h later = later
 
@@ -123,11 +120,11 @@ module _ (a : World ℕ) (set : List TaskName) (used : List ℕ) (lowers : List 
   dead_not_shown : (x : Filesystem ℕ) → filesystem_lives nat_eq a x ≡ false
       → shown_of a used_there lowers_there x ≡ None
   dead_not_shown x dead =
-      ap (λ b. cond b (Some x) (when (has_lower x.number) (lowered (filesystem_numbered nat_eq a x.number).files x)))
-      (false_from_ne_true (is_among nat_eq x.number used_there) (λ h.
-      true≢false (sym (used_alive x.number (among_numbers used_there x.number h)) ∙ dead)))
-      ∙ ap (λ b. when b (lowered (filesystem_numbered nat_eq a x.number).files x))
-      (false_from_ne_true (has_lower x.number) (λ h. true≢false (sym (lower_alive x.number h) ∙ dead)))
+      cc (
+        false_from_ne_true (is_among nat_eq x.number used_there) (λ h. true≢false (sym (used_alive x.number
+            (among_numbers used_there x.number h)) ∙ dead)),
+        false_from_ne_true (has_lower x.number) (λ h. true≢false (sym (lower_alive x.number h) ∙ dead)),
+      )
 
   sees_living : SeesTheSame a living set
   sees_living = record {

@@ -163,10 +163,8 @@ module _ (world : World ℕ) (names : List TaskName) (name : TaskName) (it : IsC
           (among_numbers (map (λ (s : Namespace ℕ). s.number) world.namespaces) n listed.0) in
           let theirs : list_any (λ (t : Task ℕ). nat_eq n t.namespace) old ≡ true =
           sym (ap (holds_of (λ i. list_any (λ (t : Task ℕ). nat_eq i t.namespace) old)) e) ∙ own.1 in
-          ap (λ b. b && true)
-          (is_among_numbers (map (λ (s : Namespace ℕ). s.number) part.namespaces) n
-          (subst (λ k. Among k (map (λ (s : Namespace ℕ). s.number) part.namespaces)) (sym number.2)
-          (among-map (λ (s : Namespace ℕ). s.number) part.namespaces number.0
-          (among-filter (λ (s : Namespace ℕ). list_any (λ (t : Task ℕ). nat_eq s.number t.namespace) old)
-          world.namespaces number.0 number.1
-          (ap (λ i. list_any (λ (t : Task ℕ). nat_eq i t.namespace) old) (sym number.2) ∙ theirs)))))
+          cc (is_among_numbers (map (λ (s : Namespace ℕ). s.number) part.namespaces) n (subst (λ k. Among k (map (λ
+          (s : Namespace ℕ). s.number) part.namespaces)) (sym number.2) (among-map (λ (s : Namespace ℕ).
+          s.number) part.namespaces number.0 (among-filter (λ (s : Namespace ℕ). list_any (λ (t : Task ℕ). nat_eq
+          s.number t.namespace) old) world.namespaces number.0 number.1 (ap (λ i. list_any (λ (t : Task ℕ).
+          nat_eq i t.namespace) old) (sym number.2) ∙ theirs)))))

@@ -94,21 +94,21 @@ module _ (world : World ℕ) (names : List TaskName) (is : IsWorld nat_eq world)
   direct_found n m = found world names n (used_directly_used world names n (less.direct n m))
 
   pub less_used : used_filesystems nat_eq other set ≡ used_filesystems nat_eq one set
-  less_used =
-      ap (λ d. each_once nat_eq
-      (d ++ flat_map (λ n. change_layers (filesystem_numbered nat_eq part n)) d)) directly_same
-      ∙ ap (λ l. each_once nat_eq (direct ++ l))
-      (flat_map_alike (λ n. change_layers (filesystem_numbered nat_eq part n))
-      (λ n. change_layers (filesystem_numbered nat_eq world n)) direct (λ n m. ap change_layers (direct_found n m)))
+  less_used = cc (
+    directly_same,
+    flat_map_alike (λ n. change_layers (filesystem_numbered nat_eq part n)) (λ n. change_layers
+        (filesystem_numbered nat_eq world n)) direct (λ n m. ap change_layers (direct_found n m)),
+  )
 
   abbrev lowers_in : World ℕ → ℕ → List (Layer ℕ)
   lowers_in w n = of_overlay [] (λ (overlay : Overlay ℕ). overlay.lowers) (filesystem_numbered nat_eq w n)
 
   pub less_lowers : own_lowers nat_eq other set ≡ own_lowers nat_eq one set
-  less_lowers =
-      ap (flat_map (lowers_in part)) directly_same
-      ∙ flat_map_alike (lowers_in part) (lowers_in world) direct
-      (λ n m. ap (of_overlay [] (λ (overlay : Overlay ℕ). overlay.lowers)) (direct_found n m))
+  less_lowers = cc (
+    directly_same,
+    flat_map_alike (lowers_in part) (lowers_in world) direct (λ n m. ap (of_overlay [] (λ (overlay : Overlay ℕ).
+        overlay.lowers)) (direct_found n m)),
+  )
 
   abbrev used : List ℕ
   used = used_filesystems nat_eq one set
@@ -198,10 +198,7 @@ module _ (world : World ℕ) (names : List TaskName) (is : IsWorld nat_eq world)
           ∙ ap (λ q. when q (part_of_lower nat_eq world names x)) g)
       by false f false g true h d k = absurd (true≢false (sym (used_was x.number h) ∙ f))
       by false f false g false h true k = absurd (true≢false (sym (has_was x.number k) ∙ g))
-      by false f false g false h false k =
-          sym (ap (λ q. cond q (Some x)
-          (when (has_lower lowers x.number) (lowered (filesystem_numbered nat_eq world x.number).files x))) h
-          ∙ ap (λ q. when q (lowered (filesystem_numbered nat_eq world x.number).files x)) k)
+      by false f false g false h false k = cc
 
   -- a tree that was shown by lower layers alone
   module _ (x : Filesystem ℕ) (m : Among x world.filesystems)
@@ -235,9 +232,8 @@ module _ (world : World ℕ) (names : List TaskName) (is : IsWorld nat_eq world)
 
     lowered_again : lowered y.files y ≡ lowered x.files x
     lowered_again =
-        ap (λ files. record x { files = files; change = 0 })
-        (cut_alike x.number lowers x.files (filter (lies_in_own_lower nat_eq world names x.number) x.files.numbers)
-        has_lowers)
+        cc (cut_alike x.number lowers x.files (filter (lies_in_own_lower nat_eq world names x.number)
+        x.files.numbers) has_lowers)
 
     shown_again : part_of_filesystem nat_eq other set y ≡ part_of_filesystem nat_eq one set x
     shown_again =
@@ -268,18 +264,17 @@ module _ (world : World ℕ) (names : List TaskName) (is : IsWorld nat_eq world)
 
   filesystems_less : filter_map (part_of_filesystem nat_eq other set) (filter_map was_shown world.filesystems)
       ≡ filter_map (part_of_filesystem nat_eq one set) world.filesystems
-  filesystems_less =
-      filter_map_then was_shown (part_of_filesystem nat_eq other set) world.filesystems
-      ∙ filter_map_same (λ x. then_some (was_shown x) (part_of_filesystem nat_eq other set))
-      (part_of_filesystem nat_eq one set) world.filesystems shown_then
+  filesystems_less = cc (
+    filter_map_then was_shown (part_of_filesystem nat_eq other set) world.filesystems,
+    filter_map_same (λ x. then_some (was_shown x) (part_of_filesystem nat_eq other set)) (part_of_filesystem nat_eq
+        one set) world.filesystems shown_then,
+  )
 
   -- groups
   master_less : (group : ℕ)
       → cond (list_any (is_member_of nat_eq group) (own_mounts nat_eq other set)) (other.master group) None
       ≡ cond (list_any (is_member_of nat_eq group) (own_mounts nat_eq one set)) (one.master group) None
-  master_less group =
-      ap (λ l. cond (list_any (is_member_of nat_eq group) l) (other.master group) None) less_own
-      ∙ by (list_any (is_member_of nat_eq group) (own_mounts nat_eq one set)) refl
+  master_less group = cc (less_own, by (list_any (is_member_of nat_eq group) (own_mounts nat_eq one set)) refl)
     where
       by : (b : Bool) → list_any (is_member_of nat_eq group) (own_mounts nat_eq one set) ≡ b
           → cond b (other.master group) None ≡ cond b (one.master group) None

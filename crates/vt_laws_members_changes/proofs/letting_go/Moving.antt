@@ -119,7 +119,8 @@ closes_end_alike world names name number it fresh other = by (task_called world 
               (number == d.number)) task.descriptors d.0 d.1).0))) rest)) m);
         }) fresh other refl
         (spaces_kept world names name (Close number) it task e
-        (record task { descriptors = filter (λ (d : Descriptor ℕ). not (number == d.number)) task.descriptors }) refl refl)
+        (record task { descriptors = filter (λ (d : Descriptor ℕ). not (number == d.number)) task.descriptors }) refl
+        refl)
         (ap (run_by world names name (Close number) it fresh other world fresh task) judged)
         (ap (run_by world names name (Close number) it fresh other part other task)
         (sym (same_judgement world names name (Close number) it fresh other task e) ∙ judged))

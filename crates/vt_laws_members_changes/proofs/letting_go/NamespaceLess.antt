@@ -106,22 +106,10 @@ private_alike b t u w x gone m e none = by b (is_going nat_eq gone m.number) m.p
     by true true kind f = refl
     by true false (Shared g) f = absurd (true≢false (sym e ∙ ap is_private f))
     by true false (Slave g) f = absurd (true≢false (sym e ∙ ap is_private f))
-    by true false Private f =
-        ap (λ o. record m {
-          mount_point = option_map (mount_point_left nat_eq w gone) o;
-          propagation = inherited nat_eq t m.propagation;
-        }) none
-        ∙ ap (λ p. record m { mount_point = None; propagation = inherited nat_eq t p }) f
-        ∙ sym (ap (λ p. record m { mount_point = None; propagation = inherited nat_eq u p }) f)
-        ∙ sym (ap (λ o. record m {
-          mount_point = option_map (mount_point_left nat_eq x gone) o;
-          propagation = inherited nat_eq u m.propagation;
-        }) none)
+    by true false Private f = cc none
     by true false Unbindable f = absurd (true≢false (sym e ∙ ap is_private f))
     by false true kind f = refl
-    by false false kind f =
-        ap (λ o. record m { mount_point = option_map (mount_point_left nat_eq w gone) o }) none
-        ∙ sym (ap (λ o. record m { mount_point = option_map (mount_point_left nat_eq x gone) o }) none)
+    by false false kind f = cc none
 
 pub stub_stays : (b : Bool) (t w : World ℕ) (gone : List ℕ) (m : Mount ℕ)
     → ended_mount b t w gone (seen_by_descriptor m) ≡ seen_by_descriptor m
@@ -187,7 +175,8 @@ module _ (world : World ℕ) (names : List TaskName) (is : IsWorld nat_eq world)
     entered = λ n h. let t = any_among (λ (t : Task ℕ). nat_eq n t.namespace) (filter (is_member_task set) tasks) h in
         any_from_among (λ (t : Task ℕ). nat_eq n t.namespace) old_ones t.0 (fewer t.0 t.1) t.2;
     roots = λ l m.
-        let t = among-from_flat_map (λ (t : Task ℕ). t.root ∷ t.directory ∷ []) (filter (is_member_task set) tasks) l m in
+        let t = among-from_flat_map (λ (t : Task ℕ). t.root ∷ t.directory ∷ [])
+        (filter (is_member_task set) tasks) l m in
         ⊎_elim (λ e. subst OnTheirs (sym e) (root_theirs world names is t.0 (fewer t.0 t.1)))
         (λ rest. ⊎_elim (λ e. subst OnTheirs (sym e) (directory_theirs world names is t.0 (fewer t.0 t.1)))
         (λ none. absurd none) rest) t.2;
@@ -306,8 +295,10 @@ module _ (world : World ℕ) (names : List TaskName) (is : IsWorld nat_eq world)
       → ((owns old m || stands old m) ≡ true) ⊎ (at old m ≡ true)
   at_was m n h =
       let l = any_among (λ (l : Location ℕ). nat_eq l.mount m.number) (locations new) h in
-      ⊎_elim (λ before. inr (any_from_among (λ (l : Location ℕ). nat_eq l.mount m.number) (locations old) l.0 before l.2))
-      (λ on. inl (ground_whole world names is m (ground_at world names is l.0 on m n (eqb-true l.0.mount m.number l.2))))
+      ⊎_elim (λ before. inr (any_from_among (λ (l : Location ℕ). nat_eq l.mount m.number)
+      (locations old) l.0 before l.2))
+      (λ on. inl (ground_whole world names is m
+      (ground_at world names is l.0 on m n (eqb-true l.0.mount m.number l.2))))
       (fewer.places l.0 l.1)
 
   -- a mount that is whole in the part is after alike
@@ -324,7 +315,8 @@ module _ (world : World ℕ) (names : List TaskName) (is : IsWorld nat_eq world)
   abbrev kept_as : Bool → Bool → Mount ℕ → Option (Mount ℕ)
   kept_as p q m = cond p (Some m) (when q (seen_by_descriptor m))
 
-  less_whole : (m : Mount ℕ) → Among m world.mounts → (owns old m || stands old m) ≡ false → (owns new (after m) || stands new (after m))
+  less_whole : (m : Mount ℕ) → Among m world.mounts → (owns old m || stands old m) ≡ false
+      → (owns new (after m) || stands new (after m))
       ≡ false
   less_whole m n e =
       by (owns new (after m)) refl (stands new (after m)) refl
@@ -339,7 +331,8 @@ module _ (world : World ℕ) (names : List TaskName) (is : IsWorld nat_eq world)
           (sym (shape_kept b t_world world gone m).number) ∙ g)) ∙ e))
       by false f false g = ap (λ c. c || stands new (after m)) f ∙ g
 
-  stub_kept : (m : Mount ℕ) → Among m world.mounts → (owns old m || stands old m) ≡ false → keep world names new (after m)
+  stub_kept : (m : Mount ℕ) → Among m world.mounts → (owns old m || stands old m) ≡ false
+      → keep world names new (after m)
       ≡ when (at new m) (seen_by_descriptor m)
   stub_kept m n e =
       ap (λ c. kept_as c (at new (after m)) (after m)) (less_whole m n e)
@@ -385,28 +378,21 @@ module _ (world : World ℕ) (names : List TaskName) (is : IsWorld nat_eq world)
       by : (p : Bool) → (owns old m || stands old m) ≡ p → (q : Bool) → at old m ≡ q → (r : Bool) → at new m ≡ r
           → then_some (kept_as (owns old m || stands old m) (at old m) m) (λ y. keep world names new (after_part y))
           ≡ keep world names new (after m)
-      by true e q f r g =
-          ap (λ c. then_some (kept_as c (at old m) m) (λ y. keep world names new (after_part y))) e
-          ∙ ap (keep world names new) (whole_alike m n m.namespace refl e (private_if m n e))
-      by false e true f r g =
-          ap (λ c. then_some (kept_as c (at old m) m) (λ y. keep world names new (after_part y))) e
-          ∙ ap (λ c. then_some (when c (seen_by_descriptor m)) (λ y. keep world names new (after_part y))) f
-          ∙ stub_whole m n e ∙ sym (stub_kept m n e)
+      by true e q f r g = cc (whole_alike m n m.namespace refl e (private_if m n e))
+      by false e true f r g = cc (stub_whole m n e, stub_kept m n e)
       by false e false f true g =
           absurd (⊎_elim (λ whole. true≢false (sym whole ∙ e)) (λ there. true≢false (sym there ∙ f)) (at_was m n g))
-      by false e false f false g =
-          ap (λ c. then_some (kept_as c (at old m) m) (λ y. keep world names new (after_part y))) e
-          ∙ ap (λ c. then_some (when c (seen_by_descriptor m)) (λ y. keep world names new (after_part y))) f
-          ∙ sym (stub_kept m n e ∙ ap (λ c. when c (seen_by_descriptor m)) g)
+      by false e false f false g = cc (stub_kept m n e)
 
   mounts_less : filter_map (keep world names new) (map after_part part.mounts)
       ≡ filter_map (keep world names new) (map after world.mounts)
-  mounts_less =
-      filter_map_map (keep world names new) after_part part.mounts
-      ∙ filter_map_then (keep world names old) (λ y. keep world names new (after_part y)) world.mounts
-      ∙ filter_map_same (λ m. then_some (keep world names old m) (λ y. keep world names new (after_part y)))
-      (λ m. keep world names new (after m)) world.mounts kept_then
-      ∙ sym (filter_map_map (keep world names new) after world.mounts)
+  mounts_less = cc (
+    filter_map_map (keep world names new) after_part part.mounts,
+    filter_map_then (keep world names old) (λ y. keep world names new (after_part y)) world.mounts,
+    filter_map_same (λ m. then_some (keep world names old m) (λ y. keep world names new (after_part y))) (λ m. keep
+        world names new (after m)) world.mounts kept_then,
+    filter_map_map (keep world names new) after world.mounts,
+  )
 
   -- mounts by their numbers
   pub one_after : OneNumberEach ended
@@ -419,16 +405,18 @@ module _ (world : World ℕ) (names : List TaskName) (is : IsWorld nat_eq world)
 
   pub shown_after : (m : Mount ℕ) → Among m world.mounts → (l : Location ℕ) → l.mount ≡ m.number
       → mount_at nat_eq ended l ≡ after m
-  shown_after m n l e =
-      ap (mount_numbered nat_eq ended) (e ∙ sym (shape_kept b t_world world gone m).number)
-      ∙ found_itself ended.mounts one_after (after m) (among-map after world.mounts m n)
+  shown_after m n l e = cc (
+    (shape_kept b t_world world gone m).number,
+    found_itself ended.mounts one_after (after m) (among-map after world.mounts m n),
+  )
 
   pub filesystem_after : (m : Mount ℕ) → Among m world.mounts → (l : Location ℕ) → l.mount ≡ m.number
       → (mount_at nat_eq ended l).filesystem ≡ (mount_at nat_eq world l).filesystem
-  filesystem_after m n l e =
-      ap (λ (x : Mount ℕ). x.filesystem) (shown_after m n l e) ∙ (shape_kept b t_world world gone m).filesystem
-      ∙ ap (λ (x : Mount ℕ). x.filesystem)
-      (sym (ap (mount_numbered nat_eq world) e ∙ found_itself world.mounts is.mounts.one_number m n))
+  filesystem_after m n l e = cc (
+    shown_after m n l e,
+    (shape_kept b t_world world gone m).filesystem,
+    found_itself world.mounts is.mounts.one_number m n,
+  )
 
   pub placed_old : (l : Location ℕ) → Among l (locations old) → (m : Mount ℕ) × Among m world.mounts
       × (l.mount ≡ m.number)

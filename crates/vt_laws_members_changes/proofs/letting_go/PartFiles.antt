@@ -39,10 +39,12 @@ module _ (world : World ℕ) (names : List TaskName) (is : IsWorld nat_eq world)
       let two = among-from_filter_map shown world.filesystems merged n in
       let its = shown_number one.0 y one.2 in
       let other = shown_number two.0 merged two.2 in
-      its.1
-      ∙ plain_in world names is one.0 two.0 one.1 two.1
-      (ap (λ o. has_layer_on nat_eq one.0.number (record merged { overlay = o })) (sym other.1)
-      ∙ ap (λ k. has_layer_on nat_eq k merged) (sym its.0) ∙ has)
+      cc (
+        its.1,
+        plain_in world names is one.0 two.0 one.1 two.1 (ap (λ o. has_layer_on nat_eq one.0.number (record merged {
+          overlay = o;
+        })) (sym other.1) ∙ ap (λ k. has_layer_on nat_eq k merged) (sym its.0) ∙ has),
+      )
 
   module _ (set : List TaskName) (next next_part : World ℕ) (less : AreLess world names set next next_part) where
     abbrev now : World ℕ

@@ -6,9 +6,9 @@ use Rattle.vt_spec.specs.Language.Calls.{TaskName}
 use Rattle.vt_spec.specs.Lists.{holds_of}
 use Rattle.vt_spec.specs.Machine.Invariants.{IsWorld}
 use Rattle.vt_spec.specs.Machine.Mounts.{Location, Mount}
-use Rattle.vt_spec.specs.Machine.Sealed.{is_at, is_member_task, locations, members, own_lowers, part_of, part_of_filesystem, roots_and_directories, sealed, used_filesystems}
+use Rattle.vt_spec.specs.Machine.Sealed.{is_at, is_member_task, locations, members, own_lowers, part_of, roots_and_directories, sealed, used_filesystems}
 use Rattle.vt_spec.specs.Machine.Settled.{is_located, mount_lives, without_dead_mounts}
-use Rattle.vt_spec.specs.Machine.World.{Filesystem, Task, World, all_locations, locations_of}
+use Rattle.vt_spec.specs.Machine.World.{Task, World, all_locations, locations_of}
 use Rattle.vt_spec.proofs.Lists.{Among, among-filter, among-filter_map, among-flat_map, among-from_filter, among-from_filter_map, among-from_flat_map, any_from_among, pair-filter}
 use Rattle.vt_spec.proofs.Options.{none_is_some}
 use Rattle.vt_laws_mounts.specs.Mounts.Invariants.{OneNumberEach}
@@ -50,9 +50,6 @@ module _ (world : World ℕ) (names : List TaskName) (is : IsWorld nat_eq world)
 
   abbrev kept : Mount ℕ → Option (Mount ℕ)
   kept = keep world names old
-
-  abbrev shown : Filesystem ℕ → Option (Filesystem ℕ)
-  shown = part_of_filesystem nat_eq world names
 
   less : SeeLess world names set tasks change
   less = sees_less world names is sealed_off set tasks change it
@@ -148,8 +145,7 @@ module _ (world : World ℕ) (names : List TaskName) (is : IsWorld nat_eq world)
   -- owned by the set of before, so by that of now
   owned_now : (y : Mount ℕ) → is_own world names old y ≡ true
       → is_own world names (filter (is_member_task set) tasks_too) y ≡ true
-  owned_now y own =
-      ap (λ ts. is_own world names ts y) same ∙ owned_same world names is sealed_off set tasks change it y ∙ own
+  owned_now y own = cc (same, owned_same world names is sealed_off set tasks change it y)
 
   stood_there : (y : Mount ℕ) → Among y living.mounts
       → is_at nat_eq (roots_and_directories (filter (is_member_task set) tasks_too)) y ≡ true

@@ -86,8 +86,7 @@ module _ (before : World ℕ) (in_use : AllInUse before) (private_ones : Detache
       ∙ all_themselves before name tasks (mounts_of nat_eq before n)
 
   namespace_stays : (namespace : Namespace ℕ) → raised_namespace nat_eq before after namespace ≡ namespace
-  namespace_stays namespace =
-      ap (λ b. cond b namespace (record namespace { change = raised namespace.change })) (same_mounts namespace.number)
+  namespace_stays namespace = cc (same_mounts namespace.number)
 
   pub swept_raised : numbers_raised nat_eq before name [] after
       ≡ record after { tasks = map (raised_task name) tasks; change = raised before.change }

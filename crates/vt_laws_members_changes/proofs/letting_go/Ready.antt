@@ -5,7 +5,7 @@ use Rattle.std.proofs.lemmas.Bool.{or_from, or_left, or_parts}
 use Rattle.vt_spec.specs.FileTree.{FileTree}
 use Rattle.vt_spec.specs.Language.Calls.{TaskName}
 use Rattle.vt_spec.specs.Lists.{any_pair, is_among}
-use Rattle.vt_spec.specs.Machine.Locked.{of_overlay, overlay_or}
+use Rattle.vt_spec.specs.Machine.Locked.{overlay_or}
 use Rattle.vt_spec.specs.Machine.Mounts.{Location, Mount}
 use Rattle.vt_spec.specs.Machine.Sealed.{is_at, is_own_mount, locations, members, own_lowers, own_mounts, part_of, roots_and_directories, used_directly, used_filesystems}
 use Rattle.vt_spec.specs.Machine.Settled.{has_layer_on, is_located, is_mounted, mount_lives, named_in, only_among}
@@ -16,16 +16,6 @@ use Rattle.vt_laws_mounts.proofs.mounts.MountsReplaced.{found_itself}
 use Rattle.vt_laws_part.proofs.part.PartOfPart.{is_own, keep, kept_how, kept_whole}
 use Rattle.vt_laws_sealed.proofs.outsiders.SeenLater.{shown_at}
 use Rattle.vt_laws_members_changes.proofs.letting_go.CutAgain.{HasLowers}
-
--- an overlay with a layer in a filesystem of this number
-pub layered : (number : ℕ) (merged : Filesystem ℕ) (layer : Layer ℕ) → Among layer (of_overlay [] layers_of merged)
-    → nat_eq number layer.filesystem ≡ true → has_layer_on nat_eq number merged ≡ true
-layered number merged layer m e = by merged.overlay m
-  where
-    by : (o : Option (Overlay ℕ)) → Among layer (overlay_or [] layers_of o)
-        → overlay_or false (λ overlay. list_any (λ l. nat_eq number l.filesystem) (layers_of overlay)) o ≡ true
-    by None k = absurd k
-    by (Some overlay) k = any_from_among (λ (l : Layer ℕ). nat_eq number l.filesystem) (layers_of overlay) layer k e
 
 -- a filesystem with a layer is an overlay
 pub layered_overlay : (number : ℕ) (merged : Filesystem ℕ) → has_layer_on nat_eq number merged ≡ true

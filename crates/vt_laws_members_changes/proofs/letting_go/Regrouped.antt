@@ -12,7 +12,7 @@ use Rattle.vt_spec.specs.Machine.Mounts.{Location, Mount, Propagation, detached,
 use Rattle.vt_spec.specs.Machine.Mounts.Propagation.{Private, Shared, Slave, Unbindable}
 use Rattle.vt_spec.specs.Machine.Receives.{groups_up, has_members, heir, inherited, inheriting, is_lost_group, is_member_of, lost_a_group, regrouped_by, slave_of_heir}
 use Rattle.vt_spec.specs.Machine.Sealed.{shares_no_events, is_own_mount, is_own_namespace, members, other_mounts, own_mounts, part_of, sealed}
-use Rattle.vt_spec.specs.Machine.World.{Task, World, mount_at, mount_numbered}
+use Rattle.vt_spec.specs.Machine.World.{World, mount_at, mount_numbered}
 use Rattle.vt_spec.proofs.Lists.{Among, among-filter, among-from_filter, among-from_map, among-map, among_from_all, among_from_list_all, any_among, any_from_among}
 use Rattle.vt_spec.proofs.Options.{none_is_some}
 use Rattle.vt_spec.proofs.Truths.{same_truth}
@@ -26,9 +26,7 @@ use Rattle.vt_laws_members_changes.proofs.letting_go.Heard.{IsHeard, above_heard
 -- a search by tests that agree
 find_alike : (p q : ℕ → Bool) (xs : List ℕ) → ((x : ℕ) → Among x xs → p x ≡ q x) → find p xs ≡ find q xs
 find_alike p q [] same = refl
-find_alike p q (x ∷ xs) same =
-    ap (λ b. cond b (Some x) (find p xs)) (same x (inl refl))
-    ∙ ap (cond (q x) (Some x)) (find_alike p q xs (λ y m. same y (inr m)))
+find_alike p q (x ∷ xs) same = cc (same x (inl refl), find_alike p q xs (λ y m. same y (inr m)))
 
 -- a mount after regrouping
 abbrev pub regrouped_mount : Bool → World ℕ → Mount ℕ → Mount ℕ
@@ -67,9 +65,6 @@ module _ (world : World ℕ) (names : List TaskName) (is : IsWorld nat_eq world)
     (sealed_off : sealed nat_eq world names ≡ true) (gone : List ℕ)
     (own_go : (m : Mount ℕ) → Among m world.mounts → is_going nat_eq gone m.number ≡ true
     → is_own world names (members world names) m ≡ true) where
-  abbrev old : List (Task ℕ)
-  old = members world names
-
   abbrev part : World ℕ
   part = part_of nat_eq world names
 
@@ -113,10 +108,7 @@ module _ (world : World ℕ) (names : List TaskName) (is : IsWorld nat_eq world)
 
   stays_member : (w : World ℕ) (g : ℕ) (m : Mount ℕ) → goes m ≡ false → is_member_of nat_eq g m ≡ true
       → is_member_of nat_eq g (after_going nat_eq w gone m) ≡ true
-  stays_member w g m e h =
-      ap (λ b. is_member_of nat_eq g (cond b (detached m) (record m {
-        mount_point = option_map (mount_point_left nat_eq w gone) m.mount_point;
-      }))) e ∙ h
+  stays_member w g m e h = cc
 
   pub has_same : (g : ℕ) → Heard g → has_members nat_eq left.mounts g ≡ has_members nat_eq left_part.mounts g
   has_same g heard =
@@ -142,14 +134,13 @@ module _ (world : World ℕ) (names : List TaskName) (is : IsWorld nat_eq world)
 
   pub heir_same : (o : Option ℕ) → ((g : ℕ) → o ≡ Some g → Heard g) → heir nat_eq left o ≡ heir nat_eq left_part o
   heir_same None heard = refl
-  heir_same (Some g) heard =
-      ap (λ n. find (has_members nat_eq left.mounts) (chain n world.master g)) (length-map world.mounts cut)
-      ∙ find_alike (has_members nat_eq left.mounts) (has_members nat_eq left_part.mounts) (groups_up world g)
-      (λ x m. has_same x (up_heard world names is sealed_off g x (heard g refl) m))
-      ∙ ap (find (has_members nat_eq left_part.mounts))
-      (sym (same_up world names is.mounts events g (heard g refl).0 (heard g refl).1))
-      ∙ sym (ap (λ n. find (has_members nat_eq left_part.mounts) (chain n part.master g))
-      (length-map part.mounts cut_there))
+  heir_same (Some g) heard = cc (
+    length-map world.mounts cut,
+    find_alike (has_members nat_eq left.mounts) (has_members nat_eq left_part.mounts) (groups_up world g) (λ x m.
+        has_same x (up_heard world names is sealed_off g x (heard g refl) m)),
+    same_up world names is.mounts events g (heard g refl).0 (heard g refl).1,
+    length-map part.mounts cut_there,
+  )
 
   pub inherited_same : (m : Mount ℕ) → Among m owns
       → inherited nat_eq left m.propagation ≡ inherited nat_eq left_part m.propagation
@@ -158,8 +149,7 @@ module _ (world : World ℕ) (names : List TaskName) (is : IsWorld nat_eq world)
       by : (kind : Propagation ℕ) → m.propagation ≡ kind → inherited nat_eq left kind ≡ inherited nat_eq left_part kind
       by (Shared g) e = refl
       by (Slave g) e =
-          ap slave_of_heir (heir_same (Some g)
-          (λ h f. heard_by_own world names is sealed_off m n h (ap source_of e ∙ f)))
+          cc (heir_same (Some g) (λ h f. heard_by_own world names is sealed_off m n h (ap source_of e ∙ f)))
       by Private e = refl
       by Unbindable e = refl
 
@@ -178,10 +168,7 @@ module _ (world : World ℕ) (names : List TaskName) (is : IsWorld nat_eq world)
       by None e = refl
       by (Some g) e =
           let heard = heard_by_own world names is sealed_off m n g e in
-          ap (λ b. not b || is_lost_group nat_eq left (world.master g)) (has_same g heard)
-          ∙ ap (λ b. not (has_members nat_eq left_part.mounts g) || b) (up g heard (world.master g) refl)
-          ∙ ap (λ o. not (has_members nat_eq left_part.mounts g) || is_lost_group nat_eq left_part o)
-          (sym (master_same world names is sealed_off g heard))
+          cc (has_same g heard, up g heard (world.master g) refl, master_same world names is sealed_off g heard)
 
   -- a mount of others loses none
   other_stays : (m : Mount ℕ) → Among m (other_mounts nat_eq world names) → Among m world.mounts
@@ -208,8 +195,7 @@ module _ (world : World ℕ) (names : List TaskName) (is : IsWorld nat_eq world)
       up : (g : ℕ) → OtherLives world names is.mounts events g → (o : Option ℕ) → world.master g ≡ o
           → is_lost_group nat_eq left o ≡ false
       up g lives None e = refl
-      up g lives (Some above) e =
-          ap not (still above (other_above world names is.mounts events above g e lives))
+      up g lives (Some above) e = cc (still above (other_above world names is.mounts events above g e lives))
 
       by : (o : Option ℕ) → source_of m.propagation ≡ o
           → (is_lost_group nat_eq left o || is_lost_group nat_eq left (then_some o world.master)) ≡ false
@@ -219,8 +205,7 @@ module _ (world : World ℕ) (names : List TaskName) (is : IsWorld nat_eq world)
             (m, other, start_hears world g m.propagation e),
             among_from_all (HasLivingGroups nat_eq world) world.mounts is.mounts.groups m n g e,
           ) in
-          ap (λ b. not b || is_lost_group nat_eq left (world.master g)) (still g lives)
-          ∙ up g lives (world.master g) refl
+          cc (still g lives, up g lives (world.master g) refl)
 
   cut_lost : (t w : World ℕ) (m : Mount ℕ) → lost_a_group nat_eq t (after_going nat_eq w gone m) ≡ true
       → (goes m ≡ false) × (lost_a_group nat_eq t m ≡ true)
@@ -236,10 +221,7 @@ module _ (world : World ℕ) (names : List TaskName) (is : IsWorld nat_eq world)
 
   stays_lost : (t w : World ℕ) (m : Mount ℕ) → goes m ≡ false → lost_a_group nat_eq t m ≡ true
       → lost_a_group nat_eq t (after_going nat_eq w gone m) ≡ true
-  stays_lost t w m e h =
-      ap (λ b. lost_a_group nat_eq t (cond b (detached m) (record m {
-        mount_point = option_map (mount_point_left nat_eq w gone) m.mount_point;
-      }))) e ∙ h
+  stays_lost t w m e h = cc
 
   pub flags_same : list_any (lost_a_group nat_eq left) left.mounts ≡ list_any
       (lost_a_group nat_eq left_part) left_part.mounts
@@ -289,18 +271,17 @@ module _ (world : World ℕ) (names : List TaskName) (is : IsWorld nat_eq world)
 
   -- Masters after
   pub master_alike : (b : Bool) (g : ℕ) → Heard g → master_after b left_part g ≡ master_after b left g
-  master_alike b g heard =
-      ap (λ o. cond b (heir nat_eq left_part o) o) (master_same world names is sealed_off g heard)
-      ∙ ap (λ o. cond b o (world.master g))
-      (sym (heir_same (world.master g) (λ above e. above_heard world names is sealed_off above g e heard)))
+  master_alike b g heard = cc (
+    master_same world names is sealed_off g heard,
+    heir_same (world.master g) (λ above e. above_heard world names is sealed_off above g e heard),
+  )
 
   -- where a mount of theirs stands after
   left_alike : (l : Location ℕ) → IsTheirs world names is.mounts l.mount
       → mount_point_left nat_eq part gone l ≡ mount_point_left nat_eq world gone l
   left_alike l theirs =
-      ap (last_or l)
-      (up_alike world names is.mounts (mount_point_of_parent nat_eq world gone) (mount_point_of_parent nat_eq part gone)
-      above alike l theirs)
+      cc (up_alike world names is.mounts (mount_point_of_parent nat_eq world gone) (mount_point_of_parent nat_eq part
+      gone) above alike l theirs)
     where
       above : (a b : Location ℕ) → mount_point_of_parent nat_eq world gone a ≡ Some b
           → (mount_numbered nat_eq world a.mount).mount_point ≡ Some b
@@ -313,9 +294,7 @@ module _ (world : World ℕ) (names : List TaskName) (is : IsWorld nat_eq world)
 
       alike : (a : Location ℕ) → IsTheirs world names is.mounts a.mount
           → mount_point_of_parent nat_eq part gone a ≡ mount_point_of_parent nat_eq world gone a
-      alike a own =
-          ap (λ (m : Mount ℕ). cond (is_going nat_eq gone a.mount) m.mount_point None)
-          (same_mount world names is.mounts a.mount own)
+      alike a own = cc (same_mount world names is.mounts a.mount own)
 
   cut_alike : (m : Mount ℕ) → Among m owns → cut_there m ≡ cut m
   cut_alike m n = by m.mount_point refl
@@ -326,16 +305,12 @@ module _ (world : World ℕ) (names : List TaskName) (is : IsWorld nat_eq world)
       by : (o : Option (Location ℕ)) → m.mount_point ≡ o
           → moved (option_map (mount_point_left nat_eq part gone) m.mount_point)
           ≡ moved (option_map (mount_point_left nat_eq world gone) m.mount_point)
-      by None e =
-          ap (λ o. moved (option_map (mount_point_left nat_eq part gone) o)) e
-          ∙ sym (ap (λ o. moved (option_map (mount_point_left nat_eq world gone) o)) e)
+      by None e = cc
       by (Some l) e =
           let own = among-from_filter (is_own_mount nat_eq world names) world.mounts m n in
           let under = parent_theirs world names is.mounts m.number l (own_theirs world names is m own.0 own.1)
           (ap (λ (x : Mount ℕ). x.mount_point) (numbered world names is.mounts m own.0) ∙ e) in
-          ap (λ o. moved (option_map (mount_point_left nat_eq part gone) o)) e
-          ∙ ap (λ p. moved (Some p)) (left_alike l under)
-          ∙ sym (ap (λ o. moved (option_map (mount_point_left nat_eq world gone) o)) e)
+          cc (left_alike l under)
 
   -- a mount of theirs after
   pub mount_alike : (b : Bool) (m : Mount ℕ) → Among m owns

@@ -73,10 +73,11 @@ module _ (world : World ℕ) (names : List TaskName) (is : IsWorld nat_eq world)
   -- mounts
   mounts_less : filter_map (keep world names theirs) (filter_map (keep world names before) world.mounts)
       ≡ filter_map (keep world names theirs) world.mounts
-  mounts_less =
-      filter_map_then (keep world names before) (keep world names theirs) world.mounts
-      ∙ filter_map_same (λ m. then_some (keep world names before m) (keep world names theirs)) (keep world names theirs)
-      world.mounts less.mounts
+  mounts_less = cc (
+    filter_map_then (keep world names before) (keep world names theirs) world.mounts,
+    filter_map_same (λ m. then_some (keep world names before m) (keep world names theirs)) (keep world names
+        theirs) world.mounts less.mounts,
+  )
 
   own_was : (m : Mount ℕ) → is_own world names theirs m ≡ true → is_own world names before m ≡ true
   own_was m = by m.namespace
@@ -91,9 +92,8 @@ module _ (world : World ℕ) (names : List TaskName) (is : IsWorld nat_eq world)
   masters_same group h =
       let at = any_among (is_member_of nat_eq group) (own_mounts nat_eq now set) h in
       let from = among-from_filter (is_own world names theirs) world.mounts at.0 at.1 in
-      ap (λ b. cond b (world.master group) None)
-      (any_from_among (is_member_of nat_eq group) (own_mounts nat_eq world names) at.0
-      (among-filter (is_own world names before) world.mounts at.0 from.0 (own_was at.0 from.1)) at.2)
+      cc (any_from_among (is_member_of nat_eq group) (own_mounts nat_eq world names) at.0 (among-filter (is_own world
+      names before) world.mounts at.0 from.0 (own_was at.0 from.1)) at.2)
 
   abbrev spaces : List (Task ℕ) → Namespace ℕ → Bool
   spaces ts n = list_any (λ (t : Task ℕ). nat_eq n.number t.namespace) ts
@@ -101,8 +101,7 @@ module _ (world : World ℕ) (names : List TaskName) (is : IsWorld nat_eq world)
   namespaces_less : filter (spaces (members now_part set)) (filter (spaces before) world.namespaces)
       ≡ filter (spaces theirs) world.namespaces
   namespaces_less =
-      ap (λ ts. filter (spaces ts) (filter (spaces before) world.namespaces)) same
-      ∙ filter_less (spaces theirs) (spaces before) world.namespaces (λ n h. less.own n.number h)
+      cc (same, filter_less (spaces theirs) (spaces before) world.namespaces (λ n h. less.own n.number h))
 
   mounts_now : filter_map (keep world names (members now_part set)) part.mounts
       ≡ filter_map (keep world names theirs) world.mounts

@@ -27,12 +27,8 @@ groups_part b set = λ i. record (part_of nat_eq b set) {
     same group true e =
         let own = any_among (is_member_of nat_eq group) (own_mounts nat_eq b set) e in
         let from = among-from_filter (is_own_mount nat_eq b set) b.mounts own.0 own.1 in
-        ap (λ c. cond (list_any (is_member_of nat_eq group) (own_mounts nat_eq b set))
-        (cond c (b.master group) None) None)
-        (any_from_among (is_member_of nat_eq group) b.mounts own.0 from.0 own.2)
-    same group false e =
-        ap (λ c. cond c (cond (has_members nat_eq b.mounts group) (b.master group) None) None) e
-        ∙ sym (ap (λ c. cond c (b.master group) None) e)
+        cc (any_from_among (is_member_of nat_eq group) b.mounts own.0 from.0 own.2)
+    same group false e = cc
 
 -- the sweep of the part
 abbrev pub swept_of : List TaskName → World ℕ → World ℕ
@@ -92,8 +88,10 @@ module _ (v : World ℕ) (set : List TaskName) (used : List ℕ) (lowers : List 
       (swept_mounted left set used lowers left_ready one_left left_mounted is_overlay plains) is_plain
 
   pub part_of_settled : part_of nat_eq (settled nat_eq v) set ≡ swept_of set (part_of nat_eq v set)
-  part_of_settled =
-      groups_part (without_dead_inodes nat_eq left) set
-      ∙ plain_part
-      ∙ ap (swept_part set is_plain) merged_part
-      ∙ ap (swept_of set) (left_part ∙ dead_mounts_are_in_no_part v set)
+  part_of_settled = cc (
+    groups_part (without_dead_inodes nat_eq left) set,
+    plain_part,
+    merged_part,
+    left_part,
+    dead_mounts_are_in_no_part v set,
+  )

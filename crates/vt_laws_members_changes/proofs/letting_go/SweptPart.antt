@@ -50,10 +50,9 @@ only_alike one other x same =
 -- a filesystem that loses nothing
 named_stays : (b : World ℕ) (x : Filesystem ℕ) → AllNamed x → only_used_of nat_eq (used_in nat_eq b x) x ≡ x
 named_stays b x named =
-    ap (λ c. only_used_by nat_eq c (used_in nat_eq b x) x)
-    (list_all_from_among (λ n. is_among nat_eq n (used_in nat_eq b x)) x.files.numbers
-    (λ object m. is_among_numbers (used_in nat_eq b x) object
-    (⊎_elim (λ root. used b x object (as_root root)) (λ name. used b x object (by_name name)) (named object m))))
+    cc (list_all_from_among (λ n. is_among nat_eq n (used_in nat_eq b x)) x.files.numbers (λ object m.
+    is_among_numbers (used_in nat_eq b x) object (⊎_elim (λ root. used b x object (as_root root)) (λ name. used b
+    x object (by_name name)) (named object m))))
 
 -- what is kept is changed
 map_kept : {A B : Type 0} (g : B → B) (k : A → Option B) (xs : List A)
@@ -150,10 +149,7 @@ module _ (a : World ℕ) (set : List TaskName) (used_now : List ℕ) (lowers : L
           → g (unwrap_or (find (λ (f : Filesystem ℕ). nat_eq n f.number) (map sweep list)) (no_filesystem n))
           ≡ g (unwrap_or (find (λ (f : Filesystem ℕ). nat_eq n f.number) list) (no_filesystem n))
       search [] = refl
-      search (x ∷ rest) =
-          ap (λ k. pick (nat_eq n k) (sweep x) (find (λ (f : Filesystem ℕ). nat_eq n f.number) (map sweep rest)))
-          (cut_number a (chosen x) x)
-          ∙ by (nat_eq n x.number) (search rest)
+      search (x ∷ rest) = cc (cut_number a (chosen x) x, by (nat_eq n x.number) (search rest))
         where
           by : (b : Bool)
               → g (unwrap_or (find (λ (f : Filesystem ℕ). nat_eq n f.number) (map sweep rest)) (no_filesystem n))
@@ -272,17 +268,7 @@ module _ (a : World ℕ) (set : List TaskName) (used_now : List ℕ) (lowers : L
     lowered_by : (b : Bool) → lowered x.number lowers (only_used_by nat_eq b all_used x).files
         (only_used_by nat_eq b all_used x) ≡ lowered x.number lowers x.files x
     lowered_by true = refl
-    lowered_by false =
-        ap (λ (files : FileTree ℕ). record x {
-          files = files;
-          overlay = option_map (real_among nat_eq all_used) x.overlay;
-          change = 0;
-        }) cut_same
-        ∙ ap (λ o. record (lowered x.number lowers x.files x) {
-          overlay = option_map
-              (real_among nat_eq all_used) o;
-        }) plain
-        ∙ ap (λ o. record (lowered x.number lowers x.files x) { overlay = o }) (sym plain)
+    lowered_by false = cc (cut_same, plain)
 
     lowered_same : (c : Bool) → lowered x.number lowers (only_used nat_eq a c x).files (only_used nat_eq a c x)
         ≡ lowered x.number lowers x.files x
@@ -297,10 +283,7 @@ module _ (a : World ℕ) (set : List TaskName) (used_now : List ℕ) (lowers : L
 
   shown_swept : (x : Filesystem ℕ) → Among x a.filesystems
       → part_of_filesystem nat_eq swept set (sweep x) ≡ option_map swept_there (part_of_filesystem nat_eq a set x)
-  shown_swept x m =
-      shown_after x m
-      ∙ by (uses x.number) refl (has_lower lowers x.number) refl
-      ∙ sym (ap (option_map swept_there) (shown_before x m))
+  shown_swept x m = cc (shown_after x m, by (uses x.number) refl (has_lower lowers x.number) refl, shown_before x m)
     where
       by : (p : Bool) → uses x.number ≡ p → (q : Bool) → has_lower lowers x.number ≡ q
           → shown_with x.number used_now lowers (sweep x).files (sweep x)
@@ -322,13 +305,7 @@ module _ (a : World ℕ) (set : List TaskName) (used_now : List ℕ) (lowers : L
           ∙ sym (ap (λ b. option_map swept_there (when b (lowered x.number lowers x.files x))) f)
           ∙ sym (ap (λ b. option_map swept_there (cond b (Some x)
           (when (has_lower lowers x.number) (lowered x.number lowers x.files x)))) e)
-      by false e false f =
-          ap (λ b. cond b (Some (sweep x))
-          (when (has_lower lowers x.number) (lowered x.number lowers (sweep x).files (sweep x)))) e
-          ∙ ap (λ b. when b (lowered x.number lowers (sweep x).files (sweep x))) f
-          ∙ sym (ap (λ b. option_map swept_there (when b (lowered x.number lowers x.files x))) f)
-          ∙ sym (ap (λ b. option_map swept_there (cond b (Some x)
-          (when (has_lower lowers x.number) (lowered x.number lowers x.files x)))) e)
+      by false e false f = cc
 
   pub part_of_swept : part_of nat_eq swept set ≡ swept_part set chosen part
   part_of_swept =

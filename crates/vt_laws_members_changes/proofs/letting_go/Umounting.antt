@@ -6,7 +6,7 @@ use Rattle.vt_spec.specs.Errors.{Rules, unless}
 use Rattle.vt_spec.specs.Language.Answers.Answer.{Done}
 use Rattle.vt_spec.specs.Language.Calls.{Call, TaskName}
 use Rattle.vt_spec.specs.Language.Calls.Call.{Umount}
-use Rattle.vt_spec.specs.Lists.{Fresh, holds_of}
+use Rattle.vt_spec.specs.Lists.{Fresh}
 use Rattle.vt_spec.specs.Machine.Detach.{going, has_child, is_going, taken_away, unmounted}
 use Rattle.vt_spec.specs.Machine.Invariants.{IsWorld, MountInvariants}
 use Rattle.vt_spec.specs.Machine.Judge.{Judgement, judge_in, umount_permit}
@@ -16,7 +16,7 @@ use Rattle.vt_spec.specs.Machine.Permits.{Permit}
 use Rattle.vt_spec.specs.Machine.Permits.Permit.{ToUnmount}
 use Rattle.vt_spec.specs.Machine.Policy.{numbers_raised, policy}
 use Rattle.vt_spec.specs.Machine.Rules.Mounting.{admin_rules, umount_rules}
-use Rattle.vt_spec.specs.Machine.Sealed.{is_own_namespace, members, part_of, sealed}
+use Rattle.vt_spec.specs.Machine.Sealed.{members, part_of, sealed}
 use Rattle.vt_spec.specs.Machine.Settled.{settled}
 use Rattle.vt_spec.specs.Machine.Walking.{directory_walk}
 use Rattle.vt_spec.specs.Machine.World.{Task, World, mount_at, mount_numbered, task_called}
@@ -129,9 +129,10 @@ module _ (world : World ℕ) (names : List TaskName) (name : TaskName) (call : C
           (ap (λ (m : Mount ℕ). m.namespace) is_it ∙ none) e
 
   same_going : going nat_eq there (mount_numbered nat_eq there number) ≡ going nat_eq world mount_of
-  same_going =
-      ap (going nat_eq there) (same_mount world names it.is.mounts number theirs)
-      ∙ going_alike world names it.is it.sealed_off mount_of mount_there mount_own
+  same_going = cc (
+    same_mount world names it.is.mounts number theirs,
+    going_alike world names it.is it.sealed_off mount_of mount_there mount_own,
+  )
 
   pub alone_there : has_child nat_eq there number ≡ false
   alone_there =
@@ -150,18 +151,6 @@ module _ (world : World ℕ) (names : List TaskName) (name : TaskName) (call : C
   kept_part =
       subst (λ l. MountInvariants nat_eq (taken_away nat_eq there l)) same_going
       (unmount_keeps_mounts there number (part_mounts world names it.is it.sealed_off) alone_there)
-
-  -- it is in a namespace, in both
-  pub placed : is_some mount_of.namespace ≡ true
-  placed = by mount_of.namespace mount_own
-    where
-      by : (o : Option ℕ) → holds_of (is_own_namespace nat_eq world names) o ≡ true → is_some o ≡ true
-      by None h = h
-      by (Some n) h = refl
-
-  pub placed_there : is_some (mount_numbered nat_eq there number).namespace ≡ true
-  placed_there =
-      ap (λ (m : Mount ℕ). is_some m.namespace) (same_mount world names it.is.mounts number theirs) ∙ placed
 
   -- the outcome
   abbrev pub detaches : World ℕ → Outcome ℕ

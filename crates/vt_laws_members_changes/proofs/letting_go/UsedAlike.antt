@@ -19,7 +19,8 @@ use Rattle.vt_laws_mounts.proofs.mounts.MountsReplaced.{found_itself}
 use Rattle.vt_laws_part.proofs.part.PartOfPart.{is_own, keep, kept_how, kept_whole, located, shown_how, used_directly_used}
 use Rattle.vt_laws_sealed.proofs.outsiders.SeenLater.{lower_of}
 use Rattle.vt_laws_members_changes.proofs.letting_go.Gone.{sees_itself}
-use Rattle.vt_laws_members_changes.proofs.letting_go.Ready.{Alone, OverlaysMounted, Ready, layered, layered_overlay, mount_is, overlay_used, seen_alone}
+use Rattle.vt_laws_members_changes.proofs.letting_go.Ready.{Alone, OverlaysMounted, Ready, layered_overlay, mount_is, overlay_used, seen_alone}
+use Rattle.vt_laws_members.proofs.judging.Locks.{has_layer}
 
 -- a location of a task, the root of a mount, or a mount point
 pub data IsPlace (b : World ℕ) (l : Location ℕ) : Type 0 where
@@ -156,10 +157,7 @@ objects_layered number object merged = by merged.overlay
       where
         on : (b : Bool) → nat_eq number layer.filesystem ≡ b → Among object (objects_by overlay b)
             → list_any (λ (l : Layer ℕ). nat_eq number l.filesystem) (layers_of overlay) ≡ true
-        on true f h =
-            ap (λ o. list_any (λ (l : Layer ℕ). nat_eq number l.filesystem)
-            (option_to_list o ++ option_to_list overlay.work ++ overlay.lowers)) e
-            ∙ or_left (nat_eq number layer.filesystem) _ f
+        on true f h = cc (e, or_left (nat_eq number layer.filesystem) _ f)
         on false f h = absurd h
 
     by : (o : Option (Overlay ℕ))
@@ -204,9 +202,7 @@ module _ (a : World ℕ) (set : List TaskName) (used_now : List ℕ) (lowers : L
   in_part m y n e = among-filter_map kept a.mounts m y n e
 
   at_part : (y : Mount ℕ) → Among y part.mounts → (l : Location ℕ) → l.mount ≡ y.number → mount_at nat_eq part l ≡ y
-  at_part y n l e =
-      ap (λ k. mount_numbered nat_eq part k) e
-      ∙ found_itself part.mounts one_in_part y n
+  at_part y n l e = cc (found_itself part.mounts one_in_part y n)
 
   own_whole : (m : Mount ℕ) → owns m ≡ true → kept m ≡ Some m
   own_whole m own =
@@ -214,8 +210,7 @@ module _ (a : World ℕ) (set : List TaskName) (used_now : List ℕ) (lowers : L
 
   -- on a mount of theirs with a mount point
   own_by : (m k : Mount ℕ) (n : ℕ) → m.namespace ≡ Some n → k.namespace ≡ Some n → owns m ≡ true → owns k ≡ true
-  own_by m k n e f own =
-      ap (holds_of (λ i. list_any (λ (t : Task ℕ). nat_eq i t.namespace) theirs)) (f ∙ sym e) ∙ own
+  own_by m k n e f own = cc
 
   shown_used : (x : Filesystem ℕ) → Among x a.filesystems → is_among nat_eq x.number
       (used_filesystems nat_eq a set) ≡ true
@@ -257,7 +252,7 @@ module _ (a : World ℕ) (set : List TaskName) (used_now : List ℕ) (lowers : L
   lower_plain z m low =
       let at = any_among (λ (layer : Layer ℕ). nat_eq z.number layer.filesystem) (own_lowers nat_eq a set) low in
       let of = lower_of a a set (sees_itself a set) at.0 at.1 in
-      it.plain z of.0 m of.1 (layered z.number of.0 at.0 of.3 at.2)
+      it.plain z of.0 m of.1 (has_layer z.number of.0 at.0 of.3 at.2)
 
   module _ (mounted : OverlaysMounted a set) (x : Filesystem ℕ) (alone : Alone a set x.number) (object : ℕ) where
     merged_there : (merged : Filesystem ℕ) → Among merged a.filesystems → has_layer_on nat_eq x.number merged ≡ true
@@ -296,7 +291,7 @@ module _ (a : World ℕ) (set : List TaskName) (used_now : List ℕ) (lowers : L
         (λ nowhere. none_is_some up.0 (sym nowhere ∙ up.5))
         (alone.itself.mounts up.2 up.3 (ap (λ (k : Mount ℕ). k.filesystem) (sym at) ∙ on))
     to_part (by_layer merged layer m n on e) =
-        by_layer merged layer (merged_there merged m (layered x.number merged layer n on)) n on e
+        by_layer merged layer (merged_there merged m (has_layer x.number merged layer n on)) n on e
     to_part (by_object merged m o) =
         by_object merged (merged_there merged m (objects_layered x.number object merged o)) o
 

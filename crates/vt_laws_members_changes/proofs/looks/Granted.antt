@@ -27,7 +27,8 @@ use Rattle.vt_laws_members.proofs.judging.Judged.{JudgesAlike}
 use Rattle.vt_laws_members.proofs.judging.WalksLead.{HereAt, directory_agrees, object_agrees, symlink_agrees}
 
 -- what is granted after a walk, and after rules
-pub of_walk : {A : Type 0} (Q : A → Type 0) (P : Permit ℕ → Type 0) (w : Result A (Stop ℕ)) (f : A → Judgement ℕ) → IfOk w Q
+pub of_walk : {A : Type 0} (Q : A → Type 0) (P : Permit ℕ → Type 0) (w : Result A (Stop ℕ)) (f : A → Judgement ℕ)
+    → IfOk w Q
     → ((a : A) → Q a → IfOk (f a) P) → IfOk (and_then (walk_end w) f) P
 of_walk Q P (Ok a) f q next = next a q
 of_walk Q P (Err stop) f q next = tt
@@ -103,11 +104,13 @@ module _ (world : World ℕ) (names : List TaskName) (is : IsWorld nat_eq world)
           which descriptor (found_among (λ (d : Descriptor ℕ). number == d.number)
           task.descriptors descriptor e) descriptor.reads
 
-  pub looked : (overfills : Permit ℕ → Bool) (set : List TaskName) (name : TaskName) (call : Call) → only_looks call ≡ true
+  pub looked : (overfills : Permit ℕ → Bool) (set : List TaskName) (name : TaskName) (call : Call)
+      → only_looks call ≡ true
       → IfOk (judge nat_eq one overfills task call) Looked × (left set name call ≡ set)
   unfolding list_permit stat_permit lstat_permit readlink_permit read_permit exec_permit
   looked overfills set name (Ls path) e = (
-    of_walk StandsHere Looked (directory_walk nat_eq one task path) (λ here. unless (list_rules one task here.location) (Ok (ToList here.location))) (at_directory path)
+    of_walk StandsHere Looked (directory_walk nat_eq one task path)
+        (λ here. unless (list_rules one task here.location) (Ok (ToList here.location))) (at_directory path)
         (λ here on. of_rules Looked (list_rules one task here.location) (Ok (ToList here.location)) on),
     refl,
   )
@@ -122,17 +125,20 @@ module _ (world : World ℕ) (names : List TaskName) (is : IsWorld nat_eq world)
     refl,
   )
   looked overfills set name (Readlink path) e = (
-    of_walk StandsHere Looked (symlink_walk nat_eq one task path) (λ here. unless (readlink_rules one here.location) (Ok (ToRead here.location))) (at_symlink path)
+    of_walk StandsHere Looked (symlink_walk nat_eq one task path)
+        (λ here. unless (readlink_rules one here.location) (Ok (ToRead here.location))) (at_symlink path)
         (λ here on. of_rules Looked (readlink_rules one here.location) (Ok (ToRead here.location)) on),
     refl,
   )
   looked overfills set name (Read path) e = (
-    of_walk StandsHere Looked (object_walk nat_eq one task path) (λ here. unless (read_rules one task here.location) (Ok (ToRead here.location))) (at_object path)
+    of_walk StandsHere Looked (object_walk nat_eq one task path)
+        (λ here. unless (read_rules one task here.location) (Ok (ToRead here.location))) (at_object path)
         (λ here on. of_rules Looked (read_rules one task here.location) (Ok (ToRead here.location)) on),
     refl,
   )
   looked overfills set name (Exec path) e = (
-    of_walk StandsHere Looked (object_walk nat_eq one task path) (λ here. unless (exec_rules one task here.location) (Ok Allowed)) (at_object path)
+    of_walk StandsHere Looked (object_walk nat_eq one task path)
+        (λ here. unless (exec_rules one task here.location) (Ok Allowed)) (at_object path)
         (λ here on. of_rules Looked (exec_rules one task here.location) (Ok Allowed) tt),
     refl,
   )

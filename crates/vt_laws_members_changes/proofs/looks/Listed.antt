@@ -57,10 +57,9 @@ module _ (world : World ℕ) (names : List TaskName) (is : IsWorld nat_eq world)
   master_alike : (mount : Mount ℕ) → Among mount world.mounts → owns mount ≡ true → (group : ℕ)
       → mount.propagation ≡ Shared group → part.master group ≡ world.master group
   master_alike mount m own group e =
-      ap (λ b. cond b (world.master group) None)
-      (any_from_among (is_member_of nat_eq group) (own_mounts nat_eq world names) mount
-      (among-filter (is_own_mount nat_eq world names) world.mounts mount m own)
-      (ap (λ kind. holds_of (nat_eq group) (group_of kind)) e ∙ eq-eqb group group refl))
+      cc (any_from_among (is_member_of nat_eq group) (own_mounts nat_eq world names) mount (among-filter
+      (is_own_mount nat_eq world names) world.mounts mount m own) (ap (λ kind. holds_of (nat_eq group) (group_of
+      kind)) e ∙ eq-eqb group group refl))
 
   groups_alike : (mount : Mount ℕ) → Among mount Listed → groups_shown part mount ≡ groups_shown world mount
   groups_alike mount m = by mount.propagation refl
@@ -84,8 +83,7 @@ module _ (world : World ℕ) (names : List TaskName) (is : IsWorld nat_eq world)
           → type_line nat_eq part seen kind ≡ type_line nat_eq world seen kind
       by (Shared group) e =
           let own = listed_own mount m in
-          ap (λ o. SharedLine (number_among nat_eq seen group) (option_map (number_among nat_eq seen) o))
-          (master_alike mount own.0 own.1 group e)
+          cc (master_alike mount own.0 own.1 group e)
       by (Slave master) e = refl
       by Private e = refl
       by Unbindable e = refl
@@ -102,11 +100,7 @@ module _ (world : World ℕ) (names : List TaskName) (is : IsWorld nat_eq world)
 
   spot_alike : (point : Location ℕ) → IsTheirs world names is.mounts point.mount
       → mount_point_spot nat_eq part point ≡ mount_point_spot nat_eq world point
-  spot_alike point own =
-      ap (λ (f : Filesystem ℕ). spot_of (path_down nat_eq f.files (mount_at nat_eq part point).root point.node))
-      (sym (filesystem_alike world names is point own))
-      ∙ ap (λ (m : Mount ℕ). spot_of (path_down nat_eq (files_at nat_eq world point) m.root
-      point.node)) (sym (mount_alike world names is point own))
+  spot_alike point own = cc (filesystem_alike world names is point own, mount_alike world names is point own)
 
   abbrev pair : ℕ → Spot → ℕ × Spot
   pair index spot = (index, spot)
@@ -127,10 +121,9 @@ module _ (world : World ℕ) (names : List TaskName) (is : IsWorld nat_eq world)
       by None e = refl
       by (Some point) e =
           let own = listed_own mount m in
-          ap (λ spot. Some (pair (number_among nat_eq numbers point.mount) spot))
-          (spot_alike point (parent_theirs world names is.mounts mount.number point
-          (own_theirs world names is mount own.0 own.1)
-          (ap (λ (x : Mount ℕ). x.mount_point) (numbered world names is.mounts mount own.0) ∙ e)))
+          cc (spot_alike point (parent_theirs world names is.mounts mount.number point (own_theirs world names is
+          mount own.0 own.1) (ap (λ (x : Mount ℕ). x.mount_point) (numbered world names is.mounts mount own.0) ∙
+          e)))
 
   line_alike : (mount : Mount ℕ) → Among mount Listed
       → mount_line nat_eq part Listed mount ≡ mount_line nat_eq world Listed mount
@@ -145,11 +138,8 @@ module _ (world : World ℕ) (names : List TaskName) (is : IsWorld nat_eq world)
     where
       kinds : type_line nat_eq part (groups_seen nat_eq part Listed) mount.propagation
           ≡ type_line nat_eq world (groups_seen nat_eq world Listed) mount.propagation
-      kinds =
-          ap (λ seen. type_line nat_eq part seen mount.propagation) seen_alike
-          ∙ kind_alike (groups_seen nat_eq world Listed) mount m
+      kinds = cc (seen_alike, kind_alike (groups_seen nat_eq world Listed) mount m)
 
   pub lines_alike : mount_lines nat_eq part task.namespace ≡ mount_lines nat_eq world task.namespace
   lines_alike =
-      ap (λ list. map (mount_line nat_eq part list) list) mounts_alike
-      ∙ map_alike (mount_line nat_eq part Listed) (mount_line nat_eq world Listed) Listed line_alike
+      cc (mounts_alike, map_alike (mount_line nat_eq part Listed) (mount_line nat_eq world Listed) Listed line_alike)

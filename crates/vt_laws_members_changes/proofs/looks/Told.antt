@@ -53,9 +53,10 @@ module _ (world : World ℕ) (names : List TaskName) (is : IsWorld nat_eq world)
   pub open_file : (file : Location ℕ) → Among file (locations (members world names))
       → node_at nat_eq world file ≡ node_at nat_eq part file
   open_file file m =
-      ap (λ (f : Filesystem ℕ). f.files.tree.node file.node)
-      (sym (found world names (mount_at nat_eq world file).filesystem (located_used world names is file m)))
-      ∙ ap (λ n. (filesystem_numbered nat_eq part n).files.tree.node file.node) (sym (located world names file m))
+      cc (
+        found world names (mount_at nat_eq world file).filesystem (located_used world names is file m),
+        located world names file m,
+      )
 
   module _ (task : Task ℕ) (member : Among task (members world names)) (fresh other : Fresh ℕ) where
     abbrev Looked : Permit ℕ → Type 0
@@ -69,8 +70,11 @@ module _ (world : World ℕ) (names : List TaskName) (is : IsWorld nat_eq world)
 
     told : (permit : Permit ℕ) → Looked permit → ToldAlike permit
     told Allowed on = (refl, refl, refl)
-    told (ToList directory) on =
-        (ap (λ n. Ok (Names (names_in n))) ((walks world names is sealed_off task member).node directory on), refl, refl)
+    told (ToList directory) on = (
+      ap (λ n. Ok (Names (names_in n))) ((walks world names is sealed_off task member).node directory on),
+      refl,
+      refl,
+    )
     told (ToStat object) on =
         (ap (λ n. Ok (Told (stat_line n))) ((walks world names is sealed_off task member).node object on), refl, refl)
     told (ToRead file) on =
@@ -100,8 +104,7 @@ module _ (world : World ℕ) (names : List TaskName) (is : IsWorld nat_eq world)
         (sym (stays name call same permit on))
         (record {
           answer = it.0;
-          part = ap (λ w. part_of nat_eq w names) it.1 ∙ sym (part_again world names is)
-              ∙ ap (λ w. part_of nat_eq w names) (sym it.2);
+          part = cc (it.1, part_again world names is, it.2);
         })
     looks_by name call same (Err deny) on = record { answer = refl; part = sym (part_again world names is) }
 
@@ -122,7 +125,8 @@ looks_end_alike world names name call it looks fresh other =
     also : (found : Option (Task ℕ)) → task_called world name ≡ found
         → EndAlike (grown names name call (ran name call world fresh found).answer) (ran name call world fresh found)
         (ran name call part other found)
-        → EndAlike (grown names name call (policy nat_eq fresh world name call).answer) (policy nat_eq fresh world name call)
+        → EndAlike (grown names name call (policy nat_eq fresh world name call).answer)
+        (policy nat_eq fresh world name call)
         (policy nat_eq other part name call)
     also found e alike =
         subst (λ p. EndAlike (grown names name call (policy nat_eq fresh world name call).answer)
@@ -138,12 +142,14 @@ looks_end_alike world names name call it looks fresh other =
         (filesystems_changed_by nat_eq w (judge_in nat_eq fr w task call)) (call_outcome nat_eq fr w task call)) looks
 
     by : (found : Option (Task ℕ)) → task_called world name ≡ found
-        → EndAlike (grown names name call (policy nat_eq fresh world name call).answer) (policy nat_eq fresh world name call)
+        → EndAlike (grown names name call (policy nat_eq fresh world name call).answer)
+        (policy nat_eq fresh world name call)
         (policy nat_eq other part name call)
     by None e = also None e (record { answer = refl; part = sym (part_again world names it.is) })
     by (Some task) e =
         let member = member_called world names it.is it.sealed_off name it.theirs task e in
-        let granted = looked world names it.is it.sealed_off task member (overfills nat_eq fresh world task) names name call
+        let granted = looked world names it.is it.sealed_off task member
+        (overfills nat_eq fresh world task) names name call
         looks in
         let judged : judge_in nat_eq fresh world task call ≡ judge_in nat_eq other part task call =
         members_are_judged_by_their_part world names task call

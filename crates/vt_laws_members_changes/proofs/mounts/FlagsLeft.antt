@@ -51,8 +51,7 @@ pub raised_members_alike : (world : World ℕ) (names : List TaskName) (name : T
     → filter (is_member_task names) (map (raised_task name) world.tasks)
     ≡ filter (is_member_task names) (map (raised_task name) (part_of nat_eq world names).tasks)
 raised_members_alike world names name =
-    of_map world.tasks ∙ ap (map (raised_task name)) (sym (same_members world names))
-    ∙ sym (of_map (part_of nat_eq world names).tasks)
+    cc (of_map world.tasks, same_members world names, of_map (part_of nat_eq world names).tasks)
   where
     of_map : (tasks : List (Task ℕ)) → filter (is_member_task names) (map (raised_task name) tasks)
         ≡ map (raised_task name) (filter (is_member_task names) tasks)
@@ -125,26 +124,26 @@ module _ (world : World ℕ) (names : List TaskName) (is : IsWorld nat_eq world)
             (above z (mine z at (own_in world names is sealed_off n space z (ap (its_in n) (sym e) ∙ h))))
 
     later_in_part : mounts_of nat_eq later_part n ≡ mounts_of nat_eq later n
-    later_in_part =
-        ap (λ (w : World ℕ). mounts_of nat_eq w n) (sym part_of_later)
-        ∙ filter_both (keep world names theirs) (its_in n) (its_in n) later.mounts
-        (λ m at h. (own_kept world names is sealed_off m (own_in world names is sealed_off n space m h), h))
-        (λ m y at h e. ⊎_elim (λ same. ap (its_in n) (sym same) ∙ h) (λ stub. ap (its_in n) (sym stub.0))
-        (kept_how world names theirs m y e))
+    later_in_part = cc (
+      part_of_later,
+      filter_both (keep world names theirs) (its_in n) (its_in n) later.mounts (λ m at h. (
+        own_kept world names is
+            sealed_off m (own_in world names is sealed_off n space m h),
+        h,
+      )) (λ m y at h e. ⊎_elim (λ same. ap (its_in n)
+          (sym same) ∙ h) (λ stub. ap (its_in n) (sym stub.0)) (kept_how world names theirs m y e)),
+    )
 
     -- the mounts of a namespace of theirs changed in both, or in none
     spaces_alike : same_mounts_in nat_eq part later_part n ≡ same_mounts_in nat_eq world later n
-    spaces_alike =
-        ap (λ l. same_list (same_mount nat_eq part later_part) l (mounts_of nat_eq later_part n))
-        (space_in_part world names is sealed_off n space)
-        ∙ ap (same_list (same_mount nat_eq part later_part) (mounts_of nat_eq world n)) later_in_part
-        ∙ same_list_alike (same_mount nat_eq part later_part) (same_mount nat_eq world later)
-        (mounts_of nat_eq world n) (mounts_of nat_eq later n)
-        (λ x y m l.
-        let first = among-from_filter (its_in n) world.mounts x m in
-        let second = among-from_filter (its_in n) later.mounts y l in
-        compared x y (above x (mine x first.0 (own_in world names is sealed_off n space x first.1)))
-        (above_later y second.0 second.1))
+    spaces_alike = cc (
+      space_in_part world names is sealed_off n space,
+      later_in_part,
+      same_list_alike (same_mount nat_eq part later_part) (same_mount nat_eq world later) (mounts_of nat_eq world
+          n) (mounts_of nat_eq later n) (λ x y m l. let first = among-from_filter (its_in n) world.mounts x m in let
+          second = among-from_filter (its_in n) later.mounts y l in compared x y (above x (mine x first.0 (own_in world
+          names is sealed_off n space x first.1))) (above_later y second.0 second.1)),
+    )
       where
         same_ones : Mount ℕ → Mount ℕ → Bool
         same_ones x y =
@@ -154,22 +153,21 @@ module _ (world : World ℕ) (names : List TaskName) (is : IsWorld nat_eq world)
         compared : (x y : Mount ℕ) → master_above part x ≡ master_above world x
             → master_above part y ≡ master_above world y
             → same_mount nat_eq part later_part x y ≡ same_mount nat_eq world later x y
-        compared x y e f =
-            ap (λ o. same_ones x y && same_option nat_eq o (master_above part y)) e
-            ∙ ap (λ o. same_ones x y && same_option nat_eq (master_above world x) o) f
+        compared x y e f = cc
 
   raised_alike : filter (spaces theirs) (map (raised_namespace nat_eq part later_part) part.namespaces)
       ≡ filter (spaces theirs) (map (raised_namespace nat_eq world later) world.namespaces)
   raised_alike =
-      filter-map (spaces theirs) (raised_namespace nat_eq part later_part) part.namespaces
-      (λ n. ap (λ i. list_any (λ (t : Task ℕ). nat_eq i t.namespace) theirs) (raised_number part later_part n))
-      ∙ ap (map (raised_namespace nat_eq part later_part)) (filter_again (spaces theirs) world.namespaces)
-      ∙ map_alike (raised_namespace nat_eq part later_part) (raised_namespace nat_eq world later)
-      (filter (spaces theirs) world.namespaces)
-      (λ n m. ap (λ c. cond c n (record n { change = raised n.change }))
-      (spaces_alike n.number (among-from_filter (spaces theirs) world.namespaces n m).1))
-      ∙ sym (filter-map (spaces theirs) (raised_namespace nat_eq world later) world.namespaces
-      (λ n. ap (λ i. list_any (λ (t : Task ℕ). nat_eq i t.namespace) theirs) (raised_number world later n)))
+      cc (
+        filter-map (spaces theirs) (raised_namespace nat_eq part later_part) part.namespaces (λ n. ap (λ i.
+            list_any (λ (t : Task ℕ). nat_eq i t.namespace) theirs) (raised_number part later_part n)),
+        filter_again (spaces theirs) world.namespaces,
+        map_alike (raised_namespace nat_eq part later_part) (raised_namespace nat_eq world later) (filter (spaces
+            theirs) world.namespaces) (λ n m. ap (λ c. cond c n (record n { change = raised n.change })) (spaces_alike
+            n.number (among-from_filter (spaces theirs) world.namespaces n m).1)),
+        filter-map (spaces theirs) (raised_namespace nat_eq world later) world.namespaces (λ n. ap (λ i. list_any
+            (λ (t : Task ℕ). nat_eq i t.namespace) theirs) (raised_number world later n)),
+      )
 
   module _ (name : TaskName) where
     -- what a call leaves in which a world becomes another with the same tasks and filesystems

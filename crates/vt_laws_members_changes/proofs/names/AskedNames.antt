@@ -86,8 +86,7 @@ module _ (world : World ℕ) (old : Filesystem ℕ) (files : FileTree ℕ) (plai
 
       by : (list : List ℕ) → is_inode_among number object (map (λ inode. (old.number, inode)) list) ≡ false
       by [] = refl
-      by (first ∷ rest) = ap (λ b. (b && nat_eq object first)
-          || is_inode_among number object (map (λ inode. (old.number, inode)) rest)) apart ∙ by rest
+      by (first ∷ rest) = cc (apart, by rest)
 
 -- A call that is granted
 module _ (world : World ℕ) (names : List TaskName) (name : TaskName) (call : Call) (is : IsWorld nat_eq world)
@@ -116,8 +115,10 @@ module _ (world : World ℕ) (names : List TaskName) (name : TaskName) (call : C
     where
       by : (c : Change ℕ) → Names c → AsksWell world location c
           → is_some (old.files.tree.node (written_to c)) ≡ true
-      by (Make directory entry inode node) any well = written_there world location (Make directory entry inode node) well tt
-      by (AddName directory entry object) any well = written_there world location (AddName directory entry object) well tt
+      by (Make directory entry inode node) any well =
+          written_there world location (Make directory entry inode node) well tt
+      by (AddName directory entry object) any well =
+          written_there world location (AddName directory entry object) well tt
       by (Remove directory entry object) any well = written_there world location (Remove directory entry object) well tt
       by (Move from entry to new object) any well = written_there world location (Move from entry to new object) well tt
       by (SetBytes file bytes) none well = absurd none

@@ -1,5 +1,5 @@
 -- On filesystems that a set uses alone, only mounts of its own namespaces stand on directories.
-use Rattle.std.proofs.Common.{◌≡◌, refl, sym, ap, subst, ◌∙◌, ⊎_elim, ℕ, nat_eq, eqb-true, eq-eqb, Bool, true, false, true≢false, List, [], Option, Some, None, is_some, not, ◌&&◌}
+use Rattle.std.proofs.Common.{◌≡◌, refl, sym, ap, subst, ◌∙◌, ⊎_elim, ℕ, nat_eq, eqb-true, eq-eqb, Bool, true, false, true≢false, List, [], Option, Some, None, not, ◌&&◌}
 use Rattle.std.specs.List.{list_any}
 use Rattle.std.proofs.lemmas.Bool.{and_parts, not-true}
 use Rattle.vt_spec.specs.Language.Calls.{TaskName}
@@ -7,17 +7,14 @@ use Rattle.vt_spec.specs.Lists.{holds_of}
 use Rattle.vt_spec.specs.Machine.Detach.{is_point, mounts_on, points_of, upper_points}
 use Rattle.vt_spec.specs.Machine.Invariants.{IsWorld, Stands}
 use Rattle.vt_spec.specs.Machine.Locked.{overlay_or}
-use Rattle.vt_spec.specs.Machine.Looks.{looks_of}
 use Rattle.vt_spec.specs.Machine.Mounts.{Location, Mount}
-use Rattle.vt_spec.specs.Machine.Rules.Conditions.{is_mount_point_anywhere, is_mount_point_in}
 use Rattle.vt_spec.specs.Machine.Sealed.{is_own_namespace, no_outsider_on, other_mounts, used_alone}
-use Rattle.vt_spec.specs.Machine.World.{Overlay, Task, World, filesystem_at, mount_at, mount_numbered}
-use Rattle.vt_spec.proofs.Lists.{Among, among-filter, among-from_filter, among_from_all, any_among, any_from_among, none_from_among}
+use Rattle.vt_spec.specs.Machine.World.{Overlay, World, filesystem_at, mount_at, mount_numbered}
+use Rattle.vt_spec.proofs.Lists.{Among, among-filter, among-from_filter, among_from_all, any_among, any_from_among}
 use Rattle.vt_spec.proofs.Options.{none_is_some}
 use Rattle.vt_spec.proofs.Worlds.{found_or_none}
 use Rattle.vt_laws_mounts.proofs.mounts.MountsReplaced.{found_itself}
 use Rattle.vt_laws_worlds.proofs.worlds.Reached.{namespace_below}
-use Rattle.vt_laws_members_changes.specs.NameChanges.{mounted_elsewhere, stands_elsewhere}
 
 module _ (world : World ℕ) (names : List TaskName) (is : IsWorld nat_eq world) where
   -- a mount on a filesystem that they use alone is of a namespace of theirs
@@ -30,11 +27,12 @@ module _ (world : World ℕ) (names : List TaskName) (is : IsWorld nat_eq world)
       itself = found_itself world.mounts is.mounts.one_number mount m
 
       above_placed : (mount_at nat_eq world point).namespace ≡ Some n
-      above_placed =
-          sym (namespace_below world mount.number point
-          (among_from_all (λ (y : Mount ℕ). Stands nat_eq world y.number) world.mounts is.mounts.standing mount m)
-          (ap (λ (y : Mount ℕ). y.mount_point) itself ∙ stands))
-          ∙ ap (λ (y : Mount ℕ). y.namespace) itself ∙ placed
+      above_placed = cc (
+        namespace_below world mount.number point (among_from_all (λ (y : Mount ℕ). Stands nat_eq world y.number)
+            world.mounts is.mounts.standing mount m) (ap (λ (y : Mount ℕ). y.mount_point) itself ∙ stands),
+        itself,
+        placed,
+      )
 
       above_there : Among (mount_at nat_eq world point) world.mounts
       above_there =
@@ -90,31 +88,3 @@ module _ (world : World ℕ) (names : List TaskName) (is : IsWorld nat_eq world)
             (eqb-true (mount_at nat_eq world point).filesystem at.0
             (and_parts (nat_eq point.node at.1) (nat_eq (mount_at nat_eq world point).filesystem at.0) h).1)
             n placed
-
-  -- so none stands there, if none of the caller's does, nor one of another namespace of theirs
-  module _ (task : Task ℕ) (directory : Location ℕ)
-      (alone : (point : ℕ × ℕ) → Among point (points_of nat_eq world directory)
-      → used_alone nat_eq world names point.0 ≡ true)
-      (in_own : is_mount_point_in nat_eq (looks_of nat_eq world) task.namespace directory ≡ false)
-      (elsewhere : mounted_elsewhere world names task (Some directory) ≡ false) where
-    pub none_anywhere : is_mount_point_anywhere (looks_of nat_eq world) directory ≡ false
-    none_anywhere =
-        none_from_among (λ (mount : Mount ℕ). is_some mount.namespace) (mounts_on nat_eq world directory)
-        (λ mount m. by mount m mount.namespace refl)
-      where
-        which : (mount : Mount ℕ) → Among mount (mounts_on nat_eq world directory) → (n : ℕ) → mount.namespace ≡ Some n
-            → (b : Bool) → nat_eq task.namespace n ≡ b → is_some mount.namespace ≡ false
-        which mount m n placed true e =
-            absurd (true≢false
-            (sym (any_from_among (λ (y : Mount ℕ). holds_of (nat_eq task.namespace) y.namespace)
-            (mounts_on nat_eq world directory) mount m (ap (holds_of (nat_eq task.namespace)) placed ∙ e)) ∙ in_own))
-        which mount m n placed false e =
-            absurd (true≢false
-            (sym (any_from_among (stands_elsewhere world names task) (mounts_on nat_eq world directory) mount m
-            (ap (holds_of (λ k. is_own_namespace nat_eq world names k && not (nat_eq task.namespace k))) placed
-            ∙ (λ i. own_here directory alone mount m n placed i && not (e i)))) ∙ elsewhere))
-
-        by : (mount : Mount ℕ) → Among mount (mounts_on nat_eq world directory) → (o : Option ℕ) → mount.namespace ≡ o
-            → is_some mount.namespace ≡ false
-        by mount m None e = ap is_some e
-        by mount m (Some n) e = which mount m n e (nat_eq task.namespace n) refl

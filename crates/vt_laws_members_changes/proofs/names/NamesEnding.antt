@@ -41,9 +41,7 @@ bound (number ∷ rest) = suc (number + bound rest)
 
 above : (list : List ℕ) (number : ℕ) → bound list ≤ number → is_among nat_eq number list ≡ false
 above [] number l = refl
-above (first ∷ rest) number l =
-    ap (λ b. b || is_among nat_eq number rest) (differs (nat_eq number first) refl)
-    ∙ above rest number (omega (arith, l))
+above (first ∷ rest) number l = cc (differs (nat_eq number first) refl, above rest number (omega (arith, l)))
   where
     differs : (b : Bool) → nat_eq number first ≡ b → nat_eq number first ≡ false
     differs true e = absurd (omega (arith, l, eqb-true number first e))
@@ -60,7 +58,8 @@ unused_serve world = record {
 }
 
 -- A granted call by which a name comes or goes
-module _ (world : World ℕ) (names : List TaskName) (name : TaskName) (call : Call) (it : IsCallOfTheirs world names name call)
+module _ (world : World ℕ) (names : List TaskName) (name : TaskName) (call : Call)
+    (it : IsCallOfTheirs world names name call)
     (fresh other served : Fresh ℕ) (serves : Serves nat_eq world served) (task : Task ℕ)
     (found : task_called world name ≡ Some task) (stays : grown names name call (Ok Done) ≡ names) (permit : Permit ℕ)
     (judged : judge_in nat_eq served world task call ≡ Ok permit) (location : Location ℕ) (change : Change ℕ)
@@ -76,7 +75,8 @@ module _ (world : World ℕ) (names : List TaskName) (name : TaskName) (call : C
   on =
       theirs_from world names it.is.mounts location.mount
       (granted_theirs world names it.is it.sealed_off task
-      (member_called world names it.is it.sealed_off name it.theirs task found) served call permit judged location change
+      (member_called world names it.is it.sealed_off name it.theirs task found) served call permit judged location
+      change
       asks names_it)
 
   used : is_among nat_eq (mount_at nat_eq world location).filesystem (used_filesystems nat_eq world names) ≡ true
@@ -95,7 +95,8 @@ module _ (world : World ℕ) (names : List TaskName) (name : TaskName) (call : C
       → ran name call part other (Some task) ≡ with_tree part name old (changed nat_eq old.files change)
       → EndsAlike world names name call fresh other
   naming_ends =
-      let so = changes_so world names name call it.is it.sealed_off task found served serves permit judged location change
+      let so = changes_so world names name call it.is it.sealed_off task found served serves permit judged location
+      change
       asks names_it in
       tree_ends world names name call it fresh other task found stays location plain used
       naming_alone
@@ -105,7 +106,8 @@ module _ (world : World ℕ) (names : List TaskName) (name : TaskName) (call : C
       (lost_here world old (changed nat_eq old.files change) plain (names_lost old.files change) so)
 
 -- a change of names at a location, in a call that needs no number
-module _ (world : World ℕ) (names : List TaskName) (name : TaskName) (call : Call) (it : IsCallOfTheirs world names name call)
+module _ (world : World ℕ) (names : List TaskName) (name : TaskName) (call : Call)
+    (it : IsCallOfTheirs world names name call)
     (fresh other : Fresh ℕ) (task : Task ℕ) (found : task_called world name ≡ Some task)
     (stays : grown names name call (Ok Done) ≡ names) (looks : only_looks call ≡ false) (location : Location ℕ)
     (change : Change ℕ) (judged : judge_in nat_eq fresh world task call ≡ Ok (ToChange location change))
@@ -119,7 +121,8 @@ module _ (world : World ℕ) (names : List TaskName) (name : TaskName) (call : C
       ∙ plain_run world name call fresh location change (filesystem_at nat_eq world location) looks refl plain)
       (ap (run_by world names name call it fresh other (part_of nat_eq world names) other task)
       (sym (same_judgement world names name call it fresh other task found) ∙ judged)
-      ∙ plain_run (part_of nat_eq world names) name call other location change (filesystem_at nat_eq world location) looks
+      ∙ plain_run (part_of nat_eq world names) name call other location change
+      (filesystem_at nat_eq world location) looks
       (alike world names name call it fresh other (unused_numbers world) (unused_serve world) task found stays
       (ToChange location change) judged_too location change refl names_it plain)
       plain)

@@ -40,21 +40,25 @@ use Rattle.vt_laws_members_changes.proofs.tasks.OpenedFiles.{MovesIn, opened_end
 
 -- so ends a granted open that gives a plain filesystem another tree
 new_run : (w : World ℕ) (name : TaskName) (path : List ℕ) (access : Access) (how : Creation) (supply : Fresh ℕ)
-    (location : Location ℕ) (change : Change ℕ) (old : Filesystem ℕ) (task : Task ℕ) (file : Location ℕ) (wanted : Access)
+    (location : Location ℕ) (change : Change ℕ) (old : Filesystem ℕ) (task : Task ℕ) (file : Location ℕ)
+    (wanted : Access)
     → filesystem_at nat_eq w location ≡ old → is_overlay old ≡ false
     → finished nat_eq w name (OpenFile path access how) (changed_at nat_eq w location)
     (opened (with_change nat_eq supply w location change) task file wanted)
     ≡ opened_with w name (swap old (changed nat_eq old.files change)) (old.number ∷ []) task file wanted
 new_run w name path access how supply location change old task file wanted e plain =
     ap (λ f. granted (Opened (free_number task)) (numbers_raised nat_eq w name (numbers_of_change nat_eq w f f.overlay)
-    (settled nat_eq (with_task (filesystem_changed nat_eq supply w f f.overlay change) (with_descriptor task file wanted))))) e
+    (settled nat_eq (with_task (filesystem_changed nat_eq supply w f f.overlay change)
+    (with_descriptor task file wanted))))) e
     ∙ ap (λ o. granted (Opened (free_number task)) (numbers_raised nat_eq w name (numbers_of_change nat_eq w old o)
     (settled nat_eq (with_task (filesystem_changed nat_eq supply w old o change) (with_descriptor task file wanted)))))
     (no_overlay old.overlay plain)
 
 pub new_opens_end_alike : NewOpensEndAlike
-new_opens_end_alike world names name path access how it task found fresh serves directory entry node wanted judged plain =
-    opened_ends world names name path access how it fresh task found file ground wanted (swap old files) (old.number ∷ [])
+new_opens_end_alike world names name path access how it task found fresh serves directory entry node wanted judged
+    plain =
+    opened_ends world names name path access how it fresh task found file ground wanted (swap old files)
+    (old.number ∷ [])
     (moves world (all_in_use world it.is) (one_in_world world names it.is number used)
     (old_used world names it.is number used))
     (moves part (part_in_use world names it.is it.sealed_off) (one_in_part world names it.is number used)
@@ -101,7 +105,8 @@ new_opens_end_alike world names name path access how it task found fresh serves 
     none_lost =
         subst (ChangesTree old.files files)
         (ap option_to_list
-        (proper world names name call it.is it.sealed_off task found fresh serves (ToOpenNew directory entry node wanted)
+        (proper world names name call it.is it.sealed_off task found fresh serves
+        (ToOpenNew directory entry node wanted)
         judged directory change refl tt).name_is_free.free)
         (changes_so world names name call it.is it.sealed_off task found fresh serves
         (ToOpenNew directory entry node wanted) judged directory change refl tt)
@@ -109,7 +114,8 @@ new_opens_end_alike world names name path access how it task found fresh serves 
     moves : (w : World ℕ) → AllInUse w
         → ((x : Filesystem ℕ) → Among x w.filesystems → nat_eq old.number x.number ≡ true → x ≡ old)
         → is_among nat_eq old.number (used_filesystems nat_eq w names) ≡ true
-        → MovesIn world names name path access how it fresh task found file ground wanted (swap old files) (old.number ∷ []) w
+        → MovesIn world names name path access how it fresh task found file ground wanted (swap old files)
+        (old.number ∷ []) w
     moves w in_use one used_there = record {
       in_use = in_use_changed w in_use (swap old files)
           (swap_changes w in_use old files plain [] (tree_changes world old files plain [] none_lost)

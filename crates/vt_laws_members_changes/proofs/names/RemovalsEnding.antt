@@ -5,55 +5,40 @@ use Rattle.std.specs.Prelude.{IfOk, option_map, option_to_list, unwrap_or}
 use Rattle.std.specs.List.{list_any}
 use Rattle.std.proofs.lemmas.Bool.{or_parts}
 use Rattle.std.proofs.lemmas.Option.{same_Some}
-use Rattle.vt_spec.specs.Language.Answers.Answer.{Done}
 use Rattle.vt_spec.specs.Language.Calls.{Call, TaskName}
-use Rattle.vt_spec.specs.Language.Calls.Call.{Rename, Rmdir}
-use Rattle.vt_spec.specs.Language.Changes.{Change, changed}
-use Rattle.vt_spec.specs.Language.Changes.Change.{Move, Remove}
+use Rattle.vt_spec.specs.Language.Calls.Call.{Rename}
+use Rattle.vt_spec.specs.Language.Changes.{Change}
+use Rattle.vt_spec.specs.Language.Changes.Change.{Move}
 use Rattle.vt_spec.specs.Lists.{Fresh, holds_of, is_among}
 use Rattle.vt_spec.specs.Machine.Apply.{overfills}
-use Rattle.vt_spec.specs.Machine.Detach.{without_mounts_on}
-use Rattle.vt_spec.specs.Machine.Filesystems.{changed_at, with_change}
 use Rattle.vt_spec.specs.Machine.Invariants.{IsWorld}
 use Rattle.vt_spec.specs.Machine.Judge.{judge_in}
 use Rattle.vt_spec.specs.Machine.Locked.{is_locked_at}
 use Rattle.vt_spec.specs.Machine.Looks.{Looks, looks_of}
 use Rattle.vt_spec.specs.Machine.Mounts.{Location}
-use Rattle.vt_spec.specs.Machine.Outcomes.{granted}
 use Rattle.vt_spec.specs.Machine.Permits.{Permit}
 use Rattle.vt_spec.specs.Machine.Permits.Permit.{ToRemoveDirectory, ToRename}
-use Rattle.vt_spec.specs.Machine.Policy.{finished, only_looks}
 use Rattle.vt_spec.specs.Machine.Rules.Conditions.{is_mount_point_anywhere, is_mount_point_in}
 use Rattle.vt_spec.specs.Machine.Rules.Removing.{object_there}
-use Rattle.vt_spec.specs.Machine.Sealed.{members, part_of, sealed, used_alone, used_filesystems}
+use Rattle.vt_spec.specs.Machine.Sealed.{members, part_of, sealed, used_filesystems}
 use Rattle.vt_spec.specs.Machine.Walking.{Place, is_directory_there, name_of}
-use Rattle.vt_spec.specs.Machine.World.{Filesystem, Task, World, files_at, filesystem_at, filesystem_numbered, is_overlay, mount_at, mount_numbered, task_called}
+use Rattle.vt_spec.specs.Machine.World.{Task, World, files_at, filesystem_at, is_overlay, task_called}
 use Rattle.vt_spec.specs.TreeInvariant.{entry_at}
 use Rattle.vt_spec.proofs.Lists.{Among}
 use Rattle.vt_spec.proofs.Options.{none_is_some}
 use Rattle.vt_spec.proofs.Worlds.{special_word}
 use Rattle.vt_laws_rules.specs.Granted.{IsGranted}
 use Rattle.vt_laws_rules.specs.Granted.IsGranted.{removes_directory, renames}
-use Rattle.vt_laws_rules.proofs.given.Inversion.{calls_are_granted}
 use Rattle.vt_laws_trees.proofs.trees.PlacesReached.{old_is, rename_new_is}
 use Rattle.vt_laws_trees.proofs.trees.TreesWalked.{not_true, place_named}
 use Rattle.vt_laws_permits.proofs.sees.SeesNames.{old_mount}
-use Rattle.vt_laws_overlay_permits.specs.Asked.{change_asked}
 use Rattle.vt_laws_members.specs.Judging.{is_theirs}
 use Rattle.vt_laws_members.proofs.judging.AllJudged.{judges}
-use Rattle.vt_laws_members.proofs.judging.Grounds.{theirs_from}
 use Rattle.vt_laws_members.proofs.judging.Judged.{JudgesAlike}
 use Rattle.vt_laws_members.proofs.judging.WalksLead.{PlaceAt, old_agrees, rename_new_agrees}
-use Rattle.vt_laws_members_changes.specs.Changes.{EndsAlike, IsCallOfTheirs, grown}
-use Rattle.vt_laws_members_changes.specs.NameChanges.{RenamesEndAlike, RmdirsEndAlike, mounted_elsewhere}
-use Rattle.vt_laws_members_changes.proofs.files.FilesEnding.{no_overlay}
-use Rattle.vt_laws_members_changes.proofs.files.OneFilesystem.{found_numbered}
-use Rattle.vt_laws_members_changes.proofs.looks.Told.{member_called}
-use Rattle.vt_laws_members_changes.proofs.names.Elsewhere.{none_anywhere, plain_points}
-use Rattle.vt_laws_members_changes.proofs.names.NamesEnding.{alike, naming_alone, naming_ends, unused_numbers, unused_serve}
-use Rattle.vt_laws_members_changes.proofs.names.GrantedNames.{Names}
-use Rattle.vt_laws_members_changes.proofs.names.NothingMounted.{none_taken, none_taken_in_part}
-use Rattle.vt_laws_members_changes.proofs.names.TreesEnding.{plain_run, with_tree}
+use Rattle.vt_laws_members_changes.specs.Changes.{EndsAlike, IsCallOfTheirs}
+use Rattle.vt_laws_members_changes.proofs.names.NamesEnding.{alike, naming_ends, unused_numbers, unused_serve}
+use Rattle.vt_laws_members_changes.proofs.names.TreesEnding.{plain_run}
 use Rattle.vt_laws_members_changes.proofs.tasks.Denied.{run_by, same_judgement}
 
 -- What is removed or replaced is on a mount of theirs, and not locked.
@@ -104,21 +89,22 @@ module _ (world : World ℕ) (names : List TaskName) (is : IsWorld nat_eq world)
         (or_parts (is_locked_at nat_eq world (object_there place)) (is_locked_at nat_eq world place.parent)
             passed.1.1.1.1.0).0,
         passed.1.1.1.1.1.0,
-        old_mount world task place (special_word place.last word.0 word.1.0 word.1.1.0) (old_is world task path place walk),
+        old_mount world task place (special_word place.last word.0 word.1.0 word.1.1.0)
+            (old_is world task path place walk),
       ))
   removed_free asked permit other_way parent entry directory e = absurd cc
 
   on_mount : (mount : ℕ) (replaced : Location ℕ) (o : Option ℕ)
       → option_map (λ n. record { mount = mount; node = n }) o ≡ Some replaced → replaced.mount ≡ mount
   on_mount mount replaced None f = none_is_some replaced f
-  on_mount mount replaced (Some n) f =
-      ap (λ (l : Location ℕ). l.mount) (sym (same_Some (record { mount = mount; node = n }) replaced f))
+  on_mount mount replaced (Some n) f = cc (same_Some (record { mount = mount; node = n }) replaced f)
 
   pub replaced_free : (asked : Call) (permit : Permit ℕ)
       → IsGranted nat_eq one (overfills nat_eq fresh world task) task asked permit
       → (from : Location ℕ) (old : List ℕ) (to : Location ℕ) (new : List ℕ) (object replaced : Location ℕ)
       → permit ≡ ToRename from old to new object (Some replaced) → IsFree replaced from
-  replaced_free asked permit (renames path other from_place to_place both two passed) from old to new object replaced e =
+  replaced_free asked permit (renames path other from_place to_place both two passed) from old to new object replaced
+      e =
       let same : to_place.object ≡ Some replaced = cc in
       let source : from_place.parent ≡ from = cc in
       let to_is = rename_new_is world task other (is_directory_there nat_eq one from_place) to_place both.to_end in
@@ -142,105 +128,26 @@ module _ (world : World ℕ) (names : List TaskName) (is : IsWorld nat_eq world)
       )
   replaced_free asked permit other_way from old to new object replaced e = absurd cc
 
--- The change is made after the mounts on what goes are taken away, and there are none.
-module _ (world : World ℕ) (names : List TaskName) (name : TaskName) (call : Call) (it : IsCallOfTheirs world names name call)
-    (fresh other : Fresh ℕ) (task : Task ℕ) (found : task_called world name ≡ Some task)
-    (stays : grown names name call (Ok Done) ≡ names) (looks : only_looks call ≡ false) (gone : Location ℕ)
-    (permit : Permit ℕ)
-    (judged : judge_in nat_eq fresh world task call ≡ Ok permit)
-    (judged_too : judge_in nat_eq (unused_numbers world) world task call ≡ Ok permit) (location : Location ℕ)
-    (change : Change ℕ) (asks : change_asked (unused_numbers world) world permit ≡ Some (location, change))
-    (names_it : Names change) (plain : is_overlay (filesystem_at nat_eq world location) ≡ false)
-    (free : (is_theirs world names gone.mount ≡ true) × (is_locked_at nat_eq world gone ≡ false)
-    × (is_mount_point_in nat_eq (looks_of nat_eq world) task.namespace gone ≡ false) × (gone.mount ≡ location.mount))
-    (elsewhere : mounted_elsewhere world names task (Some gone) ≡ false)
-    (runs : (w : World ℕ) (supply : Fresh ℕ) → run_by world names name call it fresh other w supply task (Ok permit)
-    ≡ finished nat_eq w name call (changed_at nat_eq (without_mounts_on nat_eq w gone) location)
-    (granted Done (with_change nat_eq supply (without_mounts_on nat_eq w gone) location change))) where
-  abbrev part : World ℕ
-  part = part_of nat_eq world names
-
-  one_filesystem : filesystem_at nat_eq world gone ≡ filesystem_at nat_eq world location
-  one_filesystem = ap (λ m. filesystem_numbered nat_eq world (mount_numbered nat_eq world m).filesystem) free.3
-
-  none : is_mount_point_anywhere (looks_of nat_eq world) gone ≡ false
-  none =
-      none_anywhere world names it.is task gone
-      (plain_points world names it.is gone
-      (ap (λ (f : Filesystem ℕ). f.overlay) one_filesystem ∙ no_overlay (filesystem_at nat_eq world location).overlay plain)
-      (ap (λ (f : Filesystem ℕ). used_alone nat_eq world names f.number) one_filesystem
-      ∙ ap (used_alone nat_eq world names) (found_numbered (mount_at nat_eq world location).filesystem world.filesystems)
-      ∙ naming_alone world names name call it fresh other (unused_numbers world) (unused_serve world) task found stays permit
-      judged_too location change asks names_it plain))
-      free.2 elsewhere
-
-  run_without : (w : World ℕ) (supply : Fresh ℕ) → without_mounts_on nat_eq w gone ≡ w
-      → filesystem_at nat_eq w location ≡ filesystem_at nat_eq world location
-      → run_by world names name call it fresh other w supply task (Ok permit)
-      ≡ with_tree w name (filesystem_at nat_eq world location)
-      (changed nat_eq (filesystem_at nat_eq world location).files change)
-  run_without w supply e same =
-      runs w supply
-      ∙ ap (λ v. finished nat_eq w name call (changed_at nat_eq v location)
-      (granted Done (with_change nat_eq supply v location change))) e
-      ∙ plain_run w name call supply location change (filesystem_at nat_eq world location) looks same plain
-
-  pub removal_ends : EndsAlike world names name call fresh other
-  removal_ends =
-      naming_ends world names name call it fresh other (unused_numbers world) (unused_serve world) task found stays permit
-      judged_too location change asks names_it plain
-      (ap (run_by world names name call it fresh other world fresh task) judged
-      ∙ run_without world fresh (none_taken world names it.is it.sealed_off gone none) refl)
-      (ap (run_by world names name call it fresh other part other task)
-      (sym (same_judgement world names name call it fresh other task found) ∙ judged)
-      ∙ run_without part other
-      (none_taken_in_part world names it.is it.sealed_off gone
-      (theirs_from world names it.is.mounts gone.mount free.0) free.1 none)
-      (alike world names name call it fresh other (unused_numbers world) (unused_serve world) task found stays permit
-      judged_too location change asks names_it plain))
-
-pub rmdirs_end_alike : RmdirsEndAlike
-rmdirs_end_alike world names name path it task found fresh other parent entry directory judged plain none =
-    removal_ends world names name (Rmdir path) it fresh other task found refl refl directory
-    (ToRemoveDirectory parent entry directory) judged judged parent (Remove parent.node entry directory.node) refl tt plain
-    (removed_free world names it.is it.sealed_off task
-    (member_called world names it.is it.sealed_off name it.theirs task found) fresh (Rmdir path)
-    (ToRemoveDirectory parent entry directory)
-    (calls_are_granted nat_eq (looks_of nat_eq world) (overfills nat_eq fresh world task) task (Rmdir path)
-    (ToRemoveDirectory parent entry directory) judged)
-    parent entry directory refl)
-    none (λ w supply. refl)
-
-pub renames_end_alike : RenamesEndAlike
-renames_end_alike world names name first second it task found fresh other from old to new object replaced judged plain none =
-    by replaced judged none
+-- a rename that replaces nothing
+pub renames_end_alike : (world : World ℕ) (names : List TaskName) (name : TaskName) (first second : List ℕ)
+    → IsCallOfTheirs world names name (Rename first second) → (task : Task ℕ) → task_called world name ≡ Some task
+    → (fresh other : Fresh ℕ) (from : Location ℕ) (old : List ℕ) (to : Location ℕ) (new : List ℕ) (object : Location ℕ)
+    → judge_in nat_eq fresh world task (Rename first second) ≡ Ok (ToRename from old to new object None)
+    → is_overlay (filesystem_at nat_eq world from) ≡ false
+    → EndsAlike world names name (Rename first second) fresh other
+renames_end_alike world names name first second it task found fresh other from old to new object judged plain =
+    naming_ends world names name (Rename first second) it fresh other (unused_numbers world) (unused_serve world) task
+    found refl (ToRename from old to new object None) judged from change refl tt plain
+    (ap (run_by world names name (Rename first second) it fresh other world fresh task) judged
+    ∙ plain_run world name (Rename first second) fresh from change (filesystem_at nat_eq world from) refl refl plain)
+    (ap (run_by world names name (Rename first second) it fresh other part other task)
+    (sym (same_judgement world names name (Rename first second) it fresh other task found) ∙ judged)
+    ∙ plain_run part name (Rename first second) other from change (filesystem_at nat_eq world from) refl
+    (alike world names name (Rename first second) it fresh other (unused_numbers world) (unused_serve world) task found
+    refl (ToRename from old to new object None) judged from change refl tt plain) plain)
   where
     part : World ℕ
     part = part_of nat_eq world names
 
     change : Change ℕ
     change = Move from.node old to.node new object.node
-
-    by : (o : Option (Location ℕ))
-        → judge_in nat_eq fresh world task (Rename first second) ≡ Ok (ToRename from old to new object o)
-        → mounted_elsewhere world names task o ≡ false → EndsAlike world names name (Rename first second) fresh other
-    by None so free =
-        naming_ends world names name (Rename first second) it fresh other (unused_numbers world) (unused_serve world) task
-        found refl (ToRename from old to new object None) so from change refl tt plain
-        (ap (run_by world names name (Rename first second) it fresh other world fresh task) so
-        ∙ plain_run world name (Rename first second) fresh from change (filesystem_at nat_eq world from) refl refl plain)
-        (ap (run_by world names name (Rename first second) it fresh other part other task)
-        (sym (same_judgement world names name (Rename first second) it fresh other task found) ∙ so)
-        ∙ plain_run part name (Rename first second) other from change (filesystem_at nat_eq world from) refl
-        (alike world names name (Rename first second) it fresh other (unused_numbers world) (unused_serve world) task found
-        refl (ToRename from old to new object None) so from change refl tt plain) plain)
-    by (Some gone) so free =
-        removal_ends world names name (Rename first second) it fresh other task found refl refl gone
-        (ToRename from old to new object (Some gone)) so so from change refl tt plain
-        (replaced_free world names it.is it.sealed_off task
-        (member_called world names it.is it.sealed_off name it.theirs task found) fresh (Rename first second)
-        (ToRename from old to new object (Some gone))
-        (calls_are_granted nat_eq (looks_of nat_eq world) (overfills nat_eq fresh world task) task (Rename first second)
-        (ToRename from old to new object (Some gone)) so)
-        from old to new object gone refl)
-        free (λ w supply. refl)

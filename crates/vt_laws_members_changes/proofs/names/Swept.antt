@@ -39,7 +39,8 @@ module _ (w : World ℕ) (in_use : AllInUse w) (old : Filesystem ℕ) (files : F
   abbrev none : Losers
   none = record { mounts = []; filesystems = []; inodes = []; groups = [] }
 
-  pub swap_changes : (after : World ℕ) (f : Filesystem ℕ) → Among f w.filesystems → ChangesFilesystem after lost f (swap f)
+  pub swap_changes : (after : World ℕ) (f : Filesystem ℕ) → Among f w.filesystems
+      → ChangesFilesystem after lost f (swap f)
   swap_changes after f m = by (nat_eq old.number f.number) refl
     where
       by : (b : Bool) → nat_eq old.number f.number ≡ b → ChangesFilesystem after lost f (cond b new f)
@@ -54,7 +55,8 @@ module _ (w : World ℕ) (in_use : AllInUse w) (old : Filesystem ℕ) (files : F
     mounts = in_use.mounts;
     filesystems = subst (FilesystemsInUseBut []) (sym (mounts_stay w in_use.mounts)) in_use.filesystems;
     inodes = subst (InodesInUseBut []) (sym stays) in_use.inodes;
-    groups = subst (GroupsInUseBut []) (sym (mounts_stay w in_use.mounts)) (λ group among empty. in_use.groups group empty);
+    groups =
+        subst (GroupsInUseBut []) (sym (mounts_stay w in_use.mounts)) (λ group among empty. in_use.groups group empty);
   }
 
   filesystems_after : FilesystemsInUse changed
@@ -67,8 +69,7 @@ module _ (w : World ℕ) (in_use : AllInUse w) (old : Filesystem ℕ) (files : F
       ∙ passes (filesystem_lives nat_eq w) w.filesystems in_use.filesystems from.0 from.1)
 
   all_stay : in_use_of changed ≡ changed
-  all_stay =
-      ap (without_dead_filesystems nat_eq) (mounts_stay changed in_use.mounts) ∙ filesystems_stay changed filesystems_after
+  all_stay = cc (mounts_stay changed in_use.mounts, filesystems_stay changed filesystems_after)
 
   all_but : AllInUseBut (with_lost none lost) changed
   all_but =
@@ -82,7 +83,8 @@ module _ (w : World ℕ) (in_use : AllInUse w) (old : Filesystem ℕ) (files : F
   used_but : (x : Filesystem ℕ) → Among x w.filesystems
       → list_all (is_used_or_among lost changed (swap x)) (swap x).files.numbers ≡ true
   used_but x m =
-      among_from_all (λ f. list_all (is_used_or_among lost changed f) f.files.numbers ≡ true) changed.filesystems inodes_but
+      among_from_all (λ f. list_all (is_used_or_among lost changed f) f.files.numbers
+      ≡ true) changed.filesystems inodes_but
       (swap x) (among-map swap w.filesystems x m)
 
   -- what is not the one stays whole
@@ -117,10 +119,7 @@ module _ (w : World ℕ) (in_use : AllInUse w) (old : Filesystem ℕ) (files : F
   -- the one loses what nothing uses
   cut_is : (all : Bool) → only_used_by nat_eq all used new ≡ with_files old (only_used_by nat_eq all used new).files
   cut_is true = refl
-  cut_is false =
-      ap (λ o. record old { files = only_among nat_eq used files; overlay = option_map (real_among nat_eq used) o })
-      (no_overlay old.overlay plain)
-      ∙ ap (λ o. record old { files = only_among nat_eq used files; overlay = o }) (sym (no_overlay old.overlay plain))
+  cut_is false = cc (no_overlay old.overlay plain)
 
   each : (x : Filesystem ℕ) → Among x w.filesystems
       → only_used nat_eq changed (not (is_overlay (swap x))) (swap x)
@@ -130,23 +129,22 @@ module _ (w : World ℕ) (in_use : AllInUse w) (old : Filesystem ℕ) (files : F
       by : (b : Bool) → nat_eq old.number x.number ≡ b
           → only_used nat_eq changed (not (is_overlay (cond b new x))) (cond b new x)
           ≡ cond b (with_files old (cut new used)) x
-      by true e =
-          ap (λ b. only_used nat_eq changed (not b) new) plain
-          ∙ cut_is (list_all (λ number. is_among nat_eq number used) files.numbers)
+      by true e = cc (plain, cut_is (list_all (λ number. is_among nat_eq number used) files.numbers))
       by false e = others_stay x m e (not (is_overlay x))
 
   plain_cut : without_dead_in nat_eq (λ f. not (is_overlay f)) changed
       ≡ with_filesystems w (replaced_if_numbered nat_eq (with_files old (cut new used)))
-  plain_cut =
-      ap (λ list. record w { filesystems = list })
-      (map_twice (λ f. only_used nat_eq changed (not (is_overlay f)) f) swap w.filesystems
-      ∙ map_alike (λ x. only_used nat_eq changed (not (is_overlay (swap x))) (swap x))
-      (replaced_if_numbered nat_eq (with_files old (cut new used))) w.filesystems each)
+  plain_cut = cc (
+    map_twice (λ f. only_used nat_eq changed (not (is_overlay f)) f) swap w.filesystems,
+    map_alike (λ x. only_used nat_eq changed (not (is_overlay (swap x))) (swap x)) (replaced_if_numbered nat_eq
+        (with_files old (cut new used))) w.filesystems each,
+  )
 
   pub settled_so : settled nat_eq changed
       ≡ with_filesystems w (replaced_if_numbered nat_eq (with_files old (cut new used)))
-  settled_so =
-      ap (λ v. without_dead_groups nat_eq (without_dead_inodes nat_eq v)) all_stay
-      ∙ ap (λ v. without_dead_groups nat_eq (without_dead_in nat_eq (λ f. not (is_overlay f)) v)) overlays_stay
-      ∙ ap (without_dead_groups nat_eq) plain_cut
-      ∙ groups_stay (with_filesystems w (replaced_if_numbered nat_eq (with_files old (cut new used)))) in_use.groups
+  settled_so = cc (
+    all_stay,
+    overlays_stay,
+    plain_cut,
+    groups_stay (with_filesystems w (replaced_if_numbered nat_eq (with_files old (cut new used)))) in_use.groups,
+  )

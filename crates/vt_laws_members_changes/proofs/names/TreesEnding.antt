@@ -40,7 +40,8 @@ with_tree w name old files =
 pub plain_run : (w : World ℕ) (name : TaskName) (call : Call) (supply : Fresh ℕ) (location : Location ℕ)
     (change : Change ℕ) (old : Filesystem ℕ) → only_looks call ≡ false → filesystem_at nat_eq w location ≡ old
     → is_overlay old ≡ false
-    → finished nat_eq w name call (changed_at nat_eq w location) (granted Done (with_change nat_eq supply w location change))
+    → finished nat_eq w name call (changed_at nat_eq w location)
+    (granted Done (with_change nat_eq supply w location change))
     ≡ with_tree w name old (Changes.changed nat_eq old.files change)
 plain_run w name call supply location change old looks e plain =
     ap (λ b. finished_by nat_eq (b || false) w name (changed_at nat_eq w location)
@@ -50,7 +51,8 @@ plain_run w name call supply location change old looks e plain =
     ∙ ap (λ o. granted Done (numbers_raised nat_eq w name (numbers_of_change nat_eq w old o)
     (settled nat_eq (filesystem_changed nat_eq supply w old o change)))) (no_overlay old.overlay plain)
 
-module _ (world : World ℕ) (names : List TaskName) (name : TaskName) (call : Call) (it : IsCallOfTheirs world names name call)
+module _ (world : World ℕ) (names : List TaskName) (name : TaskName) (call : Call)
+    (it : IsCallOfTheirs world names name call)
     (fresh other : Fresh ℕ) (task : Task ℕ) (found : task_called world name ≡ Some task)
     (stays : grown names name call (Ok Done) ≡ names) (location : Location ℕ)
     (plain : is_overlay (filesystem_at nat_eq world location) ≡ false)
@@ -58,7 +60,8 @@ module _ (world : World ℕ) (names : List TaskName) (name : TaskName) (call : C
     (alone : used_alone nat_eq world names (mount_at nat_eq world location).filesystem ≡ true)
     (files : FileTree ℕ) (lost : List Inode)
     (changes : (after : World ℕ)
-    → ChangesFilesystem after lost (filesystem_at nat_eq world location) (with_files (filesystem_at nat_eq world location) files))
+    → ChangesFilesystem after lost (filesystem_at nat_eq world location)
+    (with_files (filesystem_at nat_eq world location) files))
     (of_it : (number object : ℕ) → nat_eq (filesystem_at nat_eq world location).number number ≡ false
     → is_inode_among number object lost ≡ false) where
   abbrev part : World ℕ
@@ -98,10 +101,10 @@ module _ (world : World ℕ) (names : List TaskName) (name : TaskName) (call : C
   raised_members tasks = filter (is_member_task names) (map (raised_task name) tasks)
 
   tasks_alike : raised_members world.tasks ≡ raised_members part.tasks
-  tasks_alike =
-      of_map world.tasks ∙ ap (map (raised_task name)) (sym (same_members world names)) ∙ sym (of_map part.tasks)
+  tasks_alike = cc (of_map world.tasks, same_members world names, of_map part.tasks)
     where
-      of_map : (tasks : List (Task ℕ)) → raised_members tasks ≡ map (raised_task name) (filter (is_member_task names) tasks)
+      of_map : (tasks : List (Task ℕ))
+          → raised_members tasks ≡ map (raised_task name) (filter (is_member_task names) tasks)
       of_map tasks =
           filter-map (is_member_task names) (raised_task name) tasks
           (λ t. ap (λ n. is_among same_name n names) (raised_is name (λ (x : Task ℕ). x.name) (λ x. refl) t))

@@ -66,7 +66,8 @@ module _ (world : World ℕ) (names : List TaskName) (is : IsWorld nat_eq world)
         from.1,
         from.2,
         ⊎_elim (λ same. ap (λ (z : Mount ℕ). z.number) same) (λ stub. ap (λ (z : Mount ℕ). z.number) stub.0) how,
-        ⊎_elim (λ same. ap (λ (z : Mount ℕ). z.filesystem) same) (λ stub. ap (λ (z : Mount ℕ). z.filesystem) stub.0) how,
+        ⊎_elim (λ same. ap (λ (z : Mount ℕ). z.filesystem) same)
+            (λ stub. ap (λ (z : Mount ℕ). z.filesystem) stub.0) how,
         ⊎_elim (λ same. ap (λ (z : Mount ℕ). z.root) same) (λ stub. ap (λ (z : Mount ℕ). z.root) stub.0) how,
       )
 
@@ -107,15 +108,17 @@ module _ (world : World ℕ) (names : List TaskName) (is : IsWorld nat_eq world)
       from = was_mount y m
 
       placed : y.namespace ≡ (mount_at nat_eq part point).namespace
-      placed =
-          sym (ap (λ (k : Mount ℕ). k.namespace) (part_itself y m))
-          ∙ namespace_below part y.number point
-          (among_from_all (λ (k : Mount ℕ). Stands nat_eq part k.number) part.mounts (part_stands world names is) y m)
-          (ap (λ (k : Mount ℕ). k.mount_point) (part_itself y m) ∙ stands)
+      placed = cc (
+        part_itself y m,
+        namespace_below part y.number point (among_from_all (λ (k : Mount ℕ). Stands nat_eq part k.number)
+            part.mounts (part_stands world names is) y m) (ap (λ (k : Mount ℕ). k.mount_point) (part_itself y m) ∙
+            stands),
+      )
 
       by : (o : Option ℕ) → y.namespace ≡ o → from.0 ≡ y → IsAt point.node
       by None none same =
-          absurd (nowhere_stands world names is.mounts y point (subst (λ k. Among k world.mounts) same from.1) none stands)
+          absurd (nowhere_stands world names is.mounts y point
+          (subst (λ k. Among k world.mounts) same from.1) none stands)
       by (Some n) there same =
           let above : Among (mount_at nat_eq part point) part.mounts =
           ⊎_elim (λ k. k)
@@ -148,7 +151,8 @@ module _ (world : World ℕ) (names : List TaskName) (is : IsWorld nat_eq world)
       (among-append (all_locations part ++ map root_of part.mounts) (points part) at.0 on.0))
 
   -- a filesystem of the part has the layers and the objects of one of the world
-  layer_was : (object : ℕ) → Among object (layers_in nat_eq part x.number) → Among object (layers_in nat_eq world x.number)
+  layer_was : (object : ℕ) → Among object (layers_in nat_eq part x.number)
+      → Among object (layers_in nat_eq world x.number)
   layer_was object m =
       let at = among-from_map (λ (layer : Layer ℕ). layer.directory)
       (filter (λ (layer : Layer ℕ). nat_eq x.number layer.filesystem)
@@ -193,14 +197,18 @@ module _ (world : World ℕ) (names : List TaskName) (is : IsWorld nat_eq world)
           (among-from_filter (λ k. is_among nat_eq k chosen) numbers from.0 from.1).0 from.2
       fewer overlay chosen numbers false n = n
 
-      lower : (f : Filesystem ℕ) → Among object (objects_of_overlay nat_eq x.number (part_of_lower nat_eq world names f))
+      lower : (f : Filesystem ℕ) → Among object
+          (objects_of_overlay nat_eq x.number (part_of_lower nat_eq world names f))
           → Among object (objects_of_overlay nat_eq x.number f)
       lower f n = by f.overlay n
         where
           by : (o : Option (Overlay ℕ))
-              → Among object (overlay_or [] (λ overlay. cond (holds_of (λ layer. nat_eq x.number layer.filesystem) overlay.upper)
-              (filter_map (λ k. upper_object (overlay.real k)) (part_of_lower nat_eq world names f).files.numbers) []) o)
-              → Among object (overlay_or [] (λ overlay. cond (holds_of (λ layer. nat_eq x.number layer.filesystem) overlay.upper)
+              → Among object (overlay_or [] (λ overlay. cond
+              (holds_of (λ layer. nat_eq x.number layer.filesystem) overlay.upper)
+              (filter_map (λ k. upper_object (overlay.real k)) (part_of_lower nat_eq world names f).files.numbers) [])
+              o)
+              → Among object (overlay_or [] (λ overlay. cond
+              (holds_of (λ layer. nat_eq x.number layer.filesystem) overlay.upper)
               (filter_map (λ k. upper_object (overlay.real k)) f.files.numbers) []) o)
           by None k = k
           by (Some overlay) k =
@@ -211,7 +219,8 @@ module _ (world : World ℕ) (names : List TaskName) (is : IsWorld nat_eq world)
   was_used object m =
       ⊎_elim inl
       (λ more. inr (⊎_elim
-      (λ three. among-append_left (named_in x.files ++ located_in nat_eq world x.number ++ layers_in nat_eq world x.number)
+      (λ three. among-append_left (named_in x.files ++ located_in nat_eq world x.number ++ layers_in nat_eq world
+      x.number)
       (flat_map (objects_of_overlay nat_eq x.number) world.filesystems) object
       (⊎_elim
       (λ two. ⊎_elim
@@ -221,8 +230,10 @@ module _ (world : World ℕ) (names : List TaskName) (is : IsWorld nat_eq world)
       (among-append (named_in x.files) (located_in nat_eq part x.number) object two))
       (λ layer. in_third (named_in x.files) (located_in nat_eq world x.number) (layers_in nat_eq world x.number) object
       (layer_was object layer))
-      (among-append (named_in x.files ++ located_in nat_eq part x.number) (layers_in nat_eq part x.number) object three)))
-      (λ real. among-append_right (named_in x.files ++ located_in nat_eq world x.number ++ layers_in nat_eq world x.number)
+      (among-append (named_in x.files ++ located_in nat_eq part x.number)
+      (layers_in nat_eq part x.number) object three)))
+      (λ real. among-append_right (named_in x.files ++ located_in nat_eq world x.number ++ layers_in nat_eq world
+      x.number)
       (flat_map (objects_of_overlay nat_eq x.number) world.filesystems) object (object_was object real))
       (among-append (named_in x.files ++ located_in nat_eq part x.number ++ layers_in nat_eq part x.number)
       (flat_map (objects_of_overlay nat_eq x.number) part.filesystems) object more)))
@@ -230,11 +241,13 @@ module _ (world : World ℕ) (names : List TaskName) (is : IsWorld nat_eq world)
 
   -- So both use the same, if they use it alone.
   module _ (sealed_off : sealed nat_eq world names ≡ true) (alone : used_alone nat_eq world names x.number ≡ true) where
-    pub used_alike : (object : ℕ) → is_among nat_eq object (used_in nat_eq world x) ≡ is_among nat_eq object (used_in nat_eq part x)
+    pub used_alike : (object : ℕ) → is_among nat_eq object (used_in nat_eq world x)
+        ≡ is_among nat_eq object (used_in nat_eq part x)
     used_alike object =
         same_truth (is_among nat_eq object (used_in nat_eq world x)) (is_among nat_eq object (used_in nat_eq part x))
         (λ h. is_among_numbers (used_in nat_eq part x) object
-        (alone_used world part names (apart_if_sealed world names is sealed_off) sealed_off (sees world names is sealed_off)
+        (alone_used world part names (apart_if_sealed world names is sealed_off) sealed_off
+        (sees world names is sealed_off)
         (part_one_number world names is) x alone object (among_numbers (used_in nat_eq world x) object h)))
         (λ h. is_among_numbers (used_in nat_eq world x) object
         (was_used object (among_numbers (used_in nat_eq part x) object h)))

@@ -30,7 +30,8 @@ use Rattle.vt_laws_members_changes.proofs.tasks.RaisedTasks.{tasks_raised}
 use Rattle.vt_laws_members_changes.proofs.tasks.Retasked.{retasked}
 use Rattle.vt_laws_members_changes.proofs.tasks.Rights.{sees_alike}
 
-module _ (world : World ℕ) (names : List TaskName) (name : TaskName) (call : Call) (it : IsCallOfTheirs world names name call)
+module _ (world : World ℕ) (names : List TaskName) (name : TaskName) (call : Call)
+    (it : IsCallOfTheirs world names name call)
     (fresh : Fresh ℕ) (task : Task ℕ) (found : task_called world name ≡ Some task) (looks : only_looks call ≡ false)
     (stays : grown names name call (Ok Done) ≡ names) (location : Location ℕ) (change : Change ℕ) (overlay : Overlay ℕ)
     (upper : Layer ℕ) (can : CanChange fresh world location change overlay upper) (copies : Copies change)
@@ -69,12 +70,14 @@ module _ (world : World ℕ) (names : List TaskName) (name : TaskName) (call : C
   ends_so : (w : World ℕ) → AllInUse w
       → ((x : Filesystem ℕ) → Among x w.filesystems → ChangesFilesystem (with_filesystems w moved) [] x (moved x))
       → with_change nat_eq fresh w location change ≡ with_filesystems w moved → changed_at nat_eq w location ≡ numbers
-      → finished nat_eq w name call (changed_at nat_eq w location) (granted Done (with_change nat_eq fresh w location change))
+      → finished nat_eq w name call (changed_at nat_eq w location)
+      (granted Done (with_change nat_eq fresh w location change))
       ≡ granted Done (left w)
   ends_so w in_use changes made listed =
       ap (λ b. finished_by nat_eq (b || false) w name (changed_at nat_eq w location)
       (granted Done (with_change nat_eq fresh w location change))) looks
-      ∙ ap (λ l. granted Done (numbers_raised nat_eq w name l (settled nat_eq (with_change nat_eq fresh w location change))))
+      ∙ ap (λ l. granted Done (numbers_raised nat_eq w name l
+      (settled nat_eq (with_change nat_eq fresh w location change))))
       listed
       ∙ ap (λ v. granted Done (numbers_raised nat_eq w name numbers (settled nat_eq v))) made
       ∙ ap (λ v. granted Done (numbers_raised nat_eq w name numbers v))
@@ -89,14 +92,13 @@ module _ (world : World ℕ) (names : List TaskName) (name : TaskName) (call : C
         tasks = filter (is_member_task names) (map (raised_task name) w.tasks);
       }
   part_of_left w ones unused =
-      retasked later names names (map (raised_task name) w.tasks) (raised w.change)
-      (sees_alike later names (raised_task name) (raised_is name (λ (t : Task ℕ). t.name) (λ t. refl))
-      (λ t m. raised_is name (λ (t : Task ℕ). t.namespace) (λ t. refl) t)
-      (λ t m. raised_is name (λ (t : Task ℕ). t.root ∷ t.directory ∷ []) (λ t. refl) t)
-      (raised w.change)
-      (λ t m. raised_is name locations_of (λ t. refl) t))
-      ∙ ap (λ (v : World ℕ). record v { tasks = filter (is_member_task names) (map (raised_task name) w.tasks) })
-      (part_moved fresh world names location change overlay upper it.is can direct alike w ones unused)
+      cc (
+        retasked later names names (map (raised_task name) w.tasks) (raised w.change) (sees_alike later names
+            (raised_task name) (raised_is name (λ (t : Task ℕ). t.name) (λ t. refl)) (λ t m. raised_is name (λ (t :
+            Task ℕ). t.namespace) (λ t. refl) t) (λ t m. raised_is name (λ (t : Task ℕ). t.root ∷ t.directory ∷ []) (λ
+            t. refl) t) (raised w.change) (λ t m. raised_is name locations_of (λ t. refl) t)),
+        part_moved fresh world names location change overlay upper it.is can direct alike w ones unused,
+      )
     where
       later : World ℕ
       later = with_filesystems w both
@@ -105,10 +107,10 @@ module _ (world : World ℕ) (names : List TaskName) (name : TaskName) (call : C
   raised_members tasks = filter (is_member_task names) (map (raised_task name) tasks)
 
   tasks_alike : raised_members world.tasks ≡ raised_members part.tasks
-  tasks_alike =
-      of_map world.tasks ∙ ap (map (raised_task name)) (sym (same_members world names)) ∙ sym (of_map part.tasks)
+  tasks_alike = cc (of_map world.tasks, same_members world names, of_map part.tasks)
     where
-      of_map : (tasks : List (Task ℕ)) → raised_members tasks ≡ map (raised_task name) (filter (is_member_task names) tasks)
+      of_map : (tasks : List (Task ℕ))
+          → raised_members tasks ≡ map (raised_task name) (filter (is_member_task names) tasks)
       of_map tasks =
           filter-map (is_member_task names) (raised_task name) tasks
           (λ t. ap (λ n. is_among same_name n names) (raised_is name (λ (x : Task ℕ). x.name) (λ x. refl) t))
@@ -119,7 +121,8 @@ module _ (world : World ℕ) (names : List TaskName) (name : TaskName) (call : C
       (kept_on fresh world names location change overlay upper it.is can direct alike)
       ∙ (λ i. record (with_filesystems (sym (part_again world names it.is) i) both) { tasks = tasks_alike i })
       ∙ sym (part_of_left part (ones_in_part fresh world names location change overlay upper it.is can direct alike)
-      (λ x e. kept_on fresh world names location change overlay upper it.is can direct alike x (sym (ap (is_among nat_eq x.number) (same_used world names)) ∙ e)))
+      (λ x e. kept_on fresh world names location change overlay upper it.is can direct alike x
+      (sym (ap (is_among nat_eq x.number) (same_used world names)) ∙ e)))
 
   pub copy_ends : ran name call world fresh (Some task)
       ≡ finished nat_eq world name call (changed_at nat_eq world location)

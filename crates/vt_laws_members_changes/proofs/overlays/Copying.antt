@@ -217,7 +217,8 @@ module _ (fresh : Fresh ℕ) (world : World ℕ) (names : List TaskName) (locati
   -- the overlay is there afterwards
   is_later : (w : World ℕ) → Among merged w.filesystems → Among merged_later (with_filesystems w step).filesystems
   is_later w m =
-      subst (λ f. Among f (with_filesystems w step).filesystems) (becomes fresh world location change overlay upper is can)
+      subst (λ f. Among f (with_filesystems w step).filesystems)
+      (becomes fresh world location change overlay upper is can)
       (among-map step w.filesystems merged m)
 
   changes_then : Copies change → (last : World ℕ) → Among merged_later last.filesystems → (x : Filesystem ℕ)
@@ -287,11 +288,7 @@ module _ (fresh : Fresh ℕ) (world : World ℕ) (names : List TaskName) (locati
         (map_twice (replaced_if_numbered nat_eq layer_later) (replaced_if_numbered nat_eq merged_later) w.filesystems)
 
     pub numbers_if_seen : changed_at nat_eq w location ≡ both_numbers
-    numbers_if_seen =
-        ap (λ f. numbers_of_change nat_eq w f f.overlay) shows
-        ∙ ap (numbers_of_change nat_eq w merged) can.overlay_there
-        ∙ ap (numbers_over nat_eq w merged) can.upper_there
-        ∙ ap (λ (f : Filesystem ℕ). merged.number ∷ f.number ∷ []) has
+    numbers_if_seen = cc (shows, can.overlay_there, can.upper_there, has)
 
   pub stepped_in_part : Copies change → with_change nat_eq fresh part location change ≡ with_filesystems part step
   stepped_in_part copies =
@@ -309,7 +306,8 @@ module _ (fresh : Fresh ℕ) (world : World ℕ) (names : List TaskName) (locati
   abbrev pub moved_on : Filesystem ℕ → Filesystem ℕ
   moved_on x = raised_if_changed nat_eq both_numbers (step x)
 
-  raised_same : {A : Type 0} (what : Filesystem ℕ → A) → ((x : Filesystem ℕ) → what (record x { change = raised x.change }) ≡ what x)
+  raised_same : {A : Type 0} (what : Filesystem ℕ → A)
+      → ((x : Filesystem ℕ) → what (record x { change = raised x.change }) ≡ what x)
       → (x : Filesystem ℕ) → what (moved_on x) ≡ what (step x)
   raised_same {A} what same x = by (list_any (λ n. nat_eq n (step x).number) both_numbers)
     where
@@ -318,11 +316,10 @@ module _ (fresh : Fresh ℕ) (world : World ℕ) (names : List TaskName) (locati
       by false = refl
 
   renumbered_on : (x : Filesystem ℕ) → (moved_on x).number ≡ x.number
-  renumbered_on x =
-      raised_same (λ (f : Filesystem ℕ). f.number) (λ f. refl) x
-      ∙ step_numbered x
+  renumbered_on x = cc (raised_same (λ (f : Filesystem ℕ). f.number) (λ f. refl) x, step_numbered x)
 
-  pub kept_on : (x : Filesystem ℕ) → is_among nat_eq x.number (used_filesystems nat_eq world names) ≡ false → moved_on x ≡ x
+  pub kept_on : (x : Filesystem ℕ) → is_among nat_eq x.number (used_filesystems nat_eq world names) ≡ false
+      → moved_on x ≡ x
   kept_on x unused =
       ap (raised_if_changed nat_eq both_numbers)
       (unused_kept x unused)

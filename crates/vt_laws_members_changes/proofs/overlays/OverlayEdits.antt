@@ -58,9 +58,12 @@ unwritten_run w name call supply location change merged overlay looks same overl
     (settled nat_eq (overlay_changed nat_eq supply w merged overlay u change)))) none
 
 -- With one the file is copied up.
-module _ (world : World ℕ) (names : List TaskName) (name : TaskName) (call : Call) (it : IsCallOfTheirs world names name call)
-    (fresh : Fresh ℕ) (task : Task ℕ) (found_task : task_called world name ≡ Some task) (looks : only_looks call ≡ false)
-    (stays : grown names name call (Ok Done) ≡ names) (location : Location ℕ) (change : Change ℕ) (copies : Copies change)
+module _ (world : World ℕ) (names : List TaskName) (name : TaskName) (call : Call)
+    (it : IsCallOfTheirs world names name call)
+    (fresh : Fresh ℕ) (task : Task ℕ) (found_task : task_called world name ≡ Some task)
+    (looks : only_looks call ≡ false)
+    (stays : grown names name call (Ok Done) ≡ names) (location : Location ℕ) (change : Change ℕ)
+    (copies : Copies change)
     (direct : Among (mount_at nat_eq world location).filesystem (used_directly nat_eq world names))
     (alike : filesystem_at nat_eq world location ≡ filesystem_at nat_eq (part_of nat_eq world names) location)
     (is : is_overlay (filesystem_at nat_eq world location) ≡ true)
@@ -108,8 +111,10 @@ edits_copy world location (Remove directory name object) none is asked = absurd 
 edits_copy world location (Move from old to new object) none is asked = absurd none
 
 -- A call whose walk leads to what it edits
-module _ (world : World ℕ) (names : List TaskName) (name : TaskName) (call : Call) (it : IsCallOfTheirs world names name call)
-    (task : Task ℕ) (found_task : task_called world name ≡ Some task) (fresh : Fresh ℕ) (serves : Serves nat_eq world fresh)
+module _ (world : World ℕ) (names : List TaskName) (name : TaskName) (call : Call)
+    (it : IsCallOfTheirs world names name call)
+    (task : Task ℕ) (found_task : task_called world name ≡ Some task) (fresh : Fresh ℕ)
+    (serves : Serves nat_eq world fresh)
     (location : Location ℕ) (change : Change ℕ)
     (judged : judge_in nat_eq fresh world task call ≡ Ok (ToChange location change))
     (is : is_overlay (filesystem_at nat_eq world location) ≡ true) (looks : only_looks call ≡ false)
@@ -150,7 +155,8 @@ overlay_chmods_end_alike world names name path mode it task called fresh serves 
 
 pub overlay_chowns_end_alike : OverlayChownsEndAlike
 overlay_chowns_end_alike world names name path uid gid it task called fresh serves location change judged is =
-    walked_copy_ends world names name (Chown path uid gid) it task called fresh serves location change judged is refl refl
+    walked_copy_ends world names name
+    (Chown path uid gid) it task called fresh serves location change judged is refl refl
     (chowns_edit world names it.is it.sealed_off task
     (member_called world names it.is it.sealed_off name it.theirs task called) path uid gid)
 
@@ -160,7 +166,8 @@ overlay_part_writes_end_alike world names name descriptor offset byte bytes it t
     through_ends world names name call it fresh task called refl refl file
     (SetBytes file.node (overwritten at (byte ∷ bytes) (bytes_in (node_at nat_eq world file)))) tt direct alike is
     (λ overlay upper overlaid has. permits_can_change world fresh task call (ToWritePart file at (byte ∷ bytes)) file
-    (SetBytes file.node (overwritten at (byte ∷ bytes) (bytes_in (node_at nat_eq world file)))) overlay upper it.is serves
+    (SetBytes file.node (overwritten at (byte ∷ bytes) (bytes_in (node_at nat_eq world file)))) overlay upper it.is
+    serves
     itself judged refl overlaid has)
     (ap (run_by world names name call it fresh fresh world fresh task) judged)
     (ap (run_by world names name call it fresh fresh part fresh task)

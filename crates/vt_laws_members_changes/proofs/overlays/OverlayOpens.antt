@@ -64,7 +64,8 @@ writes_above world fresh task asked permit other_way file wanted e = absurd cc
 
 module _ (world : World ℕ) (names : List TaskName) (name : TaskName) (path : List ℕ) (access : Access) (how : Creation)
     (it : IsCallOfTheirs world names name (OpenFile path access how))
-    (task : Task ℕ) (called : task_called world name ≡ Some task) (fresh : Fresh ℕ) (file : Location ℕ) (wanted : Access)
+    (task : Task ℕ) (called : task_called world name ≡ Some task) (fresh : Fresh ℕ) (file : Location ℕ)
+    (wanted : Access)
     (ground : IsTheirs world names it.is.mounts file.mount)
     (copied : is_copied_up nat_eq world file wanted ≡ true)
     (given : judge_in nat_eq fresh world task (OpenFile path access how) ≡ Ok (ToOpen file wanted))
@@ -89,7 +90,8 @@ module _ (world : World ℕ) (names : List TaskName) (name : TaskName) (path : L
 
   -- the copy is made, and the file opened
   run_opened : (w : World ℕ) → is_copied_up nat_eq w file wanted ≡ true
-      → with_change nat_eq fresh w file (CopyUp file.node) ≡ with_filesystems w moved → changed_at nat_eq w file ≡ numbers
+      → with_change nat_eq fresh w file (CopyUp file.node) ≡ with_filesystems w moved
+      → changed_at nat_eq w file ≡ numbers
       → run_by world names name call it fresh fresh w fresh task (Ok (ToOpen file wanted))
       ≡ opened_with w name moved numbers task file wanted
   run_opened w copies made listed =
@@ -176,8 +178,10 @@ overlay_opens_end_alike world names name path access how it task called fresh se
         (sym ((λ i. parts.0 i && overlay_or false (λ (v : Overlay ℕ). not (is_some v.upper)) (overlaid i))
         ∙ ap (λ o. not (is_some o)) none) ∙ above))
     layered overlay overlaid (Some upper) has =
-        open_through_ends world names name path access how it task called fresh file wanted ground copied given overlay upper
-        (permits_can_change world fresh task call (ToOpen file wanted) file (CopyUp file.node) overlay upper it.is serves
+        open_through_ends world names name path access how it task called fresh file wanted ground copied given overlay
+        upper
+        (permits_can_change world fresh task call (ToOpen file wanted) file
+        (CopyUp file.node) overlay upper it.is serves
         itself given asks overlaid has)
 
     by : (o : Option (Overlay ℕ)) → (filesystem_at nat_eq world file).overlay ≡ o

@@ -42,7 +42,8 @@ module _ (top : ℕ) where
           → is_among nat_eq top (elim o [ None ↦ d ∷ [] | Some b ↦ d ∷ chain m next b ]) ≡ true
       by None h later = h
       by (Some b) h later =
-          ⊎_elim (or_left (nat_eq top d) (reaches m next b)) (λ f. or_right (nat_eq top d) (reaches m next b) (later b f))
+          ⊎_elim (or_left (nat_eq top d) (reaches m next b))
+          (λ f. or_right (nat_eq top d) (reaches m next b) (later b f))
           (or_cases (nat_eq top d) (reaches n next b) h)
 
   -- so does a chain that stops there
@@ -57,11 +58,7 @@ module _ (top : ℕ) where
           → ((b : ℕ) → reaches n (until next) b ≡ reaches n next b)
           → reaches (suc n) (until next) d ≡ reaches (suc n) next d
       by true e o f later = at_head (until next) (suc n) d e ∙ sym (at_head next (suc n) d e)
-      by false e o f later =
-          ap (λ q. is_among nat_eq top (elim q [ None ↦ d ∷ [] | Some b ↦ d ∷ chain n (until next) b ]))
-          (ap (λ c. cond c None (next d)) e ∙ f)
-          ∙ goes o later
-          ∙ sym (ap (λ q. is_among nat_eq top (elim q [ None ↦ d ∷ [] | Some b ↦ d ∷ chain n next b ])) f)
+      by false e o f later = cc (goes o later)
         where
           goes : (q : Option ℕ) → ((b : ℕ) → reaches n (until next) b ≡ reaches n next b)
               → is_among nat_eq top (elim q [ None ↦ d ∷ [] | Some b ↦ d ∷ chain n (until next) b ])
@@ -70,7 +67,8 @@ module _ (top : ℕ) where
           goes (Some b) later = ap (λ c. nat_eq top d || c) (later b)
 
 -- A tree is cut to some inodes, all under the directory among them.
-module _ (files : FileTree ℕ) (chosen : List ℕ) (tree : IsTree files.tree) (listed : ListsNumbers nat_eq files) (top : ℕ)
+module _ (files : FileTree ℕ) (chosen : List ℕ) (tree : IsTree files.tree) (listed : ListsNumbers nat_eq files)
+    (top : ℕ)
     (all : (object : ℕ) → is_some (files.tree.node object) ≡ true → is_under nat_eq files top object ≡ true
     → is_among nat_eq object chosen ≡ true) where
   abbrev cut : FileTree ℕ
@@ -114,15 +112,15 @@ module _ (files : FileTree ℕ) (chosen : List ℕ) (tree : IsTree files.tree) (
       → is_among nat_eq b chosen ≡ true → named_parent nat_eq cut.tree d ≡ Some b
   parent_kept d b e kept above =
       let how = parent_how d b e in
-      ap (λ (node : Option (Node ℕ)). cond (nat_eq d files.tree.root) None
-      (when (has_entry_to nat_eq cut.tree (parent_in d node) d) (parent_in d node))) (node_kept d kept)
-      ∙ ap (λ (node : Option (Node ℕ)). cond (nat_eq d files.tree.root) None
-      (when (is_among nat_eq d (targets_in node)) (parent_in d (files.tree.node d))))
-      (node_kept (parent_in d (files.tree.node d)) (subst (λ n. is_among nat_eq n chosen ≡ true) (sym how.0) above))
-      ∙ e
+      cc (
+        node_kept d kept,
+        node_kept (parent_in d (files.tree.node d)) (subst (λ n. is_among nat_eq n chosen ≡ true) (sym how.0)
+            above),
+      )
 
   abbrev Ways : ℕ → Type 0
-  Ways = Way (until top (named_parent nat_eq files.tree)) (until top (named_parent nat_eq cut.tree)) (λ k. k) cut.numbers
+  Ways =
+      Way (until top (named_parent nat_eq files.tree)) (until top (named_parent nat_eq cut.tree)) (λ k. k) cut.numbers
 
   way : (n d : ℕ) → n ≤ length files.numbers → IsDirectory files.tree d
       → reaches top n (named_parent nat_eq files.tree) d ≡ true → Ways d
@@ -147,7 +145,8 @@ module _ (files : FileTree ℕ) (chosen : List ℕ) (tree : IsTree files.tree) (
           ⊎_elim (λ same. absurd (true≢false (sym same ∙ e))) (λ later. later)
           (or_cases (nat_eq top d) (reaches top n (named_parent nat_eq files.tree) b) g) in
           let directory = entered b d how.1 in
-          let kept = directory_kept d is (more top (named_parent nat_eq files.tree) (suc n) (length files.numbers) d l h) in
+          let kept = directory_kept d is
+          (more top (named_parent nat_eq files.tree) (suc n) (length files.numbers) d l h) in
           let kept_above = directory_kept b directory
           (more top (named_parent nat_eq files.tree) n (length files.numbers) b (omega (arith, l)) above) in
           goes_on d b
@@ -169,19 +168,18 @@ module _ (files : FileTree ℕ) (chosen : List ℕ) (tree : IsTree files.tree) (
   directory_in_cut d is h =
       let few = length-filter_both (λ n. is_among nat_eq n chosen) (λ n. not (is_among nat_eq n chosen)) (λ n. refl)
       files.numbers in
-      sym (stops top (named_parent nat_eq cut.tree) (length cut.numbers) d)
-      ∙ ap (is_among nat_eq top)
-      (sym (chains_alike (until top (named_parent nat_eq files.tree)) (until top (named_parent nat_eq cut.tree)) (λ k. k)
-      cut.numbers (λ a b e. ap (until top (named_parent nat_eq files.tree)) e) (length files.numbers) (length cut.numbers) d
-      (way (length files.numbers) d (omega arith) is h) (omega (arith, few)) (omega arith)))
-      ∙ stops top (named_parent nat_eq files.tree) (length files.numbers) d ∙ h
+      cc (
+        stops top (named_parent nat_eq cut.tree) (length cut.numbers) d,
+        chains_alike (until top (named_parent nat_eq files.tree)) (until top (named_parent nat_eq cut.tree)) (λ k.
+            k) cut.numbers (λ a b e. ap (until top (named_parent nat_eq files.tree)) e) (length files.numbers) (length
+            cut.numbers) d (way (length files.numbers) d (omega arith) is h) (omega (arith, few)) (omega arith),
+        stops top (named_parent nat_eq files.tree) (length files.numbers) d,
+      )
 
   pub under_in_cut : (object : ℕ) → is_some (files.tree.node object) ≡ true → is_under nat_eq files top object ≡ true
       → is_under nat_eq cut top object ≡ true
   under_in_cut object there h =
-      ap (λ (node : Option (Node ℕ)). cond (is_directory_node node) (is_directory_under nat_eq cut top object)
-      (is_file_under nat_eq cut top object)) (node_kept object (all object there h))
-      ∙ by (is_directory_node (files.tree.node object)) refl h
+      cc (node_kept object (all object there h), by (is_directory_node (files.tree.node object)) refl h)
     where
       by : (b : Bool) → is_directory_node (files.tree.node object) ≡ b
           → cond b (is_directory_under nat_eq files top object) (is_file_under nat_eq files top object) ≡ true
@@ -190,10 +188,12 @@ module _ (files : FileTree ℕ) (chosen : List ℕ) (tree : IsTree files.tree) (
       by false is h =
           let at = any_among (λ d. has_entry_to nat_eq files.tree d object && is_directory_under nat_eq files top d)
           files.numbers h in
-          let both = and_parts (has_entry_to nat_eq files.tree at.0 object) (is_directory_under nat_eq files top at.0) at.2 in
+          let both = and_parts (has_entry_to nat_eq files.tree at.0 object)
+          (is_directory_under nat_eq files top at.0) at.2 in
           let directory = entered at.0 object both.0 in
           let kept = directory_kept at.0 directory both.1 in
-          any_from_among (λ d. has_entry_to nat_eq cut.tree d object && is_directory_under nat_eq cut top d) cut.numbers at.0
+          any_from_among (λ d. has_entry_to nat_eq cut.tree d object && is_directory_under nat_eq cut top d) cut.numbers
+          at.0
           (in_cut at.0 (directory_used files.tree at.0 directory) kept)
           (and_from (has_entry_to nat_eq cut.tree at.0 object) (is_directory_under nat_eq cut top at.0)
           (ap (λ (node : Option (Node ℕ)). is_among nat_eq object (targets_in node)) (node_kept at.0 kept) ∙ both.0)
@@ -224,19 +224,22 @@ module _ (files : FileTree ℕ) (chosen : List ℕ) (tree : IsTree files.tree) (
           (or_cases (nat_eq top object) (reaches top n (named_parent nat_eq files.tree) b) g) in
           let directory = entered b object how.1 in
           named_by b object directory
-          (directory_kept b directory (more top (named_parent nat_eq files.tree) n (length files.numbers) b less above)) how.1
+          (directory_kept b directory (more top (named_parent nat_eq files.tree) n (length files.numbers) b less above))
+          how.1
 
       long : (n : ℕ) → n ≤ length files.numbers → reaches top n (named_parent nat_eq files.tree) object ≡ true
           → Among object (named_in cut)
       long zero less g = absurd (true≢false (sym g ∙ ap (λ b. b || false) apart))
       long (suc n) less g = up n (omega (arith, less)) (named_parent nat_eq files.tree object) refl g
 
-      by : (b : Bool) → cond b (is_directory_under nat_eq files top object) (is_file_under nat_eq files top object) ≡ true
+      by : (b : Bool) → cond b (is_directory_under nat_eq files top object) (is_file_under nat_eq files top object)
+          ≡ true
           → Among object (named_in cut)
       by true g = long (length files.numbers) (omega arith) g
       by false g =
           let at = any_among (λ d. has_entry_to nat_eq files.tree d object && is_directory_under nat_eq files top d)
           files.numbers g in
-          let both = and_parts (has_entry_to nat_eq files.tree at.0 object) (is_directory_under nat_eq files top at.0) at.2 in
+          let both = and_parts (has_entry_to nat_eq files.tree at.0 object)
+          (is_directory_under nat_eq files top at.0) at.2 in
           let directory = entered at.0 object both.0 in
           named_by at.0 object directory (directory_kept at.0 directory both.1) both.0

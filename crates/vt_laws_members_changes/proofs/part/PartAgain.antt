@@ -25,16 +25,15 @@ use Rattle.vt_laws_members_changes.proofs.part.CutTrees.{under_in_cut}
 -- all of a list pass
 pub filter_all : (p : ℕ → Bool) (xs : List ℕ) → ((x : ℕ) → Among x xs → p x ≡ true) → filter p xs ≡ xs
 filter_all p [] all = refl
-filter_all p (x ∷ xs) all =
-    ap (λ b. cond b (x ∷ filter p xs) (filter p xs)) (all x (inl refl))
-    ∙ ap (λ l. x ∷ l) (filter_all p xs (λ y m. all y (inr m)))
+filter_all p (x ∷ xs) all = cc (all x (inl refl), filter_all p xs (λ y m. all y (inr m)))
 
 none_kept : (b : Bool) (o : Option (Node ℕ)) → o ≡ None → cond b o None ≡ o
 none_kept true o e = refl
 none_kept false o e = sym e
 
 -- a tree cut to the inodes that it has
-module _ (chosen : List ℕ) (files : FileTree ℕ) (there : (n : ℕ) → is_among nat_eq n chosen ≡ true → Among n files.numbers)
+module _ (chosen : List ℕ) (files : FileTree ℕ) (there : (n : ℕ) → is_among nat_eq n chosen ≡ true
+    → Among n files.numbers)
   where
     abbrev cut : FileTree ℕ
     cut = only_among nat_eq chosen files
@@ -49,9 +48,8 @@ module _ (chosen : List ℕ) (files : FileTree ℕ) (there : (n : ℕ) → is_am
             → cond (is_among nat_eq n cut.numbers) (cond (is_among nat_eq n chosen) (files.tree.node n) None) None
             ≡ cond (is_among nat_eq n chosen) (files.tree.node n) None
         same n true e =
-            ap (λ b. cond b (cond (is_among nat_eq n chosen) (files.tree.node n) None) None)
-            (is_among_numbers cut.numbers n
-            (among-filter (λ k. is_among nat_eq k chosen) files.numbers n (there n e) e))
+            cc (is_among_numbers cut.numbers n (among-filter (λ k. is_among nat_eq k chosen) files.numbers n (there n
+            e) e))
         same n false e =
             none_kept (is_among nat_eq n cut.numbers) (cond (is_among nat_eq n chosen) (files.tree.node n) None)
             (ap (λ c. cond c (files.tree.node n) None) e)
@@ -77,7 +75,8 @@ module _ (world : World ℕ) (names : List TaskName) (is : IsWorld nat_eq world)
 
   pub shown_number : (x y : Filesystem ℕ) → shown x ≡ Some y → y.number ≡ x.number
   shown_number x y e =
-      ⊎_elim (λ same. ap (λ (f : Filesystem ℕ). f.number) (sym same.0)) (λ low. ap (λ (f : Filesystem ℕ). f.number) (sym low.0))
+      ⊎_elim (λ same. ap (λ (f : Filesystem ℕ). f.number) (sym same.0))
+      (λ low. ap (λ (f : Filesystem ℕ). f.number) (sym low.0))
       (shown_how world names x y e)
 
   -- what the part has of a filesystem is found there
@@ -102,23 +101,24 @@ module _ (world : World ℕ) (names : List TaskName) (is : IsWorld nat_eq world)
               → find (λ (f : Filesystem ℕ). nat_eq x.number f.number) (cons_option o (filter_map shown rest))
               ≡ find (λ (f : Filesystem ℕ). nat_eq x.number f.number) (filter_map shown rest)
           skip None f h = refl
-          skip (Some w) f h =
-              ap (λ b. cond b (Some w) (find (λ (f : Filesystem ℕ). nat_eq x.number f.number) (filter_map shown rest)))
-              (ap (nat_eq x.number) (shown_number z w f) ∙ h)
+          skip (Some w) f h = cc (shown_number z w f)
 
           by : (b : Bool) → nat_eq x.number z.number ≡ b
               → (Among x rest
               → find (λ (f : Filesystem ℕ). nat_eq x.number f.number) (filter_map shown rest) ≡ Some y)
-              → find (λ (f : Filesystem ℕ). nat_eq x.number f.number) (cons_option (shown z) (filter_map shown rest)) ≡ Some y
+              → find (λ (f : Filesystem ℕ). nat_eq x.number f.number) (cons_option (shown z) (filter_map shown rest))
+              ≡ Some y
           by true h later =
               ap (λ o. find (λ (f : Filesystem ℕ). nat_eq x.number f.number) (cons_option o (filter_map shown rest)))
               (ap shown (itself z (all z (inl refl)) h) ∙ e)
-              ∙ ap (λ b. cond b (Some y) (find (λ (f : Filesystem ℕ). nat_eq x.number f.number) (filter_map shown rest)))
+              ∙ ap (λ b. cond b (Some y) (find (λ (f : Filesystem ℕ). nat_eq x.number f.number)
+              (filter_map shown rest)))
               (ap (nat_eq x.number) (shown_number x y e) ∙ eq-eqb x.number x.number refl)
-          by false h later =
-              skip (shown z) refl h
-              ∙ later (⊎_elim (λ same. absurd (true≢false (sym (eq-eqb x.number z.number
-              (ap (λ (f : Filesystem ℕ). f.number) same)) ∙ h))) (λ n. n) there)
+          by false h later = cc (
+            skip (shown z) refl h,
+            later (⊎_elim (λ same. absurd (true≢false (sym (eq-eqb x.number z.number (ap (λ (f : Filesystem ℕ).
+                f.number) same)) ∙ h))) (λ n. n) there),
+          )
 
   -- a tree that the part has by lower layers alone
   module _ (x : Filesystem ℕ) (m : Among x world.filesystems) (unused : is_among nat_eq x.number used ≡ false)
@@ -163,23 +163,22 @@ module _ (world : World ℕ) (names : List TaskName) (is : IsWorld nat_eq world)
         (is_under nat_eq (filesystem_numbered nat_eq world x.number).files at.0.directory object) at.2 in
         let there : is_some (x.files.tree.node object) ≡ true =
         sym (listed object) ∙ is_among_numbers x.files.numbers object from.0 in
-        ap (list_any (lies_in_layer nat_eq part x.number object)) (same_lowers world names)
-        ∙ any_from_among (lies_in_layer nat_eq part x.number object) lowers at.0 at.1
-        (and_from (nat_eq x.number at.0.filesystem)
-        (is_under nat_eq (filesystem_numbered nat_eq part x.number).files at.0.directory object) both.0
-        (ap (λ (f : Filesystem ℕ). is_under nat_eq f.files at.0.directory object) (found_in_part x y m shown_so)
-        ∙ under_in_cut x.files chosen tree listed at.0.directory (in_chosen at.0 at.1 both.0) object there
-        (sym (ap (λ (f : Filesystem ℕ). is_under nat_eq f.files at.0.directory object) itself) ∙ both.1)))
+        cc (
+          same_lowers world names,
+          any_from_among (lies_in_layer nat_eq part x.number object) lowers at.0 at.1 (and_from (nat_eq x.number
+              at.0.filesystem) (is_under nat_eq (filesystem_numbered nat_eq part x.number).files at.0.directory object)
+              both.0 (ap (λ (f : Filesystem ℕ). is_under nat_eq f.files at.0.directory object) (found_in_part x y m
+              shown_so) ∙ under_in_cut x.files chosen tree listed at.0.directory (in_chosen at.0 at.1 both.0) object
+              there (sym (ap (λ (f : Filesystem ℕ). is_under nat_eq f.files at.0.directory object) itself) ∙ both.1))),
+        )
 
     lower_again : part_of_lower nat_eq part names y ≡ y
-    lower_again =
-        ap (λ list. record y { files = only_among nat_eq list y.files; change = 0 })
-        (filter_all (lies_in_own_lower nat_eq part names x.number) y.files.numbers (λ object n.
-        lies_again object (among_numbers chosen object
-        (among-from_filter (λ k. is_among nat_eq k chosen) x.files.numbers object n).1)))
-        ∙ ap (λ files. record y { files = files; change = 0 })
-        (cut_again chosen x.files (λ n e.
-        (among-from_filter (lies_in_own_lower nat_eq world names x.number) x.files.numbers n (among_numbers chosen n e)).0))
+    lower_again = cc (
+      filter_all (lies_in_own_lower nat_eq part names x.number) y.files.numbers (λ object n. lies_again object
+          (among_numbers chosen object (among-from_filter (λ k. is_among nat_eq k chosen) x.files.numbers object n).1)),
+      cut_again chosen x.files (λ n e. (among-from_filter (lies_in_own_lower nat_eq world names x.number)
+          x.files.numbers n (among_numbers chosen n e)).0),
+    )
 
   shown_again : (x y : Filesystem ℕ) → Among x world.filesystems → shown x ≡ Some y
       → part_of_filesystem nat_eq part names y ≡ Some y
@@ -198,7 +197,8 @@ module _ (world : World ℕ) (names : List TaskName) (is : IsWorld nat_eq world)
       (ap (λ (f : Filesystem ℕ). is_among nat_eq f.number used) (sym low.0) ∙ low.1)
       ∙ ap (λ b. when b (part_of_lower nat_eq part names y))
       (ap (λ (f : Filesystem ℕ). has_lower f.number) (sym low.0) ∙ low.2)
-      ∙ ap Some (subst (λ (f : Filesystem ℕ). part_of_lower nat_eq part names f ≡ f) low.0 (lower_again x m low.1 low.2)))
+      ∙ ap Some (subst (λ (f : Filesystem ℕ). part_of_lower nat_eq part names f ≡ f) low.0
+      (lower_again x m low.1 low.2)))
       (shown_how world names x y e)
 
   pub same_shown : filter_map (part_of_filesystem nat_eq part names) part.filesystems ≡ part.filesystems
@@ -214,10 +214,7 @@ module _ (world : World ℕ) (names : List TaskName) (is : IsWorld nat_eq world)
               → filter_map (part_of_filesystem nat_eq part names) (cons_option o (filter_map shown rest))
               ≡ cons_option o (filter_map shown rest)
           by None e later = later
-          by (Some y) e later =
-              ap (λ o. cons_option o (filter_map (part_of_filesystem nat_eq part names) (filter_map shown rest)))
-              (shown_again x y (all x (inl refl)) e)
-              ∙ ap (λ l. y ∷ l) later
+          by (Some y) e later = cc (shown_again x y (all x (inl refl)) e)
 
   pub same_mounts : filter_map (part_of_mount nat_eq part names) part.mounts ≡ part.mounts
   same_mounts =
@@ -229,14 +226,16 @@ module _ (world : World ℕ) (names : List TaskName) (is : IsWorld nat_eq world)
       keeps_again x y e =
           ⊎_elim (λ same. ap (keep world names theirs) (sym same) ∙ e)
           (λ stub. subst (λ z. keep world names theirs z ≡ Some z) stub.0
-          (ap (λ b. cond b (Some (seen_by_descriptor x)) (when (is_at nat_eq (locations theirs) x) (seen_by_descriptor x)))
+          (ap (λ b. cond b (Some (seen_by_descriptor x))
+          (when (is_at nat_eq (locations theirs) x) (seen_by_descriptor x)))
           stub.2
           ∙ ap (λ b. when b (seen_by_descriptor x)) stub.3))
           (kept_how world names theirs x y e)
 
   same_masters : part_of_master nat_eq part names ≡ part_of_master nat_eq world names
   same_masters =
-      ap (λ l. λ (group : ℕ). cond (list_any (is_member_of nat_eq group) l) (part_of_master nat_eq world names group) None)
+      ap (λ l. λ (group : ℕ). cond (list_any (is_member_of nat_eq group) l)
+      (part_of_master nat_eq world names group) None)
       (same_own world names)
       ∙ (λ i group. twice (list_any (is_member_of nat_eq group) (own_mounts nat_eq world names)) (world.master group) i)
     where
@@ -255,12 +254,7 @@ module _ (world : World ℕ) (names : List TaskName) (is : IsWorld nat_eq world)
       world.namespaces
 
   pub part_again : part_of nat_eq part names ≡ part
-  part_again =
-      ap (λ m. record (part_of nat_eq part names) { mounts = m }) same_mounts
-      ∙ ap (λ m. record (part_of nat_eq part names) { mounts = part.mounts; master = m }) same_masters
-      ∙ ap (λ f. record (part_of nat_eq part names) { mounts = part.mounts; master = part.master; filesystems = f }) same_shown
-      ∙ ap (λ n. record part { namespaces = n; tasks = members part names }) same_namespaces
-      ∙ ap (λ t. record part { tasks = t }) (same_members world names)
+  part_again = cc (same_mounts, same_masters, same_shown, same_namespaces, same_members world names)
 
 pub part_of_the_part : PartOfAPart
 part_of_the_part world names is = part_again world names is

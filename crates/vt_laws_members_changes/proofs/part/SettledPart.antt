@@ -32,7 +32,8 @@ filter_few : {A : Type 0} (p : A → Bool) (xs : List A) → length (filter p xs
 filter_few p [] = omega arith
 filter_few {A} p (x ∷ xs) = by (p x) (filter_few p xs)
   where
-    by : (b : Bool) → length (filter p xs) ≤ length xs → length (cond b (x ∷ filter p xs) (filter p xs)) ≤ suc (length xs)
+    by : (b : Bool) → length (filter p xs) ≤ length xs
+        → length (cond b (x ∷ filter p xs) (filter p xs)) ≤ suc (length xs)
     by true l = omega (arith, l)
     by false l = omega (arith, l)
 
@@ -40,7 +41,8 @@ keeps_all : {A : Type 0} (p : A → Bool) (xs : List A) → length xs ≤ length
 keeps_all p [] l = refl
 keeps_all {A} p (x ∷ xs) l = by (p x) l (filter_few p xs) (keeps_all p xs)
   where
-    by : (b : Bool) → suc (length xs) ≤ length (cond b (x ∷ filter p xs) (filter p xs)) → length (filter p xs) ≤ length xs
+    by : (b : Bool) → suc (length xs) ≤ length (cond b (x ∷ filter p xs) (filter p xs))
+        → length (filter p xs) ≤ length xs
         → (length xs ≤ length (filter p xs) → filter p xs ≡ xs) → cond b (x ∷ filter p xs) (filter p xs) ≡ x ∷ xs
     by true l few rest = ap (λ ys. x ∷ ys) (rest (omega (arith, l)))
     by false l few rest = absurd (omega (arith, l, few))
@@ -85,7 +87,8 @@ module _ (world : World ℕ) (names : List TaskName) (is : IsWorld nat_eq world)
   filesystems_live =
       let later = filesystems_swept world part names apart sees in
       let same : length (filter_map (shown_of (without_dead_filesystems nat_eq part) used lowers)
-      (filter (filesystem_lives nat_eq part) part.filesystems)) ≡ length part.filesystems = ap length later.filesystems in
+      (filter (filesystem_lives nat_eq part) part.filesystems))
+      ≡ length part.filesystems = ap length later.filesystems in
       let few = length-filter_map (shown_of (without_dead_filesystems nat_eq part) used lowers)
       (filter (filesystem_lives nat_eq part) part.filesystems) in
       keeps_all (filesystem_lives nat_eq part) part.filesystems (omega (arith, same, few))
@@ -107,7 +110,8 @@ module _ (world : World ℕ) (names : List TaskName) (is : IsWorld nat_eq world)
         of_overlays layer.directory
         (in_third (named_in y.files) (located_in nat_eq part x.number) (layers_in nat_eq part x.number) layer.directory
         (among-map (λ (l : Layer ℕ). l.directory)
-        (filter (λ (l : Layer ℕ). nat_eq x.number l.filesystem) (flat_map (of_overlay [] layers_of) part.filesystems)) layer
+        (filter (λ (l : Layer ℕ). nat_eq x.number l.filesystem)
+        (flat_map (of_overlay [] layers_of) part.filesystems)) layer
         (among-filter (λ (l : Layer ℕ). nat_eq x.number l.filesystem)
         (flat_map (of_overlay [] layers_of) part.filesystems) layer
         (among-flat_map (of_overlay [] layers_of) part.filesystems of.0 layer
@@ -133,7 +137,8 @@ module _ (world : World ℕ) (names : List TaskName) (is : IsWorld nat_eq world)
         by layer at on under true e =
             subst (λ k. Among k (used_in nat_eq part y)) (eqb-true layer.directory object e) (layer_used layer at on)
         by layer at on under false e =
-            inr (among-append_left (named_in y.files ++ located_in nat_eq part x.number ++ layers_in nat_eq part x.number)
+            inr (among-append_left (named_in y.files ++ located_in nat_eq part x.number ++ layers_in nat_eq part
+            x.number)
             of_overlays object
             (in_first (named_in y.files) (located_in nat_eq part x.number) (layers_in nat_eq part x.number) object
             (named_in_cut x.files (filter (lies_in_own_lower nat_eq world names x.number) x.files.numbers)
@@ -142,9 +147,8 @@ module _ (world : World ℕ) (names : List TaskName) (is : IsWorld nat_eq world)
 
     lower_whole : (chosen : Bool) → only_used nat_eq part chosen y ≡ y
     lower_whole true =
-        ap (λ b. only_used_by nat_eq b (used_in nat_eq part y) y)
-        (list_all_from_among (λ n. is_among nat_eq n (used_in nat_eq part y)) y.files.numbers
-        (λ object n. is_among_numbers (used_in nat_eq part y) object (inode_used object n)))
+        cc (list_all_from_among (λ n. is_among nat_eq n (used_in nat_eq part y)) y.files.numbers (λ object n.
+        is_among_numbers (used_in nat_eq part y) object (inode_used object n)))
     lower_whole false = refl
 
   whole : (chosen : Bool) (y : Filesystem ℕ) → Among y part.filesystems → only_used nat_eq part chosen y ≡ y
@@ -163,7 +167,11 @@ module _ (world : World ℕ) (names : List TaskName) (is : IsWorld nat_eq world)
       (map_same (λ f. only_used nat_eq part (chosen f) f) part.filesystems (λ y n. whole (chosen y) y n))
 
   groups_live : without_dead_groups nat_eq part ≡ part
-  groups_live = λ i. record part { master = λ group. same group (list_any (is_member_of nat_eq group) (own_mounts nat_eq world names)) refl i }
+  groups_live =
+      λ i. record part {
+        master = λ group. same group
+            (list_any (is_member_of nat_eq group) (own_mounts nat_eq world names)) refl i;
+      }
     where
       none : (b : Bool) (o : Option ℕ) → o ≡ None → cond b o None ≡ o
       none true o e = refl
@@ -174,23 +182,19 @@ module _ (world : World ℕ) (names : List TaskName) (is : IsWorld nat_eq world)
       same group true e =
           let own = any_among (is_member_of nat_eq group) (own_mounts nat_eq world names) e in
           let from = among-from_filter (is_own_mount nat_eq world names) world.mounts own.0 own.1 in
-          ap (λ b. cond b (part.master group) None)
-          (any_from_among (is_member_of nat_eq group) part.mounts own.0
-          (among-filter_map (keep world names (members world names)) world.mounts own.0 own.0 from.0
-          (own_whole world names is own.0 from.1)) own.2)
+          cc (any_from_among (is_member_of nat_eq group) part.mounts own.0 (among-filter_map (keep world names
+          (members world names)) world.mounts own.0 own.0 from.0 (own_whole world names is own.0 from.1)) own.2)
       same group false e =
           none (has_members nat_eq part.mounts group) (part.master group) (ap (λ b. cond b (world.master group) None) e)
 
   pub part_settled : settled nat_eq part ≡ part
-  part_settled =
-      ap (λ list. without_dead_groups nat_eq (without_dead_inodes nat_eq (without_dead_filesystems nat_eq
-      (with_mounts part list)))) mounts_live
-      ∙ ap (λ list. without_dead_groups nat_eq (without_dead_inodes nat_eq (record part { filesystems = list })))
-      filesystems_live
-      ∙ ap (λ w. without_dead_groups nat_eq (without_dead_in nat_eq (λ filesystem. not (is_overlay filesystem)) w))
-      (inodes_live is_overlay)
-      ∙ ap (without_dead_groups nat_eq) (inodes_live (λ filesystem. not (is_overlay filesystem)))
-      ∙ groups_live
+  part_settled = cc (
+    mounts_live,
+    filesystems_live,
+    inodes_live is_overlay,
+    inodes_live (λ filesystem. not (is_overlay filesystem)),
+    groups_live,
+  )
 
 -- what a filter leaves passes
 all_left : {A : Type 0} (p : A → Bool) (xs : List A) → filter p xs ≡ xs → list_all p xs ≡ true
@@ -214,9 +218,11 @@ part_in_use world names is sealed_off = record {
       (mounts_live world names is sealed_off);
   filesystems = all_left (filesystem_lives nat_eq (part world names is sealed_off))
       (part world names is sealed_off).filesystems (filesystems_live world names is sealed_off);
-  inodes = all_from_among (λ (f : Filesystem ℕ). list_all (is_inode_used (part world names is sealed_off) f) f.files.numbers
+  inodes =
+      all_from_among (λ (f : Filesystem ℕ). list_all (is_inode_used (part world names is sealed_off) f) f.files.numbers
       ≡ true) (part world names is sealed_off).filesystems
-      (λ y n. all_used (used_in nat_eq (part world names is sealed_off) y) y (whole world names is sealed_off true y n));
+      (λ y n. all_used (used_in nat_eq (part world names is sealed_off) y) y
+      (whole world names is sealed_off true y n));
   groups = λ group none. by group none (list_any (is_member_of nat_eq group) (own_mounts nat_eq world names)) refl;
 }
   where

@@ -53,7 +53,8 @@ applied_ok fresh world task (ToSetType mount word recursive) = refl
 applied_ok fresh world task (ToPivot new put) = refl
 applied_ok fresh world task ToListMounts = refl
 
-module _ (world : World ℕ) (names : List TaskName) (name : TaskName) (call : Call) (it : IsCallOfTheirs world names name call)
+module _ (world : World ℕ) (names : List TaskName) (name : TaskName) (call : Call)
+    (it : IsCallOfTheirs world names name call)
     (fresh other : Fresh ℕ) where
   abbrev part : World ℕ
   part = part_of nat_eq world names
@@ -93,10 +94,12 @@ module _ (world : World ℕ) (names : List TaskName) (name : TaskName) (call : C
       finished nat_eq w name call (filesystems_changed_by nat_eq w j) (after w j (apply nat_eq supply w task))
 
   -- a refusal is the end
-  refused_by : (w : World ℕ) (supply : Fresh ℕ) (task : Task ℕ) (deny : Deny) → run_by w supply task (Err deny) ≡ denied w deny
+  refused_by : (w : World ℕ) (supply : Fresh ℕ) (task : Task ℕ) (deny : Deny)
+      → run_by w supply task (Err deny) ≡ denied w deny
   refused_by w supply task deny = by (only_looks call)
     where
-      by : (b : Bool) → finished_by nat_eq (b || not (is_ok (denied w deny).answer)) w name [] (denied w deny) ≡ denied w deny
+      by : (b : Bool) → finished_by nat_eq (b || not (is_ok (denied w deny).answer)) w name [] (denied w deny)
+          ≡ denied w deny
       by true = refl
       by false = refl
 
@@ -110,7 +113,8 @@ module _ (world : World ℕ) (names : List TaskName) (name : TaskName) (call : C
       by true = refl
       by false = refl
 
-  pub denial_ends_alike : is_ok (policy nat_eq fresh world name call).answer ≡ false → EndsAlike world names name call fresh other
+  pub denial_ends_alike : is_ok (policy nat_eq fresh world name call).answer ≡ false
+      → EndsAlike world names name call fresh other
   denial_ends_alike refused = by (task_called world name) refl
     where
       judged : (task : Task ℕ) → task_called world name ≡ Some task → (j : Judgement ℕ)

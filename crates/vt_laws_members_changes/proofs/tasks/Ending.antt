@@ -23,7 +23,8 @@ use Rattle.vt_laws_members_changes.proofs.tasks.RaisedTasks.{tasks_raised}
 use Rattle.vt_laws_members_changes.proofs.tasks.Retasked.{SeeAlike, retasked}
 
 -- the tasks that a call of a task leaves, in a world where it finds these
-pub record LeavesTasks (world : World ℕ) (names set : List TaskName) (name : TaskName) (tasks : List (Task ℕ)) : Type 0 where
+pub record LeavesTasks (world : World ℕ) (names set : List TaskName) (name : TaskName)
+    (tasks : List (Task ℕ)) : Type 0 where
   pub more : (location : Location ℕ) → Among location (all_locations world)
       → Among location (flat_map locations_of tasks)
   pub sees : SeeAlike world names set (map (raised_task name) tasks) (raised world.change)
@@ -60,7 +61,8 @@ pub tasks_end_alike : (world : World ℕ) (names set : List TaskName) (name : Ta
     → filter (is_member_task set) (map (raised_task name) tasks)
     ≡ filter (is_member_task set) (map (raised_task name) tasks_too)
     → EndsAlike world names name call fresh other
-tasks_end_alike world names set name call it task found fresh other answer stays tasks tasks_too one two leaves leaves_too same =
+tasks_end_alike world names set name call it task found fresh other answer stays tasks tasks_too one two leaves
+    leaves_too same =
     let part : World ℕ = part_of nat_eq world names in
     let in_world : AllInUse world = all_in_use world it.is in
     let in_part : AllInUse part = part_in_use world names it.is it.sealed_off in

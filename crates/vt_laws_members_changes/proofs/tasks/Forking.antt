@@ -29,10 +29,6 @@ or_none : (b : Bool) → (b || (false || false)) ≡ b
 or_none true = refl
 or_none false = refl
 
-map_append : {A B : Type 0} (f : A → B) (xs ys : List A) → map f (xs ++ ys) ≡ map f xs ++ map f ys
-map_append f [] ys = refl
-map_append f (x ∷ xs) ys = ap (λ l. f x ∷ l) (map_append f xs ys)
-
 module _ (world : World ℕ) (names : List TaskName) (name : TaskName) (is : IsWorld nat_eq world) (task : Task ℕ)
     (found : task_called world name ≡ Some task) (credentials : Credentials) where
   abbrev parent : Task ℕ
@@ -90,18 +86,13 @@ module _ (world : World ℕ) (names : List TaskName) (name : TaskName) (is : IsW
       ∙ ap (λ b. b || is_among same_name t.name names) (child_apart t m)
 
   kid_member : is_member_task set kid ≡ true
-  kid_member =
-      ap (λ n. same_name n (child_name task) || is_among same_name n names)
-      (raised_is (λ (x : Task ℕ). x.name) (λ x. refl) child)
-      ∙ ap (λ b. b || is_among same_name (child_name task) names) (same_name_itself (child_name task))
+  kid_member = cc (raised_is (λ (x : Task ℕ). x.name) (λ x. refl) child, same_name_itself (child_name task))
 
   sift : (xs : List (Task ℕ)) → ((t : Task ℕ) → Among t xs → Among t world.tasks)
       → filter (is_member_task set) (map both xs ++ kid ∷ []) ≡ map both (filter (is_member_task names) xs) ++ kid ∷ []
   sift [] all = ap (λ b. cond b (kid ∷ []) []) kid_member
   sift (x ∷ xs) all =
-      ap (λ b. cond b (both x ∷ filter (is_member_task set) (map both xs ++ kid ∷ []))
-      (filter (is_member_task set) (map both xs ++ kid ∷ []))) (member_alike x (all x (inl refl)))
-      ∙ by (is_member_task names x) (sift xs (λ t m. all t (inr m)))
+      cc (member_alike x (all x (inl refl)), by (is_member_task names x) (sift xs (λ t m. all t (inr m))))
     where
       by : (b : Bool) → filter (is_member_task set) (map both xs ++ kid ∷ [])
           ≡ map both (filter (is_member_task names) xs) ++ kid ∷ []
@@ -134,11 +125,12 @@ module _ (world : World ℕ) (names : List TaskName) (name : TaskName) (is : IsW
     -- the child tells nothing more than its parent
     any_new : (P : Task ℕ → Bool) → ((t : Task ℕ) → Among t world.tasks → P (both t) ≡ P t)
         → (P kid ≡ true → P task ≡ true) → list_any P (members ended set) ≡ list_any P old
-    any_new P same less =
-        ap (list_any P) new_members
-        ∙ any_both P (map both old) (kid ∷ [])
-        ∙ ap (λ b. b || (P kid || false)) (any_mapped P P both old (λ t m. same t (known t m)))
-        ∙ by (P kid) refl
+    any_new P same less = cc (
+      new_members,
+      any_both P (map both old) (kid ∷ []),
+      any_mapped P P both old (λ t m. same t (known t m)),
+      by (P kid) refl,
+    )
       where
         by : (b : Bool) → P kid ≡ b → (list_any P old || (P kid || false)) ≡ list_any P old
         by true e =
@@ -159,21 +151,21 @@ module _ (world : World ℕ) (names : List TaskName) (name : TaskName) (is : IsW
 
     roots_same : (p : Location ℕ → Bool) → list_any p (roots_and_directories (members ended set))
         ≡ list_any p (roots_and_directories old)
-    roots_same p =
-        any_of_each p stands (members ended set)
-        ∙ any_new (λ t. list_any p (stands t))
-        (λ t m. ap (list_any p) (raised_is stands (λ x. refl) (replaced t) ∙ replaced_is stands refl t m))
-        (λ h. sym (ap (list_any p) (raised_is stands (λ x. refl) child)) ∙ h)
-        ∙ sym (any_of_each p stands old)
+    roots_same p = cc (
+      any_of_each p stands (members ended set),
+      any_new (λ t. list_any p (stands t)) (λ t m. ap (list_any p) (raised_is stands (λ x. refl) (replaced t) ∙
+          replaced_is stands refl t m)) (λ h. sym (ap (list_any p) (raised_is stands (λ x. refl) child)) ∙ h),
+      any_of_each p stands old,
+    )
 
     places_same : (p : Location ℕ → Bool) → list_any p (locations (members ended set)) ≡ list_any p (locations old)
-    places_same p =
-        any_of_each p locations_of (members ended set)
-        ∙ any_new (λ t. list_any p (locations_of t))
-        (λ t m. ap (list_any p) (raised_is locations_of (λ x. refl) (replaced t) ∙ replaced_is locations_of refl t m))
-        (λ h. fewer (p task.root) (p task.directory)
-        (sym (ap (list_any p) (raised_is locations_of (λ x. refl) child)) ∙ h))
-        ∙ sym (any_of_each p locations_of old)
+    places_same p = cc (
+      any_of_each p locations_of (members ended set),
+      any_new (λ t. list_any p (locations_of t)) (λ t m. ap (list_any p) (raised_is locations_of (λ x. refl)
+          (replaced t) ∙ replaced_is locations_of refl t m)) (λ h. fewer (p task.root) (p task.directory) (sym (ap
+          (list_any p) (raised_is locations_of (λ x. refl) child)) ∙ h)),
+      any_of_each p locations_of old,
+    )
       where
         fewer : (a b : Bool) → (a || (b || false)) ≡ true
             → (a || (b || list_any p (map (λ descriptor. descriptor.location) task.descriptors))) ≡ true
@@ -196,20 +188,21 @@ module _ (world : World ℕ) (names : List TaskName) (name : TaskName) (is : IsW
 
     spread : (p : ℕ → Bool) (list : List (Location ℕ))
         → list_any p (mounted ++ map shows list) ≡ (list_any p mounted || list_any (λ l. p (shows l)) list)
-    spread p list =
-        any_both p mounted (map shows list)
-        ∙ ap (λ b. list_any p mounted || b) (any_mapped p (λ l. p (shows l)) shows list (λ l m. refl))
+    spread p list = cc (any_both p mounted (map shows list), any_mapped p (λ l. p (shows l)) shows list (λ l m. refl))
 
-    direct_same : (p : ℕ → Bool) → list_any p (used_directly nat_eq ended set) ≡ list_any p (used_directly nat_eq w names)
-    direct_same p =
-        direct_by p
-        ∙ spread p (locations (members ended set))
-        ∙ ap (λ b. list_any p mounted || b) (places_same (λ l. p (shows l)))
-        ∙ sym (spread p (locations old))
+    direct_same : (p : ℕ → Bool) → list_any p (used_directly nat_eq ended set)
+        ≡ list_any p (used_directly nat_eq w names)
+    direct_same p = cc (
+      direct_by p,
+      spread p (locations (members ended set)),
+      places_same (λ l. p (shows l)),
+      spread p (locations old),
+    )
 
     kept_same : (m : Mount ℕ) → Among m w.mounts → keep w names (members ended set) m ≡ keep w names old m
     kept_same m n i =
-        cond (holds_of (λ k. own_same k i) m.namespace || roots_same (λ (l : Location ℕ). nat_eq l.mount m.number) i) (Some m)
+        cond (holds_of (λ k. own_same k i) m.namespace || roots_same (λ (l : Location ℕ). nat_eq l.mount m.number) i)
+        (Some m)
         (when (places_same (λ (l : Location ℕ). nat_eq l.mount m.number) i) (seen_by_descriptor m))
 
     pub leaves : LeavesTasks w names set name (map replaced w.tasks ++ child ∷ [])
@@ -242,7 +235,8 @@ forks_end_alike world names name words it task called fresh other credentials gr
     part = part_of nat_eq world names
 
     made : List (Task ℕ) → List (Task ℕ)
-    made tasks = map (replaced_if_called (record task { forks = task.forks + 1 })) tasks ++ (child_of task credentials ∷ [])
+    made tasks =
+        map (replaced_if_called (record task { forks = task.forks + 1 })) tasks ++ (child_of task credentials ∷ [])
 
     member : Among task (members world names)
     member = member_called world names it.is it.sealed_off name it.theirs task called
@@ -254,6 +248,7 @@ forks_end_alike world names name words it task called fresh other credentials gr
         → filter (is_member_task (child_name task ∷ names)) (map (raised_task name) (made tasks))
         ≡ map (both world names name it.is task called credentials) (filter (is_member_task names) tasks)
         ++ kid world names name it.is task called credentials ∷ []
-    alike tasks all =
-        ap (filter (is_member_task (child_name task ∷ names))) (raised_all world names name it.is task called credentials tasks)
-        ∙ sift world names name it.is task called credentials tasks all
+    alike tasks all = cc (
+      raised_all world names name it.is task called credentials tasks,
+      sift world names name it.is task called credentials tasks all,
+    )

@@ -9,7 +9,8 @@ use Rattle.vt_spec.proofs.Lists.{Among, all_from_among, among-append, among-appe
 use Rattle.vt_laws_letting_go.specs.InUse.{AllInUse, is_inode_used}
 
 module _ (world : World ℕ) (tasks : List (Task ℕ)) (change : ℕ) (is : AllInUse world)
-    (more : (location : Location ℕ) → Among location (all_locations world) → Among location (flat_map locations_of tasks))
+    (more : (location : Location ℕ) → Among location (all_locations world)
+    → Among location (flat_map locations_of tasks))
   where
     abbrev later : World ℕ
     later = record world { tasks = tasks; change = change }
@@ -17,16 +18,14 @@ module _ (world : World ℕ) (tasks : List (Task ℕ)) (change : ℕ) (is : AllI
     located_too : (number : ℕ) → is_located nat_eq world number ≡ true → is_located nat_eq later number ≡ true
     located_too number h =
         let at = any_among (λ (l : Location ℕ). nat_eq number l.mount) (all_locations world) h in
-        any_from_among (λ (l : Location ℕ). nat_eq number l.mount) (flat_map locations_of tasks) at.0 (more at.0 at.1) at.2
+        any_from_among (λ (l : Location ℕ). nat_eq number l.mount) (flat_map locations_of tasks) at.0
+        (more at.0 at.1) at.2
 
     lives_too : (mount : Mount ℕ) → mount_lives nat_eq world mount ≡ true → mount_lives nat_eq later mount ≡ true
     lives_too mount h =
         ⊎_elim (or_left (is_some mount.namespace) (is_located nat_eq later mount.number))
         (λ at. or_right (is_some mount.namespace) (is_located nat_eq later mount.number) (located_too mount.number at))
         (or_cases (is_some mount.namespace) (is_located nat_eq world mount.number) h)
-
-    abbrev others : List (Location ℕ)
-    others = map root_of world.mounts ++ filter_map (λ (mount : Mount ℕ). mount.mount_point) world.mounts
 
     abbrev within : ℕ → Location ℕ → Bool
     within filesystem location = nat_eq filesystem (mount_at nat_eq world location).filesystem
@@ -57,7 +56,8 @@ module _ (world : World ℕ) (tasks : List (Task ℕ)) (change : ℕ) (is : AllI
             among-append_left (flat_map locations_of tasks ++ map root_of world.mounts)
             (filter_map (λ (mount : Mount ℕ). mount.mount_point) world.mounts) location
             (⊎_elim
-            (λ at. among-append_left (flat_map locations_of tasks) (map root_of world.mounts) location (more location at))
+            (λ at. among-append_left (flat_map locations_of tasks) (map root_of world.mounts) location
+            (more location at))
             (among-append_right (flat_map locations_of tasks) (map root_of world.mounts) location)
             (among-append (all_locations world) (map root_of world.mounts) location first)))
             (among-append_right (flat_map locations_of tasks ++ map root_of world.mounts)
@@ -104,12 +104,15 @@ module _ (world : World ℕ) (tasks : List (Task ℕ)) (change : ℕ) (is : AllI
       mounts = list_all_from_among (mount_lives nat_eq later) world.mounts (λ mount m.
           lives_too mount (among_from_list_all (mount_lives nat_eq world) world.mounts is.mounts mount m));
       filesystems = is.filesystems;
-      inodes = all_from_among (λ (f : Filesystem ℕ). list_all (is_inode_used later f) f.files.numbers ≡ true) world.filesystems
+      inodes =
+          all_from_among (λ (f : Filesystem ℕ). list_all (is_inode_used later f) f.files.numbers
+          ≡ true) world.filesystems
           (λ f m. list_all_from_among (is_inode_used later f) f.files.numbers (λ object n.
           is_among_numbers (used_in nat_eq later f) object
           (used_too f object (among_numbers (used_in nat_eq world f) object
           (among_from_list_all (is_inode_used world f) f.files.numbers
-          (among_from_all (λ (f : Filesystem ℕ). list_all (is_inode_used world f) f.files.numbers ≡ true) world.filesystems
+          (among_from_all (λ (f : Filesystem ℕ). list_all (is_inode_used world f) f.files.numbers
+          ≡ true) world.filesystems
           is.inodes f m) object n)))));
       groups = is.groups;
     }

@@ -31,14 +31,16 @@ use Rattle.vt_laws_members_changes.proofs.tasks.Retasked.{retasked}
 use Rattle.vt_laws_members_changes.proofs.tasks.WholeMounts.{used_in_part, whole_in_part, whole_in_world}
 
 -- the outcome of an open after which filesystems are these
-abbrev pub opened_with : World ℕ → TaskName → (Filesystem ℕ → Filesystem ℕ) → List ℕ → Task ℕ → Location ℕ → Access → Outcome ℕ
+abbrev pub opened_with : World ℕ → TaskName → (Filesystem ℕ → Filesystem ℕ) → List ℕ → Task ℕ → Location ℕ → Access
+    → Outcome ℕ
 opened_with w name moved numbers task file access =
     granted (Opened (free_number task)) (numbers_raised nat_eq w name numbers
     (settled nat_eq (with_task (with_filesystems w moved) (with_descriptor task file access))))
 
 module _ (world : World ℕ) (names : List TaskName) (name : TaskName) (path : List ℕ) (access : Access) (how : Creation)
     (it : IsCallOfTheirs world names name (OpenFile path access how)) (fresh : Fresh ℕ) (task : Task ℕ)
-    (found : task_called world name ≡ Some task) (file : Location ℕ) (ground : IsTheirs world names it.is.mounts file.mount)
+    (found : task_called world name ≡ Some task) (file : Location ℕ)
+    (ground : IsTheirs world names it.is.mounts file.mount)
     (wanted : Access) (moved : Filesystem ℕ → Filesystem ℕ) (numbers : List ℕ) where
   abbrev part : World ℕ
   part = part_of nat_eq world names
@@ -62,16 +64,19 @@ module _ (world : World ℕ) (names : List TaskName) (name : TaskName) (path : L
   -- in the world, and in the part: all stays in use, and the part has what changed
   pub record MovesIn (w : World ℕ) : Type 0 where
     pub in_use : AllInUse (with_filesystems w moved)
-    pub part_moved : part_of nat_eq (with_filesystems w moved_on) names ≡ with_filesystems (part_of nat_eq w names) moved_on
+    pub part_moved : part_of nat_eq (with_filesystems w moved_on) names
+        ≡ with_filesystems (part_of nat_eq w names) moved_on
 
   module _ (w : World ℕ) (moves : MovesIn w) (within : (t : Task ℕ) → Among t w.tasks → Among t world.tasks)
       (whole : (m : Mount ℕ) → Among m w.mounts → nat_eq file.mount m.number ≡ true
       → (is_own w names (members w names) m || is_at nat_eq (roots_and_directories (members w names)) m) ≡ true)
       (direct : Among (mount_at nat_eq w file).filesystem (used_directly nat_eq w names)) where
     leaves_tasks : LeavesTasks (with_filesystems w moved_on) names names name (map replaced w.tasks)
-    leaves_tasks = leaves world names name it.is task found file wanted (with_filesystems w moved_on) within whole direct
+    leaves_tasks =
+        leaves world names name it.is task found file wanted (with_filesystems w moved_on) within whole direct
 
-    numbers_so : numbers_raised nat_eq w name numbers (record (with_filesystems w moved) { tasks = map replaced w.tasks })
+    numbers_so : numbers_raised nat_eq w name numbers
+        (record (with_filesystems w moved) { tasks = map replaced w.tasks })
         ≡ later w
     numbers_so i = record {
       mounts = w.mounts;
@@ -94,12 +99,11 @@ module _ (world : World ℕ) (names : List TaskName) (name : TaskName) (path : L
           tasks = filter (is_member_task names) (map (raised_task name) (map replaced w.tasks));
         }
     part_of_later =
-        retasked (with_filesystems w moved_on) names names (map (raised_task name) (map replaced w.tasks))
-        (raised w.change) leaves_tasks.sees
-        ∙ ap (λ (v : World ℕ). record v {
-          tasks = filter (is_member_task names) (map (raised_task name) (map replaced w.tasks));
-        })
-        moves.part_moved
+        cc (
+          retasked (with_filesystems w moved_on) names names (map (raised_task name) (map replaced w.tasks))
+              (raised w.change) leaves_tasks.sees,
+          moves.part_moved,
+        )
 
   module _ (in_world : MovesIn world) (in_part : MovesIn part) where
     its : (t : Task ℕ) → Among t part.tasks → Among t world.tasks
@@ -114,10 +118,11 @@ module _ (world : World ℕ) (names : List TaskName) (name : TaskName) (path : L
 
         of_map : (tasks : List (Task ℕ)) → filter (is_member_task names) (map (raised_task name) (map replaced tasks))
             ≡ map each (filter (is_member_task names) tasks)
-        of_map tasks =
-            ap (filter (is_member_task names)) (map_twice (raised_task name) replaced tasks)
-            ∙ filter-map (is_member_task names) each tasks
-            (λ t. ap (λ n. is_among same_name n names) (both_named world names name it.is task found file wanted t))
+        of_map tasks = cc (
+          map_twice (raised_task name) replaced tasks,
+          filter-map (is_member_task names) each tasks (λ t. ap (λ n. is_among same_name n names) (both_named world
+              names name it.is task found file wanted t)),
+        )
 
     parts_alike : part_of nat_eq (later world) names ≡ part_of nat_eq (later part) names
     parts_alike =
@@ -137,7 +142,8 @@ module _ (world : World ℕ) (names : List TaskName) (name : TaskName) (path : L
         (theirs_directly world names it.is file ground) in
         let second : policy nat_eq fresh part name call ≡ granted (Opened (free_number task)) (later part) =
         ap (ran name call part fresh) (same_caller world names it.is it.sealed_off name it.theirs ∙ found) ∙ two
-        ∙ ends_so part in_part its (whole_in_part world names it.is file ground) (used_in_part world names it.is file ground) in
+        ∙ ends_so part in_part its (whole_in_part world names it.is file ground)
+        (used_in_part world names it.is file ground) in
         subst (λ p. EndAlike (grown names name call (policy nat_eq fresh world name call).answer)
         (policy nat_eq fresh world name call) p) (sym second)
         (subst (λ o. EndAlike (grown names name call o.answer) o (granted (Opened (free_number task)) (later part)))

@@ -79,10 +79,12 @@ module _ (world : World ℕ) (names : List TaskName) (is : IsWorld nat_eq world)
   abbrev IsFound : Option (Location ℕ) → Type 0
   IsFound = FoundAt one other task On alike.walks alike.directory alike.rules.removed
 
-  opens_there : (file : Location ℕ) (access : Access) → On file.mount → IfOk (open_file_permit nat_eq one task file access) Opens
+  opens_there : (file : Location ℕ) (access : Access) → On file.mount
+      → IfOk (open_file_permit nat_eq one task file access) Opens
   opens_there file access on = of_rules Opens (open_rules one task file access) (Ok (ToOpen file access)) on
 
-  opens_new : (place : Place ℕ) (access : Access) (mode : ℕ) → IfOk (create_file_permit nat_eq one task place access mode) Opens
+  opens_new : (place : Place ℕ) (access : Access) (mode : ℕ)
+      → IfOk (create_file_permit nat_eq one task place access mode) Opens
   opens_new place access mode =
       of_rules Opens (make_rules one task place (unnumbered place (new_file task mode [])))
       (Ok (open_new_permit task place access mode)) tt
@@ -92,14 +94,17 @@ module _ (world : World ℕ) (names : List TaskName) (is : IsWorld nat_eq world)
   opens_either place access mode None found = opens_new place access mode
   opens_either place access mode (Some file) found = opens_there file access (found file refl)
 
-  opens_by : (path : List ℕ) (access : Access) (how : Creation) → IfOk (open_by_permit nat_eq one task path access how) Opens
+  opens_by : (path : List ℕ) (access : Access) (how : Creation)
+      → IfOk (open_by_permit nat_eq one task path access how) Opens
   opens_by path access NoCreation =
-      of_walk StandsHere Opens (object_walk nat_eq one task path) (λ here. open_file_permit nat_eq one task here.location access)
+      of_walk StandsHere Opens (object_walk nat_eq one task path)
+      (λ here. open_file_permit nat_eq one task here.location access)
       (object_agrees one other task On alike.walks alike.directory alike.rules.removed path).1
       (λ here on. opens_there here.location access on)
   opens_by path access (OrCreate mode) =
       of_walk IsPlaced Opens (file_walk nat_eq one task path)
-      (λ place. unless (file_word_rules place) (opened_or_created_permit nat_eq one task place access mode place.object))
+      (λ place. unless (file_word_rules place)
+      (opened_or_created_permit nat_eq one task place access mode place.object))
       (file_agrees one other task On alike.walks alike.directory alike.rules.removed path).1
       (λ place at. of_rules Opens (file_word_rules place)
       (opened_or_created_permit nat_eq one task place access mode place.object)
@@ -195,14 +200,17 @@ module _ (world : World ℕ) (names : List TaskName) (name : TaskName) (is : IsW
   both_named t = raised_is (λ (x : Task ℕ). x.name) (λ x. refl) (replaced t) ∙ name-replaced_if_called new t
 
   both_spaced : (t : Task ℕ) → Among t world.tasks → (both t).namespace ≡ t.namespace
-  both_spaced t m =
-      raised_is (λ (x : Task ℕ). x.namespace) (λ x. refl) (replaced t) ∙ replaced_is (λ (x : Task ℕ). x.namespace) refl t m
+  both_spaced t m = cc (
+    raised_is (λ (x : Task ℕ). x.namespace) (λ x. refl) (replaced t),
+    replaced_is (λ (x : Task ℕ). x.namespace) refl t m,
+  )
 
   both_rooted : (t : Task ℕ) → Among t world.tasks
       → ((both t).root ∷ (both t).directory ∷ []) ≡ (t.root ∷ t.directory ∷ [])
-  both_rooted t m =
-      raised_is (λ (x : Task ℕ). x.root ∷ x.directory ∷ []) (λ x. refl) (replaced t)
-      ∙ replaced_is (λ (x : Task ℕ). x.root ∷ x.directory ∷ []) refl t m
+  both_rooted t m = cc (
+    raised_is (λ (x : Task ℕ). x.root ∷ x.directory ∷ []) (λ x. refl) (replaced t),
+    replaced_is (λ (x : Task ℕ). x.root ∷ x.directory ∷ []) refl t m,
+  )
 
   -- its locations
   were_its : (t : Task ℕ) → Among t world.tasks → (location : Location ℕ) → Among location (locations_of (replaced t))
@@ -303,21 +311,15 @@ module _ (world : World ℕ) (names : List TaskName) (name : TaskName) (is : IsW
         (when (is_at nat_eq (locations (members ended names)) m) (seen_by_descriptor m))
 
     kept_same : (m : Mount ℕ) → Among m w.mounts → keep w names (members ended names) m ≡ keep w names old m
-    kept_same m n =
-        kept_by m
-        ∙ by (is_own w names old m || is_at nat_eq (roots_and_directories old) m) refl
+    kept_same m n = cc (kept_by m, by (is_own w names old m || is_at nat_eq (roots_and_directories old) m) refl)
       where
         by : (b : Bool) → (is_own w names old m || is_at nat_eq (roots_and_directories old) m) ≡ b
             → cond (is_own w names old m || is_at nat_eq (roots_and_directories old) m) (Some m)
             (when (is_at nat_eq (locations (members ended names)) m) (seen_by_descriptor m))
             ≡ cond (is_own w names old m || is_at nat_eq (roots_and_directories old) m) (Some m)
             (when (is_at nat_eq (locations old) m) (seen_by_descriptor m))
-        by true e =
-            ap (λ b. cond b (Some m) (when (is_at nat_eq (locations (members ended names)) m) (seen_by_descriptor m))) e
-            ∙ sym (ap (λ b. cond b (Some m) (when (is_at nat_eq (locations old) m) (seen_by_descriptor m))) e)
-        by false e =
-            ap (λ c. cond (is_own w names old m || is_at nat_eq (roots_and_directories old) m) (Some m)
-            (when c (seen_by_descriptor m))) (at_same m n e)
+        by true e = cc
+        by false e = cc (at_same m n e)
 
     abbrev shows : Location ℕ → ℕ
     shows location = (mount_at nat_eq w location).filesystem
@@ -354,15 +356,16 @@ module _ (world : World ℕ) (names : List TaskName) (name : TaskName) (is : IsW
         (filter (λ (m : Mount ℕ). holds_of (λ k. own_same k i) m.namespace) w.mounts)
         ++ map shows (locations (members ended names)))
 
-    direct_same : (p : ℕ → Bool) → list_any p (used_directly nat_eq ended names) ≡ list_any p (used_directly nat_eq w names)
-    direct_same p =
-        direct_by p
-        ∙ same_truth (list_any p (mounted ++ map shows (locations (members ended names))))
-        (list_any p (mounted ++ map shows (locations old)))
-        (λ h. let at = any_among p (mounted ++ map shows (locations (members ended names))) h in
-        any_from_among p (mounted ++ map shows (locations old)) at.0 (used_same at.0 at.1) at.2)
-        (λ h. let at = any_among p (mounted ++ map shows (locations old)) h in
-        any_from_among p (mounted ++ map shows (locations (members ended names))) at.0 (used_still at.0 at.1) at.2)
+    direct_same : (p : ℕ → Bool) → list_any p (used_directly nat_eq ended names)
+        ≡ list_any p (used_directly nat_eq w names)
+    direct_same p = cc (
+      direct_by p,
+      same_truth (list_any p (mounted ++ map shows (locations (members ended names)))) (list_any p (mounted ++ map
+          shows (locations old))) (λ h. let at = any_among p (mounted ++ map shows (locations (members ended names))) h
+          in any_from_among p (mounted ++ map shows (locations old)) at.0 (used_same at.0 at.1) at.2) (λ h. let at =
+          any_among p (mounted ++ map shows (locations old)) h in any_from_among p (mounted ++ map shows (locations
+          (members ended names))) at.0 (used_still at.0 at.1) at.2),
+    )
 
     pub leaves : LeavesTasks w names names name (map replaced w.tasks)
     leaves = record {
@@ -370,13 +373,15 @@ module _ (world : World ℕ) (names : List TaskName) (name : TaskName) (is : IsW
           let from = among-from_flat_map locations_of w.tasks location m in
           among-flat_map locations_of (map replaced w.tasks) (replaced from.0) location
           (among-map replaced w.tasks from.0 from.1) (stay_its from.0 (within from.0 from.1) location from.2);
-      sees = subst (λ l. SeeAlike w names names l (raised w.change)) (sym (map_twice (raised_task name) replaced w.tasks))
+      sees =
+          subst (λ l. SeeAlike w names names l (raised w.change)) (sym (map_twice (raised_task name) replaced w.tasks))
           (record { own = own_same; mounts = kept_same; direct = direct_same });
     }
 
 pub opens_end_alike : OpensEndAlike
 opens_end_alike world names name path access how it task called fresh other file wanted granted_so not_copied =
-    tasks_end_alike world names names name (OpenFile path access how) it task called fresh other (Opened (free_number task))
+    tasks_end_alike world names names name (OpenFile path access how) it task called fresh other
+    (Opened (free_number task))
     refl (map changed world.tasks) (map changed part.tasks)
     (ap (run_by world names name (OpenFile path access how) it fresh other world fresh task) granted_so
     ∙ ap (opened_by world fresh) not_copied)
@@ -412,11 +417,7 @@ opens_end_alike world names name path access how it task called fresh other file
         (opens_theirs world names it.is it.sealed_off task member path access how))
 
     copied_alike : is_copied_up nat_eq part file wanted ≡ false
-    copied_alike =
-        sym (ap (λ (f : Filesystem ℕ). opens_for_writing wanted
-        && overlay_or false (λ overlay. lies_only_in_lowers overlay file.node) f.overlay)
-        (filesystem_alike world names it.is file ground))
-        ∙ not_copied
+    copied_alike = cc (filesystem_alike world names it.is file ground, not_copied)
 
     in_world : (t : Task ℕ) → Among t part.tasks → Among t world.tasks
     in_world t m = (among-from_filter (is_member_task names) world.tasks t m).0
@@ -427,7 +428,8 @@ opens_end_alike world names name path access how it task called fresh other file
     replaced_members : (tasks : List (Task ℕ))
         → filter (is_member_task names) (map (raised_task name) (map changed tasks))
         ≡ map (both world names name it.is task called file wanted) (filter (is_member_task names) tasks)
-    replaced_members tasks =
-        ap (filter (is_member_task names)) (map_twice (raised_task name) changed tasks)
-        ∙ filter-map (is_member_task names) (both world names name it.is task called file wanted) tasks
-        (λ t. ap (λ n. is_among same_name n names) (both_named world names name it.is task called file wanted t))
+    replaced_members tasks = cc (
+      map_twice (raised_task name) changed tasks,
+      filter-map (is_member_task names) (both world names name it.is task called file wanted) tasks (λ t. ap (λ n.
+          is_among same_name n names) (both_named world names name it.is task called file wanted t)),
+    )

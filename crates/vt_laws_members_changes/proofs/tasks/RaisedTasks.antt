@@ -43,7 +43,8 @@ module _ (before : World ℕ) (name : TaskName) (tasks : List (Task ℕ)) where
 
   same_mount_itself : (mount : Mount ℕ) → same_mount nat_eq before left mount mount ≡ true
   same_mount_itself mount =
-      and_from (nat_eq mount.number mount.number && same_option (same_location nat_eq) mount.mount_point mount.mount_point
+      and_from (nat_eq mount.number mount.number && same_option
+      (same_location nat_eq) mount.mount_point mount.mount_point
       && same_flags mount.flags mount.flags && same_propagation nat_eq mount.propagation mount.propagation)
       (same_option nat_eq (master_above before mount) (master_above left mount))
       (and_from (nat_eq mount.number mount.number
@@ -64,9 +65,7 @@ module _ (before : World ℕ) (name : TaskName) (tasks : List (Task ℕ)) where
       (same_mount_itself mount) (all_themselves list)
 
   namespace_kept : (namespace : Namespace ℕ) → raised_namespace nat_eq before left namespace ≡ namespace
-  namespace_kept namespace =
-      ap (λ b. cond b namespace (record namespace { change = raised namespace.change }))
-      (all_themselves (mounts_of nat_eq before namespace.number))
+  namespace_kept namespace = cc (all_themselves (mounts_of nat_eq before namespace.number))
 
   pub tasks_raised : numbers_raised nat_eq before name [] left
       ≡ record before { tasks = map (raised_task name) tasks; change = raised before.change }

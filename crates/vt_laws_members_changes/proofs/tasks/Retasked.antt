@@ -17,7 +17,8 @@ use Rattle.vt_laws_part.proofs.part.PartOfPart.{keep}
 any_once : (p : ℕ → Bool) (xs : List ℕ) → list_any p (each_once nat_eq xs) ≡ list_any p xs
 any_once p xs =
     same_truth (list_any p (each_once nat_eq xs)) (list_any p xs)
-    (λ h. let at = any_among p (each_once nat_eq xs) h in any_from_among p xs at.0 (among-from_each_once xs at.0 at.1) at.2)
+    (λ h. let at = any_among p (each_once nat_eq xs) h in
+    any_from_among p xs at.0 (among-from_each_once xs at.0 at.1) at.2)
     (λ h. let at = any_among p xs h in any_from_among p (each_once nat_eq xs) at.0 (among-each_once xs at.0 at.1) at.2)
 
 pub any_both : {A : Type 0} (p : A → Bool) (xs ys : List A) → list_any p (xs ++ ys) ≡ (list_any p xs || list_any p ys)
@@ -45,9 +46,11 @@ module _ (world : World ℕ) (names set : List TaskName) (tasks : List (Task ℕ
 
   -- the tasks of the set see what they saw: the same namespaces, mounts, and filesystems
   pub record SeeAlike : Type 0 where
-    pub own : (n : ℕ) → list_any (λ (t : Task ℕ). nat_eq n t.namespace) new ≡ list_any (λ (t : Task ℕ). nat_eq n t.namespace) old
+    pub own : (n : ℕ) → list_any (λ (t : Task ℕ). nat_eq n t.namespace) new
+        ≡ list_any (λ (t : Task ℕ). nat_eq n t.namespace) old
     pub mounts : (mount : Mount ℕ) → Among mount world.mounts → keep world names new mount ≡ keep world names old mount
-    pub direct : (p : ℕ → Bool) → list_any p (used_directly nat_eq later set) ≡ list_any p (used_directly nat_eq world names)
+    pub direct : (p : ℕ → Bool) → list_any p (used_directly nat_eq later set)
+        ≡ list_any p (used_directly nat_eq world names)
 
   module _ (alike : SeeAlike) where
     used_same : (n : ℕ) → is_among nat_eq n (used_filesystems nat_eq later set)
@@ -63,25 +66,28 @@ module _ (world : World ℕ) (names set : List TaskName) (tasks : List (Task ℕ
             (each_once nat_eq (direct ++ flat_map (λ k. change_layers (filesystem_numbered nat_eq world k)) direct))
             ≡ (list_any (nat_eq n) direct
             || list_any (λ k. list_any (nat_eq n) (change_layers (filesystem_numbered nat_eq world k))) direct)
-        spread direct =
-            any_once (nat_eq n) (direct ++ flat_map (λ k. change_layers (filesystem_numbered nat_eq world k)) direct)
-            ∙ any_both (nat_eq n) direct (flat_map (λ k. change_layers (filesystem_numbered nat_eq world k)) direct)
-            ∙ ap (λ b. list_any (nat_eq n) direct || b)
-            (any_of_each (nat_eq n) (λ k. change_layers (filesystem_numbered nat_eq world k)) direct)
+        spread direct = cc (
+          any_once (nat_eq n) (direct ++ flat_map (λ k. change_layers (filesystem_numbered nat_eq world k)) direct),
+          any_both (nat_eq n) direct (flat_map (λ k. change_layers (filesystem_numbered nat_eq world k)) direct),
+          any_of_each (nat_eq n) (λ k. change_layers (filesystem_numbered nat_eq world k)) direct,
+        )
 
     abbrev lowers_at : ℕ → List (Layer ℕ)
     lowers_at k = of_overlay [] (λ (overlay : Overlay ℕ). overlay.lowers) (filesystem_numbered nat_eq world k)
 
-    lowers_same : (p : Layer ℕ → Bool) → list_any p (own_lowers nat_eq later set) ≡ list_any p (own_lowers nat_eq world names)
-    lowers_same p =
-        any_of_each p lowers_at (used_directly nat_eq later set)
-        ∙ alike.direct (λ k. list_any p (lowers_at k))
-        ∙ sym (any_of_each p lowers_at (used_directly nat_eq world names))
+    lowers_same : (p : Layer ℕ → Bool)
+        → list_any p (own_lowers nat_eq later set) ≡ list_any p (own_lowers nat_eq world names)
+    lowers_same p = cc (
+      any_of_each p lowers_at (used_directly nat_eq later set),
+      alike.direct (λ k. list_any p (lowers_at k)),
+      any_of_each p lowers_at (used_directly nat_eq world names),
+    )
 
     owned_same : own_mounts nat_eq later set ≡ own_mounts nat_eq world names
     owned_same i = filter (λ (mount : Mount ℕ). holds_of (λ n. alike.own n i) mount.namespace) world.mounts
 
-    masters_same : (group : ℕ) → cond (list_any (is_member_of nat_eq group) (own_mounts nat_eq later set)) (world.master group) None
+    masters_same : (group : ℕ) → cond (list_any (is_member_of nat_eq group) (own_mounts nat_eq later set))
+        (world.master group) None
         ≡ cond (list_any (is_member_of nat_eq group) (own_mounts nat_eq world names)) (world.master group) None
     masters_same group = ap (λ l. cond (list_any (is_member_of nat_eq group) l) (world.master group) None) owned_same
 

@@ -27,9 +27,7 @@ use Rattle.vt_laws_members_changes.proofs.tasks.Retasked.{SeeAlike}
 pub any_mapped : {A B : Type 0} (p : B → Bool) (q : A → Bool) (f : A → B) (xs : List A)
     → ((x : A) → Among x xs → p (f x) ≡ q x) → list_any p (map f xs) ≡ list_any q xs
 any_mapped p q f [] same = refl
-any_mapped p q f (x ∷ xs) same =
-    ap (λ b. b || list_any p (map f xs)) (same x (inl refl))
-    ∙ ap (λ b. q x || b) (any_mapped p q f xs (λ y m. same y (inr m)))
+any_mapped p q f (x ∷ xs) same = cc (same x (inl refl), any_mapped p q f xs (λ y m. same y (inr m)))
 
 -- Each task is changed in what it may do, and sees what it saw.
 module _ (world : World ℕ) (names : List TaskName) (f : Task ℕ → Task ℕ) (named : (t : Task ℕ) → (f t).name ≡ t.name)
@@ -52,20 +50,21 @@ module _ (world : World ℕ) (names : List TaskName) (f : Task ℕ → Task ℕ)
 
   pub own_alike : (n : ℕ) → list_any (λ (t : Task ℕ). nat_eq n t.namespace) (members changed names)
       ≡ list_any (λ (t : Task ℕ). nat_eq n t.namespace) theirs
-  own_alike n =
-      ap (list_any (λ (t : Task ℕ). nat_eq n t.namespace)) members_changed
-      ∙ any_mapped (λ (t : Task ℕ). nat_eq n t.namespace) (λ (t : Task ℕ). nat_eq n t.namespace) f theirs
-      (λ t m. ap (nat_eq n) (spaced t (there t m)))
+  own_alike n = cc (
+    members_changed,
+    any_mapped (λ (t : Task ℕ). nat_eq n t.namespace) (λ (t : Task ℕ). nat_eq n t.namespace) f theirs (λ t m. ap
+        (nat_eq n) (spaced t (there t m))),
+  )
 
   pub roots_alike : roots_and_directories (members changed names) ≡ roots_and_directories theirs
-  roots_alike =
-      ap roots_and_directories members_changed
-      ∙ flat_map-step f (λ (t : Task ℕ). t.root ∷ t.directory ∷ []) theirs (λ t m. rooted t (there t m))
+  roots_alike = cc (
+    members_changed,
+    flat_map-step f (λ (t : Task ℕ). t.root ∷ t.directory ∷ []) theirs (λ t m. rooted t (there t m)),
+  )
 
   module _ (placed : (t : Task ℕ) → Among t world.tasks → locations_of (f t) ≡ locations_of t) where
     places_alike : locations (members changed names) ≡ locations theirs
-    places_alike =
-        ap locations members_changed ∙ flat_map-step f locations_of theirs (λ t m. placed t (there t m))
+    places_alike = cc (members_changed, flat_map-step f locations_of theirs (λ t m. placed t (there t m)))
 
     pub sees_alike : SeeAlike world names names (map f world.tasks) change
     sees_alike = record {
@@ -80,7 +79,8 @@ module _ (world : World ℕ) (names : List TaskName) (f : Task ℕ → Task ℕ)
     }
 
 -- tasks of one name are one
-pub only_task : (tasks : List (Task ℕ)) → any_pair (λ (a b : Task ℕ). same_name a.name b.name) tasks ≡ false → (a b : Task ℕ)
+pub only_task : (tasks : List (Task ℕ)) → any_pair (λ (a b : Task ℕ). same_name a.name b.name) tasks ≡ false
+    → (a b : Task ℕ)
     → Among a tasks → Among b tasks → a.name ≡ b.name → a ≡ b
 only_task [] one a b m n e = absurd m
 only_task (first ∷ rest) one a b m n e =
@@ -99,7 +99,8 @@ only_task (first ∷ rest) one a b m n e =
         ∙ none_among (λ (x : Task ℕ). same_name first.name x.name) rest none t m)
 
 -- A task with other rights
-module _ (world : World ℕ) (names : List TaskName) (name : TaskName) (call : Call) (it : IsCallOfTheirs world names name call)
+module _ (world : World ℕ) (names : List TaskName) (name : TaskName) (call : Call)
+    (it : IsCallOfTheirs world names name call)
     (task : Task ℕ) (found : task_called world name ≡ Some task) (new : Task ℕ) (named : new.name ≡ task.name)
     (spaced : new.namespace ≡ task.namespace)
     (rooted : (new.root ∷ new.directory ∷ []) ≡ (task.root ∷ task.directory ∷ []))
@@ -118,10 +119,11 @@ module _ (world : World ℕ) (names : List TaskName) (name : TaskName) (call : C
   replaced_is what same t m = by (same_name new.name t.name) refl
     where
       by : (b : Bool) → same_name new.name t.name ≡ b → what (cond b new t) ≡ what t
-      by true e =
-          same ∙ ap what (only_task world.tasks it.is.tasks.one_task task t
-          (found_among (λ (x : Task ℕ). same_name name x.name) world.tasks task found) m
-          (sym named ∙ same_task_name new.name t.name e))
+      by true e = cc (
+        same,
+        only_task world.tasks it.is.tasks.one_task task t (found_among (λ (x : Task ℕ). same_name name x.name)
+            world.tasks task found) m (sym named ∙ same_task_name new.name t.name e),
+      )
       by false e = refl
 
   raised_is : {A : Type 0} (what : Task ℕ → A) → ((t : Task ℕ) → what (record t { change = raised t.change }) ≡ what t)
@@ -168,9 +170,10 @@ module _ (world : World ℕ) (names : List TaskName) (name : TaskName) (call : C
       replaced_members : ((t : Task ℕ) → (both t).name ≡ t.name) → (tasks : List (Task ℕ))
           → filter (is_member_task names) (map (raised_task name) (map replaced tasks))
           ≡ map both (filter (is_member_task names) tasks)
-      replaced_members kept tasks =
-          ap (filter (is_member_task names)) (map_twice (raised_task name) replaced tasks)
-          ∙ filter-map (is_member_task names) both tasks (λ t. ap (λ n. is_among same_name n names) (kept t))
+      replaced_members kept tasks = cc (
+        map_twice (raised_task name) replaced tasks,
+        filter-map (is_member_task names) both tasks (λ t. ap (λ n. is_among same_name n names) (kept t)),
+      )
 
 pub umasks_end_alike : UmasksEndAlike
 umasks_end_alike world names name mode it fresh other = by (task_called world name) refl
@@ -178,7 +181,8 @@ umasks_end_alike world names name mode it fresh other = by (task_called world na
     by : (o : Option (Task ℕ)) → task_called world name ≡ o → EndsAlike world names name (Umask mode) fresh other
     by None e = unnamed_ends_alike world names name (Umask mode) it fresh other e
     by (Some task) e =
-        rights_end world names name (Umask mode) it task e (record task { umask = permission_bits mode }) refl refl refl refl
+        rights_end world names name (Umask mode) it task e
+        (record task { umask = permission_bits mode }) refl refl refl refl
         Done fresh other refl refl refl
 
 pub drops_end_alike : DropsEndAlike
@@ -201,7 +205,8 @@ itself_again task tasks one = map_same (replaced_if_called task) tasks (λ t m. 
     by t m false e = refl
 
 pub idle_end_alike : (world : World ℕ) (names : List TaskName) (name : TaskName) (call : Call)
-    → IsCallOfTheirs world names name call → (task : Task ℕ) → task_called world name ≡ Some task → (fresh other : Fresh ℕ)
+    → IsCallOfTheirs world names name call → (task : Task ℕ) → task_called world name ≡ Some task
+    → (fresh other : Fresh ℕ)
     → (answer : Answer) → grown names name call (Ok answer) ≡ names
     → ran name call world fresh (Some task) ≡ with_tasks world name answer world.tasks
     → ran name call (part_of nat_eq world names) other (Some task)

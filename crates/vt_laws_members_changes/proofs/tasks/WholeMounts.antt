@@ -25,10 +25,12 @@ module _ (world : World ℕ) (names : List TaskName) (is : IsWorld nat_eq world)
       (is_at nat_eq (roots_and_directories (members world names)) ground.0) stood.1) ground.3
 
   ground_is : (m : Mount ℕ) → Among m world.mounts → nat_eq file.mount m.number ≡ true → ground.0 ≡ m
-  ground_is m n e =
-      sym (numbered world names is.mounts ground.0 ground.1)
-      ∙ ap (mount_numbered nat_eq world) (ground.2 ∙ eqb-true file.mount m.number e)
-      ∙ numbered world names is.mounts m n
+  ground_is m n e = cc (
+    numbered world names is.mounts ground.0 ground.1,
+    ground.2,
+    eqb-true file.mount m.number e,
+    numbered world names is.mounts m n,
+  )
 
   pub whole_in_world : (m : Mount ℕ) → Among m world.mounts → nat_eq file.mount m.number ≡ true
       → (is_own world names (members world names) m
@@ -46,7 +48,8 @@ module _ (world : World ℕ) (names : List TaskName) (is : IsWorld nat_eq world)
       let its = whole_in_world from.0 from.1 (ap (nat_eq file.mount) same ∙ e) in
       let it_is : from.0 ≡ m =
       same_Some from.0 m (sym (kept_whole world names (members world names) from.0 its) ∙ from.2) in
-      ap (λ tasks. is_own world names tasks m || is_at nat_eq (roots_and_directories tasks) m) (same_members world names)
+      ap (λ tasks. is_own world names tasks m || is_at nat_eq (roots_and_directories tasks) m)
+      (same_members world names)
       ∙ subst (λ x. (is_own world names (members world names) x
       || is_at nat_eq (roots_and_directories (members world names)) x) ≡ true) it_is its
     where

@@ -78,9 +78,8 @@ module _ (w : World ℕ) where
             ≡ holds_of (λ source. is_among nat_eq group (groups_up w source)) o
         by None e = refl
         by (Some source) e =
-            ap (is_among nat_eq group)
-            (chain_same (length w.mounts) source
-            (among_from_all (HasLivingGroups nat_eq w) w.mounts kept.groups m n source e))
+            cc (chain_same (length w.mounts) source (among_from_all (HasLivingGroups nat_eq w) w.mounts kept.groups m
+            n source e))
 
     receivers_same : (m : Mount ℕ) → receivers_of nat_eq cleared m ≡ receivers_of nat_eq w m
     receivers_same m = by (group_of m.propagation)
@@ -95,9 +94,7 @@ module _ (w : World ℕ) where
     going_same m = by m.mount_point
       where
         shared : (point : Location ℕ) (b : Bool) → going_from nat_eq cleared m point b ≡ going_from nat_eq w m point b
-        shared point true =
-            ap (λ list. map (λ (gone : Mount ℕ). gone.number) (filter_map (goes_at nat_eq w point.node) list))
-            (receivers_same (mount_at nat_eq w point))
+        shared point true = cc (receivers_same (mount_at nat_eq w point))
         shared point false = refl
 
         by : (o : Option (Location ℕ)) → going_at nat_eq cleared m o ≡ going_at nat_eq w m o

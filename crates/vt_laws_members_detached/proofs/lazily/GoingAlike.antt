@@ -148,9 +148,10 @@ module _ (world : World ℕ) (names : List TaskName) (invariants : MountInvarian
       → goes_at nat_eq part node receiver ≡ goes_at nat_eq world node receiver
   goes_alike node receiver m own =
       let it : On receiver.number = own_theirs receiver m own in
-      ap (λ o. then_some o (λ (child : Mount ℕ). when (may_go nat_eq part child) child))
-      (same_child world names invariants at (theirs_whole world names invariants at.mount it))
-      ∙ by (child_at nat_eq world.mounts at) (λ child e. standing_own at child it e)
+      cc (
+        same_child world names invariants at (theirs_whole world names invariants at.mount it),
+        by (child_at nat_eq world.mounts at) (λ child e. standing_own at child it e),
+      )
     where
       at : Location ℕ
       at = record { mount = receiver.number; node = node }
@@ -162,8 +163,7 @@ module _ (world : World ℕ) (names : List TaskName) (invariants : MountInvarian
       by None its = refl
       by (Some child) its =
           let t = its child refl in
-          ap (λ list. when (only_cover nat_eq child list) child)
-          (children_alike child.number (own_theirs child t.0 t.1))
+          cc (children_alike child.number (own_theirs child t.0 t.1))
 
   -- the mount below one of theirs
   below_own : (mount : Mount ℕ) (point : Location ℕ) → Among mount world.mounts → owns mount ≡ true
@@ -187,9 +187,10 @@ module _ (world : World ℕ) (names : List TaskName) (invariants : MountInvarian
   from_alike mount point m own e =
       let below = below_own mount point m own e in
       let parent : Mount ℕ = mount_at nat_eq world point in
-      ap (λ (x : Mount ℕ). by_parent part x (is_shared x.propagation))
-      (same_mount world names invariants point.mount below.0)
-      ∙ by parent below.1 below.2 (is_shared parent.propagation)
+      cc (
+        same_mount world names invariants point.mount below.0,
+        by parent below.1 below.2 (is_shared parent.propagation),
+      )
     where
       by_parent : World ℕ → Mount ℕ → Bool → List ℕ
       by_parent w parent true =
@@ -199,12 +200,12 @@ module _ (world : World ℕ) (names : List TaskName) (invariants : MountInvarian
 
       by : (parent : Mount ℕ) → Among parent world.mounts → owns parent ≡ true → (b : Bool)
           → by_parent part parent b ≡ by_parent world parent b
-      by parent there its true =
-          ap (map (λ (gone : Mount ℕ). gone.number))
-          (ap (filter_map (goes_at nat_eq part point.node)) (receivers_alike parent there its)
-          ∙ filter_map_same (goes_at nat_eq part point.node) (goes_at nat_eq world point.node)
-          (receivers_of nat_eq world parent) (λ receiver at.
-          let t = receivers_own parent receiver there its at in goes_alike point.node receiver t.0 t.1))
+      by parent there its true = cc (
+        receivers_alike parent there its,
+        filter_map_same (goes_at nat_eq part point.node) (goes_at nat_eq world point.node) (receivers_of nat_eq
+            world parent) (λ receiver at. let t = receivers_own parent receiver there its at in goes_alike point.node
+            receiver t.0 t.1),
+      )
       by parent there its false = refl
 
   pub going_alike : (mount : Mount ℕ) → Among mount world.mounts → owns mount ≡ true

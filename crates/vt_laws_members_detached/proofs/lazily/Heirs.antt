@@ -34,9 +34,7 @@ module _ (master : ℕ → Option ℕ) where
   Ends n source = is_some (master (last_or source (chain n master source))) ≡ false
 
   ends_above : (n group next : ℕ) → master group ≡ Some next → Ends (suc n) group → Ends n next
-  ends_above n group next e ends =
-      sym (ap (λ g. is_some (master g)) (ap (last_or group) (chain_goes_on master n group next e)
-      ∙ last_of_chain master n next group)) ∙ ends
+  ends_above n group next e ends = cc (chain_goes_on master n group next e, last_of_chain master n next group)
 
   no_master : (source : ℕ) → is_some (master source) ≡ false → master source ≡ None
   no_master source e = by (master source) refl e
@@ -56,10 +54,11 @@ module _ (master : ℕ → Option ℕ) where
       by : (o : Option ℕ) → master source ≡ o → ((next : ℕ) → Ends n next → chain m master next ≡ chain n master next)
           → chain (suc m) master source ≡ chain (suc n) master source
       by None e later = chain_ends master m source e ∙ sym (chain_ends master n source e)
-      by (Some next) e later =
-          chain_goes_on master m source next e
-          ∙ ap (λ l. source ∷ l) (later next (ends_above n source next e ends))
-          ∙ sym (chain_goes_on master n source next e)
+      by (Some next) e later = cc (
+        chain_goes_on master m source next e,
+        later next (ends_above n source next e ends),
+        chain_goes_on master n source next e,
+      )
 
   module _ (p : ℕ → Bool) where
     abbrev found_from : ℕ → Option ℕ → Option ℕ
@@ -75,10 +74,11 @@ module _ (master : ℕ → Option ℕ) where
         by zero ends None e = ap (λ b. cond b (Some group) None) fails
         by zero ends (Some next) e = absurd (true≢false (sym (ap is_some e) ∙ ends))
         by (suc n) ends None e = ap (find p) (chain_ends master n group e) ∙ ap (λ b. cond b (Some group) None) fails
-        by (suc n) ends (Some next) e =
-            ap (find p) (chain_goes_on master n group next e)
-            ∙ ap (λ b. cond b (Some group) (find p (chain n master next))) fails
-            ∙ ap (find p) (sym (chain_same n (suc n) next (omega arith) (ends_above n group next e ends)))
+        by (suc n) ends (Some next) e = cc (
+          chain_goes_on master n group next e,
+          fails,
+          chain_same n (suc n) next (omega arith) (ends_above n group next e ends),
+        )
 
 module _ (world : World ℕ) where
   abbrev members : ℕ → Bool
@@ -153,8 +153,7 @@ module _ (world : World ℕ) (live : AllGroupsLive world) where
       by : (o : Option ℕ) → source_of mount.propagation ≡ o → lost_a_group nat_eq world mount ≡ false
       by None e = ap (λ o. is_lost_group nat_eq world o || is_lost_group nat_eq world (then_some o world.master)) e
       by (Some group) e =
-          ap (λ o. is_lost_group nat_eq world o || is_lost_group nat_eq world (then_some o world.master)) e
-          ∙ above group (among_from_all (HasLivingGroups nat_eq world) world.mounts live mount m group e)
+          cc (above group (among_from_all (HasLivingGroups nat_eq world) world.mounts live mount m group e))
 
   pub nothing_lost : list_any (lost_a_group nat_eq world) world.mounts ≡ false
   nothing_lost = none_from_among (lost_a_group nat_eq world) world.mounts unlost

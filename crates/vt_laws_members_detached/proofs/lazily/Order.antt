@@ -35,8 +35,7 @@ depth_of_child : (w : World ℕ) → OneNumberEach w → AllStand w → (k : ℕ
     → (mount_numbered nat_eq w k).mount_point ≡ Some place
     → depth_of nat_eq w (mount_numbered nat_eq w k) ≡ suc (depth_of nat_eq w (mount_numbered nat_eq w place.mount))
 depth_of_child w one all k place e =
-    depth_by_rank w one all k
-    ∙ ap suc (rank_child w one all k place e ∙ sym (depth_by_rank w one all place.mount))
+    cc (depth_by_rank w one all k, rank_child w one all k place e, depth_by_rank w one all place.mount)
 
 module _ (world : World ℕ) (names : List TaskName) (is : IsWorld nat_eq world)
     (sealed_off : sealed nat_eq world names ≡ true) where
@@ -96,9 +95,11 @@ module _ (world : World ℕ) (names : List TaskName) (is : IsWorld nat_eq world)
   same_depth mount m own =
       let on = own_theirs world names is mount m own in
       let itself = numbered world names is.mounts mount m in
-      ap (depth_of nat_eq part) (sym (same_mount world names is.mounts mount.number on ∙ itself))
-      ∙ deep_alike (deep mount.number) mount.number on (omega arith)
-      ∙ ap (depth_of nat_eq world) itself
+      cc (
+        same_mount world names is.mounts mount.number on,
+        itself,
+        deep_alike (deep mount.number) mount.number on (omega arith),
+      )
 
   -- so are ordered alike
   inserted_alike : (mount : Mount ℕ) → SameDepth mount → (list : List (Mount ℕ))
@@ -115,11 +116,11 @@ module _ (world : World ℕ) (names : List TaskName) (is : IsWorld nat_eq world)
       ≡ folded (λ done mount. insert_deepest nat_eq world mount done) sorted list
   sorted_alike [] sorted all all_sorted = refl
   sorted_alike (mount ∷ rest) sorted all all_sorted =
-      ap (λ done. folded (λ before x. insert_deepest nat_eq part x before) done rest)
-      (inserted_alike mount (all mount (inl refl)) sorted all_sorted)
-      ∙ sorted_alike rest (insert_deepest nat_eq world mount sorted) (λ x m. all x (inr m))
-      (λ x m. ⊎_elim (λ e. subst SameDepth (sym e) (all mount (inl refl))) (all_sorted x)
-      (among_inserted world mount sorted x m))
+      cc (
+        inserted_alike mount (all mount (inl refl)) sorted all_sorted,
+        sorted_alike rest (insert_deepest nat_eq world mount sorted) (λ x m. all x (inr m)) (λ x m. ⊎_elim (λ e.
+            subst SameDepth (sym e) (all mount (inl refl))) (all_sorted x) (among_inserted world mount sorted x m)),
+      )
 
   -- what stands in a tree of theirs is theirs
   tree_own : (n : ℕ) (top x : Mount ℕ) → Among top world.mounts → is_own world names theirs top ≡ true
@@ -152,12 +153,12 @@ module _ (world : World ℕ) (names : List TaskName) (is : IsWorld nat_eq world)
     in_tree x m = tree_own (length world.mounts) top x there own m
 
     pub same_turns : taken_in_turn part number ≡ taken_in_turn world number
-    same_turns =
-        ap (λ (m : Mount ℕ). deepest_first nat_eq part (mount_tree nat_eq part.mounts m))
-        (same_mount world names is.mounts number on)
-        ∙ ap (deepest_first nat_eq part) (tree_alike world names is top (own_theirs world names is top there own))
-        ∙ sorted_alike (mount_tree nat_eq world.mounts top) []
-        (λ x m. let its = in_tree x m in same_depth x its.0 its.1) (λ x none. absurd none)
+    same_turns = cc (
+      same_mount world names is.mounts number on,
+      tree_alike world names is top (own_theirs world names is top there own),
+      sorted_alike (mount_tree nat_eq world.mounts top) [] (λ x m. let its = in_tree x m in same_depth x its.0
+          its.1) (λ x none. absurd none),
+    )
 
     -- each event is of a mount of theirs
     pub turns_own : (x : Mount ℕ) → Among x (taken_in_turn world number)

@@ -55,9 +55,11 @@ module _ (world : World ℕ) (first second : List ℕ) where
   goes_at_once number = list_any-append (nat_eq number) first second
 
   same_length : length left.mounts ≡ length world.mounts
-  same_length =
-      sym (length-map left.mounts (λ (mount : Mount ℕ). mount.number)) ∙ ap length (numbers_taken world first)
-      ∙ length-map world.mounts (λ (mount : Mount ℕ). mount.number)
+  same_length = cc (
+    length-map left.mounts (λ (mount : Mount ℕ). mount.number),
+    numbers_taken world first,
+    length-map world.mounts (λ (mount : Mount ℕ). mount.number),
+  )
 
   -- Places
 
@@ -80,11 +82,12 @@ module _ (world : World ℕ) (first second : List ℕ) where
   -- on a root mount
   fall_from_root : (a b c : ℕ) (place : Location ℕ) → down place ≡ None → FallAlike a b c place
   fall_from_root a b c place e =
-      ap (end_of falls_then b) (end-here falls a place (rests (is_going nat_eq first place.mount) (down place) e))
-      ∙ end-here falls_then b place
-      (rests (is_going nat_eq second place.mount) (mount_at nat_eq left place).mount_point
-      (root_stays world first place.mount e))
-      ∙ sym (end-here falls_at_once c place (rests (is_going nat_eq (first ++ second) place.mount) (down place) e))
+      cc (
+        end-here falls a place (rests (is_going nat_eq first place.mount) (down place) e),
+        end-here falls_then b place (rests (is_going nat_eq second place.mount) (mount_at nat_eq left
+            place).mount_point (root_stays world first place.mount e)),
+        end-here falls_at_once c place (rests (is_going nat_eq (first ++ second) place.mount) (down place) e),
+      )
     where
       rests : (goes : Bool) (o : Option (Location ℕ)) → o ≡ None → (if goes then o else None) ≡ None
       rests true o e = e
@@ -114,23 +117,27 @@ module _ (world : World ℕ) (first second : List ℕ) where
       by : (one : Bool) → is_going nat_eq first place.mount ≡ one
           → (other : Bool) → is_going nat_eq second place.mount ≡ other
           → FallAlike (suc a) (suc b) (suc c) place
-      by true f other g =
-          ap (end_of falls_then (suc b)) (end-more falls a place below (through first true f)) ∙ goes
-          ∙ sym (end-more falls_at_once c place below (through (first ++ second) true
-          (goes_at_once place.mount ∙ ap (λ t. t || is_going nat_eq second place.mount) f)))
-      by false f true g =
-          ap (end_of falls_then (suc b)) (end-here falls (suc a) place (through first false f))
-          ∙ end-more falls_then b place (end_of falls (length world.mounts) below)
-          (ap (λ t. if t then (mount_at nat_eq left place).mount_point else None) g ∙ fallen_point place below f e)
-          ∙ stays
-          ∙ sym (end-more falls_at_once c place below (through (first ++ second) true
-          (goes_at_once place.mount ∙ (λ i. f i || g i))))
-      by false f false g =
-          ap (end_of falls_then (suc b)) (end-here falls (suc a) place (through first false f))
-          ∙ end-here falls_then (suc b) place
-          (ap (λ t. if t then (mount_at nat_eq left place).mount_point else None) g)
-          ∙ sym (end-here falls_at_once (suc c) place (through (first ++ second) false
-          (goes_at_once place.mount ∙ (λ i. f i || g i))))
+      by true f other g = cc (
+        end-more falls a place below (through first true f),
+        goes,
+        end-more falls_at_once c place below (through (first ++ second) true (goes_at_once place.mount ∙ ap (λ t. t
+            || is_going nat_eq second place.mount) f)),
+      )
+      by false f true g = cc (
+        end-here falls (suc a) place (through first false f),
+        end-more falls_then b place (end_of falls (length world.mounts) below) (ap (λ t. if t then (mount_at nat_eq
+            left place).mount_point else None) g ∙ fallen_point place below f e),
+        stays,
+        end-more falls_at_once c place below (through (first ++ second) true (goes_at_once place.mount ∙ (λ i. f i
+            || g i))),
+      )
+      by false f false g = cc (
+        end-here falls (suc a) place (through first false f),
+        end-here falls_then (suc b) place (ap (λ t. if t then (mount_at nat_eq left place).mount_point else None)
+            g),
+        end-here falls_at_once (suc c) place (through (first ++ second) false (goes_at_once place.mount ∙ (λ i. f i
+            || g i))),
+      )
 
   module _ (one : OneNumberEach world) (all : AllStand world) where
     abbrev rank_at : Location ℕ → ℕ
@@ -206,11 +213,12 @@ module _ (world : World ℕ) (first second : List ℕ) where
   twice_goes mount = ap (is_going nat_eq second) (number_after world first mount)
 
   mounts_then : secondly.mounts ≡ map twice world.mounts
-  mounts_then =
-      ap (map (after_going nat_eq left second)) (mounts-regrouped firstly)
-      ∙ map_twice (after_going nat_eq left second) (inheriting nat_eq firstly) firstly.mounts
-      ∙ map_twice (λ mount. after_going nat_eq left second (inheriting nat_eq firstly mount))
-      (after_going nat_eq world first) world.mounts
+  mounts_then = cc (
+    mounts-regrouped firstly,
+    map_twice (after_going nat_eq left second) (inheriting nat_eq firstly) firstly.mounts,
+    map_twice (λ mount. after_going nat_eq left second (inheriting nat_eq firstly mount)) (after_going nat_eq world
+        first) world.mounts,
+  )
 
   members_alike : (f g : Mount ℕ → Mount ℕ)
       → ((mount : Mount ℕ) → group_of (f mount).propagation ≡ group_of (g mount).propagation)
@@ -222,20 +230,19 @@ module _ (world : World ℕ) (first second : List ℕ) where
 
   members_then : (group : ℕ) → has_members nat_eq secondly.mounts group ≡ has_members nat_eq at_once.mounts group
   members_then group =
-      ap (λ mounts. has_members nat_eq mounts group) mounts_then
-      ∙ members_alike twice (after_going nat_eq world (first ++ second)) alike world.mounts group
+      cc (mounts_then, members_alike twice (after_going nat_eq world (first ++ second)) alike world.mounts group)
     where
       alike : (mount : Mount ℕ) → group_of (twice mount).propagation
           ≡ group_of (after_going nat_eq world (first ++ second) mount).propagation
       alike mount =
           let one = is_going nat_eq first mount.number in
           let other = is_going nat_eq second mount.number in
-          ap (λ b. group_if b (mount_point_left nat_eq left second)
-          (inheriting nat_eq firstly (after_going nat_eq world first mount))) (twice_goes mount)
-          ∙ same_group one other (mount_point_left nat_eq world first) (mount_point_left nat_eq left second)
-          (mount_point_left nat_eq world (first ++ second)) mount
-          ∙ ap (λ b. group_if b (mount_point_left nat_eq world (first ++ second)) mount)
-          (sym (goes_at_once mount.number))
+          cc (
+            twice_goes mount,
+            same_group one other (mount_point_left nat_eq world first) (mount_point_left nat_eq left second)
+                (mount_point_left nat_eq world (first ++ second)) mount,
+            goes_at_once mount.number,
+          )
 
   -- who is a member at the end is one after the first part
   members_before : (group : ℕ) → has_members nat_eq at_once.mounts group ≡ true
@@ -288,22 +295,26 @@ module _ (world : World ℕ) (first second : List ℕ) where
       where
         by : (b : Bool) → has_members nat_eq firstly.mounts group ≡ b
             → (c : Bool) → has_members nat_eq at_once.mounts group ≡ c → SameHeir (Some group)
-        by true e true f =
-            ap (heir nat_eq secondly) (heir_itself firstly group e)
-            ∙ heir_itself secondly group (members_then group ∙ f) ∙ sym (heir_itself at_once group f)
-        by true e false f =
-            ap (heir nat_eq secondly) (heir_itself firstly group e)
-            ∙ heir_above secondly group
-            (subst (λ n. Ends left.master n group)
-            (sym (length-map left.mounts (after_going nat_eq left second)))
-            (living_ends left live_left group (members-regrouped firstly group ∙ e)))
-            (members_then group ∙ f)
-            ∙ ap (heir nat_eq secondly) (master_inherited firstly group e) ∙ above
-            ∙ sym (heir_above at_once group (ends_in (first ++ second) group life) f)
+        by true e true f = cc (
+          heir_itself firstly group e,
+          heir_itself secondly group (members_then group ∙ f),
+          heir_itself at_once group f,
+        )
+        by true e false f = cc (
+          heir_itself firstly group e,
+          heir_above secondly group (subst (λ n. Ends left.master n group) (sym (length-map left.mounts
+              (after_going nat_eq left second))) (living_ends left live_left group (members-regrouped firstly group ∙
+              e))) (members_then group ∙ f),
+          master_inherited firstly group e,
+          above,
+          heir_above at_once group (ends_in (first ++ second) group life) f,
+        )
         by false e true f = absurd (true≢false (sym (members_before group f) ∙ e))
-        by false e false f =
-            ap (heir nat_eq secondly) (heir_above firstly group (ends_in first group life) e) ∙ above
-            ∙ sym (heir_above at_once group (ends_in (first ++ second) group life) f)
+        by false e false f = cc (
+          heir_above firstly group (ends_in first group life) e,
+          above,
+          heir_above at_once group (ends_in (first ++ second) group life) f,
+        )
 
     same_heir : (group : ℕ) → LivesAt group → SameHeir (Some group)
     same_heir group (has_no_master it has e) =
@@ -326,11 +337,12 @@ module _ (world : World ℕ) (first second : List ℕ) where
     -- the master of a group that has members in the end
     same_master : (group : ℕ) → has_members nat_eq at_once.mounts group ≡ true
         → (taken_away nat_eq left second).master group ≡ (taken_away nat_eq world (first ++ second)).master group
-    same_master group has =
-        master_inherited secondly group (members_then group ∙ has)
-        ∙ ap (heir nat_eq secondly) (master_inherited firstly group (members_before group has))
-        ∙ above (group_lives world live group (members_at_first (has_members nat_eq world.mounts group) refl))
-        ∙ sym (master_inherited at_once group has)
+    same_master group has = cc (
+      master_inherited secondly group (members_then group ∙ has),
+      master_inherited firstly group (members_before group has),
+      above (group_lives world live group (members_at_first (has_members nat_eq world.mounts group) refl)),
+      master_inherited at_once group has,
+    )
       where
         still : (goes : Bool) (fall : Location ℕ → Location ℕ) (mount : Mount ℕ)
             → is_member_of nat_eq group mount ≡ false
@@ -370,37 +382,35 @@ module _ (world : World ℕ) (first second : List ℕ) where
 
     same_mounts : (taken_away nat_eq left second).mounts ≡ (taken_away nat_eq world (first ++ second)).mounts
     same_mounts =
-        mounts-regrouped secondly ∙ ap (map (inheriting nat_eq secondly)) mounts_then
-        ∙ map_twice (inheriting nat_eq secondly) twice world.mounts
-        ∙ map_alike (λ mount. inheriting nat_eq secondly (twice mount))
-        (λ mount. inheriting nat_eq at_once (after_going nat_eq world (first ++ second) mount)) world.mounts
-        (λ mount m.
-        ap (λ b. inheriting nat_eq secondly (gone_if b (mount_point_left nat_eq left second)
-        (inheriting nat_eq firstly (after_going nat_eq world first mount)))) (twice_goes mount)
-        ∙ mount_alike (is_going nat_eq first mount.number) (is_going nat_eq second mount.number) mount m
-        ∙ ap (λ b. inheriting nat_eq at_once (gone_if b (mount_point_left nat_eq world (first ++ second)) mount))
-        (sym (goes_at_once mount.number)))
-        ∙ sym (map_twice (inheriting nat_eq at_once) (after_going nat_eq world (first ++ second)) world.mounts)
-        ∙ sym (mounts-regrouped at_once)
+        cc (
+          mounts-regrouped secondly,
+          mounts_then,
+          map_twice (inheriting nat_eq secondly) twice world.mounts,
+          map_alike (λ mount. inheriting nat_eq secondly (twice mount)) (λ mount. inheriting nat_eq at_once
+              (after_going nat_eq world (first ++ second) mount)) world.mounts (λ mount m. ap (λ b. inheriting nat_eq
+              secondly (gone_if b (mount_point_left nat_eq left second) (inheriting nat_eq firstly (after_going nat_eq
+              world first mount)))) (twice_goes mount) ∙ mount_alike (is_going nat_eq first mount.number) (is_going
+              nat_eq second mount.number) mount m ∙ ap (λ b. inheriting nat_eq at_once (gone_if b (mount_point_left
+              nat_eq world (first ++ second)) mount)) (sym (goes_at_once mount.number))),
+          map_twice (inheriting nat_eq at_once) (after_going nat_eq world (first ++ second)) world.mounts,
+          mounts-regrouped at_once,
+        )
 
     same_masters : (group : ℕ) → (without_dead_groups nat_eq (taken_away nat_eq left second)).master group
         ≡ (without_dead_groups nat_eq (taken_away nat_eq world (first ++ second))).master group
-    same_masters group =
-        ap (λ b. if b then (taken_away nat_eq left second).master group else None)
-        (members-regrouped secondly group ∙ members_then group)
-        ∙ by (has_members nat_eq at_once.mounts group) refl
-        ∙ ap (λ b. if b then (taken_away nat_eq world (first ++ second)).master group else None)
-        (sym (members-regrouped at_once group))
+    same_masters group = cc (
+      members-regrouped secondly group,
+      members_then group,
+      by (has_members nat_eq at_once.mounts group) refl,
+      members-regrouped at_once group,
+    )
       where
         by : (b : Bool) → has_members nat_eq at_once.mounts group ≡ b
             → (if has_members nat_eq at_once.mounts group then (taken_away nat_eq left second).master group else None)
             ≡ (if has_members nat_eq at_once.mounts group
             then (taken_away nat_eq world (first ++ second)).master group else None)
-        by true e =
-            ap (λ o. if has_members nat_eq at_once.mounts group then o else None) (same_master kept.groups group e)
-        by false e =
-            ap (λ b. if b then (taken_away nat_eq left second).master group else None) e
-            ∙ ap (λ b. if b then (taken_away nat_eq world (first ++ second)).master group else None) (sym e)
+        by true e = cc (same_master kept.groups group e)
+        by false e = cc
 
 -- mounts that are taken away in two parts leave the world that they leave at once
 pub taken_twice : (world : World ℕ) (first second : List ℕ) → MountInvariants nat_eq world

@@ -46,8 +46,7 @@ kept_but_groups one other same kept = keeps_before other (subst (MountInvariants
 going_but_groups : (one other : World ℕ) → SameButGroups one other → MountInvariants nat_eq one → (mount : Mount ℕ)
     → going nat_eq one mount ≡ going nat_eq other mount
 going_but_groups one other same kept mount =
-    sym (going_same one kept mount) ∙ ap (λ w. going nat_eq w mount) same
-    ∙ going_same other (kept_but_groups one other same kept) mount
+    cc (going_same one kept mount, going_same other (kept_but_groups one other same kept) mount)
 
 -- what is left if these mounts went already
 pub record TookAway (start now : World ℕ) (gone : List ℕ) : Type 0 where
@@ -60,9 +59,7 @@ took_none start kept = record { kept = kept; at_once = λ more. refl }
 
 pub took : (start now : World ℕ) (gone : List ℕ) → TookAway start now gone
     → SameButGroups now (taken_away nat_eq start gone)
-took start now gone it =
-    ap (without_dead_groups nat_eq) (sym (none_gone now it.kept)) ∙ it.at_once []
-    ∙ ap (λ list. without_dead_groups nat_eq (taken_away nat_eq start list)) (append-nil gone)
+took start now gone it = cc (none_gone now it.kept, it.at_once [], append-nil gone)
 
 takes : (start now : World ℕ) (gone : List ℕ) → TookAway start now gone → (list : List ℕ)
     → MountInvariants nat_eq (taken_away nat_eq now list) → TookAway start (taken_away nat_eq now list) (gone ++ list)
@@ -104,13 +101,10 @@ module _ (world : World ℕ) (names : List TaskName) (is : IsWorld nat_eq world)
     after_part = ended_mount b (left_part world names is sealed_off gone own_go) part gone
 
     same_here : SameButGroups now here
-    same_here =
-        took world now gone it ∙ ap (without_dead_groups nat_eq) (world_taken world names is sealed_off gone own_go)
+    same_here = cc (took world now gone it, world_taken world names is sealed_off gone own_go)
 
     same_there : SameButGroups now_part there
-    same_there =
-        took part now_part gone it_there
-        ∙ ap (without_dead_groups nat_eq) (part_taken world names is sealed_off gone own_go)
+    same_there = cc (took part now_part gone it_there, part_taken world names is sealed_off gone own_go)
 
     kept_here : MountInvariants nat_eq here
     kept_here = kept_but_groups now here same_here it.kept
@@ -132,8 +126,7 @@ module _ (world : World ℕ) (names : List TaskName) (is : IsWorld nat_eq world)
 
     found_in : (w : World ℕ) → MountInvariants nat_eq w → Among (after mount) w.mounts
         → mount_numbered nat_eq w mount.number ≡ after mount
-    found_in w kept m =
-        ap (mount_numbered nat_eq w) (sym number_after) ∙ found_itself w.mounts kept.one_number (after mount) m
+    found_in w kept m = cc (number_after, found_itself w.mounts kept.one_number (after mount) m)
 
     is_now : mount_numbered nat_eq now mount.number ≡ after mount
     is_now =

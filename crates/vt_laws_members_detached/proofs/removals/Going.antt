@@ -100,15 +100,10 @@ module _ (world : World ℕ) (names : List TaskName) (is : IsWorld nat_eq world)
         by None e =
             let l = has_point world points mount h in
             absurd (nowhere_stands world names is.mounts mount l.0 m e l.1)
-        by (Some n) e =
-            ap (holds_of (is_own_namespace nat_eq world names)) e
-            ∙ own_here mount (among-filter (stands world points) world.mounts mount m h) n e
+        by (Some n) e = cc (own_here mount (among-filter (stands world points) world.mounts mount m h) n e)
 
     same_points : points_of nat_eq part gone ≡ points
-    same_points =
-        ap (λ (f : Filesystem ℕ). (f.number, gone.node)
-        ∷ of_overlay [] (λ (overlay : Overlay ℕ). upper_points world f overlay gone.node) f)
-        (sym (filesystem_alike world names is gone on))
+    same_points = cc (filesystem_alike world names is gone on)
 
     not_there : (x y : Mount ℕ) → Among x world.mounts → stands world points x ≡ false
         → keep world names theirs x ≡ Some y
@@ -140,12 +135,12 @@ module _ (world : World ℕ) (names : List TaskName) (is : IsWorld nat_eq world)
 
     pub same_going : map (λ (mount : Mount ℕ). mount.number)
         (flat_map (mount_tree nat_eq part.mounts) (mounts_on nat_eq part gone)) ≡ going_with
-    same_going =
-        ap (λ list. map (λ (mount : Mount ℕ). mount.number) (flat_map (mount_tree nat_eq part.mounts) list)) same_tops
-        ∙ ap (map (λ (mount : Mount ℕ). mount.number))
-        (flat_map_alike (mount_tree nat_eq part.mounts) (mount_tree nat_eq world.mounts) tops (λ x m.
-        let from = among-from_filter (stands world points) world.mounts x m in
-        tree_alike world names is x (own_theirs world names is x from.0 (top_own x from.0 from.1))))
+    same_going = cc (
+      same_tops,
+      flat_map_alike (mount_tree nat_eq part.mounts) (mount_tree nat_eq world.mounts) tops (λ x m. let from =
+          among-from_filter (stands world points) world.mounts x m in tree_alike world names is x (own_theirs world
+          names is x from.0 (top_own x from.0 from.1))),
+    )
 
     -- each goes with a mount on the directory, of its namespace
     goes_with : (mount : Mount ℕ) → Among mount world.mounts → is_going nat_eq going_with mount.number ≡ true

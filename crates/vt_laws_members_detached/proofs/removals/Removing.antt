@@ -240,8 +240,7 @@ replacements_end_alike world names name one two it task found fresh other from o
         → judge_in nat_eq fresh world task (Rename one two) ≡ Ok (ToRename from old to new object o)
         → EndsAlike world names name (Rename one two) fresh other
     by None so =
-        renames_end_alike world names name one two it task found fresh other from old to new object None so
-        plain refl
+        renames_end_alike world names name one two it task found fresh other from old to new object so plain
     by (Some gone) so =
         removal_ends world names name (Rename one two) it fresh other task found refl refl gone
         (ToRename from old to new object (Some gone)) so so from change refl tt plain

@@ -23,8 +23,7 @@ mapped_filesystem : (f : Mount ℕ → Mount ℕ) → ((m : Mount ℕ) → (f m)
     ≡ (unwrap_or (find (λ (m : Mount ℕ). nat_eq n m.number) list) (no_mount n)).filesystem
 mapped_filesystem f number filesystem n [] = refl
 mapped_filesystem f number filesystem n (x ∷ rest) =
-    ap (λ k. pick (nat_eq n k) (f x) (find (λ (m : Mount ℕ). nat_eq n m.number) (map f rest))) (number x)
-    ∙ by (nat_eq n x.number) (mapped_filesystem f number filesystem n rest)
+    cc (number x, by (nat_eq n x.number) (mapped_filesystem f number filesystem n rest))
   where
     pick : Bool → Mount ℕ → Option (Mount ℕ) → ℕ
     pick b m o = (unwrap_or (cond b (Some m) o) (no_mount n)).filesystem

@@ -67,9 +67,7 @@ module _ (a : World ℕ) (set : List TaskName) (used : List ℕ) (lowers : List 
 
   layered_was : (n : ℕ) (x : Filesystem ℕ) → Among x a.filesystems
       → has_layer_on nat_eq n (h x) ≡ has_layer_on nat_eq n x
-  layered_was n x m =
-      ap (overlay_or false (λ (overlay : Overlay ℕ). list_any (λ (layer : Layer ℕ). nat_eq n layer.filesystem)
-      (layers_of overlay))) (overlaid x m)
+  layered_was n x m = cc (overlaid x m)
 
   alone_still : (n : ℕ) → Alone a set n → Alone later set n
   alone_still n its = record {
@@ -98,11 +96,13 @@ module _ (a : World ℕ) (set : List TaskName) (used : List ℕ) (lowers : List 
   plain_still y merged m n has =
       let one_of = was y m in
       let two = was merged n in
-      ap (λ (f : Filesystem ℕ). f.overlay) one_of.2 ∙ overlaid one_of.0 one_of.1
-      ∙ it.plain one_of.0 two.0 one_of.1 two.1
-      (ap (λ k. has_layer_on nat_eq k two.0)
-      (sym (ap (λ (f : Filesystem ℕ). f.number) one_of.2 ∙ swap_numbered old files one_of.0))
-      ∙ sym (layered_was y.number two.0 two.1) ∙ ap (has_layer_on nat_eq y.number) (sym two.2) ∙ has)
+      cc (
+        one_of.2,
+        overlaid one_of.0 one_of.1,
+        it.plain one_of.0 two.0 one_of.1 two.1 (ap (λ k. has_layer_on nat_eq k two.0) (sym (ap (λ (f : Filesystem
+            ℕ). f.number) one_of.2 ∙ swap_numbered old files one_of.0)) ∙ sym (layered_was y.number two.0 two.1) ∙ ap
+            (has_layer_on nat_eq y.number) (sym two.2) ∙ has),
+      )
 
   cut_still : (y : Filesystem ℕ) → Among y later.filesystems → is_among nat_eq y.number used ≡ false
       → list_any (λ (layer : Layer ℕ). nat_eq y.number layer.filesystem) lowers ≡ true → IsCut y.number lowers y.files

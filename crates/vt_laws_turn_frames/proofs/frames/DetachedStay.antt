@@ -87,8 +87,7 @@ module _ (world : World ℕ) (fresh : Fresh ℕ) (task : Task ℕ) (is : IsWorld
 
   taken_then : (later : World ℕ) (gone : List ℕ) (number : ℕ) → later.mounts ≡ (taken_away nat_eq world gone).mounts
       → HasFlags later number
-  taken_then later gone number same =
-      ap (λ list. (mount_in nat_eq list number).flags) same ∙ taken_flags world gone number
+  taken_then later gone number same = cc (taken_flags world gone number)
 
   replaced_flags : (later : World ℕ) (replaced : Option (Location ℕ)) (number : ℕ)
       → later.mounts ≡ (without_replaced nat_eq world replaced).mounts → HasFlags later number
@@ -161,17 +160,16 @@ module _ (world : World ℕ) (fresh : Fresh ℕ) (task : Task ℕ) (is : IsWorld
       by true e =
           none_is_some task.namespace (sym none
           ∙ ap (λ n. (mount_numbered nat_eq world n).namespace) (sym (eqb-true mount number e)) ∙ names)
-      by false e =
-          ap (λ (m : Mount ℕ). m.flags)
-          (flags_are_of_one world (record { mount = mount; node = 0 }) flags number e)
+      by false e = cc (flags_are_of_one world (record { mount = mount; node = 0 }) flags number e)
   flags_stay (ToSetType mount word recursive) names number there none =
       (type_is_all_that_changes world fresh mount word recursive number).flags
   flags_stay (ToPivot new put) names number there none =
       let root : Mount ℕ = mount_at nat_eq world task.root in
-      ap (λ (m : Mount ℕ). m.flags)
-      (found-map_there (pivoted_mount nat_eq root (mount_numbered nat_eq world new) put)
-      (number-pivoted_mount root (mount_numbered nat_eq world new) put) world.mounts number there)
-      ∙ pivoted_flags root (mount_numbered nat_eq world new) put (mount_numbered nat_eq world number)
+      cc (
+        found-map_there (pivoted_mount nat_eq root (mount_numbered nat_eq world new) put) (number-pivoted_mount
+            root (mount_numbered nat_eq world new) put) world.mounts number there,
+        pivoted_flags root (mount_numbered nat_eq world new) put (mount_numbered nat_eq world number),
+      )
   flags_stay permit names number there none = refl
 
 -- what is in no namespace stays in none

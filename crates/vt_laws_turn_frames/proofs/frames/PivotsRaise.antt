@@ -1,6 +1,6 @@
 -- A pivot raises the change number of its namespace, so other tasks of a namespace whose number is what it was are what
 -- they were.
-use Rattle.std.proofs.Common.{◌≡◌, refl, sym, ap, subst, ◌∙◌, ⊎_elim, ℕ, nat_eq, Bool, true, false, true≢false, cond, ◌||◌, ◌&&◌, List, [], ◌∷◌, Some, None, Ok, eqb-true, eq-eqb, is_some}
+use Rattle.std.proofs.Common.{◌≡◌, refl, sym, ap, subst, ◌∙◌, ⊎_elim, ℕ, nat_eq, Bool, true, false, true≢false, cond, ◌||◌, List, [], ◌∷◌, Some, None, Ok, eqb-true, eq-eqb, is_some}
 use Rattle.std.specs.Prelude.{ok_or}
 use Rattle.vt_spec.specs.declared.errors.Rule.TheVariants.{S2}
 use Rattle.vt_spec.specs.Errors.{denial}
@@ -9,7 +9,7 @@ use Rattle.vt_spec.specs.Language.Calls.Call.{PivotRoot}
 use Rattle.vt_spec.specs.Lists.{Fresh, holds_of}
 use Rattle.vt_spec.specs.Machine.Apply.{apply}
 use Rattle.vt_spec.specs.Machine.Judge.{judge_in}
-use Rattle.vt_spec.specs.Machine.Mounts.{Location, Mount, child_at, same_location, stands_at}
+use Rattle.vt_spec.specs.Machine.Mounts.{Location, Mount, child_at, stands_at}
 use Rattle.vt_spec.specs.Machine.Namespaces.{pivoted, pivoted_mount}
 use Rattle.vt_spec.specs.Machine.Outcomes.{Outcome, after}
 use Rattle.vt_spec.specs.Machine.Permits.Permit.{ToPivot}
@@ -30,6 +30,7 @@ use Rattle.vt_laws_worlds.proofs.worlds.CallsKept.{name_found}
 use Rattle.vt_laws_worlds.proofs.worlds.FitPermitsNamed.{all_permits_fit}
 use Rattle.vt_laws_turn_frames.specs.Unraised.{IsCallIn, IsNamespaceUnraised, OtherTasksOfUnraisedNamespacesStay}
 use Rattle.vt_laws_turn_frames.proofs.frames.Unraised.{unraised_namespaces_keep_mounts}
+use Rattle.vt_laws_mounts.proofs.mounts.MountsPlaces.{stands_at_its_place}
 
 -- where one stands something stands
 nothing_stands : (mounts : List (Mount ℕ)) (place : Location ℕ) (mount : Mount ℕ) → Among mount mounts
@@ -45,13 +46,6 @@ nothing_stands (first ∷ rest) place mount m stands none =
     by false e h later =
         ⊎_elim (λ same. true≢false (sym (ap (stands_at nat_eq place) (sym same) ∙ stands) ∙ e))
         (λ n. later n h) m
-
--- a mount at a place stands there
-stands_there : (place : Location ℕ) (mount : Mount ℕ) → mount.mount_point ≡ Some place
-    → stands_at nat_eq place mount ≡ true
-stands_there place mount e =
-    ap (holds_of (same_location nat_eq place)) e
-    ∙ ap (λ b. b && nat_eq place.node place.node) (nat_eq_itself place.mount) ∙ nat_eq_itself place.node
 
 module _ (world : World ℕ) (fresh : Fresh ℕ) (given : IsCallIn world fresh) (name : TaskName) (caller : Task ℕ)
     (new old : List ℕ) (mount : ℕ) (put : Location ℕ) (found : task_called world name ≡ Some caller)
@@ -138,7 +132,7 @@ module _ (world : World ℕ) (fresh : Fresh ℕ) (given : IsCallIn world fresh) 
       (among-from_filter (λ (m : Mount ℕ). holds_of (nat_eq caller.namespace) m.namespace) world.mounts moved
       (subst (Among moved) here among_later)).0 in
       nothing_stands world.mounts put moved was
-      (stands_there put moved (ap (λ (m : Mount ℕ). m.mount_point) moved_is)) may.destination.free
+      (stands_at_its_place put moved (ap (λ (m : Mount ℕ). m.mount_point) moved_is)) may.destination.free
 
 pub other_tasks_of_unraised_namespaces_stay : OtherTasksOfUnraisedNamespacesStay
 other_tasks_of_unraised_namespaces_stay world fresh name call other task given apart is unraised =

@@ -109,9 +109,9 @@ module _ (before later : World ℕ) (alike : ShowAlike before later) (number : �
       let number_same : x.number ≡ y.number = eqb-true x.number y.number a.0 in
       let shown = alike x y (contains_from_among before.mounts x (h x (inl refl)).0)
       (contains_from_among later.mounts y (k y (inl refl)).0) number_same in
-      ap (λ z. z ∷ ys)
-      (sym (one_record x y number_same
-      (namespace_of x (h x (inl refl)).1 ∙ sym (namespace_of y (k y (inl refl)).1))
-      (points_same x.mount_point y.mount_point a.1) shown.0 shown.1 (flags_same x.flags y.flags b.1)
-      (kinds_same x.propagation y.propagation c.1)))
-      ∙ ap (λ l. x ∷ l) (lists_same xs ys (λ z m. h z (inr m)) (λ z m. k z (inr m)) both.1)
+      cc (
+        one_record x y number_same (namespace_of x (h x (inl refl)).1 ∙ sym (namespace_of y (k y (inl refl)).1))
+            (points_same x.mount_point y.mount_point a.1) shown.0 shown.1 (flags_same x.flags y.flags b.1) (kinds_same
+            x.propagation y.propagation c.1),
+        lists_same xs ys (λ z m. h z (inr m)) (λ z m. k z (inr m)) both.1,
+      )

@@ -45,9 +45,6 @@ module _ (world : World ℕ) (fresh : Fresh ℕ) (given : IsCallIn world fresh) 
   abbrev found_in : List (Namespace ℕ) → Option (Namespace ℕ)
   found_in list = find (λ (n : Namespace ℕ). nat_eq number n.number) list
 
-  Keeps : World ℕ → Type 0
-  Keeps later = IsNamespaceUnraised world later number → mounts_of nat_eq later number ≡ mounts_of nat_eq world number
-
   module _ (name : TaskName) (task : Task ℕ) (call : Call) (permit : Permit ℕ) (changed : List ℕ)
       (called : task_called world task.name ≡ Some task)
       (granted : judge_in nat_eq fresh world task call ≡ Ok permit) where

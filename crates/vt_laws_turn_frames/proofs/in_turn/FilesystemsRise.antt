@@ -60,9 +60,8 @@ module _ (world : World ℕ) (fresh : Fresh ℕ) (given : IsCallIn world fresh) 
   was_change : (before : Filesystem ℕ) → before.number ≡ number → GoesOn world changed (fresh (2 * 0)) before
       → before.change ≡ filesystem_change_of nat_eq world number
   was_change before is (Old m) =
-      sym (ap change_in (found_one (λ (f : Filesystem ℕ). f.number) world.filesystems given.is.files.one_filesystem
-      before
-      m number (eq-eqb number before.number (sym is))))
+      cc (found_one (λ (f : Filesystem ℕ). f.number) world.filesystems given.is.files.one_filesystem before m number
+      (eq-eqb number before.number (sym is)))
   was_change before is (Changed raises has same) =
       let found = found_one (λ (f : Filesystem ℕ). f.number) world.filesystems given.is.files.one_filesystem has.0 has.1
       number (eq-eqb number has.0.number (sym (has.2 ∙ is))) in

@@ -27,8 +27,7 @@ Rises was now = (now ≡ was) ⊎ ((now ≡ raised was) ⊎ (now ≡ last_number
 
 -- numbers that are the same, and not the largest, are not stale
 unstale : (held now : ℕ) → held ≡ now → now ≢ last_number → is_stale held now ≡ false
-unstale held now e below =
-    ap (λ b. not b || now == last_number) (eq-eqb held now e) ∙ ne_eqb now last_number below
+unstale held now e below = cc (eq-eqb held now e, ne_eqb now last_number below)
 
 -- a number after one call, and after others
 abbrev RisesOn : ℕ → ℕ → Type 0

@@ -45,31 +45,15 @@ shorter who other (queue ∷ queues) =
         (items (cond b (Some queue) (find (λ (q : Queue). same_who other q.who) queues)))
     first true e true f later =
         let one : other ≡ who = same_whos other queue.who f ∙ sym (same_whos who queue.who e) in
-        ap (λ (q : Queue). items (find (λ (x : Queue). same_who other x.who) (q ∷ map (shortened who) queues)))
-        (ap (λ b. cond b (record queue { items = rest_of queue.items }) queue) e)
-        ∙ ap (λ b. items (cond b (Some (record queue { items = rest_of queue.items }))
-        (find (λ (x : Queue). same_who other x.who) (map (shortened who) queues)))) f
-        ∙ ap (λ b. cond b (rest_of queue.items) queue.items) (sym (ap (same_who other) (sym one) ∙ itself other))
-    first true e false f later =
-        ap (λ (q : Queue). items (find (λ (x : Queue). same_who other x.who) (q ∷ map (shortened who) queues)))
-        (ap (λ b. cond b (record queue { items = rest_of queue.items }) queue) e)
-        ∙ ap (λ b. items (cond b (Some (record queue { items = rest_of queue.items }))
-        (find (λ (x : Queue). same_who other x.who) (map (shortened who) queues)))) f
-        ∙ later
-    first false e true f later =
-        ap (λ (q : Queue). items (find (λ (x : Queue). same_who other x.who) (q ∷ map (shortened who) queues)))
-        (ap (λ b. cond b (record queue { items = rest_of queue.items }) queue) e)
-        ∙ ap (λ b. items (cond b (Some queue) (find (λ (x : Queue). same_who other x.who) (map (shortened who) queues)))) f
-        ∙ sym (ap (λ b. cond b (rest_of queue.items) queue.items) (differ (same_who other who) refl))
+        cc (one, itself other)
+    first true e false f later = cc
+    first false e true f later = cc (differ (same_who other who) refl)
       where
         differ : (b : Bool) → same_who other who ≡ b → same_who other who ≡ false
-        differ true g = absurd (true≢false (sym (subst (λ w. same_who w queue.who ≡ true) (same_whos other who g) f) ∙ e))
+        differ true g =
+            absurd (true≢false (sym (subst (λ w. same_who w queue.who ≡ true) (same_whos other who g) f) ∙ e))
         differ false g = g
-    first false e false f later =
-        ap (λ (q : Queue). items (find (λ (x : Queue). same_who other x.who) (q ∷ map (shortened who) queues)))
-        (ap (λ b. cond b (record queue { items = rest_of queue.items }) queue) e)
-        ∙ ap (λ b. items (cond b (Some queue) (find (λ (x : Queue). same_who other x.who) (map (shortened who) queues)))) f
-        ∙ later
+    first false e false f later = cc
 
 -- what a turn commits of a queue, and what it leaves of it
 step : (sched : Sched ℕ) (given : Turn) (other : Who) (list : List Queued) → queue_of sched.queues given.0 ≡ list
@@ -80,11 +64,13 @@ step sched given other [] e turned goes = ap (λ q. queue_of q other) goes.queue
 step sched given other (first ∷ rest) e turned is =
     ⊎_elim
     (λ goes.
-    ap (λ r. items_of other (option_to_list (commit_by given.0 given.1 (Some first) r)) ++ queue_of turned.sched.queues other)
+    ap (λ r. items_of other (option_to_list
+    (commit_by given.0 given.1 (Some first) r)) ++ queue_of turned.sched.queues other)
     goes.reply
     ∙ ap (λ q. queue_of q other) goes.queues)
     (λ done.
-    ap (λ r. items_of other (option_to_list (commit_by given.0 given.1 (Some first) r)) ++ queue_of turned.sched.queues other)
+    ap (λ r. items_of other (option_to_list
+    (commit_by given.0 given.1 (Some first) r)) ++ queue_of turned.sched.queues other)
     done.reply
     ∙ ap (λ q. cond (same_who other given.0) (first ∷ []) [] ++ queue_of q other) done.queues
     ∙ ap (λ l. cond (same_who other given.0) (first ∷ []) [] ++ l) (shorter given.0 other sched.queues)
@@ -95,11 +81,13 @@ step sched given other (first ∷ rest) e turned is =
         → cond b (first ∷ []) [] ++ cond b (rest_of (queue_of sched.queues other)) (queue_of sched.queues other)
         ≡ queue_of sched.queues other
     by true f =
-        let here : queue_of sched.queues other ≡ first ∷ rest = ap (queue_of sched.queues) (same_whos other given.0 f) ∙ e in
+        let here : queue_of sched.queues other ≡ first ∷ rest =
+        ap (queue_of sched.queues) (same_whos other given.0 f) ∙ e in
         ap (λ l. first ∷ rest_of l) here ∙ sym here
     by false f = refl
 
-pub more_items : (who : Who) (ones others : List Commit) → items_of who (ones ++ others) ≡ items_of who ones ++ items_of who others
+pub more_items : (who : Who) (ones others : List Commit)
+    → items_of who (ones ++ others) ≡ items_of who ones ++ items_of who others
 more_items who [] others = refl
 more_items who (commit ∷ ones) others = by (same_who who commit.who) (more_items who ones others)
   where
@@ -114,8 +102,10 @@ commits_are_fronts sched [] who = refl
 commits_are_fronts sched (given ∷ schedule) who =
     let turned : Turned ℕ = turn nat_eq sched given.0 given.1 in
     let made : List Commit = option_to_list (commit_of sched given) in
-    ap (λ l. l ++ queue_of (left_by turned.sched schedule).queues who) (more_items who made (commits turned.sched schedule))
-    ∙ append_assoc (items_of who made) (items_of who (commits turned.sched schedule))
-    (queue_of (left_by turned.sched schedule).queues who)
-    ∙ ap (λ l. items_of who made ++ l) (commits_are_fronts turned.sched schedule who)
-    ∙ step sched given who (queue_of sched.queues given.0) refl turned (turn_is sched given.0 given.1)
+    cc (
+      more_items who made (commits turned.sched schedule),
+      append_assoc (items_of who made) (items_of who (commits turned.sched schedule)) (queue_of (left_by
+          turned.sched schedule).queues who),
+      commits_are_fronts turned.sched schedule who,
+      step sched given who (queue_of sched.queues given.0) refl turned (turn_is sched given.0 given.1),
+    )

@@ -1,5 +1,5 @@
 -- What a turn leaves: the world and the calls under way that it began with, or those after the call of a task.
-use Rattle.std.proofs.Common.{◌≡◌, refl, sym, ap, ◌∙◌, ⊎_elim, ℕ, nat_eq, Bool, true, false, true≢false, List, [], ◌∷◌, Option, Some, None}
+use Rattle.std.proofs.Common.{◌≡◌, refl, sym, ap, ◌∙◌, ⊎_elim, ℕ, nat_eq, true≢false, List, [], ◌∷◌, Option, Some, None}
 use Rattle.vt_spec.specs.Language.Calls.{Call, TaskName}
 use Rattle.vt_spec.specs.Language.Script.{Who}
 use Rattle.vt_spec.specs.Language.Script.Who.{Nobody, Someone}
@@ -9,7 +9,7 @@ use Rattle.vt_spec.specs.Machine.Turns.{Item, Queued, Sched, Turned, queue_of, t
 use Rattle.vt_spec.specs.Machine.Turns.Item.{Asks, Calls, Refused}
 use Rattle.vt_spec.proofs.Options.{none_is_some}
 use Rattle.vt_laws_rules.proofs.denials.Unchanged.{directive_changes_nothing}
-use Rattle.vt_laws_turns.specs.Commits.{Turn, run_item}
+use Rattle.vt_laws_turns.specs.Commits.{Turn}
 use Rattle.vt_laws_turns.proofs.TurnShapes.{Shape, is_task_call, turn_shape}
 use Rattle.vt_laws_turns.proofs.TurnShapes.Shape.{CallDone, Further, Idle, OtherDone}
 use Rattle.vt_laws_turns.proofs.played.Turning.{Answers, Turns, turn_is}

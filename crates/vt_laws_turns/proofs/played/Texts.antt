@@ -10,7 +10,8 @@ use Rattle.vt_spec.specs.Machine.Turns.{Reply, Sched, first_sched, played, reply
 use Rattle.vt_laws_turns.specs.Commits.{TextsAreOfCommits, replies, text_of_replies, turn_given, turns_given}
 use Rattle.vt_laws_turns.proofs.played.Turning.{replies_are_of_commits}
 
-more_texts : (ones others : List Reply) → text_of_replies (ones ++ others) ≡ text_of_replies ones ++ text_of_replies others
+more_texts : (ones others : List Reply)
+    → text_of_replies (ones ++ others) ≡ text_of_replies ones ++ text_of_replies others
 more_texts [] others = refl
 more_texts (reply ∷ ones) others =
     ap (λ l. reply_line reply.line reply.answer ++ l) (more_texts ones others)
@@ -39,16 +40,17 @@ plays number sched (line ∷ lines) refused =
         ≡ text_of_replies (replies sched (turn_given who fresh ++ turns_given (number + 1) lines (later refused)))
     by None fresh rest = rest sched
     by (Some who) fresh rest =
-        ap (λ t. t ++ played (number + 1) (turn nat_eq sched who fresh).sched lines (later refused))
-        (text_of_one (turn nat_eq sched who fresh).reply)
-        ∙ ap (λ t. text_of_replies (option_to_list (turn nat_eq sched who fresh).reply) ++ t)
-        (rest (turn nat_eq sched who fresh).sched)
-        ∙ sym (more_texts (option_to_list (turn nat_eq sched who fresh).reply)
-        (replies (turn nat_eq sched who fresh).sched (turns_given (number + 1) lines (later refused))))
+        cc (
+          text_of_one (turn nat_eq sched who fresh).reply,
+          rest (turn nat_eq sched who fresh).sched,
+          more_texts (option_to_list (turn nat_eq sched who fresh).reply) (replies (turn nat_eq sched who
+              fresh).sched (turns_given (number + 1) lines (later refused))),
+        )
 
 pub texts_are_of_commits : TextsAreOfCommits
 unfolding turns_text
 texts_are_of_commits version refused script schedule =
-    plays 1 (first_sched (whole version) script) (lines_of schedule) refused
-    ∙ ap text_of_replies
-    (replies_are_of_commits (first_sched (whole version) script) (turns_given 1 (lines_of schedule) refused)).0
+    cc (
+      plays 1 (first_sched (whole version) script) (lines_of schedule) refused,
+      (replies_are_of_commits (first_sched (whole version) script) (turns_given 1 (lines_of schedule) refused)).0,
+    )

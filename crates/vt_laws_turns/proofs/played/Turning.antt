@@ -25,7 +25,8 @@ pub record GoesOn (sched : Sched ℕ) (turned : Turned ℕ) : Type 0 where
   pub queues : turned.sched.queues ≡ sched.queues
 
 -- a turn answers the first of a queue, which is run whole
-pub record Answers (sched : Sched ℕ) (who : Who) (first : Queued) (fresh : Option (Fresh ℕ)) (turned : Turned ℕ) : Type 0 where
+pub record Answers (sched : Sched ℕ) (who : Who) (first : Queued) (fresh : Option (Fresh ℕ))
+    (turned : Turned ℕ) : Type 0 where
   pub reply : turned.reply
       ≡ Some (record { line = first.line; answer = (run_item sched.world who first.item fresh).answer })
   pub world : turned.sched.world ≡ (run_item sched.world who first.item fresh).world
@@ -83,7 +84,8 @@ module _ (sched : Sched ℕ) (name : TaskName) (line : ℕ) (call : Call) (given
   called None e = whole
   called (Some t) e =
       under_way_by t (find (λ progress. same_name name progress.task) sched.under_way) (e t refl)
-      (λ p h. sym (same_task_name name p.task (found_passes (λ progress. same_name name progress.task) sched.under_way p h)))
+      (λ p h. sym (same_task_name name p.task
+      (found_passes (λ progress. same_name name progress.task) sched.under_way p h)))
 
 -- so does each turn
 abbrev pub Turns : Sched ℕ → Who → Option (Fresh ℕ) → List Queued → Turned ℕ → Type 0
@@ -93,11 +95,13 @@ Turns sched who fresh (first ∷ rest) turned = GoesOn sched turned ⊎ Answers 
 module _ (sched : Sched ℕ) where
   task_of_call : (name : TaskName) (line : ℕ) (call : Call) (fresh : Option (Fresh ℕ))
       → GoesOn sched (call_turn nat_eq sched name line call fresh)
-      ⊎ Answers sched (Someone name) (record { line = line; item = Calls call }) fresh (call_turn nat_eq sched name line call fresh)
+      ⊎ Answers sched (Someone name) (record { line = line; item = Calls call }) fresh
+      (call_turn nat_eq sched name line call fresh)
   task_of_call name line call None = inr (record { reply = refl; world = refl; queues = refl })
   task_of_call name line call (Some given) =
       called sched name line call given (task_called sched.world name)
-      (λ t h. sym (same_task_name name t.name (found_passes (λ (task : Task ℕ). same_name name task.name) sched.world.tasks t h)))
+      (λ t h. sym (same_task_name name t.name
+      (found_passes (λ (task : Task ℕ). same_name name task.name) sched.world.tasks t h)))
 
   by_item : (who : Who) (line : ℕ) (item : Item) (fresh : Option (Fresh ℕ))
       → GoesOn sched (item_turn nat_eq sched who line item fresh)
@@ -131,12 +135,14 @@ step sched given [] turned goes =
 step sched given (first ∷ rest) turned is =
     ⊎_elim
     (λ goes.
-    let none : commit_by given.0 given.1 (Some first) turned.reply ≡ None = ap (commit_by given.0 given.1 (Some first)) goes.reply in (
+    let none : commit_by given.0 given.1 (Some first) turned.reply ≡ None =
+    ap (commit_by given.0 given.1 (Some first)) goes.reply in (
       ap option_to_list goes.reply ∙ sym (ap (λ c. replies_of sched.world (option_to_list c)) none),
       goes.world ∙ sym (ap (λ c. world_after sched.world (option_to_list c)) none),
     ))
     (λ done.
-    let one : commit_by given.0 given.1 (Some first) turned.reply ≡ Some (record { who = given.0; queued = first; fresh = given.1 }) =
+    let one : commit_by given.0 given.1 (Some first) turned.reply
+    ≡ Some (record { who = given.0; queued = first; fresh = given.1 }) =
     ap (commit_by given.0 given.1 (Some first)) done.reply in (
       ap option_to_list done.reply ∙ sym (ap (λ c. replies_of sched.world (option_to_list c)) one),
       done.world ∙ sym (ap (λ c. world_after sched.world (option_to_list c)) one),
@@ -164,7 +170,8 @@ replies_are_of_commits sched (given ∷ rest) =
     let now = step sched given (queue_of sched.queues given.0) turned (turn_is sched given.0 given.1) in
     let then = replies_are_of_commits turned.sched rest in (
       ap (λ l. l ++ replies turned.sched rest) now.0
-          ∙ ap (λ l. replies_of sched.world made ++ l) (then.0 ∙ ap (λ w. replies_of w (commits turned.sched rest)) now.1)
+          ∙ ap (λ l. replies_of sched.world made ++ l) (then.0
+          ∙ ap (λ w. replies_of w (commits turned.sched rest)) now.1)
           ∙ sym (more_replies sched.world made (commits turned.sched rest)),
       then.1 ∙ ap (λ w. world_after w (commits turned.sched rest)) now.1
           ∙ sym (more_world sched.world made (commits turned.sched rest)),
@@ -198,7 +205,8 @@ failed_allocations_answer_s5 sched who first e run = by (queue_of sched.queues w
     item Nobody line (Refused deny) r = absurd (true≢false (sym r))
 
     by : (items : List Queued) → first_of_list items ≡ Some first
-        → ((queue_turn nat_eq sched who items None).reply ≡ Some (record { line = first.line; answer = Err (denial S5) }))
+        → ((queue_turn nat_eq sched who items None).reply
+        ≡ Some (record { line = first.line; answer = Err (denial S5) }))
         × ((queue_turn nat_eq sched who items None).sched.world ≡ sched.world)
     by [] f = none_is_some first f
     by (one ∷ rest) f =

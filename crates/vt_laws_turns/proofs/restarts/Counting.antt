@@ -25,9 +25,7 @@ use Rattle.vt_laws_turns.proofs.restarts.Keeping.{named, turns_keep_schedulers}
 -- what goes on is what is under way of its task
 found_first : (name : TaskName) (progress : Progress ℕ) (rest : List (Progress ℕ)) → progress.task ≡ name
     → under_way_of (progress ∷ rest) name ≡ Some progress
-found_first name progress rest e =
-    ap (λ b. cond b (Some progress) (under_way_of rest name))
-    (ap (same_name name) e ∙ same_name_itself name)
+found_first name progress rest e = cc (same_name_itself name)
 
 module _ (sched : Sched ℕ) (task : Task ℕ) (line : ℕ) (call : Call) (fresh : Fresh ℕ) (turned : Turned ℕ) where
   -- a turn that walks a word
@@ -141,9 +139,7 @@ found_without name other (p ∷ rest) e =
         absurd (true≢false (sym (subst (λ n. same_name n other ≡ true) (sym (same_task_name name p.task g))
         (subst (λ n. same_name p.task n ≡ true) (sym (same_task_name other p.task f)) (same_name_itself p.task))) ∙ e))
     by true false f g h = h
-    by false c f g h =
-        ap (λ b. cond b (Some p) (under_way_of (without_progress other rest) name)) g
-        ∙ ap (cond c (Some p)) h
+    by false c f g h = cc
 
 module _ (sched : Sched ℕ) (is : IsSched sched) (name : TaskName) where
   -- what a turn of the task begins with, if it finds nothing overtaken
@@ -162,10 +158,7 @@ module _ (sched : Sched ℕ) (is : IsSched sched) (name : TaskName) where
 
   some_found : (task : Task ℕ) (p : Progress ℕ) (b : Bool) → task_called sched.world name ≡ Some task
       → under_way_of sched.under_way name ≡ Some p → is_overtaken nat_eq sched.world task p ≡ b → finds ≡ b
-  some_found task p b t e o =
-      ap (holds_of (λ one. holds_of (λ progress. is_overtaken nat_eq sched.world one progress)
-      (under_way_of sched.under_way name))) t
-      ∙ ap (holds_of (λ progress. is_overtaken nat_eq sched.world task progress)) e ∙ o
+  some_found task p b t e o = cc
 
   -- the task's own turn
   own_turn : (fresh : Option (Fresh ℕ)) (turned : Turned ℕ) → turned.reply ≡ None
@@ -262,8 +255,7 @@ module _ (sched : Sched ℕ) (is : IsSched sched) (name : TaskName) where
           idle (Idle q is_idle) = ap (λ (t : Turned ℕ). t.reply) is_idle
           idle (OtherDone first g plain outcome is_done) = none_is_some first (sym f ∙ g)
           idle (CallDone other x line call g outcome is_done) = none_is_some _ (sym f ∙ g)
-          idle (Further task x line call given g next before at further) =
-              ap (λ (t : Turned ℕ). t.reply) further.is
+          idle (Further task x line call given g next before at further) = cc further.is
       unanswered (Some first) (Some reply) f e w =
           absurd (not_none
           (sym (ap (λ o. items_of (Someone name) (option_to_list (commit_by who fresh o turned.reply))) f

@@ -41,17 +41,12 @@ none_left {A = A} p (x ∷ xs) = by (p x) refl (none_left p xs)
     by : (b : Bool) → p x ≡ b → filter p (filter (λ y. not (p y)) xs) ≡ []
         → filter p (cond (not b) (x ∷ filter (λ y. not (p y)) xs) (filter (λ y. not (p y)) xs)) ≡ []
     by true e h = h
-    by false e h =
-        ap (λ t. cond t (x ∷ filter p (filter (λ y. not (p y)) xs)) (filter p (filter (λ y. not (p y)) xs))) e ∙ h
+    by false e h = cc
 
 -- a queue that is not shortened has the call first that it had
 other_first : (who : Who) (queues : List Queue) (name : TaskName) → same_who (Someone name) who ≡ false
     → has_call_first queues name ≡ true → has_call_first (map (shortened who) queues) name ≡ true
-other_first who queues name e h =
-    ap (λ items. holds_of (λ (queued : Queued). is_call queued.item) (first_of_list items))
-    (shorter who (Someone name) queues
-    ∙ ap (λ b. cond b (rest_of (queue_of queues (Someone name))) (queue_of queues (Someone name))) e)
-    ∙ h
+other_first who queues name e h = cc (shorter who (Someone name) queues)
 
 -- what goes on is of the task
 pub named : (sched : Sched ℕ) (task : Task ℕ) (before : Progress ℕ) → Before sched task before → before.task ≡ task.name
@@ -82,7 +77,8 @@ module _ (sched : Sched ℕ) (is : IsSched sched) where
       })
   call_done name world = record {
     one = λ other.
-        let less = shrinks (λ (p : Progress ℕ). same_name other p.task) (λ (p : Progress ℕ). not (same_name name p.task))
+        let less = shrinks (λ (p : Progress ℕ). same_name other p.task)
+        (λ (p : Progress ℕ). not (same_name name p.task))
         sched.under_way in
         let most = is.one other in
         omega (arith, less, most);

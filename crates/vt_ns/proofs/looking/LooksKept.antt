@@ -1,5 +1,5 @@
 -- What code finds in what is kept of a world is what the definitions see of its value.
-use Rattle.std.proofs.Common.{◌≡◌, refl, sym, ap, subst, ◌∙◌, ℕ, ◌<◌, nat_eq, Bool, true, false, cond, is_some, not, ◌&&◌, ◌||◌, List, [], ◌∷◌, zero, suc, length, Option, Some, None, filter, flat_map, map, option_map, unwrap_or}
+use Rattle.std.proofs.Common.{◌≡◌, refl, sym, ap, subst, ◌∙◌, ℕ, ◌<◌, nat_eq, Bool, true, false, cond, is_some, not, ◌&&◌, ◌||◌, List, [], ◌∷◌, zero, suc, length, Option, Some, None, flat_map, map, option_map, unwrap_or}
 use Rattle.std.specs.Prelude.{find, option_to_list}
 use Rattle.std.specs.List.{list_any}
 use Rattle.vt_spec.specs.Language.Changes.{Change}
@@ -15,7 +15,7 @@ use Rattle.vt_spec.specs.Machine.Rightful.{mounter_allows}
 use Rattle.vt_spec.specs.Machine.Rules.Conditions.{has_no_upper, is_overlay_at}
 use Rattle.vt_spec.specs.Machine.Walking.{is_lost}
 use Rattle.vt_spec.specs.Machine.Mounts.{child_at, no_mount, root_of, same_location, stands_on}
-use Rattle.vt_spec.specs.Machine.World.{Filesystem, filesystem_at, filesystem_numbered, is_overlay, is_removed_at, layers_of, mount_at, mount_numbered, node_at, open_layer}
+use Rattle.vt_spec.specs.Machine.World.{Filesystem, filesystem_at, filesystem_numbered, is_removed_at, layers_of, mount_at, mount_numbered, node_at, open_layer}
 use Rattle.vt_location.specs.declared.locations.Location.{Location}
 use Rattle.vt_location.specs.declared.births.Birth.TheVariants.{Here}
 use Rattle.vt_location.specs.declared.locations.NodeRef.{NodeRef}
@@ -27,16 +27,17 @@ use Rattle.vt_location.proofs.NumberLemmas.{counted_test}
 use Rattle.vt_looks.specs.declared.look.Ground.{Ground}
 use Rattle.vt_looks.specs.Looking.{IsGround, is_only_below}
 use Rattle.vt_fs.proofs.Entries.{or_first, or_second}
-use Rattle.vt_fs.specs.FilesystemsValue.{Filesystems, files_at, filesystems_seen}
+use Rattle.vt_fs.specs.FilesystemsValue.{files_at}
 use Rattle.vt_fs.specs.Laws.{is_lost_under}
 use Rattle.vt_fs.proofs.Numbers.{found_by_number}
 use Rattle.vt_mount.specs.MountsValue.{mounts_in, stands_over}
 use Rattle.vt_world.specs.Held.{IsHeld}
 use Rattle.std.proofs.Math.Bool.{or-true}
 use Rattle.vt_detach.specs.Looking.{is_seen, looks_of_value}
-use Rattle.vt_world.specs.WorldValue.{WorldValue, world_of}
+use Rattle.vt_world.specs.WorldValue.{WorldValue, overlays_seen, world_of}
 use Rattle.vt_detach.proofs.FilesystemsFound.{found_plain}
 use Rattle.vt_detach.proofs.FilesSeen.{seen_here}
+use Rattle.vt_detach.proofs.Overlaid.{found_as_kept, overlays_are}
 use Rattle.vt_detach.proofs.LookLemmas.{any_point, missing_root, seen_filesystem, under_another, unseen_node, unseen_removed, unseen_root}
 
 -- the mount that is found, or what stands for one that is not there
@@ -164,7 +165,8 @@ module _ (kept value : WorldValue) (is : kept ≡ value) (held : IsHeld kept) (a
         (mount_found kept (counted at.mount.count) got is_found mount some)
         ∙ ap (λ (filesystem : Filesystem ℕ). is_lost_under filesystem.files (number_of mount.root)
         (number_of at.node))
-        (found_by_number kept.filesystems mount.root.filesystem.count)))
+        (found_as_kept kept held (counted mount.root.filesystem.count)
+        ∙ found_by_number kept.filesystems mount.root.filesystem.count)))
 
     not_under : (v : WorldValue)
         → is_directory_under nat_eq (filesystem_at nat_eq (world_of v) (location_of at)).files
@@ -226,15 +228,14 @@ seen_on value at ground b is same =
     ap (λ n. nat_eq n (counted at.node.filesystem.count)) (sym is.filesystem)
     ∙ counted_test ground.filesystem.count at.node.filesystem.count ∙ same
 
--- no filesystem is an overlay
-no_overlays : (fs : Filesystems) → filter is_overlay (filesystems_seen fs) ≡ []
-no_overlays [] = refl
-no_overlays (x ∷ fs) = no_overlays fs
-
--- no location is in an overlay: nothing is locked, no lower layer has a directory, and no mounter is asked
-module _ (value : WorldValue) (at : meant.Location ℕ) where
+-- Nothing makes an overlay yet. So no location is in one: nothing is locked, no lower layer has a directory, and no
+-- mounter is asked.
+module _ (value : WorldValue) (held : IsHeld value) (at : meant.Location ℕ) where
   plain : (filesystem_at nat_eq (world_of value) at).overlay ≡ None
-  plain = found_plain value.filesystems (mount_at nat_eq (world_of value) at).filesystem
+  plain =
+      ap (λ (filesystem : Filesystem ℕ). filesystem.overlay)
+      (found_as_kept value held (mount_at nat_eq (world_of value) at).filesystem)
+      ∙ found_plain value.filesystems (mount_at nat_eq (world_of value) at).filesystem
 
   pub no_overlay : is_overlay_at (looks_of_value value) at ≡ false
   no_overlay = ap is_some plain
@@ -246,7 +247,8 @@ module _ (value : WorldValue) (at : meant.Location ℕ) where
   unlocked = ap (λ all.
       list_any (lies_or_counts_under nat_eq (world_of value)
       (mount_at nat_eq (world_of value) at).filesystem at.node)
-      (flat_map (of_overlay [] layers_of) all)) (no_overlays value.filesystems)
+      (flat_map (of_overlay [] layers_of) all))
+      (overlays_are value held.overlays ∙ ap overlays_seen held.overlays.none_yet)
 
   pub no_lower_directory : (name : List ℕ) → has_lower_directory_at nat_eq (world_of value) at name ≡ false
   no_lower_directory name = ap (overlay_or false (λ overlay. has_lower_directory

@@ -28,6 +28,7 @@ use Rattle.vt_detach.specs.Looking.{looks_of_value}
 use Rattle.vt_world.specs.Held.{IsHeld}
 use Rattle.vt_world.specs.WorldValue.{WorldValue, world_of}
 use Rattle.vt_detach.proofs.FilesystemsFound.{holds_at}
+use Rattle.vt_detach.proofs.Overlaid.{seen_one_among}
 
 -- what is no directory is its own parent, and has no entries
 no_directory : (number : ℕ) (o : Option (Node ℕ)) → is_directory_node o ≡ false
@@ -92,15 +93,14 @@ lie_nowhere count directory stays = by (nat_eq directory (filesystem_seen (no_en
     by false e stays = absurd (true≢false stays)
 
 module _ (value : WorldValue) (held : IsHeld value) where
-  file_tree : (filesystem : Filesystem ℕ) → Among filesystem (filesystems_seen value.filesystems)
-      → IsFileTree filesystem.files
+  file_tree : (filesystem : Filesystem ℕ) → Among filesystem (world_of value).filesystems → IsFileTree filesystem.files
   file_tree filesystem m = record {
     tree = among_from_all (λ (x : Filesystem ℕ). IsTree x.files.tree)
-        (filesystems_seen value.filesystems) held.in_world.files.trees filesystem m;
+        (world_of value).filesystems held.in_world.files.trees filesystem m;
     numbers = among_from_all (λ (x : Filesystem ℕ). ListsNumbers nat_eq x.files)
-        (filesystems_seen value.filesystems) held.in_world.files.numbers filesystem m;
+        (world_of value).filesystems held.in_world.files.numbers filesystem m;
     own_parents = among_from_all (λ (x : Filesystem ℕ). HasOwnParents x.files.tree)
-        (filesystems_seen value.filesystems) held.in_world.files.own_parents filesystem m;
+        (world_of value).filesystems held.in_world.files.own_parents filesystem m;
   }
 
   -- in each tree what is not removed lies under the root
@@ -109,7 +109,8 @@ module _ (value : WorldValue) (held : IsHeld value) where
       holds_at (λ filesystem. LieUnderRoot filesystem.files) value.filesystems
       (all_from_among (λ (filesystem : Filesystem ℕ). LieUnderRoot filesystem.files)
       (filesystems_seen value.filesystems)
-      (λ filesystem m. lie_under_root filesystem.files (file_tree filesystem m)))
+      (λ filesystem m. lie_under_root filesystem.files
+      (file_tree filesystem (seen_one_among value held.overlays.merged filesystem m))))
       count (lie_nowhere count)
 
 -- Up from a directory by parents
@@ -330,8 +331,8 @@ nowhere_ways files none = record {
 module _ (value : WorldValue) (held : IsHeld value) where
   ways_at : (number : ℕ) → Ways (filesystem_numbered nat_eq (world_of value) number).files
   ways_at number =
-      numbered_anyhow (λ (filesystem : Filesystem ℕ). Ways filesystem.files) number (filesystems_seen value.filesystems)
-      (all_from_among (λ (filesystem : Filesystem ℕ). Ways filesystem.files) (filesystems_seen value.filesystems)
+      numbered_anyhow (λ (filesystem : Filesystem ℕ). Ways filesystem.files) number (world_of value).filesystems
+      (all_from_among (λ (filesystem : Filesystem ℕ). Ways filesystem.files) (world_of value).filesystems
       (λ filesystem m.
       let is = file_tree value held filesystem m in
       record {

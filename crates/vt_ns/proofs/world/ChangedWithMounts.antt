@@ -1,5 +1,5 @@
 -- A tree is changed first, and then mounts are detached that stand on what is removed: rmdir(2), rename(2).
-use Rattle.std.proofs.Common.{◌≡◌, refl, sym, ap, subst, ◌∙◌, ℕ, nat_eq, eq-eqb, Bool, true, false, cond, not, ◌&&◌, List, [], ◌∷◌, ◌++◌, map, filter, flat_map, None, Some, unwrap_or}
+use Rattle.std.proofs.Common.{◌≡◌, refl, sym, ap, subst, ◌∙◌, ℕ, nat_eq, eq-eqb, Bool, true, false, cond, not, ◌&&◌, List, [], ◌∷◌, ◌++◌, map, filter, flat_map, None, Some}
 use Rattle.std.specs.Prelude.{filter_map}
 use Rattle.std.specs.List.{list_all, list_any}
 use Rattle.vt_spec.specs.Language.Calls.{TaskName}
@@ -20,13 +20,15 @@ use Rattle.vt_spec.specs.Machine.Invariants.{IsWorld, ListsNumbers, TreeInvarian
 use Rattle.vt_spec.specs.TreeInvariant.{IsTree}
 use Rattle.vt_laws_counts.specs.Changing.{filesystem_of}
 use Rattle.vt_laws_counts.specs.Counted.{IsPlain}
-use Rattle.vt_fs.specs.FilesystemsValue.{Filesystems, filesystem_seen, inodes_seen, no_entry}
+use Rattle.vt_fs.specs.FilesystemsValue.{Filesystems, filesystem_seen}
 use Rattle.vt_group.specs.Grouping.{Grouping, Has}
 use Rattle.vt_group.specs.Together.{TakesAway}
 use Rattle.vt_laws_permits.specs.Named.{permit_named}
-use Rattle.vt_laws_permits.proofs.named.PermitsKeepTo.{same_keeps_to_numbers_too}
-use Rattle.vt_laws_permits.proofs.left.PermitsLeave.{given_permits_are_under_way, given_permits_leave_worlds}
-use Rattle.vt_laws_permits.proofs.same.SameInUse.{same_worlds_are_worlds}
+use Rattle.vt_laws_permits.proofs.named.PermitsKeepTo.{permits_keep_to_numbers}
+use Rattle.vt_laws_permits.proofs.left.PermitsLeave.{given_permits_are_under_way}
+use Rattle.vt_laws_one_text.proofs.same.SameNumbers.{any_same_worlds_keep_to_numbers}
+use Rattle.vt_laws_one_text.proofs.same.SameWhole.{any_same_worlds_are_worlds}
+use Rattle.vt_laws_overlays_stay.proofs.left.Given.{given_permits_give_no_upper}
 use Rattle.vt_laws_letting_go.proofs.Lists.{Among, all_from_among, among-append_right, among-filter, among-filter_map, among-map, among_from_all, is_among_left, is_among_numbers, is_among_right, map_same, or_second}
 use Rattle.vt_laws_letting_go.proofs.leaving.NamesKept.{changes_keep_names}
 use Rattle.vt_laws_letting_go.proofs.sweeps.OfWorlds.{worlds_have_trees}
@@ -50,23 +52,21 @@ use Rattle.vt_laws_worlds.proofs.worlds.PermitsShow.{permits_keep_mounts_showing
 use Rattle.vt_laws_worlds.proofs.settling.SettledTasks.{settling_leaves_a_world}
 use Rattle.vt_detach.specs.Events.{Permits, supply_of}
 use Rattle.vt_detach.specs.Detached.{LeaveInTurn, LeaveTogether}
-use Rattle.vt_world.specs.Held.{CountsItsMounts, CountsWhatIsInIt, HasOwnInodes, IsHeld}
+use Rattle.vt_world.specs.Held.{CountsWhatIsInIt, IsHeld}
 use Rattle.vt_detach.specs.Uses.{kept}
 use Rattle.vt_world.specs.WorldValue.{WorldValue, world_of}
 use Rattle.vt_detach.proofs.ChangedFiles.{ChangesFiles, change_is_held, change_is_swept, with_filesystems}
-use Rattle.vt_detach.proofs.Bridging.{swept_has, swept_is_counted, swept_is_same}
+use Rattle.vt_detach.proofs.Bridging.{swept_is_same}
 use Rattle.vt_detach.proofs.DetachingBegins.{HasChildrenOf, detached_world, detaching_begins}
 use Rattle.vt_detach.proofs.DetachingEnds.{detached_counted, detached_is_private, detached_swept, held_is_kept, taken_regroups}
 use Rattle.vt_group.proofs.Others.{has_ordered}
-use Rattle.vt_detach.proofs.Finishing.{own_exchanged}
+use Rattle.vt_detach.proofs.Finishing.{swept_held}
 use Rattle.vt_detach.proofs.FollowedTypes.{own_types}
-use Rattle.vt_detach.proofs.FilesSeen.{files_are_plain}
+use Rattle.vt_detach.proofs.Overlaid.{found_plain_one, keeps_itself, plain_one_among, same_files_keep, world_is_plain}
 use Rattle.vt_detach.proofs.Keeping.{IsKeptBut, detached_in}
 use Rattle.vt_detach.proofs.MountsGone.{pending_filesystem, pending_number}
-use Rattle.vt_fs.proofs.Numbers.{found_by_number}
-use Rattle.vt_detach.proofs.OwnInodesKept.{IsOwn}
 use Rattle.vt_detach.proofs.Remaining.{remade}
-use Rattle.vt_detach.proofs.Staying.{IsDone, becomes_so, held_is_settled, world_is_plain}
+use Rattle.vt_detach.proofs.Staying.{IsDone, becomes_so, held_is_settled}
 use Rattle.vt_detach.proofs.TypedEvents.{counts_typed, swept_typed, typed_value}
 use Rattle.vt_detach.proofs.TypedWorlds.{settled_typed, settled_typed_has, typed_world}
 use Rattle.vt_detach.proofs.UnmountedLazily.{all_detached}
@@ -89,9 +89,7 @@ module _ (value : WorldValue) (held : IsHeld value) (location : Location ℕ) (c
   no_overlay : (filesystem_at nat_eq world location).overlay ≡ None
   no_overlay =
       ap (λ (f : Filesystem ℕ). f.overlay)
-      (ap (filesystem_numbered nat_eq world) made.shows
-      ∙ found_by_number value.filesystems made.entry.count
-      ∙ ap (λ found. filesystem_seen (unwrap_or found (no_entry made.entry.count))) made.found)
+      (ap (filesystem_numbered nat_eq world) made.shows ∙ found_plain_one value held made.entry made.among)
 
   -- the change of the world is that of one filesystem
   pub changed_is : (fresh : Fresh ℕ) → changed_first fresh ≡ with_filesystem nat_eq world changed_files
@@ -158,7 +156,7 @@ module _ (value : WorldValue) (held : IsHeld value) (location : Location ℕ) (c
     last_under_way =
         subst IsWorldButForUse (leaves fresh)
         (given_permits_are_under_way world fresh permits.task permit held.in_world
-        (files_are_plain value.filesystems) permits.given)
+        (world_is_plain value held) permits.given)
 
     -- groups that end leave the trees as they are
     trees_under_way : (b : Bool) → IsWorldButForUse (regrouped_by nat_eq b (detached_world gone (changed_first fresh)))
@@ -194,7 +192,7 @@ module _ (value : WorldValue) (held : IsHeld value) (location : Location ℕ) (c
     first_under_way : IsWorldButForUse (changed_first fresh)
     first_under_way =
         let is = held.in_world in
-        let plain = files_are_plain value.filesystems in
+        let plain = world_is_plain value held in
         let serves = permits.given.serves in
         let found = permits.given.called in
         let task = permits.task in
@@ -222,27 +220,29 @@ module _ (value : WorldValue) (held : IsHeld value) (location : Location ℕ) (c
     -- the world with the tree changed has its invariants, and counts what is in it
     pub changed_first_is_held : IsHeld (with_filesystems value filesystems)
     changed_first_is_held =
-        let left = settling_leaves_a_world (changed_first fresh) first_under_way in
         change_is_held value held location change filesystems made
-        (same_worlds_are_worlds (settled nat_eq (changed_first fresh)) (world_of (with_filesystems value filesystems))
-        (change_is_swept value held location change filesystems made fresh) left.1 left.0).0
-        (same_keeps_to_numbers_too (is_counted_before value.next) (λ k. 0) world permits.task (ToChange location change)
-        (world_of (with_filesystems value filesystems)) permits.given.called held.given (λ k. refl) named
-        (change_is_swept value held location change filesystems made (λ k. 0)) (files_are_plain filesystems))
+        (any_same_worlds_are_worlds (settled nat_eq (changed_first fresh))
+        (world_of (with_filesystems value filesystems))
+        (change_is_swept value held location change filesystems made fresh)
+        (settling_leaves_a_world (changed_first fresh) first_under_way).0)
+        (any_same_worlds_keep_to_numbers (is_counted_before value.next)
+        (settled nat_eq (apply nat_eq (λ k. 0) world permits.task (ToChange location change)).world)
+        (world_of (with_filesystems value filesystems))
+        (change_is_swept value held location change filesystems made (λ k. 0))
+        (permits_keep_to_numbers (is_counted_before value.next) (λ k. 0) world permits.task (ToChange location change)
+        permits.given.called held.given (λ k. refl) named))
 
     abbrev number : ℕ
     number = filesystem_of world location
 
     filesystem_is : filesystem_at nat_eq world location ≡ filesystem_seen made.entry
     filesystem_is =
-        ap (filesystem_numbered nat_eq world) made.shows
-        ∙ found_by_number value.filesystems made.entry.count
-        ∙ ap (λ found. filesystem_seen (unwrap_or found (no_entry made.entry.count))) made.found
+        ap (filesystem_numbered nat_eq world) made.shows ∙ found_plain_one value held made.entry made.among
 
     seen_among : Among (filesystem_at nat_eq world location) world.filesystems
     seen_among =
         subst (λ f. Among f world.filesystems) (sym filesystem_is)
-        (among-map filesystem_seen value.filesystems made.entry made.among)
+        (plain_one_among value held.overlays.merged made.entry made.among)
 
     abbrev changed_plainly : World ℕ
     changed_plainly = with_filesystem nat_eq world changed_files
@@ -283,7 +283,7 @@ module _ (value : WorldValue) (held : IsHeld value) (location : Location ℕ) (c
           is_among_numbers number (map (λ (f : Filesystem ℕ). f.number) world.filesystems)
           (subst (λ n. Among n (map (λ (f : Filesystem ℕ). f.number) world.filesystems)) (sym made.shows)
           (among-map (λ (f : Filesystem ℕ). f.number) world.filesystems (filesystem_seen made.entry)
-          (among-map filesystem_seen value.filesystems made.entry made.among)))
+          (plain_one_among value held.overlays.merged made.entry made.among)))
 
       located : (f : Filesystem ℕ) → nat_eq f.number number ≡ true
           → is_among nat_eq object (located_in nat_eq changed_plainly f.number) ≡ true
@@ -329,7 +329,7 @@ module _ (value : WorldValue) (held : IsHeld value) (location : Location ℕ) (c
       nothing_goes =
           subst (λ w. settled nat_eq w ≡ w) (sym (changed_is fresh))
           (unnamed_go world number changed_files.files (object ∷ [])
-          (held_is_settled value held.in_world) filesystem_listed changes_tree ∙ object_stays)
+          (held_is_settled value held) filesystem_listed changes_tree ∙ object_stays)
 
     -- Where nothing goes by the change alone, the mounts are detached in the world with the tree changed.
     module _ (still : settled nat_eq (changed_first fresh) ≡ changed_first fresh)
@@ -360,11 +360,10 @@ module _ (value : WorldValue) (held : IsHeld value) (location : Location ℕ) (c
           })))
 
       left_world : IsWorld nat_eq (settled nat_eq (regrouped nat_eq last))
-          × IsPlain (settled nat_eq (regrouped nat_eq last))
       left_world =
-          subst (λ w. IsWorld nat_eq (settled nat_eq w) × IsPlain (settled nat_eq w)) (leaves fresh)
-          (given_permits_leave_worlds world fresh permits.task permit held.in_world
-          (files_are_plain value.filesystems) permits.given)
+          subst (λ w. IsWorld nat_eq (settled nat_eq w)) (leaves fresh)
+          (given_permits_give_no_upper world fresh permits.task permit held.in_world held.overlays.read_only
+          permits.given).0
 
       -- They leave their groups at once, and all mounts get the types that the groups then tell.
       module _ (groups : Grouping) (follows : TakesAway value.groups groups gone) where
@@ -380,10 +379,10 @@ module _ (value : WorldValue) (held : IsHeld value) (location : Location ℕ) (c
         same_typed = subst (SameWorlds (settled nat_eq (regrouped nat_eq last)))
             (settled_typed after groups has_after) same_left
 
-        typed_is_world : IsWorld nat_eq (settled nat_eq typed) × IsPlain (settled nat_eq typed)
+        typed_is_world : IsWorld nat_eq (settled nat_eq typed)
         typed_is_world =
-            same_worlds_are_worlds (settled nat_eq (regrouped nat_eq last))
-            (settled nat_eq typed) same_typed left_world.1 left_world.0
+            any_same_worlds_are_worlds (settled nat_eq (regrouped nat_eq last)) (settled nat_eq typed) same_typed
+            left_world
 
         has_typed : Has (settled nat_eq typed) groups
         has_typed =
@@ -405,39 +404,24 @@ module _ (value : WorldValue) (held : IsHeld value) (location : Location ℕ) (c
             let kept_last = subst (λ one. IsKeptBut value_changed [] [] [] lost one
             (kept mounts others)) detaching.ends detaching.is in
             let swept = swept_typed groups untyped value_changed after [] lost
-            (detached_swept value_changed after [] lost untyped kept_last refl
-            (world_is_plain value_changed) refl refl) in
+            (detached_swept value_changed after [] lost untyped kept_last refl refl
+            (same_files_keep value_changed (world_of value_changed) after refl
+            (keeps_itself value_changed held_first.overlays)) refl refl) in
             let same = sameness_is_an_equivalence.onward (settled nat_eq (regrouped nat_eq last)) (settled nat_eq typed)
             (world_of new) same_typed
             (swept_is_same value_changed held_first typed [] lost new swept has_typed typed_is_world) in
-            let is = (same_worlds_are_worlds (settled nat_eq (regrouped nat_eq last))
-            (world_of new) same left_world.1 left_world.0).0 in
             let counts = counts_typed groups untyped
-            (detached_counted value_changed after [] lost untyped kept_last refl
+            (detached_counted value_changed after [] lost untyped kept_last refl refl
             (all_from_among (CountsWhatIsInIt (world_of untyped)) value.namespaces (λ entry m.
             let was = among_from_all (CountsWhatIsInIt
             (world_of value)) value.namespaces held.namespaces entry m in record { tasks = was.tasks }))) in
             record {
-              held = record {
-                in_world = is;
-                groups = swept_has value_changed held_first typed [] lost new swept has_typed typed_is_world;
-                given = same_keeps_to_numbers_too (is_counted_before value.next) (λ k. 0) world permits.task permit
-                    (world_of new)
-                    permits.given.called held.given (λ k. refl) is_named
-                    (subst (λ w. SameWorlds (settled nat_eq w) (world_of new)) (sym (leaves (λ k. 0))) same)
-                    (files_are_plain others);
-                mounts = counts.uses;
-                filesystems = all_from_among (CountsItsMounts (world_of new)) others (λ entry m. record {
-                  mounts = counts.mounts entry m;
-                  inodes = swept_is_counted value_changed held_first typed [] lost new swept has_typed typed_is_world entry m is;
-                });
-                own_inodes = all_from_among HasOwnInodes others (λ entry m. let from = swept.entries entry m in
-                    subst (λ count. IsOwn count (inodes_seen entry)) (sym from.count)
-                    (subst (IsOwn from.was.count) (sym from.inodes)
-                    (own_exchanged from.was.count [] lost (inodes_seen from.was)
-                    (among_from_all HasOwnInodes filesystems held_first.own_inodes from.was from.among))));
-                namespaces = counts.namespaces;
-              };
+              held = swept_held value_changed held_first typed typed_is_world [] lost new swept has_typed counts
+                  (any_same_worlds_keep_to_numbers (is_counted_before value.next)
+                  (settled nat_eq (apply nat_eq (λ k. 0) world permits.task permit).world) (world_of new)
+                  (subst (λ w. SameWorlds (settled nat_eq w) (world_of new)) (sym (leaves (λ k. 0))) same)
+                  (permits_keep_to_numbers (is_counted_before value.next) (λ k. 0) world permits.task permit
+                  permits.given.called held.given (λ k. refl) is_named));
               becomes = becomes_so value name permit new permits.task permits.called
                   (subst (λ w. SameWorlds (settled nat_eq w) (world_of new)) (sym (leaves fresh)) same);
             }

@@ -67,7 +67,7 @@ module _ (value : WorldValue) (held : IsHeld value) (name : TaskName) (directory
   pub linked_is_kept : is_some ((files_at value.filesystems directory.node.filesystem.count).tree.node
       (number_of object)) ≡ true
   linked_is_kept =
-      kept_there value directory
+      kept_there value held directory
       (change_at value held name directory small (AddName (number_of directory.node) entry (number_of object)) permits)
       (number_of object) linked_there
 
@@ -100,7 +100,7 @@ module _ (value : WorldValue) (held : IsHeld value) (name : TaskName) (directory
       && nodes_named value.next object i)
       (inode_is_there ((inodes_seen seen.entry).inode (number_of object))
       (ap (λ filesystem. is_some (filesystem.files.tree.node (number_of object)))
-      (sym (located_filesystem value directory seen)) ∙ linked_there))
+      (sym (located_filesystem value held directory seen)) ∙ linked_there))
       (λ number other. tt)) ok)
       err
 
@@ -120,15 +120,15 @@ module _ (value : WorldValue) (held : IsHeld value) (name : TaskName) (directory
       let sees = change_sees value held name directory small
       (Remove (number_of directory.node) entry (number_of object)) permits in
       ap (λ filesystem. is_some (filesystem.files.tree.node (number_of object)))
-      (located_filesystem value directory seen)
+      (located_filesystem value held directory seen)
       ∙ (tree_of_entry value held seen.entry seen.among).alive (number_of directory.node) entry (number_of object)
       (ap (λ filesystem. entry_at filesystem.files.tree (number_of directory.node) entry)
-      (sym (located_filesystem value directory seen))
+      (sym (located_filesystem value held directory seen))
       ∙ sees.1.named)
 
   pub unlinked_is_kept : is_some ((files_at value.filesystems directory.node.filesystem.count).tree.node
       (number_of object)) ≡ true
-  unlinked_is_kept = kept_there value directory seen (number_of object) unlinked_there
+  unlinked_is_kept = kept_there value held directory seen (number_of object) unlinked_there
 
   -- the object of a removed name is in the filesystem of its directory
   pub unlinked_in : object.filesystem ≡ directory.node.filesystem

@@ -25,7 +25,8 @@ use Rattle.vt_world.specs.Held.{IsHeld}
 use Rattle.vt_world.specs.WorldValue.{WorldValue, world_of}
 use Rattle.vt_detach.proofs.ChangedFiles.{IsFilesEvent, files_are_changed, with_filesystems}
 use Rattle.vt_detach.proofs.FileEvents.{IsSmall, permit_fits}
-use Rattle.vt_detach.proofs.FilesSeen.{IsLocated, also_there, files_are_plain, kept_there, located, located_filesystem, located_inodes, tree_of_entry}
+use Rattle.vt_detach.proofs.FilesSeen.{IsLocated, also_there, kept_there, located, located_filesystem, located_inodes, tree_of_entry}
+use Rattle.vt_detach.proofs.Overlaid.{world_is_plain}
 
 -- Where no mount stands nothing is detached
 
@@ -56,7 +57,7 @@ module _ (value : WorldValue) (held : IsHeld value) (name : TaskName) (parent : 
   sees : SeesTo (world_of value) permits.task permit
   sees =
       given_permits_are_seen_to (world_of value) (supply_of value permit) permits.task permit held.in_world
-      (files_are_plain value.filesystems) permits.given
+      (world_is_plain value held) permits.given
 
   abbrev change : Change ℕ
   change = Remove (number_of parent.node) entry (number_of directory.node)
@@ -65,16 +66,16 @@ module _ (value : WorldValue) (held : IsHeld value) (name : TaskName) (parent : 
       (number_of directory.node)) ≡ true
   removed_there =
       ap (λ filesystem. is_some (filesystem.files.tree.node (number_of directory.node)))
-      (located_filesystem value parent parent_seen)
+      (located_filesystem value held parent parent_seen)
       ∙ (tree_of_entry value held parent_seen.entry parent_seen.among).alive (number_of parent.node) entry
       (number_of directory.node)
       (ap (λ filesystem. entry_at filesystem.files.tree (number_of parent.node) entry)
-      (sym (located_filesystem value parent parent_seen))
+      (sym (located_filesystem value held parent parent_seen))
       ∙ sees.1.named)
 
   pub removed_is_kept : is_some ((files_at value.filesystems parent.node.filesystem.count).tree.node
       (number_of directory.node)) ≡ true
-  removed_is_kept = kept_there value parent parent_seen (number_of directory.node) removed_there
+  removed_is_kept = kept_there value held parent parent_seen (number_of directory.node) removed_there
 
   -- a directory is in the filesystem of its parent
   pub removed_in : directory.node.filesystem ≡ parent.node.filesystem
@@ -84,8 +85,9 @@ module _ (value : WorldValue) (held : IsHeld value) (name : TaskName) (parent : 
   change_fits : (inodes : Inodes ℕ) → inodes ≡ inodes_seen parent_seen.entry → Fits inodes change
   change_fits inodes same =
       given_changes_fit (world_of value) (supply_of value permit) permits.task permit (location_of parent)
-      change inodes held.in_world (files_are_plain value.filesystems) permits.given refl
-      (ap tree_of same ∙ ap (λ filesystem. filesystem.files.tree) (sym (located_filesystem value parent parent_seen)))
+      change inodes held.in_world (world_is_plain value held) permits.given refl
+      (ap tree_of same
+      ∙ ap (λ filesystem. filesystem.files.tree) (sym (located_filesystem value held parent parent_seen)))
 
   -- it can be removed
   pub removal_fits : Fits (inodes_at value.filesystems parent.node.filesystem.count) change

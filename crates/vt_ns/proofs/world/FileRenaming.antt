@@ -32,7 +32,8 @@ use Rattle.vt_detach.proofs.ChangedFiles.{IsFilesEvent, files_are_changed, with_
 use Rattle.vt_detach.proofs.FileEvents.{IsSmall, permit_fits}
 use Rattle.vt_ns.proofs.world.FileRemoving.{nothing_detached}
 use Rattle.vt_detach.proofs.Places.{located_is_named}
-use Rattle.vt_detach.proofs.FilesSeen.{IsLocated, also_there, files_are_plain, kept_there, located, located_filesystem, located_inodes}
+use Rattle.vt_detach.proofs.FilesSeen.{IsLocated, also_there, kept_there, located, located_filesystem, located_inodes}
+use Rattle.vt_detach.proofs.Overlaid.{world_is_plain}
 
 module _ (value : WorldValue) (held : IsHeld value) (name : TaskName) (from : Location) (old : List ℕ) (to : Location)
     (new : List ℕ)
@@ -65,7 +66,7 @@ module _ (value : WorldValue) (held : IsHeld value) (name : TaskName) (from : Lo
       (option_map location_of replaced)
   sees =
       given_permits_are_seen_to (world_of value) (supply_of value permit) permits.task permit held.in_world
-      (files_are_plain value.filesystems) permits.given
+      (world_is_plain value held) permits.given
 
   -- an inode that is seen through the same mount is in the same filesystem
   same_there : (at : Location) → (location_of at).mount ≡ (location_of from).mount
@@ -88,7 +89,7 @@ module _ (value : WorldValue) (held : IsHeld value) (name : TaskName) (from : Lo
   pub renamed_is_kept : is_some ((files_at value.filesystems from.node.filesystem.count).tree.node
       (number_of object.node)) ≡ true
   renamed_is_kept =
-      kept_there value from from_seen (number_of object.node) (same_there object sees.object_mount names.2.there)
+      kept_there value held from from_seen (number_of object.node) (same_there object sees.object_mount names.2.there)
 
   -- both directories are in one filesystem
   pub renamed_to : to.node.filesystem ≡ from.node.filesystem
@@ -102,8 +103,8 @@ module _ (value : WorldValue) (held : IsHeld value) (name : TaskName) (from : Lo
   pub change_fits : (inodes : Inodes ℕ) → inodes ≡ inodes_seen from_seen.entry → Fits inodes change
   change_fits inodes same =
       given_changes_fit (world_of value) (supply_of value permit) permits.task permit (location_of from)
-      change inodes held.in_world (files_are_plain value.filesystems) permits.given refl
-      (ap tree_of same ∙ ap (λ filesystem. filesystem.files.tree) (sym (located_filesystem value from from_seen)))
+      change inodes held.in_world (world_is_plain value held) permits.given refl
+      (ap tree_of same ∙ ap (λ filesystem. filesystem.files.tree) (sym (located_filesystem value held from from_seen)))
 
   -- the rename can be made
   pub rename_fits : Fits (inodes_at value.filesystems from.node.filesystem.count) change

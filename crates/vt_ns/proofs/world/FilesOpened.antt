@@ -12,7 +12,7 @@ use Rattle.vt_spec.specs.Machine.Permits.Permit.{ToOpen}
 use Rattle.vt_spec.specs.Machine.Filesystems.{lies_only_in_lowers}
 use Rattle.vt_spec.specs.Machine.Locked.{overlay_or}
 use Rattle.vt_spec.specs.Machine.Settled.{without_dead_mounts}
-use Rattle.vt_spec.specs.Machine.World.{Descriptor, Overlay, Task, mount_at, no_filesystem, task_called, with_task}
+use Rattle.vt_spec.specs.Machine.World.{Descriptor, Filesystem, Overlay, Task, mount_at, no_filesystem, task_called, with_task}
 use Rattle.vt_spec.specs.Machine.Invariants.{is_located_well}
 use Rattle.vt_fs.specs.FilesystemsValue.{Filesystems, filesystem_seen, filesystems_seen}
 use Rattle.vt_laws_letting_go.specs.Counts.{times}
@@ -33,7 +33,7 @@ use Rattle.vt_detach.specs.Uses.{kept, with_location, with_use}
 use Rattle.vt_world.specs.WorldValue.{WorldValue, world_of}
 use Rattle.vt_laws_permits.proofs.sees.SeesTasks.{given_permits_are_seen_to}
 use Rattle.vt_detach.proofs.FileEvents.{permit_fits}
-use Rattle.vt_detach.proofs.FilesSeen.{files_are_plain}
+use Rattle.vt_detach.proofs.Overlaid.{found_as_kept, world_is_plain}
 use Rattle.vt_detach.proofs.LocationsSeen.{seen_where_located}
 use Rattle.vt_detach.proofs.Closing.{Goes, around, place, used_by}
 use Rattle.vt_detach.proofs.Moving.{Moves, only_left}
@@ -155,13 +155,15 @@ file_is_opened value name opened mounts filesystems tasks whole permits uncopied
     })
     (opened_tasks value whole name task permits.called descriptor well))
 
--- in a world of plain filesystems nothing is copied
-pub nothing_copied : (value : WorldValue) (file : meant.Location ℕ) (access : spoken.Access)
+-- nothing makes an overlay yet, so nothing is copied
+pub nothing_copied : (value : WorldValue) → IsHeld value → (file : meant.Location ℕ) (access : spoken.Access)
     → is_copied_up nat_eq (world_of value) file access ≡ false
-nothing_copied value file access =
+nothing_copied value whole file access =
     ap (λ (o : Option (Overlay ℕ)). opens_for_writing access
     && overlay_or false (λ overlay. lies_only_in_lowers overlay file.node) o)
-    (no_overlay value.filesystems (mount_at nat_eq (world_of value) file).filesystem)
+    (ap (λ (filesystem : Filesystem ℕ). filesystem.overlay)
+    (found_as_kept value whole (mount_at nat_eq (world_of value) file).filesystem)
+    ∙ no_overlay value.filesystems (mount_at nat_eq (world_of value) file).filesystem)
     ∙ and-false (opens_for_writing access)
   where
     no_overlay : (entries : Filesystems) (number : ℕ)
@@ -185,4 +187,4 @@ may_open_more value whole name file access permits =
     subst MayOpenMore (sym permits.called)
     (leb-false _ _ (given_permits_are_seen_to (world_of value) (supply_of value (ToOpen file access)) permits.task
     (ToOpen file access)
-    whole.in_world (files_are_plain value.filesystems) permits.given).1)
+    whole.in_world (world_is_plain value whole) permits.given).1)

@@ -10,8 +10,9 @@ use Rattle.vt_tree.specs.Paths.{NamesDirectoriesOnce}
 use Rattle.vt_fs.specs.FilesystemsValue.{filesystems_seen}
 use Rattle.vt_world.specs.declared.namespaces.Namespace.{Namespace as Kept}
 use Rattle.vt_world.specs.Held.{IsHeld}
-use Rattle.vt_world.specs.WorldValue.{WorldValue, entries_of, namespace_of}
+use Rattle.vt_world.specs.WorldValue.{WorldValue, entries_of, namespace_of, world_of}
 use Rattle.vt_detach.proofs.FilesystemsFound.{holds_at}
+use Rattle.vt_detach.proofs.Overlaid.{seen_one_among}
 use Rattle.vt_listing.specs.Shown.{NameDirectoriesOnce}
 
 -- in each tree a directory has one name
@@ -22,7 +23,8 @@ named_once value held count =
     (filesystems_seen value.filesystems)
     (λ filesystem m.
     (among_from_all (λ (x : Filesystem ℕ). IsTree x.files.tree)
-    (filesystems_seen value.filesystems) held.in_world.files.trees filesystem m).one_name))
+    (world_of value).filesystems held.in_world.files.trees filesystem
+    (seen_one_among value held.overlays.merged filesystem m)).one_name))
     count
     (λ directory name other object first second is. absurd (true≢false (sym (ap is_some first))))
 

@@ -22,8 +22,8 @@ use Rattle.vt_spec.specs.Fits.{Fits}
 use Rattle.vt_spec.specs.Inodes.{Inodes, changed, tree_of, uses_in, with_changed}
 use Rattle.vt_spec.specs.Tree.{Node, node_with_entry}
 use Rattle.vt_laws_counts.specs.Counted.{IsPlain}
-use Rattle.vt_laws_counts.proofs.changing.Changes.{only_files_change}
-use Rattle.vt_laws_counts.proofs.changing.KeptAll.{names_keep_all}
+use Rattle.vt_laws_counts.proofs.changing.Changes.{only_files_change_beside_overlays}
+use Rattle.vt_laws_counts.proofs.changing.KeptAll.{names_keep_all_beside_overlays}
 use Rattle.vt_fs.specs.FilesystemsValue.{ChangesInodes, Filesystems, entry_at, entry_of, inodes_at, inodes_seen, next_seen, no_entry, node_seen}
 use Rattle.vt_laws_letting_go.proofs.Lists.{Among, among-append_right, among-flat_map, among-map}
 use Rattle.vt_laws_letting_go.specs.Mounting.{inode_at}
@@ -38,15 +38,17 @@ use Rattle.vt_permits.specs.GrantValue.{node_in}
 use Rattle.vt_mount.specs.MountsValue.{MountEntry}
 use Rattle.vt_laws_permits.specs.Named.{permit_named}
 use Rattle.vt_laws_permits.specs.Sees.{HasRoom, MayBeMade}
-use Rattle.vt_laws_permits.proofs.named.PermitsKeepTo.{same_keeps_to_numbers_too}
-use Rattle.vt_laws_permits.proofs.left.PermitsLeave.{given_permits_are_under_way, given_permits_leave_worlds}
-use Rattle.vt_laws_permits.proofs.same.SameInUse.{same_worlds_are_worlds}
+use Rattle.vt_laws_permits.proofs.named.PermitsKeepTo.{permits_keep_to_numbers}
+use Rattle.vt_laws_permits.proofs.left.PermitsLeave.{given_permits_are_under_way}
+use Rattle.vt_laws_one_text.proofs.answered.AlikeAnswered.{any_same_worlds_are_swept_alike}
+use Rattle.vt_laws_one_text.proofs.same.SameNumbers.{any_same_worlds_keep_to_numbers}
+use Rattle.vt_laws_one_text.proofs.same.SameWhole.{any_same_worlds_are_worlds}
+use Rattle.vt_laws_overlays_stay.proofs.left.Given.{given_permits_give_no_upper}
 use Rattle.vt_laws_permits.proofs.same.SameInvariants.{same_worlds_are_under_way}
 use Rattle.vt_laws_permits.proofs.sees.SeesFit.{given_changes_fit}
 use Rattle.vt_laws_permits.proofs.sees.SeesTasks.{given_permits_are_seen_to}
 use Rattle.vt_laws_runs.specs.Handed.{is_counted_before}
-use Rattle.vt_laws_runs.proofs.answered.AlikeSettled.{settled_alike}
-use Rattle.vt_laws_runs.proofs.answered.AlikeWorlds.{alike_from_same, same_from_alike, same_worlds_are_plain_alike, sameness_is_an_equivalence}
+use Rattle.vt_laws_runs.proofs.answered.AlikeWorlds.{sameness_is_an_equivalence}
 use Rattle.vt_tasks.specs.TasksValue.{MayOpenMore, Tasks, called, changed_by, changed_called, replaced}
 use Rattle.vt_laws_worlds.specs.Worlds.Kept.{IsWorldButForUse}
 use Rattle.vt_laws_worlds.specs.Worlds.Permits.{IsFitPermit}
@@ -67,7 +69,8 @@ use Rattle.vt_detach.proofs.ChangedFiles.{ChangesFiles, change_is_held, change_i
 use Rattle.vt_detach.proofs.FileEvents.{IsSmall, permit_fits}
 use Rattle.vt_ns.proofs.world.FileMaking.{made_in_tree, new_in_slot, new_is_named}
 use Rattle.vt_ns.proofs.world.FilesOpened.{inserted_goes, opened_moves, opened_stays, opened_tasks}
-use Rattle.vt_detach.proofs.FilesSeen.{IsLocated, files_are_plain, nodes_named, located, located_filesystem, located_inodes, one_entry}
+use Rattle.vt_detach.proofs.FilesSeen.{IsLocated, nodes_named, located, located_filesystem, located_inodes, one_entry}
+use Rattle.vt_detach.proofs.Overlaid.{plain_ones_apart, world_is_plain}
 use Rattle.vt_detach.proofs.Finishing.{swept_held}
 use Rattle.vt_detach.proofs.LocationsSeen.{seen_where_located}
 use Rattle.vt_detach.proofs.Closing.{used_by}
@@ -126,7 +129,7 @@ module _ (value : WorldValue) (held : IsHeld value) (name : TaskName) (directory
   sees : MayBeMade (world_of value) (location_of directory) entry (node_seen count node) × HasRoom permits.task
   sees =
       given_permits_are_seen_to (world_of value) handed permits.task permit held.in_world
-      (files_are_plain value.filesystems) permits.given
+      (world_is_plain value held) permits.given
 
   -- the new file is new in its directory
   pub new_in_directory : IsNewIn directory.node.slot node
@@ -145,9 +148,9 @@ module _ (value : WorldValue) (held : IsHeld value) (name : TaskName) (directory
   fits_next inodes same =
       given_changes_fit (world_of value) handed permits.task permit (location_of directory)
       (change next_number) inodes held.in_world
-      (files_are_plain value.filesystems) permits.given refl
+      (world_is_plain value held) permits.given refl
       (ap tree_of same ∙ ap (λ filesystem. filesystem.files.tree)
-      (sym (located_filesystem value directory directory_seen)))
+      (sym (located_filesystem value held directory directory_seen)))
 
   -- the parent is a directory, and the name is free
   pub make_fits : Fits (inodes_at value.filesystems count) (change next_number)
@@ -182,7 +185,7 @@ module _ (value : WorldValue) (held : IsHeld value) (name : TaskName) (directory
   under_way : IsWorldButForUse (apply nat_eq handed (world_of value) permits.task permit).world
   under_way =
       given_permits_are_under_way (world_of value) handed permits.task permit held.in_world
-      (files_are_plain value.filesystems) permits.given
+      (world_is_plain value held) permits.given
 
   making_fits : IsFitPermit handed (world_of value) permits.task making
   making_fits = record { names = permit_is_fit.names.0; few_mounts = permit_is_fit.few_mounts }
@@ -233,14 +236,14 @@ module _ (value : WorldValue) (held : IsHeld value) (name : TaskName) (directory
 
     nothing_goes : (rest : Fresh ℕ) → settled nat_eq (with_made rest) ≡ with_made rest
     nothing_goes rest =
-        names_keep_all rest (world_of value) (location_of directory) (inodes_seen is_made.entry)
+        names_keep_all_beside_overlays rest (world_of value) (location_of directory) (inodes_seen is_made.entry)
         (change (number_of made))
         (is_change value held (location_of directory) (change (number_of made)) made_in is_made) tt
 
     same_tasks : (rest : Fresh ℕ) → (with_made rest).tasks ≡ value.tasks
     same_tasks rest =
         ap (λ (world : World ℕ). world.tasks) (sym (nothing_goes rest)
-        ∙ only_files_change rest (world_of value) (location_of directory) (inodes_seen is_made.entry)
+        ∙ only_files_change_beside_overlays rest (world_of value) (location_of directory) (inodes_seen is_made.entry)
         (change (number_of made))
         (is_change value held (location_of directory) (change (number_of made)) made_in is_made))
 
@@ -279,26 +282,25 @@ module _ (value : WorldValue) (held : IsHeld value) (name : TaskName) (directory
     }
       where
         plain : IsPlain (world_of value)
-        plain = files_are_plain value.filesystems
+        plain = world_is_plain value held
 
     mid_is_world : IsWorld nat_eq (world_of mid)
     mid_is_world =
-        let left = subst (λ world. IsWorld nat_eq (settled nat_eq world) × IsPlain (settled nat_eq world)) is_applied
-        (settling_leaves_a_world (apply nat_eq handed (world_of value) permits.task making).world unsettled) in
-        (same_worlds_are_worlds (settled nat_eq (with_made (odds handed))) (world_of mid)
-        (change_is_swept value held (location_of directory) (change (number_of made)) made_in is_made
-        (odds handed)) left.1 left.0).0
+        any_same_worlds_are_worlds (settled nat_eq (with_made (odds handed))) (world_of mid)
+        (change_is_swept value held (location_of directory) (change (number_of made)) made_in is_made (odds handed))
+        (subst (λ world. IsWorld nat_eq (settled nat_eq world)) is_applied
+        (settling_leaves_a_world (apply nat_eq handed (world_of value) permits.task making).world unsettled).0)
 
     -- what holds of each world holds once the file is made
     pub mid_held : IsHeld mid
     mid_held =
         change_is_held value held (location_of directory) (change (number_of made)) made_in is_made mid_is_world
-        (same_keeps_to_numbers_too (is_counted_before value.next) (λ k. number_of made)
-        (world_of value) permits.task making (world_of mid)
-        permits.given.called held.given (λ k. nodes_named value.next made) named
+        (any_same_worlds_keep_to_numbers (is_counted_before value.next)
+        (settled nat_eq (apply nat_eq (λ k. number_of made) (world_of value) permits.task making).world) (world_of mid)
         (change_is_swept value held (location_of directory) (change (number_of made)) made_in is_made
         (λ k. number_of made))
-        (files_are_plain made_in))
+        (permits_keep_to_numbers (is_counted_before value.next) (λ k. number_of made) (world_of value) permits.task
+        making permits.given.called held.given (λ k. nodes_named value.next made) named))
 
     -- the new inode has one use
     pub used_once : uses_in ((inodes_at made_in count).inode (number_of made)) ≡ 1
@@ -307,7 +309,7 @@ module _ (value : WorldValue) (held : IsHeld value) (name : TaskName) (directory
         let with_file = partner value held (location_of directory) (change (number_of made)) made_in is_made in
         let found : entry_of made_in count ≡ Some with_file.entry =
         ap (entry_of made_in) (sym (with_file.is.count_is ∙ directory_seen.count_is))
-        ∙ one_entry made_in mid_is_world.files.one_filesystem with_file.entry with_file.among in
+        ∙ one_entry made_in (plain_ones_apart mid mid_held) with_file.entry with_file.among in
         ap (λ o. uses_in ((inodes_seen (unwrap_or o (no_entry count))).inode (number_of made))) found
         ∙ ap (λ (inodes : Inodes ℕ). uses_in (inodes.inode (number_of made)))
         (inodes_after value held (location_of directory) (change (number_of made)) made_in is_made)
@@ -385,21 +387,16 @@ module _ (value : WorldValue) (held : IsHeld value) (name : TaskName) (directory
     stay = opened_stays mid mid_held name permits.task permits.called descriptor file_located
 
     opened_alike : (rest : Fresh ℕ) → SameWorlds (settled nat_eq (opened_at rest)) (settled nat_eq next)
-    opened_alike rest =
-        same_from_alike (settled nat_eq (opened_at rest)) (settled nat_eq next)
-        (settled_alike (opened_at rest) next (alike_from_same (opened_at rest) next (opened_same rest)
-        (same_worlds_are_plain_alike next (opened_at rest)
-        (sameness_is_an_equivalence.back (opened_at rest) next (opened_same rest)) (files_are_plain made_in))))
+    opened_alike rest = any_same_worlds_are_swept_alike (opened_at rest) next (opened_same rest)
 
-    -- the world that the sweep leaves has the invariants, and no overlays
-    settled_is_world : IsWorld nat_eq (settled nat_eq next) × IsPlain (settled nat_eq next)
+    -- the world that the sweep leaves has the invariants
+    settled_is_world : IsWorld nat_eq (settled nat_eq next)
     settled_is_world =
-        let given = subst (λ world. IsWorld nat_eq (settled nat_eq world)
-        × IsPlain (settled nat_eq world)) opened_applied
-        (given_permits_leave_worlds (world_of value) handed permits.task permit held.in_world
-        (files_are_plain value.filesystems) permits.given) in
-        same_worlds_are_worlds (settled nat_eq (opened_at (odds handed))) (settled nat_eq next)
-        (opened_alike (odds handed)) given.1 given.0
+        any_same_worlds_are_worlds (settled nat_eq (opened_at (odds handed))) (settled nat_eq next)
+        (opened_alike (odds handed))
+        (subst (λ world. IsWorld nat_eq (settled nat_eq world)) opened_applied
+        (given_permits_give_no_upper (world_of value) handed permits.task permit held.in_world
+        held.overlays.read_only permits.given).0)
 
     -- a use of its mount and of its inode
     module _ (mounts : List MountEntry) (filesystems : Filesystems)
@@ -438,10 +435,11 @@ module _ (value : WorldValue) (held : IsHeld value) (name : TaskName) (directory
             swept settled_has_groups
             (remains_counted mid mid_held tasks (used_by descriptor ∷ []) [] moves mounts filesystems moved stay
             (opened_tasks mid mid_held name permits.task permits.called descriptor file_located))
-            (same_keeps_to_numbers_too (is_counted_before value.next) (λ k. number_of made)
-            (world_of value) permits.task permit (world_of new)
-            permits.given.called held.given (λ k. nodes_named value.next made) named
-            (settled_same (λ k. number_of made)) (files_are_plain filesystems));
+            (any_same_worlds_keep_to_numbers (is_counted_before value.next)
+            (settled nat_eq (apply nat_eq (λ k. number_of made) (world_of value) permits.task permit).world)
+            (world_of new) (settled_same (λ k. number_of made))
+            (permits_keep_to_numbers (is_counted_before value.next) (λ k. number_of made) (world_of value)
+            permits.task permit permits.given.called held.given (λ k. nodes_named value.next made) named));
         becomes = becomes_so value name permit new permits.task permits.called
             (subst (λ world. SameWorlds (settled nat_eq world) (world_of new)) (sym opened_applied)
             (settled_same (odds handed)));

@@ -1,15 +1,15 @@
 -- A mount becomes the root mount, as code does it: pivot_root(2).
-use Rattle.std.proofs.Common.{◌≡◌, ◌<◌, refl, sym, ap, subst, ◌∙◌, ℕ, ◌+◌, zero, suc, nat_eq, true, false, true≢false, List, [], ◌∷◌, find, map, Option, Some, None, is_some, unwrap_or}
+use Rattle.std.proofs.Common.{◌≡◌, ◌<◌, refl, sym, ap, subst, ◌∙◌, ℕ, ◌+◌, zero, suc, nat_eq, true, true≢false, List, [], ◌∷◌, find, map, Option, Some, None, is_some, unwrap_or}
 use Rattle.std.specs.List.{list_any}
 use Rattle.std.proofs.lemmas.Option.{same_Some}
 use Rattle.vt_spec.specs.Language.Calls.{TaskName}
 use Rattle.vt_spec.specs.Lists.{chain, rest_of}
 use Rattle.vt_spec.specs.Machine.Looks as Looks
 use Rattle.vt_spec.specs.Machine.Looks.{looks_of}
-use Rattle.vt_spec.specs.Machine.Mounts.{Location, Mount, mount_in, no_mount, root_of}
+use Rattle.vt_spec.specs.Machine.Mounts.{Location, Mount, no_mount, root_of}
 use Rattle.vt_spec.specs.Machine.Namespaces.{pivoted_task}
 use Rattle.vt_spec.specs.Machine.Permits.Permit.{ToPivot}
-use Rattle.vt_spec.specs.Machine.World.{Task, World, mount_at, mount_numbered}
+use Rattle.vt_spec.specs.Machine.World.{Task, mount_at, mount_numbered}
 use Rattle.vt_fs.specs.FilesystemsValue.{Filesystems, shown}
 use Rattle.vt_location.specs.declared.locations.Location.{Location as At}
 use Rattle.vt_location.specs.declared.mounts.Mount.{Mount as Attached}
@@ -26,7 +26,7 @@ use Rattle.vt_world.specs.Held.{IsHeld}
 use Rattle.vt_world.specs.WorldValue.{WorldValue, world_of}
 use Rattle.vt_detach.specs.Events.{Permits}
 use Rattle.vt_detach.specs.Forking.{HasRoom}
-use Rattle.vt_detach.specs.Uses.{Kept, inode_of, kept, pinned_in, unpinned_in}
+use Rattle.vt_detach.specs.Uses.{inode_of, kept, pinned_in, unpinned_in}
 use Rattle.vt_detach.proofs.Remaining.{remade}
 use Rattle.vt_detach.proofs.Staying.{IsDone}
 use Rattle.vt_ns.specs.Pivoting.{with_uses, without_uses}

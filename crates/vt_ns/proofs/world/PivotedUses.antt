@@ -1,19 +1,19 @@
 -- Where two mounts change places and tasks go from the root of one to that of the other, what is used more and less:
 -- pivot_root(2).
-use Rattle.std.proofs.Common.{◌≡◌, refl, sym, ap, ◌∙◌, ⊎_elim, ℕ, ◌+◌, zero, suc, nat_eq, eqb-true, eq-eqb, Bool, true, false, true≢false, cond, ◌&&◌, List, [], ◌∷◌, ◌++◌, map, filter, flat_map, Option, Some, None, arith}
+use Rattle.std.proofs.Common.{◌≡◌, refl, sym, ap, ◌∙◌, ⊎_elim, ℕ, ◌+◌, zero, suc, nat_eq, eqb-true, eq-eqb, Bool, true, false, true≢false, cond, List, [], ◌∷◌, ◌++◌, map, filter, flat_map, Option, Some, None, arith}
 use Rattle.std.specs.Prelude.{filter_map, option_to_list, replicate}
 use Rattle.std.specs.List.{cons_option, list_any}
 use Rattle.std.proofs.lemmas.Bool.{or_parts}
 use Rattle.vt_spec.specs.Lists.{any_pair}
-use Rattle.vt_spec.specs.Machine.Mounts.{Location, Mount, mount_in, root_of, same_location}
+use Rattle.vt_spec.specs.Machine.Mounts.{Location, Mount, mount_in, root_of}
 use Rattle.vt_spec.specs.Machine.Namespaces.{pivoted, pivoted_location, pivoted_mount, pivoted_task}
 use Rattle.vt_spec.specs.Machine.Settled.{located_in}
-use Rattle.vt_spec.specs.Machine.World.{Task, World, all_locations, locations_of, mount_at}
+use Rattle.vt_spec.specs.Machine.World.{Task, World, all_locations, locations_of}
 use Rattle.vt_spec.proofs.Truths.{nat_eq_turned}
 use Rattle.vt_spec.proofs.Worlds.{shown-mapped}
 use Rattle.vt_laws_counts.specs.Using.{Exchanges, is_inode}
 use Rattle.vt_laws_counts.proofs.using.Places.{count_append, count_in, count_places, located_uses, same_found}
-use Rattle.vt_laws_letting_go.specs.Counts.{mount_uses, mounts_showing, times}
+use Rattle.vt_laws_letting_go.specs.Counts.{mount_uses, times}
 use Rattle.vt_laws_letting_go.specs.Mounting.{inode_at}
 use Rattle.vt_laws_letting_go.specs.OneByOne.{Inode}
 use Rattle.vt_laws_letting_go.proofs.Lists.{Among, fails}

@@ -1,5 +1,5 @@
 -- The root mount changes, and roots and working directories go along: pivot_root(2).
-use Rattle.std.proofs.Common.{◌≡◌, ◌<◌, refl, sym, ap, subst, ◌∙◌, ⊎_elim, inl, inr, ℕ, ◌+◌, ◌-◌, zero, suc, nat_eq, Bool, true, false, ◌||◌, ◌&&◌, List, [], ◌∷◌, ◌++◌, map, Option, Some, is_some, arith}
+use Rattle.std.proofs.Common.{◌≡◌, ◌<◌, refl, sym, ap, subst, ◌∙◌, ⊎_elim, ℕ, ◌+◌, ◌-◌, zero, suc, nat_eq, true, false, ◌||◌, ◌&&◌, List, [], ◌∷◌, ◌++◌, map, filter, Some, is_some, arith}
 use Rattle.std.specs.Prelude.{option_to_list, replicate}
 use Rattle.std.specs.List.{list_any}
 use Rattle.std.proofs.lemmas.Bool.{and_parts}
@@ -9,11 +9,12 @@ use Rattle.vt_spec.specs.Machine.Mounts.{Location, Mount, root_of}
 use Rattle.vt_spec.specs.Machine.Namespaces.{pivoted_task}
 use Rattle.vt_spec.specs.Machine.Permits.Permit.{ToPivot}
 use Rattle.vt_spec.specs.Machine.Settled.{filesystem_lives, has_layer_on, is_mounted, mount_lives, settled, without_dead_filesystems, without_dead_mounts}
-use Rattle.vt_spec.specs.Machine.World.{Filesystem, Task, World, filesystem_numbered, mount_at, mount_numbered, with_mounts}
+use Rattle.vt_spec.specs.Machine.World.{Filesystem, World, filesystem_numbered, mount_at, mount_numbered, with_mounts}
 use Rattle.vt_spec.specs.Machine.Invariants.{has_its_root, is_located_well}
 use Rattle.vt_spec.proofs.Lists.{map_alike, map_twice}
-use Rattle.vt_laws_counts.specs.Using.{AreThere, Exchanges, exchanged, pinned_if, unpinned_if}
-use Rattle.vt_fs.specs.FilesystemsValue.{FilesystemEntry, Filesystems, Shown, filesystem_seen, inodes_seen, shown, shown_entry}
+use Rattle.vt_laws_counts.specs.Using.{AreThere, Exchanges, pinned_if, unpinned_if}
+use Rattle.vt_laws_counts.specs.OverlaysStay.{layer_count}
+use Rattle.vt_fs.specs.FilesystemsValue.{FilesystemEntry, Filesystems, Shown, filesystem_seen, filesystems_seen, inodes_seen, shown, shown_entry}
 use Rattle.vt_group.specs.Grouping.{Has}
 use Rattle.vt_laws_letting_go.specs.Counts.{mount_uses, mounts_showing, times}
 use Rattle.vt_laws_letting_go.specs.InUse.{AllInUse}
@@ -33,21 +34,21 @@ use Rattle.vt_location.specs.Locations.{location_of, number_of}
 use Rattle.vt_location.specs.Numbers.{counted}
 use Rattle.vt_mount.specs.Moving.{pivoted_entry}
 use Rattle.vt_mount.specs.MountsValue.{MountEntry, mounts_in}
-use Rattle.vt_tasks.specs.TasksValue.{Tasks}
 use Rattle.vt_world.specs.Held.{CountsItsMounts, CountsItsUses, CountsWhatIsInIt, IsHeld, writes_of}
 use Rattle.vt_world.specs.WorldValue.{WorldValue, world_of}
 use Rattle.vt_detach.specs.Events.{Permits}
-use Rattle.vt_detach.specs.Uses.{Kept, inode_of, kept, pinned_in, released_use, unpinned_in, with_location, with_use}
+use Rattle.vt_detach.specs.Uses.{Kept, inode_of, kept, pinned_in, released_use, unpinned_in, with_use}
 use Rattle.vt_detach.proofs.Bridging.{IsSwept}
 use Rattle.vt_detach.proofs.FileEvents.{permit_fits}
 use Rattle.vt_detach.proofs.Finishing.{CountsBeside, IsApplied, finished}
 use Rattle.vt_detach.proofs.Grouped.{changed_has}
 use Rattle.vt_detach.proofs.LocationsSeen.{seen_where_located}
 use Rattle.vt_detach.proofs.MountsMoved.{mount_point_located}
-use Rattle.vt_detach.proofs.Moving.{Use, exchanged_shown, filesystems_moved, folded_entry, gain, held_counts, hold_if, inodes_of_uses, is_use_on, locations, lose, mounts_moved, moved_kept, release_if, released_counts, same_moved_mounts, writes_on_mount}
+use Rattle.vt_detach.proofs.Moving.{Use, exchanged_shown, filesystems_moved, folded_entry, gain, held_counts, hold_if, inodes_of_uses, is_use_on, locations, lose, mounts_moved, moved_kept, released_counts, same_moved_mounts, writes_on_mount}
+use Rattle.vt_detach.proofs.Overlaid.{is_plain_one, keeps_itself, layers_kept, overlays_counted, plain_ones_are, same_files_keep, still_mounted}
 use Rattle.vt_detach.proofs.Places.{located_is_named, standing}
 use Rattle.vt_detach.proofs.Remaining.{remade}
-use Rattle.vt_detach.proofs.Staying.{IsDone, world_is_plain}
+use Rattle.vt_detach.proofs.Staying.{IsDone}
 use Rattle.vt_detach.proofs.TypesSet.{attached_named}
 use Rattle.vt_ns.specs.Pivoting.{with_uses, without_uses}
 use Rattle.vt_ns.proofs.world.PivotedUses.{coming, gained, inside_pivot, kept_filesystem, kept_number, kept_part, kept_showing, leaving, lost, mount_uses_pivot, moved, none_writes, pivoted_world, pivoting, uses_pivot, writes_pivot}
@@ -337,7 +338,7 @@ module _ (value : WorldValue) (whole : IsHeld value) (name : TaskName) (number :
           let first = among-from_map shown_entry value.filesystems from.0 from.1 in
           (first.0, first.1, from.2 ∙ ap (exchanged_shown gets loses_uses) first.2)
 
-      same_numbers : map (λ f. f.number) before.filesystems
+      same_numbers : map (λ (f : Filesystem ℕ). f.number) (filesystems_seen value.filesystems)
           ≡ map (λ (entry : FilesystemEntry). counted entry.count) filesystems
       same_numbers =
           map_twice (λ (f : Filesystem ℕ). f.number) filesystem_seen value.filesystems
@@ -349,9 +350,14 @@ module _ (value : WorldValue) (whole : IsHeld value) (name : TaskName) (number :
 
       swept : IsSwept value next gets loses_uses new_value
       swept = record {
-        plain = world_is_plain value;
+        midway = same_files_keep value before next refl (keeps_itself value whole.overlays);
+        mounted = still_mounted value whole (in_use_of next) (λ number.
+            ap (λ (world : World ℕ). is_mounted nat_eq world number) living_is ∙ same_mounted number);
+        overlays = refl;
         mounts = ap (λ (world : World ℕ). world.mounts) living_is ∙ mounts_are;
-        numbers = ap (λ (world : World ℕ). map (λ (f : Filesystem ℕ). f.number) world.filesystems) living_is
+        numbers = ap (λ (world : World ℕ). map (λ (f : Filesystem ℕ). f.number)
+            (filter is_plain_one world.filesystems)) living_is
+            ∙ ap (map (λ (f : Filesystem ℕ). f.number)) (plain_ones_are value whole.overlays)
             ∙ same_numbers;
         entries = λ entry m. let from = shown_was entry m in record {
           was = from.0;
@@ -375,9 +381,14 @@ module _ (value : WorldValue) (whole : IsHeld value) (name : TaskName) (number :
         mounts = λ entry m. let from = shown_was entry m in
             ap (λ (one : Shown). one.mounts) from.2
             ∙ (among_from_all (CountsItsMounts before) value.filesystems whole.filesystems from.0 from.1).mounts
-            ∙ ap (λ count. mounts_showing before (counted count)) (sym (ap (λ (one : Shown). one.count) from.2))
-            ∙ sym (kept_showing root new place (mounts_in value.mounts) (counted entry.count))
-            ∙ ap (times (λ (mount : Mount ℕ). nat_eq (counted entry.count) mount.filesystem)) mounts_are;
+            ∙ ap (λ count. mounts_showing before (counted count) + layer_count before (counted count))
+            (sym (ap (λ (one : Shown). one.count) from.2))
+            ∙ (λ i. (sym (kept_showing root new place (mounts_in value.mounts) (counted entry.count))
+            ∙ ap (times (λ (mount : Mount ℕ). nat_eq (counted entry.count) mount.filesystem)) mounts_are) i
+            + sym (layers_kept value new_value whole.overlays refl (counted entry.count)) i);
+        overlays = overlays_counted value new_value whole.overlays refl (λ number.
+            sym (ap (times (λ (mount : Mount ℕ). nat_eq number mount.filesystem)) mounts_are)
+            ∙ kept_showing root new place (mounts_in value.mounts) number);
         namespaces = all_from_among (CountsWhatIsInIt (world_of new_value)) value.namespaces (λ entry m.
             let was = among_from_all (CountsWhatIsInIt before) value.namespaces whole.namespaces entry m in
             record { tasks = was.tasks ∙ sym (inside_pivot before namespace root new place (counted entry.count) value.tasks) });

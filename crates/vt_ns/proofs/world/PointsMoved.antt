@@ -4,7 +4,7 @@ use Rattle.std.specs.Map.{lookup}
 use Rattle.std.specs.Option.{option_and_then}
 use Rattle.std.specs.Prelude.{option_to_list}
 use Rattle.std.specs.List.{list_all}
-use Rattle.std.proofs.lemmas.Bool.{and_parts, ltb-true}
+use Rattle.std.proofs.lemmas.Bool.{and_parts}
 use Rattle.std.proofs.lemmas.List.{append-nil}
 use Rattle.std.proofs.lemmas.Option.{same_Some}
 use Rattle.vt_spec.specs.Lists.{is_among, or_else}
@@ -16,6 +16,7 @@ use Rattle.vt_spec.specs.Inodes as Trees
 use Rattle.vt_spec.specs.Inodes.{node_in}
 use Rattle.vt_laws_counts.specs.Using.{AreThere, Exchanges, exchanged}
 use Rattle.vt_laws_counts.proofs.using.MountRoots as Roots
+use Rattle.vt_laws_counts.specs.OverlaysStay.{layer_count}
 use Rattle.vt_fs.specs.FilesystemsValue.{FilesystemEntry, Filesystems, Shown, filesystem_seen, inodes_seen, shown, shown_entry}
 use Rattle.vt_laws_letting_go.specs.Counts.{mounts_showing}
 use Rattle.vt_laws_letting_go.specs.Keeping.{LocationsStand}
@@ -40,17 +41,17 @@ use Rattle.vt_attach.proofs.PointsCounted.{points_count}
 use Rattle.vt_world.specs.Held.{CountsItsMounts, CountsItsUses, IsHeld}
 use Rattle.vt_detach.specs.Uses.{Kept, kept}
 use Rattle.vt_world.specs.WorldValue.{WorldValue, world_of}
-use Rattle.vt_laws_letting_go.proofs.sweeps.OfWorlds.{found_filesystem}
+use Rattle.vt_detach.proofs.BesideOverlays.{lives_alike}
 use Rattle.vt_detach.proofs.DetachingBegins.{pair_mapped}
 use Rattle.vt_detach.proofs.DetachingEnds.{point_located}
 use Rattle.vt_detach.proofs.Grouped.{stays_private}
-use Rattle.vt_detach.proofs.Keeping.{IsKeptBut, IsShownIn, lives_plainly}
+use Rattle.vt_detach.proofs.Keeping.{IsKeptBut, IsShownIn}
 use Rattle.vt_detach.proofs.LocationsSeen.{seen_where_located}
 use Rattle.vt_detach.proofs.LostUses.{entry_found_at}
 use Rattle.vt_detach.proofs.MountsChanged.{times_map}
 use Rattle.vt_detach.proofs.MountsGone.{found_mapped}
 use Rattle.vt_detach.proofs.Moving.{map_itself}
-use Rattle.vt_detach.proofs.Staying.{world_is_plain}
+use Rattle.vt_detach.proofs.Overlaid.{found_plain_one, keeps_itself, plain_ones_are, same_files_keep}
 use Rattle.vt_spec.proofs.Lists.{map_twice}
 use Rattle.vt_spec.proofs.Worlds.{shown-mapped}
 
@@ -169,8 +170,7 @@ module _ (value : WorldValue) (whole : IsHeld value) where
           ≡ true = (and_parts _ _ well).1 in
           sym (some_inode ((inodes_seen was).inode place.node))
           ∙ ap (λ (f : Filesystem ℕ). is_some (f.files.tree.node place.node))
-          (sym (found_filesystem world.filesystems whole.in_world.files.one_filesystem (filesystem_seen was)
-          (among-map filesystem_seen value.filesystems was m))
+          (sym (found_plain_one value whole was m)
           ∙ ap (filesystem_numbered nat_eq world) number)
           ∙ seen
       by place false e well = refl
@@ -260,9 +260,8 @@ module _ (value : WorldValue) (whole : IsHeld value) (points : List Point) (may 
   mounted : FilesystemsInUse after
   mounted =
       all_pass (filesystem_lives nat_eq after) before.filesystems (λ f m.
-      lives_plainly after (world_is_plain value) f
-      ∙ any-map (λ (mount : Mount ℕ). nat_eq f.number mount.filesystem) moved before.mounts (λ mount. refl)
-      ∙ sym (lives_plainly before (world_is_plain value) f)
+      lives_alike before after refl
+      (λ number. any-map (λ (mount : Mount ℕ). nat_eq number mount.filesystem) moved before.mounts (λ mount. refl)) f
       ∙ passes (filesystem_lives nat_eq before) before.filesystems
       (worlds_are_in_use before whole.in_world).filesystems f m)
 
@@ -337,8 +336,8 @@ module _ (value : WorldValue) (whole : IsHeld value) (points : List Point) (may 
           exchanges = subst (λ all. Exchanges gained all f before after) (no_more lost) (uses_exchanged f);
           mounts = ap (λ (x : Shown). x.mounts) from.2 ∙ none_added from.0.mounts ∙ ap (λ (x : Shown). x.mounts) entry.2
               ∙ (among_from_all (CountsItsMounts before) value.filesystems whole.filesystems entry.0 entry.1).mounts
-              ∙ sym (showing f)
-              ∙ ap (λ n. mounts_showing after (counted n))
+              ∙ ap (λ n. n + layer_count before f) (sym (showing f))
+              ∙ ap (λ n. mounts_showing after (counted n) + layer_count after (counted n))
               (sym (ap (λ (x : Shown). x.count) from.2 ∙ ap (λ (x : Shown). x.count) entry.2));
         }
 
@@ -351,7 +350,9 @@ module _ (value : WorldValue) (whole : IsHeld value) (points : List Point) (may 
           (points_count before points value.mounts whole.mounts)
           entry (subst (Among entry) entries_are m) in
           record { uses = was.uses; writers = was.writers });
-      numbers = map_twice (λ (f : Filesystem ℕ). f.number) filesystem_seen value.filesystems
+      held = whole;
+      numbers = ap (map (λ (f : Filesystem ℕ). f.number)) (plain_ones_are value whole.overlays)
+          ∙ map_twice (λ (f : Filesystem ℕ). f.number) filesystem_seen value.filesystems
           ∙ sym (map_twice (λ (one : Shown). counted one.count) shown_entry value.filesystems)
           ∙ sym (map_twice (λ (one : Shown). counted one.count) changed (shown value.filesystems))
           ∙ ap (map (λ (one : Shown). counted one.count)) (sym shown_are);
@@ -360,7 +361,7 @@ module _ (value : WorldValue) (whole : IsHeld value) (points : List Point) (may 
       located = located;
       in_use = in_use;
       mounted = mounted;
-      plain = world_is_plain value;
+      keeps = same_files_keep value before after refl (keeps_itself value whole.overlays);
       points = λ mount m point p few.
           let from = among-from_map moved before.mounts mount (subst (Among mount) (sym mounts_are) m) in
           seen_where_located value whole point few

@@ -1,13 +1,14 @@
 -- Events of tasks after which all mounts are still in use, and in which tasks come to namespaces: fork(2).
-use Rattle.std.proofs.Common.{◌≡◌, refl, sym, ap, subst, ◌∙◌, ℕ, nat_eq, List, map}
+use Rattle.std.proofs.Common.{◌≡◌, refl, sym, ap, subst, ◌∙◌, ℕ, ◌+◌, nat_eq, List, map}
 use Rattle.vt_spec.specs.Language.Calls.{TaskName}
 use Rattle.vt_spec.specs.Machine.Mounts.{Mount}
 use Rattle.vt_spec.specs.Machine.Permits.{Permit}
 use Rattle.vt_spec.specs.Machine.Settled.{without_dead_mounts}
 use Rattle.vt_spec.specs.Machine.World as meant
 use Rattle.vt_spec.specs.Machine.World.{Task, World}
+use Rattle.vt_laws_counts.specs.OverlaysStay.{layer_count}
 use Rattle.vt_fs.specs.FilesystemsValue.{Filesystems, Shown}
-use Rattle.vt_laws_letting_go.specs.Counts.{times}
+use Rattle.vt_laws_letting_go.specs.Counts.{mounts_showing, times}
 use Rattle.vt_laws_letting_go.proofs.Lists.{Among, all_from_among, among_from_all}
 use Rattle.vt_location.specs.Numbers.{counted}
 use Rattle.vt_mount.specs.MountsValue.{MountEntry}
@@ -19,6 +20,7 @@ use Rattle.vt_detach.proofs.Bridging.{IsSwept}
 use Rattle.vt_detach.proofs.Finishing.{CountsBeside, IsApplied, finished}
 use Rattle.vt_detach.proofs.Grouped.{left_has}
 use Rattle.vt_detach.proofs.Moving.{Moves, Use, entry_counts, inodes_of_uses, moved_kept}
+use Rattle.vt_detach.proofs.Overlaid.{layers_kept, overlays_counted}
 use Rattle.vt_detach.proofs.Remaining.{entry_was, remade, remains_swept, same_mounts, shown_was}
 use Rattle.vt_detach.proofs.Staying.{IsDone, after}
 
@@ -49,7 +51,9 @@ module _ (value : WorldValue) (whole : IsHeld value) (tasks : Tasks) (more less 
   swept_in =
       let swept = remains_swept value whole tasks more less moves mounts filesystems is_kept stay in
       record {
-        plain = swept.plain;
+        midway = swept.midway;
+        mounted = swept.mounted;
+        overlays = refl;
         mounts = swept.mounts;
         numbers = swept.numbers;
         entries = swept.entries;
@@ -69,7 +73,13 @@ module _ (value : WorldValue) (whole : IsHeld value) (tasks : Tasks) (more less 
         ∙ (among_from_all (CountsItsMounts (world_of value)) value.filesystems whole.filesystems from.0 from.1).mounts
         ∙ (λ i. times (λ (mount : Mount ℕ). nat_eq
         (counted (sym (ap (λ (one : Shown). one.count) from.2) i)) mount.filesystem)
-        (sym (same_mounts value whole tasks more less moves mounts filesystems is_kept) i));
+        (sym (same_mounts value whole tasks more less moves mounts filesystems is_kept) i)
+        + layer_count (world_of value) (counted (sym (ap (λ (one : Shown). one.count) from.2) i)))
+        ∙ ap (λ n. mounts_showing (world_of new) (counted entry.count) + n)
+        (sym (layers_kept value new whole.overlays refl (counted entry.count)));
+    overlays = overlays_counted value new whole.overlays refl (λ number.
+        ap (times (λ (mount : Mount ℕ). nat_eq number mount.filesystem))
+        (same_mounts value whole tasks more less moves mounts filesystems is_kept));
     namespaces = all_from_among (CountsWhatIsInIt (world_of new)) namespaces
         (λ entry m. record { tasks = inside.counts entry m });
   }

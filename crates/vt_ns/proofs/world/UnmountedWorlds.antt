@@ -26,9 +26,9 @@ use Rattle.vt_location.specs.declared.locations.Location.{Location as At}
 use Rattle.vt_location.specs.Locations.{location_of}
 use Rattle.vt_location.specs.Numbers.{counted}
 use Rattle.vt_mount.specs.MountsValue.{MountEntry}
-use Rattle.vt_laws_permits.proofs.left.PermitsLeave.{given_permits_are_under_way}
+use Rattle.vt_laws_overlays_stay.proofs.left.Given.{given_permits_are_under_way_without_upper}
 use Rattle.vt_propagate.specs.Falling.{left_by, moved_by}
-use Rattle.vt_laws_worlds.specs.Worlds.Kept.{IsWorldButForUse}
+use Rattle.vt_laws_worlds.specs.Worlds.Kept.{IsUnderWay}
 use Rattle.vt_laws_worlds.proofs.worlds.Roots.{directory_there}
 use Rattle.vt_attach.specs.Planned.{Point, is_small, points_left, points_taken, with_planned}
 use Rattle.vt_attach.specs.PlannedUses.{point_seen}
@@ -45,8 +45,9 @@ use Rattle.vt_detach.proofs.Keeping.{IsKeptBut, detached_in}
 use Rattle.vt_detach.proofs.Leaving.{found_it}
 use Rattle.vt_detach.proofs.MidwayBegins.{parent_inside}
 use Rattle.vt_detach.proofs.MountsGone.{found_mapped}
+use Rattle.vt_detach.proofs.Overlaid.{keeps_itself, same_files_keep}
 use Rattle.vt_detach.proofs.Remaining.{remade}
-use Rattle.vt_detach.proofs.Staying.{IsDone, world_is_plain}
+use Rattle.vt_detach.proofs.Staying.{IsDone}
 use Rattle.vt_detach.proofs.TypedEvents.{counts_typed, swept_typed, typed_value}
 use Rattle.vt_detach.proofs.TypedWorlds.{typed_world}
 use Rattle.vt_laws_letting_go.proofs.SweptBetween.{settled_without_groups}
@@ -100,11 +101,11 @@ module _ (value : WorldValue) (whole : IsHeld value) (name : TaskName) (permit :
   abbrev final : Mount ℕ → Mount ℕ
   final mount = typed_by groups (left_by gone (map point_seen points) mount)
 
-  under_way : IsWorldButForUse policy
+  under_way : IsUnderWay policy
   under_way =
-      subst IsWorldButForUse (is.applied (supply_of value permit))
-      (given_permits_are_under_way world (supply_of value permit) task permit whole.in_world
-      (world_is_plain value) is.given)
+      subst IsUnderWay (is.applied (supply_of value permit))
+      (given_permits_are_under_way_without_upper world (supply_of value permit) task permit whole.in_world
+      whole.overlays.read_only is.given).0
 
   same_mounts : policy.mounts ≡ map final world.mounts
   same_mounts = ap (λ (w : World ℕ). w.mounts) same
@@ -349,10 +350,11 @@ module _ (value : WorldValue) (whole : IsHeld value) (name : TaskName) (permit :
         (kept mounts filesystems)) detaching.ends detaching.is in
         finished_as value whole name permit task policy is typed alike come detaching.lost (typed_value groups untyped)
         (swept_typed groups untyped value start come detaching.lost
-        (detached_swept value start come detaching.lost untyped kept_last refl (world_is_plain value) refl refl))
+        (detached_swept value start come detaching.lost untyped kept_last refl refl
+        (same_files_keep value world start refl (keeps_itself value whole.overlays)) refl refl))
         settled_typed_has
         (counts_typed groups untyped
-        (detached_counted value start come detaching.lost untyped kept_last refl
+        (detached_counted value start come detaching.lost untyped kept_last refl refl
         (all_from_among (CountsWhatIsInIt (world_of untyped)) value.namespaces (λ entry m.
         let was = among_from_all (CountsWhatIsInIt world) value.namespaces whole.namespaces entry m in record { tasks = was.tasks }))))
         refl

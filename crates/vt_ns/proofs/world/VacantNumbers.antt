@@ -22,6 +22,7 @@ use Rattle.vt_world.specs.Held.{HasOwnInodes, IsHeld}
 use Rattle.vt_ns.specs.Vacancy.{IsVacant}
 use Rattle.vt_world.specs.WorldValue.{NamespaceEntry, WorldValue, namespace_of, world_of}
 use Rattle.vt_detach.proofs.FilesSeen.{one_entry}
+use Rattle.vt_detach.proofs.Overlaid.{only_plain_ones, plain_ones_apart}
 use Rattle.vt_fs.proofs.Numbers.{inode_of_one, numbers_listed}
 use Rattle.vt_attach.proofs.NewFilesystems.{next_is_free}
 
@@ -96,7 +97,7 @@ module _ (count slot : ℕ) (small : slot < 18446744073709551616) where
         by true e =
             missing entry
             (ap (entry_of value.filesystems) (sym (eqb-true entry.count count e))
-            ∙ one_entry value.filesystems whole.in_world.files.one_filesystem entry m)
+            ∙ one_entry value.filesystems (plain_ones_apart value whole) entry m)
         by false e = other (is_own_number entry.count number) refl e
 
     -- a number that is not counted yet is not in use
@@ -109,8 +110,9 @@ module _ (count slot : ℕ) (small : slot < 18446744073709551616) where
         (list_any-append (nat_eq number) (flat_map used_by_mount (world_of value).mounts)
         (flat_map used_by_filesystem (world_of value).filesystems)
         ∙ (λ j. in_no_mount value.mounts odd sources j
-        || in_no_filesystem value.filesystems (λ entry m.
-        numbers_listed entry number ∙ ap (λ inode. is_some (node_in inode)) (in_no_entry entry m)) j)) i
+        || (ap (λ list. is_among nat_eq number (flat_map used_by_filesystem list)) (only_plain_ones value whole)
+        ∙ in_no_filesystem value.filesystems (λ entry m.
+        numbers_listed entry number ∙ ap (λ inode. is_some (node_in inode)) (in_no_entry entry m))) j)) i
         || in_no_namespace value.namespaces i)
 
 module _ (value : WorldValue) (whole : IsHeld value)

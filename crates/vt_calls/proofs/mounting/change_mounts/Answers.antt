@@ -1,10 +1,9 @@
-use Rattle.std.proofs.Common.{◌≡◌, ◌||◌, ap, not, refl, subst, true}
+use Rattle.std.proofs.Common.{◌≡◌, ◌||◌, ap, not, refl, true}
 use Rattle.vt_laws_permits.specs.Steps.{makes_shared}
 use Rattle.vt_permits.specs.GrantValue.{mount_permit}
 use Rattle.vt_permits.specs.declared.grant.Grant.TheVariants.{Mount}
 use Rattle.vt_permits.specs.declared.grant.MountGrant.TheVariants as granted
 use Rattle.vt_calls.proofs.Endings.{changed, changed_if, made, permitted}
-use Rattle.vt_calls.specs.Permitted.{IsGiven}
 use Rattle.vt_calls.proofs.mounting.change_mounts.Goals as goal
 
 pub unmount-requires : goal.unmount-requires

@@ -1,4 +1,3 @@
-use Rattle.vt_laws_members_changes.proofs.letting_go.LazyAlone.{lazy_umounts_end_alike}
 use Rattle.vt_laws_members_changes.proofs.letting_go.EnterLast.{setns_ends_alike}
 use Rattle.vt_laws_members_changes.proofs.letting_go.Umounting.{umounts_end_alike}
 use Rattle.vt_laws_members_changes.proofs.letting_go.Exiting.{exits_end_alike}
@@ -22,6 +21,3 @@ returns-clause-umount c = umounts_end_alike
 
 pub returns-clause-setns : goal.returns-clause-setns
 returns-clause-setns c = setns_ends_alike
-
-pub returns-clause-lazy : goal.returns-clause-lazy
-returns-clause-lazy c = lazy_umounts_end_alike

@@ -1,7 +1,7 @@
-use Rattle.std.proofs.Common.{add-one, ap, arith, false, sym, ◌+◌, ◌≡◌, ◌∙◌}
+use Rattle.std.proofs.Common.{add-one, ap, arith, false, sym, ◌≡◌, ◌∙◌}
 use Rattle.vt_location.specs.Locations.{number_of}
 use Rattle.vt_location.specs.Numbers.{counted}
-use Rattle.vt_detach.specs.Uses.{Kept, inode_of, kept, released_use}
+use Rattle.vt_detach.specs.Uses.{inode_of, kept, released_use}
 use Rattle.vt_ns.specs.Pivoting.{without_uses}
 use Rattle.vt_detach.proofs.Shown.{unpins}
 use Rattle.vt_ns.proofs.pivoting.release_each.Goals as goal

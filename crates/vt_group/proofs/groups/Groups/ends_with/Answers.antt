@@ -19,8 +19,8 @@ returns-then-is_other_member c =
     let group = counted c.in_ok-group.group.count in
     let mount = counted c.args.mount.count in
     let test : MountId → Bool = λ id. is_another c.args.self.now group mount (counted id.count) in
-    lone-told c.args.self.now c.are_ordered.ensures group c.members-other-items.result.now
-    c.members-other-items.ensures mount
+    lone-told c.args.self.now c.members-other-items.ensures.order group c.members-other-items.result.now
+    c.members-other-items.ensures.members mount
     (ap group_of (sym c.in_ok-propagation_of.ensures) ∙ sym c.in_ok-group.ensures.number) true
     (list_any_at test c.members-other-items.result.now c.loop-other.other-index _ c.loop-other-test.true
     (sym c.is_other_member.ensures ∙ c.if-is_other_member.true))
@@ -30,8 +30,8 @@ returns c =
     let group = counted c.in_ok-group.group.count in
     let mount = counted c.args.mount.count in
     let test : MountId → Bool = λ id. is_another c.args.self.now group mount (counted id.count) in
-    lone-told c.args.self.now c.are_ordered.ensures group c.members-other-items.result.now
-    c.members-other-items.ensures mount
+    lone-told c.args.self.now c.members-other-items.ensures.order group c.members-other-items.result.now
+    c.members-other-items.ensures.members mount
     (ap group_of (sym c.in_ok-propagation_of.ensures) ∙ sym c.in_ok-group.ensures.number) false
     (ap (list_any test) (sym (take_all c.loop-other.other-index c.members-other-items.result.now c.loop-other-test.false))
     ∙ c.loop-other.invariant)

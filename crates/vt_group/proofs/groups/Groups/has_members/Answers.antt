@@ -19,13 +19,13 @@ returns-then-is_member c =
     let test : MountId → Rattle.std.proofs.Common.Bool = λ id. is_member_of (counted c.args.group.count) c.args.self.now (counted id.count) in
     sym (list_any_at test c.members-mount-items.result.now c.loop-mount.mount-index _ c.loop-mount-test.true
     (sym c.is_member.ensures ∙ c.if-is_member.true))
-    ∙ peers-told c.args.self.now c.are_ordered.ensures (counted c.args.group.count) c.members-mount-items.result.now
-    c.members-mount-items.ensures
+    ∙ peers-told c.args.self.now c.members-mount-items.ensures.order (counted c.args.group.count) c.members-mount-items.result.now
+    c.members-mount-items.ensures.members
 
 pub returns : goal.returns
 returns c =
     let test : MountId → Rattle.std.proofs.Common.Bool = λ id. is_member_of (counted c.args.group.count) c.args.self.now (counted id.count) in
     sym c.loop-mount.invariant
     ∙ ap (list_any test) (take_all c.loop-mount.mount-index c.members-mount-items.result.now c.loop-mount-test.false)
-    ∙ peers-told c.args.self.now c.are_ordered.ensures (counted c.args.group.count) c.members-mount-items.result.now
-    c.members-mount-items.ensures
+    ∙ peers-told c.args.self.now c.members-mount-items.ensures.order (counted c.args.group.count) c.members-mount-items.result.now
+    c.members-mount-items.ensures.members

@@ -3,18 +3,9 @@ use Rattle.vt_spec.specs.Machine.Mounts.{group_of}
 use Rattle.vt_location.specs.Numbers.{counted, group_number}
 use Rattle.vt_group.specs.Grouping.{propagation_in}
 use Rattle.vt_group.proofs.Changes.{group_shared}
-use Rattle.vt_group.proofs.groups.LeavingTypes.{types-slave}
 use Rattle.vt_group.proofs.groups.Groups.make_slave_of_own.Goals as goal
 
 pub set_slave-requires : goal.set_slave-requires
 set_slave-requires c =
     group_shared (propagation_in c.args.self.now (counted c.args.mount.count)) (group_number c.in-Some-own_group.group)
     (ap group_of (sym c.in-Some.ensures) ∙ sym c.in-Some-own_group.ensures.number)
-
-pub returns-clause-types : goal.returns-clause-types
-returns-clause-types c other =
-    c.set_slave.ensures.types other
-    ∙ types-slave c.args.self.now (counted c.args.mount.count) (group_number c.in-Some-own_group.group)
-    c.are_ordered.ensures
-    (group_shared (propagation_in c.args.self.now (counted c.args.mount.count)) (group_number c.in-Some-own_group.group)
-    (ap group_of (sym c.in-Some.ensures) ∙ sym c.in-Some-own_group.ensures.number)) other

@@ -6,15 +6,18 @@ use Rattle.std.specs.Ordering.{nat_cmp}
 use Rattle.vt_spec.specs.Machine.Mounts.{group_of}
 use Rattle.vt_location.specs.declared.mounts.Propagation.TheVariants.{Shared, Slave}
 use Rattle.vt_location.specs.MountValue.{propagation_of}
-use Rattle.vt_location.specs.Numbers.{counted}
+use Rattle.vt_location.specs.Numbers.{counted, group_number}
 use Rattle.vt_group.specs.ByNumber.{value_at}
-use Rattle.vt_group.specs.Grouping.{Grouping, propagation_in}
+use Rattle.vt_group.specs.Grouping.{Grouping, are_rising, propagation_in}
 use Rattle.vt_group.specs.Indexed.{group_at, is_listed, mount_at}
 use Rattle.vt_group.specs.Leaving.{lost_group, type_once_ended}
 use Rattle.vt_group.specs.Steps.{ended_if_lost, numbered_peer}
 use Rattle.vt_group.proofs.Coming.{kept_shared}
 use Rattle.vt_group.proofs.CountLemmas.{inserted-numbered}
+use Rattle.vt_group.proofs.EndedTypes.{rising_numbers}
 use Rattle.vt_group.proofs.Invariant.{put_each}
+use Rattle.vt_group.proofs.Regrouping.{keys}
+use Rattle.vt_group.proofs.groups.LeavingTypes.{types-slave}
 use Rattle.vt_group.proofs.groups.Groups.set_slave.Goals as goal
 
 pub returns-clause-new : goal.returns-clause-new
@@ -37,6 +40,10 @@ returns-clause-types c other =
     c.end_if_lost.ensures.types other
     ∙ (λ i. let now : Grouping = record { peers = inserted i; masters = (c.self.view_is i).masters } in
     type_once_ended now (lost_group now (group_of (sym c.requires i))) (propagation_in now other))
+    ∙ types-slave c.args.self.now (counted count) (group_number c.args.group)
+    (ap (λ groups. are_rising (keys groups.peers)) (sym c.self.view_is)
+    ∙ rising_numbers propagation_of es c.self.invariant.ordered)
+    c.requires other
 
 pub invariant_of-self : goal.invariant_of-self
 invariant_of-self c =

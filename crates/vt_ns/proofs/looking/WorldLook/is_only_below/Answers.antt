@@ -4,4 +4,4 @@ use Rattle.vt_ns.proofs.looking.LooksKept.{none_below}
 use Rattle.vt_ns.proofs.looking.WorldLook.is_only_below.Goals as goal
 
 pub returns : goal.returns
-returns c = sym (none_below c.args.self.now (location_of c.args._at))
+returns c = sym (none_below c.args.self.now c.is_held.ensures (location_of c.args._at))

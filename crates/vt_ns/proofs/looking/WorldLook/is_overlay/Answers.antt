@@ -4,4 +4,4 @@ use Rattle.vt_ns.proofs.looking.LooksKept.{no_overlay}
 use Rattle.vt_ns.proofs.looking.WorldLook.is_overlay.Goals as goal
 
 pub returns : goal.returns
-returns c = sym (no_overlay c.args.self.now (location_of c.args._at))
+returns c = sym (no_overlay c.args.self.now c.is_held.ensures (location_of c.args._at))

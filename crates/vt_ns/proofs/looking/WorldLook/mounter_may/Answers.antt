@@ -5,4 +5,4 @@ use Rattle.vt_ns.proofs.looking.LooksKept.{unmounted}
 use Rattle.vt_ns.proofs.looking.WorldLook.mounter_may.Goals as goal
 
 pub returns : goal.returns
-returns c = sym (unmounted c.args.self.now (location_of c.args._at) (right_bits c.args._wanted))
+returns c = sym (unmounted c.args.self.now c.is_held.ensures (location_of c.args._at) (right_bits c.args._wanted))

@@ -15,7 +15,7 @@ is_under-requires-clause-named c = parents_named_at
 pub returns-then-eq : goal.returns-then-eq
 returns-then-eq c =
     c.is_under.ensures
-    ∙ sym (lies_so (the_view c.self.inside) c.args.top c.args.directory)
+    ∙ sym (lies_so (the_view c.self.inside) c.args.top c.args.directory c.self.invariant)
     ∙ ap (λ value. lies_under value (counted c.args.top.filesystem.count) (number_of c.args.top)
     (number_of c.args.directory)) c.self.view_is
 

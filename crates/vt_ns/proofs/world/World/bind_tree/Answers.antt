@@ -1,6 +1,6 @@
 use Rattle.std.proofs.Common.{ap, filter, length, nat_eq, sym, [], ◌++◌, ◌∙◌, ◌∷◌}
 use Rattle.std.specs.Prelude.{flat_map}
-use Rattle.std.proofs.lemmas.List.{append-nil, nil_from_length}
+use Rattle.std.proofs.lemmas.List.{append-nil}
 use Rattle.vt_location.specs.Locations.{location_of}
 use Rattle.vt_mount.proofs.PlaceLemmas.{counts, numbers}
 use Rattle.vt_mount.specs.MountsValue.{mounts_in}

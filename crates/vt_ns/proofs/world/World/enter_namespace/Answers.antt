@@ -1,4 +1,4 @@
-use Rattle.std.proofs.Common.{ap, false, option_map, rules, subst, sym, true, ◌≡◌, ◌∙◌}
+use Rattle.std.proofs.Common.{ap, false, option_map, rules, subst, sym, true, ◌≡◌, ◌∙◌, []}
 use Rattle.vt_location.specs.Locations.{location_of}
 use Rattle.vt_location.specs.Numbers.{counted}
 use Rattle.vt_spec.specs.Machine.Permits.Permit.{ToEnterNamespace}
@@ -57,6 +57,7 @@ returns-in-Some-clause-ok c =
       mounts = c.leave_namespace.new.mounts;
       groups = c.leave_namespace.new.groups;
       filesystems = c.leave_namespace.new.filesystems;
+      overlays = [];
       namespaces = entries_of c.leave_namespace.new.namespaces.entries;
       tasks = c.enter.new.self;
       next = c.self.inside.next;

@@ -1,4 +1,4 @@
-use Rattle.std.proofs.Common.{ap, false, fold, option_map, subst, sym, ◌∙◌}
+use Rattle.std.proofs.Common.{ap, false, fold, option_map, subst, sym, ◌∙◌, []}
 use Rattle.vt_spec.specs.Machine.Permits.Permit.{ToExit}
 use Rattle.vt_tasks.specs.TaskValue.{task_of}
 use Rattle.vt_ns.specs.contracts.world.World.{the_view}
@@ -37,6 +37,7 @@ returns c =
       mounts = c.leave_namespace.new.mounts;
       groups = c.leave_namespace.new.groups;
       filesystems = c.leave_namespace.new.filesystems;
+      overlays = [];
       namespaces = entries_of c.leave_namespace.new.namespaces.entries;
       tasks = c.exit.new.self;
       next = c.self.inside.next;

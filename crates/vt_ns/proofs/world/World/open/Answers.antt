@@ -23,7 +23,7 @@ invariant_of-self-2 c =
     c.self.invariant
     (subst (λ value. Permits value c.args.name.now (ToOpen (location_of c.args.file) (access_of c.args.access)))
     (sym c.self.view_is) c.requires)
-    (nothing_copied (the_view c.self.inside) (location_of c.args.file) (access_of c.args.access))
+    (nothing_copied (the_view c.self.inside) c.self.invariant (location_of c.args.file) (access_of c.args.access))
     c.hold_once_more.ensures.slot
     c.in_ok-number.ensures.ok
     (c.hold_once_more.ensures.held ∙ ap (λ writes.
@@ -38,7 +38,7 @@ returns-clause-ok c =
     c.self.invariant
     (subst (λ value. Permits value c.args.name.now (ToOpen (location_of c.args.file) (access_of c.args.access)))
     (sym c.self.view_is) c.requires)
-    (nothing_copied (the_view c.self.inside) (location_of c.args.file) (access_of c.args.access))
+    (nothing_copied (the_view c.self.inside) c.self.invariant (location_of c.args.file) (access_of c.args.access))
     c.hold_once_more.ensures.slot
     c.in_ok-number.ensures.ok
     (c.hold_once_more.ensures.held ∙ ap (λ writes.

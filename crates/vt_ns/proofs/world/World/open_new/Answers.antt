@@ -8,7 +8,7 @@ use Rattle.vt_fs.specs.FilesystemsValue.{ChangesInodes, inodes_at, node_seen}
 use Rattle.vt_location.specs.declared.births.Birth.TheVariants.{Here}
 use Rattle.vt_location.specs.declared.locations.NodeRef.{NodeRef}
 use Rattle.vt_location.proofs.NodeLemmas.{here_is_own}
-use Rattle.vt_location.specs.Locations.{location_of, number_of}
+use Rattle.vt_location.specs.Locations.{number_of}
 use Rattle.vt_location.specs.Numbers.{counted}
 use Rattle.vt_mount.specs.MountsValue.{changed as changed_mounts, held}
 use Rattle.vt_mount.proofs.KeptLemmas.{of-ok}

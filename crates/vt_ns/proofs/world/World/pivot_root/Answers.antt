@@ -1,19 +1,14 @@
-use Rattle.std.proofs.Common.{IfSome, Ok, Err, OnOk, Result, ap, arith, false, find, is_some, nat_eq, option_copied, option_map, refl, rules, subst, sym, ℕ, ◌+◌, ◌<◌, ◌≡◌, ◌∙◌}
+use Rattle.std.proofs.Common.{IfSome, Ok, Err, OnOk, Result, ap, arith, is_some, nat_eq, option_copied, option_map, refl, rules, subst, sym, ℕ, ◌<◌, ◌≡◌, ◌∙◌}
 use Rattle.std.specs.Prelude.{IsErr, ◌↔◌}
-use Rattle.vt_fs.specs.FilesystemsValue.{shown}
 use Rattle.vt_location.specs.declared.locations.Location.{Location}
 use Rattle.vt_location.specs.Locations.{location_of, number_of}
 use Rattle.vt_location.specs.MountValue.{mount_of}
 use Rattle.vt_location.specs.Numbers.{counted}
-use Rattle.vt_mount.specs.MountsValue.{mounts_in}
-use Rattle.vt_spec.specs.Machine.Mounts.{Mount}
 use Rattle.vt_spec.specs.Machine.Permits.Permit.{ToPivot}
 use Rattle.vt_spec.specs.Machine.World.{mount_numbered}
-use Rattle.vt_tasks.specs.TasksValue.{called}
 use Rattle.vt_tasks.specs.TaskValue.{task_of}
 use Rattle.vt_ns.specs.contracts.world.World.{the_view}
 use Rattle.vt_detach.specs.Events.{Becomes, Permits}
-use Rattle.vt_detach.specs.Uses.{inode_of, pinned_in}
 use Rattle.vt_world.specs.WorldValue.{WorldValue, world_of}
 use Rattle.vt_detach.proofs.Remaining.{remade}
 use Rattle.vt_detach.proofs.Shown.{is_some_mapped, pins, unpins}

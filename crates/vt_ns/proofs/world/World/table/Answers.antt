@@ -1,9 +1,9 @@
-use Rattle.std.proofs.Common.{ap}
-use Rattle.vt_world.specs.WorldValue.{WorldValue}
-use Rattle.vt_fs.specs.FilesystemsValue.{filesystems_seen}
+use Rattle.std.proofs.Common.{ap, sym, ◌∙◌}
+use Rattle.vt_world.specs.WorldValue.{WorldValue, world_of}
 use Rattle.vt_group.specs.Grouping.{master_in}
 use Rattle.vt_mount.specs.MountsValue.{mounts_in}
 use Rattle.vt_ns.specs.contracts.world.World.{the_view}
+use Rattle.vt_detach.proofs.Overlaid.{only_plain_ones}
 use Rattle.vt_ns.proofs.world.ListedWorlds.{named_once}
 use Rattle.vt_ns.proofs.world.World.table.Goals as goal
 
@@ -11,7 +11,8 @@ pub returns-clause-shown : goal.returns-clause-shown
 returns-clause-shown c = record {
   mounts = ap (λ (value : WorldValue). mounts_in value.mounts) c.self.view_is;
   masters = λ group. ap (λ (value : WorldValue). master_in value.groups group) c.self.view_is;
-  filesystems = ap (λ (value : WorldValue). filesystems_seen value.filesystems) c.self.view_is;
+  filesystems = sym (only_plain_ones (the_view c.self.inside) c.self.invariant)
+      ∙ ap (λ (value : WorldValue). (world_of value).filesystems) c.self.view_is;
 }
 
 pub returns-clause-once : goal.returns-clause-once

@@ -1,4 +1,4 @@
-use Rattle.std.proofs.Common.{map, refl, subst, sym, List, ℕ}
+use Rattle.std.proofs.Common.{map, refl, subst, sym, List, ℕ, []}
 use Rattle.std.proofs.lemmas.List.Sorted.{IsPermutation-map}
 use Rattle.vt_location.specs.declared.numbers.MountId.{MountId as MountNumber}
 use Rattle.vt_location.specs.Numbers.{counted}
@@ -20,6 +20,7 @@ after c = record {
   mounts = c.take_away.new.mounts;
   groups = c.take_away.new.groups;
   filesystems = c.take_away.new.filesystems;
+  overlays = [];
   namespaces = entries_of c.self.inside.namespaces.entries;
   tasks = c.self.inside.tasks;
   next = c.self.inside.next;

@@ -84,6 +84,7 @@ after c = record {
   mounts = c.leave_namespace.new.mounts;
   groups = c.leave_namespace.new.groups;
   filesystems = c.leave_namespace.new.filesystems;
+  overlays = [];
   namespaces = entries_of c.leave_namespace.new.namespaces.entries;
   tasks = c.move_root_and_directory.new.self;
   next = c.self.inside.next + 2 * length c.attached_in.result.now;
@@ -115,6 +116,7 @@ done c =
       next = ap (λ n. c.self.inside.next + 2 * n)
           (as_many c.attached_in.result.now
           (attached_in (counted own.namespace.count) c.self.inside.mounts) c.attached_in.ensures.are);
+      overlays = refl;
     })
 
 pub invariant_of-self-2 : goal.invariant_of-self-2

@@ -1,0 +1,436 @@
+-- The overlays of the code's world, and of worlds midway in an event, which leaves overlays as they are.
+use Rattle.std.proofs.lemmas.List.Elements.{All-nil}
+use Rattle.std.proofs.Common.{◌≡◌, refl, sym, ap, subst, ◌∙◌, inl, inr, ℕ, nat_eq, nat_lt, Bool, true, false, true≢false, eqb-true, cond, not, ◌&&◌, List, [], ◌∷◌, map, filter, find, is_some, unwrap_or, arith}
+use Rattle.std.specs.Prelude.{All}
+use Rattle.std.specs.List.{list_all}
+use Rattle.vt_spec.specs.Lists.{any_pair}
+use Rattle.vt_spec.specs.Machine.Locked.{of_overlay}
+use Rattle.vt_spec.specs.Machine.SameWorlds.{SameFilesystems}
+use Rattle.vt_spec.specs.Machine.Settled.{filesystem_lives, is_mounted, only_used, settled, used_in, without_dead_in, without_dead_mounts}
+use Rattle.vt_spec.specs.Machine.World.{Filesystem, World, filesystem_numbered, is_overlay, no_filesystem}
+use Rattle.vt_laws_counts.specs.BesideOverlays.{OverlaysHaveNoUpper}
+use Rattle.vt_laws_counts.specs.Counted.{IsPlain}
+use Rattle.vt_laws_counts.specs.OverlaysStay.{OverlaysAreNamed, layer_count}
+use Rattle.vt_laws_counts.proofs.overlays.Living.{overlays_are_mounted, overlays_use_filesystems}
+use Rattle.vt_laws_counts.proofs.overlays.NamedStay.{filter_stays, named_overlays_stay}
+use Rattle.vt_laws_counts.proofs.using.Exchanged.{numbers_mapped}
+use Rattle.vt_spec.proofs.Lists.{pair-filter}
+use Rattle.vt_laws_letting_go.specs.Counts.{mounts_showing}
+use Rattle.vt_laws_letting_go.specs.Keeping.{has_only_named}
+use Rattle.vt_laws_letting_go.specs.TreesOverlays.{in_use_of}
+use Rattle.vt_laws_letting_go.proofs.Lists.{Among, all_from_among, among-filter, among-from_filter, among_from_all, among-from_map, among-map, or_first}
+use Rattle.vt_laws_letting_go.proofs.sweeps.InUse.{after_first, after_second, number-first, number-second, overlay-left}
+use Rattle.vt_laws_letting_go.proofs.sweeps.OfWorlds.{found_filesystem}
+use Rattle.vt_laws_overlays_stay.specs.Woven.{ArePartedBy, are_rising, put_in, woven}
+use Rattle.vt_laws_overlays_stay.proofs.kept.OverlaysLeft.{by_overlays, no_upper_of_plain}
+use Rattle.vt_laws_overlays_stay.proofs.weaving.WovenLists.{rising_filtered, woven_lists_are_failing, woven_lists_are_passing}
+use Rattle.vt_fs.specs.FilesystemsValue.{FilesystemEntry, Filesystems, filesystem_seen, filesystems_seen}
+use Rattle.vt_location.specs.Numbers.{counted}
+use Rattle.vt_world.specs.Held.{HoldsOverlays, IsHeld, IsMountedSoOften}
+use Rattle.vt_world.specs.WorldValue.{OverlayEntry, WorldValue, overlays_seen, world_of}
+
+-- those that are no overlays
+abbrev pub is_plain_one : Filesystem ℕ → Bool
+is_plain_one filesystem = not (is_overlay filesystem)
+
+-- The overlays of a world midway in an event are those of before it.
+pub record KeepsOverlays (old : WorldValue) (world : World ℕ) : Type 0 where
+  pub overlays : filter is_overlay world.filesystems ≡ overlays_seen old.overlays
+  pub rise : are_rising world.filesystems ≡ true
+
+-- mounts of the world show each overlay that was there before
+abbrev pub AreStillMounted : WorldValue → World ℕ → Type 0
+AreStillMounted old world = All (λ overlay. is_mounted nat_eq world overlay.number ≡ true) (overlays_seen old.overlays)
+
+-- The code's world
+
+-- no filesystem that code keeps by its inodes is an overlay
+pub files_are_plain : (filesystems : Filesystems)
+    → All (λ filesystem. is_overlay filesystem ≡ false) (filesystems_seen filesystems)
+files_are_plain filesystems =
+    all_from_among (λ filesystem. is_overlay filesystem ≡ false) (filesystems_seen filesystems) (λ filesystem m.
+    ap is_overlay (among-from_map filesystem_seen filesystems filesystem m).2)
+
+pub parted : (value : WorldValue) → HoldsOverlays value
+    → ArePartedBy is_overlay (filesystems_seen value.filesystems) (overlays_seen value.overlays)
+parted value holds = record { fail = files_are_plain value.filesystems; pass = holds.merged }
+
+-- its overlays are those that are kept
+pub overlays_are : (value : WorldValue) → HoldsOverlays value
+    → filter is_overlay (world_of value).filesystems ≡ overlays_seen value.overlays
+overlays_are value holds =
+    woven_lists_are_passing is_overlay (filesystems_seen value.filesystems) (overlays_seen value.overlays)
+    (parted value holds) holds.overlays_rise
+
+-- and its other filesystems those that are kept by their inodes
+pub plain_ones_are : (value : WorldValue) → HoldsOverlays value
+    → filter is_plain_one (world_of value).filesystems ≡ filesystems_seen value.filesystems
+plain_ones_are value holds =
+    woven_lists_are_failing is_overlay (filesystems_seen value.filesystems) (overlays_seen value.overlays)
+    (parted value holds)
+
+-- what is kept by its inodes is among its filesystems
+
+pub seen_one_among : (value : WorldValue)
+    → All (λ filesystem. is_overlay filesystem ≡ true) (overlays_seen value.overlays) → (filesystem : Filesystem ℕ)
+    → Among filesystem (filesystems_seen value.filesystems) → Among filesystem (world_of value).filesystems
+seen_one_among value merged filesystem m =
+    (among-from_filter is_plain_one (world_of value).filesystems filesystem
+    (subst (Among filesystem)
+    (sym (woven_lists_are_failing is_overlay (filesystems_seen value.filesystems) (overlays_seen value.overlays)
+    (record { fail = files_are_plain value.filesystems; pass = merged }))) m)).0
+
+pub plain_one_among : (value : WorldValue)
+    → All (λ filesystem. is_overlay filesystem ≡ true) (overlays_seen value.overlays) → (entry : FilesystemEntry)
+    → Among entry value.filesystems → Among (filesystem_seen entry) (world_of value).filesystems
+plain_one_among value merged entry m =
+    seen_one_among value merged (filesystem_seen entry) (among-map filesystem_seen value.filesystems entry m)
+
+-- and found there by its number
+pub found_plain_one : (value : WorldValue) → IsHeld value → (entry : FilesystemEntry) → Among entry value.filesystems
+    → filesystem_numbered nat_eq (world_of value) (counted entry.count) ≡ filesystem_seen entry
+found_plain_one value held entry m =
+    found_filesystem (world_of value).filesystems held.in_world.files.one_filesystem (filesystem_seen entry)
+    (plain_one_among value held.overlays.merged entry m)
+
+-- no two of those that are kept by their inodes have one number
+pub plain_ones_apart : (value : WorldValue) → IsHeld value
+    → any_pair (λ (a b : Filesystem ℕ). nat_eq a.number b.number) (filesystems_seen value.filesystems) ≡ false
+plain_ones_apart value held =
+    subst (λ list. any_pair (λ (a b : Filesystem ℕ). nat_eq a.number b.number) list ≡ false)
+    (plain_ones_are value held.overlays)
+    (pair-filter (λ (a b : Filesystem ℕ). nat_eq a.number b.number) is_plain_one (world_of value).filesystems
+    held.in_world.files.one_filesystem)
+
+-- and no overlay has the number of one of them
+pub overlay_apart : (value : WorldValue) → IsHeld value → (entry : FilesystemEntry) → Among entry value.filesystems
+    → (overlay : Filesystem ℕ) → Among overlay (overlays_seen value.overlays)
+    → nat_eq (counted entry.count) overlay.number ≡ false
+overlay_apart value held entry m overlay n = by (nat_eq (counted entry.count) overlay.number) refl
+  where
+    by : (b : Bool) → nat_eq (counted entry.count) overlay.number ≡ b → b ≡ false
+    by false e = refl
+    by true e =
+        let there = among-from_filter is_overlay (world_of value).filesystems overlay
+        (subst (Among overlay) (sym (overlays_are value held.overlays)) n) in
+        absurd (true≢false (sym there.1
+        ∙ ap is_overlay (sym (found_filesystem (world_of value).filesystems held.in_world.files.one_filesystem overlay
+        there.0)
+        ∙ ap (filesystem_numbered nat_eq (world_of value)) (sym (eqb-true (counted entry.count) overlay.number e))
+        ∙ found_plain_one value held entry m)))
+
+-- A step that changes plain filesystems alone, and no number, changes them as they are kept.
+
+put_mapped : (step : Filesystem ℕ → Filesystem ℕ) → ((f : Filesystem ℕ) → (step f).number ≡ f.number)
+    → (overlay : Filesystem ℕ) → step overlay ≡ overlay → (list : List (Filesystem ℕ))
+    → map step (put_in overlay list) ≡ put_in overlay (map step list)
+put_mapped step numbers overlay same [] = ap (λ one. one ∷ []) same
+put_mapped step numbers overlay same (first ∷ rest) =
+    by (nat_lt first.number overlay.number) (put_mapped step numbers overlay same rest)
+    ∙ ap (λ n. cond (nat_lt n overlay.number) (step first ∷ put_in overlay (map step rest))
+    (overlay ∷ step first ∷ map step rest)) (sym (numbers first))
+  where
+    by : (b : Bool) → map step (put_in overlay rest) ≡ put_in overlay (map step rest)
+        → map step (cond b (first ∷ put_in overlay rest) (overlay ∷ first ∷ rest))
+        ≡ cond b (step first ∷ put_in overlay (map step rest)) (overlay ∷ step first ∷ map step rest)
+    by true later = ap (λ others. step first ∷ others) later
+    by false later = ap (λ one. one ∷ step first ∷ map step rest) same
+
+pub woven_mapped : (step : Filesystem ℕ → Filesystem ℕ) → ((f : Filesystem ℕ) → (step f).number ≡ f.number)
+    → (plain overlays : List (Filesystem ℕ)) → ((f : Filesystem ℕ) → Among f overlays → step f ≡ f)
+    → map step (woven plain overlays) ≡ woven (map step plain) overlays
+woven_mapped step numbers plain [] same = refl
+woven_mapped step numbers plain (overlay ∷ rest) same =
+    put_mapped step numbers overlay (same overlay (inl refl)) (woven plain rest)
+    ∙ ap (put_in overlay) (woven_mapped step numbers plain rest (λ f m. same f (inr m)))
+
+-- it keeps its overlays
+pub keeps_itself : (value : WorldValue) → HoldsOverlays value → KeepsOverlays value (world_of value)
+keeps_itself value holds = record { overlays = overlays_are value holds; rise = holds.all_rise }
+
+-- Worlds midway
+
+-- the numbers of filesystems rise by themselves
+
+abbrev rise : List ℕ → Bool
+rise [] = true
+rise (first ∷ rest) = list_all (nat_lt first) rest && rise rest
+
+all_by_numbers : (test : ℕ → Bool) (list : List (Filesystem ℕ))
+    → list_all (λ (f : Filesystem ℕ). test f.number) list ≡ list_all test (map (λ (f : Filesystem ℕ). f.number) list)
+all_by_numbers test [] = refl
+all_by_numbers test (first ∷ rest) = ap (λ b. test first.number && b) (all_by_numbers test rest)
+
+by_numbers : (list : List (Filesystem ℕ)) → are_rising list ≡ rise (map (λ (f : Filesystem ℕ). f.number) list)
+by_numbers [] = refl
+by_numbers (first ∷ rest) = λ i. all_by_numbers (nat_lt first.number) rest i && by_numbers rest i
+
+pub same_numbers_rise : (before after : List (Filesystem ℕ))
+    → map (λ (f : Filesystem ℕ). f.number) after ≡ map (λ (f : Filesystem ℕ). f.number) before
+    → are_rising before ≡ true → are_rising after ≡ true
+same_numbers_rise before after same rising =
+    by_numbers after ∙ ap rise same ∙ sym (by_numbers before) ∙ rising
+
+pub same_files_rise : (before after : List (Filesystem ℕ)) → SameFilesystems before after
+    → are_rising before ≡ true → are_rising after ≡ true
+same_files_rise before after same = same_numbers_rise before after (numbers_same before after same)
+  where
+    numbers_same : (ones others : List (Filesystem ℕ)) → SameFilesystems ones others
+        → map (λ (f : Filesystem ℕ). f.number) others ≡ map (λ (f : Filesystem ℕ). f.number) ones
+    numbers_same [] [] same = refl
+    numbers_same [] (other ∷ others) same = absurd same
+    numbers_same (one ∷ ones) [] same = absurd same
+    numbers_same (one ∷ ones) (other ∷ others) same =
+        λ i. sym same.0.number i ∷ numbers_same ones others same.1 i
+
+-- the sweep of inodes leaves the numbers of plain filesystems
+
+kind_left : (world : World ℕ) (b : Bool) (f : Filesystem ℕ) → is_overlay (only_used nat_eq world b f) ≡ is_overlay f
+kind_left world true f = overlay-left (used_in nat_eq world f) f _
+kind_left world false f = refl
+
+pub plain_numbers_left : (world : World ℕ)
+    → map (λ (f : Filesystem ℕ). f.number) (filter is_plain_one (settled nat_eq world).filesystems)
+    ≡ map (λ (f : Filesystem ℕ). f.number) (filter is_plain_one (in_use_of world).filesystems)
+plain_numbers_left world =
+    both (in_use_of world).filesystems
+  where
+    swept : Filesystem ℕ → Filesystem ℕ
+    swept f = after_second world (after_first world f)
+
+    both : (list : List (Filesystem ℕ))
+        → map (λ (f : Filesystem ℕ). f.number)
+        (filter is_plain_one (map (after_second world) (map (after_first world) list)))
+        ≡ map (λ (f : Filesystem ℕ). f.number) (filter is_plain_one list)
+    both [] = refl
+    both (first ∷ rest) =
+        ap (λ b. map (λ (f : Filesystem ℕ). f.number) (cond (not b)
+        (swept first ∷ filter is_plain_one (map (after_second world) (map (after_first world) rest)))
+        (filter is_plain_one (map (after_second world) (map (after_first world) rest)))))
+        (kind first) ∙ by (is_overlay first) (both rest)
+      where
+        kind : (f : Filesystem ℕ) → is_overlay (swept f) ≡ is_overlay f
+        kind f =
+            kind_left (without_dead_in nat_eq is_overlay (in_use_of world)) (not (is_overlay (after_first world f)))
+            (after_first world f)
+            ∙ kind_left (in_use_of world) (is_overlay f) f
+
+        by : (b : Bool)
+            → map (λ (f : Filesystem ℕ). f.number)
+            (filter is_plain_one (map (after_second world) (map (after_first world) rest)))
+            ≡ map (λ (f : Filesystem ℕ). f.number) (filter is_plain_one rest)
+            → map (λ (f : Filesystem ℕ). f.number) (cond (not b)
+            (swept first ∷ filter is_plain_one (map (after_second world) (map (after_first world) rest)))
+            (filter is_plain_one (map (after_second world) (map (after_first world) rest))))
+            ≡ map (λ (f : Filesystem ℕ). f.number) (cond (not b) (first ∷ filter is_plain_one rest)
+            (filter is_plain_one rest))
+        by true later = later
+        by false later =
+            λ i. (number-second world (after_first world first) ∙ number-first world first) i ∷ later i
+
+-- a world with the same filesystems keeps the same overlays
+pub same_files_keep : (old : WorldValue) (world other : World ℕ) → other.filesystems ≡ world.filesystems
+    → KeepsOverlays old world → KeepsOverlays old other
+same_files_keep old world other same keeps = record {
+  overlays = ap (filter is_overlay) same ∙ keeps.overlays;
+  rise = ap are_rising same ∙ keeps.rise;
+}
+
+-- and one in which plain filesystems were changed
+pub changed_plain_ones_keep : (old : WorldValue) (world : World ℕ) (step : Filesystem ℕ → Filesystem ℕ)
+    (other : World ℕ) → other.filesystems ≡ map step world.filesystems
+    → ((f : Filesystem ℕ) → (step f).number ≡ f.number)
+    → ((f : Filesystem ℕ) → Among f world.filesystems → is_overlay (step f) ≡ is_overlay f)
+    → ((f : Filesystem ℕ) → Among f world.filesystems → is_overlay f ≡ true → step f ≡ f)
+    → KeepsOverlays old world → KeepsOverlays old other
+changed_plain_ones_keep old world step other same numbers kinds stays keeps = record {
+  overlays = ap (filter is_overlay) same ∙ filter_stays step is_overlay world.filesystems kinds stays ∙ keeps.overlays;
+  rise = ap are_rising same
+      ∙ same_numbers_rise world.filesystems (map step world.filesystems)
+      (numbers_mapped step numbers world.filesystems) keeps.rise;
+}
+
+-- no overlay has an upper layer midway,
+pub no_upper_midway : (old : WorldValue) → HoldsOverlays old → (world : World ℕ) → KeepsOverlays old world
+    → OverlaysHaveNoUpper world
+no_upper_midway old holds world keeps =
+    by_overlays (λ f. of_overlay false (λ overlay. is_some overlay.upper) f ≡ false) no_upper_of_plain
+    (world_of old).filesystems world.filesystems (keeps.overlays ∙ sym (overlays_are old holds)) holds.read_only
+
+-- and each inode of an overlay is the root or has a name
+pub named_midway : (old : WorldValue) → HoldsOverlays old → (world : World ℕ) → KeepsOverlays old world
+    → OverlaysAreNamed world
+named_midway old holds world keeps =
+    by_overlays (λ f. is_overlay f ≡ true → has_only_named f ≡ true) (λ f e is. absurd (true≢false (sym is ∙ e)))
+    (world_of old).filesystems world.filesystems (keeps.overlays ∙ sym (overlays_are old holds)) holds.named
+
+-- So the sweep leaves the overlays, if mounts show them.
+pub swept_keeps : (old : WorldValue) → HoldsOverlays old → (world : World ℕ) → KeepsOverlays old world
+    → AreStillMounted old (in_use_of world) → KeepsOverlays old (settled nat_eq world)
+swept_keeps old holds world keeps mounted = record {
+  overlays = named_overlays_stay world (named_midway old holds world keeps)
+      ∙ live_stay world.filesystems (λ f m e.
+      or_first (is_mounted nat_eq (in_use_of world) f.number) _
+      (among_from_all (λ (overlay : Filesystem ℕ). is_mounted nat_eq (in_use_of world) overlay.number ≡ true)
+      (overlays_seen old.overlays) mounted f
+      (subst (Among f) keeps.overlays (among-filter is_overlay world.filesystems f m e))))
+      ∙ keeps.overlays;
+  rise = same_numbers_rise (in_use_of world).filesystems (settled nat_eq world).filesystems
+      (numbers_mapped (after_second world) (number-second world) (map (after_first world) (in_use_of world).filesystems)
+      ∙ numbers_mapped (after_first world) (number-first world) (in_use_of world).filesystems)
+      (rising_filtered (filesystem_lives nat_eq (without_dead_mounts nat_eq world)) world.filesystems keeps.rise);
+}
+  where
+    lives : Filesystem ℕ → Bool
+    lives = filesystem_lives nat_eq (without_dead_mounts nat_eq world)
+
+    live_stay : (list : List (Filesystem ℕ))
+        → ((f : Filesystem ℕ) → Among f list → is_overlay f ≡ true → lives f ≡ true)
+        → filter is_overlay (filter lives list) ≡ filter is_overlay list
+    live_stay [] all = refl
+    live_stay (first ∷ rest) all =
+        by (lives first) (is_overlay first) refl refl (live_stay rest (λ f m. all f (inr m)))
+      where
+        by : (a b : Bool) → lives first ≡ a → is_overlay first ≡ b
+            → filter is_overlay (filter lives rest) ≡ filter is_overlay rest
+            → filter is_overlay (cond a (first ∷ filter lives rest) (filter lives rest))
+            ≡ cond b (first ∷ filter is_overlay rest) (filter is_overlay rest)
+        by true true e f later =
+            ap (λ b. cond b (first ∷ filter is_overlay (filter lives rest)) (filter is_overlay (filter lives rest))) f
+            ∙ ap (λ list. first ∷ list) later
+        by true false e f later =
+            ap (λ b. cond b (first ∷ filter is_overlay (filter lives rest)) (filter is_overlay (filter lives rest))) f
+            ∙ later
+        by false true e f later = absurd (true≢false (sym (all first (inl refl) f) ∙ e))
+        by false false e f later = later
+
+-- as many layers are in each filesystem while the overlays stay
+pub as_many_layers : (world other : World ℕ)
+    → filter is_overlay other.filesystems ≡ filter is_overlay world.filesystems
+    → (number : ℕ) → layer_count other number ≡ layer_count world number
+as_many_layers world other stay number =
+    let same = overlays_use_filesystems world other [] [] [] (filter is_overlay world.filesystems) number refl stay in
+    omega (arith, same)
+
+-- another value of the world with the same overlays
+pub same_overlays : (old new : WorldValue) → HoldsOverlays old
+    → overlays_seen new.overlays ≡ overlays_seen old.overlays
+    → filter is_overlay (world_of new).filesystems ≡ overlays_seen old.overlays
+same_overlays old new holds same =
+    woven_lists_are_passing is_overlay (filesystems_seen new.filesystems) (overlays_seen new.overlays)
+    (record {
+      fail = files_are_plain new.filesystems;
+      pass = subst (All (λ filesystem. is_overlay filesystem ≡ true)) (sym same) holds.merged;
+    })
+    (ap are_rising same ∙ holds.overlays_rise)
+    ∙ same
+
+pub layers_kept : (old new : WorldValue) → HoldsOverlays old
+    → overlays_seen new.overlays ≡ overlays_seen old.overlays
+    → (number : ℕ) → layer_count (world_of new) number ≡ layer_count (world_of old) number
+layers_kept old new holds same =
+    as_many_layers (world_of old) (world_of new) (same_overlays old new holds same ∙ sym (overlays_are old holds))
+
+-- where as many mounts show each filesystem, overlays count them still
+pub overlays_counted : (old new : WorldValue) → HoldsOverlays old → new.overlays ≡ old.overlays
+    → ((number : ℕ) → mounts_showing (world_of new) number ≡ mounts_showing (world_of old) number)
+    → All (IsMountedSoOften (world_of new)) new.overlays
+overlays_counted old new holds same showing =
+    subst (All (IsMountedSoOften (world_of new))) (sym same)
+    (all_from_among (IsMountedSoOften (world_of new)) old.overlays (λ entry m.
+    among_from_all (IsMountedSoOften (world_of old)) old.overlays holds.mounts entry m
+    ∙ sym (showing entry.number)))
+
+-- and where mounts show what they showed, the overlays are mounted
+pub still_mounted : (old : WorldValue) → IsHeld old → (world : World ℕ)
+    → ((number : ℕ) → is_mounted nat_eq world number ≡ is_mounted nat_eq (world_of old) number)
+    → AreStillMounted old world
+still_mounted old held world same =
+    all_from_among (λ (overlay : Filesystem ℕ). is_mounted nat_eq world overlay.number ≡ true)
+    (overlays_seen old.overlays) (λ f m.
+    let there = among-from_filter is_overlay (world_of old).filesystems f
+    (subst (Among f) (sym (overlays_are old held.overlays)) m) in
+    same f.number
+    ∙ among_from_all (λ g. is_overlay g ≡ true → is_mounted nat_eq (world_of old) g.number ≡ true)
+    (world_of old).filesystems (overlays_are_mounted (world_of old) held.in_world) f there.0 there.1)
+
+-- What holds of overlays holds still of another value of the world with the same ones.
+pub overlays_hold_still : (old new : WorldValue) → HoldsOverlays old → new.overlays ≡ []
+    → overlays_seen new.overlays ≡ overlays_seen old.overlays → are_rising (world_of new).filesystems ≡ true
+    → All (IsMountedSoOften (world_of new)) new.overlays → HoldsOverlays new
+overlays_hold_still old new holds none same rising mounts = record {
+  merged = subst (All (λ filesystem. is_overlay filesystem ≡ true)) (sym same) holds.merged;
+  read_only = no_upper_midway old holds (world_of new) keeps;
+  named = named_midway old holds (world_of new) keeps;
+  overlays_rise = ap are_rising same ∙ holds.overlays_rise;
+  all_rise = rising;
+  mounts = mounts;
+  none_yet = none;
+}
+  where
+    keeps : KeepsOverlays old (world_of new)
+    keeps = record { overlays = same_overlays old new holds same; rise = rising }
+
+-- no other value of the world has an overlay then
+pub none_still : (old new : WorldValue) → IsHeld old → overlays_seen new.overlays ≡ overlays_seen old.overlays
+    → new.overlays ≡ []
+none_still old new held same = by new.overlays (same ∙ ap overlays_seen held.overlays.none_yet)
+  where
+    by : (list : List OverlayEntry) → overlays_seen list ≡ [] → list ≡ []
+    by [] e = refl
+    by (first ∷ rest) e = absurd cc
+
+-- Nothing makes an overlay yet: what is not stated for overlays takes these.
+
+-- the filesystems of the code's world are those that are kept by their inodes
+pub only_plain_ones : (value : WorldValue) → IsHeld value
+    → (world_of value).filesystems ≡ filesystems_seen value.filesystems
+only_plain_ones value held =
+    ap (λ overlays. woven (filesystems_seen value.filesystems) (overlays_seen overlays)) held.overlays.none_yet
+
+-- no filesystem of the code's world is an overlay
+pub world_is_plain : (value : WorldValue) → IsHeld value → IsPlain (world_of value)
+world_is_plain value held =
+    subst (All (λ filesystem. is_overlay filesystem ≡ false)) (sym (only_plain_ones value held))
+    (files_are_plain value.filesystems)
+
+-- nor one of a world midway
+pub midway_is_plain : (old : WorldValue) → IsHeld old → (world : World ℕ) → KeepsOverlays old world → IsPlain world
+midway_is_plain old held world keeps =
+    all_from_among (λ f. is_overlay f ≡ false) world.filesystems (λ f m. by f m (is_overlay f) refl)
+  where
+    by : (f : Filesystem ℕ) → Among f world.filesystems → (b : Bool) → is_overlay f ≡ b → b ≡ false
+    by f m false e = refl
+    by f m true e =
+        absurd (subst (Among f) (keeps.overlays ∙ ap overlays_seen held.overlays.none_yet)
+        (among-filter is_overlay world.filesystems f m e))
+
+-- all overlays are mounted, whatever mounts there are
+pub none_to_mount : (old : WorldValue) → IsHeld old → (world : World ℕ) → AreStillMounted old world
+none_to_mount old held world =
+    subst (All (λ (overlay : Filesystem ℕ). is_mounted nat_eq world overlay.number ≡ true))
+    (sym (ap overlays_seen held.overlays.none_yet)) (All-nil _)
+
+-- so whatever is asked of each overlay holds
+pub none_to_ask : (P : OverlayEntry → Type 0) (old : WorldValue) → IsHeld old → All P old.overlays
+none_to_ask P old held = subst (All P) (sym held.overlays.none_yet) (All-nil P)
+
+-- and the definitions find what is kept by its inodes
+pub found_as_kept : (value : WorldValue) → IsHeld value → (number : ℕ)
+    → filesystem_numbered nat_eq (world_of value) number
+    ≡ unwrap_or (find (λ (filesystem : Filesystem ℕ). nat_eq number filesystem.number)
+    (filesystems_seen value.filesystems)) (no_filesystem number)
+found_as_kept value held number =
+    ap (λ (list : List (Filesystem ℕ)).
+    unwrap_or (find (λ (filesystem : Filesystem ℕ). nat_eq number filesystem.number) list) (no_filesystem number))
+    (only_plain_ones value held)
+
+-- so an inode that is there is one of those that are kept
+pub there_as_kept : (value : WorldValue) → IsHeld value → (number inode : ℕ)
+    → is_some ((filesystem_numbered nat_eq (world_of value) number).files.tree.node inode) ≡ true
+    → is_some ((unwrap_or (find (λ (filesystem : Filesystem ℕ). nat_eq number filesystem.number)
+    (filesystems_seen value.filesystems)) (no_filesystem number)).files.tree.node inode) ≡ true
+there_as_kept value held number inode there =
+    ap (λ (filesystem : Filesystem ℕ). is_some (filesystem.files.tree.node inode))
+    (sym (found_as_kept value held number))
+    ∙ there

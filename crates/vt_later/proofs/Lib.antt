@@ -1,0 +1,4 @@
+pub mod Conditions
+pub mod Refused
+pub mod Tables
+pub mod Told

@@ -1,0 +1,2 @@
+pub mod Lenience
+pub mod Passing

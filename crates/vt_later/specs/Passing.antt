@@ -1,0 +1,30 @@
+-- Which rules are let pass, and what stays of a table.
+use Rattle.std.specs.Prelude.{Bool, [], false, true, ⊤, ◌∷◌, ◌≡◌, ◌⊎◌}
+use Rattle.vt_spec.specs.declared.errors.Rule.{Rule}
+use Rattle.vt_spec.specs.declared.errors.Rule.TheVariants.{C1, F1, F3, K1, M8, M9, P1, S3}
+use Rattle.vt_spec.specs.Errors.{Rules}
+use Rattle.vt_later.specs.declared.passed.Passed.{Passed}
+
+-- a rule may be let pass
+abbrev pub lets_pass : Passed → Rule → Bool
+lets_pass passed S3 = true
+lets_pass passed K1 = passed.privileges
+lets_pass passed C1 = passed.rights
+lets_pass passed F1 = passed.flags
+lets_pass passed F3 = passed.flags
+lets_pass passed P1 = passed.mount_points
+lets_pass passed M8 = passed.uses
+lets_pass passed M9 = passed.numbers
+lets_pass passed rule = false
+
+-- the second table has the rules of the first, and each of them that is not let pass fails in both or in none
+abbrev pub SameBut : Passed → Rules → Rules → Type 0
+SameBut passed [] [] = ⊤
+SameBut passed ((fails, rule) ∷ rows) ((failed, other) ∷ others) =
+    (rule ≡ other) × (lets_pass passed rule ≡ false → fails ≡ failed) × SameBut passed rows others
+SameBut passed rows others = ⊥
+
+-- a rule fails in a table
+abbrev pub Fails : Rule → Rules → Type 0
+Fails wanted [] = ⊥
+Fails wanted ((fails, rule) ∷ rows) = ((fails ≡ true) × (rule ≡ wanted)) ⊎ Fails wanted rows

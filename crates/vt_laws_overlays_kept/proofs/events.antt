@@ -1,0 +1,2 @@
+-- What the proofs of src/events.rt use.
+pub mod KeptOverlays

@@ -1,0 +1,2 @@
+-- What the proofs of src/inodes.rt use.
+pub mod InodesInOrder

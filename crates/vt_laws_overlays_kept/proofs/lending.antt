@@ -1,0 +1,2 @@
+-- What the proofs of src/lending.rt use.
+pub mod ObjectsLent

@@ -1,0 +1,177 @@
+-- Overlays that stand on layers.
+use Rattle.std.proofs.Common.{◌≡◌, ◌<◌, ◌∙◌, ◌∷◌, ◌&&◌, [], arith, ap, Bool, eqb-true, false, find, length, List, map, nat_eq, None, not, Option, refl, Some, subst, suc, sym, true, true≢false, unwrap_or, zero, ℕ}
+use Rattle.std.specs.Prelude.{All, is_some, nat_le, slice_get}
+use Rattle.std.specs.List.{list_all}
+use Rattle.std.proofs.lemmas.Bool.{and_parts, leb-true}
+use Rattle.std.proofs.lemmas.List.Elements.{All-head, All-tail}
+use Rattle.std.proofs.lemmas.Option.{same_Some}
+use Rattle.vt_spec.proofs.Found.{found_among, found_passes}
+use Rattle.vt_spec.proofs.Lists.{Among, all_from_among, among_from_all, among_from_list_all}
+use Rattle.vt_spec.proofs.Options.{none_is_some}
+use Rattle.vt_spec.specs.Inodes.{Inode, node_in}
+use Rattle.vt_spec.specs.Lists.{is_empty_list}
+use Rattle.vt_spec.specs.Language.Limits.{most_lowers}
+use Rattle.vt_spec.specs.Machine.Invariants.{IsWorld, has_fit_layers, is_plain_layer}
+use Rattle.vt_spec.specs.Machine.Locked.{of_overlay}
+use Rattle.vt_spec.specs.Machine.World.{Filesystem, Layer, World, filesystem_numbered, is_overlay, layers_of, no_filesystem}
+use Rattle.vt_spec.specs.Tree.{Tree, is_directory_node}
+use Rattle.vt_spec.specs.TreeInvariant.{IsDirectory, IsTree}
+use Rattle.vt_location.specs.Locations.{inode_of}
+use Rattle.vt_location.specs.Numbers.{counted, is_inode_of}
+use Rattle.vt_fs.specs.FilesystemsValue.{FilesystemEntry, Filesystems, entry_of, inodes_at, inodes_seen, no_entry}
+use Rattle.vt_merge.specs.declared.layers.LayerRef.{LayerRef}
+use Rattle.vt_overlay.specs.MergedTree.{AreLayers, IsLayer, OverlayValue, layer_seen}
+use Rattle.vt_store.specs.Laws.{HasOwnNumbers, IsSameTree, OverlaysStandStill, WorldsStandOnLayers}
+use Rattle.vt_store.specs.OverlaysValue.{OverlayEntry}
+use Rattle.vt_store.specs.StoreValue.{StandsOnLayers, StoreValue, filesystem_found, filesystem_in, filesystems_of, overlay_filesystem, overlay_in}
+use Rattle.vt_store.proofs.Woven.{among-woven, is_plain}
+use Rattle.vt_store.proofs.Woven.{is_overlay as is_overlay_in}
+
+-- what holds of all holds of the one at a place
+pub all_at : {A : Type 0} (P : A → Type 0) (list : List A) → All P list → (place : ℕ) (a : A)
+    → slice_get list place ≡ Some a → P a
+all_at P [] all place a e = none_is_some a e
+all_at P (first ∷ list) all zero a e = subst P (same_Some first a e) (All-head P first list all)
+all_at P (first ∷ list) all (suc place) a e = all_at P list (All-tail P first list all) place a e
+
+-- Layers whose trees are as they were
+
+nothing_there : (o : Option (Inode ℕ)) → node_in o ≡ None → o ≡ None
+nothing_there None e = refl
+nothing_there (Some inode) e = none_is_some inode.node (sym e)
+
+pub still_layer : (old new : Filesystems) (layer : LayerRef) → IsSameTree old new layer → IsLayer old layer
+    → IsLayer new layer
+still_layer old new layer same is = record {
+  tree = subst (λ (tree : Tree ℕ). IsTree tree) (sym same) is.tree;
+  directory = subst (λ (tree : Tree ℕ). IsDirectory tree (inode_of layer.directory)) (sym same) is.directory;
+  own_numbers = λ number e.
+      nothing_there ((inodes_at new layer.directory.filesystem.count).inode number)
+      (ap (λ (tree : Tree ℕ). tree.node number) same ∙ ap node_in (is.own_numbers number e));
+}
+
+pub overlays_stand_still : OverlaysStandStill
+overlays_stand_still old new entry stands same = record {
+  layers = λ place layer at.
+      still_layer old new layer (all_at (IsSameTree old new) entry.overlay.lowers same place layer at)
+      (stands.layers place layer at);
+  some = stands.some;
+  few = stands.few;
+}
+
+-- Worlds
+
+not_empty : {A : Type 0} (list : List A) → not (is_empty_list list) ≡ true → 0 < length list
+not_empty [] e = absurd (true≢false (sym e))
+not_empty (a ∷ list) e = omega arith
+
+-- what holds of each as it is seen
+each_seen : (test : Layer ℕ → Bool) (layers : List LayerRef) → list_all test (map layer_seen layers) ≡ true
+    → (place : ℕ) (layer : LayerRef) → slice_get layers place ≡ Some layer → test (layer_seen layer) ≡ true
+each_seen test [] all place layer e = none_is_some layer e
+each_seen test (first ∷ layers) all zero layer e =
+    ap (λ l. test (layer_seen l)) (sym (same_Some first layer e))
+    ∙ (and_parts (test (layer_seen first)) (list_all test (map layer_seen layers)) all).0
+each_seen test (first ∷ layers) all (suc place) layer e =
+    each_seen test layers (and_parts (test (layer_seen first)) (list_all test (map layer_seen layers)) all).1
+    place layer e
+
+length-layers : (layers : List LayerRef) → length (map layer_seen layers) ≡ length layers
+length-layers [] = refl
+length-layers (layer ∷ layers) = ap suc (length-layers layers)
+
+module _ (store : StoreValue) (world : World ℕ) (whole : IsWorld nat_eq world)
+    (is : world.filesystems ≡ filesystems_of store) (own : All HasOwnNumbers store.plain) where
+  found_so : (count : ℕ)
+      → find (λ (one : Filesystem ℕ). nat_eq (counted count) one.number) world.filesystems
+      ≡ filesystem_found store count
+  found_so count = ap (find (λ (one : Filesystem ℕ). nat_eq (counted count) one.number)) is
+
+  numbered_so : (count : ℕ) → filesystem_numbered nat_eq world (counted count) ≡ filesystem_in store count
+  numbered_so count = ap (λ o. unwrap_or o (no_filesystem (counted count))) (found_so count)
+
+  own_at : (count number : ℕ) → is_inode_of count number ≡ false → (inodes_at store.plain count).inode number ≡ None
+  own_at count number e = by (entry_of store.plain count) refl
+    where
+      by : (o : Option FilesystemEntry) → entry_of store.plain count ≡ o
+          → (inodes_seen (unwrap_or o (no_entry count))).inode number ≡ None
+      by None s = refl
+      by (Some entry) s =
+          let same = eqb-true count entry.count
+          (found_passes (λ (one : FilesystemEntry). nat_eq count one.count) store.plain entry s) in
+          among_from_all HasOwnNumbers store.plain own entry
+          (found_among (λ (one : FilesystemEntry). nat_eq count one.count)
+          store.plain entry s) number (ap (λ n. is_inode_of n number) (sym same) ∙ e)
+
+  -- a layer is a directory of a plain tree
+  layer_stands : (layer : LayerRef) → is_plain_layer nat_eq world (layer_seen layer) ≡ true → IsLayer store.plain layer
+  layer_stands layer stands =
+      let count = layer.directory.filesystem.count in
+      let parts = and_parts (not (is_overlay (filesystem_numbered nat_eq world (counted count))))
+      (is_directory_node ((filesystem_numbered nat_eq world (counted count)).files.tree.node
+      (inode_of layer.directory))) stands in
+      let none = no_overlay (overlay_in store count) refl
+      (ap (λ (one : Filesystem ℕ). not (is_overlay one)) (sym (numbered_so count)) ∙ parts.0) in
+      let seen = numbered_so count ∙ is_plain store count none in
+      let directory = ap (λ (one : Filesystem ℕ). is_directory_node (one.files.tree.node (inode_of layer.directory)))
+      (sym seen) ∙ parts.1 in record {
+        tree = subst (λ (one : Filesystem ℕ). IsTree one.files.tree) seen (tree_of_found count
+            (find (λ (one : Filesystem ℕ). nat_eq (counted count) one.number) world.filesystems) refl
+            (inode_of layer.directory) parts.1);
+        directory = directory;
+        own_numbers = own_at count;
+      }
+    where
+      no_overlay : (o : Option OverlayValue) → overlay_in store layer.directory.filesystem.count ≡ o
+          → not (is_overlay (filesystem_in store layer.directory.filesystem.count)) ≡ true
+          → overlay_in store layer.directory.filesystem.count ≡ None
+      no_overlay None s e = s
+      no_overlay (Some overlay) s e =
+          absurd (true≢false (sym e
+          ∙ ap not (sym (is_overlay_in store layer.directory.filesystem.count) ∙ ap is_some s)))
+
+      tree_of_found : (count : ℕ) (o : Option (Filesystem ℕ))
+          → find (λ (one : Filesystem ℕ). nat_eq (counted count) one.number) world.filesystems ≡ o
+          → (number : ℕ)
+          → is_directory_node ((unwrap_or o (no_filesystem (counted count))).files.tree.node number) ≡ true
+          → IsTree (unwrap_or o (no_filesystem (counted count))).files.tree
+      tree_of_found count None s number e = absurd (true≢false (sym e))
+      tree_of_found count (Some filesystem) s number e =
+          among_from_all (λ (one : Filesystem ℕ). IsTree one.files.tree) world.filesystems whole.files.trees filesystem
+          (found_among (λ (one : Filesystem ℕ). nat_eq (counted count) one.number) world.filesystems filesystem s)
+
+  module _ (entry : OverlayEntry) (there : Among entry store.overlays) where
+    among : Among (overlay_filesystem store.plain entry) world.filesystems
+    among = subst (Among (overlay_filesystem store.plain entry)) (sym is)
+        (among-woven store.plain entry store.overlays there)
+
+    abbrev lowers : List (Layer ℕ)
+    lowers = map layer_seen entry.overlay.lowers
+
+    layers_stand : AreLayers store.plain entry.overlay.lowers
+    layers_stand place layer at =
+        layer_stands layer (each_seen (is_plain_layer nat_eq world) entry.overlay.lowers
+        (among_from_list_all
+        (of_overlay true (λ one. list_all (is_plain_layer nat_eq world) (layers_of one))) world.filesystems
+        whole.overlays.plain_layers (overlay_filesystem store.plain entry) among) place layer at)
+
+    fits : (not (is_empty_list lowers) ≡ true) × (nat_le (length lowers) most_lowers ≡ true)
+    fits =
+        and_parts (not (is_empty_list lowers)) (nat_le (length lowers) most_lowers)
+        (and_parts (not (is_empty_list lowers) && nat_le (length lowers) most_lowers) true
+        (among_from_list_all (of_overlay true has_fit_layers) world.filesystems whole.overlays.fit_layers
+        (overlay_filesystem store.plain entry) among)).0
+
+    stands : StandsOnLayers store.plain entry
+    stands =
+        let same = length-layers entry.overlay.lowers in
+        let most = leb-true (length lowers) most_lowers fits.1 in
+        let least = not_empty lowers fits.0 in record {
+          layers = layers_stand;
+          some = omega (arith, least, same);
+          few = omega (arith, most, same);
+        }
+
+pub worlds_stand_on_layers : WorldsStandOnLayers
+worlds_stand_on_layers store world whole is own =
+    all_from_among (StandsOnLayers store.plain) store.overlays (stands store world whole is own)

@@ -1,0 +1,167 @@
+-- How many mounts show an overlay, or a plain filesystem.
+use Rattle.std.proofs.Common.{◌≡◌, ◌∙◌, ◌∷◌, [], ap, Bool, cond, false, get_or, length, nat_eq, None, option_map, Option, refl, Some, sym, true, unwrap_or, ℕ}
+use Rattle.std.specs.Prelude.{All}
+use Rattle.std.proofs.lemmas.List.Elements.{All-cons, All-head, All-tail}
+use Rattle.std.proofs.lemmas.Option.{same_Some}
+use Rattle.vt_spec.proofs.Options.{none_is_some}
+use Rattle.vt_spec.specs.FileTree.{FileTree}
+use Rattle.vt_fs.specs.FilesystemsValue.{FilesystemEntry, Filesystems, entry_at, entry_of, files_at, files_seen, filesystem_seen, filesystems_seen, no_entry, with_changed}
+use Rattle.vt_merge.specs.declared.layers.LayerRef.{LayerRef}
+use Rattle.vt_store.specs.Counts.{mounts_by, mounts_in, with_mounts, with_mounts_by}
+use Rattle.vt_store.specs.Laws.{IsSameLayer, MountsAreNotSeen, MountsLeaveLayers}
+use Rattle.vt_store.specs.OverlaysValue.{OverlayEntry, Overlays, with_overlay_changed}
+use Rattle.vt_store.specs.StoreValue.{StandOnLayers, StandsOnLayers, StoreValue, entry_in, filesystems_of, overlay_filesystem, put_in, woven}
+use Rattle.vt_store.proofs.LayersStanding.{overlays_stand_still}
+use Rattle.vt_store.proofs.OverlaysAlike.{overlays_stay_with_layers}
+
+abbrev mounts_of : Option OverlayEntry → Option ℕ
+mounts_of o = option_map (λ (entry : OverlayEntry). entry.mounts) o
+
+module _ (store : StoreValue) (count : ℕ) where
+  pub mounts_over : (mounts : ℕ) → Some mounts ≡ mounts_of (entry_in store count) → mounts ≡ mounts_in store count
+  mounts_over mounts e = by (entry_in store count) e
+    where
+      by : (o : Option OverlayEntry) → Some mounts ≡ mounts_of o → mounts ≡ mounts_by store.plain count o
+      by None e = none_is_some mounts (sym e)
+      by (Some entry) e = sym (same_Some entry.mounts mounts (sym e))
+
+  pub mounts_plain : None ≡ mounts_of (entry_in store count)
+      → (entry_at store.plain count).mounts ≡ mounts_in store count
+  mounts_plain e = by (entry_in store count) e
+    where
+      by : (o : Option OverlayEntry) → None ≡ mounts_of o
+          → (entry_at store.plain count).mounts ≡ mounts_by store.plain count o
+      by None e = refl
+      by (Some entry) e = none_is_some entry.mounts e
+
+  -- another number of them
+  pub changed_over : (change : ℕ → ℕ) (mounts : ℕ) → Some mounts ≡ mounts_of (entry_in store count)
+      → record store {
+        overlays = with_overlay_changed count (λ one. record one { mounts = change one.mounts }) store.overlays;
+      } ≡ with_mounts count change store
+  changed_over change mounts e = by (entry_in store count) e
+    where
+      by : (o : Option OverlayEntry) → Some mounts ≡ mounts_of o
+          → record store {
+            overlays = with_overlay_changed count (λ one. record one { mounts = change one.mounts }) store.overlays;
+          } ≡ with_mounts_by count change store o
+      by None e = none_is_some mounts (sym e)
+      by (Some entry) e = refl
+
+  pub changed_plain : (change : ℕ → ℕ) → None ≡ mounts_of (entry_in store count)
+      → record store { plain = with_changed count (λ entry. record entry { mounts = change entry.mounts }) store.plain }
+      ≡ with_mounts count change store
+  changed_plain change e = by (entry_in store count) e
+    where
+      by : (o : Option OverlayEntry) → None ≡ mounts_of o
+          → record store {
+            plain = with_changed count (λ entry. record entry { mounts = change entry.mounts }) store.plain;
+          }
+          ≡ with_mounts_by count change store o
+      by None e = refl
+      by (Some entry) e = none_is_some entry.mounts e
+
+-- Filesystems are seen as they were
+
+module _ (count : ℕ) (change : ℕ → ℕ) where
+  abbrev more : Filesystems → Filesystems
+  more plain = with_changed count (λ entry. record entry { mounts = change entry.mounts }) plain
+
+  abbrev one_more : FilesystemEntry → Bool → FilesystemEntry
+  one_more entry b = cond b (record entry { mounts = change entry.mounts }) entry
+
+  filesystems_same : (plain : Filesystems) → filesystems_seen (more plain) ≡ filesystems_seen plain
+  filesystems_same [] = refl
+  filesystems_same (entry ∷ rest) = λ i. by (nat_eq count entry.count) i ∷ filesystems_same rest i
+    where
+      by : (b : Bool) → filesystem_seen (one_more entry b) ≡ filesystem_seen entry
+      by true = refl
+      by false = refl
+
+  files_same : (other : ℕ) (plain : Filesystems) → files_at (more plain) other ≡ files_at plain other
+  files_same other [] = refl
+  files_same other (entry ∷ rest) =
+      ap (λ n. files_seen (unwrap_or (cond (nat_eq other n) (Some (one_more entry (nat_eq count entry.count)))
+      (entry_of (more rest) other)) (no_entry other))) (kept (nat_eq count entry.count))
+      ∙ by (nat_eq count entry.count) (nat_eq other entry.count) (files_same other rest)
+    where
+      kept : (b : Bool) → (one_more entry b).count ≡ entry.count
+      kept true = refl
+      kept false = refl
+
+      by : (b c : Bool) → files_at (more rest) other ≡ files_at rest other
+          → files_seen (unwrap_or (cond c (Some (one_more entry b)) (entry_of (more rest) other)) (no_entry other))
+          ≡ files_seen (unwrap_or (cond c (Some entry) (entry_of rest other)) (no_entry other))
+      by true true later = refl
+      by false true later = refl
+      by true false later = later
+      by false false later = later
+
+  same_layer : (plain : Filesystems) (layer : LayerRef) → IsSameLayer plain (more plain) layer
+  same_layer plain layer =
+      let same = files_same layer.directory.filesystem.count plain in record {
+        tree = ap (λ (files : FileTree ℕ). files.tree) same;
+        numbers = ap (λ (files : FileTree ℕ). length files.numbers) same;
+      }
+
+  woven_plain : (plain : Filesystems) (overlays : Overlays) → All (StandsOnLayers plain) overlays
+      → woven (more plain) overlays ≡ woven plain overlays
+  woven_plain plain [] all = filesystems_same plain
+  woven_plain plain (entry ∷ overlays) all =
+      λ i. put_in (overlays_stay_with_layers plain (more plain) entry
+      (All-head (StandsOnLayers plain) entry overlays all).layers
+      (λ place default within. same_layer plain (get_or entry.overlay.lowers place default)) i)
+      (woven_plain plain overlays (All-tail (StandsOnLayers plain) entry overlays all) i)
+
+  woven_overlays : (plain : Filesystems) (overlays : Overlays)
+      → woven plain (with_overlay_changed count (λ one. record one { mounts = change one.mounts }) overlays)
+      ≡ woven plain overlays
+  woven_overlays plain [] = refl
+  woven_overlays plain (entry ∷ overlays) =
+      λ i. put_in (by (nat_eq count entry.count) i) (woven_overlays plain overlays i)
+    where
+      by : (b : Bool)
+          → overlay_filesystem plain (cond b (record entry { mounts = change entry.mounts }) entry)
+          ≡ overlay_filesystem plain entry
+      by true = refl
+      by false = refl
+
+  -- overlays stand on their layers
+  stands_plain : (plain : Filesystems) (entry : OverlayEntry) → StandsOnLayers plain entry
+      → StandsOnLayers (more plain) entry
+  stands_plain plain entry stands =
+      overlays_stand_still plain (more plain) entry stands
+      (λ place default within. (same_layer plain (get_or entry.overlay.lowers place default)).tree)
+
+  stand_plain : (plain : Filesystems) (overlays : Overlays) → All (StandsOnLayers plain) overlays
+      → All (StandsOnLayers (more plain)) overlays
+  stand_plain plain overlays all = λ place default within.
+      stands_plain plain (get_or overlays place default) (all place default within)
+
+  stand_overlays : (plain : Filesystems) (overlays : Overlays) → All (StandsOnLayers plain) overlays
+      → All (StandsOnLayers plain)
+      (with_overlay_changed count (λ one. record one { mounts = change one.mounts }) overlays)
+  stand_overlays plain [] all = all
+  stand_overlays plain (entry ∷ overlays) all =
+      All-cons (StandsOnLayers plain) _ _
+      (by (nat_eq count entry.count) (All-head (StandsOnLayers plain) entry overlays all))
+      (stand_overlays plain overlays (All-tail (StandsOnLayers plain) entry overlays all))
+    where
+      by : (b : Bool) → StandsOnLayers plain entry
+          → StandsOnLayers plain (cond b (record entry { mounts = change entry.mounts }) entry)
+      by true stands = record { layers = stands.layers; some = stands.some; few = stands.few }
+      by false stands = stands
+
+pub mounts_are_not_seen : MountsAreNotSeen
+mounts_are_not_seen store count change standing = by (entry_in store count)
+  where
+    by : (o : Option OverlayEntry) → filesystems_of (with_mounts_by count change store o) ≡ filesystems_of store
+    by None = woven_plain count change store.plain store.overlays standing
+    by (Some entry) = woven_overlays count change store.plain store.overlays
+
+pub mounts_leave_layers : MountsLeaveLayers
+mounts_leave_layers store count change standing = by (entry_in store count)
+  where
+    by : (o : Option OverlayEntry) → StandOnLayers (with_mounts_by count change store o)
+    by None = stand_plain count change store.plain store.overlays standing
+    by (Some entry) = stand_overlays count change store.plain store.overlays standing

@@ -1,0 +1,36 @@
+use Rattle.std.proofs.Common.{◌-◌, ap, refl, subst, sym, ◌∙◌}
+use Rattle.std.specs.Option.{option_copied_mut}
+use Rattle.vt_store.specs.OverlaysValue.{AreOwn, kept_overlays}
+use Rattle.vt_store.proofs.KeptOverlays.{own_written, writes, writes_none}
+use Rattle.vt_store.proofs.overlays.Overlays.release_mount.Goals.{in-Some, in_default}
+use Rattle.vt_store.proofs.overlays.Overlays.release_mount.Goals as goal
+
+pub invariant_of-self : goal.invariant_of-self
+invariant_of-self c =
+    elim c.match-get_mut.branch [
+      | in-Some w ↦
+          subst (λ inside. AreOwn inside.by_number.entries) (sym w.self-inside-is)
+          (own_written c.args.id.count c.self.inside.by_number _ w.in-Some.found.now _ c.self.invariant
+          (sym c.get_mut.ensures.value ∙ ap option_copied_mut w.in-Some.is) refl (c.get_mut.follows.holds _))
+      | in_default w ↦
+          subst AreOwn (sym (ap (λ inside. inside.by_number.entries) w.self-inside-is
+          ∙ ap (λ map. map.entries) c.get_mut.follows.holds-at-none)) c.self.invariant
+    ]
+
+pub returns : goal.returns
+returns c =
+    elim c.match-get_mut.branch [
+      | in-Some w ↦
+          ap (λ inside. kept_overlays inside.by_number.entries) w.self-inside-is
+          ∙ writes c.args.id.count (λ one. record one { mounts = one.mounts - 1 }) _ c.self.inside.by_number _
+          c.args.self.now w.in-Some.found.now _ c.self.view_is
+          (sym c.get_mut.ensures.value ∙ ap option_copied_mut w.in-Some.is)
+          (λ i. record { overlay = w.in-Some.found.now.overlay; mounts = w.saturating_sub-found.ensures i })
+          (λ k one. refl)
+          (c.get_mut.follows.holds _)
+      | in_default w ↦
+          ap (λ inside. kept_overlays inside.by_number.entries) w.self-inside-is
+          ∙ writes_none c.args.id.count _ c.self.inside.by_number.entries _ c.args.self.now c.self.view_is
+          (sym c.get_mut.ensures.value ∙ ap option_copied_mut w.in_default.is)
+          (ap (λ map. map.entries) c.get_mut.follows.holds-at-none)
+    ]

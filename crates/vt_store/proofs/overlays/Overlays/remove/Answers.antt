@@ -1,0 +1,29 @@
+use Rattle.std.proofs.Common.{None, Some, ap, sym, ◌∙◌}
+use Rattle.vt_store.specs.OverlaysValue.{without_overlay}
+use Rattle.vt_store.proofs.KeptOverlays.{overlay_of-kept, own_removed, removed}
+use Rattle.vt_store.proofs.overlays.Overlays.remove.Goals as goal
+
+pub returns-in_err-overlay-clause-value : goal.returns-in_err-overlay-clause-value
+returns-in_err-overlay-clause-value c =
+    c.from_residual.ensures
+    ∙ overlay_of-kept c.args.id.count c.self.inside.by_number.entries c.args.self.now None c.self.view_is
+    (sym c.in_err-overlay.was ∙ c.swap_remove.ensures.value)
+
+pub returns-in_err-overlay-clause-removed : goal.returns-in_err-overlay-clause-removed
+returns-in_err-overlay-clause-removed c =
+    removed c.args.id.count c.self.inside.by_number.entries _ c.swap_remove.ensures.updates.0
+    ∙ ap (without_overlay c.args.id.count) c.self.view_is
+
+pub invariant_of-self-2 : goal.invariant_of-self-2
+invariant_of-self-2 c =
+    own_removed c.args.id.count c.self.inside.by_number.entries _ c.self.invariant c.swap_remove.ensures.updates.0
+
+pub returns-clause-value : goal.returns-clause-value
+returns-clause-value c =
+    overlay_of-kept c.args.id.count c.self.inside.by_number.entries c.args.self.now (Some c.in_ok-overlay.field-0)
+    c.self.view_is (sym c.in_ok-overlay.was ∙ c.swap_remove.ensures.value)
+
+pub returns-clause-removed : goal.returns-clause-removed
+returns-clause-removed c =
+    removed c.args.id.count c.self.inside.by_number.entries _ c.swap_remove.ensures.updates.0
+    ∙ ap (without_overlay c.args.id.count) c.self.view_is

@@ -1,0 +1,66 @@
+use Rattle.std.proofs.Common.{IfOk, ap, map, nat_eq, option_copied, option_map, refl, subst, sym, ℕ, ◌≡◌, ◌∙◌}
+use Rattle.std.specs.Prelude.{IfSome}
+use Rattle.vt_spec.specs.FileTree.{FileTree, path_down}
+use Rattle.vt_location.specs.Locations.{number_of}
+use Rattle.vt_tree.specs.Paths.{NamesDirectoriesOnce}
+use Rattle.vt_overlay.specs.MergedTree.{merged_files, merged_tree}
+use Rattle.vt_store.specs.StoreValue.{StoreValue}
+use Rattle.vt_store.proofs.Looked.{over_few, over_files, over_layers, over_stands, plain_files}
+use Rattle.vt_store.proofs.store.Store.path_from_root.Goals as goal
+
+pub unwrap-root-requires : goal.unwrap-root-requires
+unwrap-root-requires c =
+    c.root.ensures.some (over_stands c.args.self.now c.args.self.now.plain refl c.args.directory.filesystem.count
+    c.in-Some.overlay.now (sym c.overlay.ensures.value ∙ ap option_copied c.in-Some.is) c.requires.standing).some
+
+pub path_down-requires-clause-layers : goal.path_down-requires-clause-layers
+path_down-requires-clause-layers c =
+    over_layers c.args.self.now c.self.inside.plain (ap (λ (store : StoreValue). store.plain) c.self.view_is)
+    c.args.directory.filesystem.count c.in-Some.overlay.now
+    (sym c.overlay.ensures.value ∙ ap option_copied c.in-Some.is)
+    c.requires.standing
+
+pub path_down-requires-clause-few : goal.path_down-requires-clause-few
+path_down-requires-clause-few c =
+    over_few c.args.self.now c.self.inside.plain (ap (λ (store : StoreValue). store.plain) c.self.view_is)
+    c.args.directory.filesystem.count c.in-Some.overlay.now
+    (sym c.overlay.ensures.value ∙ ap option_copied c.in-Some.is)
+    c.requires.standing
+
+pub returns-in-Some : goal.returns-in-Some
+returns-in-Some c =
+    let is = sym c.overlay.ensures.value ∙ ap option_copied c.in-Some.is in
+    let same = ap (λ (store : StoreValue). store.plain) c.self.view_is in
+    let root = subst (λ root. IfSome root (λ one. number_of one
+    ≡ (merged_tree c.self.inside.plain c.in-Some.overlay.now).root)) c.unwrap-root.ensures
+    (c.root.ensures.root c.self.inside.plain
+    (over_layers c.args.self.now c.self.inside.plain same c.args.directory.filesystem.count c.in-Some.overlay.now is
+    c.requires.standing)) in record {
+      ok = subst (λ (files : FileTree ℕ). IfOk c.path_down.result
+          (λ path. option_map (λ names. map (λ name. name.items) names.items) path
+          ≡ path_down nat_eq files files.tree.root (number_of c.args.directory)))
+          (over_files c.args.self.now c.self.inside.plain same c.args.directory.filesystem.count c.in-Some.overlay.now
+          is)
+          (subst (λ (number : ℕ). IfOk c.path_down.result
+          (λ path. option_map (λ names. map (λ name. name.items) names.items) path
+          ≡ path_down nat_eq (merged_files c.self.inside.plain c.in-Some.overlay.now) number
+          (number_of c.args.directory)))
+          root c.path_down.ensures);
+    }
+
+pub path_from_root-requires : goal.path_from_root-requires
+path_from_root-requires c =
+    subst (λ (files : FileTree ℕ). NamesDirectoriesOnce files.tree)
+    (sym (plain_files c.args.self.now c.self.inside.plain (ap (λ (store : StoreValue). store.plain) c.self.view_is)
+    c.args.directory.filesystem.count (sym c.overlay.ensures.value ∙ ap option_copied c.in-None.is)))
+    c.requires.once
+
+pub returns-in-None : goal.returns-in-None
+returns-in-None c = record {
+  ok = subst (λ (files : FileTree ℕ). IfOk c.path_from_root.result
+      (λ path. option_map (λ names. map (λ name. name.items) names.items) path
+      ≡ path_down nat_eq files files.tree.root (number_of c.args.directory)))
+      (plain_files c.args.self.now c.self.inside.plain (ap (λ (store : StoreValue). store.plain) c.self.view_is)
+      c.args.directory.filesystem.count (sym c.overlay.ensures.value ∙ ap option_copied c.in-None.is))
+      c.path_from_root.ensures.ok;
+}

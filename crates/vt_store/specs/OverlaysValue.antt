@@ -1,0 +1,52 @@
+-- What contracts see of the overlays that are kept.
+use Rattle.std.specs.Prelude.{List, Option, Some, filter, find, if◌then◌else◌, map, nat_eq, not, option_map, ℕ, ◌≡◌}
+use Rattle.std.specs.Map.{lookup}
+use Rattle.vt_location.specs.declared.numbers.FilesystemId.{FilesystemId}
+use Rattle.vt_location.specs.InOrder.{in_order_by}
+use Rattle.vt_overlay.specs.MergedTree.{OverlayValue}
+use Rattle.vt_store.specs.declared.overlays.KeptOverlay.{KeptOverlay}
+
+-- an overlay, the count of its filesystem, and how many mounts show it
+pub record OverlayEntry : Type 0 where
+  pub count : ℕ
+  pub overlay : OverlayValue
+  pub mounts : ℕ
+
+-- the overlays, in the order in which they were made
+abbrev pub Overlays : Type 0
+Overlays = List OverlayEntry
+
+-- each overlay under its count
+abbrev pub kept_overlay : FilesystemId × KeptOverlay → OverlayEntry
+kept_overlay kept = record { count = kept.0.count; overlay = kept.1.overlay; mounts = kept.1.mounts }
+
+abbrev pub entries_kept : List (FilesystemId × KeptOverlay) → Overlays
+entries_kept kept = map kept_overlay kept
+
+-- those that are kept by hash, in the order of their counts
+abbrev pub kept_overlays : List (FilesystemId × KeptOverlay) → Overlays
+kept_overlays kept = entries_kept (in_order_by (λ id. id.count) kept)
+
+-- each is kept under its own number
+abbrev pub AreOwn : List (FilesystemId × KeptOverlay) → Type 0
+AreOwn kept =
+    (id : FilesystemId) (one : KeptOverlay) → lookup (λ other. nat_eq id.count other.count) kept ≡ Some one
+    → one.overlay.number ≡ id
+
+abbrev pub entry_kept : Overlays → ℕ → Option OverlayEntry
+entry_kept overlays count = find (λ entry. nat_eq count entry.count) overlays
+
+-- the overlay of a count
+abbrev pub overlay_of : Overlays → ℕ → Option OverlayValue
+overlay_of overlays count = option_map (λ entry. entry.overlay) (entry_kept overlays count)
+
+-- the overlays with that of a count changed
+abbrev pub overlay_changed_if : ℕ → (OverlayEntry → OverlayEntry) → OverlayEntry → OverlayEntry
+overlay_changed_if count change entry = if nat_eq count entry.count then change entry else entry
+
+abbrev pub with_overlay_changed : ℕ → (OverlayEntry → OverlayEntry) → Overlays → Overlays
+with_overlay_changed count change overlays = map (overlay_changed_if count change) overlays
+
+-- the overlays without that of a count
+abbrev pub without_overlay : ℕ → Overlays → Overlays
+without_overlay count overlays = filter (λ entry. not (nat_eq count entry.count)) overlays

@@ -1,0 +1,117 @@
+//! `Overlays`: the overlays by their numbers, and how many mounts show each.
+ghost use Rattle.std.specs.Prelude.{◌≡◌, ◌<◌, ◌+◌, ◌-◌, ◌++◌, ◌∷◌, [], IfSome, OnErr, OnOk, nat_lt, option_copied, option_map, true};
+ghost use Rattle.std.specs.List.{list_all};
+ghost use Rattle.vt_tree.specs.Slots.{most_uses};
+
+use indexmap::IndexMap;
+use std::alloc::{AllocError, Global};
+use std::marker::Model;
+use vt_cred::Cred;
+use vt_location::FilesystemId;
+use vt_merge::LayerRef;
+use vt_overlay::Overlay;
+
+// An overlay, and how many mounts show it.
+#[derive(Debug, Drop)]
+struct KeptOverlay {
+    overlay: Overlay,
+    mounts: u64,
+}
+
+/// The overlays, each under its own number. They are kept by hash, in no order.
+#[derive(Debug, Drop)]
+pub(crate) struct Overlays {
+    by_number: IndexMap<FilesystemId, KeptOverlay>,
+}
+
+impl Model for Overlays {
+    ghost use Rattle.vt_store.specs.OverlaysValue.{AreOwn, Overlays as Entries, kept_overlays};
+
+    ghost Value = { Entries };
+
+    ghost view = { λ overlays. kept_overlays overlays.by_number.entries };
+
+    ghost invariant = { λ overlays. AreOwn overlays.by_number.entries };
+}
+
+impl Overlays {
+    ghost use Rattle.vt_store.specs.LayersHeld.{new_overlay};
+    ghost use Rattle.vt_store.specs.OverlaysValue.{entry_kept, overlay_of, with_overlay_changed, without_overlay};
+
+    /// No overlays. It does not allocate.
+    pub fn new(alloc: Global) -> Self
+        ensures { result ≡ [] }
+    {
+        Overlays {
+            by_number: IndexMap::new(alloc),
+        }
+    }
+
+    /// The overlay of this number, if there is one.
+    #[inline(always)]
+    pub fn get(&self, id: FilesystemId) -> Option<&Overlay>
+        ensures value { option_copied result ≡ overlay_of self.now id.count }
+        ensures own { IfSome result (λ overlay. overlay.now.number ≡ id) }
+    {
+        let found = self.by_number.get(&id)?;
+        Some(&found.overlay)
+    }
+
+    /// Puts in the overlay of these layers, which no mount shows yet.
+    pub fn add(
+        &mut self,
+        id: FilesystemId,
+        lowers: Vec<LayerRef>,
+        mounter: Cred,
+    ) -> Result<(), AllocError>
+        requires { list_all (λ entry. nat_lt entry.count id.count) self.old ≡ true }
+        ensures ok { OnOk result (self.new ≡ self.old ++ new_overlay id lowers.items mounter ∷ []) }
+        ensures err { OnErr result (self.new ≡ self.old) }
+    {
+        let overlay = Overlay::new(id, lowers, mounter);
+        self.by_number
+            .insert(id, KeptOverlay { overlay, mounts: 0 })?;
+        Ok(())
+    }
+
+    /// Takes an overlay out. It does not allocate.
+    pub fn remove(&mut self, id: FilesystemId) -> Option<Overlay>
+        ensures value { result ≡ overlay_of self.old id.count }
+        ensures removed { self.new ≡ without_overlay id.count self.old }
+    {
+        let KeptOverlay {
+            overlay,
+            mounts: _mounts,
+        } = self.by_number.swap_remove(&id)?;
+        Some(overlay)
+    }
+
+    /// How many mounts show the overlay of this number, if there is one.
+    pub fn mounts(&self, id: FilesystemId) -> Option<u64>
+        ensures { result ≡ option_map (λ entry. entry.mounts) (entry_kept self.now id.count) }
+    {
+        let found = self.by_number.get(&id)?;
+        Some(found.mounts)
+    }
+
+    /// Counts one more mount of an overlay that has fewer than 2^64 - 1. It does not allocate.
+    pub fn hold_mount(&mut self, id: FilesystemId)
+        requires { IfSome (entry_kept self.old id.count) (λ entry. entry.mounts < most_uses) }
+        ensures { self.new ≡ with_overlay_changed id.count
+            (λ entry. record entry { mounts = entry.mounts + 1 }) self.old }
+    {
+        if let Some(found) = self.by_number.get_mut(&id) {
+            found.mounts += 1;
+        }
+    }
+
+    /// Takes back a mount that `hold_mount` counted; a count of 0 stays 0. It does not allocate.
+    pub fn release_mount(&mut self, id: FilesystemId)
+        ensures { self.new ≡ with_overlay_changed id.count
+            (λ entry. record entry { mounts = entry.mounts - 1 }) self.old }
+    {
+        if let Some(found) = self.by_number.get_mut(&id) {
+            found.mounts = found.mounts.saturating_sub(1);
+        }
+    }
+}
