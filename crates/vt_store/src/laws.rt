@@ -15,14 +15,14 @@ pub fn nodes_are_like_their_objects()
     ensures { NodesAreLikeObjects }
 {}
 
-/// An overlay whose layers are directories of plain trees shows what it showed while the trees of its layers are as they
-/// were, with as many numbers beside them. No other tree matters, and no other overlay.
+/// An overlay whose layers are directories of plain trees shows what it showed while the trees of its layers are as
+/// they were, with as many numbers beside them. No other tree matters, and no other overlay.
 pub fn overlays_stay_with_their_layers()
     ensures { OverlaysStayWithLayers }
 {}
 
-/// In a store whose overlays stand on layers, all filesystems are seen as they were, however many mounts show one of them
-/// (`seen`), and overlays stand on their layers still (`standing`).
+/// In a store whose overlays stand on layers, all filesystems are seen as they were, however many mounts show one of
+/// them (`seen`), and overlays stand on their layers still (`standing`).
 pub fn mounts_are_not_seen()
     ensures seen { MountsAreNotSeen }
     ensures standing { MountsLeaveLayers }
