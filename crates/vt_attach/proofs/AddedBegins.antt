@@ -1,7 +1,7 @@
 -- Mounts were added and tasks went from locations to others of the same inodes, and mounts are to be detached: what
 -- code counts
 -- before it detaches them. So does unshare(2), where a namespace ends with it.
-use Rattle.std.proofs.Common.{◌≡◌, refl, sym, ap, subst, ◌∙◌, ◌⊎◌, ⊎_elim, inl, inr, ℕ, ◌+◌, nat_eq, eqb-true, eq-eqb, Bool, true, false, true≢false, cond, not, ◌&&◌, ◌||◌, List, [], ◌∷◌, ◌++◌, map, flat_map, Option, Some, None, is_some, arith}
+use Rattle.std.proofs.Common.{◌≡◌, refl, sym, ap, subst, ◌∙◌, ◌⊎◌, ⊎_elim, inl, inr, ℕ, ◌+◌, nat_eq, eqb-true, eq-eqb, Bool, true, false, true≢false, cond, not, ◌&&◌, ◌||◌, List, [], ◌∷◌, ◌++◌, map, flat_map, Option, Some, None, is_some, arith, nat_lt}
 use Rattle.std.specs.Prelude.{option_to_list}
 use Rattle.std.specs.List.{list_all, list_any}
 use Rattle.std.proofs.lemmas.Bool.{and_parts}
@@ -20,7 +20,7 @@ use Rattle.vt_laws_letting_go.specs.Keeping.{LocationsStand}
 use Rattle.vt_laws_letting_go.specs.Leaving.{MountsStand, stands_on_attached}
 use Rattle.vt_laws_letting_go.specs.Mounting.{inode_at}
 use Rattle.vt_laws_letting_go.specs.OneByOne.{Inode}
-use Rattle.vt_laws_letting_go.proofs.Lists.{Among, all_pass, among-append, among-append_left, among-append_right, among-from_map, among-map, among_from_all, any_passes, one_passes, or_first, passes}
+use Rattle.vt_laws_letting_go.proofs.Lists.{Among, all_pass, among-append, among-append_left, among-append_right, among-from_map, among-map, among_from_all, any_passes, one_passes, or_first, passes, all_from_among}
 use Rattle.vt_laws_letting_go.proofs.leaving.MountsAdded.{found_before}
 use Rattle.vt_laws_letting_go.proofs.sweeps.OfWorlds.{mounts_of_worlds_stand}
 use Rattle.vt_laws_letting_go.proofs.sweeps.UsesCounted.{located_while_counted}
@@ -32,12 +32,14 @@ use Rattle.vt_laws_letting_go.proofs.sweeps.UpperUses.{times_append}
 use Rattle.vt_laws_mounts.specs.Mounts.Attaching.{OneNumberAMount}
 use Rattle.vt_laws_letting_go.specs.Attaching.{inodes_of_mount_point}
 use Rattle.vt_world.specs.Held.{CountsItsMounts, IsHeld, writes_of}
-use Rattle.vt_detach.specs.Uses.{Kept, is_unused}
+use Rattle.vt_detach.proofs.MountsLeave.{leaves_alike, merged_alike}
+use Rattle.vt_detach.specs.Uses.{Kept, is_unused, merged_seen}
 use Rattle.vt_world.specs.WorldValue.{WorldValue, world_of}
 use Rattle.vt_detach.proofs.Midway.{IsShown, Midway, NoneUnused, Reached, gone_if, gone_number, point_left, points_left}
 use Rattle.vt_detach.proofs.MidwayBegins as Begins
 use Rattle.vt_detach.proofs.Moving.{Moves}
-use Rattle.vt_detach.proofs.Overlaid.{overlays_are, plain_ones_are}
+use Rattle.vt_attach.proofs.OverlaysMore.{grown, leaves_grown, merged_grown, mounted_more}
+use Rattle.vt_detach.proofs.Overlaid.{plain_ones_are}
 use Rattle.vt_spec.proofs.Lists.{map_alike, map_twice}
 
 flat_alike : {A B : Type 0} (f g : A → List B) (xs : List A) → ((x : A) → Among x xs → f x ≡ g x)
@@ -85,6 +87,7 @@ pub record IsAdded (value : WorldValue) (added : List (Mount ℕ)) (tasks : Task
 -- what code counts then
 pub record KeepsAdded (value : WorldValue) (added : List (Mount ℕ)) (more less : List (Location ℕ))
     (gained : List Inode) (k : Kept) : Type 0 where
+  pub merged : k.overlays ≡ map (mounted_more added) (map merged_seen value.overlays)
   pub mounts : mounts_in k.mounts ≡ (world_of value).mounts ++ added
   pub uses : (entry : MountEntry) → Among entry k.mounts
       → entry.uses + times (λ location. nat_eq entry.mount.number location.mount) less
@@ -350,6 +353,8 @@ module _ (value : WorldValue) (whole : IsHeld value) (added : List (Mount ℕ)) 
   begins_midway : Midway value ended gained goes [] ended k []
   begins_midway = record {
     held = whole;
+    merged = keeps.merged ∙ merged_grown value whole added
+        ∙ merged_alike (grown value whole added) ended refl (λ n. shows_still n base.mounts);
     mounts = ap (map (gone_if goes)) (sym keeps.mounts);
     uses = uses_are;
     writers = λ entry m. let counts = keeps.writers entry m in let same = is.writes entry.mount.number in omega
@@ -369,7 +374,8 @@ module _ (value : WorldValue) (whole : IsHeld value) (added : List (Mount ℕ)) 
         ∙ sym (ap (map (λ (one : Shown). counted one.count)) keeps.filesystems);
     stand = stand_ended;
     located = located_ended;
-    keeps = record { overlays = overlays_are value whole.overlays; rise = whole.overlays.all_rise };
+    leaves = leaves_alike (grown value whole added) ended refl (λ n. shows_still n base.mounts) value
+        (leaves_grown value whole added);
     same = refl;
   }
 

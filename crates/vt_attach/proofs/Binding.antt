@@ -41,7 +41,7 @@ use Rattle.vt_laws_worlds.proofs.RaisedInUse.{worlds_are_in_use}
 use Rattle.vt_laws_worlds.specs.Worlds.Permits.{NamesWhatIsThere}
 use Rattle.vt_detach.specs.Events.{Permits, left_by}
 use Rattle.vt_world.specs.Held.{CountsItsMounts, IsHeld}
-use Rattle.vt_detach.specs.Uses.{kept}
+use Rattle.vt_detach.specs.Uses.{Merged, kept_of, kept_with}
 use Rattle.vt_world.specs.WorldValue.{WorldValue, world_of}
 use Rattle.vt_detach.proofs.FileEvents.{permit_fits}
 use Rattle.vt_detach.proofs.Overlaid.{found_plain_one}
@@ -173,13 +173,14 @@ module _ (value : WorldValue) (whole : IsHeld value) (name : TaskName) (source :
       (λ i. located_is_named value whole (location_of source) names.0.reached.there i
       && located_is_named value whole (location_of graft.place) names.2.directory.reached.there i)
 
-  pub bind_is_done : (mounts : List MountEntry) (groups : Grouping) (filesystems : Filesystems) (next : ℕ)
-      → IsGrafted graft counts (kept value.mounts value.filesystems) value.groups (kept mounts filesystems) groups
+  pub bind_is_done : (mounts : List MountEntry) (groups : Grouping) (filesystems : Filesystems)
+      (overlays : List Merged) (next : ℕ)
+      → IsGrafted graft counts (kept_of value) value.groups (kept_with mounts filesystems overlays) groups
       → are_ascending (mounts_in value.mounts) ≡ true
       → list_all (λ mount. mount.number % 4 == 1) (mounts_in value.mounts) ≡ true
       → next ≡ value.next + 2 * (length graft.parts.now * length graft.tree.now)
-      → IsDone value name permit (grafted_value value mounts groups filesystems next)
-  bind_is_done mounts groups filesystems next is ascending odd grows =
+      → IsDone value name permit (grafted_value value mounts groups filesystems overlays next)
+  bind_is_done mounts groups filesystems overlays next is ascending odd grows =
       let attaches = is.plan world (is_seen value whole) whole.in_world.mounts.one_child parts_are in
       let attach_is = plan_attaches world graft counts (map mount_of is.copies) (map new_group is.groups)
       (map point_seen is.points) attaches binds
@@ -199,7 +200,7 @@ module _ (value : WorldValue) (whole : IsHeld value) (name : TaskName) (source :
       (λ i. 2 * (length (sym parts_are i) * length (sym tree_is i)))
       ∙ (λ i. 2 * (length-map graft.parts.now mount_of i * length-map graft.tree.now mount_of i)) in
       graft_is_done value whole value.filesystems
-      (same_base value whole) graft counts mounts groups filesystems next is attaches tree_groups_there rising
+      (same_base value whole) graft counts mounts groups filesystems overlays next is attaches tree_groups_there rising
       name permit permits takes left_is
       (subst (λ n. KeepsTo (is_counted_before n) (left_by value permits.task permit))
       (ap (λ n. value.next + n) sizes ∙ sym grows) named)

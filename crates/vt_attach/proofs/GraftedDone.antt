@@ -46,15 +46,16 @@ use Rattle.vt_spec.specs.Machine.Invariants.{IsWorld, has_its_root}
 use Rattle.vt_laws_worlds.specs.Worlds.Kept.{IsUnderWay}
 use Rattle.vt_detach.specs.Events.{Permits, left_by}
 use Rattle.vt_world.specs.Held.{CountsItsUses, CountsWhatIsInIt, HasOwnInodes, IsHeld, IsMountedSoOften}
-use Rattle.vt_detach.specs.Uses.{kept, unused_entry}
+use Rattle.vt_detach.specs.Uses.{unused_entry, Merged, kept_with, merged_seen, overlays_kept, merged_by}
 use Rattle.vt_world.specs.WorldValue.{WorldValue, overlays_seen, world_of}
 use Rattle.vt_detach.proofs.BesideOverlays.{layers_alike}
 use Rattle.vt_detach.proofs.Finishing.{CountsBeside, own_exchanged}
 use Rattle.vt_detach.proofs.MountsChanged.{times_map}
-use Rattle.vt_detach.proofs.Overlaid.{KeepsOverlays, files_are_plain, is_plain_one, no_upper_midway, none_to_ask}
+use Rattle.vt_detach.proofs.Overlaid.{KeepsOverlays, files_are_plain, is_plain_one, no_upper_midway, layers_kept, overlays_are}
 use Rattle.vt_detach.proofs.OwnInodesKept.{IsOwn}
 use Rattle.vt_detach.proofs.Showing.{ShowsAs}
 use Rattle.vt_detach.proofs.Staying.{IsDone}
+use Rattle.vt_attach.proofs.OverlaysMore.{counted_more, grown, merged_by_all, seen_more}
 use Rattle.vt_attach.specs.AttachedGroups.{HasGroupsOf, all_copies, groups_formed, type_of}
 use Rattle.vt_attach.specs.Grafted.{IsGrafted}
 use Rattle.vt_attach.specs.Moved.{typed_all, with_types}
@@ -93,8 +94,21 @@ pub record IsBase (value : WorldValue) (base : Filesystems) : Type 0 where
       ≡ mounts_showing (world_of value) (counted entry.count) + layer_count (with_base value base) (counted entry.count)
 
 -- the code's world with mounts that were attached
-abbrev pub grafted_value : WorldValue → List MountEntry → Grouping → Filesystems → ℕ → WorldValue
-grafted_value value mounts groups filesystems next = record value { mounts = mounts; groups = groups; filesystems = filesystems; next = next }
+abbrev pub grafted_value : WorldValue → List MountEntry → Grouping → Filesystems → List Merged → ℕ → WorldValue
+grafted_value value mounts groups filesystems overlays next = record value {
+  mounts = mounts;
+  groups = groups;
+  filesystems = filesystems;
+  overlays = overlays_kept overlays value.overlays;
+  next = next;
+}
+
+-- its overlays are those of before, but for how often they are mounted
+pub overlays_same : (value : WorldValue) → IsHeld value → (copies : List Mount) (overlays : List Merged)
+    → overlays ≡ folded merged_by (map merged_seen value.overlays) copies
+    → overlays_seen (overlays_kept overlays value.overlays) ≡ overlays_seen value.overlays
+overlays_same value whole copies overlays are =
+    seen_more value whole (map mount_of copies) overlays (are ∙ merged_by_all copies (map merged_seen value.overlays))
 
 -- Beside the overlays of the code's world
 
@@ -144,12 +158,13 @@ under is = record {
 -- Mounts moved and got types, and others came, while the uses of inodes were counted.
 pub record IsEntered (value : WorldValue) (base : Filesystems) (copies : List Mount) (points : List Point)
     (kinds : List (ℕ × Propagation ℕ)) (left : List Location) (mounts : List MountEntry)
-    (filesystems : Filesystems) : Type 0 where
+    (filesystems : Filesystems) (overlays : List Merged) : Type 0 where
   pub types : List (ℕ × Propagation ℕ)
   pub once : MovesOnce (mounts_in value.mounts) (map point_seen points)
   pub left_are : map location_of left ≡ points_left points value.mounts
   pub left_small : list_all is_small left ≡ true
-  pub done : kept mounts filesystems ≡ with_types types (with_planned copies points left (kept value.mounts base))
+  pub done : kept_with mounts filesystems overlays
+      ≡ with_types types (with_planned copies points left (kept_with value.mounts base (map merged_seen value.overlays)))
   pub seen : mounts_in mounts ≡ map (changed_at points kinds) (mounts_in value.mounts) ++ map mount_of copies
   pub slots : list_all has_small_slots copies ≡ true
   pub taken_small : list_all is_small (points_taken points value.mounts) ≡ true
@@ -174,11 +189,12 @@ typed_counts world (new ∷ types) entries counts entry m =
 module _ (value : WorldValue) (whole : IsHeld value) (base : Filesystems) (is_base : IsBase value base)
     (copies : List Mount) (points : List Point) (kinds : List (ℕ × Propagation ℕ)) (left : List Location)
     (formed : List (ℕ × Option ℕ)) (mounts : List MountEntry) (groups : Grouping) (filesystems : Filesystems)
+    (overlays : List Merged)
     (next : ℕ)
-    (is : IsEntered value base copies points kinds left mounts filesystems)
+    (is : IsEntered value base copies points kinds left mounts filesystems overlays)
     (ascending : are_ascending (mounts_in value.mounts ++ map mount_of copies) ≡ true) where
   abbrev new : WorldValue
-  new = grafted_value value mounts groups filesystems next
+  new = grafted_value value mounts groups filesystems overlays next
 
   abbrev master : ℕ → Option ℕ
   master = folded (masters_with nat_eq) (master_in value.groups) formed
@@ -233,6 +249,12 @@ module _ (value : WorldValue) (whole : IsHeld value) (base : Filesystems) (is_ba
       (own_exchanged from.0.count gains losses (inodes_seen from.0)
       (among_from_all HasOwnInodes base is_base.own from.0 from.1)))
 
+  merged_are : overlays ≡ folded merged_by (map merged_seen value.overlays) copies
+  merged_are = ap (λ k. k.overlays) is.done
+
+  same_overlays : overlays_seen new.overlays ≡ overlays_seen value.overlays
+  same_overlays = overlays_same value whole copies overlays merged_are
+
   -- overlays stay as they are
   pub keeps_overlays : KeepsOverlays value entered_world
   keeps_overlays = record { overlays = base_overlays value whole base; rise = is_base.rise }
@@ -264,7 +286,7 @@ module _ (value : WorldValue) (whole : IsHeld value) (base : Filesystems) (is_ba
 
   shows : Has entered_world groups → IsWorld nat_eq entered_world → ShowsAs entered_world new
   shows has is_world = record {
-    overlays = base_overlays value whole base;
+    overlays = base_overlays value whole base ∙ sym same_overlays;
     rise = is_base.rise;
     mounts = sym is.seen;
     groups = has;
@@ -276,15 +298,21 @@ module _ (value : WorldValue) (whole : IsHeld value) (base : Filesystems) (is_ba
 
   -- What is counted beside inodes
 
-  showing_then : (count : ℕ) → mounts_showing (world_of new) (counted count)
-      ≡ mounts_showing (world_of value) (counted count) + showing count copies
-  showing_then count =
+  showing_at : (n : ℕ) → mounts_showing (world_of new) n
+      ≡ mounts_showing (world_of value) n
+      + times (λ (mount : meant.Mount ℕ). nat_eq n mount.filesystem) (map mount_of copies)
+  showing_at n =
       ap (times shows_it) is.seen
       ∙ times_append shows_it (map (changed_at points kinds) (mounts_in value.mounts)) (map mount_of copies)
-      ∙ ap (λ n. n + showing count copies) (times_map shows_it (changed_at points kinds) (mounts_in value.mounts))
+      ∙ ap (λ m. m + times shows_it (map mount_of copies))
+      (times_map shows_it (changed_at points kinds) (mounts_in value.mounts))
     where
       shows_it : meant.Mount ℕ → Bool
-      shows_it mount = nat_eq (counted count) mount.filesystem
+      shows_it mount = nat_eq n mount.filesystem
+
+  showing_then : (count : ℕ) → mounts_showing (world_of new) (counted count)
+      ≡ mounts_showing (world_of value) (counted count) + showing count copies
+  showing_then count = showing_at (counted count)
 
   counted_so : (entry : MountEntry) → Among entry (with_points points value.mounts ++ map unused_entry copies)
       → CountsItsUses (world_of new) entry
@@ -307,15 +335,23 @@ module _ (value : WorldValue) (whole : IsHeld value) (base : Filesystems) (is_ba
         let from = from_base entry m in
         let was = is_base.mounts from.0 from.1 in
         let more = showing_then from.0.count in
-        let layers = layers_alike (with_base value base) (world_of new)
-        (base_overlays value whole filesystems ∙ sym (base_overlays value whole base)) (counted from.0.count) in
+        let layers_now = layers_kept value new whole.overlays same_overlays
+        (counted from.0.count) in
+        let layers = layers_alike (world_of value) (with_base value base)
+        (base_overlays value whole base ∙ sym (overlays_are value whole.overlays)) (counted from.0.count) in
         let sum : from.0.mounts + showing from.0.count copies
         ≡ mounts_showing (world_of new) (counted from.0.count) + layer_count (world_of new) (counted from.0.count) =
-        omega (arith, was, more, layers) in
+        omega (arith, was, more, layers, layers_now) in
         ap (λ (one : Shown). one.mounts) from.2 ∙ sum
         ∙ ap (λ count. mounts_showing (world_of new) (counted count) + layer_count (world_of new) (counted count))
         (sym (ap (λ (one : Shown). one.count) from.2));
-    overlays = none_to_ask (IsMountedSoOften (world_of new)) value whole;
+    overlays = all_from_among (IsMountedSoOften (world_of new)) new.overlays (λ entry m.
+        among_from_all (IsMountedSoOften (grown value whole (map mount_of copies))) new.overlays
+        (counted_more value whole (map mount_of copies) overlays
+        (merged_are ∙ merged_by_all copies (map merged_seen value.overlays))) entry m
+        ∙ times_append (λ (mount : meant.Mount ℕ). nat_eq entry.number mount.filesystem) (mounts_in value.mounts)
+        (map mount_of copies)
+        ∙ sym (showing_at entry.number));
     namespaces = all_from_among (CountsWhatIsInIt (world_of new)) value.namespaces (λ entry m.
         let was = among_from_all (CountsWhatIsInIt (world_of value)) value.namespaces whole.namespaces entry m in
         record { tasks = was.tasks });
@@ -330,14 +366,16 @@ module _ (value : WorldValue) (whole : IsHeld value) (base : Filesystems) (is_ba
       → IsDone value name permit new
   entered_is_done has name permit permits takes left_is keeps =
       let is_world = subst (IsWorld nat_eq) left_is (left_is_world value whole name permit permits.task takes).0 in
-      numbers_are_kept value whole name permit permits.task takes new refl
+      numbers_are_kept value whole name permit permits.task takes new same_overlays
       (subst (λ (left : World ℕ). ShowsAs left new) (sym left_is) (shows has is_world)) counts_then own_then keeps
 
 -- Copies that were attached
 module _ (value : WorldValue) (whole : IsHeld value) (base : Filesystems) (is_base : IsBase value base)
     (graft : Graft) (counts : Counts) (mounts : List MountEntry) (groups : Grouping) (filesystems : Filesystems)
+    (overlays : List Merged)
     (next : ℕ)
-    (is : IsGrafted graft counts (kept value.mounts base) value.groups (kept mounts filesystems) groups)
+    (is : IsGrafted graft counts (kept_with value.mounts base (map merged_seen value.overlays)) value.groups
+    (kept_with mounts filesystems overlays) groups)
     (attaches : AttachesBy (with_base value base) graft counts (map mount_of is.copies) (map new_group is.groups)
     (map point_seen is.points))
     (there : HasGroupsOf (with_base value base) (map mount_of graft.tree.now))
@@ -395,7 +433,7 @@ module _ (value : WorldValue) (whole : IsHeld value) (base : Filesystems) (is_ba
       numbers : Copies ℕ
       numbers = numbers_at (with_base value base) graft counts
 
-  entered : IsEntered value base is.copies is.points [] is.left mounts filesystems
+  entered : IsEntered value base is.copies is.points [] is.left mounts filesystems overlays
   entered = record {
     types = [];
     once = is.once;
@@ -411,7 +449,7 @@ module _ (value : WorldValue) (whole : IsHeld value) (base : Filesystems) (is_ba
       → TakesNumbers value name permit permits.task
       → left_by value permits.task permit ≡ attached_world
       → KeepsTo (is_counted_before next) (left_by value permits.task permit)
-      → IsDone value name permit (grafted_value value mounts groups filesystems next)
+      → IsDone value name permit (grafted_value value mounts groups filesystems overlays next)
   graft_is_done =
       entered_is_done value whole base is_base is.copies is.points [] is.left (map new_group is.groups) mounts groups
-      filesystems next entered ascending groups_then
+      filesystems overlays next entered ascending groups_then

@@ -1,3 +1,4 @@
+pub mod OverlayCounts
 pub mod OpeningLemmas
 pub mod RoomLemmas
 pub mod EnteringLemmas
@@ -11,6 +12,7 @@ pub mod NewBase
 pub mod NewMounts
 pub mod TakingNumbers
 pub mod CopyLemmas
+pub mod OverlaysMore
 pub mod AddedBegins
 pub mod UnsharedTasks
 pub mod UnsharedWorlds

@@ -51,12 +51,12 @@ use Rattle.vt_laws_worlds.specs.Worlds.Permits.{MayMoveTo}
 use Rattle.vt_laws_worlds.proofs.RaisedInUse.{worlds_are_in_use}
 use Rattle.vt_detach.specs.Events.{Permits, left_by}
 use Rattle.vt_world.specs.Held.{IsHeld}
-use Rattle.vt_detach.specs.Uses.{kept, unused_entry}
+use Rattle.vt_detach.specs.Uses.{unused_entry, Merged, kept_of, kept_with}
 use Rattle.vt_world.specs.WorldValue.{WorldValue, overlays_seen, world_of}
 use Rattle.vt_detach.proofs.Bridging.{IsSwept, shows_left}
 use Rattle.vt_detach.proofs.FileEvents.{permit_fits}
 use Rattle.vt_detach.proofs.Grouped.{settled_has}
-use Rattle.vt_detach.proofs.Overlaid.{AreStillMounted, is_plain_one, overlays_are, plain_ones_are, still_mounted}
+use Rattle.vt_detach.proofs.Overlaid.{AreStillMounted, is_plain_one, overlays_are, plain_ones_are, still_mounted, all_shown}
 use Rattle.vt_detach.proofs.Places.{located_is_named}
 use Rattle.vt_detach.proofs.Showing.{ShowsAs}
 use Rattle.vt_detach.proofs.Staying.{IsDone}
@@ -73,7 +73,7 @@ use Rattle.vt_attach.proofs.Binding.{group_there, is_seen, same_base}
 use Rattle.vt_mount.proofs.EnteringLemmas.{mounts_entered}
 use Rattle.vt_attach.proofs.EnteringLemmas.{apart}
 use Rattle.vt_attach.proofs.FormedGroups.{formed_groups_begin, groups_of_copies_are_named}
-use Rattle.vt_attach.proofs.GraftedDone.{IsEntered, counts_then, from_base, grafted_value, own_then, same_numbers}
+use Rattle.vt_attach.proofs.GraftedDone.{IsEntered, counts_then, from_base, grafted_value, overlays_same, own_then, same_numbers}
 use Rattle.vt_attach.proofs.GraftedUses.{after, changed_at, exchanged_then, gained_there}
 use Rattle.vt_attach.proofs.GrownGroups.{ascending_rises}
 use Rattle.vt_attach.proofs.MovedLives.{living_moved, mounts_live}
@@ -294,9 +294,8 @@ module _ (value : WorldValue) (whole : IsHeld value) (name : TaskName) (number :
   -- The tree was moved to a shared mount
 
   module _ (shared : is_shared (mount_at nat_eq (world_of value) (location_of graft.place)).propagation ≡ true)
-      (mounts : List MountEntry) (groups : Grouping) (filesystems : Filesystems) (next : ℕ)
-      (is : IsMovedBy graft counts (kept value.mounts value.filesystems) value.groups
-      (kept mounts filesystems) groups)
+      (mounts : List MountEntry) (groups : Grouping) (filesystems : Filesystems) (overlays : List Merged) (next : ℕ)
+      (is : IsMovedBy graft counts (kept_of value) value.groups (kept_with mounts filesystems overlays) groups)
       (ascending : are_ascending (mounts_in value.mounts) ≡ true)
       (odd : list_all (λ mount. mount.number % 4 == 1) (mounts_in value.mounts) ≡ true) where
     abbrev come : List Mount
@@ -321,7 +320,7 @@ module _ (value : WorldValue) (whole : IsHeld value) (name : TaskName) (number :
     first_number = counted first.number.count
 
     abbrev new : WorldValue
-    new = grafted_value value mounts groups filesystems next
+    new = grafted_value value mounts groups filesystems overlays next
 
     attaches : AttachesBy world graft counts (map mount_of is.copies) (map new_group is.groups)
         (map point_seen is.pushed)
@@ -436,7 +435,7 @@ module _ (value : WorldValue) (whole : IsHeld value) (name : TaskName) (number :
         ∙ ap (λ front. front ++ map mount_of come)
         (map_twice (typed_at kinds) (moved_at points) (mounts_in value.mounts))
 
-    entered : IsEntered value value.filesystems come points kinds is.left mounts filesystems
+    entered : IsEntered value value.filesystems come points kinds is.left mounts filesystems overlays
     entered = record {
       types = map typed is.copies;
       once = once;
@@ -619,17 +618,17 @@ module _ (value : WorldValue) (whole : IsHeld value) (name : TaskName) (number :
         (inodes_of_points (points_taken points value.mounts) ++ gained_by come) (inodes_of_points is.left) new
     swept = record {
       midway = record { overlays = overlays_are value whole.overlays; rise = whole.overlays.all_rise };
-      mounted = subst (AreStillMounted value) (sym living_is) overlays_mounted;
-      overlays = refl;
+      overlays = overlays_same value whole come overlays (ap (λ k. k.overlays) entered.done)
+          ∙ all_shown value (in_use_of then_world) (subst (AreStillMounted value) (sym living_is) overlays_mounted);
       mounts = ap (λ (w : World ℕ). w.mounts) living_is ∙ sym mounts_seen;
       numbers = ap (λ (w : World ℕ). map (λ (f : Filesystem ℕ). f.number) (filter is_plain_one w.filesystems))
           living_is
           ∙ ap (map (λ (f : Filesystem ℕ). f.number)) (plain_ones_are value whole.overlays)
           ∙ same_numbers value whole value.filesystems (same_base value whole) come points kinds is.left formed mounts
-          groups filesystems next entered rising;
+          groups filesystems overlays next entered rising;
       entries = λ entry m.
           let from = from_base value whole value.filesystems (same_base value whole) come points kinds is.left formed
-          mounts groups filesystems next entered rising entry m in
+          mounts groups filesystems overlays next entered rising entry m in
           record {
             was = from.0;
             among = from.1;
@@ -677,11 +676,11 @@ module _ (value : WorldValue) (whole : IsHeld value) (name : TaskName) (number :
         ≡ 2 * (length graft.parts.now * length graft.tree.now) =
         (λ i. 2 * (length (sym parts_are i) * length (sym tree_is i)))
         ∙ (λ i. 2 * (length-map graft.parts.now mount_of i * length-map graft.tree.now mount_of i)) in
-        numbers_are_kept value whole name permit permits.task takes new refl
+        numbers_are_kept value whole name permit permits.task takes new (overlays_same value whole come overlays (ap (λ k. k.overlays) entered.done))
         (subst (λ (w : World ℕ). ShowsAs (settled nat_eq w) new) (sym moved_is) shows_then)
         (counts_then value whole value.filesystems (same_base value whole) come points kinds is.left formed mounts
-        groups filesystems next entered rising)
+        groups filesystems overlays next entered rising)
         (own_then value whole value.filesystems (same_base value whole) come points kinds is.left formed mounts
-        groups filesystems next entered rising)
+        groups filesystems overlays next entered rising)
         (subst (λ n. KeepsTo (is_counted_before n) (left_by value permits.task permit))
         (ap (λ n. value.next + n) sizes ∙ sym grows) named)

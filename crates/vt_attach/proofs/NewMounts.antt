@@ -31,7 +31,7 @@ use Rattle.vt_propagate.specs.Seen.{IsSeen}
 use Rattle.vt_laws_runs.specs.Handed.{counts_from, handed_from, is_counted_before}
 use Rattle.vt_detach.specs.Events.{Permits, left_by}
 use Rattle.vt_world.specs.Held.{IsHeld}
-use Rattle.vt_detach.specs.Uses.{kept}
+use Rattle.vt_detach.specs.Uses.{Merged, kept_with, merged_seen}
 use Rattle.vt_world.specs.WorldValue.{WorldValue, world_of}
 use Rattle.vt_detach.proofs.Grouped.{same_has}
 use Rattle.vt_detach.proofs.Places.{located_is_named}
@@ -146,12 +146,14 @@ module _ (value : WorldValue) (whole : IsHeld value) (name : TaskName) (graft : 
           (same_parts value whole name place flags permits ∙ sym parts_are)
           ∙ all
 
-      pub new_mount_is_done : (mounts : List MountEntry) (groups : Grouping) (filesystems : Filesystems) (next : ℕ)
-          → IsGrafted graft counts (kept value.mounts (value.filesystems ++ entry ∷ [])) value.groups
-          (kept mounts filesystems) groups
+      pub new_mount_is_done : (mounts : List MountEntry) (groups : Grouping) (filesystems : Filesystems)
+          (overlays : List Merged) (next : ℕ)
+          → IsGrafted graft counts
+          (kept_with value.mounts (value.filesystems ++ entry ∷ []) (map merged_seen value.overlays)) value.groups
+          (kept_with mounts filesystems overlays) groups
           → next ≡ value.next + 2 * (length graft.parts.now * 2)
-          → IsDone value name permit (grafted_value value mounts groups filesystems next)
-      new_mount_is_done mounts groups filesystems next is grows =
+          → IsDone value name permit (grafted_value value mounts groups filesystems overlays next)
+      new_mount_is_done mounts groups filesystems overlays next is grows =
           let attaches = is.plan (with_base value base) seen_then whole.in_world.mounts.one_child parts_then in
           let attach_is = plan_attaches (with_base value base) graft counts (map mount_of is.copies)
           (map new_group is.groups) (map point_seen is.points) attaches binds
@@ -165,7 +167,7 @@ module _ (value : WorldValue) (whole : IsHeld value) (name : TaskName) (graft : 
           ∙ ap (λ list. attach nat_eq (with_base value base) (odds fresh) place false list) (sym tree_is)
           ∙ attach_is in
           graft_is_done value whole base (new_base value whole name place flags permits entry is_new small) graft counts
-          mounts groups filesystems next is attaches groups_there
+          mounts groups filesystems overlays next is attaches groups_there
           rising name permit permits (takes value whole name place flags permits) left_is
           (subst (λ n. KeepsTo (is_counted_before n) (left_by value permits.task permit))
           (ap (λ n. value.next + n) sizes ∙ sym grows)

@@ -21,8 +21,8 @@ use Rattle.vt_attach.specs.Copying.{CopiesAttached, copies_of, moved_in, with_us
 use Rattle.vt_detach.specs.Events.{Permits}
 use Rattle.vt_world.specs.Held.{IsHeld}
 use Rattle.vt_detach.specs.NamespacesLeft.{MountsAreLeft, namespace_entry, with_one_task_less}
-use Rattle.vt_detach.specs.Uses.{kept}
-use Rattle.vt_world.specs.WorldValue.{NamespaceEntry, WorldValue, overlays_seen}
+use Rattle.vt_detach.specs.Uses.{Merged, kept_of, kept_with, overlays_kept}
+use Rattle.vt_world.specs.WorldValue.{NamespaceEntry, WorldValue}
 use Rattle.vt_detach.proofs.Staying.{IsDone}
 use Rattle.vt_attach.proofs.UnsharedDone as Done
 use Rattle.vt_attach.proofs.UnsharedInodes.{copies_gain, copies_there}
@@ -31,10 +31,10 @@ use Rattle.vt_attach.proofs.UnsharedWorlds.{new_is}
 -- the mounts and filesystems with the copies, with the root and the working directory on them, and without the old
 -- namespace
 pub record IsUnshared (value : WorldValue) (name : TaskName) (own : Own) (root directory : Location)
-    (mounts : List MountEntry) (grown : Grouping) (filesystems : Filesystems) (moved : List MountEntry)
-    (namespaces : List NamespaceEntry) (new : WorldValue) : Type 0 where
-  pub made : CopiesAttached value.next (counted own.namespace.count) (kept value.mounts value.filesystems) value.groups
-      (kept mounts filesystems) grown
+    (mounts : List MountEntry) (grown : Grouping) (filesystems : Filesystems) (overlays : List Merged)
+    (moved : List MountEntry) (left_overlays : List Merged) (namespaces : List NamespaceEntry) (new : WorldValue) : Type 0 where
+  pub made : CopiesAttached value.next (counted own.namespace.count) (kept_of value) value.groups
+      (kept_with mounts filesystems overlays) grown
   pub root_is : location_of root
       ≡ moved_in value.next (attached_in (counted own.namespace.count) value.mounts) (location_of own.root)
   pub directory_is : location_of directory
@@ -43,38 +43,38 @@ pub record IsUnshared (value : WorldValue) (name : TaskName) (own : Own) (root d
       (with_use_moved (counted own.root.mount.count) (counted root.mount.count) mounts)
   pub entered : namespaces ≡ value.namespaces ++ (record { count = value.next; tasks = 1 } ∷ [])
   pub left : MountsAreLeft (counted own.namespace.count) (namespace_entry own.namespace.count namespaces)
-      (kept moved filesystems) grown
-      (kept new.mounts new.filesystems) new.groups
+      (kept_with moved filesystems overlays) grown
+      (kept_with new.mounts new.filesystems left_overlays) new.groups
   pub namespaces_left : new.namespaces ≡ with_one_task_less own.namespace.count namespaces
   pub tasks : new.tasks ≡ changed_called name
       (λ task. record task { namespace = counted value.next; root = location_of root; directory = location_of directory }) value.tasks
   pub before : list_all (λ mount. nat_lt mount.number (counted value.next)) (mounts_in value.mounts) ≡ true
   pub next : new.next ≡ value.next + 2 * length (attached_in (counted own.namespace.count) value.mounts)
-  pub overlays : overlays_seen new.overlays ≡ overlays_seen value.overlays
+  pub same_overlays : new.overlays ≡ overlays_kept left_overlays value.overlays
 
 pub task_is_unshared : (value : WorldValue) → IsHeld value → (name : TaskName) → Permits value name ToUnshare
     → (own : Own)
     → Some (task_of own) ≡ called name value.tasks → (root directory : Location)
-    → (mounts : List MountEntry) (grown : Grouping) (filesystems : Filesystems) (moved : List MountEntry)
-    (namespaces : List NamespaceEntry) (new : WorldValue)
-    → IsUnshared value name own root directory mounts grown filesystems moved namespaces new
+    → (mounts : List MountEntry) (grown : Grouping) (filesystems : Filesystems) (overlays : List Merged)
+    (moved : List MountEntry) (left_overlays : List Merged) (namespaces : List NamespaceEntry) (new : WorldValue)
+    → IsUnshared value name own root directory mounts grown filesystems overlays moved left_overlays namespaces new
     → IsDone value name ToUnshare new
-task_is_unshared value whole name permits own is root directory mounts grown filesystems moved namespaces new facts =
+task_is_unshared value whole name permits own is root directory mounts grown filesystems overlays moved left_overlays namespaces new facts =
     Done.unshared_done value whole name permits own.namespace.count in_namespace facts.made.added copied_so mounts
-    filesystems facts.made.attached
+    filesystems overlays facts.made.attached
     (copies_gain value whole name permits.task permits.called
     (counts_from value.next) permits.given.serves facts.made.added same_copies facts.made.slots)
     (copies_there value whole name permits.task permits.called
     (counts_from value.next) permits.given.serves facts.made.added same_copies facts.made.slots)
-    grown facts.made.grows new
+    grown facts.made.grows new left_overlays
     (subst (λ all. MountsAreLeft (counted own.namespace.count) (namespace_entry own.namespace.count all)
-    (kept moved_entries filesystems) grown (kept new.mounts new.filesystems) new.groups) facts.entered
+    (kept_with moved_entries filesystems overlays) grown (kept_with new.mounts new.filesystems left_overlays) new.groups) facts.entered
     (subst (λ all. MountsAreLeft (counted own.namespace.count) (namespace_entry own.namespace.count namespaces)
-    (kept all filesystems) grown (kept new.mounts new.filesystems) new.groups) uses_are facts.left))
+    (kept_with all filesystems overlays) grown (kept_with new.mounts new.filesystems left_overlays) new.groups) uses_are facts.left))
     (facts.namespaces_left ∙ ap (with_one_task_less own.namespace.count) facts.entered)
     tasks_are
     (facts.next ∙ ap (λ n. value.next + 2 * length (attached_in n value.mounts)) in_namespace)
-    facts.before facts.overlays
+    facts.before facts.same_overlays
   where
     own_is : task_of own ≡ permits.task
     own_is = same_Some (task_of own) permits.task (is ∙ permits.called)
@@ -89,15 +89,15 @@ task_is_unshared value whole name permits own is root directory mounts grown fil
         ≡ Rattle.vt_attach.proofs.UnsharedWorlds.copies value whole name permits.task permits.called
         permits.given.serves own.namespace.count in_namespace
     same_copies = Done.same_copies value whole name permits own.namespace.count in_namespace facts.made.added copied_so
-        mounts filesystems facts.made.attached
+        mounts filesystems overlays facts.made.attached
 
     moved_task : Task ℕ
     moved_task = Done.moved_task value whole name permits own.namespace.count in_namespace facts.made.added copied_so
-        mounts filesystems facts.made.attached
+        mounts filesystems overlays facts.made.attached
 
     moved_entries : List MountEntry
     moved_entries = Done.moved_entries value whole name permits own.namespace.count in_namespace facts.made.added
-        copied_so mounts filesystems facts.made.attached
+        copied_so mounts filesystems overlays facts.made.attached
 
     root_goes : location_of root ≡ moved_task.root
     root_goes = facts.root_is ∙ (λ i. moved_in value.next (attached_in (in_namespace i) value.mounts) (own_is i).root)
@@ -113,7 +113,7 @@ task_is_unshared value whole name permits own is root directory mounts grown fil
         (with_use_moved (own_is i).root.mount (root_goes i).mount (ap (λ k. k.mounts) facts.made.attached i)))
 
     tasks_are : new.tasks ≡ Done.tasks value whole name permits own.namespace.count in_namespace facts.made.added
-        copied_so mounts filesystems facts.made.attached
+        copied_so mounts filesystems overlays facts.made.attached
     tasks_are =
         facts.tasks
         ∙ ap (changed_by (λ task. record task { namespace = counted value.next; root = location_of root; directory = location_of directory }) value.tasks) permits.called

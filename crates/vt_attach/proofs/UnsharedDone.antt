@@ -32,8 +32,8 @@ use Rattle.vt_attach.specs.Copying.{copies_of}
 use Rattle.vt_detach.specs.Events.{Permits, left_by}
 use Rattle.vt_world.specs.Held.{CountsWhatIsInIt, IsHeld}
 use Rattle.vt_detach.specs.NamespacesLeft.{MountsAreLeft, namespace_entry, numbers_inside, with_one_task_less}
-use Rattle.vt_detach.specs.Uses.{kept, with_attached}
-use Rattle.vt_world.specs.WorldValue.{NamespaceEntry, WorldValue, namespace_of, overlays_seen, world_of}
+use Rattle.vt_detach.specs.Uses.{with_attached, Merged, kept_of, kept_with, merged_seen, overlays_kept}
+use Rattle.vt_world.specs.WorldValue.{NamespaceEntry, WorldValue, namespace_of, world_of}
 use Rattle.vt_attach.proofs.AddedBegins as Begins
 use Rattle.vt_attach.proofs.AddedBegins.{IsAdded, KeepsAdded, with_added}
 use Rattle.vt_attach.proofs.GrownGroups.{ascending_rises}
@@ -53,6 +53,7 @@ use Rattle.vt_detach.proofs.Staying.{IsDone, becomes_so}
 use Rattle.vt_detach.proofs.TypedEvents.{counts_typed, swept_typed, typed_value}
 use Rattle.vt_detach.proofs.TypedWorlds.{settled_typed, settled_typed_has, typed_world}
 use Rattle.vt_attach.proofs.TakingNumbers.{TakesNumbers, left_is_world, left_keeps}
+use Rattle.vt_attach.proofs.OverlaysMore.{merged_by_all}
 use Rattle.vt_attach.proofs.UnsharedGroups as Groups
 use Rattle.vt_attach.proofs.UnsharedTasks as Tasks
 use Rattle.vt_attach.proofs.UnsharedWorlds as Worlds
@@ -63,7 +64,7 @@ module _ (value : WorldValue) (whole : IsHeld value) (name : TaskName) (permits 
     (copies : List Attached) (copied_so : map mount_of copies
     ≡ copies_of value.next (attached_in permits.task.namespace value.mounts))
     (mounts : List MountEntry) (filesystems : Filesystems)
-    (is_kept : kept mounts filesystems ≡ with_attached copies (kept value.mounts value.filesystems)) where
+    (overlays : List Merged) (is_kept : kept_with mounts filesystems overlays ≡ with_attached copies (kept_of value)) where
   abbrev world : World ℕ
   world = world_of value
 
@@ -108,8 +109,9 @@ module _ (value : WorldValue) (whole : IsHeld value) (name : TaskName) (permits 
       Moved.moved_entries value whole copies tasks
       (λ mount. inside mount.namespace) task.root task.directory moved_task.root moved_task.directory is_added
 
-  keeps : KeepsAdded value added come_to gone_from (gained_by copies) (kept moved_entries filesystems)
+  keeps : KeepsAdded value added come_to gone_from (gained_by copies) (kept_with moved_entries filesystems overlays)
   keeps = record {
+    merged = ap (λ k. k.overlays) is_kept ∙ merged_by_all copies (map merged_seen value.overlays);
     mounts = Moved.moved_mounts value whole copies tasks
         (λ mount. inside mount.namespace) task.root task.directory moved_task.root moved_task.directory is_added;
     uses = λ entry m. (Moved.moved_was value whole copies tasks (λ mount. inside mount.namespace) task.root task.directory moved_task.root moved_task.directory is_added entry m).1.uses;
@@ -138,29 +140,29 @@ module _ (value : WorldValue) (whole : IsHeld value) (name : TaskName) (permits 
       (gained_there : (was : FilesystemEntry) → Among was value.filesystems
       → AreThere (counted was.count) (inodes_seen was) (gained_by copies))
       (grown : Grouping) (grows : GrowsTo value.groups grown (map typed copies) [])
-      (new : WorldValue) (is_left : MountsAreLeft (counted count) (namespace_entry count entries)
-      (kept moved_entries filesystems) grown
-      (kept new.mounts new.filesystems) new.groups)
+      (new : WorldValue) (left_overlays : List Merged) (is_left : MountsAreLeft (counted count) (namespace_entry count entries)
+      (kept_with moved_entries filesystems overlays) grown
+      (kept_with new.mounts new.filesystems left_overlays) new.groups)
       (namespaces_are : new.namespaces ≡ with_one_task_less count entries) (tasks_are : new.tasks ≡ tasks)
       (next_is : new.next ≡ value.next + 2 * length (attached_in task.namespace value.mounts))
       (before : list_all (λ mount. nat_lt mount.number (counted value.next)) (mounts_in value.mounts) ≡ true)
-      (overlays_are : overlays_seen new.overlays ≡ overlays_seen value.overlays) where
+      (overlays_are : new.overlays ≡ overlays_kept left_overlays value.overlays) where
     abbrev ended : World ℕ
     ended = Begins.ended value whole added tasks come_to gone_from inside
         (Worlds.nowhere_stays value whole name task permits.called permits.given.serves count in_namespace)
-        remaining is_added (gained_by copies) (kept moved_entries filesystems) keeps uses_gained gained_there
+        remaining is_added (gained_by copies) (kept_with moved_entries filesystems overlays) keeps uses_gained gained_there
 
-    begins : Reached value ended (gained_by copies) goes [] (kept moved_entries filesystems)
+    begins : Reached value ended (gained_by copies) goes [] (kept_with moved_entries filesystems overlays)
     begins = Begins.added_begins value whole added tasks come_to gone_from inside
         (Worlds.nowhere_stays value whole name task permits.called permits.given.serves count in_namespace)
-        remaining is_added (gained_by copies) (kept moved_entries filesystems) keeps uses_gained gained_there
+        remaining is_added (gained_by copies) (kept_with moved_entries filesystems overlays) keeps uses_gained gained_there
 
     stays : (mount : Mount ℕ) → Among mount base.mounts → goes mount ≡ false → (place : Location ℕ)
         → mount.mount_point ≡ Some place → goes (mount_at nat_eq base place) ≡ false
     stays mount m still place at =
         (Begins.parent_is value whole added tasks come_to gone_from inside
         (Worlds.nowhere_stays value whole name task permits.called permits.given.serves count in_namespace)
-        remaining is_added (gained_by copies) (kept moved_entries filesystems) keeps uses_gained gained_there
+        remaining is_added (gained_by copies) (kept_with moved_entries filesystems overlays) keeps uses_gained gained_there
         mount m still place at).1
 
     -- the copies come after all mounts, in the order of those that they are of
@@ -191,11 +193,12 @@ module _ (value : WorldValue) (whole : IsHeld value) (name : TaskName) (permits 
         is_inside mount = holds_of (nat_eq (counted count)) mount.namespace
 
     -- what is left once the old namespace has ended
-    ended_is_left : IsLeft value ended (gained_by copies) goes (kept new.mounts new.filesystems) new.groups
+    ended_is_left : IsLeft value ended (gained_by copies) goes (kept_with new.mounts new.filesystems left_overlays)
+        new.groups
     ended_is_left = leaves value whole base base_holds tasks count entries
         (Worlds.entries_count value whole name task permits.called permits.given.serves count in_namespace)
-        remaining stays grown base_has (gained_by copies) (kept moved_entries filesystems)
-        (kept new.mounts new.filesystems) begins
+        remaining stays grown base_has (gained_by copies) (kept_with moved_entries filesystems overlays)
+        (kept_with new.mounts new.filesystems left_overlays) begins
         (Groups.base_typed value whole name task permits.called permits.given.serves count in_namespace copies
         same_copies rising grown grows moved_entries keeps.mounts) inside_old new.groups is_left
 
@@ -207,7 +210,8 @@ module _ (value : WorldValue) (whole : IsHeld value) (name : TaskName) (permits 
     swept : IsSwept value ended (gained_by copies) ended_is_left.reached.lost untyped
     swept =
         reached_swept value ended (gained_by copies) goes
-        (kept ended_is_left.entries new.filesystems) ended_is_left.reached ended_is_left.all_gone untyped refl
+        (kept_with ended_is_left.entries new.filesystems left_overlays) ended_is_left.reached ended_is_left.all_gone
+        untyped left_overlays refl
         (sym tasks_are) overlays_are
         (same_files_keep value world ended refl (keeps_itself value whole.overlays))
         (ap (map (λ (n : Namespace ℕ). record n { change = 0 })) (ap (map namespace_of) (sym namespaces_are)))
@@ -215,7 +219,8 @@ module _ (value : WorldValue) (whole : IsHeld value) (name : TaskName) (permits 
     counts : CountsBeside untyped
     counts =
         reached_counted value ended (gained_by copies) goes
-        (kept ended_is_left.entries new.filesystems) ended_is_left.reached ended_is_left.all_gone untyped refl
+        (kept_with ended_is_left.entries new.filesystems left_overlays) ended_is_left.reached ended_is_left.all_gone
+        untyped left_overlays refl
         (sym tasks_are) overlays_are
         (subst (All (CountsWhatIsInIt (world_of untyped))) (sym namespaces_are)
         (left_counted count tasks entries

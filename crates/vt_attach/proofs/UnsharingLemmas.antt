@@ -23,7 +23,7 @@ use Rattle.vt_spec.specs.Machine.World.{Namespace as meant_namespace}
 use Rattle.vt_world.specs.declared.namespaces.Namespace.{Namespace}
 use Rattle.vt_attach.specs.Copying.{copied_by, copies_of, copy_numbers, moved_in, with_use_moved}
 use Rattle.vt_world.specs.Held.{IsHeld}
-use Rattle.vt_detach.specs.Uses.{kept, unused_entry, with_attached}
+use Rattle.vt_detach.specs.Uses.{unused_entry, with_attached, Merged, kept_of, kept_with}
 use Rattle.vt_world.specs.WorldValue.{NamespaceEntry, WorldValue, entries_of, entry_of, namespace_of, world_of}
 use Rattle.vt_attach.proofs.AttachedCounts.{lower_numbers}
 use Rattle.vt_attach.proofs.EnteringLemmas.{ascending_joined}
@@ -282,7 +282,7 @@ namespace_added value serves entries are id is new =
 module _ (value : WorldValue) (whole : IsHeld value)
     (counts : list_all (λ mount. mount.number % 4 == 1) (mounts_in value.mounts) ≡ true)
     (originals : List (Mount ℕ)) (copies : List Attached) (mounts : List MountEntry) (filesystems : Filesystems)
-    (attached : kept mounts filesystems ≡ with_attached copies (kept value.mounts value.filesystems))
+    (overlays : List Merged) (attached : kept_with mounts filesystems overlays ≡ with_attached copies (kept_of value))
     (from to : Location) (is : location_of to ≡ moved_in value.next originals (location_of from))
     (other : nat_eq from.mount.count to.mount.count ≡ false) where
   no_uses_there : uses_of mounts (counted to.mount.count) ≡ 0

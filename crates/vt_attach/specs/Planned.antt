@@ -1,6 +1,6 @@
 -- Mounts that get other mount points while others come.
 use Rattle.std.specs.List.{list_all}
-use Rattle.std.specs.Prelude.{Bool, List, [], flat_map, if◌then◌else◌, is_some, map, nat_lt, option_to_list, true, ℕ, ◌++◌, ◌∷◌, ◌≡◌, ◌^◌}
+use Rattle.std.specs.Prelude.{Bool, List, [], flat_map, if◌then◌else◌, is_some, map, option_to_list, true, ℕ, ◌++◌, ◌∷◌, ◌≡◌}
 use Rattle.vt_location.specs.declared.locations.Location.{Location}
 use Rattle.vt_location.specs.declared.mounts.Mount.{Mount}
 use Rattle.vt_location.specs.Locations.{is_small_node, location_of}
@@ -12,7 +12,7 @@ use Rattle.vt_mount.specs.declared.moving.NewPoint.{NewPoint}
 pub use Rattle.vt_mount.specs.Moving.{moved_to, placed_entry, with_points}
 use Rattle.vt_spec.specs.Lists.{folded}
 use Rattle.vt_spec.specs.Machine.Mounts.{Location as Place}
-use Rattle.vt_detach.specs.Uses.{Kept, inode_of, pinned_in, point_of, shown_by, unpinned_in, unused_entry}
+use Rattle.vt_detach.specs.Uses.{Kept, inode_of, merged_by, pinned_in, point_of, shown_by, unpinned_in, unused_entry}
 
 -- a mount and its new mount point
 abbrev pub Point : Type 0
@@ -63,4 +63,5 @@ with_planned copies points left k = record {
   mounts = with_points points k.mounts ++ map unused_entry copies;
   filesystems = folded unpinned_by
       (folded shown_by (folded pinned_by k.filesystems (points_taken points k.mounts)) copies) left;
+  overlays = folded merged_by k.overlays copies;
 }

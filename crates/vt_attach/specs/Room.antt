@@ -6,7 +6,7 @@ use Rattle.vt_location.specs.declared.locations.Location.{Location}
 use Rattle.vt_location.specs.declared.mounts.Mount.{Mount}
 use Rattle.vt_location.specs.Numbers.{counted}
 use Rattle.vt_spec.specs.Inodes.{uses_in}
-use Rattle.vt_detach.specs.Uses.{inode_of, mounts_shown}
+use Rattle.vt_detach.specs.Uses.{Merged, inode_of, merged_at, mounts_shown}
 
 -- the most that is counted
 abbrev pub most_counted : ℕ
@@ -27,6 +27,11 @@ abbrev pub has_room : ℕ → List Shown → Mount → Bool
 has_room most all mount =
     nat_le (uses_shown (inode_of mount.root) all) most && point_has_room most all mount.mount_point
     && nat_le (mounts_shown (counted mount.root.filesystem.count) all) most
+
+-- an overlay has no more mounts than so many
+abbrev pub merged_has_room : ℕ → List Merged → Mount → Bool
+merged_has_room most all mount =
+    nat_le (unwrap_or (option_map (λ one. one.mounts) (merged_at (counted mount.root.filesystem.count) all)) 0) most
 
 abbrev pub point_is_small : Option Location → Bool
 point_is_small None = true

@@ -1,14 +1,16 @@
 //! What the attachment of mounts is made of beside their entries: room for their uses, and their uses.
-ghost use Rattle.std.specs.Prelude.{◌≡◌, ◌-◌, ◌*◌, length, true};
+ghost use Rattle.std.specs.Prelude.{◌≡◌, ◌-◌, ◌*◌, length, map, true};
 ghost use Rattle.std.specs.List.{list_all};
 ghost use Rattle.vt_fs.specs.FilesystemsValue.{shown};
 ghost use Rattle.vt_spec.specs.Lists.{folded};
 ghost use Rattle.vt_attach.specs.Room as meant;
-ghost use Rattle.vt_attach.specs.Room.{has_small_slots, most_counted, point_is_small};
-ghost use Rattle.vt_detach.specs.Uses.{pinned_at, shown_by};
+ghost use Rattle.vt_attach.specs.Room.{has_small_slots, merged_has_room, most_counted, point_is_small};
+ghost use Rattle.vt_detach.specs.Stored.{merged_of};
+ghost use Rattle.vt_detach.specs.Uses.{merged_by, pinned_at, shown_by};
 
 use vt_fs::Filesystems;
 use vt_location::{Location, Mount};
+use vt_store::Store;
 
 // Whether the roots, the mount points and the filesystems of mounts have no more uses than so many.
 pub(crate) fn have_room(filesystems: &Filesystems, new: &[Mount], most: u64) -> bool
@@ -41,6 +43,57 @@ fn point_has_room(filesystems: &Filesystems, point: Option<Location>, most: u64)
     match point {
         Some(point) => filesystems.uses(point.node) <= most,
         None => true,
+    }
+}
+
+// Whether the overlays that mounts show have no more mounts than so many.
+pub(crate) fn overlays_have_room(store: &Store, new: &[Mount], most: u64) -> bool
+    ensures { result ≡ true
+        → list_all (merged_has_room most (map merged_of store.now.overlays)) new.now ≡ true }
+{
+    for mount in new {
+        if !overlay_has_room(store, *mount, most) {
+            return false;
+        }
+    }
+    true
+}
+
+// Whether the overlay that a mount shows, if it shows one, has no more mounts than so many.
+fn overlay_has_room(store: &Store, mount: Mount, most: u64) -> bool
+    ensures { result ≡ merged_has_room most (map merged_of store.now.overlays) mount }
+{
+    let filesystem = mount.root.filesystem;
+    if store.overlay(filesystem).is_some() {
+        store.mounts(filesystem) <= most
+    } else {
+        true
+    }
+}
+
+// The overlays that mounts show are mounted once more for each.
+pub(crate) fn hold_overlays(store: &mut Store, new: &[Mount])
+    requires { list_all (merged_has_room (most_counted - length new.now) (map merged_of store.old.overlays)) new.now
+        ≡ true }
+    ensures plain { store.new.plain ≡ store.old.plain }
+    ensures overlays { map merged_of store.new.overlays
+        ≡ folded merged_by (map merged_of store.old.overlays) new.now }
+{
+    for mount in new {
+        hold_overlay(store, mount);
+    }
+}
+
+// An overlay that a mount shows is mounted once more.
+fn hold_overlay(store: &mut Store, mount: &Mount)
+    requires { merged_has_room (most_counted - 1) (map merged_of store.old.overlays) mount.now ≡ true }
+    ensures plain { store.new.plain ≡ store.old.plain }
+    ensures overlays { map merged_of store.new.overlays ≡ merged_by (map merged_of store.old.overlays) mount.now }
+{
+    let filesystem = mount.root.filesystem;
+    if store.overlay(filesystem).is_some() {
+        // It does not fail: there is room.
+        let _ = store.hold_mount(filesystem);
     }
 }
 

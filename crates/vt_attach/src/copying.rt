@@ -10,14 +10,14 @@ ghost use Rattle.vt_spec.specs.Machine.Mounts as meant;
 ghost use Rattle.vt_spec.specs.Machine.Namespaces.{location_on_copy};
 ghost use Rattle.vt_mount.specs.Attached.{AreOf, are_rising, attached_in};
 ghost use Rattle.vt_attach.specs.Copying.{CopiesAttached, copied_by, copies_of, copy_numbers, moved_in, with_use_moved};
-ghost use Rattle.vt_detach.specs.Uses.{kept};
+ghost use Rattle.vt_detach.specs.Stored.{kept};
 
 use crate::planned::{Planned, attach_planned};
 use std::alloc::{AllocError, Global};
-use vt_fs::Filesystems;
 use vt_group::Groups;
 use vt_location::{Location, Mount, MountId, NamespaceId};
 use vt_mount::Mounts;
+use vt_store::Store;
 
 /// Attaches copies of the mounts of a namespace in the one that is counted `next`, after all others; or nothing. The
 /// copy of a shared mount is in its peer group, that of a slave has its master.
@@ -27,17 +27,17 @@ pub fn attach_copies(
     alloc: Global,
     mounts: &mut Mounts,
     groups: &mut Groups,
-    filesystems: &mut Filesystems,
+    store: &mut Store,
     namespace: NamespaceId,
     next: u64,
 ) -> Result<(), AllocError>
     requires room { next + 2 * length (attached_in (namespace_number namespace) mounts.old) + 1 < u64.MAX }
     requires before { list_all (λ mount. nat_lt mount.number (counted next)) (mounts_in mounts.old) ≡ true }
-    ensures ok { OnOk result (CopiesAttached next (namespace_number namespace) (kept mounts.old filesystems.old) groups.old
-        (kept mounts.new filesystems.new) groups.new) }
+    ensures ok { OnOk result (CopiesAttached next (namespace_number namespace) (kept mounts.old store.old) groups.old
+        (kept mounts.new store.new) groups.new) }
     ensures err_mounts { OnErr result (mounts.new ≡ mounts.old) }
     ensures err_groups { OnErr result (groups.new ≡ groups.old) }
-    ensures err_filesystems { OnErr result (filesystems.new ≡ filesystems.old) }
+    ensures err_store { OnErr result (store.new ≡ store.old) }
 {
     mounts.are_ascending();
     let added = copies(alloc, mounts, namespace, next)?;
@@ -46,7 +46,7 @@ pub fn attach_copies(
         groups: &[],
         points: &[],
     };
-    attach_planned(mounts, groups, filesystems, &plan)?;
+    attach_planned(mounts, groups, store, &plan)?;
     Ok(())
 }
 

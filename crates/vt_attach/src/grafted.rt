@@ -3,14 +3,14 @@
 ghost use Rattle.std.specs.Prelude.{◌≡◌, OnErr, OnOk};
 ghost use Rattle.vt_propagate.specs.Copying.{HasRoomFor};
 ghost use Rattle.vt_attach.specs.Grafted.{IsGrafted, MayGraft};
-ghost use Rattle.vt_detach.specs.Uses.{kept};
+ghost use Rattle.vt_detach.specs.Stored.{kept};
 
 use crate::planned::{Planned, attach_planned};
 use std::alloc::{AllocError, Global};
-use vt_fs::Filesystems;
 use vt_group::Groups;
 use vt_mount::Mounts;
 use vt_propagate::{Counts, Graft, attachment};
+use vt_store::Store;
 
 /// Attaches copies of a tree at all parts, with the groups that they form, and moves the mounts that stood there onto
 /// them: all or nothing.
@@ -20,17 +20,17 @@ pub fn attach_graft(
     alloc: Global,
     mounts: &mut Mounts,
     groups: &mut Groups,
-    filesystems: &mut Filesystems,
+    store: &mut Store,
     graft: &Graft,
     counts: Counts,
 ) -> Result<(), AllocError>
     requires room { HasRoomFor graft.now counts }
     requires may { MayGraft mounts.old groups.old graft.now counts }
-    ensures ok { OnOk result (IsGrafted graft.now counts (kept mounts.old filesystems.old) groups.old
-        (kept mounts.new filesystems.new) groups.new) }
+    ensures ok { OnOk result (IsGrafted graft.now counts (kept mounts.old store.old) groups.old
+        (kept mounts.new store.new) groups.new) }
     ensures err_mounts { OnErr result (mounts.new ≡ mounts.old) }
     ensures err_groups { OnErr result (groups.new ≡ groups.old) }
-    ensures err_filesystems { OnErr result (filesystems.new ≡ filesystems.old) }
+    ensures err_store { OnErr result (store.new ≡ store.old) }
 {
     let plan = attachment(alloc, mounts, groups, graft, counts)?;
     let planned = Planned {
@@ -38,6 +38,6 @@ pub fn attach_graft(
         groups: &plan.groups,
         points: &plan.points,
     };
-    attach_planned(mounts, groups, filesystems, &planned)?;
+    attach_planned(mounts, groups, store, &planned)?;
     Ok(())
 }

@@ -3,15 +3,15 @@
 ghost use Rattle.std.specs.Prelude.{◌≡◌, ◌++◌, OnErr, OnOk};
 ghost use Rattle.vt_propagate.specs.Copying.{HasRoomFor};
 ghost use Rattle.vt_attach.specs.Moved.{IsMovedBy, MayMoveTree, top_point};
-ghost use Rattle.vt_detach.specs.Uses.{kept};
+ghost use Rattle.vt_detach.specs.Stored.{kept};
 
 use crate::planned::{Planned, attach_grouped};
 use std::alloc::{AllocError, Global};
-use vt_fs::Filesystems;
 use vt_group::Groups;
 use vt_mount::{Mounts, NewPoint};
 use vt_propagate::{Counts, Graft, attachment};
 use vt_retype::set_types;
+use vt_store::Store;
 
 /// Moves a tree to its destination and attaches copies of it at the receivers there, with the groups that they form.
 /// The mounts that stood at the receivers' places move onto the copies. All or nothing.
@@ -21,17 +21,17 @@ pub fn move_tree(
     alloc: Global,
     mounts: &mut Mounts,
     groups: &mut Groups,
-    filesystems: &mut Filesystems,
+    store: &mut Store,
     graft: &Graft,
     counts: Counts,
 ) -> Result<(), AllocError>
     requires room { HasRoomFor graft.now counts }
     requires may { MayMoveTree mounts.old groups.old graft.now counts }
-    ensures ok { OnOk result (IsMovedBy graft.now counts (kept mounts.old filesystems.old) groups.old
-        (kept mounts.new filesystems.new) groups.new) }
+    ensures ok { OnOk result (IsMovedBy graft.now counts (kept mounts.old store.old) groups.old
+        (kept mounts.new store.new) groups.new) }
     ensures err_mounts { OnErr result (mounts.new ≡ mounts.old) }
     ensures err_groups { OnErr result (groups.new ≡ groups.old) }
-    ensures err_filesystems { OnErr result (filesystems.new ≡ filesystems.old) }
+    ensures err_store { OnErr result (store.new ≡ store.old) }
 {
     let mut plan = attachment(alloc, mounts, groups, graft, counts)?;
     add_top(&mut plan.points, graft)?;
@@ -40,7 +40,7 @@ pub fn move_tree(
         groups: &plan.groups,
         points: &plan.points,
     };
-    attach_grouped(mounts, groups, filesystems, &planned, &plan.copies)?;
+    attach_grouped(mounts, groups, store, &planned, &plan.copies)?;
     set_types(mounts, &plan.copies);
     Ok(())
 }

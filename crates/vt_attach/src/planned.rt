@@ -10,15 +10,17 @@ ghost use Rattle.vt_mount.specs.MountsValue.{are_ascending, mounts_in};
 ghost use Rattle.vt_spec.specs.Lists.{folded};
 ghost use Rattle.vt_attach.specs.Planned.{AreMoves, is_small, left_of, pinned_by, points_left, points_taken};
 ghost use Rattle.vt_attach.specs.Planned.{taken_of, unpinned_by, with_planned, with_points};
-ghost use Rattle.vt_attach.specs.Room.{has_room, has_small_slots, most_counted, point_has_room};
-ghost use Rattle.vt_detach.specs.Uses.{kept, unused_entry};
+ghost use Rattle.vt_attach.specs.Room.{has_room, has_small_slots, merged_has_room, most_counted, point_has_room};
+ghost use Rattle.vt_detach.specs.Stored.{kept, merged_of};
+ghost use Rattle.vt_detach.specs.Uses.{shown_by, unused_entry};
 
-use crate::attaching::{have_room, show_all};
+use crate::attaching::{have_room, hold_overlays, overlays_have_room, show_all};
 use std::alloc::AllocError;
 use vt_fs::Filesystems;
 use vt_group::{Groups, NewGroup};
 use vt_location::{Location, Mount};
 use vt_mount::{Mounts, Moved, NewPoint};
+use vt_store::Store;
 
 /// What is attached, and what moves for it.
 #[derive(Clone, Copy, Debug)]
@@ -39,24 +41,24 @@ pub struct Planned<'a> {
 pub fn attach_planned(
     mounts: &mut Mounts,
     groups: &mut Groups,
-    filesystems: &mut Filesystems,
+    store: &mut Store,
     plan: &Planned,
 ) -> Result<(), AllocError>
     requires { are_ascending (mounts_in mounts.old ++ map mount_of plan.now.copies.now) ≡ true }
     ensures ok { OnOk result ((left : List Location)
         × (map location_of left ≡ points_left plan.now.points.now mounts.old)
         × (list_all is_small left ≡ true)
-        × (kept mounts.new filesystems.new
-        ≡ with_planned plan.now.copies.now plan.now.points.now left (kept mounts.old filesystems.old))) }
+        × (kept mounts.new store.new
+        ≡ with_planned plan.now.copies.now plan.now.points.now left (kept mounts.old store.old))) }
     ensures groups_ok { OnOk result
         (GrowsTo groups.old groups.new (map typed plan.now.copies.now) (map new_group plan.now.groups.now)) }
     ensures slots { OnOk result (list_all has_small_slots plan.now.copies.now ≡ true) }
     ensures places { OnOk result (list_all is_small (points_taken plan.now.points.now mounts.old) ≡ true) }
     ensures err_mounts { OnErr result (mounts.new ≡ mounts.old) }
     ensures err_groups { OnErr result (groups.new ≡ groups.old) }
-    ensures err_filesystems { OnErr result (filesystems.new ≡ filesystems.old) }
+    ensures err_store { OnErr result (store.new ≡ store.old) }
 {
-    attach_grouped(mounts, groups, filesystems, plan, plan.copies)
+    attach_grouped(mounts, groups, store, plan, plan.copies)
 }
 
 // A planned attachment, in which the groups get the types of these mounts: those that come, and maybe those that move.
@@ -64,7 +66,7 @@ pub fn attach_planned(
 pub(crate) fn attach_grouped(
     mounts: &mut Mounts,
     groups: &mut Groups,
-    filesystems: &mut Filesystems,
+    store: &mut Store,
     plan: &Planned,
     types: &[Mount],
 ) -> Result<(), AllocError>
@@ -72,44 +74,64 @@ pub(crate) fn attach_grouped(
     ensures ok { OnOk result ((left : List Location)
         × (map location_of left ≡ points_left plan.now.points.now mounts.old)
         × (list_all is_small left ≡ true)
-        × (kept mounts.new filesystems.new
-        ≡ with_planned plan.now.copies.now plan.now.points.now left (kept mounts.old filesystems.old))) }
+        × (kept mounts.new store.new
+        ≡ with_planned plan.now.copies.now plan.now.points.now left (kept mounts.old store.old))) }
     ensures groups_ok { OnOk result
         (GrowsTo groups.old groups.new (map typed types.now) (map new_group plan.now.groups.now)) }
     ensures slots { OnOk result (list_all has_small_slots plan.now.copies.now ≡ true) }
     ensures places { OnOk result (list_all is_small (points_taken plan.now.points.now mounts.old) ≡ true) }
     ensures err_mounts { OnErr result (mounts.new ≡ mounts.old) }
     ensures err_groups { OnErr result (groups.new ≡ groups.old) }
-    ensures err_filesystems { OnErr result (filesystems.new ≡ filesystems.old) }
+    ensures err_store { OnErr result (store.new ≡ store.old) }
 {
-    if !plan_has_room(filesystems, plan) {
+    if !plan_has_room(store, plan) {
         return Err(AllocError);
     }
     let moved = enter_planned(mounts, groups, plan, types)?;
-    pin_all(filesystems, &moved);
-    show_all(filesystems, plan.copies);
-    unpin_all(filesystems, &moved);
+    exchange_uses(store.plain_mut(), &moved, plan.copies);
+    hold_overlays(store, plan.copies);
     Ok(())
+}
+
+// The inodes at new mount points are used once more, those that mounts come with too, and those at the mount points that
+// were left once less.
+fn exchange_uses(filesystems: &mut Filesystems, moved: &[Moved], copies: &[Mount])
+    requires points { list_all (λ point. point_has_room (most_counted - length moved.now) (shown filesystems.old)
+        (Some point)) (taken_of moved.now) ≡ true }
+    requires copies { list_all (has_room (most_counted - 2 * length copies.now)
+        (folded pinned_by (shown filesystems.old) (taken_of moved.now))) copies.now ≡ true }
+    ensures { shown filesystems.new ≡ folded unpinned_by
+        (folded shown_by (folded pinned_by (shown filesystems.old) (taken_of moved.now)) copies.now)
+        (left_of moved.now) }
+{
+    pin_all(filesystems, moved);
+    show_all(filesystems, copies);
+    unpin_all(filesystems, moved);
 }
 
 // Whether all uses that come can be counted: two of an inode for each copy, and one for each mount that moves, at the
 // most.
-fn plan_has_room(filesystems: &Filesystems, plan: &Planned) -> bool
+fn plan_has_room(store: &Store, plan: &Planned) -> bool
     ensures fits { result ≡ true → 2 * length plan.now.copies.now + length plan.now.points.now ≤ most_counted }
     ensures copies { result ≡ true → list_all
         (has_room (most_counted - (2 * length plan.now.copies.now + length plan.now.points.now))
-        (shown filesystems.now))
+        (shown store.now.plain))
+        plan.now.copies.now ≡ true }
+    ensures overlays { result ≡ true → list_all
+        (merged_has_room (most_counted - (2 * length plan.now.copies.now + length plan.now.points.now))
+        (map merged_of store.now.overlays))
         plan.now.copies.now ≡ true }
     ensures points { result ≡ true → list_all
         (λ point. point_has_room (most_counted - (2 * length plan.now.copies.now + length plan.now.points.now))
-        (shown filesystems.now) (Some point.place)) plan.now.points.now ≡ true }
+        (shown store.now.plain) (Some point.place)) plan.now.points.now ≡ true }
     ensures slots { result ≡ true → list_all has_small_slots plan.now.copies.now ≡ true }
 {
     let most = u64::MAX - 2 * plan.copies.len() as u64;
     let moves = plan.points.len() as u64;
     moves <= most
-        && have_room(filesystems, plan.copies, most - moves)
-        && places_have_room(filesystems, plan.points, most - moves)
+        && have_room(store.plain(), plan.copies, most - moves)
+        && overlays_have_room(store, plan.copies, most - moves)
+        && places_have_room(store.plain(), plan.points, most - moves)
 }
 
 // Whether the inodes at new mount points have no more uses than so many.

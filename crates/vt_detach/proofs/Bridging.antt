@@ -1,10 +1,11 @@
 -- From what code counts to what the sweep leaves: where inodes got uses and lost uses, and mounts and filesystems went
 -- as the
 -- sweep says, the code's world is the one that the sweep leaves, and counts what is in it.
-use Rattle.std.proofs.Common.{◌≡◌, sym, subst, ◌∙◌, ℕ, nat_eq, List, filter, map}
+use Rattle.std.proofs.Common.{true, ◌≡◌, sym, subst, ◌∙◌, ℕ, nat_eq, List, filter, map}
 use Rattle.vt_spec.specs.Machine.SameWorlds.{SameWorlds, without_changes}
-use Rattle.vt_spec.specs.Machine.Settled.{settled}
+use Rattle.vt_spec.specs.Machine.Settled.{is_mounted, settled}
 use Rattle.vt_spec.specs.Machine.World.{World, filesystem_numbered}
+use Rattle.vt_laws_overlays_stay.specs.Woven.{are_rising}
 use Rattle.vt_spec.specs.Machine.Invariants.{IsWorld}
 use Rattle.vt_laws_counts.specs.Counted.{IsCounted}
 use Rattle.vt_laws_counts.specs.Using.{AreThere, Exchanges, exchanged}
@@ -20,7 +21,8 @@ use Rattle.vt_mount.specs.MountsValue.{mounts_in}
 use Rattle.vt_laws_worlds.proofs.RaisedInUse.{worlds_are_in_use}
 use Rattle.vt_world.specs.Held.{CountsItsMounts, IsHeld}
 use Rattle.vt_world.specs.WorldValue.{WorldValue, overlays_seen, world_of}
-use Rattle.vt_detach.proofs.Overlaid.{AreStillMounted, KeepsOverlays, found_plain_one, is_plain_one, no_upper_midway, plain_numbers_left, swept_keeps}
+use Rattle.vt_detach.proofs.BesideOverlays.{swept_overlays}
+use Rattle.vt_detach.proofs.Overlaid.{KeepsOverlays, found_plain_one, is_plain_one, no_upper_midway, plain_numbers_left, swept_rise}
 use Rattle.vt_detach.proofs.Showing.{ShowsAs, shown_has, shown_is_counted, shown_is_same}
 use Rattle.vt_laws_letting_go.specs.TreesOverlays.{in_use_of}
 
@@ -34,11 +36,12 @@ pub record ComesFrom (old : WorldValue) (after : World ℕ) (gained lost : List 
   pub inodes : inodes_seen entry ≡ exchanged (counted was.count) gained lost (inodes_seen was)
   pub exchanges : Exchanges gained lost (counted was.count) (world_of old) (in_use_of after)
 
--- Mounts and filesystems are those that the sweep leaves, in their order, and overlays those of before.
+-- Mounts and filesystems are those that the sweep leaves, in their order, and overlays those of before that mounts show
+-- still.
 pub record IsSwept (old : WorldValue) (after : World ℕ) (gained lost : List Inode) (new : WorldValue) : Type 0 where
   pub midway : KeepsOverlays old after
-  pub mounted : AreStillMounted old (in_use_of after)
-  pub overlays : overlays_seen new.overlays ≡ overlays_seen old.overlays
+  pub overlays : overlays_seen new.overlays
+      ≡ filter (λ overlay. is_mounted nat_eq (in_use_of after) overlay.number) (overlays_seen old.overlays)
   pub mounts : (in_use_of after).mounts ≡ mounts_in new.mounts
   pub numbers : map (λ f. f.number) (filter is_plain_one (in_use_of after).filesystems)
       ≡ map (λ entry. counted entry.count) new.filesystems
@@ -70,15 +73,15 @@ module _ (old : WorldValue) (held : IsHeld old) (after : World ℕ) (gained lost
       (sym (found_plain_one old held from.was from.among)) was_counted)
       from.there))
 
-  -- the sweep leaves the overlays
-  pub overlays_left : KeepsOverlays old left
-  overlays_left = swept_keeps old held.overlays after swept.midway swept.mounted
+  -- the sweep leaves filesystems in the order of their numbers
+  pub rise_left : are_rising left.filesystems ≡ true
+  rise_left = swept_rise after swept.midway.rise
 
   -- what the sweep leaves shows as code's world does
   pub shows_left : ShowsAs left new
   shows_left = record {
-    overlays = overlays_left.overlays ∙ sym swept.overlays;
-    rise = overlays_left.rise;
+    overlays = swept_overlays old held after swept.midway ∙ sym swept.overlays;
+    rise = rise_left;
     mounts = swept.mounts;
     groups = has;
     numbers = plain_numbers_left after ∙ swept.numbers;

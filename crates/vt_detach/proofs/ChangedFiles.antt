@@ -278,8 +278,8 @@ module _ (value : WorldValue) (held : IsHeld value) (location : Location ℕ) (c
       (with_tree (world_of value) (filesystem_of (world_of value) location) (files_seen partner.entry)) (world_of new)
       (sameness_is_an_equivalence.back
       (with_tree (world_of value) (filesystem_of (world_of value) location) (files_seen partner.entry)) (after fresh)
-      (counted_changes_are_swept_beside_overlays fresh (world_of value) location (inodes_seen made.entry) change is_change
-      (files_seen partner.entry) (ap tree_of inodes_after) (numbers_apart_each partner.entry)
+      (counted_changes_are_swept_beside_overlays fresh (world_of value) location (inodes_seen made.entry) change
+      is_change (files_seen partner.entry) (ap tree_of inodes_after) (numbers_apart_each partner.entry)
       (numbers_listed partner.entry)))
       same_with_tree
 
@@ -292,7 +292,8 @@ module _ (value : WorldValue) (held : IsHeld value) (location : Location ℕ) (c
   at_the_one =
       subst (λ w. filesystem_at nat_eq w location
       ≡ filesystem_numbered nat_eq w (filesystem_of (world_of value) location))
-      (sym (only_files_change_beside_overlays fresh (world_of value) location (inodes_seen made.entry) change is_change)) refl
+      (sym (only_files_change_beside_overlays fresh (world_of value) location (inodes_seen made.entry) change
+      is_change)) refl
       ∙ ap (filesystem_numbered nat_eq (after fresh)) made.shows
 
   counted_then : (was entry : FilesystemEntry) → Among was value.filesystems
@@ -311,7 +312,8 @@ module _ (value : WorldValue) (held : IsHeld value) (location : Location ℕ) (c
           (subst (IsCounted (after fresh) (filesystem_numbered nat_eq (after fresh) (counted count)))
           (ap (λ x. changed nat_eq (inodes_seen x) change) (sym same) ∙ sym inodes)
           (subst (λ f. IsCounted (after fresh) f (changed nat_eq (inodes_seen made.entry) change)) at_the_one
-          (counts_follow_changes_beside_overlays fresh (world_of value) location (inodes_seen made.entry) change is_change)))
+          (counts_follow_changes_beside_overlays fresh (world_of value) location (inodes_seen made.entry) change
+          is_change)))
       by false e inodes =
           subst (IsCounted (after fresh) (filesystem_numbered nat_eq (after fresh) (counted was.count))) (sym inodes)
           (other_counts_stay_beside_overlays fresh (world_of value) location (inodes_seen made.entry) change is_change

@@ -22,12 +22,12 @@ use Rattle.vt_tasks.specs.Open.{numbered}
 use Rattle.vt_tasks.specs.TasksValue.{Tasks, called, changed_by, changed_called, replaced}
 use Rattle.vt_detach.specs.Events.{Permits}
 use Rattle.vt_world.specs.Held.{IsHeld, writes_of_task, writes_on}
-use Rattle.vt_detach.specs.Uses.{kept, let_go_mount, released_use, without_location}
+use Rattle.vt_detach.specs.Uses.{Merged, kept_of, kept_with, let_go_mount, released_use, without_location}
 use Rattle.vt_world.specs.WorldValue.{WorldValue, world_of}
 use Rattle.vt_detach.proofs.LocationsSeen.{seen_where_located}
 use Rattle.vt_detach.proofs.Leaving.{left_done}
 use Rattle.vt_detach.proofs.Moving.{Moves, Use}
-use Rattle.vt_detach.proofs.Remaining.{remade}
+use Rattle.vt_detach.proofs.Remaining.{remade_with}
 use Rattle.vt_detach.proofs.Splits.{IsSplit, locations_around, replaced_split, times_replaced, writes_replaced}
 use Rattle.vt_detach.proofs.Staying.{IsDone, after, staying_is_done}
 use Rattle.vt_tasks.proofs.LocationLemmas.{place_of}
@@ -139,16 +139,16 @@ module _ (value : WorldValue) (whole : IsHeld value) (name : TaskName) (task : T
 
 -- A descriptor is closed, and what it alone used is let go.
 pub file_is_closed : (value : WorldValue) (name : TaskName) (number : ℕ) (closed : OpenFile) (mounts : List MountEntry)
-    (filesystems : Filesystems) (tasks : Tasks)
+    (filesystems : Filesystems) (overlays : List Merged) (tasks : Tasks)
     → IsHeld value → Permits value name (ToClose number) → closed.location.node.slot < 18446744073709551616
     → ((task : Task ℕ) → Among task value.tasks → are_ascending_from 0 task.descriptors ≡ true)
     → Some (numbered number closed)
     ≡ option_and_then (λ task. descriptor_numbered task number) (called name value.tasks)
     → tasks ≡ changed_called name (λ task. without_descriptor task number) value.tasks
-    → kept mounts filesystems ≡ without_location closed.location (opens_for_writing (access_of closed.access))
-    (kept value.mounts value.filesystems)
-    → IsDone value name (ToClose number) (remade value mounts filesystems tasks)
-file_is_closed value name number closed mounts filesystems tasks whole permits few rising was is is_kept =
+    → kept_with mounts filesystems overlays
+    ≡ without_location closed.location (opens_for_writing (access_of closed.access)) (kept_of value)
+    → IsDone value name (ToClose number) (remade_with value mounts filesystems overlays tasks)
+file_is_closed value name number closed mounts filesystems overlays tasks whole permits few rising was is is_kept =
     let task = permits.task in
     let one = replaced_split name value.tasks task task whole.in_world.tasks.one_task permits.called refl in
     let among : Among task value.tasks = subst (λ all. Among task all) (sym one.was)
@@ -162,14 +162,14 @@ file_is_closed value name number closed mounts filesystems tasks whole permits f
     (subst (λ all. Among (location_of closed.location) all) (sym moves.was)
     (among-append_right moves.front ((location_of closed.location ∷ []) ++ moves.back) (location_of closed.location)
     (inl refl))) in
-    subst (λ all. IsDone value name (ToClose number) (remade value mounts filesystems all))
+    subst (λ all. IsDone value name (ToClose number) (remade_with value mounts filesystems overlays all))
     (sym (is ∙ ap (changed_by (λ other. without_descriptor other number) value.tasks) permits.called))
     (left_done value whole (replaced (without_descriptor task number) value.tasks) []
-    (used_by (numbered number closed)) moves mounts filesystems
+    (used_by (numbered number closed)) moves mounts filesystems overlays
     (is_kept ∙ (λ i. let_go_mount (counted closed.location.mount.count)
     (released_use (counted closed.location.mount.count)
     (sym (seen_where_located value whole closed.location few well) i, number_of closed.location.node)
-    (opens_for_writing (access_of closed.access)) (kept value.mounts value.filesystems))))
+    (opens_for_writing (access_of closed.access)) (kept_of value))))
     name (ToClose number) task (record { called = permits.called; given = permits.given; named = refl; applied = λ fresh. refl })
     (same_tasks value whole name task permits.called number (numbered number closed) goes))
 

@@ -20,7 +20,7 @@ use Rattle.vt_tasks.specs.TasksValue.{Tasks}
 use Rattle.vt_world.specs.Held.{CountsWhatIsInIt, IsHeld}
 use Rattle.vt_detach.specs.NamespacesLeft.{MountsAreLeft, namespace_entry, numbers_inside, with_one_task_less}
 use Rattle.vt_retype.specs.Retyping.{AreTyped}
-use Rattle.vt_detach.specs.Uses.{Kept, kept}
+use Rattle.vt_detach.specs.Uses.{Kept, Merged, kept_of, kept_with, overlays_kept}
 use Rattle.vt_world.specs.WorldValue.{NamespaceEntry, WorldValue, namespace_of, world_of}
 use Rattle.vt_detach.proofs.Bridging.{IsSwept}
 use Rattle.vt_detach.proofs.Finishing.{CountsBeside, IsApplied}
@@ -89,13 +89,13 @@ module _ (value : WorldValue) (whole : IsHeld value) (tasks : Tasks) (more less 
 
   abbrev k_left : Kept
   k_left = folded (leave_use world)
-      (folded (Rattle.vt_detach.proofs.Moving.gain world) (kept value.mounts value.filesystems) more) less
+      (folded (Rattle.vt_detach.proofs.Moving.gain world) (kept_of value) more) less
 
   typed_left : AreTyped value.groups k_left.mounts
   typed_left =
       uses_left_typed value.groups world less
-      (folded (Rattle.vt_detach.proofs.Moving.gain world) (kept value.mounts value.filesystems) more)
-      (gained_typed value.groups world more (kept value.mounts value.filesystems) (own_types value whole))
+      (folded (Rattle.vt_detach.proofs.Moving.gain world) (kept_of value) more)
+      (gained_typed value.groups world more (kept_of value) (own_types value whole))
 
   abbrev gained : List Rattle.vt_laws_letting_go.specs.OneByOne.Inode
   gained = inodes_of_uses world more
@@ -118,7 +118,7 @@ module _ (value : WorldValue) (whole : IsHeld value) (tasks : Tasks) (more less 
   inside_left last =
       ap (map (λ (mount : Mount ℕ). mount.number))
       (inside_stays is_inside nowhere value whole start gained going attached less k_gained reached_gains
-      ∙ ap (filter is_inside) (same_moved_mounts world more [] (kept value.mounts value.filesystems))
+      ∙ ap (filter is_inside) (same_moved_mounts world more [] (kept_of value))
       ∙ ap (λ b. filter (λ (mount : Mount ℕ). b && is_inside mount) world.mounts) (sym last))
     where
       nowhere : (mount : Mount ℕ) → is_some mount.namespace ≡ false → is_inside mount ≡ false
@@ -128,33 +128,42 @@ module _ (value : WorldValue) (whole : IsHeld value) (tasks : Tasks) (more less 
           by None f = refl
           by (Some number) f = absurd (true≢false f)
 
-  module _ (filesystems : Filesystems) (namespaces : List NamespaceEntry)
+  module _ (filesystems : Filesystems) (overlays : List Merged) (namespaces : List NamespaceEntry)
       (are : namespaces ≡ with_one_task_less count entries)
       (name : TaskName) (permit : Permit ℕ) (task : Task ℕ)
       (is : IsApplied value name permit task (namespaces_ended nat_eq next)) where
     -- the world of the code but for types
     abbrev untyped : List MountEntry → WorldValue
-    untyped mounts = record value { mounts = mounts; filesystems = filesystems; namespaces = namespaces; tasks = tasks }
+    untyped mounts = record value {
+      mounts = mounts;
+      filesystems = filesystems;
+      overlays = overlays_kept overlays value.overlays;
+      namespaces = namespaces;
+      tasks = tasks;
+    }
 
-    module _ (mounts : List MountEntry) (at : Reached value start gained going [] (kept mounts filesystems))
+    module _ (mounts : List MountEntry)
+        (at : Reached value start gained going [] (kept_with mounts filesystems overlays))
         (all_gone : (entry : MountEntry) → Among entry mounts → going entry.mount ≡ false) where
       left_swept : IsSwept value start gained at.lost (untyped mounts)
       left_swept =
-          reached_swept value start gained going (kept mounts filesystems) at all_gone (untyped mounts) refl refl refl
+          reached_swept value start gained going (kept_with mounts filesystems overlays) at all_gone (untyped mounts)
+          overlays refl refl refl
           (same_files_keep value world start refl (keeps_itself value whole.overlays))
           (ap (map (λ (n : Namespace ℕ). record n { change = 0 }))
           (namespaces_are count tasks entries counts next refl same_namespaces ∙ ap (map namespace_of) (sym are)))
 
       left_counts : CountsBeside (untyped mounts)
       left_counts =
-          reached_counted value start gained going (kept mounts filesystems) at all_gone (untyped mounts) refl refl refl
+          reached_counted value start gained going (kept_with mounts filesystems overlays) at all_gone (untyped mounts)
+          overlays refl refl refl
           (subst (λ all. Rattle.std.specs.Prelude.All (CountsWhatIsInIt (world_of (untyped mounts))) all) (sym are)
           (left_counted count tasks entries counts (world_of (untyped mounts)) refl))
 
     -- all mounts get the types that the groups tell, once those of a namespace that ends have left theirs
     pub departs : (mounts : List MountEntry) (groups : Grouping)
         → MountsAreLeft (counted count) (namespace_entry count entries) k_left value.groups
-        (kept mounts filesystems) groups
+        (kept_with mounts filesystems overlays) groups
         → IsDone value name permit (record (untyped mounts) { groups = groups })
     departs mounts groups are_left =
         subst (λ all. IsDone value name permit (record (untyped all) { groups = groups })) (sym left.typed)
@@ -171,7 +180,7 @@ module _ (value : WorldValue) (whole : IsHeld value) (tasks : Tasks) (more less 
         (left_counts left.entries left.reached left.all_gone)
         refl)
       where
-        left : IsLeft value start gained going (kept mounts filesystems) groups
+        left : IsLeft value start gained going (kept_with mounts filesystems overlays) groups
         left = leaves value whole world whole.in_world.mounts tasks count entries counts remaining stays
-            value.groups whole.groups gained k_left (kept mounts filesystems) reached_uses typed_left inside_left groups
-            are_left
+            value.groups whole.groups gained k_left (kept_with mounts filesystems overlays) reached_uses typed_left
+            inside_left groups are_left

@@ -151,6 +151,7 @@ module _ (old : WorldValue) (number : ℕ) (pending : List ℕ) (gained lost : L
   detached_kept : IsKeptBut old (number ∷ pending) pending gained (lost ++ more) world kept_now
   detached_kept = record {
     held = is.held;
+    merged = is.merged;
     mounts = is.mounts
         ∙ map_alike (detached_in (number ∷ pending)) (λ mount. detached_in pending (detached_if number mount))
         (mounts_in k.mounts)
@@ -168,7 +169,7 @@ module _ (old : WorldValue) (number : ℕ) (pending : List ℕ) (gained lost : L
     located = is.located;
     in_use = is.in_use;
     mounted = is.mounted;
-    keeps = is.keeps;
+    leaves = is.leaves;
     points = λ mount m one p small.
         let from = among-from_map (detached_if number) (mounts_in k.mounts) mount
         (subst (λ all. Among mount all) (mounts_detached number k.mounts) m) in

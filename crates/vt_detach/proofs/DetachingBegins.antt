@@ -6,7 +6,7 @@ use Rattle.std.specs.List.{list_all, list_any}
 use Rattle.std.proofs.lemmas.Bool.{or_parts}
 use Rattle.vt_spec.specs.Lists.{any_pair, folded, is_among}
 use Rattle.vt_spec.specs.Machine.Mounts.{Location as Place, Mount, detached, mount_in, no_mount}
-use Rattle.vt_spec.specs.Machine.Settled.{filesystem_lives, is_mounted, mount_lives, without_dead_filesystems}
+use Rattle.vt_spec.specs.Machine.Settled.{filesystem_lives, has_layer_on, is_mounted, mount_lives, without_dead_filesystems}
 use Rattle.vt_spec.specs.Machine.World.{Filesystem, World, all_locations, mount_at, with_mounts}
 use Rattle.vt_spec.specs.Machine.Invariants.{is_nowhere_or_attached}
 use Rattle.vt_laws_counts.specs.OverlaysStay.{layer_count}
@@ -21,19 +21,19 @@ use Rattle.vt_laws_letting_go.specs.Leaving.{MountsStand, stands_on_attached}
 use Rattle.vt_laws_letting_go.specs.Mounting.{inode_at}
 use Rattle.vt_laws_letting_go.specs.OneByOne.{Inode, MountsInUseBut}
 use Rattle.vt_laws_letting_go.specs.OneByOne as Looks
-use Rattle.vt_laws_letting_go.proofs.Lists.{Among, all_from_among, all_pass, among-from_map, among_from_all, any-map, any_passes, among-from_filter, fails, filter_all, filter_alike, filter_twice, map_same, one_passes, or_second, passes, found_in}
+use Rattle.vt_laws_letting_go.proofs.Lists.{Among, all_from_among, all_pass, among-from_map, among_from_all, any-filter, any-map, any_passes, among-from_filter, fails, filter_all, filter_alike, filter_twice, map_same, one_passes, or_second, passes, found_in}
 use Rattle.vt_laws_letting_go.proofs.sweeps.OneByOne.{mounts_go_one_by_one}
 use Rattle.vt_location.specs.Numbers.{counted}
 use Rattle.vt_mount.specs.MountsValue.{mounts_in}
-use Rattle.vt_world.specs.Held.{CountsItsUses, IsHeld}
+use Rattle.vt_world.specs.Held.{CountsItsUses}
 use Rattle.vt_detach.specs.Uses.{Kept}
 use Rattle.vt_world.specs.WorldValue.{WorldValue, world_of}
-use Rattle.vt_detach.proofs.BesideOverlays.{lives_alike, lives_more, overlays_live}
+use Rattle.vt_detach.proofs.BesideOverlays.{lives_alike, lives_more}
 use Rattle.vt_detach.proofs.Detached.{IsDetaching, detach_first}
 use Rattle.vt_detach.proofs.Keeping.{IsKeptBut, IsShownIn, detached_in, looked_at, no_more, points_lost, same_number}
 use Rattle.vt_detach.proofs.MountsGone.{found_mapped, none_numbered, pending_filesystem, pending_number}
 use Rattle.vt_detach.proofs.Moving.{map_itself, swap_eq}
-use Rattle.vt_detach.proofs.Overlaid.{KeepsOverlays, none_to_mount, same_files_keep}
+use Rattle.vt_detach.proofs.MountsLeave.{leaves_alike, merged_alike}
 use Rattle.vt_spec.proofs.Lists.{map_alike, map_twice}
 use Rattle.vt_spec.proofs.Worlds.{shown-mapped}
 use Rattle.vt_laws_letting_go.specs.TreesOverlays.{in_use_of}
@@ -203,7 +203,7 @@ module _ (before : World ℕ) where
 -- To look at mounts one after the other, each time with the filesystems, is to look at all mounts and then at the
 -- filesystems.
 
-module _ (old : WorldValue) (held : IsHeld old) (world : World ℕ) (keeps : KeepsOverlays old world) (number : ℕ) where
+module _ (world : World ℕ) (number : ℕ) where
   abbrev once : World ℕ
   once = Looks.let_go_mount world number
 
@@ -216,6 +216,26 @@ module _ (old : WorldValue) (held : IsHeld old) (world : World ℕ) (keeps : Kee
       any_passes (λ (mount : Mount ℕ). nat_eq n mount.filesystem) world.mounts one.0
       (among-from_filter (λ (mount : Mount ℕ). not (nat_eq mount.number number)
       || mount_lives nat_eq world mount) world.mounts one.0 one.1).0 one.2
+
+  unmounted_still : (n : ℕ) → is_mounted nat_eq world n ≡ false → is_mounted nat_eq once n ≡ false
+  unmounted_still n h = by (is_mounted nat_eq once n) refl
+    where
+      by : (b : Bool) → is_mounted nat_eq once n ≡ b → b ≡ false
+      by true e = absurd (true≢false (sym (mounted_before n e) ∙ h))
+      by false e = refl
+
+  -- an overlay that is dead already keeps nothing alive
+  same_lives : (f : Filesystem ℕ) → filesystem_lives nat_eq between f ≡ filesystem_lives nat_eq once f
+  same_lives f =
+      ap (λ b. is_mounted nat_eq once f.number || b)
+      (any-filter (λ (merged : Filesystem ℕ). has_layer_on nat_eq f.number merged
+      && is_mounted nat_eq once merged.number) (filesystem_lives nat_eq world) world.filesystems
+      (λ merged m dead. none (has_layer_on nat_eq f.number merged) (is_mounted nat_eq once merged.number)
+      (unmounted_still merged.number (or_parts (is_mounted nat_eq world merged.number) _ dead).0)))
+    where
+      none : (a b : Bool) → b ≡ false → (a && b) ≡ false
+      none true b e = e
+      none false b e = refl
 
   no_and : (b : Bool) → false ≡ (b && false)
   no_and true = refl
@@ -234,18 +254,17 @@ module _ (old : WorldValue) (held : IsHeld old) (world : World ℕ) (keeps : Kee
       ap (λ all. record once { filesystems = all })
       (filter_alike (filesystem_lives nat_eq between) (filesystem_lives nat_eq once)
       (filter (filesystem_lives nat_eq world) world.filesystems)
-      (λ f m. lives_alike once between (overlays_live old world keeps (none_to_mount old held world)) (λ n. refl) f)
+      (λ f m. same_lives f)
       ∙ filter_twice (filesystem_lives nat_eq once) (filesystem_lives nat_eq world) (filesystem_lives nat_eq once)
       (λ f. follows f) world.filesystems)
 
-looked_all : (old : WorldValue) → IsHeld old → (world : World ℕ) → KeepsOverlays old world → (numbers : List ℕ)
+looked_all : (world : World ℕ) (numbers : List ℕ)
     → folded looked_at (without_dead_filesystems nat_eq world) numbers
     ≡ without_dead_filesystems nat_eq (Looks.let_go_mounts world numbers)
-looked_all old held world keeps [] = refl
-looked_all old held world keeps (number ∷ numbers) =
-    ap (λ one. folded looked_at one numbers) (looked_once old held world keeps number)
-    ∙ looked_all old held (Looks.let_go_mount world number)
-    (same_files_keep old world (Looks.let_go_mount world number) refl keeps) numbers
+looked_all world [] = refl
+looked_all world (number ∷ numbers) =
+    ap (λ one. folded looked_at one numbers) (looked_once world number)
+    ∙ looked_all (Looks.let_go_mount world number) numbers
 
 -- The begin
 
@@ -369,12 +388,10 @@ module _ (old : WorldValue) (gained lost : List Inode) (world : World ℕ) (k : 
       (λ mount. ap (nat_eq n) (pending_filesystem gone mount))) f
       ∙ passes (filesystem_lives nat_eq world) world.filesystems is.mounted f m)
 
-  begun_keeps : KeepsOverlays old after
-  begun_keeps = same_files_keep old world after refl is.keeps
-
   begun_kept : IsKeptBut old gone gone gained lost after k
   begun_kept = record {
     held = is.held;
+    merged = is.merged ∙ merged_alike world after refl showing;
     mounts = ap (map (detached_in gone)) same_mounts;
     uses = all_from_among (CountsItsUses after) k.mounts (λ entry m.
         let counts = among_from_all (CountsItsUses world) k.mounts is.uses entry m in
@@ -385,7 +402,7 @@ module _ (old : WorldValue) (gained lost : List Inode) (world : World ℕ) (k : 
     located = begun_located;
     in_use = begun_in_use;
     mounted = begun_mounted;
-    keeps = begun_keeps;
+    leaves = leaves_alike world after refl showing old is.leaves;
     points = is.points;
     places = λ mount m place p.
         let from = among-from_map (detached_in gone) world.mounts mount m in
@@ -398,7 +415,7 @@ module _ (old : WorldValue) (gained lost : List Inode) (world : World ℕ) (k : 
   ends_living : folded looked_at after gone ≡ in_use_of after
   ends_living =
       ap (λ one. folded looked_at one gone) (sym all_live)
-      ∙ looked_all old is.held after begun_keeps gone
+      ∙ looked_all after gone
       ∙ ap (without_dead_filesystems nat_eq) (sym (mounts_go_one_by_one after gone begun_in_use))
     where
       all_live : without_dead_filesystems nat_eq after ≡ after

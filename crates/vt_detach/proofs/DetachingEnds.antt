@@ -1,7 +1,6 @@
 -- The begin in a world with its invariants, and the end: where all mounts of a list are detached, the sweep's world is
 -- left.
-use Rattle.std.proofs.lemmas.List.Elements.{All-nil}
-use Rattle.std.proofs.Common.{◌≡◌, refl, sym, ap, subst, ◌∙◌, inl, ℕ, ◌+◌, nat_eq, Bool, true, false, true≢false, cond, ◌&&◌, List, [], map, Option, Some, None, option_map, is_some}
+use Rattle.std.proofs.Common.{◌≡◌, refl, sym, ap, subst, ◌∙◌, inl, ℕ, ◌+◌, nat_eq, Bool, true, false, true≢false, cond, ◌&&◌, List, [], map, filter, Option, Some, None, option_map, is_some}
 use Rattle.std.specs.Prelude.{All, option_to_list}
 use Rattle.std.specs.List.{list_all}
 use Rattle.std.proofs.lemmas.Bool.{and_parts}
@@ -13,7 +12,7 @@ use Rattle.vt_spec.specs.Machine.Mounts.Propagation.{Private}
 use Rattle.vt_spec.specs.Machine.Permits.{Permit}
 use Rattle.vt_spec.specs.Machine.Receives.{regrouped}
 use Rattle.vt_spec.specs.Machine.SameWorlds.{without_changes}
-use Rattle.vt_spec.specs.Machine.Settled.{is_located}
+use Rattle.vt_spec.specs.Machine.Settled.{is_located, is_mounted}
 use Rattle.vt_spec.specs.Machine.World.{Filesystem, Task, World, filesystem_numbered, is_directory_at, mount_at, node_at, with_mounts}
 use Rattle.vt_spec.specs.Machine.Invariants.{has_its_root, is_located_well, is_nowhere_or_attached, is_there}
 use Rattle.vt_spec.specs.Tree.{is_directory_node}
@@ -36,9 +35,8 @@ use Rattle.vt_mount.specs.MountsValue.{MountEntry, mounts_in}
 use Rattle.vt_laws_worlds.proofs.RaisedInUse.{worlds_are_in_use}
 use Rattle.vt_laws_worlds.proofs.worlds.Roots.{directory_there}
 use Rattle.vt_world.specs.Held.{CountsItsMounts, CountsItsUses, CountsWhatIsInIt, IsHeld, IsMountedSoOften, writes_of}
-use Rattle.vt_detach.specs.Uses.{kept}
+use Rattle.vt_detach.specs.Uses.{Merged, kept_of, kept_with, overlays_kept}
 use Rattle.vt_world.specs.WorldValue.{WorldValue, overlays_seen, world_of}
-use Rattle.vt_detach.proofs.BesideOverlays.{layers_of_value}
 use Rattle.vt_detach.proofs.Bridging.{IsSwept}
 use Rattle.vt_detach.proofs.Detached.{IsDetaching}
 use Rattle.vt_detach.proofs.DetachingBegins.{HasChildrenOf, detached_world}
@@ -47,9 +45,11 @@ use Rattle.vt_detach.proofs.GoneAlone.{alone_has, alone_regroups}
 use Rattle.vt_detach.proofs.Grouped.{settled_has, stays_private}
 use Rattle.vt_detach.proofs.Keeping.{IsKeptBut, detached_in, no_more}
 use Rattle.vt_detach.proofs.LocationsSeen.{seen_where_located}
+use Rattle.vt_detach.proofs.MountsLeave.{leaves_at_first, merged_at_first}
 use Rattle.vt_detach.proofs.Moving.{map_itself}
-use Rattle.vt_detach.proofs.Overlaid.{KeepsOverlays, keeps_itself, none_still, none_to_mount, plain_ones_are, same_files_keep}
-use Rattle.vt_detach.proofs.Remaining.{remade}
+use Rattle.vt_detach.proofs.Overlaid.{KeepsOverlays, keeps_itself, layers_of_fewer, plain_ones_are, same_files_keep}
+use Rattle.vt_detach.proofs.Remaining.{remade_with}
+use Rattle.vt_detach.proofs.OverlaysRemade.{counted_kept, seen_kept}
 use Rattle.vt_detach.proofs.Staying.{IsDone}
 use Rattle.vt_detach.proofs.TypedEvents.{typed_done, typed_value}
 use Rattle.vt_spec.proofs.Lists.{map_alike, map_twice}
@@ -93,9 +93,10 @@ module _ (value : WorldValue) (whole : IsHeld value) where
           (list_all (is_directory_at nat_eq world) (option_to_list mount.mount_point))
           (passes (has_its_root nat_eq world) world.mounts whole.in_world.roots mount m)).1 place at_point)
 
-  pub held_is_kept : IsKeptBut value [] [] [] [] world (kept value.mounts value.filesystems)
+  pub held_is_kept : IsKeptBut value [] [] [] [] world (kept_of value)
   held_is_kept = record {
     held = whole;
+    merged = merged_at_first value whole;
     mounts = map_itself (mounts_in value.mounts);
     uses = whole.mounts;
     numbers = ap (map (λ (f : Filesystem ℕ). f.number)) (plain_ones_are value whole.overlays)
@@ -117,7 +118,7 @@ module _ (value : WorldValue) (whole : IsHeld value) where
     located = Roots.locations_of_worlds_stand world whole.in_world;
     in_use = (worlds_are_in_use world whole.in_world).mounts;
     mounted = (worlds_are_in_use world whole.in_world).filesystems;
-    keeps = keeps_itself value whole.overlays;
+    leaves = leaves_at_first value whole;
     points = λ mount m point p few. seen_where_located value whole point few
         (point_located mount m (location_of point) p);
     places = λ mount m place p. refl;
@@ -125,20 +126,25 @@ module _ (value : WorldValue) (whole : IsHeld value) where
 
 -- The end
 
-module _ (old : WorldValue) (after : World ℕ) (gained lost : List Inode) (new : WorldValue)
-    (is : IsKeptBut old [] [] gained lost (in_use_of after) (kept new.mounts new.filesystems))
+module _ (old : WorldValue) (after : World ℕ) (gained lost : List Inode) (new : WorldValue) (overlays : List Merged)
+    (is : IsKeptBut old [] [] gained lost (in_use_of after) (kept_with new.mounts new.filesystems overlays))
     (same_tasks : after.tasks ≡ new.tasks)
-    (same_overlays : overlays_seen new.overlays ≡ overlays_seen old.overlays) where
+    (same_overlays : new.overlays ≡ overlays_kept overlays old.overlays) where
   mounts_are : (in_use_of after).mounts ≡ mounts_in new.mounts
   mounts_are = is.mounts ∙ sym (map_itself (mounts_in new.mounts))
+
+  -- the overlays are those of before that mounts show still
+  overlays_left : overlays_seen new.overlays
+      ≡ filter (λ overlay. is_mounted nat_eq (in_use_of after) overlay.number) (overlays_seen old.overlays)
+  overlays_left =
+      ap overlays_seen same_overlays ∙ seen_kept old is.held (in_use_of after) is.leaves overlays is.merged
 
   pub detached_swept : KeepsOverlays old after
       → (without_changes after).namespaces ≡ (without_changes (world_of new)).namespaces
       → (without_changes after).tasks ≡ (without_changes (world_of new)).tasks → IsSwept old after gained lost new
   detached_swept keeps namespaces tasks = record {
     midway = keeps;
-    mounted = none_to_mount old is.held (in_use_of after);
-    overlays = same_overlays;
+    overlays = overlays_left;
     mounts = mounts_are;
     numbers = is.numbers ∙ map_twice (λ (one : Shown). counted one.count) shown_entry new.filesystems;
     entries = λ entry m. let from = is.filesystems (shown_entry entry)
@@ -166,9 +172,14 @@ module _ (old : WorldValue) (after : World ℕ) (gained lost : List Inode) (new 
     mounts = λ entry m.
         (is.filesystems (shown_entry entry) (among-map shown_entry new.filesystems entry m)).mounts
         ∙ (λ i. times (λ (mount : Mount ℕ). nat_eq (counted entry.count) mount.filesystem) (mounts_are i)
-        + sym (layers_of_value old new is.held.overlays same_overlays (in_use_of after) is.keeps
-        (counted entry.count)) i);
-    overlays = subst (All (IsMountedSoOften (world_of new))) (sym (none_still old new is.held same_overlays)) (All-nil _);
+        + sym (layers_of_fewer old new is.held.overlays
+        (λ overlay. is_mounted nat_eq (in_use_of after) overlay.number) overlays_left (in_use_of after)
+        is.leaves.overlays (counted entry.count)) i);
+    overlays = all_from_among (IsMountedSoOften (world_of new)) new.overlays (λ entry m.
+        among_from_all (IsMountedSoOften (in_use_of after)) (overlays_kept overlays old.overlays)
+        (counted_kept old is.held (in_use_of after) is.leaves overlays is.merged) entry
+        (subst (λ all. Among entry all) same_overlays m)
+        ∙ (λ i. times (λ (mount : Mount ℕ). nat_eq entry.number mount.filesystem) (mounts_are i)));
     namespaces = inside;
   }
 
@@ -218,19 +229,19 @@ detached_is_private world gone nowhere mount m none =
 
 -- where these mounts are in no group
 pub detached_done : (value : WorldValue) (name : TaskName) (permit : Permit ℕ) (task : Task ℕ) (gone : List ℕ)
-    (mounts : List MountEntry) (filesystems : Filesystems)
+    (mounts : List MountEntry) (filesystems : Filesystems) (overlays : List Merged)
     → IsHeld value → HasChildrenOf gone (mounts_in value.mounts)
     → ((mount : Mount ℕ) → Among mount (mounts_in value.mounts) → is_among nat_eq mount.number gone ≡ true
     → is_ungrouped mount.propagation ≡ true)
     → IsApplied value name permit task (taken_away nat_eq (world_of value) gone)
-    → IsDetaching value [] (in_use_of (detached_world gone (world_of value))) [] (kept mounts filesystems)
-    → IsDone value name permit (remade value mounts filesystems value.tasks)
-detached_done value name permit task gone mounts filesystems whole closed free is detaching =
+    → IsDetaching value [] (in_use_of (detached_world gone (world_of value))) [] (kept_with mounts filesystems overlays)
+    → IsDone value name permit (remade_with value mounts filesystems overlays value.tasks)
+detached_done value name permit task gone mounts filesystems overlays whole closed free is detaching =
     let world = world_of value in
     let after = detached_world gone world in
-    let new = remade value mounts filesystems value.tasks in
+    let new = remade_with value mounts filesystems overlays value.tasks in
     let kept_last = subst (λ one. IsKeptBut value [] [] [] detaching.lost one
-    (kept mounts filesystems)) detaching.ends detaching.is in
+    (kept_with mounts filesystems overlays)) detaching.ends detaching.is in
     let live = whole.in_world.mounts.groups in
     finished value whole name permit task after
     (record {
@@ -241,12 +252,12 @@ detached_done value name permit task gone mounts filesystems whole closed free i
           ∙ alone_regroups world value.groups whole.groups live gone free;
     })
     [] detaching.lost new
-    (detached_swept value after [] detaching.lost new kept_last refl refl
+    (detached_swept value after [] detaching.lost new overlays kept_last refl refl
     (same_files_keep value (world_of value) after refl (keeps_itself value whole.overlays)) refl refl)
     (settled_has after value.groups (alone_has world value.groups whole.groups live gone free) (λ mount m dead.
     ap is_ungrouped (detached_is_private world gone whole.in_world.mounts.nowhere mount m
     (or_false_left (is_some mount.namespace) (is_located nat_eq after mount.number) dead))))
-    (detached_counted value after [] detaching.lost new kept_last refl refl
+    (detached_counted value after [] detaching.lost new overlays kept_last refl refl
     (all_from_among (CountsWhatIsInIt (world_of new)) value.namespaces (λ entry m.
     let was = among_from_all (CountsWhatIsInIt
     (world_of value)) value.namespaces whole.namespaces entry m in record { tasks = was.tasks })))
@@ -255,24 +266,25 @@ detached_done value name permit task gone mounts filesystems whole closed free i
 -- Where they are in groups, they leave them at once, and all mounts get the types that the groups then tell.
 pub detached_typed : (value : WorldValue) (name : TaskName) (permit : Permit ℕ) (task : Task ℕ) (gone : List ℕ)
     (groups : Grouping)
-    (mounts : List MountEntry) (filesystems : Filesystems) → IsHeld value → HasChildrenOf gone (mounts_in value.mounts)
+    (mounts : List MountEntry) (filesystems : Filesystems) (overlays : List Merged) → IsHeld value
+    → HasChildrenOf gone (mounts_in value.mounts)
     → TakesAway value.groups groups gone → IsApplied value name permit task (taken_away nat_eq (world_of value) gone)
-    → IsDetaching value [] (in_use_of (detached_world gone (world_of value))) [] (kept mounts filesystems)
-    → IsDone value name permit (typed_value groups (remade value mounts filesystems value.tasks))
-detached_typed value name permit task gone groups mounts filesystems whole closed follows is detaching =
+    → IsDetaching value [] (in_use_of (detached_world gone (world_of value))) [] (kept_with mounts filesystems overlays)
+    → IsDone value name permit (typed_value groups (remade_with value mounts filesystems overlays value.tasks))
+detached_typed value name permit task gone groups mounts filesystems overlays whole closed follows is detaching =
     let after = detached_world gone (world_of value) in
-    let new = remade value mounts filesystems value.tasks in
+    let new = remade_with value mounts filesystems overlays value.tasks in
     let kept_last = subst (λ one. IsKeptBut value [] [] [] detaching.lost one
-    (kept mounts filesystems)) detaching.ends detaching.is in
+    (kept_with mounts filesystems overlays)) detaching.ends detaching.is in
     let regroups = taken_regroups (world_of value) gone closed in
     typed_done value whole name permit task after
     (record { called = is.called; given = is.given; named = is.named; applied = λ fresh. is.applied fresh ∙ regroups })
     groups (subst (λ one. Has one groups) regroups (follows (world_of value) whole.groups whole.in_world.mounts.groups))
     (detached_is_private (world_of value) gone whole.in_world.mounts.nowhere)
     [] detaching.lost new
-    (detached_swept value after [] detaching.lost new kept_last refl refl
+    (detached_swept value after [] detaching.lost new overlays kept_last refl refl
     (same_files_keep value (world_of value) after refl (keeps_itself value whole.overlays)) refl refl)
-    (detached_counted value after [] detaching.lost new kept_last refl refl
+    (detached_counted value after [] detaching.lost new overlays kept_last refl refl
     (all_from_among (CountsWhatIsInIt (world_of new)) value.namespaces (λ entry m.
     let was = among_from_all (CountsWhatIsInIt
     (world_of value)) value.namespaces whole.namespaces entry m in record { tasks = was.tasks })))

@@ -18,7 +18,7 @@ use Rattle.vt_location.specs.Numbers.{counted}
 use Rattle.vt_mount.specs.MountsValue.{MountEntry, are_ascending, changed, entry_numbered, mounts_in, without}
 use Rattle.vt_world.specs.declared.namespaces.Namespace.{Namespace}
 use Rattle.vt_detach.specs.NamespacesLeft.{AreDetached, Detached, EndsIf, IsAttached, MountsAreLeft, NamespaceIsLeft, entries_left, has_one_task, is_attached_in, left_if, namespace_entry, one_task_less, with_one_task_less}
-use Rattle.vt_detach.specs.Uses.{Kept, detached_entry, is_unused, kept, let_go_entry, let_go_mount, point_of, without_attachment}
+use Rattle.vt_detach.specs.Uses.{Kept, Merged, detached_entry, is_unused, kept_with, let_go_entry, let_go_mount, point_of, without_attachment}
 use Rattle.vt_world.specs.WorldValue.{NamespaceEntry, entries_of}
 use Rattle.vt_detach.proofs.NamespaceEntries.{Entries, entries_removed, entries_written, entry_found, is_id, same_namespace}
 
@@ -214,16 +214,16 @@ module _ (namespace : ℕ) where
 
 -- A step of the loop
 
-pub attached_so : (namespace : ℕ) (mounts : List MountEntry) (filesystems : Filesystems) (ids : List MountId)
-    (last : MountId) (point : Option Location)
+pub attached_so : (namespace : ℕ) (mounts : List MountEntry) (filesystems : Filesystems) (overlays : List Merged)
+    (ids : List MountId) (last : MountId) (point : Option Location)
     → are_ascending (mounts_in mounts) ≡ true
     → map (λ (id : MountId). counted id.count) ids
     ≡ map (λ mount. mount.number) (filter (λ mount. holds_of (nat_eq namespace) mount.namespace) (mounts_in mounts))
     → slice_get ids (length ids - 1) ≡ Some last
     → option_map location_of point ≡ point_of (counted last.count) mounts
     → IfSome point (λ place. place.node.slot < 18446744073709551616)
-    → IsAttached namespace (kept mounts filesystems) (record { number = counted last.count; point = point })
-attached_so namespace mounts filesystems ids last point rising listed found is slot =
+    → IsAttached namespace (kept_with mounts filesystems overlays) (record { number = counted last.count; point = point })
+attached_so namespace mounts filesystems overlays ids last point rising listed found is slot =
     let entry = listed_entry mounts namespace ids last rising listed found in record {
       entry = entry.0;
       found = entry.1;

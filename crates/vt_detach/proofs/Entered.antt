@@ -33,7 +33,7 @@ use Rattle.vt_detach.specs.Events.{Permits}
 use Rattle.vt_detach.specs.Forking.{more_tasks, with_task_more}
 use Rattle.vt_world.specs.Held.{CountsWhatIsInIt, IsHeld}
 use Rattle.vt_detach.specs.NamespacesLeft.{MountsAreLeft, namespace_entry, with_one_task_less}
-use Rattle.vt_detach.specs.Uses.{Kept, kept, with_location, with_use, without_location}
+use Rattle.vt_detach.specs.Uses.{Kept, Merged, kept_of, kept_with, overlays_kept, with_location, with_use, without_location}
 use Rattle.vt_world.specs.WorldValue.{NamespaceEntry, WorldValue, namespace_of, world_of}
 use Rattle.vt_detach.proofs.Departing.{departs}
 use Rattle.vt_detach.proofs.Exiting.{left_so, located}
@@ -241,7 +241,8 @@ held_so value whole at k few well =
     (sym (seen_where_located value whole at few well) i, number_of at.node) false k
 
 pub task_enters : (value : WorldValue) (name : TaskName) (count : ℕ) (root : Location) (left : Left)
-    (mounts : List MountEntry) (groups : Grouping) (filesystems : Filesystems) (namespaces : List NamespaceEntry)
+    (mounts : List MountEntry) (groups : Grouping) (filesystems : Filesystems) (overlays : List Merged)
+    (namespaces : List NamespaceEntry)
     (new_tasks : Tasks) (k : Kept)
     → IsHeld value → Permits value name (ToEnterNamespace (counted count))
     → Some (location_of root) ≡ namespace_root nat_eq (world_of value) (counted count)
@@ -250,14 +251,21 @@ pub task_enters : (value : WorldValue) (name : TaskName) (count : ℕ) (root : L
     → Some (left_of left) ≡ option_map left_by (called name value.tasks)
     → new_tasks ≡ changed_called name (λ task. entered_at task (counted count) (location_of root)) value.tasks
     → k ≡ without_location left.directory false (without_location left.root false
-    (with_location root false (with_location root false (kept value.mounts value.filesystems))))
+    (with_location root false (with_location root false (kept_of value))))
     → namespaces ≡ with_one_task_less left.namespace.count (with_task_more count value.namespaces)
     → MountsAreLeft (counted left.namespace.count)
     (namespace_entry left.namespace.count (with_task_more count value.namespaces)) k value.groups
-    (kept mounts filesystems) groups
+    (kept_with mounts filesystems overlays) groups
     → IsDone value name (ToEnterNamespace (counted count))
-    (record value { mounts = mounts; groups = groups; filesystems = filesystems; namespaces = namespaces; tasks = new_tasks })
-task_enters value name count root left mounts groups filesystems namespaces new_tasks k whole permits root_is few few_root few_directory left_is are k_is namespaces_are mounts_are =
+    (record value {
+      mounts = mounts;
+      groups = groups;
+      filesystems = filesystems;
+      overlays = overlays_kept overlays value.overlays;
+      namespaces = namespaces;
+      tasks = new_tasks;
+    })
+task_enters value name count root left mounts groups filesystems overlays namespaces new_tasks k whole permits root_is few few_root few_directory left_is are k_is namespaces_are mounts_are =
     let task = permits.task in
     let world = world_of value in
     let place = location_of root in
@@ -267,7 +275,7 @@ task_enters value name count root left mounts groups filesystems namespaces new_
     let at_root : location_of left.root ≡ task.root = ap (λ one. one.1) same in
     let at_directory : location_of left.directory ≡ task.directory = ap (λ one. one.2) same in
     let located_so = located value whole name task permits.called in
-    let old = kept value.mounts value.filesystems in
+    let old = kept_of value in
     let held = gain world (gain world old (standing place)) (standing place) in
     let k_so : k ≡ folded (leave_use world) held (standing task.root ∷ standing task.directory ∷ []) =
     k_is
@@ -282,14 +290,21 @@ task_enters value name count root left mounts groups filesystems namespaces new_
     (ap (is_located_well nat_eq world) at_directory ∙ located_so task.directory (inr (inl refl)))
     ∙ ap (λ l. leave_use world (leave_use world held (standing task.root)) (standing l)) at_directory in
     subst (λ all. IsDone value name (ToEnterNamespace (counted count))
-    (record value { mounts = mounts; groups = groups; filesystems = filesystems; namespaces = namespaces; tasks = all }))
+    (record value {
+      mounts = mounts;
+      groups = groups;
+      filesystems = filesystems;
+      overlays = overlays_kept overlays value.overlays;
+      namespaces = namespaces;
+      tasks = all;
+    }))
     (sym (are ∙ ap (changed_by (λ one. entered_at one (counted count) place) value.tasks) permits.called))
     (departs value whole (replaced (entered_at task (counted count) place) value.tasks)
     (standing place ∷ standing place ∷ []) (standing task.root ∷ standing task.directory ∷ [])
     (enter_moves value whole name task permits.called count place well)
     left.namespace.count (with_task_more count value.namespaces)
     (enter_counts value whole name task permits.called count place well left.namespace.count namespace_is)
-    (same_namespaces_more count value.namespaces) filesystems namespaces namespaces_are
+    (same_namespaces_more count value.namespaces) filesystems overlays namespaces namespaces_are
     name (ToEnterNamespace (counted count)) task
     (record {
       called = permits.called;
@@ -302,4 +317,4 @@ task_enters value name count root left mounts groups filesystems namespaces new_
     mounts groups
     (subst (λ one. MountsAreLeft (counted left.namespace.count)
     (namespace_entry left.namespace.count (with_task_more count value.namespaces)) one
-    value.groups (kept mounts filesystems) groups) k_so mounts_are))
+    value.groups (kept_with mounts filesystems overlays) groups) k_so mounts_are))

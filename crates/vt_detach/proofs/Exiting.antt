@@ -31,7 +31,7 @@ use Rattle.vt_tasks.proofs.LocationLemmas.{total-without, without-nobody}
 use Rattle.vt_detach.specs.Events.{Permits}
 use Rattle.vt_world.specs.Held.{CountsWhatIsInIt, IsHeld, writes_of_task, writes_on}
 use Rattle.vt_detach.specs.NamespacesLeft.{MountsAreLeft, has_slot, namespace_entry, with_one_task_less, without_file}
-use Rattle.vt_detach.specs.Uses.{Kept, kept, without_location, without_use}
+use Rattle.vt_detach.specs.Uses.{Kept, Merged, kept_of, kept_with, overlays_kept, without_location, without_use}
 use Rattle.vt_world.specs.WorldValue.{NamespaceEntry, WorldValue, namespace_of, world_of}
 use Rattle.vt_detach.proofs.Closing.{place, used_by}
 use Rattle.vt_detach.proofs.Departing.{departs}
@@ -203,23 +203,31 @@ pub record LeavesAll (old : Kept) (task : Held) (files : List OpenFile) (left : 
 
 -- A task exits, and what it alone used is let go.
 pub task_exits : (value : WorldValue) (name : TaskName) (task : Held) (files : List OpenFile) (left : Kept)
-    (mounts : List MountEntry) (groups : Grouping) (filesystems : Filesystems) (namespaces : List NamespaceEntry)
+    (mounts : List MountEntry) (groups : Grouping) (filesystems : Filesystems) (overlays : List Merged)
+    (namespaces : List NamespaceEntry)
     (left_tasks : Tasks)
     → IsHeld value → Permits value name ToExit → Some (task_of task) ≡ called name value.tasks
     → left_tasks ≡ without_called name value.tasks
-    → LeavesAll (kept value.mounts value.filesystems) task files left
+    → LeavesAll (kept_of value) task files left
     → namespaces ≡ with_one_task_less task.namespace.count value.namespaces
     → MountsAreLeft (counted task.namespace.count)
     (namespace_entry task.namespace.count value.namespaces) left value.groups
-    (kept mounts filesystems) groups
+    (kept_with mounts filesystems overlays) groups
     → IsDone value name ToExit
-    (record value { mounts = mounts; groups = groups; filesystems = filesystems; namespaces = namespaces; tasks = left_tasks })
-task_exits value name task files left mounts groups filesystems namespaces left_tasks whole permits found are leaves namespaces_are mounts_are =
+    (record value {
+      mounts = mounts;
+      groups = groups;
+      filesystems = filesystems;
+      overlays = overlays_kept overlays value.overlays;
+      namespaces = namespaces;
+      tasks = left_tasks;
+    })
+task_exits value name task files left mounts groups filesystems overlays namespaces left_tasks whole permits found are leaves namespaces_are mounts_are =
     let meant_task = task_of task in
     let called_so : task_called (world_of value) name ≡ Some meant_task = sym found in
     let count = task.namespace.count in
     let well = located value whole name meant_task called_so in
-    let k = kept value.mounts value.filesystems in
+    let k = kept_of value in
     let left_is : left ≡ folded (leave_use (world_of value)) k (uses_of_task meant_task) =
     leaves.is
     ∙ files_left_so value whole files meant_task.descriptors
@@ -232,10 +240,17 @@ task_exits value name task files left mounts groups filesystems namespaces left_
     ∙ ap (λ one. leave_use (world_of value) one (standing meant_task.directory))
     (left_so value whole task.root false k leaves.root (well (location_of task.root) (inl refl)))) in
     subst (λ all. IsDone value name ToExit
-    (record value { mounts = mounts; groups = groups; filesystems = filesystems; namespaces = namespaces; tasks = all })) (sym are)
+    (record value {
+      mounts = mounts;
+      groups = groups;
+      filesystems = filesystems;
+      overlays = overlays_kept overlays value.overlays;
+      namespaces = namespaces;
+      tasks = all;
+    })) (sym are)
     (departs value whole (without_called name value.tasks) [] (uses_of_task meant_task)
     (exit_moves value whole name meant_task called_so)
-    count value.namespaces (exit_counts value whole name meant_task called_so count refl) refl filesystems namespaces namespaces_are
+    count value.namespaces (exit_counts value whole name meant_task called_so count refl) refl filesystems overlays namespaces namespaces_are
     name ToExit meant_task
     (record {
       called = called_so;
@@ -249,5 +264,5 @@ task_exits value name task files left mounts groups filesystems namespaces left_
     })
     mounts groups
     (subst (λ one. MountsAreLeft (counted count) (namespace_entry count value.namespaces) one value.groups
-    (kept mounts filesystems) groups)
+    (kept_with mounts filesystems overlays) groups)
     left_is mounts_are))

@@ -6,7 +6,7 @@ use Rattle.vt_spec.specs.Lists.{Fresh, folded}
 use Rattle.vt_spec.specs.Machine.Apply.{apply}
 use Rattle.vt_spec.specs.Machine.Permits.{Permit}
 use Rattle.vt_spec.specs.Machine.SameWorlds.{SameWorlds}
-use Rattle.vt_spec.specs.Machine.Settled.{settled}
+use Rattle.vt_spec.specs.Machine.Settled.{is_mounted, settled}
 use Rattle.vt_spec.specs.Machine.World.{Task, World, task_called}
 use Rattle.vt_spec.specs.Machine.Invariants.{IsWorld}
 use Rattle.vt_spec.specs.Inodes.{Inodes, pinned, unpinned}
@@ -17,6 +17,7 @@ use Rattle.vt_group.specs.Grouping.{Has}
 use Rattle.vt_laws_rules.specs.Numbers.{KeepsTo}
 use Rattle.vt_laws_letting_go.specs.Counts.{mounts_showing}
 use Rattle.vt_laws_letting_go.specs.OneByOne.{Inode}
+use Rattle.vt_laws_letting_go.specs.TreesOverlays.{in_use_of}
 use Rattle.vt_laws_letting_go.proofs.Lists.{Among, all_from_among, among_from_all}
 use Rattle.vt_location.specs.Numbers.{counted}
 use Rattle.vt_laws_permits.specs.Left.{IsGiven}
@@ -30,8 +31,8 @@ use Rattle.vt_detach.specs.Events.{supply_of}
 use Rattle.vt_world.specs.Held.{CountsItsMounts, CountsItsUses, CountsWhatIsInIt, HasOwnInodes, IsHeld, IsMountedSoOften}
 use Rattle.vt_world.specs.WorldValue.{WorldValue, world_of}
 use Rattle.vt_detach.proofs.OwnInodesKept.{IsOwn, own_pinned, own_unpinned}
-use Rattle.vt_detach.proofs.Bridging.{IsSwept, overlays_left, swept_has, swept_is_counted, swept_is_same}
-use Rattle.vt_detach.proofs.Overlaid.{none_still, overlays_hold_still, same_files_rise}
+use Rattle.vt_detach.proofs.Bridging.{IsSwept, rise_left, swept_has, swept_is_counted, swept_is_same}
+use Rattle.vt_detach.proofs.Overlaid.{fewer_overlays_hold, same_files_rise}
 use Rattle.vt_detach.proofs.Staying.{IsDone, becomes_so}
 
 -- inodes that get uses and lose uses keep numbers of their own
@@ -104,10 +105,10 @@ module _ (value : WorldValue) (whole : IsHeld value) (next : World ℕ)
             (subst (IsOwn from.was.count) (sym from.inodes)
             (own_exchanged from.was.count gained lost (inodes_seen from.was)
             (among_from_all HasOwnInodes value.filesystems whole.own_inodes from.was from.among))));
-        overlays = overlays_hold_still value new whole.overlays (none_still value new whole swept.overlays)
-            swept.overlays
+        overlays = fewer_overlays_hold value new whole.overlays
+            (λ overlay. is_mounted nat_eq (in_use_of next) overlay.number) swept.overlays
             (same_files_rise (settled nat_eq next).filesystems (world_of new).filesystems same.filesystems
-            (overlays_left value whole next gained lost new swept has left).rise)
+            (rise_left value whole next gained lost new swept has left))
             counts.overlays;
         namespaces = counts.namespaces;
       }

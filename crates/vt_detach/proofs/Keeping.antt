@@ -5,7 +5,7 @@ use Rattle.std.specs.Prelude.{All, if◌then◌else◌, option_to_list, ◌<◌}
 use Rattle.vt_spec.specs.Lists.{is_among}
 use Rattle.vt_spec.specs.Machine.Mounts.{Location as Place, Mount, detached, mount_in, no_mount}
 use Rattle.vt_spec.specs.Machine.Settled.{without_dead_filesystems}
-use Rattle.vt_spec.specs.Machine.World.{Filesystem, World, mount_at}
+use Rattle.vt_spec.specs.Machine.World.{Filesystem, World, is_overlay, mount_at}
 use Rattle.vt_laws_counts.specs.OverlaysStay.{layer_count}
 use Rattle.vt_laws_counts.specs.Using.{AreThere, Exchanges, exchanged}
 use Rattle.vt_fs.specs.FilesystemsValue.{FilesystemEntry, Shown, inodes_seen}
@@ -27,7 +27,9 @@ use Rattle.vt_world.specs.Held.{CountsItsUses, IsHeld}
 use Rattle.vt_detach.specs.Uses.{Kept}
 use Rattle.vt_world.specs.WorldValue.{WorldValue, world_of}
 use Rattle.vt_detach.proofs.Moving.{swap_eq}
-use Rattle.vt_detach.proofs.Overlaid.{KeepsOverlays, is_plain_one}
+use Rattle.vt_detach.proofs.MountsLeave.{LeavesOverlays}
+use Rattle.vt_detach.proofs.Overlaid.{is_plain_one}
+use Rattle.vt_detach.proofs.OverlaysGone.{merged_in}
 
 -- Mounts that are still to be detached
 
@@ -61,10 +63,11 @@ PointsAreSeen old mounts =
     → (mount_at nat_eq (world_of old) (location_of point)).filesystem ≡ counted point.node.filesystem.count
 
 -- What is kept of a world in which the pending mounts are detached, while code has them still attached. Mounts but the
--- losers are in use. Overlays are those of before.
+-- losers are in use. Overlays are those of before that mounts show still.
 pub record IsKeptBut (old : WorldValue) (losers pending : List ℕ) (gained lost : List Inode) (world : World ℕ)
     (k : Kept) : Type 0 where
   pub held : IsHeld old
+  pub merged : k.overlays ≡ map (merged_in world) (filter is_overlay world.filesystems)
   pub mounts : world.mounts ≡ map (detached_in pending) (mounts_in k.mounts)
   pub uses : All (CountsItsUses world) k.mounts
   pub numbers : map (λ (f : Filesystem ℕ). f.number) (filter is_plain_one world.filesystems)
@@ -75,7 +78,7 @@ pub record IsKeptBut (old : WorldValue) (losers pending : List ℕ) (gained lost
   pub located : LocationsStand world
   pub in_use : MountsInUseBut losers world
   pub mounted : FilesystemsInUse world
-  pub keeps : KeepsOverlays old world
+  pub leaves : LeavesOverlays old world
   pub points : PointsAreSeen old (mounts_in k.mounts)
   pub places : (mount : Mount ℕ) → Among mount world.mounts → (place : Place ℕ) → mount.mount_point ≡ Some place
       → (mount_at nat_eq world place).filesystem ≡ (mount_at nat_eq (world_of old) place).filesystem

@@ -23,12 +23,13 @@ use Rattle.vt_tasks.specs.TasksValue.{Tasks}
 use Rattle.vt_laws_worlds.proofs.RaisedInUse.{worlds_are_in_use}
 use Rattle.vt_world.specs.Held.{CountsItsUses, IsHeld}
 use Rattle.vt_detach.specs.Uses as meant
-use Rattle.vt_detach.specs.Uses.{Kept, kept}
+use Rattle.vt_detach.specs.Uses.{Kept, Merged, kept_of, kept_with, overlays_kept}
 use Rattle.vt_world.specs.WorldValue.{WorldValue, world_of}
 use Rattle.vt_detach.proofs.Finishing.{IsApplied}
 use Rattle.vt_detach.proofs.Going.{gone_done}
-use Rattle.vt_detach.proofs.Moving.{Moves, Use, entry_counts, folded_entry, mounts_moved, moved_kept, only_left, same_moved_mounts}
-use Rattle.vt_detach.proofs.Remaining.{remade, remains_done}
+use Rattle.vt_detach.proofs.Moving.{Moves, Use, entry_counts, folded_entry, mounts_moved, moved_kept, moved_overlays, only_left, same_moved_mounts}
+use Rattle.vt_detach.proofs.OverlaysRemade.{kept_itself}
+use Rattle.vt_detach.proofs.Remaining.{remade, remade_with, remains_done}
 use Rattle.vt_detach.proofs.Shown.{found_entry}
 use Rattle.vt_detach.proofs.Staying.{IsDone, after}
 
@@ -45,10 +46,10 @@ none_among number (x ∷ xs) e = by (nat_eq number x.number) e (none_among numbe
 
 module _ (value : WorldValue) (whole : IsHeld value) (tasks : Tasks) (more : List Use) (left_use : Use)
     (moves : Moves value tasks more (left_use ∷ []))
-    (mounts : List MountEntry) (filesystems : Filesystems)
-    (is_kept : kept mounts filesystems
+    (mounts : List MountEntry) (filesystems : Filesystems) (overlays : List Merged)
+    (is_kept : kept_with mounts filesystems overlays
     ≡ meant.let_go_mount left_use.location.mount
-    (moved_kept (world_of value) more (left_use ∷ []) (kept value.mounts value.filesystems)))
+    (moved_kept (world_of value) more (left_use ∷ []) (kept_of value)))
     (name : TaskName) (permit : Permit ℕ) (task : Task ℕ)
     (is : IsApplied value name permit task (world_of (after value tasks)))
     (inside : (namespace : ℕ) → times (λ task. nat_eq namespace task.namespace) tasks
@@ -63,7 +64,7 @@ module _ (value : WorldValue) (whole : IsHeld value) (tasks : Tasks) (more : Lis
   number = left_use.location.mount
 
   abbrev moved : Kept
-  moved = moved_kept world more (left_use ∷ []) (kept value.mounts value.filesystems)
+  moved = moved_kept world more (left_use ∷ []) (kept_of value)
 
   -- the mount is one of the world
   mount_listed : is_among nat_eq number (map (λ x. x.number) world.mounts) ≡ true
@@ -84,15 +85,15 @@ module _ (value : WorldValue) (whole : IsHeld value) (tasks : Tasks) (more : Lis
       (only_left value whole tasks more (left_use ∷ []) moves))
       ∙ mount_goes_at_zero next number whole.in_world.mounts.one_number
 
-  pub left_done : IsDone value name permit (remade value mounts filesystems tasks)
+  pub left_done : IsDone value name permit (remade_with value mounts filesystems overlays tasks)
   left_done = by (entry_numbered moved.mounts number) refl
     where
       by : (o : Option MountEntry) → entry_numbered moved.mounts number ≡ o
-          → IsDone value name permit (remade value mounts filesystems tasks)
+          → IsDone value name permit (remade_with value mounts filesystems overlays tasks)
       by None e =
           absurd (true≢false (sym mount_listed ∙ none_among number world.mounts
           (ap (find (λ x. nat_eq number x.number))
-          (sym (same_moved_mounts world more (left_use ∷ []) (kept value.mounts value.filesystems)))
+          (sym (same_moved_mounts world more (left_use ∷ []) (kept_of value)))
           ∙ found_entry number moved.mounts ∙ ap (option_map (λ entry. entry.mount)) e)))
       by (Some entry) e = chosen (is_some entry.mount.namespace) refl (nat_eq entry.uses 0) refl
         where
@@ -105,20 +106,20 @@ module _ (value : WorldValue) (whole : IsHeld value) (tasks : Tasks) (more : Lis
           mount_is : mount_numbered nat_eq world number ≡ entry.mount
           mount_is = ap (λ o. unwrap_or o (no_mount number))
               (ap (find (λ x. nat_eq number x.number))
-              (sym (same_moved_mounts world more (left_use ∷ []) (kept value.mounts value.filesystems)))
+              (sym (same_moved_mounts world more (left_use ∷ []) (kept_of value)))
               ∙ found_entry number moved.mounts ∙ ap (option_map (λ entry. entry.mount)) e)
 
           uses_are : entry.uses ≡ mount_uses next number
           uses_are =
               let from = among-from_map (folded_entry more (left_use ∷ [])) value.mounts entry
               (subst (λ all. Among entry all)
-              (mounts_moved world more (left_use ∷ []) (kept value.mounts value.filesystems)) found.0) in
+              (mounts_moved world more (left_use ∷ []) (kept_of value)) found.0) in
               let counts = subst (CountsItsUses next) (sym from.2)
               (entry_counts value whole tasks more (left_use ∷ []) moves from.0 from.1) in
               counts.uses ∙ ap (mount_uses next) (sym numbered)
 
           kept_so : (b c : Bool) → is_some entry.mount.namespace ≡ b → nat_eq entry.uses 0 ≡ c
-              → kept mounts filesystems ≡ cond (not b && c) (meant.without_mount number entry.mount moved) moved
+              → kept_with mounts filesystems overlays ≡ cond (not b && c) (meant.without_mount number entry.mount moved) moved
           kept_so b c f g =
               is_kept ∙ ap (meant.let_go_entry number moved) e
               ∙ (λ i. cond (not (f i) && g i) (meant.without_mount number entry.mount moved) moved)
@@ -135,17 +136,24 @@ module _ (value : WorldValue) (whole : IsHeld value) (tasks : Tasks) (more : Lis
           some_uses g = let some : entry.uses ≢ 0 = eqb-false entry.uses 0 g in lt-ltb 0 entry.uses
               (omega (arith, some))
 
-          stays : without_dead_mounts nat_eq next ≡ next → kept mounts filesystems ≡ moved
-              → IsDone value name permit (remade value mounts filesystems tasks)
-          stays stay same = remains_done value whole tasks more
-              (left_use ∷ []) moves mounts filesystems same stay name permit task is inside
+          stays : without_dead_mounts nat_eq next ≡ next → kept_with mounts filesystems overlays ≡ moved
+              → IsDone value name permit (remade_with value mounts filesystems overlays tasks)
+          stays stay same =
+              subst (λ all. IsDone value name permit (record (remade value mounts filesystems tasks) {
+                overlays = all;
+              }))
+              (sym (ap (λ all. overlays_kept all value.overlays)
+              (ap (λ (k : Kept). k.overlays) same ∙ moved_overlays world more (left_use ∷ []) (kept_of value))
+              ∙ kept_itself value whole))
+              (remains_done value whole tasks more (left_use ∷ []) moves mounts filesystems overlays same stay name
+              permit task is inside)
 
           chosen : (b : Bool) → is_some entry.mount.namespace ≡ b → (c : Bool) → nat_eq entry.uses 0 ≡ c
-              → IsDone value name permit (remade value mounts filesystems tasks)
+              → IsDone value name permit (remade_with value mounts filesystems overlays tasks)
           chosen true f c g = stays (looked_so true (nat_lt 0 entry.uses) f refl) (kept_so true c f g)
           chosen false f false g = stays (looked_so false true f (some_uses g)) (kept_so false false f g)
           chosen false f true g =
-              gone_done value whole tasks more left_use moves mounts filesystems entry.mount mount_is mount_listed f
+              gone_done value whole tasks more left_use moves mounts filesystems overlays entry.mount mount_is mount_listed f
               (sym uses_are ∙ eqb-true entry.uses 0 g)
               (looked_so false false f (ap (nat_lt 0) (eqb-true entry.uses 0 g)))
               (kept_so false true f g) name permit task is inside

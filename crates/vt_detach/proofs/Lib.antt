@@ -1,5 +1,7 @@
 pub mod FilesystemsFound
 pub mod Overlaid
+pub mod PlainFound
+pub mod LayersShown
 pub mod LookLemmas
 pub mod OwnInodesKept
 pub mod ChangedNumbers
@@ -56,3 +58,13 @@ pub mod TreesInNamespaces
 pub mod Entered
 pub mod BesideOverlays
 pub mod FilesystemsLeft
+pub mod StoresLeft
+pub mod LayersLeft
+pub mod OverlaysRemade
+pub mod OverlaysGone
+pub mod StoreShown
+pub mod StoreStays
+pub mod MountsLeave
+pub mod OverlaysKept
+pub mod StoreLends
+pub mod StoreTrees

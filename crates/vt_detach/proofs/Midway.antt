@@ -8,7 +8,7 @@ use Rattle.std.proofs.lemmas.Bool.{and_parts, or_parts}
 use Rattle.std.proofs.lemmas.Option.{same_Some}
 use Rattle.vt_spec.specs.Lists.{any_pair, folded}
 use Rattle.vt_spec.specs.Machine.Mounts.{Mount, detached}
-use Rattle.vt_spec.specs.Machine.World.{Filesystem, World}
+use Rattle.vt_spec.specs.Machine.World.{Filesystem, World, is_overlay}
 use Rattle.vt_spec.specs.Machine.Invariants.{is_located_well}
 use Rattle.vt_laws_counts.specs.OverlaysStay.{layer_count}
 use Rattle.vt_laws_counts.specs.Using.{AreThere, Exchanges, exchanged, is_inode, pinned_if, unpinned_if}
@@ -32,7 +32,9 @@ use Rattle.vt_detach.specs.Uses.{Kept, detached_entry, is_unused, unpinned_at, u
 use Rattle.vt_world.specs.WorldValue.{WorldValue, world_of}
 use Rattle.vt_detach.proofs.LocationsSeen.{seen_where_located}
 use Rattle.vt_detach.proofs.LostUses.{entry_found_at, entry_itself, folded_append, lost_alike, mounts_unchanged}
-use Rattle.vt_detach.proofs.Overlaid.{KeepsOverlays, is_plain_one}
+use Rattle.vt_detach.proofs.MountsLeave.{LeavesOverlays}
+use Rattle.vt_detach.proofs.Overlaid.{is_plain_one}
+use Rattle.vt_detach.proofs.OverlaysGone.{merged_in}
 use Rattle.vt_detach.proofs.Moving.{Use, inodes_of_uses, is_use_on, lose, release_if, released_counts, writes_on_mount}
 use Rattle.vt_spec.proofs.Lists.{map_alike, map_twice}
 use Rattle.vt_laws_letting_go.specs.TreesOverlays.{in_use_of}
@@ -59,10 +61,11 @@ pub record IsShown (value : WorldValue) (now : World ℕ) (gained lost : List In
   pub mounted : nat_eq one.mounts 0 ≡ false
 
 -- In `now` tasks have left the uses `left`, and mounts that `goes` tells are detached; code has yet to leave and detach
--- them. Overlays are those of before.
+-- them. Overlays are those of before that mounts show still.
 pub record Midway (value : WorldValue) (start : World ℕ) (gained : List Inode) (goes : Mount ℕ → Bool)
     (left : List Use) (now : World ℕ) (k : Kept) (lost : List Inode) : Type 0 where
   pub held : IsHeld value
+  pub merged : k.overlays ≡ map (merged_in now) (filter is_overlay now.filesystems)
   pub mounts : now.mounts ≡ map (gone_if goes) (mounts_in k.mounts)
   pub uses : (entry : MountEntry) → Among entry k.mounts
       → entry.uses ≡ mount_uses now entry.mount.number + times (is_use_on entry.mount.number) left
@@ -78,7 +81,7 @@ pub record Midway (value : WorldValue) (start : World ℕ) (gained : List Inode)
       ≡ map (λ (one : Shown). counted one.count) k.filesystems
   pub stand : MountsStand now
   pub located : LocationsStand now
-  pub keeps : KeepsOverlays value now
+  pub leaves : LeavesOverlays value now
   pub same : in_use_of now ≡ in_use_of start
 
 -- nothing waits to go, or one mount alone
@@ -203,6 +206,7 @@ module _ (value : WorldValue) (whole : IsHeld value) (start : World ℕ) (gained
     pub use_left : Midway value start gained goes left now new (lost ++ (inode ∷ []))
     use_left = record {
       held = mid.held;
+      merged = mid.merged;
       mounts = mid.mounts ∙ ap (map (gone_if goes)) (sym same_mounts);
       uses = λ entry m. let from = entry_was entry m in
           subst (λ (e : MountEntry). e.uses ≡ mount_uses now e.mount.number + times (is_use_on e.mount.number) left)
@@ -229,7 +233,7 @@ module _ (value : WorldValue) (whole : IsHeld value) (start : World ℕ) (gained
       numbers = mid.numbers ∙ sym (map_twice (λ (one : Shown). counted one.count) unpinned_one k.filesystems);
       stand = mid.stand;
       located = mid.located;
-      keeps = mid.keeps;
+      leaves = mid.leaves;
       same = mid.same;
     }
 
@@ -444,6 +448,7 @@ module _ (value : WorldValue) (whole : IsHeld value) (start : World ℕ) (gained
     pub mount_taken : Midway value start gained goes left now taken (lost ++ lost_here)
     mount_taken = record {
       held = mid.held;
+      merged = mid.merged;
       mounts = same_now;
       uses = λ e m. let from = entry_before e m in let keeps = take_keeps from.0 in
           subst (λ (x : MountEntry). x.uses ≡ mount_uses now x.mount.number + times (is_use_on x.mount.number) left)
@@ -473,7 +478,7 @@ module _ (value : WorldValue) (whole : IsHeld value) (start : World ℕ) (gained
           ∙ sym (ap (map (λ (one : Shown). counted one.count)) unpinned_are);
       stand = mid.stand;
       located = mid.located;
-      keeps = mid.keeps;
+      leaves = mid.leaves;
       same = mid.same;
     }
 

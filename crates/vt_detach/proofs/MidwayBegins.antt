@@ -7,7 +7,7 @@ use Rattle.std.proofs.lemmas.Option.{same_Some}
 use Rattle.std.proofs.lemmas.List.{append-nil}
 use Rattle.vt_spec.specs.Lists.{any_pair, folded, is_among}
 use Rattle.vt_spec.specs.Machine.Mounts.{Location, Mount, detached, mount_in, no_mount, root_of}
-use Rattle.vt_spec.specs.Machine.Settled.{is_located, mount_lives, filesystem_lives}
+use Rattle.vt_spec.specs.Machine.Settled.{is_located, mount_lives}
 use Rattle.vt_spec.specs.Machine.World.{Filesystem, Namespace, World, all_locations, is_directory_at, mount_at, mount_numbered, node_at}
 use Rattle.vt_spec.specs.Machine.Invariants.{Stands, has_its_root, is_located_well, is_nowhere_or_attached}
 use Rattle.vt_spec.specs.Machine.Invariants.Stands.{at_root, on_parent}
@@ -15,7 +15,7 @@ use Rattle.vt_laws_counts.specs.Using.{Exchanges, pinned_if, places_of}
 use Rattle.vt_laws_counts.proofs.using.MountRoots as Roots
 use Rattle.vt_laws_counts.proofs.using.Places.{exchanges_follow, locations_use_mounts, mount_is_placed}
 use Rattle.vt_fs.specs.FilesystemsValue.{FilesystemEntry, Shown, filesystem_seen, shown, shown_entry}
-use Rattle.vt_laws_letting_go.specs.Counts.{mount_uses, mounts_showing, times}
+use Rattle.vt_laws_letting_go.specs.Counts.{mount_uses, times}
 use Rattle.vt_laws_letting_go.specs.Keeping.{LocationsStand}
 use Rattle.vt_laws_letting_go.specs.Leaving.{MountsStand, stands_on_attached}
 use Rattle.vt_laws_letting_go.specs.Mounting.{inode_at}
@@ -32,16 +32,16 @@ use Rattle.vt_laws_worlds.proofs.worlds.Roots.{directory_there}
 use Rattle.vt_laws_mounts.specs.Mounts.Attaching.{OneNumberAMount}
 use Rattle.vt_laws_letting_go.specs.Attaching.{inodes_of_mount_point}
 use Rattle.vt_world.specs.Held.{CountsItsMounts, CountsItsUses, IsHeld, writes_of}
-use Rattle.vt_detach.specs.Uses.{Kept, is_unused, kept}
+use Rattle.vt_detach.specs.Uses.{Kept, is_unused, kept_of}
 use Rattle.vt_world.specs.WorldValue.{WorldValue, world_of}
 use Rattle.vt_detach.proofs.LostUses.{positive}
 use Rattle.vt_detach.proofs.Midway.{IsShown, Midway, NoneUnused, Reached, gone_if, gone_number, point_left, points_left}
-use Rattle.vt_detach.proofs.Moving.{Moves, Use, filesystems_gained, gain, gained_there, held_counts, hold_if, inodes_of_uses, is_use_on, locations, mounts_gained, same_moved_mounts, times_mapped, uses_moved, writes_on_mount}
+use Rattle.vt_detach.proofs.Moving.{Moves, Use, filesystems_gained, gain, gained_overlays, gained_there, held_counts, hold_if, inodes_of_uses, is_use_on, locations, mounts_gained, same_moved_mounts, times_mapped, uses_moved, writes_on_mount}
 use Rattle.vt_detach.proofs.Staying.{after}
 use Rattle.vt_spec.proofs.Lists.{map_alike, map_twice}
 use Rattle.vt_laws_counts.specs.OverlaysStay.{layer_count}
-use Rattle.vt_detach.proofs.BesideOverlays.{lives_midway, mounted_at_first}
-use Rattle.vt_detach.proofs.Overlaid.{keeps_itself, plain_one_among, plain_ones_are, same_files_keep}
+use Rattle.vt_detach.proofs.MountsLeave.{leaves_alike, leaves_at_first, merged_alike, merged_at_first, some_at_first}
+use Rattle.vt_detach.proofs.Overlaid.{plain_ones_are}
 
 -- Mounts that are detached at once, in a world
 
@@ -204,7 +204,7 @@ module _ (value : WorldValue) (whole : IsHeld value) (tasks : Tasks) (more less 
   gained = inodes_of_uses world more
 
   abbrev pub k_begins : Kept
-  k_begins = folded (gain world) (kept value.mounts value.filesystems) more
+  k_begins = folded (gain world) (kept_of value) more
 
   stand : MountsStand world
   stand = mounts_of_worlds_stand world whole.in_world
@@ -212,13 +212,13 @@ module _ (value : WorldValue) (whole : IsHeld value) (tasks : Tasks) (more less 
   -- Mounts
 
   same_entries : mounts_in k_begins.mounts ≡ mounts_in value.mounts
-  same_entries = same_moved_mounts world more [] (kept value.mounts value.filesystems)
+  same_entries = same_moved_mounts world more [] (kept_of value)
 
   entry_was : (entry : MountEntry) → Among entry k_begins.mounts
       → (was : MountEntry) × Among was value.mounts × (entry ≡ folded hold_if was more)
   entry_was entry m =
       among-from_map (λ was. folded hold_if was more) value.mounts entry
-      (subst (λ all. Among entry all) (mounts_gained world more (kept value.mounts value.filesystems)) m)
+      (subst (λ all. Among entry all) (mounts_gained world more (kept_of value)) m)
 
   same_mount : (was : MountEntry) → (folded hold_if was more).mount ≡ was.mount
   same_mount was = (held_counts more was).mount
@@ -374,24 +374,9 @@ module _ (value : WorldValue) (whole : IsHeld value) (tasks : Tasks) (more less 
       → (was : FilesystemEntry) × Among was value.filesystems × (one ≡ pinned_one (shown_entry was))
   shown_was one m =
       let from = among-from_map pinned_one (shown value.filesystems) one
-      (subst (λ all. Among one all) (filesystems_gained world more (kept value.mounts value.filesystems)) m) in
+      (subst (λ all. Among one all) (filesystems_gained world more (kept_of value)) m) in
       let first = among-from_map shown_entry value.filesystems from.0 from.1 in
       (first.0, first.1, from.2 ∙ ap pinned_one first.2)
-
-  is_mounted_so : (was : FilesystemEntry) → Among was value.filesystems → nat_eq was.mounts 0 ≡ false
-  is_mounted_so was m =
-      turned (nat_eq was.mounts 0)
-      (ap (λ n. not (nat_eq n 0)) (among_from_all
-      (CountsItsMounts world) value.filesystems whole.filesystems was m).mounts
-      ∙ sym (positive (mounts_showing world (counted was.count) + layer_count world (counted was.count)))
-      ∙ sym (lives_midway value world (keeps_itself value whole.overlays) (mounted_at_first value whole)
-      (filesystem_seen was))
-      ∙ passes (filesystem_lives nat_eq world) world.filesystems (worlds_are_in_use world whole.in_world).filesystems
-      (filesystem_seen was) (plain_one_among value whole.overlays.merged was m))
-    where
-      turned : (b : Bool) → not b ≡ true → b ≡ false
-      turned true e = absurd (true≢false (sym e))
-      turned false e = refl
 
   shown_is : (was : FilesystemEntry) → Among was value.filesystems
       → IsShown value ended gained [] (pinned_one (shown_entry was))
@@ -403,7 +388,7 @@ module _ (value : WorldValue) (whole : IsHeld value) (tasks : Tasks) (more less 
     inodes = refl;
     mounts = (among_from_all (CountsItsMounts world) value.filesystems whole.filesystems was m).mounts
         ∙ ap (λ n. n + layer_count world (counted was.count)) (sym (shows_still (counted was.count) world.mounts));
-    mounted = is_mounted_so was m;
+    mounted = some_at_first value whole was m;
   }
 
   exchanges_are : (c : ℕ) → Exchanges gained
@@ -423,6 +408,8 @@ module _ (value : WorldValue) (whole : IsHeld value) (tasks : Tasks) (more less 
   begins_midway : Midway value ended gained goes less ended k_begins []
   begins_midway = record {
     held = whole;
+    merged = gained_overlays world more (kept_of value) ∙ merged_at_first value whole
+        ∙ merged_alike world ended refl (λ n. shows_still n world.mounts);
     mounts = ap (map (gone_if goes)) (sym same_entries);
     uses = λ entry m. let from = entry_was entry m in
         subst (λ (e : MountEntry). e.uses ≡ mount_uses next e.mount.number + times (is_use_on e.mount.number) less)
@@ -443,10 +430,10 @@ module _ (value : WorldValue) (whole : IsHeld value) (tasks : Tasks) (more less 
         ∙ sym (map_twice (λ (one : Shown). counted one.count) shown_entry value.filesystems)
         ∙ sym (map_twice (λ (one : Shown). counted one.count) pinned_one (shown value.filesystems))
         ∙ sym (ap (map (λ (one : Shown). counted one.count))
-        (filesystems_gained world more (kept value.mounts value.filesystems)));
+        (filesystems_gained world more (kept_of value)));
     stand = stand_ended;
     located = located_ended;
-    keeps = same_files_keep value world ended refl (keeps_itself value whole.overlays);
+    leaves = leaves_alike world ended refl (λ n. shows_still n world.mounts) value (leaves_at_first value whole);
     same = refl;
   }
 

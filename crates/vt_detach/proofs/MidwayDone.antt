@@ -1,12 +1,11 @@
 -- The steps by which tasks leave uses and namespaces, and the world after the last of them.
-use Rattle.std.proofs.lemmas.List.Elements.{All-nil}
 use Rattle.std.proofs.Common.{◌≡◌, refl, sym, ap, subst, ◌∙◌, ℕ, ◌+◌, nat_eq, Bool, true, false, true≢false, cond, not, ◌&&◌, ◌||◌, List, [], ◌∷◌, ◌++◌, map, filter, flat_map, Option, Some, is_some, arith}
 use Rattle.std.specs.Prelude.{All}
 use Rattle.std.proofs.lemmas.List.{append-nil}
 use Rattle.vt_spec.specs.Lists.{folded}
 use Rattle.vt_spec.specs.Machine.Mounts.{Location, Mount, detached}
 use Rattle.vt_spec.specs.Machine.SameWorlds.{without_changes}
-use Rattle.vt_spec.specs.Machine.Settled.{filesystem_lives, is_located, mount_lives, without_dead_filesystems, without_dead_mounts}
+use Rattle.vt_spec.specs.Machine.Settled.{filesystem_lives, is_located, is_mounted, mount_lives, without_dead_filesystems, without_dead_mounts}
 use Rattle.vt_spec.specs.Machine.World.{Filesystem, Task, World, is_overlay}
 use Rattle.vt_laws_counts.specs.OverlaysStay.{layer_count}
 use Rattle.vt_laws_counts.specs.Using.{Exchanges}
@@ -14,7 +13,7 @@ use Rattle.vt_fs.specs.FilesystemsValue.{FilesystemEntry, Shown, shown_entry}
 use Rattle.vt_laws_letting_go.specs.Counts.{mount_uses, mounts_showing}
 use Rattle.vt_laws_letting_go.specs.OneByOne.{Inode}
 use Rattle.vt_laws_letting_go.specs.Mounting.{inode_at}
-use Rattle.vt_laws_letting_go.proofs.Lists.{Among, all_from_among, among-filter, among-from_map, among-map, filter_all, flat_map_none, map_same}
+use Rattle.vt_laws_letting_go.proofs.Lists.{Among, all_from_among, among-filter, among-from_map, among-map, among_from_all, filter_all, flat_map_none, map_same}
 use Rattle.vt_laws_letting_go.proofs.sweeps.UsesCounted.{located_while_counted}
 use Rattle.vt_location.specs.declared.locations.Location.{Location as Place}
 use Rattle.vt_location.specs.Numbers.{counted}
@@ -22,16 +21,18 @@ use Rattle.vt_mount.specs.MountsValue.{MountEntry, mounts_in}
 use Rattle.vt_laws_letting_go.specs.Attaching.{inodes_of_mount_point}
 use Rattle.vt_world.specs.Held.{CountsItsUses, CountsWhatIsInIt, IsHeld, IsMountedSoOften, writes_of}
 use Rattle.vt_detach.specs.NamespacesLeft.{AreDetached, Detached}
-use Rattle.vt_detach.specs.Uses.{Kept, kept, without_attachment, without_use}
+use Rattle.vt_detach.specs.Uses.{Kept, Merged, kept_with, overlays_kept, without_attachment, without_use}
 use Rattle.vt_world.specs.WorldValue.{WorldValue, overlays_seen, world_of}
-use Rattle.vt_detach.proofs.BesideOverlays.{layers_of_value, lives_midway, overlay_lives}
 use Rattle.vt_detach.proofs.Bridging.{IsSwept}
 use Rattle.vt_detach.proofs.Finishing.{CountsBeside}
 use Rattle.vt_detach.proofs.Midway.{IsGoing, Midway, Reached, gone_if, left_alone, mount_taken, point_left, points_left, taken_alone, use_left}
 use Rattle.vt_detach.proofs.MidwayGoes.{mount_looked_at}
+use Rattle.vt_detach.proofs.MountsLeave.{counted_lives, overlay_lives_still}
 use Rattle.vt_detach.proofs.Moving.{Use, inodes_of_uses}
 use Rattle.vt_detach.proofs.LostUses.{positive}
-use Rattle.vt_detach.proofs.Overlaid.{KeepsOverlays, is_plain_one, none_still, none_to_mount}
+use Rattle.vt_detach.proofs.Overlaid.{KeepsOverlays, is_plain_one, layers_of_fewer}
+use Rattle.vt_detach.proofs.OverlaysGone.{merged_in}
+use Rattle.vt_detach.proofs.OverlaysRemade.{counted_kept, seen_kept}
 use Rattle.vt_spec.proofs.Lists.{map_twice}
 use Rattle.vt_laws_letting_go.specs.TreesOverlays.{in_use_of}
 
@@ -79,8 +80,9 @@ module _ (value : WorldValue) (whole : IsHeld value) (start : World ℕ) (gained
 module _ (value : WorldValue) (start : World ℕ) (gained : List Inode) (goes : Mount ℕ → Bool) (k : Kept)
     (at : Reached value start gained goes [] k)
     (all_gone : (entry : MountEntry) → Among entry k.mounts → goes entry.mount ≡ false)
-    (new : WorldValue) (is_kept : kept new.mounts new.filesystems ≡ k) (same_tasks : start.tasks ≡ new.tasks)
-    (same_overlays : overlays_seen new.overlays ≡ overlays_seen value.overlays) where
+    (new : WorldValue) (overlays : List Merged) (is_kept : kept_with new.mounts new.filesystems overlays ≡ k)
+    (same_tasks : start.tasks ≡ new.tasks)
+    (same_overlays : new.overlays ≡ overlays_kept overlays value.overlays) where
   abbrev now : World ℕ
   now = at.now
 
@@ -138,18 +140,26 @@ module _ (value : WorldValue) (start : World ℕ) (gained : List Inode) (goes : 
   filesystem_is_used f m = by (is_overlay f) refl
     where
       by : (b : Bool) → is_overlay f ≡ b → filesystem_lives nat_eq now f ≡ true
-      by true e = overlay_lives value now mid.keeps (none_to_mount value mid.held now) f m e
+      by true e = overlay_lives_still value mid.held now mid.leaves f m e
       by false e =
           let from = among-from_map (λ (one : Shown). counted one.count) k.filesystems f.number
           (subst (λ all. Among f.number all) mid.numbers
           (among-map (λ (x : Filesystem ℕ). x.number) (filter is_plain_one now.filesystems) f
           (among-filter is_plain_one now.filesystems f m (ap not e)))) in
           let is = mid.shown from.0 from.1 in
-          lives_midway value now mid.keeps (none_to_mount value mid.held now) f
-          ∙ positive (mounts_showing now f.number + layer_count now f.number)
+          counted_lives value mid.held now mid.leaves f
+          (positive (mounts_showing now f.number + layer_count now f.number)
           ∙ ap (λ n. not (nat_eq n 0))
           (ap (λ n. mounts_showing now n + layer_count now n) from.2 ∙ sym is.mounts)
-          ∙ ap not is.mounted
+          ∙ ap not is.mounted)
+
+  merged_now : overlays ≡ map (merged_in now) (filter is_overlay now.filesystems)
+  merged_now = ap (λ (one : Kept). one.overlays) is_kept ∙ mid.merged
+
+  -- the overlays are those of before that mounts show still
+  overlays_left : overlays_seen new.overlays
+      ≡ filter (λ overlay. is_mounted nat_eq now overlay.number) (overlays_seen value.overlays)
+  overlays_left = ap overlays_seen same_overlays ∙ seen_kept value mid.held now mid.leaves overlays merged_now
 
   living_is : in_use_of start ≡ now
   living_is =
@@ -175,8 +185,9 @@ module _ (value : WorldValue) (start : World ℕ) (gained : List Inode) (goes : 
       → IsSwept value start gained at.lost new
   reached_swept keeps namespaces = record {
     midway = keeps;
-    mounted = none_to_mount value mid.held (in_use_of start);
-    overlays = same_overlays;
+    overlays = overlays_left
+        ∙ ap (λ (w : World ℕ). filter (λ overlay. is_mounted nat_eq w overlay.number) (overlays_seen value.overlays))
+        (sym living_is);
     mounts = ap (λ (w : World ℕ). w.mounts) living_is ∙ mounts_are;
     numbers = ap (λ (w : World ℕ). map (λ (f : Filesystem ℕ). f.number) (filter is_plain_one w.filesystems)) living_is
         ∙ mid.numbers
@@ -214,7 +225,13 @@ module _ (value : WorldValue) (start : World ℕ) (gained : List Inode) (goes : 
         is.mounts
         ∙ (λ i. Rattle.vt_laws_letting_go.specs.Counts.times
         (λ (x : Mount ℕ). nat_eq (counted entry.count) x.filesystem) (mounts_are i)
-        + sym (layers_of_value value new mid.held.overlays same_overlays now mid.keeps (counted entry.count)) i);
-    overlays = subst (All (IsMountedSoOften (world_of new))) (sym (none_still value new mid.held same_overlays)) (All-nil _);
+        + sym (layers_of_fewer value new mid.held.overlays (λ overlay. is_mounted nat_eq now overlay.number)
+        overlays_left now mid.leaves.overlays (counted entry.count)) i);
+    overlays = all_from_among (IsMountedSoOften (world_of new)) new.overlays (λ entry m.
+        among_from_all (IsMountedSoOften now) (overlays_kept overlays value.overlays)
+        (counted_kept value mid.held now mid.leaves overlays merged_now) entry
+        (subst (λ all. Among entry all) same_overlays m)
+        ∙ (λ i. Rattle.vt_laws_letting_go.specs.Counts.times
+        (λ (x : Mount ℕ). nat_eq entry.number x.filesystem) (mounts_are i)));
     namespaces = namespaces;
   }

@@ -1,92 +1,116 @@
 -- A mount that nothing uses any more goes, and its filesystem with its last mount, between the first and the last use
 -- that a
 -- task leaves.
-use Rattle.std.proofs.Common.{◌≡◌, refl, sym, ap, subst, ◌∙◌, ℕ, ◌+◌, ◌-◌, nat_eq, eqb-true, eq-eqb, Bool, true, false, true≢false, cond, not, ◌&&◌, ◌||◌, List, [], ◌∷◌, ◌++◌, map, filter, find, flat_map, Option, Some, None, is_some, arith}
+use Rattle.std.proofs.Common.{◌≡◌, refl, sym, ap, subst, ◌∙◌, ℕ, ◌+◌, nat_eq, eqb-true, eq-eqb, Bool, true, false, true≢false, cond, not, ◌&&◌, ◌||◌, List, [], ◌∷◌, ◌++◌, map, filter, find, flat_map, Option, Some, None, is_some, arith}
 use Rattle.std.specs.Prelude.{nat_lt, option_to_list}
 use Rattle.std.specs.List.{list_all, list_any}
 use Rattle.std.proofs.lemmas.Bool.{and_parts, or_parts}
 use Rattle.std.proofs.lemmas.Option.{same_Some}
-use Rattle.std.proofs.lemmas.List.{append-nil}
 use Rattle.vt_spec.specs.Lists.{folded, is_among}
 use Rattle.vt_spec.specs.Machine.Mounts.{Location, Mount, detached, mount_in}
-use Rattle.vt_spec.specs.Machine.Settled.{filesystem_lives, is_located, is_mounted, mount_lives, without_dead_mounts}
+use Rattle.vt_spec.specs.Machine.Settled.{filesystem_lives, has_layer_on, is_located, is_mounted, mount_lives, without_dead_filesystems, without_dead_mounts}
 use Rattle.vt_spec.specs.Machine.World.{Filesystem, World, all_locations, is_overlay, mount_at, mount_numbered}
 use Rattle.vt_spec.specs.Machine.Invariants.{is_nowhere_or_attached}
-use Rattle.vt_laws_counts.specs.OverlaysStay.{layer_count}
-use Rattle.vt_laws_counts.specs.Using.{Exchanges, is_inode, pinned_if, unpinned_if}
+use Rattle.vt_laws_counts.specs.OverlaysStay.{layer_count, mounted_layer_count}
+use Rattle.vt_laws_counts.specs.Using.{Exchanges, pinned_if, unpinned_if}
 use Rattle.vt_laws_counts.proofs.going.Gone.{mount_takes_its_count}
 use Rattle.vt_laws_counts.proofs.using.MountRoots as Roots
-use Rattle.vt_laws_counts.proofs.overlays.FilesystemUses.{plain_ones_use_nothing}
 use Rattle.vt_laws_counts.proofs.using.Places.{exchanges_follow}
 use Rattle.vt_fs.specs.FilesystemsValue.{Shown, inodes_seen}
-use Rattle.vt_laws_letting_go.specs.Counts.{mount_uses, mounts_showing, times}
+use Rattle.vt_laws_letting_go.specs.Counts.{mount_uses, mounts_showing}
 use Rattle.vt_laws_letting_go.specs.Keeping.{LocationsStand}
 use Rattle.vt_laws_letting_go.specs.Leaving.{MountsStand, stands_on_attached}
 use Rattle.vt_laws_letting_go.specs.OneByOne.{Inode, is_mount_used, without_mount}
-use Rattle.vt_laws_letting_go.proofs.Lists.{Among, all_pass, among-filter, among-from_filter, among-from_map, among-map, among_numbers, fails, filter-map, filter_alike, is_among_numbers, none_passes, or_second, passes, filter_less}
+use Rattle.vt_laws_letting_go.proofs.Lists.{Among, all_pass, among-filter, among-from_filter, among-from_map, among-map, among_numbers, any-filter, any_passes, fails, filter-map, filter_alike, filter_less, is_among_numbers, one_passes, passes}
 use Rattle.vt_laws_letting_go.proofs.leaving.PlacesLeft.{found_itself}
-use Rattle.vt_laws_letting_go.proofs.sweeps.UsesCounted.{located_while_counted, mounted_while_counted}
+use Rattle.vt_laws_letting_go.proofs.sweeps.UsesCounted.{located_while_counted}
 use Rattle.vt_location.specs.Numbers.{counted}
 use Rattle.vt_mount.specs.MountsValue.{MountEntry, entry_numbered, mounts_in, without}
-use Rattle.vt_laws_letting_go.proofs.sweeps.UpperUses.{times_append}
 use Rattle.vt_laws_mounts.specs.Mounts.Attaching.{OneNumberAMount}
 use Rattle.vt_laws_letting_go.specs.Attaching.{inodes_of_mount_point}
 use Rattle.vt_world.specs.Held.{IsHeld}
 use Rattle.vt_detach.specs.Uses as meant
-use Rattle.vt_detach.specs.Uses.{Kept, is_unused, let_go_entry, mounts_shown, released_if}
-use Rattle.vt_world.specs.WorldValue.{WorldValue, world_of}
-use Rattle.vt_detach.proofs.LostUses.{entry_found_at, entry_itself, flat_map_less, folded_append, found_unless, lost_alike, one_number_less, shown_by_rule}
+use Rattle.vt_detach.specs.Uses.{Kept, is_unused, let_go_entry}
+use Rattle.vt_world.specs.WorldValue.{WorldValue, overlays_seen, world_of}
+use Rattle.vt_detach.proofs.LayersLeft.{less}
+use Rattle.vt_detach.proofs.LostUses.{entry_found_at, entry_itself, flat_map_less, folded_append, one_number_less, positive}
 use Rattle.vt_detach.proofs.Midway.{IsShown, Midway, NoneUnused, Reached, UnusedOnly, gone_if, gone_number, one_number_kept, point_left, points_left, unused_parts}
 use Rattle.vt_detach.proofs.Moving.{Use, inodes_of_uses, swap_eq}
-use Rattle.vt_spec.proofs.Lists.{map_alike, map_twice}
 use Rattle.vt_laws_letting_go.specs.TreesOverlays.{in_use_of}
-use Rattle.vt_detach.proofs.BesideOverlays.{dead_unshown, layers_alike, lives_alike, overlays_left, plain_ones_left, stays_beside}
-use Rattle.vt_detach.proofs.FilesystemsLeft.{let_go_is, stays_at, world_left}
-use Rattle.vt_detach.proofs.Overlaid.{is_plain_one}
-use Rattle.vt_laws_overlays_stay.proofs.weaving.WovenLists.{rising_filtered}
+use Rattle.vt_detach.proofs.BesideOverlays.{lives_more}
+use Rattle.vt_detach.proofs.MountsGone.{exchanges_between}
+use Rattle.vt_detach.proofs.MountsLeave.{layers_exchanged, layers_stay, leaves_then, left_counted, left_shown, numbers_are, overlay_was, overlays_apart, overlays_stay, shown_are}
+use Rattle.vt_detach.proofs.OverlaysGone.{layers_gone, merged_in}
+use Rattle.vt_detach.proofs.OverlaysKept.{merged_then}
+use Rattle.vt_detach.proofs.Overlaid.{overlay_apart}
 
--- What the sweep leaves when a dead mount and filesystems that no mount shows are gone already
+-- What the sweep leaves when a dead mount, and what it alone showed, are gone already
 
-module _ (now : World ℕ) (number : ℕ) (stays : ℕ → Bool)
+module _ (now : World ℕ) (number : ℕ)
     (dead : (mount : Mount ℕ) → Among mount now.mounts → not (nat_eq mount.number number) ≡ false
-    → mount_lives nat_eq now mount ≡ false)
-    (bare : (f : Filesystem ℕ) → Among f now.filesystems → stays_beside stays f ≡ false
-    → (is_mounted nat_eq (without_mount now number) f.number ≡ false) × (layer_count now f.number ≡ 0)) where
-  abbrev second : World ℕ
-  second = world_left now number stays
+    → mount_lives nat_eq now mount ≡ false) where
+  abbrev others : World ℕ
+  others = without_mount now number
 
-  abbrev mounts_left : List (Mount ℕ)
-  mounts_left = filter (mount_lives nat_eq now) now.mounts
+  abbrev second : World ℕ
+  second = without_dead_filesystems nat_eq others
+
+  abbrev living : World ℕ
+  living = without_dead_mounts nat_eq now
 
   same_left : filter (mount_lives nat_eq now) (filter (λ mount. not (nat_eq mount.number number)) now.mounts)
-      ≡ mounts_left
+      ≡ filter (mount_lives nat_eq now) now.mounts
   same_left = filter_less (mount_lives nat_eq now) (λ mount. not (nat_eq mount.number number)) now.mounts dead
 
   abbrev showing : List (Mount ℕ) → ℕ → Bool
-  showing mounts f = list_any (λ (mount : Mount ℕ). nat_eq f mount.filesystem) mounts
+  showing mounts n = list_any (λ (mount : Mount ℕ). nat_eq n mount.filesystem) mounts
 
-  not_living : (f : Filesystem ℕ) → Among f now.filesystems → stays_beside stays f ≡ false
-      → filesystem_lives nat_eq (without_dead_mounts nat_eq now) f ≡ false
-  not_living f m gone =
-      dead_unshown (without_dead_mounts nat_eq now) f
-      (ap (λ mounts. showing mounts f.number) (sym same_left)
-      ∙ none_passes (λ (mount : Mount ℕ). nat_eq f.number mount.filesystem)
-      (filter (mount_lives nat_eq now) (filter (λ mount. not (nat_eq mount.number number)) now.mounts))
-      (λ mount n. fails (λ (mount : Mount ℕ). nat_eq f.number mount.filesystem)
-      (filter (λ mount. not (nat_eq mount.number number)) now.mounts)
-      (bare f m gone).0 mount (among-from_filter (mount_lives nat_eq now)
-      (filter (λ mount. not (nat_eq mount.number number)) now.mounts) mount n).0))
-      (bare f m gone).1
+  -- what living mounts show, other mounts show
+  shown_by_others : (n : ℕ) → is_mounted nat_eq living n ≡ true → is_mounted nat_eq others n ≡ true
+  shown_by_others n h =
+      let one = one_passes (λ (mount : Mount ℕ). nat_eq n mount.filesystem)
+      (filter (mount_lives nat_eq now) others.mounts) (ap (λ mounts. showing mounts n) same_left ∙ h) in
+      any_passes (λ (mount : Mount ℕ). nat_eq n mount.filesystem) others.mounts one.0
+      (among-from_filter (mount_lives nat_eq now) others.mounts one.0 one.1).0 one.2
+
+  unshown : (n : ℕ) → is_mounted nat_eq others n ≡ false → is_mounted nat_eq living n ≡ false
+  unshown n h = by (is_mounted nat_eq living n) refl
+    where
+      by : (b : Bool) → is_mounted nat_eq living n ≡ b → b ≡ false
+      by true e = absurd (true≢false (sym (shown_by_others n e) ∙ h))
+      by false e = refl
+
+  not_living : (f : Filesystem ℕ) → Among f now.filesystems → filesystem_lives nat_eq others f ≡ false
+      → filesystem_lives nat_eq living f ≡ false
+  not_living f m gone = by (filesystem_lives nat_eq living f) refl
+    where
+      by : (b : Bool) → filesystem_lives nat_eq living f ≡ b → b ≡ false
+      by true e = absurd (true≢false (sym (lives_more living others (λ g n. n) shown_by_others f e) ∙ gone))
+      by false e = refl
+
+  -- an overlay that no mount shows keeps nothing alive
+  same_lives : (f : Filesystem ℕ)
+      → filesystem_lives nat_eq (without_dead_mounts nat_eq second) f ≡ filesystem_lives nat_eq living f
+  same_lives f =
+      (λ i. showing (same_left i) f.number
+      || list_any (λ (merged : Filesystem ℕ). has_layer_on nat_eq f.number merged
+      && showing (same_left i) merged.number) second.filesystems)
+      ∙ ap (λ b. is_mounted nat_eq living f.number || b)
+      (any-filter (λ (merged : Filesystem ℕ). has_layer_on nat_eq f.number merged
+      && is_mounted nat_eq living merged.number) (filesystem_lives nat_eq others) now.filesystems
+      (λ merged m gone. none (has_layer_on nat_eq f.number merged) (is_mounted nat_eq living merged.number)
+      (unshown merged.number (or_parts (is_mounted nat_eq others merged.number) _ gone).0)))
+    where
+      none : (a b : Bool) → b ≡ false → (a && b) ≡ false
+      none true b e = e
+      none false b e = refl
 
   same_filesystems : filter (filesystem_lives nat_eq (without_dead_mounts nat_eq second)) second.filesystems
-      ≡ filter (filesystem_lives nat_eq (without_dead_mounts nat_eq now)) now.filesystems
+      ≡ filter (filesystem_lives nat_eq living) now.filesystems
   same_filesystems =
-      filter_alike (filesystem_lives nat_eq (without_dead_mounts nat_eq second))
-      (filesystem_lives nat_eq (without_dead_mounts nat_eq now)) second.filesystems
-      (λ f m. lives_alike (without_dead_mounts nat_eq now) (without_dead_mounts nat_eq second)
-      (overlays_left stays now.filesystems) (λ n. ap (λ mounts. showing mounts n) same_left) f)
-      ∙ filter_less (filesystem_lives nat_eq (without_dead_mounts nat_eq now)) (stays_beside stays) now.filesystems
-      not_living
+      filter_alike (filesystem_lives nat_eq (without_dead_mounts nat_eq second)) (filesystem_lives nat_eq living)
+      second.filesystems (λ f m. same_lives f)
+      ∙ filter_less (filesystem_lives nat_eq living) (filesystem_lives nat_eq others) now.filesystems not_living
 
   pub living_alike : in_use_of second ≡ in_use_of now
   living_alike = λ i. record now { mounts = same_left i; filesystems = same_filesystems i }
@@ -186,101 +210,50 @@ module _ (value : WorldValue) (whole : IsHeld value) (start : World ℕ) (gained
         ∙ ap (λ (x : Mount ℕ). mounts_showing first n + cond (nat_eq n x.filesystem) 1 0) mount_is
         ∙ ap (λ b. mounts_showing first n + cond b 1 0) (swap_eq n f)
 
-    abbrev step : Shown → Shown
-    step one = released_if f (record one { inodes = unpinned_if (counted one.count) one.inodes root })
+    each : (one : Shown) → Among one k.filesystems
+        → one.mounts ≡ mounts_showing now (counted one.count) + layer_count now (counted one.count)
+    each one m = (mid.shown one m).mounts
 
-    abbrev stepped : List Shown
-    stepped = map step k.filesystems
+    some : (one : Shown) → Among one k.filesystems → nat_eq one.mounts 0 ≡ false
+    some one m = (mid.shown one m).mounted
 
-    abbrev none_left : Bool
-    none_left = nat_eq (mounts_shown f stepped) 0
-
-    abbrev stays : ℕ → Bool
-    stays = stays_at f stepped
-
-    -- what is counted of a filesystem once the mount has gone
-    abbrev counts_of : ℕ → ℕ
-    counts_of n = mounts_showing first n + layer_count now n
-
-    step_is : (was : Shown) → Among was k.filesystems
-        → ((step was).count ≡ was.count) × ((step was).inodes ≡ unpinned_if (counted was.count) was.inodes root)
-        × ((step was).mounts ≡ counts_of (counted was.count))
-        × (nat_eq f (counted was.count) ≡ false → (step was).mounts ≡ was.mounts)
-    step_is was m = by (nat_eq f (counted was.count)) (mid.shown was m).mounts (takes (counted was.count))
-      where
-        by : (b : Bool) → was.mounts ≡ mounts_showing now (counted was.count) + layer_count now (counted was.count)
-            → mounts_showing now (counted was.count) ≡ mounts_showing first (counted was.count) + cond b 1 0
-            → ((cond b (record was {
-              inodes = unpinned_if
-                  (counted was.count) was.inodes root;
-              mounts = was.mounts - 1;
-            })
-            (record was { inodes = unpinned_if (counted was.count) was.inodes root })).count ≡ was.count)
-            × ((cond b (record was {
-              inodes = unpinned_if
-                  (counted was.count) was.inodes root;
-              mounts = was.mounts - 1;
-            })
-            (record was { inodes = unpinned_if (counted was.count) was.inodes root })).inodes
-            ≡ unpinned_if (counted was.count) was.inodes root)
-            × ((cond b (record was {
-              inodes = unpinned_if
-                  (counted was.count) was.inodes root;
-              mounts = was.mounts - 1;
-            })
-            (record was { inodes = unpinned_if (counted was.count) was.inodes root })).mounts
-            ≡ counts_of (counted was.count))
-            × (b ≡ false → (cond b (record was {
-              inodes = unpinned_if
-                  (counted was.count) was.inodes root;
-              mounts = was.mounts - 1;
-            })
-            (record was { inodes = unpinned_if (counted was.count) was.inodes root })).mounts ≡ was.mounts)
-        by true counts took = (refl, refl, omega (arith, counts, took), (λ e. absurd (true≢false e)))
-        by false counts took = (refl, refl, omega (arith, counts, took), (λ e. refl))
-
-    -- what is shown of a number is what its mounts are
-    stepped_counts : (one : Shown) → Among one stepped → one.mounts ≡ counts_of (counted one.count)
-    stepped_counts one m =
-        let from = among-from_map step k.filesystems one m in let is = step_is from.0 from.1 in
-        ap (λ (x : Shown). x.mounts) from.2 ∙ is.2
-        ∙ ap (λ count. counts_of (counted count)) (sym is.0)
-        ∙ ap (λ (x : Shown). counts_of (counted x.count)) (sym from.2)
-
-    shown_here : (one : Shown) → Among one stepped → f ≡ counted one.count
-        → mounts_shown f stepped ≡ counts_of f
-    shown_here one m same = shown_by_rule f counts_of stepped stepped_counts one m same
-
-    -- each plain filesystem of the world is shown
-    shown_of : (g : Filesystem ℕ) → Among g (filter is_plain_one now.filesystems)
-        → (one : Shown) × Among one k.filesystems × (g.number ≡ counted one.count)
-    shown_of g m =
-        among-from_map (λ (one : Shown). counted one.count) k.filesystems g.number
-        (subst (λ all. Among g.number all) mid.numbers
-        (among-map (λ (x : Filesystem ℕ). x.number) (filter is_plain_one now.filesystems) g m))
-
-    bare : (g : Filesystem ℕ) → Among g now.filesystems → stays_beside stays g ≡ false
-        → (is_mounted nat_eq first g.number ≡ false) × (layer_count now g.number ≡ 0)
-    bare g m gone =
-        let kinds = or_parts (is_overlay g) (stays g.number) gone in
-        let from = shown_of g (among-filter is_plain_one now.filesystems g m (ap not kinds.0)) in
-        let parts = both none_left (nat_eq f g.number) kinds.1 in
-        let same : f ≡ g.number = eqb-true f g.number parts.1 in
-        let counts = shown_here (step from.0) (among-map step k.filesystems from.0 from.1)
-        (same ∙ from.2 ∙ ap counted (sym (step_is from.0 from.1).0)) in
-        let none : mounts_showing first g.number + layer_count now g.number ≡ 0 = ap counts_of (sym same) ∙ sym counts
-        ∙ eqb-true (mounts_shown f stepped) 0 parts.0 in
-        let unshown : mounts_showing first g.number ≡ 0 = omega (arith, none) in
-        let unlayered : layer_count now g.number ≡ 0 = omega (arith, none) in
-        (mounted_while_counted first g.number ∙ ap (nat_lt 0) unshown, unlayered)
-      where
-        both : (a b : Bool) → (not a || not b) ≡ false → (a ≡ true) × (b ≡ true)
-        both true true e = (refl, refl)
-        both true false e = absurd (true≢false e)
-        both false b e = absurd (true≢false e)
+    apart : (one : Shown) → Among one k.filesystems → (overlay : Filesystem ℕ)
+        → Among overlay (overlays_seen value.overlays) → nat_eq (counted one.count) overlay.number ≡ false
+    apart one m overlay n =
+        let was = mid.shown one m in
+        ap (λ count. nat_eq (counted count) overlay.number) was.count
+        ∙ overlay_apart value whole was.was was.among overlay n
 
     abbrev after : World ℕ
-    after = world_left now number stays
+    after = without_dead_filesystems nat_eq first
+
+    abbrev kept_left : Kept
+    kept_left = meant.without_mount number mount k
+
+    -- what is lost with the mount
+    abbrev lost_here : List Inode
+    lost_here = root ∷ layers_gone f k.overlays
+
+    abbrev lost_now : List Inode
+    lost_now = lost ++ lost_here
+
+    shown_left : kept_left.filesystems
+        ≡ left_shown value whole now mid.leaves number f takes mount.root k.overlays mid.merged k.filesystems each some
+        apart mid.numbers
+    shown_left =
+        shown_are value whole now mid.leaves number f takes mount.root k.overlays mid.merged k.filesystems each some
+        apart mid.numbers
+
+    shown_was : (new : Shown) → Among new kept_left.filesystems
+        → (one : Shown) × Among one k.filesystems × (new ≡ less lost_here one)
+        × (new.mounts ≡ mounts_showing after (counted new.count) + layer_count after (counted new.count))
+        × (nat_eq new.mounts 0 ≡ false)
+    shown_was new m =
+        left_counted value whole now mid.leaves number f takes mount.root k.overlays mid.merged k.filesystems each some
+        apart mid.numbers new (subst (λ all. Among new all) shown_left m)
+
+    same_count : (new : Shown) → (m : Among new kept_left.filesystems) → new.count ≡ (shown_was new m).0.count
+    same_count new m = ap (λ (x : Shown). x.count) (shown_was new m).2
 
     -- Mounts
 
@@ -357,24 +330,6 @@ module _ (value : WorldValue) (whole : IsHeld value) (start : World ℕ) (gained
         (among-filter (λ other. not (nat_eq other.number number)) now.mounts from.0 from.1
         (ap not (ap (λ n. nat_eq n number) (sym from.2) ∙ swap_eq location.mount number ∙ apart))))))
 
-    abbrev kept_left : Kept
-    kept_left = record {
-      mounts = without number k.mounts;
-      filesystems = filter
-          (λ (one : Shown). stays (counted one.count)) stepped;
-    }
-
-    kept_is : kept_left ≡ meant.without_mount number mount k
-    kept_is = λ i. record { mounts = without number k.mounts; filesystems = so i }
-      where
-        so : filter (λ (one : Shown). stays (counted one.count)) stepped
-            ≡ meant.let_go_filesystem f (meant.released_in f (meant.unpinned_in root k.filesystems))
-        so =
-            sym (let_go_is f stepped)
-            ∙ ap (meant.let_go_filesystem f)
-            (sym (map_twice (released_if f)
-            (λ (one : Shown). record one { inodes = unpinned_if (counted one.count) one.inodes root }) k.filesystems))
-
     same_points : points_left world goes (without number k.mounts) ≡ points_left world goes k.mounts
     same_points =
         ap (flat_map (point_left world goes))
@@ -401,99 +356,67 @@ module _ (value : WorldValue) (whole : IsHeld value) (start : World ℕ) (gained
         (filter-map (λ (x : Mount ℕ). not (nat_eq x.number number)) (λ (e : MountEntry). e.mount) k.mounts
         (λ e. ap not (swap_eq e.mount.number number)))
 
-    abbrev lost_now : List Inode
-    lost_now = lost ++ (root ∷ [])
-
-    shown_was : (one : Shown) → Among one kept_left.filesystems
-        → (was : Shown) × Among was k.filesystems × (one ≡ step was) × (stays (counted one.count) ≡ true)
-    shown_was one m =
-        let kept_one = among-from_filter (λ (one : Shown). stays (counted one.count)) stepped one m in
-        let from = among-from_map step k.filesystems one kept_one.0 in
-        (from.0, from.1, from.2, kept_one.1)
-
-    still_mounted : (was : Shown) → Among was k.filesystems → stays (counted (step was).count) ≡ true
-        → nat_eq (step was).mounts 0 ≡ false
-    still_mounted was m stay = by (nat_eq f (counted was.count)) refl
-      where
-        is : ((step was).count ≡ was.count) × ((step was).inodes ≡ unpinned_if (counted was.count) was.inodes root)
-            × ((step was).mounts ≡ counts_of (counted was.count))
-            × (nat_eq f (counted was.count) ≡ false → (step was).mounts ≡ was.mounts)
-        is = step_is was m
-
-        some : (a : Bool) → (not a || false) ≡ true → a ≡ false
-        some true e = absurd (true≢false (sym e))
-        some false e = refl
-
-        by : (b : Bool) → nat_eq f (counted was.count) ≡ b → nat_eq (step was).mounts 0 ≡ false
-        by true e =
-            let same : f ≡ counted (step was).count = eqb-true f (counted was.count) e ∙ ap counted (sym is.0) in
-            ap (λ n. nat_eq n 0)
-            (is.2 ∙ ap counts_of (sym (eqb-true f (counted was.count) e))
-            ∙ sym (shown_here (step was) (among-map step k.filesystems was m) same))
-            ∙ some none_left (ap (λ b. not none_left || not b) (sym (ap (λ n. nat_eq f n) (ap counted is.0) ∙ e))
-            ∙ stay)
-        by false e = ap (λ n. nat_eq n 0) (is.3 e) ∙ (mid.shown was m).mounted
-
-    shown_is : (was : Shown) → Among was k.filesystems → stays (counted (step was).count) ≡ true
-        → IsShown value after gained lost_now (step was)
-    shown_is was m stay = let had = mid.shown was m in let is = step_is was m in record {
+    shown_is : (new : Shown) → Among new kept_left.filesystems → IsShown value after gained lost_now new
+    shown_is new m = let from = shown_was new m in let had = mid.shown from.0 from.1 in record {
       was = had.was;
       among = had.among;
-      count = is.0 ∙ had.count;
+      count = same_count new m ∙ had.count;
       there = had.there;
-      inodes = is.1 ∙ (λ i. unpinned_if (counted (had.count i)) (had.inodes i) root)
+      inodes = ap (λ (x : Shown). x.inodes) from.2
+          ∙ (λ i. folded (unpinned_if (counted (had.count i))) (had.inodes i) lost_here)
           ∙ sym (folded_append (unpinned_if (counted had.was.count))
-          (folded (pinned_if (counted had.was.count)) (inodes_seen had.was) gained) lost (root ∷ []));
-      mounts = is.2 ∙ ap (λ count. counts_of (counted count)) (sym is.0)
-          ∙ ap (λ n. mounts_showing first (counted (step was).count) + n)
-          (sym (layers_alike first after (overlays_left stays now.filesystems) (counted (step was).count)));
-      mounted = still_mounted was m stay;
+          (folded (pinned_if (counted had.was.count)) (inodes_seen had.was) gained) lost lost_here);
+      mounts = from.3;
+      mounted = from.4;
     }
 
     -- Exchanges
 
-    exchanges_on : (c : ℕ) → stays c ≡ true
-        → Exchanges gained (lost ++ (inodes_of_uses world left ++ points_left world goes k.mounts)) c world now
-        → Exchanges gained (lost_now ++
-        (inodes_of_uses world left ++ points_left world goes (without number k.mounts))) c world after
-    exchanges_on c stay before =
-        let rest = inodes_of_uses world left ++ points_left world goes k.mounts in
-        let root_is : Exchanges [] (root ∷ []) c now first = subst
-        (λ (x : Mount ℕ). Exchanges [] ((x.filesystem, x.root) ∷ []) c now first) mount_is
-        (Roots.mounts_leave_their_roots now number mid.stand mid.located mount_listed not_used c) in
-        let gone = plain_ones_use_nothing first after c refl refl (overlays_left stays now.filesystems)
-        (found_unless (stays_beside stays) now.filesystems c
-        (λ x m e. or_second (is_overlay x) (stays x.number) (ap stays e ∙ stay))) in
-        let all = exchanges_follow world first after (gained ++ []) ((lost ++ rest) ++ (root ∷ [])) [] [] c
-        (exchanges_follow world now first gained (lost ++ rest) [] (root ∷ []) c before root_is) gone in
-        subst (λ points. Exchanges gained (lost_now ++ (inodes_of_uses world left ++ points)) c world after)
-        (sym same_points)
-        (lost_alike gained (((lost ++ rest) ++ (root ∷ [])) ++ []) (lost_now ++ rest) c world after
-        (λ n. counts_alike (is_inode c n) rest)
-        (subst (λ all_gained. Exchanges all_gained (((lost ++ rest) ++ (root ∷ [])) ++ []) c world after)
-        (append-nil (gained ++ []) ∙ append-nil gained) all))
-      where
-        counts_alike : (test : Inode → Bool) (rest : List Inode)
-            → times test (((lost ++ rest) ++ (root ∷ [])) ++ []) ≡ times test (lost_now ++ rest)
-        counts_alike test rest =
-            let a = times_append test ((lost ++ rest) ++ (root ∷ [])) [] in
-            let b = times_append test (lost ++ rest) (root ∷ []) in
-            let c = times_append test lost rest in
-            let d = times_append test lost_now rest in
-            let e = times_append test lost (root ∷ []) in
-            omega (arith, a, b, c, d, e)
+    lost_in : (c : ℕ) → nat_lt 0 (mounts_showing first c + mounted_layer_count first c) ≡ true
+        → ((overlay : Filesystem ℕ) → Among overlay (overlays_seen value.overlays) → nat_eq c overlay.number ≡ false)
+        → Exchanges [] lost_here c now after
+    lost_in c there no_overlay =
+        exchanges_follow now first after [] (root ∷ []) [] (layers_gone f k.overlays) c
+        (subst (λ (x : Mount ℕ). Exchanges [] ((x.filesystem, x.root) ∷ []) c now first) mount_is
+        (Roots.mounts_leave_their_roots now number mid.stand mid.located mount_listed not_used c))
+        (layers_exchanged value whole now mid.leaves number f takes mount.root k.overlays mid.merged k.filesystems each
+        some apart mid.numbers c there (λ overlay m. no_overlay overlay
+        (overlay_was value whole now mid.leaves overlay m).0))
 
-    numbers_are : map (λ (g : Filesystem ℕ). g.number) (filter is_plain_one after.filesystems)
-        ≡ map (λ (one : Shown). counted one.count) kept_left.filesystems
-    numbers_are =
-        ap (map (λ (g : Filesystem ℕ). g.number)) (plain_ones_left stays now.filesystems)
-        ∙ sym (filter-map stays (λ (g : Filesystem ℕ). g.number) (filter is_plain_one now.filesystems) (λ g. refl))
-        ∙ ap (filter stays)
-        (mid.numbers
-        ∙ map_alike (λ (one : Shown). counted one.count) (λ (one : Shown). counted (step one).count) k.filesystems
-        (λ one m. ap counted (sym (step_is one m).0))
-        ∙ sym (map_twice (λ (one : Shown). counted one.count) step k.filesystems))
-        ∙ filter-map stays (λ (one : Shown). counted one.count) stepped (λ one. refl)
+    counted_there : (new : Shown) → (m : Among new kept_left.filesystems)
+        → nat_lt 0 (mounts_showing first (counted (shown_was new m).0.count)
+        + mounted_layer_count first (counted (shown_was new m).0.count)) ≡ true
+    counted_there new m =
+        let from = shown_was new m in
+        let c = counted from.0.count in
+        positive (mounts_showing first c + mounted_layer_count first c)
+        ∙ ap (λ n. not (nat_eq n 0))
+        (ap (λ n. mounts_showing first c + n) (sym (layers_stay value whole now mid.leaves number f takes c))
+        ∙ ap (λ n. mounts_showing after n + layer_count after n) (sym (ap counted (same_count new m))) ∙ sym from.3)
+        ∙ ap not from.4
+
+    exchanges_are : (new : Shown) → Among new kept_left.filesystems
+        → Exchanges gained (lost_now ++ (inodes_of_uses world left ++ points_left world goes (without number k.mounts)))
+        (counted new.count) world after
+    exchanges_are new m =
+        let from = shown_was new m in
+        let c = counted from.0.count in
+        let rest = inodes_of_uses world left ++ points_left world goes k.mounts in
+        subst (λ n. Exchanges gained (lost_now ++
+        (inodes_of_uses world left ++ points_left world goes (without number k.mounts))) n world after)
+        (sym (ap counted (same_count new m)))
+        (subst (λ points. Exchanges gained (lost_now ++ (inodes_of_uses world left ++ points)) c world after)
+        (sym same_points)
+        (exchanges_between world now after gained lost rest lost_here c (mid.exchanges from.0 from.1)
+        (lost_in c (counted_there new m) (apart from.0 from.1))))
+
+    merged_left : kept_left.overlays ≡ map (merged_in after) (filter is_overlay after.filesystems)
+    merged_left =
+        (λ i. meant.merged_left_by f (meant.merged_at f (mid.merged i)) (mid.merged i))
+        ∙ merged_then now number f takes (filter is_overlay now.filesystems)
+        (overlays_apart value whole now mid.leaves)
+        (λ overlay m. (overlay_was value whole now mid.leaves overlay m).1)
+        ∙ ap (map (merged_in first)) (sym (overlays_stay value whole now mid.leaves number f takes))
 
     still_there : (e : MountEntry) → Among e (without number k.mounts)
         → Among e k.mounts × (not (nat_eq number e.mount.number) ≡ true)
@@ -502,27 +425,24 @@ module _ (value : WorldValue) (whole : IsHeld value) (start : World ℕ) (gained
     gone_midway : Midway value start gained goes left after kept_left lost_now
     gone_midway = record {
       held = mid.held;
+      merged = merged_left;
       mounts = same_mounts;
       uses = λ e m. mid.uses e (still_there e m).0;
       writers = λ e m. mid.writers e (still_there e m).0;
       well = λ e m. mid.well e (still_there e m).0;
-      shown = λ one m. let from = shown_was one m in
-          subst (IsShown value after gained lost_now) (sym from.2)
-          (shown_is from.0 from.1 (ap (λ (x : Shown). stays (counted x.count)) (sym from.2) ∙ from.3));
-      exchanges = λ one m. let from = shown_was one m in
-          let count : one.count ≡ from.0.count = ap (λ (x : Shown). x.count) from.2 ∙ (step_is from.0 from.1).0 in
-          exchanges_on (counted one.count) from.3
-          (subst (λ c. Exchanges gained (lost ++ (inodes_of_uses world left ++ points_left world goes k.mounts))
-          (counted c) world now) (sym count)
-          (mid.exchanges from.0 from.1));
-      numbers = numbers_are;
-      stand = record { one_number = stand_first.one_number; nowhere = stand_first.nowhere; on_attached = stand_first.on_attached };
-      located = located_first;
-      keeps = record {
-        overlays = overlays_left stays now.filesystems ∙ mid.keeps.overlays;
-        rise = rising_filtered (stays_beside stays) now.filesystems mid.keeps.rise;
+      shown = shown_is;
+      exchanges = exchanges_are;
+      numbers = numbers_are value whole now mid.leaves number f takes mount.root k.overlays mid.merged k.filesystems
+          each some apart mid.numbers
+          ∙ sym (ap (map (λ (one : Shown). counted one.count)) shown_left);
+      stand = record {
+        one_number = stand_first.one_number;
+        nowhere = stand_first.nowhere;
+        on_attached = stand_first.on_attached;
       };
-      same = living_alike now number stays dead bare ∙ mid.same;
+      located = located_first;
+      leaves = leaves_then value whole now mid.leaves number f takes;
+      same = living_alike now number dead ∙ mid.same;
     }
 
     gone_none : UnusedOnly number k → NoneUnused kept_left
@@ -535,8 +455,7 @@ module _ (value : WorldValue) (whole : IsHeld value) (start : World ℕ) (gained
             absurd (true≢false (sym from.1 ∙ ap not (eq-eqb number e.mount.number (only e from.0 h))))
 
     pub unused_goes : UnusedOnly number k → Reached value start gained goes left (meant.without_mount number mount k)
-    unused_goes only = subst (Reached value start gained goes left) kept_is
-        (record { now = after; lost = lost_now; midway = gone_midway; none = gone_none only })
+    unused_goes only = record { now = after; lost = lost_now; midway = gone_midway; none = gone_none only }
 
   -- the mount goes, if it is to go
   pub mount_looked_at : UnusedOnly number k → Reached value start gained goes left (meant.let_go_mount number k)

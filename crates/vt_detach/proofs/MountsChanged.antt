@@ -33,7 +33,7 @@ use Rattle.vt_detach.proofs.Grouped.{changed_has}
 use Rattle.vt_detach.proofs.Moving.{exchanged_shown}
 use Rattle.vt_detach.proofs.Remaining.{remade}
 use Rattle.vt_detach.proofs.Shown.{found_entry}
-use Rattle.vt_detach.proofs.Overlaid.{is_plain_one, keeps_itself, layers_kept, overlays_counted, plain_ones_are, same_files_keep, still_mounted}
+use Rattle.vt_detach.proofs.Overlaid.{all_shown, is_plain_one, keeps_itself, layers_kept, overlays_counted, plain_ones_are, same_files_keep, still_mounted}
 use Rattle.vt_detach.proofs.Staying.{IsDone}
 use Rattle.vt_spec.proofs.Lists.{map_twice}
 use Rattle.vt_laws_letting_go.specs.TreesOverlays.{in_use_of}
@@ -200,9 +200,8 @@ module _ (value : WorldValue) (whole : IsHeld value) (number : ℕ) (change : Mo
     swept : IsSwept value next_of gained lost new
     swept = record {
       midway = same_files_keep value (world_of value) next_of refl (keeps_itself value whole.overlays);
-      mounted = still_mounted value whole (in_use_of next_of) (λ filesystem.
-          ap (λ (world : World ℕ). is_mounted nat_eq world filesystem) living_is ∙ same_mounted filesystem);
-      overlays = refl;
+      overlays = all_shown value (in_use_of next_of) (still_mounted value whole (in_use_of next_of) (λ filesystem.
+          ap (λ (world : World ℕ). is_mounted nat_eq world filesystem) living_is ∙ same_mounted filesystem));
       mounts = ap (λ (world : World ℕ). world.mounts) living_is;
       numbers = ap (λ (world : World ℕ). map (λ (f : Filesystem ℕ). f.number)
           (filter is_plain_one world.filesystems)) living_is

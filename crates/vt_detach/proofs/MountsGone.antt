@@ -1,17 +1,18 @@
 -- A mount that has left its namespace is looked at: it goes if nothing is on it, and its filesystem with its last
 -- mount.
-use Rattle.std.proofs.Common.{◌≡◌, ◌≢◌, refl, sym, ap, subst, ◌∙◌, inl, ⊎_elim, ℕ, ◌+◌, ◌-◌, nat_eq, eqb-true, Bool, true, false, true≢false, cond, not, ◌&&◌, ◌||◌, List, [], ◌∷◌, ◌++◌, map, filter, find, Option, Some, None, option_map, is_some, unwrap_or, arith}
+use Rattle.std.proofs.Common.{◌≡◌, ◌≢◌, refl, sym, ap, subst, ◌∙◌, inl, ⊎_elim, ℕ, ◌+◌, nat_eq, eqb-true, Bool, true, false, true≢false, cond, not, ◌&&◌, ◌||◌, List, [], ◌∷◌, ◌++◌, map, filter, find, Option, Some, None, option_map, is_some, unwrap_or, arith}
 use Rattle.std.specs.Prelude.{nat_lt, option_to_list}
 use Rattle.std.proofs.lemmas.Bool.{eqb-false, lt-ltb}
 use Rattle.vt_spec.specs.Lists.{folded, is_among}
 use Rattle.vt_spec.specs.Machine.Mounts.{Location as Place, Mount, detached, no_mount}
 use Rattle.vt_spec.specs.Machine.Settled.{filesystem_lives, is_located, mount_lives, without_dead_filesystems}
-use Rattle.vt_spec.specs.Machine.World.{World, all_locations, mount_at, mount_numbered}
+use Rattle.vt_spec.specs.Machine.World.{Filesystem, World, all_locations, is_overlay, mount_at, mount_numbered}
 use Rattle.vt_spec.specs.Machine.Invariants.{is_nowhere_or_attached}
-use Rattle.vt_laws_counts.specs.OverlaysStay.{layer_count}
+use Rattle.vt_laws_counts.specs.OverlaysStay.{layer_count, mounted_layer_count}
 use Rattle.vt_laws_counts.specs.Using.{Exchanges, is_inode, pinned_if, unpinned_if}
 use Rattle.vt_laws_counts.proofs.going.Gone.{mount_goes_at_zero, mount_takes_its_count}
 use Rattle.vt_laws_counts.proofs.using.MountRoots as Roots
+use Rattle.vt_laws_counts.proofs.using.Places.{exchanges_follow}
 use Rattle.vt_fs.specs.FilesystemsValue.{Shown, inodes_seen}
 use Rattle.vt_laws_letting_go.specs.Counts.{mount_uses, mounts_showing}
 use Rattle.vt_laws_letting_go.specs.Keeping.{LocationsStand}
@@ -28,15 +29,17 @@ use Rattle.vt_mount.specs.MountsValue.{MountEntry, entry_numbered, mounts_in, wi
 use Rattle.vt_world.specs.Held.{CountsItsUses}
 use Rattle.vt_detach.specs.Uses as meant
 use Rattle.vt_detach.specs.Uses.{Kept, mounts_shown, released_if}
-use Rattle.vt_world.specs.WorldValue.{WorldValue, world_of}
+use Rattle.vt_world.specs.WorldValue.{WorldValue, overlays_seen, world_of}
 use Rattle.vt_detach.proofs.Going.{map_filtered}
 use Rattle.vt_detach.proofs.Keeping.{IsKeptBut, IsShownIn, detached_in, looked_at, points_lost, points_without}
 use Rattle.vt_detach.proofs.Moving.{swap_eq}
 use Rattle.vt_detach.proofs.Shown.{found_entry}
-use Rattle.vt_detach.proofs.FilesystemsLeft.{MountGoes, keeps_left, layers_left, let_go_is, living_is, living_left, numbers_left, others_stay, stays_at, world_left}
-use Rattle.vt_detach.proofs.LostUses.{folded_append}
-use Rattle.vt_detach.proofs.Overlaid.{none_to_mount}
-use Rattle.vt_spec.proofs.Lists.{map_alike, map_twice, pair-filter}
+use Rattle.vt_detach.proofs.MountsLeave.{layers_exchanged, layers_stay, leaves_then, left_counted, left_shown, living_then, numbers_are, overlay_was, overlays_apart, overlays_stay, plain_ones_counted, shown_are}
+use Rattle.vt_detach.proofs.OverlaysGone.{layers_gone, merged_in}
+use Rattle.vt_detach.proofs.OverlaysKept.{merged_then}
+use Rattle.vt_detach.proofs.LostUses.{folded_append, positive}
+use Rattle.vt_detach.proofs.Overlaid.{is_plain_one, overlay_apart}
+use Rattle.vt_spec.proofs.Lists.{pair-filter}
 
 -- Mounts that are changed, by their numbers
 
@@ -125,6 +128,7 @@ module _ (old : WorldValue) (number : ℕ) (pending : List ℕ) (gained lost : L
       → IsKeptBut old pending pending gained lost (looked_at world number) k
   mount_stays stay = subst (λ one. IsKeptBut old pending pending gained lost one k) (sym same) (record {
     held = is.held;
+    merged = is.merged;
     mounts = is.mounts;
     uses = is.uses;
     numbers = is.numbers;
@@ -140,7 +144,7 @@ module _ (old : WorldValue) (number : ℕ) (pending : List ℕ) (gained lost : L
         || mount_lives nat_eq world mount) world.mounts mount
         (subst (λ all. Among mount all) (sym (ap (λ (one : World ℕ). one.mounts) stay)) m)).1);
     mounted = is.mounted;
-    keeps = is.keeps;
+    leaves = is.leaves;
     points = is.points;
     places = is.places;
   })
@@ -221,29 +225,21 @@ module _ (old : WorldValue) (number : ℕ) (pending : List ℕ) (gained lost : L
       abbrev root : Inode
       root = (mount.filesystem, mount.root)
 
-      abbrev unpinned_one : Shown → Shown
-      unpinned_one one = record one { inodes = unpinned_if (counted one.count) one.inodes root }
-
-      abbrev step : Shown → Shown
-      step one = released_if mount.filesystem (unpinned_one one)
-
-      abbrev stepped : List Shown
-      stepped = map step k.filesystems
-
-      abbrev stays_numbered : ℕ → Bool
-      stays_numbered = stays_at mount.filesystem stepped
-
       abbrev kept_now : Kept
       kept_now = meant.without_mount number mount k
+
+      -- what is lost with the mount
+      abbrev lost_here : List Inode
+      lost_here = root ∷ layers_gone mount.filesystem k.overlays
 
       abbrev is_other : Mount ℕ → Bool
       is_other x = not (nat_eq x.number number)
 
-      shown_are : kept_now.filesystems ≡ filter (λ (one : Shown). stays_numbered (counted one.count)) stepped
-      shown_are =
-          ap (meant.let_go_filesystem mount.filesystem)
-          (map_twice (released_if mount.filesystem) unpinned_one k.filesystems)
-          ∙ let_go_is mount.filesystem stepped
+      abbrev remaining : World ℕ
+      remaining = without_dead_filesystems nat_eq mounted
+
+      looked_is : looked_at world number ≡ remaining
+      looked_is = ap (without_dead_filesystems nat_eq) dead
 
       takes : (n : ℕ) → mounts_showing world n ≡ mounts_showing mounted n + cond (nat_eq mount.filesystem n) 1 0
       takes n =
@@ -251,52 +247,40 @@ module _ (old : WorldValue) (number : ℕ) (pending : List ℕ) (gained lost : L
           ∙ ap (λ f. mounts_showing mounted n + cond (nat_eq n f) 1 0) shows
           ∙ ap (λ b. mounts_showing mounted n + cond b 1 0) (swap_eq n mount.filesystem)
 
-      step_is : (one : Shown) → Among one k.filesystems
-          → ((step one).count ≡ one.count) × ((step one).inodes ≡ unpinned_if (counted one.count) one.inodes root)
-          × ((step one).mounts ≡ mounts_showing mounted (counted one.count) + layer_count world (counted one.count))
-      step_is one m = by (nat_eq mount.filesystem (counted one.count)) (is.filesystems one m).mounts
-          (takes (counted one.count))
+      each : (one : Shown) → Among one k.filesystems
+          → one.mounts ≡ mounts_showing world (counted one.count) + layer_count world (counted one.count)
+      each one m = (is.filesystems one m).mounts
+
+      some : (one : Shown) → Among one k.filesystems → nat_eq one.mounts 0 ≡ false
+      some one m =
+          let there = among-from_map (λ (f : Filesystem ℕ). f.number) (filter is_plain_one world.filesystems)
+          (counted one.count)
+          (subst (λ all. Among (counted one.count) all) (sym is.numbers)
+          (among-map (λ (x : Shown). counted x.count) k.filesystems one m)) in
+          turned (nat_eq one.mounts 0)
+          (ap (λ n. not (nat_eq n 0))
+          (each one m ∙ ap (λ n. mounts_showing world n + layer_count world n) there.2)
+          ∙ sym (positive (mounts_showing world there.0.number + layer_count world there.0.number))
+          ∙ plain_ones_counted old is.held world is.leaves is.mounted there.0
+          (among-from_filter is_plain_one world.filesystems there.0 there.1).0)
         where
-          by : (b : Bool) → one.mounts ≡ mounts_showing world (counted one.count) + layer_count world (counted one.count)
-              → mounts_showing world (counted one.count) ≡ mounts_showing mounted (counted one.count) + cond b 1 0
-              → ((cond b (record (unpinned_one one) { mounts = one.mounts - 1 }) (unpinned_one one)).count ≡ one.count)
-              × ((cond b (record (unpinned_one one) { mounts = one.mounts - 1 }) (unpinned_one one)).inodes
-              ≡ unpinned_if (counted one.count) one.inodes root)
-              × ((cond b (record (unpinned_one one) { mounts = one.mounts - 1 }) (unpinned_one one)).mounts
-              ≡ mounts_showing mounted (counted one.count) + layer_count world (counted one.count))
-          by true counts took = (refl, refl, omega (arith, counts, took))
-          by false counts took = (refl, refl, omega (arith, counts, took))
+          turned : (b : Bool) → not b ≡ true → b ≡ false
+          turned true h = absurd (true≢false (sym h))
+          turned false h = refl
 
-      shown_was : (new : Shown) → Among new kept_now.filesystems
-          → (one : Shown) × Among one k.filesystems × (new ≡ step one) × (stays_numbered (counted new.count) ≡ true)
-      shown_was new m =
-          let kept_one = among-from_filter (λ (one : Shown). stays_numbered (counted one.count)) stepped new
-          (subst (λ all. Among new all) shown_are m) in
-          let from = among-from_map step k.filesystems new kept_one.0 in
-          (from.0, from.1, from.2, kept_one.1)
+      apart : (one : Shown) → Among one k.filesystems → (overlay : Filesystem ℕ)
+          → Among overlay (overlays_seen old.overlays) → nat_eq (counted one.count) overlay.number ≡ false
+      apart one m overlay n =
+          let was = is.filesystems one m in
+          ap (λ count. nat_eq (counted count) overlay.number) was.count
+          ∙ overlay_apart old is.held was.was was.among overlay n
 
-      goes : MountGoes old world number mount.filesystem stepped
-      goes = record {
-        keeps = is.keeps;
-        living = is.mounted;
-        still = none_to_mount old is.held mounted;
-        takes = takes;
-        counts = λ new m. let from = among-from_map step k.filesystems new m in
-            let s = step_is from.0 from.1 in
-            ap (λ (x : Shown). x.mounts) from.2 ∙ s.2
-            ∙ ap (λ n. mounts_showing mounted n + layer_count world n)
-            (ap counted (sym s.0) ∙ ap (λ (x : Shown). counted x.count) (sym from.2));
-        numbers = is.numbers
-            ∙ map_alike (λ (one : Shown). counted one.count) (λ (one : Shown). counted (step one).count) k.filesystems
-            (λ one m. ap counted (sym (step_is one m).0))
-            ∙ sym (map_twice (λ (one : Shown). counted one.count) step k.filesystems);
-      }
-
-      abbrev remaining : World ℕ
-      remaining = world_left world number stays_numbered
-
-      looked_is : looked_at world number ≡ remaining
-      looked_is = ap (without_dead_filesystems nat_eq) dead ∙ living_is old world number mount.filesystem stepped goes
+      shown_left : kept_now.filesystems
+          ≡ left_shown old is.held world is.leaves number mount.filesystem takes mount.root k.overlays is.merged
+          k.filesystems each some apart is.numbers
+      shown_left =
+          shown_are old is.held world is.leaves number mount.filesystem takes mount.root k.overlays is.merged
+          k.filesystems each some apart is.numbers
 
       not_located : is_located nat_eq world number ≡ false
       not_located = located_while_counted world number ∙ ap (nat_lt 0) unused
@@ -308,15 +292,18 @@ module _ (old : WorldValue) (number : ℕ) (pending : List ℕ) (gained lost : L
       root_is = (λ i. ((mount_is i).filesystem, (mount_is i).root))
           ∙ (λ i. (pending_filesystem pending mount i, pending_root pending mount i))
 
-      root_goes : (n : ℕ) → stays_numbered n ≡ true → Exchanges [] (root ∷ []) n world remaining
-      root_goes n stays =
+      root_goes : (n : ℕ)
+          → nat_lt 0 (mounts_showing mounted n + mounted_layer_count mounted n) ≡ true
+          → ((overlay : Filesystem ℕ) → Among overlay (overlays_seen old.overlays) → nat_eq n overlay.number ≡ false)
+          → Exchanges [] lost_here n world remaining
+      root_goes n some_there others =
           let first = subst (λ inode. Exchanges [] (inode ∷ []) n world mounted) root_is
           (Roots.mounts_leave_their_roots world number is.stand is.located mount_listed unused_so n) in
-          let second = others_stay old world number mount.filesystem stepped goes n stays in
-          record {
-            same = second.same ∙ first.same;
-            uses = λ one. let a = first.uses one in let b = second.uses one in omega (arith, a, b);
-          }
+          let second = layers_exchanged old is.held world is.leaves number mount.filesystem takes mount.root k.overlays
+          is.merged k.filesystems each some apart is.numbers n some_there
+          (λ overlay m. others overlay (overlay_was old is.held world is.leaves overlay m).0) in
+          exchanges_follow world mounted remaining [] (root ∷ []) [] (layers_gone mount.filesystem k.overlays) n
+          first second
 
       -- a place that stays
       stays_there : (n : ℕ) → is_some (mount_numbered nat_eq world n).namespace ≡ true
@@ -387,37 +374,48 @@ module _ (old : WorldValue) (number : ℕ) (pending : List ℕ) (gained lost : L
           (found_entry number k.mounts ∙ ap (option_map (λ (one : MountEntry). one.mount)) e) ∙ unplaced)
 
       shown_now : (new : Shown) → Among new kept_now.filesystems
-          → IsShownIn old gained (lost ++ root ∷ [])
+          → IsShownIn old gained (lost ++ lost_here)
           (points_lost (world_of old) (mounts_in kept_mounts) pending) remaining new
       shown_now new m =
-          let from = shown_was new m in
+          let from = left_counted old is.held world is.leaves number mount.filesystem takes mount.root k.overlays
+          is.merged k.filesystems each some apart is.numbers new (subst (λ all. Among new all) shown_left m) in
           let was = is.filesystems from.0 from.1 in
-          let s = step_is from.0 from.1 in
-          let count : new.count ≡ from.0.count = ap (λ (x : Shown). x.count) from.2 ∙ s.0 in
+          let count : new.count ≡ from.0.count = ap (λ (x : Shown). x.count) from.2 in
+          let n = counted was.was.count in
+          let same : counted new.count ≡ n = ap counted (count ∙ was.count) in
+          let some_there : nat_lt 0 (mounts_showing mounted n + mounted_layer_count mounted n) ≡ true =
+          positive (mounts_showing mounted n + mounted_layer_count mounted n)
+          ∙ ap (λ k. not (nat_eq k 0))
+          (ap (λ k. mounts_showing mounted n + k)
+          (sym (layers_stay old is.held world is.leaves number mount.filesystem takes n))
+          ∙ ap (λ k. mounts_showing remaining k + layer_count remaining k) (sym same) ∙ sym from.3)
+          ∙ ap not from.4 in
           record {
             was = was.was;
             among = was.among;
             count = count ∙ was.count;
             there = was.there;
-            inodes = ap (λ (x : Shown). x.inodes) from.2 ∙ s.1
-                ∙ (λ i. unpinned_if (counted (was.count i)) (was.inodes i) root)
-                ∙ sym (folded_append (unpinned_if (counted was.was.count))
-                (folded (pinned_if (counted was.was.count)) (inodes_seen was.was) gained) lost (root ∷ []));
-            exchanges = subst (λ rest. Exchanges gained ((lost ++ root ∷ []) ++ rest) (counted was.was.count)
-                (world_of old) remaining) (sym later_is)
-                (exchanges_between (world_of old) world remaining gained lost later (root ∷ [])
-                (counted was.was.count) was.exchanges
-                (root_goes (counted was.was.count)
-                (ap (λ n. stays_numbered (counted n)) (sym (count ∙ was.count)) ∙ from.3)));
-            mounts = ap (λ (x : Shown). x.mounts) from.2 ∙ s.2
-                ∙ ap (λ n. mounts_showing mounted (counted n) + layer_count world (counted n)) (sym count)
-                ∙ ap (λ n. mounts_showing mounted (counted new.count) + n)
-                (sym (layers_left old world number mount.filesystem stepped goes (counted new.count)));
+            inodes = ap (λ (x : Shown). x.inodes) from.2
+                ∙ (λ i. folded (unpinned_if (counted (was.count i))) (was.inodes i) lost_here)
+                ∙ sym (folded_append (unpinned_if n)
+                (folded (pinned_if n) (inodes_seen was.was) gained) lost lost_here);
+            exchanges = subst (λ rest. Exchanges gained ((lost ++ lost_here) ++ rest) n (world_of old) remaining)
+                (sym later_is)
+                (exchanges_between (world_of old) world remaining gained lost later lost_here n was.exchanges
+                (root_goes n some_there (overlay_apart old is.held was.was was.among)));
+            mounts = from.3;
           }
 
-      remaining_kept : IsKeptBut old pending pending gained (lost ++ root ∷ []) remaining kept_now
+      remaining_kept : IsKeptBut old pending pending gained (lost ++ lost_here) remaining kept_now
       remaining_kept = record {
         held = is.held;
+        merged = (λ i. meant.merged_left_by mount.filesystem (meant.merged_at mount.filesystem (is.merged i))
+            (is.merged i))
+            ∙ merged_then world number mount.filesystem takes (filter is_overlay world.filesystems)
+            (overlays_apart old is.held world is.leaves)
+            (λ overlay m. (overlay_was old is.held world is.leaves overlay m).1)
+            ∙ ap (map (merged_in mounted))
+            (sym (overlays_stay old is.held world is.leaves number mount.filesystem takes));
         mounts = ap (filter is_other) is.mounts
             ∙ filter-map is_other (detached_in pending) (mounts_in k.mounts)
             (λ x. ap (λ n. not (nat_eq n number)) (pending_number pending x))
@@ -426,8 +424,9 @@ module _ (old : WorldValue) (number : ℕ) (pending : List ℕ) (gained lost : L
             let counts = among_from_all (CountsItsUses world) k.mounts is.uses one
             (among-from_filter (λ (x : MountEntry). not (nat_eq number x.mount.number)) k.mounts one m).0 in
             record { uses = counts.uses; writers = counts.writers });
-        numbers = numbers_left old world number mount.filesystem stepped goes
-            ∙ sym (ap (map (λ (one : Shown). counted one.count)) shown_are);
+        numbers = numbers_are old is.held world is.leaves number mount.filesystem takes mount.root k.overlays is.merged
+            k.filesystems each some apart is.numbers
+            ∙ sym (ap (map (λ (one : Shown). counted one.count)) shown_left);
         filesystems = shown_now;
         stand = stand_still;
         located = located_still;
@@ -436,8 +435,8 @@ module _ (old : WorldValue) (number : ℕ) (pending : List ℕ) (gained lost : L
             other (nat_eq x.number number) (is_among nat_eq x.number pending) (mount_lives nat_eq world x)
             (passes (λ x. is_among nat_eq x.number (number ∷ pending)
             || mount_lives nat_eq world x) world.mounts is.in_use x from.0) from.1);
-        mounted = living_left old world number mount.filesystem stepped goes;
-        keeps = keeps_left old world number mount.filesystem stepped goes;
+        mounted = living_then old is.held world is.leaves number mount.filesystem takes;
+        leaves = leaves_then old is.held world is.leaves number mount.filesystem takes;
         points = λ x m point p few.
             is.points x (among-from_filter is_other (mounts_in k.mounts) x
             (subst (λ all. Among x all) mounts_are m)).0 point p few;
@@ -462,10 +461,10 @@ module _ (old : WorldValue) (number : ℕ) (pending : List ℕ) (gained lost : L
             let zero : entry.uses ≡ 0 = eqb-true entry.uses 0 g in
             let unused : mount_uses world number ≡ 0 = sym uses_are ∙ zero in
             let dead = looked false (ap (nat_lt 0) zero) in (
-              lost ++ (mount.filesystem, mount.root) ∷ [],
-              subst (λ one. IsKeptBut old pending pending gained (lost ++ (mount.filesystem, mount.root) ∷ []) one
+              lost ++ lost_here unused dead,
+              subst (λ one. IsKeptBut old pending pending gained (lost ++ lost_here unused dead) one
                   (meant.let_go_mount number k)) (sym (looked_is unused dead))
-                  (subst (λ one. IsKeptBut old pending pending gained (lost ++ (mount.filesystem, mount.root) ∷ [])
+                  (subst (λ one. IsKeptBut old pending pending gained (lost ++ lost_here unused dead)
                   (remaining unused dead) one) (sym (kept_is false true nowhere g))
                   (remaining_kept unused dead)),
             )

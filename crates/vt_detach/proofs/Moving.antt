@@ -188,8 +188,23 @@ filesystems_lost world (held_use ∷ uses) k =
     }) k.filesystems
 
 -- what is gained and lost
+-- overlays stay as they are kept
+pub gained_overlays : (world : World ℕ) (uses : List Use) (k : Kept)
+    → (folded (gain world) k uses).overlays ≡ k.overlays
+gained_overlays world [] k = refl
+gained_overlays world (u ∷ uses) k = gained_overlays world uses (gain world k u)
+
+lost_overlays : (world : World ℕ) (uses : List Use) (k : Kept) → (folded (lose world) k uses).overlays ≡ k.overlays
+lost_overlays world [] k = refl
+lost_overlays world (u ∷ uses) k = lost_overlays world uses (lose world k u)
+
 abbrev pub moved_kept : World ℕ → List Use → List Use → Kept → Kept
 moved_kept world more less k = folded (lose world) (folded (gain world) k more) less
+
+pub moved_overlays : (world : World ℕ) (more less : List Use) (k : Kept)
+    → (moved_kept world more less k).overlays ≡ k.overlays
+moved_overlays world more less k =
+    lost_overlays world less (folded (gain world) k more) ∙ gained_overlays world more k
 
 pub filesystems_moved : (world : World ℕ) (more less : List Use) (k : Kept)
     → (moved_kept world more less k).filesystems

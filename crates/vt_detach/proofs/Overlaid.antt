@@ -1,5 +1,4 @@
 -- The overlays of the code's world, and of worlds midway in an event, which leaves overlays as they are.
-use Rattle.std.proofs.lemmas.List.Elements.{All-nil}
 use Rattle.std.proofs.Common.{◌≡◌, refl, sym, ap, subst, ◌∙◌, inl, inr, ℕ, nat_eq, nat_lt, Bool, true, false, true≢false, eqb-true, cond, not, ◌&&◌, List, [], ◌∷◌, map, filter, find, is_some, unwrap_or, arith}
 use Rattle.std.specs.Prelude.{All}
 use Rattle.std.specs.List.{list_all}
@@ -12,13 +11,13 @@ use Rattle.vt_laws_counts.specs.BesideOverlays.{OverlaysHaveNoUpper}
 use Rattle.vt_laws_counts.specs.Counted.{IsPlain}
 use Rattle.vt_laws_counts.specs.OverlaysStay.{OverlaysAreNamed, layer_count}
 use Rattle.vt_laws_counts.proofs.overlays.Living.{overlays_are_mounted, overlays_use_filesystems}
-use Rattle.vt_laws_counts.proofs.overlays.NamedStay.{filter_stays, named_overlays_stay}
+use Rattle.vt_laws_counts.proofs.overlays.NamedStay.{filter_stays}
 use Rattle.vt_laws_counts.proofs.using.Exchanged.{numbers_mapped}
 use Rattle.vt_spec.proofs.Lists.{pair-filter}
 use Rattle.vt_laws_letting_go.specs.Counts.{mounts_showing}
 use Rattle.vt_laws_letting_go.specs.Keeping.{has_only_named}
 use Rattle.vt_laws_letting_go.specs.TreesOverlays.{in_use_of}
-use Rattle.vt_laws_letting_go.proofs.Lists.{Among, all_from_among, among-filter, among-from_filter, among_from_all, among-from_map, among-map, or_first}
+use Rattle.vt_laws_letting_go.proofs.Lists.{Among, all_from_among, among-filter, among-from_filter, among_from_all, among-from_map, among-map, filter_all}
 use Rattle.vt_laws_letting_go.proofs.sweeps.InUse.{after_first, after_second, number-first, number-second, overlay-left}
 use Rattle.vt_laws_letting_go.proofs.sweeps.OfWorlds.{found_filesystem}
 use Rattle.vt_laws_overlays_stay.specs.Woven.{ArePartedBy, are_rising, put_in, woven}
@@ -264,45 +263,14 @@ named_midway old holds world keeps =
     by_overlays (λ f. is_overlay f ≡ true → has_only_named f ≡ true) (λ f e is. absurd (true≢false (sym is ∙ e)))
     (world_of old).filesystems world.filesystems (keeps.overlays ∙ sym (overlays_are old holds)) holds.named
 
--- So the sweep leaves the overlays, if mounts show them.
-pub swept_keeps : (old : WorldValue) → HoldsOverlays old → (world : World ℕ) → KeepsOverlays old world
-    → AreStillMounted old (in_use_of world) → KeepsOverlays old (settled nat_eq world)
-swept_keeps old holds world keeps mounted = record {
-  overlays = named_overlays_stay world (named_midway old holds world keeps)
-      ∙ live_stay world.filesystems (λ f m e.
-      or_first (is_mounted nat_eq (in_use_of world) f.number) _
-      (among_from_all (λ (overlay : Filesystem ℕ). is_mounted nat_eq (in_use_of world) overlay.number ≡ true)
-      (overlays_seen old.overlays) mounted f
-      (subst (Among f) keeps.overlays (among-filter is_overlay world.filesystems f m e))))
-      ∙ keeps.overlays;
-  rise = same_numbers_rise (in_use_of world).filesystems (settled nat_eq world).filesystems
-      (numbers_mapped (after_second world) (number-second world) (map (after_first world) (in_use_of world).filesystems)
-      ∙ numbers_mapped (after_first world) (number-first world) (in_use_of world).filesystems)
-      (rising_filtered (filesystem_lives nat_eq (without_dead_mounts nat_eq world)) world.filesystems keeps.rise);
-}
-  where
-    lives : Filesystem ℕ → Bool
-    lives = filesystem_lives nat_eq (without_dead_mounts nat_eq world)
-
-    live_stay : (list : List (Filesystem ℕ))
-        → ((f : Filesystem ℕ) → Among f list → is_overlay f ≡ true → lives f ≡ true)
-        → filter is_overlay (filter lives list) ≡ filter is_overlay list
-    live_stay [] all = refl
-    live_stay (first ∷ rest) all =
-        by (lives first) (is_overlay first) refl refl (live_stay rest (λ f m. all f (inr m)))
-      where
-        by : (a b : Bool) → lives first ≡ a → is_overlay first ≡ b
-            → filter is_overlay (filter lives rest) ≡ filter is_overlay rest
-            → filter is_overlay (cond a (first ∷ filter lives rest) (filter lives rest))
-            ≡ cond b (first ∷ filter is_overlay rest) (filter is_overlay rest)
-        by true true e f later =
-            ap (λ b. cond b (first ∷ filter is_overlay (filter lives rest)) (filter is_overlay (filter lives rest))) f
-            ∙ ap (λ list. first ∷ list) later
-        by true false e f later =
-            ap (λ b. cond b (first ∷ filter is_overlay (filter lives rest)) (filter is_overlay (filter lives rest))) f
-            ∙ later
-        by false true e f later = absurd (true≢false (sym (all first (inl refl) f) ∙ e))
-        by false false e f later = later
+-- the sweep leaves filesystems in the order of their numbers
+pub swept_rise : (world : World ℕ) → are_rising world.filesystems ≡ true
+    → are_rising (settled nat_eq world).filesystems ≡ true
+swept_rise world rise =
+    same_numbers_rise (in_use_of world).filesystems (settled nat_eq world).filesystems
+    (numbers_mapped (after_second world) (number-second world) (map (after_first world) (in_use_of world).filesystems)
+    ∙ numbers_mapped (after_first world) (number-first world) (in_use_of world).filesystems)
+    (rising_filtered (filesystem_lives nat_eq (without_dead_mounts nat_eq world)) world.filesystems rise)
 
 -- as many layers are in each filesystem while the overlays stay
 pub as_many_layers : (world other : World ℕ)
@@ -394,27 +362,6 @@ world_is_plain value held =
     subst (All (λ filesystem. is_overlay filesystem ≡ false)) (sym (only_plain_ones value held))
     (files_are_plain value.filesystems)
 
--- nor one of a world midway
-pub midway_is_plain : (old : WorldValue) → IsHeld old → (world : World ℕ) → KeepsOverlays old world → IsPlain world
-midway_is_plain old held world keeps =
-    all_from_among (λ f. is_overlay f ≡ false) world.filesystems (λ f m. by f m (is_overlay f) refl)
-  where
-    by : (f : Filesystem ℕ) → Among f world.filesystems → (b : Bool) → is_overlay f ≡ b → b ≡ false
-    by f m false e = refl
-    by f m true e =
-        absurd (subst (Among f) (keeps.overlays ∙ ap overlays_seen held.overlays.none_yet)
-        (among-filter is_overlay world.filesystems f m e))
-
--- all overlays are mounted, whatever mounts there are
-pub none_to_mount : (old : WorldValue) → IsHeld old → (world : World ℕ) → AreStillMounted old world
-none_to_mount old held world =
-    subst (All (λ (overlay : Filesystem ℕ). is_mounted nat_eq world overlay.number ≡ true))
-    (sym (ap overlays_seen held.overlays.none_yet)) (All-nil _)
-
--- so whatever is asked of each overlay holds
-pub none_to_ask : (P : OverlayEntry → Type 0) (old : WorldValue) → IsHeld old → All P old.overlays
-none_to_ask P old held = subst (All P) (sym held.overlays.none_yet) (All-nil P)
-
 -- and the definitions find what is kept by its inodes
 pub found_as_kept : (value : WorldValue) → IsHeld value → (number : ℕ)
     → filesystem_numbered nat_eq (world_of value) number
@@ -434,3 +381,74 @@ there_as_kept value held number inode there =
     ap (λ (filesystem : Filesystem ℕ). is_some (filesystem.files.tree.node inode))
     (sym (found_as_kept value held number))
     ∙ there
+
+-- overlays of which each is shown are those that are shown
+pub all_shown : (old : WorldValue) (world : World ℕ) → AreStillMounted old world
+    → overlays_seen old.overlays
+    ≡ filter (λ overlay. is_mounted nat_eq world overlay.number) (overlays_seen old.overlays)
+all_shown old world mounted =
+    sym (filter_all (λ (overlay : Filesystem ℕ). is_mounted nat_eq world overlay.number) (overlays_seen old.overlays)
+    (among_from_all (λ (overlay : Filesystem ℕ). is_mounted nat_eq world overlay.number ≡ true)
+    (overlays_seen old.overlays) mounted))
+
+-- Another value of the world with fewer overlays
+module _ (old new : WorldValue) (holds : HoldsOverlays old) (stays : Filesystem ℕ → Bool)
+    (left : overlays_seen new.overlays ≡ filter stays (overlays_seen old.overlays)) where
+  was_there : (f : Filesystem ℕ) → Among f (overlays_seen new.overlays) → Among f (overlays_seen old.overlays)
+  was_there f m = (among-from_filter stays (overlays_seen old.overlays) f (subst (Among f) left m)).0
+
+  fewer_are_merged : All (λ filesystem. is_overlay filesystem ≡ true) (overlays_seen new.overlays)
+  fewer_are_merged =
+      all_from_among (λ filesystem. is_overlay filesystem ≡ true) (overlays_seen new.overlays) (λ f m.
+      among_from_all (λ filesystem. is_overlay filesystem ≡ true) (overlays_seen old.overlays) holds.merged f
+      (was_there f m))
+
+  fewer_rise : are_rising (overlays_seen new.overlays) ≡ true
+  fewer_rise = ap are_rising left ∙ rising_filtered stays (overlays_seen old.overlays) holds.overlays_rise
+
+  -- its overlays are those that are kept
+  pub fewer_overlays_are : filter is_overlay (world_of new).filesystems ≡ overlays_seen new.overlays
+  fewer_overlays_are =
+      woven_lists_are_passing is_overlay (filesystems_seen new.filesystems) (overlays_seen new.overlays)
+      (record { fail = files_are_plain new.filesystems; pass = fewer_are_merged }) fewer_rise
+
+  overlay_before : (f : Filesystem ℕ) → Among f (world_of new).filesystems → is_overlay f ≡ true
+      → Among f (world_of old).filesystems
+  overlay_before f m e =
+      (among-from_filter is_overlay (world_of old).filesystems f
+      (subst (Among f) (sym (overlays_are old holds))
+      (was_there f (subst (Among f) fewer_overlays_are
+      (among-filter is_overlay (world_of new).filesystems f m e))))).0
+
+  -- as many layers has a world with these overlays
+  pub layers_of_fewer : (world : World ℕ)
+      → filter is_overlay world.filesystems ≡ filter stays (overlays_seen old.overlays)
+      → (number : ℕ) → layer_count (world_of new) number ≡ layer_count world number
+  layers_of_fewer world same = as_many_layers world (world_of new) (fewer_overlays_are ∙ left ∙ sym same)
+
+  -- What holds of overlays holds of these.
+  pub fewer_overlays_hold : are_rising (world_of new).filesystems ≡ true
+      → All (IsMountedSoOften (world_of new)) new.overlays → HoldsOverlays new
+  fewer_overlays_hold rising mounts = record {
+    merged = fewer_are_merged;
+    read_only = all_from_among (λ f. of_overlay false (λ overlay. is_some overlay.upper) f ≡ false)
+        (world_of new).filesystems (λ f m. no_upper f m (is_overlay f) refl);
+    named = all_from_among (λ f. is_overlay f ≡ true → has_only_named f ≡ true) (world_of new).filesystems (λ f m e.
+        among_from_all (λ g. is_overlay g ≡ true → has_only_named g ≡ true) (world_of old).filesystems holds.named f
+        (overlay_before f m e) e);
+    overlays_rise = fewer_rise;
+    all_rise = rising;
+    mounts = mounts;
+    none_yet = none new.overlays (left ∙ ap (λ all. filter stays (overlays_seen all)) holds.none_yet);
+  }
+    where
+      no_upper : (f : Filesystem ℕ) → Among f (world_of new).filesystems → (b : Bool) → is_overlay f ≡ b
+          → of_overlay false (λ overlay. is_some overlay.upper) f ≡ false
+      no_upper f m true e =
+          among_from_all (λ g. of_overlay false (λ overlay. is_some overlay.upper) g ≡ false)
+          (world_of old).filesystems holds.read_only f (overlay_before f m e)
+      no_upper f m false e = no_upper_of_plain f e
+
+      none : (list : List OverlayEntry) → overlays_seen list ≡ [] → list ≡ []
+      none [] e = refl
+      none (first ∷ rest) e = absurd cc

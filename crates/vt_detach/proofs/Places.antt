@@ -23,13 +23,13 @@ use Rattle.vt_tasks.specs.Counts.{locations_in, one_if}
 use Rattle.vt_tasks.specs.TasksValue.{Tasks, called, changed_by, changed_called, replaced}
 use Rattle.vt_detach.specs.Events.{Permits}
 use Rattle.vt_world.specs.Held.{IsHeld, writes_of, writes_of_task, writes_on}
-use Rattle.vt_detach.specs.Uses.{Kept, kept, let_go_mount, released_use, with_location, with_use, without_location}
+use Rattle.vt_detach.specs.Uses.{Kept, Merged, kept_of, kept_with, let_go_mount, released_use, with_location, with_use, without_location}
 use Rattle.vt_world.specs.WorldValue.{WorldValue, world_of}
 use Rattle.vt_detach.proofs.FileEvents.{permit_fits}
 use Rattle.vt_detach.proofs.LocationsSeen.{seen_where_located}
 use Rattle.vt_detach.proofs.Leaving.{left_done}
 use Rattle.vt_detach.proofs.Moving.{Moves, Use}
-use Rattle.vt_detach.proofs.Remaining.{remade}
+use Rattle.vt_detach.proofs.Remaining.{remade_with}
 use Rattle.vt_detach.proofs.Splits.{IsSplit, locations_around, replaced_split, times_replaced, writes_replaced}
 use Rattle.vt_detach.proofs.Staying.{IsDone}
 
@@ -185,15 +185,15 @@ located_task value whole name task found =
     )
 
 pub directory_is_set : (value : WorldValue) (name : TaskName) (directory left : Location) (mounts : List MountEntry)
-    (filesystems : Filesystems) (tasks : Tasks)
+    (filesystems : Filesystems) (overlays : List Merged) (tasks : Tasks)
     → IsHeld value → Permits value name (ToSetDirectory (location_of directory))
     → directory.node.slot < 18446744073709551616 → left.node.slot < 18446744073709551616
     → Some (location_of left) ≡ option_map (λ task. task.directory) (called name value.tasks)
     → tasks ≡ changed_called name (λ task. record task { directory = location_of directory }) value.tasks
-    → kept mounts filesystems ≡ without_location left false
-    (with_location directory false (kept value.mounts value.filesystems))
-    → IsDone value name (ToSetDirectory (location_of directory)) (remade value mounts filesystems tasks)
-directory_is_set value name directory left mounts filesystems tasks whole permits few few_left was is is_kept =
+    → kept_with mounts filesystems overlays ≡ without_location left false
+    (with_location directory false (kept_of value))
+    → IsDone value name (ToSetDirectory (location_of directory)) (remade_with value mounts filesystems overlays tasks)
+directory_is_set value name directory left mounts filesystems overlays tasks whole permits few few_left was is is_kept =
     let task = permits.task in
     let place = location_of directory in
     let new = record task { directory = place } in
@@ -204,27 +204,27 @@ directory_is_set value name directory left mounts filesystems tasks whole permit
     let well_left = ap (is_located_well nat_eq (world_of value)) left_is
     ∙ (located_task value whole name task permits.called).1 in
     let tasks_are = is ∙ ap (changed_by (λ one. record one { directory = place }) value.tasks) permits.called in
-    subst (λ all. IsDone value name (ToSetDirectory place) (remade value mounts filesystems all)) (sym tasks_are)
+    subst (λ all. IsDone value name (ToSetDirectory place) (remade_with value mounts filesystems overlays all)) (sym tasks_are)
     (left_done value whole (replaced new value.tasks) (standing place ∷ []) (standing (location_of left))
     (subst (λ location. Moves value (replaced new value.tasks) (standing place ∷ []) (standing location ∷ []))
     (sym left_is)
     (directory_moves value whole name task new permits.called refl refl refl well))
-    mounts filesystems (kept_so value whole directory left (kept value.mounts value.filesystems)
-    (kept mounts filesystems) few few_left well well_left is_kept)
+    mounts filesystems overlays (kept_so value whole directory left (kept_of value)
+    (kept_with mounts filesystems overlays) few few_left well well_left is_kept)
     name (ToSetDirectory place) task
     (record { called = permits.called; given = permits.given; named = located_is_named value whole place well; applied = λ fresh. refl })
     (same_tasks_in value whole name task new permits.called refl refl refl))
 
 pub root_is_set : (value : WorldValue) (name : TaskName) (root left : Location) (mounts : List MountEntry)
-    (filesystems : Filesystems) (tasks : Tasks)
+    (filesystems : Filesystems) (overlays : List Merged) (tasks : Tasks)
     → IsHeld value → Permits value name (ToSetRoot (location_of root))
     → root.node.slot < 18446744073709551616 → left.node.slot < 18446744073709551616
     → Some (location_of left) ≡ option_map (λ task. task.root) (called name value.tasks)
     → tasks ≡ changed_called name (λ task. record task { root = location_of root }) value.tasks
-    → kept mounts filesystems ≡ without_location left false
-    (with_location root false (kept value.mounts value.filesystems))
-    → IsDone value name (ToSetRoot (location_of root)) (remade value mounts filesystems tasks)
-root_is_set value name root left mounts filesystems tasks whole permits few few_left was is is_kept =
+    → kept_with mounts filesystems overlays ≡ without_location left false
+    (with_location root false (kept_of value))
+    → IsDone value name (ToSetRoot (location_of root)) (remade_with value mounts filesystems overlays tasks)
+root_is_set value name root left mounts filesystems overlays tasks whole permits few few_left was is is_kept =
     let task = permits.task in
     let place = location_of root in
     let new = record task { root = place } in
@@ -235,13 +235,13 @@ root_is_set value name root left mounts filesystems tasks whole permits few few_
     let well_left = ap (is_located_well nat_eq (world_of value)) left_is
     ∙ (located_task value whole name task permits.called).0 in
     let tasks_are = is ∙ ap (changed_by (λ one. record one { root = place }) value.tasks) permits.called in
-    subst (λ all. IsDone value name (ToSetRoot place) (remade value mounts filesystems all)) (sym tasks_are)
+    subst (λ all. IsDone value name (ToSetRoot place) (remade_with value mounts filesystems overlays all)) (sym tasks_are)
     (left_done value whole (replaced new value.tasks) (standing place ∷ []) (standing (location_of left))
     (subst (λ location. Moves value (replaced new value.tasks) (standing place ∷ []) (standing location ∷ []))
     (sym left_is)
     (root_moves value whole name task new permits.called refl refl refl well))
-    mounts filesystems (kept_so value whole root left (kept value.mounts value.filesystems)
-    (kept mounts filesystems) few few_left well well_left is_kept)
+    mounts filesystems overlays (kept_so value whole root left (kept_of value)
+    (kept_with mounts filesystems overlays) few few_left well well_left is_kept)
     name (ToSetRoot place) task
     (record { called = permits.called; given = permits.given; named = located_is_named value whole place well; applied = λ fresh. refl })
     (same_tasks_in value whole name task new permits.called refl refl refl))

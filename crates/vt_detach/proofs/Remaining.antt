@@ -17,13 +17,13 @@ use Rattle.vt_mount.specs.MountsValue.{MountEntry, mounts_in}
 use Rattle.vt_tasks.specs.TasksValue.{Tasks}
 use Rattle.vt_laws_worlds.proofs.RaisedInUse.{worlds_are_in_use}
 use Rattle.vt_world.specs.Held.{CountsItsMounts, CountsItsUses, CountsWhatIsInIt, IsHeld}
-use Rattle.vt_detach.specs.Uses.{kept}
+use Rattle.vt_detach.specs.Uses.{Merged, kept_of, kept_with, overlays_kept}
 use Rattle.vt_world.specs.WorldValue.{WorldValue, world_of}
 use Rattle.vt_detach.proofs.Bridging.{IsSwept}
 use Rattle.vt_detach.proofs.Finishing.{CountsBeside, IsApplied, finished}
 use Rattle.vt_detach.proofs.Grouped.{left_has}
 use Rattle.vt_detach.proofs.Moving.{Moves, Use, entry_counts, exchanged_shown, filesystems_moved, gained_there, held_counts, hold_if, inodes_of_uses, mounts_moved, moved_kept, release_if, released_counts, uses_moved}
-use Rattle.vt_detach.proofs.Overlaid.{is_plain_one, keeps_itself, layers_kept, overlays_counted, plain_ones_are, same_files_keep, still_mounted}
+use Rattle.vt_detach.proofs.Overlaid.{all_shown, is_plain_one, keeps_itself, layers_kept, overlays_counted, plain_ones_are, same_files_keep, still_mounted}
 use Rattle.vt_detach.proofs.Staying.{IsDone, after}
 use Rattle.vt_spec.proofs.Lists.{map_alike, map_twice}
 use Rattle.vt_laws_letting_go.specs.TreesOverlays.{in_use_of}
@@ -32,11 +32,16 @@ use Rattle.vt_laws_letting_go.specs.TreesOverlays.{in_use_of}
 abbrev pub remade : WorldValue → List MountEntry → Filesystems → Tasks → WorldValue
 remade value mounts filesystems tasks = record value { mounts = mounts; filesystems = filesystems; tasks = tasks }
 
+-- and with those of its overlays that are kept
+abbrev pub remade_with : WorldValue → List MountEntry → Filesystems → List Merged → Tasks → WorldValue
+remade_with value mounts filesystems overlays tasks =
+    record (remade value mounts filesystems tasks) { overlays = overlays_kept overlays value.overlays }
+
 module _ (value : WorldValue) (whole : IsHeld value) (tasks : Tasks) (more less : List Use)
     (moves : Moves value tasks more less)
-    (mounts : List MountEntry) (filesystems : Filesystems)
-    (is_kept : kept mounts filesystems
-    ≡ moved_kept (world_of value) more less (kept value.mounts value.filesystems)) where
+    (mounts : List MountEntry) (filesystems : Filesystems) (overlays : List Merged)
+    (is_kept : kept_with mounts filesystems overlays
+    ≡ moved_kept (world_of value) more less (kept_of value)) where
   abbrev next : World ℕ
   next = world_of (after value tasks)
 
@@ -51,11 +56,11 @@ module _ (value : WorldValue) (whole : IsHeld value) (tasks : Tasks) (more less 
 
   pub entries_are : mounts ≡ map moved_entry value.mounts
   entries_are = ap (λ k. k.mounts) is_kept
-      ∙ mounts_moved (world_of value) more less (kept value.mounts value.filesystems)
+      ∙ mounts_moved (world_of value) more less (kept_of value)
 
   pub shown_are : shown filesystems ≡ map (exchanged_shown gained lost) (shown value.filesystems)
   shown_are = ap (λ k. k.filesystems) is_kept
-      ∙ filesystems_moved (world_of value) more less (kept value.mounts value.filesystems)
+      ∙ filesystems_moved (world_of value) more less (kept_of value)
 
   pub same_mount : (entry : MountEntry) → (moved_entry entry).mount ≡ entry.mount
   same_mount entry = (released_counts less (folded hold_if entry more)).mount ∙ (held_counts more entry).mount
@@ -102,9 +107,8 @@ module _ (value : WorldValue) (whole : IsHeld value) (tasks : Tasks) (more less 
     pub remains_swept : IsSwept value next gained lost (remade value mounts filesystems tasks)
     remains_swept = record {
       midway = same_files_keep value (world_of value) next refl (keeps_itself value whole.overlays);
-      mounted = still_mounted value whole (in_use_of next) (λ number.
-          ap (λ (world : World ℕ). is_mounted nat_eq world number) living_is);
-      overlays = refl;
+      overlays = all_shown value (in_use_of next) (still_mounted value whole (in_use_of next) (λ number.
+          ap (λ (world : World ℕ). is_mounted nat_eq world number) living_is));
       mounts = ap (λ (world : World ℕ). world.mounts) living_is ∙ sym same_mounts;
       numbers = ap (λ (world : World ℕ). map (λ (f : Filesystem ℕ). f.number)
           (filter is_plain_one world.filesystems)) living_is

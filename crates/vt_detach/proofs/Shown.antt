@@ -44,14 +44,17 @@ pins count number old new changes =
     (λ other inodes. ap (λ b. cond b (pinned nat_eq inodes number) inodes) (counted_eq_back other count)) (shown old)
 
 -- and a use less
+pub unpinned_shown : (count number : ℕ) (all : List Shown)
+    → shown_with count (λ inodes. unpinned nat_eq inodes number) all ≡ unpinned_in (counted count, number) all
+unpinned_shown count number all =
+    changed_inodes count (λ inodes. unpinned nat_eq inodes number)
+    (λ filesystem inodes. unpinned_if filesystem inodes (counted count, number))
+    (λ other inodes. ap (λ b. cond b (unpinned nat_eq inodes number) inodes) (counted_eq_back other count)) all
+
 pub unpins : (count number : ℕ) (old new : Filesystems)
     → ChangesInodes count (λ inodes. unpinned nat_eq inodes number) old new
     → shown new ≡ unpinned_in (counted count, number) (shown old)
-unpins count number old new changes =
-    changes.changed
-    ∙ changed_inodes count (λ inodes. unpinned nat_eq inodes number)
-    (λ filesystem inodes. unpinned_if filesystem inodes (counted count, number))
-    (λ other inodes. ap (λ b. cond b (unpinned nat_eq inodes number) inodes) (counted_eq_back other count)) (shown old)
+unpins count number old new changes = changes.changed ∙ unpinned_shown count number (shown old)
 
 -- mounts of a filesystem
 pub releases : (count : ℕ) (old : Filesystems)

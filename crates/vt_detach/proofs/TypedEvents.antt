@@ -1,5 +1,5 @@
 -- Events after which mounts have the types of other groups: they are done if they are but for the types.
-use Rattle.std.proofs.Common.{◌≡◌, refl, sym, ap, subst, ◌∙◌, ◌+◌, ℕ, nat_eq, true, false, List, filter, map, is_some}
+use Rattle.std.proofs.Common.{◌≡◌, refl, sym, ap, subst, ◌∙◌, ◌+◌, ℕ, nat_eq, false, List, filter, map, is_some}
 use Rattle.vt_spec.specs.Language.Calls.{TaskName}
 use Rattle.vt_spec.specs.Machine.Mounts.{Mount}
 use Rattle.vt_spec.specs.Machine.Mounts.Propagation.{Private}
@@ -13,7 +13,7 @@ use Rattle.vt_group.specs.Grouping.{Grouping, Has}
 use Rattle.vt_group.specs.Laws.{typed_by}
 use Rattle.vt_laws_letting_go.specs.Counts.{mounts_showing, times}
 use Rattle.vt_laws_letting_go.specs.OneByOne.{Inode}
-use Rattle.vt_laws_letting_go.proofs.Lists.{Among, all_from_among, among-from_map, among_from_all}
+use Rattle.vt_laws_letting_go.proofs.Lists.{Among, all_from_among, among-from_map, among_from_all, filter_alike}
 use Rattle.vt_location.specs.Numbers.{counted}
 use Rattle.vt_mount.specs.MountsValue.{MountEntry, mounts_in}
 use Rattle.vt_world.specs.Held.{CountsItsUses, CountsWhatIsInIt, IsHeld, IsMountedSoOften}
@@ -41,13 +41,10 @@ module _ (groups : Grouping) (new : WorldValue) where
       → IsSwept old (typed_world groups start) gained lost (typed_value groups new)
   swept_typed old start gained lost swept = record {
     midway = same_files_keep old start (typed_world groups start) refl swept.midway;
-    mounted = all_from_among
-        (λ (overlay : Filesystem ℕ). is_mounted nat_eq (in_use_of (typed_world groups start)) overlay.number ≡ true)
-        (overlays_seen old.overlays) (λ f m.
-        mounted_still groups start f.number
-        ∙ among_from_all (λ (overlay : Filesystem ℕ). is_mounted nat_eq (in_use_of start) overlay.number ≡ true)
-        (overlays_seen old.overlays) swept.mounted f m);
-    overlays = swept.overlays;
+    overlays = swept.overlays
+        ∙ filter_alike (λ (overlay : Filesystem ℕ). is_mounted nat_eq (in_use_of start) overlay.number)
+        (λ (overlay : Filesystem ℕ). is_mounted nat_eq (in_use_of (typed_world groups start)) overlay.number)
+        (overlays_seen old.overlays) (λ overlay m. sym (mounted_still groups start overlay.number));
     mounts = ap (λ (world : World ℕ). world.mounts) (living_typed groups start)
         ∙ ap (map (typed_by groups)) swept.mounts ∙ sym mounts_typed;
     numbers = ap (λ (world : World ℕ). map (λ (f : Filesystem ℕ). f.number) (filter is_plain_one world.filesystems))

@@ -20,7 +20,7 @@ use Rattle.vt_retype.specs.Leaving.{OnlyTypesChange}
 use Rattle.vt_retype.specs.Retyping.{typed_entry, with_kind}
 use Rattle.vt_retype.proofs.Left.{StillTyped}
 use Rattle.vt_detach.specs.NamespacesLeft.{AreDetached, Detached, IsAttached, is_attached_in, numbers_inside}
-use Rattle.vt_detach.specs.Uses.{Kept, detached_entry, detached_use, is_unused, let_go_entry, let_go_mount, without_attachment, without_mount}
+use Rattle.vt_detach.specs.Uses.{Kept, Merged, detached_entry, detached_use, is_unused, let_go_entry, let_go_mount, without_attachment, without_mount}
 use Rattle.vt_detach.proofs.FollowedTypes.{one_left}
 use Rattle.vt_spec.proofs.Lists.{map_alike}
 use Rattle.vt_spec.proofs.Truths.{nat_eq-swapped}
@@ -96,8 +96,9 @@ module _ (groups : Grouping) where
   -- one more is detached
   pub detached_alike : (number : ℕ) (point : Option Location) (one other : Kept)
       → map told one.mounts ≡ map told other.mounts → one.filesystems ≡ other.filesystems
+      → one.overlays ≡ other.overlays
       → with_types (without_attachment number point one) ≡ with_types (without_attachment number point other)
-  detached_alike number point one other same shown =
+  detached_alike number point one other same shown overlays =
       let_go_told number (detached_use number point one)
       ∙ ap (let_go_mount number)
       (λ i. record {
@@ -105,6 +106,7 @@ module _ (groups : Grouping) where
             ∙ ap (λ entries. map told (changed number detached_entry entries)) same
             ∙ detached-told number other.mounts) i;
         filesystems = (detached_use number point (record one { filesystems = shown i })).filesystems;
+        overlays = overlays i;
       })
       ∙ sym (let_go_told number (detached_use number point other))
 
@@ -133,10 +135,10 @@ module _ (namespace : ℕ) (one other : List MountEntry) (same : OnlyTypesChange
       ∙ none
 
   -- what is attached there is attached here
-  pub is_attached-alike : (shown : List Shown) (gone : Detached)
-      → IsAttached namespace (record { mounts = other; filesystems = shown }) gone
-      → IsAttached namespace (record { mounts = one; filesystems = shown }) gone
-  is_attached-alike shown gone is = by (entry_numbered one gone.number) refl
+  pub is_attached-alike : (shown : List Shown) (overlays : List Merged) (gone : Detached)
+      → IsAttached namespace (record { mounts = other; filesystems = shown; overlays = overlays }) gone
+      → IsAttached namespace (record { mounts = one; filesystems = shown; overlays = overlays }) gone
+  is_attached-alike shown overlays gone is = by (entry_numbered one gone.number) refl
     where
       same_found : option_map bare (entry_numbered one gone.number) ≡ Some (bare is.entry)
       same_found =
@@ -146,7 +148,7 @@ module _ (namespace : ℕ) (one other : List MountEntry) (same : OnlyTypesChange
           ∙ ap (option_map bare) is.found
 
       by : (o : Option MountEntry) → entry_numbered one gone.number ≡ o
-          → IsAttached namespace (record { mounts = one; filesystems = shown }) gone
+          → IsAttached namespace (record { mounts = one; filesystems = shown; overlays = overlays }) gone
       by None e = absurd (true≢false (sym (ap is_some (ap (option_map bare) (sym e) ∙ same_found))))
       by (Some entry) e =
           let its : bare entry ≡ bare is.entry =

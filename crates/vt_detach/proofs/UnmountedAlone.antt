@@ -19,14 +19,14 @@ use Rattle.vt_mount.specs.MountsValue.{MountEntry, mounts_in}
 use Rattle.vt_laws_runs.specs.Handed.{is_counted_before}
 use Rattle.vt_detach.specs.Events.{Permits}
 use Rattle.vt_world.specs.Held.{IsHeld}
-use Rattle.vt_detach.specs.Uses.{kept, point_of, without_attachment}
+use Rattle.vt_detach.specs.Uses.{Merged, kept_of, kept_with, point_of, without_attachment}
 use Rattle.vt_world.specs.WorldValue.{WorldValue, world_of}
 use Rattle.vt_detach.proofs.Detached.{detaching_on}
 use Rattle.vt_detach.proofs.DetachingBegins.{HasChildrenOf, detached_world, detaching_begins}
 use Rattle.vt_detach.proofs.DetachingEnds.{detached_done, held_is_kept}
 use Rattle.vt_detach.proofs.FileEvents.{permit_fits}
 use Rattle.vt_detach.proofs.Moving.{swap_eq}
-use Rattle.vt_detach.proofs.Remaining.{remade}
+use Rattle.vt_detach.proofs.Remaining.{remade_with}
 use Rattle.vt_detach.proofs.Staying.{IsDone}
 use Rattle.vt_laws_permits.specs.Taken.{is_ungrouped}
 use Rattle.vt_laws_letting_go.specs.TreesOverlays.{in_use_of}
@@ -72,22 +72,22 @@ childless world number none mount m place p h =
 
 -- a mount in no group, on a mount that is not shared
 pub unmount_is_done : (value : WorldValue) (name : TaskName) (number : ℕ) (point : Option Location)
-    (mounts : List MountEntry) (filesystems : Filesystems)
+    (mounts : List MountEntry) (filesystems : Filesystems) (overlays : List Merged)
     → IsHeld value → Permits value name (ToUnmount number)
     → is_ungrouped (mount_numbered nat_eq (world_of value) number).propagation ≡ true
     → holds_of (λ (place : Place ℕ). is_shared (mount_at nat_eq (world_of value) place).propagation)
     (mount_numbered nat_eq (world_of value) number).mount_point ≡ false
     → option_map location_of point ≡ point_of number value.mounts
     → IfSome point (λ point. point.node.slot < 18446744073709551616)
-    → kept mounts filesystems ≡ without_attachment number point (kept value.mounts value.filesystems)
-    → IsDone value name (ToUnmount number) (remade value mounts filesystems value.tasks)
-unmount_is_done value name number point mounts filesystems whole permits free apart point_is few is_kept =
+    → kept_with mounts filesystems overlays ≡ without_attachment number point (kept_of value)
+    → IsDone value name (ToUnmount number) (remade_with value mounts filesystems overlays value.tasks)
+unmount_is_done value name number point mounts filesystems overlays whole permits free apart point_is few is_kept =
     let world = world_of value in
     let names = (permit_fits value whole name (ToUnmount number) permits).names in
     let none = (or_parts (has_child nat_eq world number)
     (is_used nat_eq world (going nat_eq world (mount_numbered nat_eq world number))) names.2).0 in
     let closed = childless world number none in
-    detached_done value name (ToUnmount number) permits.task (number ∷ []) mounts filesystems whole closed
+    detached_done value name (ToUnmount number) permits.task (number ∷ []) mounts filesystems overlays whole closed
     (λ mount m its. freed mount m (nat_eq mount.number number) refl its)
     (record {
       called = permits.called;
@@ -98,8 +98,8 @@ unmount_is_done value name number point mounts filesystems whole permits free ap
     (subst (Rattle.vt_detach.proofs.Detached.IsDetaching value [] (in_use_of (detached_world (number ∷ []) world)) [])
     (sym is_kept)
     (detaching_on value [] (in_use_of (detached_world (number ∷ []) world)) number []
-    (kept value.mounts value.filesystems) point
-    (detaching_begins value [] [] world (kept value.mounts value.filesystems) (held_is_kept value whole)
+    (kept_of value) point
+    (detaching_begins value [] [] world (kept_of value) (held_is_kept value whole)
     (number ∷ []) closed) point_is few))
   where
     freed : (mount : Mount ℕ) → Among mount (mounts_in value.mounts) → (b : Bool) → nat_eq mount.number number ≡ b

@@ -12,7 +12,7 @@ use Rattle.vt_mount.specs.MountsValue.{MountEntry, mounts_in}
 use Rattle.vt_detach.specs.Detached.{LeaveInTurn}
 use Rattle.vt_detach.specs.Events.{Permits}
 use Rattle.vt_world.specs.Held.{IsHeld}
-use Rattle.vt_detach.specs.Uses.{Kept, kept, without_attachment}
+use Rattle.vt_detach.specs.Uses.{Kept, Merged, kept_of, kept_with, without_attachment}
 use Rattle.vt_world.specs.WorldValue.{WorldValue, world_of}
 use Rattle.vt_detach.proofs.Detached.{IsDetaching, detaching_on}
 use Rattle.vt_detach.proofs.DetachingBegins.{HasChildrenOf, detached_world, detaching_begins}
@@ -20,7 +20,7 @@ use Rattle.vt_detach.proofs.DetachingEnds.{detached_done, held_is_kept, taken_re
 use Rattle.vt_detach.proofs.FileEvents.{permit_fits}
 use Rattle.vt_detach.proofs.GoneAlone.{alone_regroups}
 use Rattle.vt_detach.proofs.LazilyUnmounted.{lazily_is_detached, tree_has_children, tree_is_free}
-use Rattle.vt_detach.proofs.Remaining.{remade}
+use Rattle.vt_detach.proofs.Remaining.{remade_with}
 use Rattle.vt_detach.proofs.Staying.{IsDone}
 use Rattle.vt_detach.proofs.UnmountedAlone.{attached_is_named}
 use Rattle.vt_laws_permits.specs.Taken.{is_ungrouped}
@@ -35,16 +35,16 @@ all_detached old gained last (number ∷ numbers) k final detaching turn =
     (detaching_on old gained last number numbers k turn.0 detaching turn.1 turn.2) turn.3
 
 pub lazy_unmount_is_done : (value : WorldValue) (name : TaskName) (number : ℕ) (numbers : List ℕ)
-    (mounts : List MountEntry) (filesystems : Filesystems)
+    (mounts : List MountEntry) (filesystems : Filesystems) (overlays : List Merged)
     → IsHeld value → Permits value name (ToUnmountLazily number)
     → numbers ≡ map (λ (mount : Mount ℕ). mount.number)
     (mount_tree nat_eq (mounts_in value.mounts) (mount_in nat_eq (mounts_in value.mounts) number))
     → list_all (λ n. is_ungrouped (mount_in nat_eq (mounts_in value.mounts) n).propagation) numbers ≡ true
     → holds_of (λ (place : Place ℕ). is_shared (mount_at nat_eq (world_of value) place).propagation)
     (mount_numbered nat_eq (world_of value) number).mount_point ≡ false
-    → LeaveInTurn numbers (kept value.mounts value.filesystems) (kept mounts filesystems)
-    → IsDone value name (ToUnmountLazily number) (remade value mounts filesystems value.tasks)
-lazy_unmount_is_done value name number numbers mounts filesystems whole permits tree none apart turn =
+    → LeaveInTurn numbers (kept_of value) (kept_with mounts filesystems overlays)
+    → IsDone value name (ToUnmountLazily number) (remade_with value mounts filesystems overlays value.tasks)
+lazy_unmount_is_done value name number numbers mounts filesystems overlays whole permits tree none apart turn =
     let world = world_of value in
     let ungrouped = ap (list_all (λ n. is_ungrouped (mount_in nat_eq world.mounts n).propagation)) (sym tree) ∙ none in
     let names = (permit_fits value whole name (ToUnmountLazily number) permits).names in
@@ -55,7 +55,7 @@ lazy_unmount_is_done value name number numbers mounts filesystems whole permits 
     let kept_mounts = whole.in_world.mounts in
     let closed : HasChildrenOf gone world.mounts = tree_has_children world kept_mounts number there in
     let free = tree_is_free world kept_mounts number there ungrouped in
-    detached_done value name (ToUnmountLazily number) permits.task gone mounts filesystems whole closed
+    detached_done value name (ToUnmountLazily number) permits.task gone mounts filesystems overlays whole closed
     free (record {
       called = permits.called;
       given = permits.given;
@@ -66,7 +66,7 @@ lazy_unmount_is_done value name number numbers mounts filesystems whole permits 
           ∙ sym (taken_regroups world gone closed
           ∙ alone_regroups world value.groups whole.groups kept_mounts.groups gone free);
     })
-    (all_detached value [] (in_use_of (detached_world gone world)) gone (kept value.mounts value.filesystems)
-    (kept mounts filesystems)
-    (detaching_begins value [] [] world (kept value.mounts value.filesystems) start gone closed)
-    (subst (λ all. LeaveInTurn all (kept value.mounts value.filesystems) (kept mounts filesystems)) tree turn))
+    (all_detached value [] (in_use_of (detached_world gone world)) gone (kept_of value)
+    (kept_with mounts filesystems overlays)
+    (detaching_begins value [] [] world (kept_of value) start gone closed)
+    (subst (λ all. LeaveInTurn all (kept_of value) (kept_with mounts filesystems overlays)) tree turn))

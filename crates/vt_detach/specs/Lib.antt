@@ -4,3 +4,4 @@ pub mod Uses
 pub mod Detached
 pub mod Forking
 pub mod NamespacesLeft
+pub mod Stored

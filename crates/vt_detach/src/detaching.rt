@@ -3,53 +3,49 @@ ghost use Rattle.std.specs.Prelude.{◌<◌, ◌≡◌, IfSome, map, option_map,
 ghost use Rattle.vt_location.specs.Locations.{location_of};
 ghost use Rattle.vt_location.specs.Numbers.{mount_number};
 ghost use Rattle.vt_detach.specs.Detached.{LeaveInTurn, LeaveTogether};
-ghost use Rattle.vt_detach.specs.Uses.{kept, point_of, without_attachment};
+ghost use Rattle.vt_detach.specs.Stored.{kept};
+ghost use Rattle.vt_detach.specs.Uses.{point_of, without_attachment};
 
 use crate::uses::let_go_mount;
-use vt_fs::Filesystems;
 use vt_group::Groups;
 use vt_location::{Location, MountId};
 use vt_mount::Mounts;
 use vt_retype::leave_all;
+use vt_store::Store;
 
 /// A mount leaves its namespace and its mount point, which is returned, and goes if nothing is on it. It takes no
 /// memory.
-pub fn detach(mounts: &mut Mounts, filesystems: &mut Filesystems, id: MountId) -> Option<Location>
+pub fn detach(mounts: &mut Mounts, store: &mut Store, id: MountId) -> Option<Location>
     ensures point { option_map location_of result ≡ point_of (mount_number id) mounts.old }
-    ensures left { kept mounts.new filesystems.new
-        ≡ without_attachment (mount_number id) result (kept mounts.old filesystems.old) }
+    ensures left { kept mounts.new store.new
+        ≡ without_attachment (mount_number id) result (kept mounts.old store.old) }
     ensures slot { IfSome result (λ point. point.node.slot < 2 ^ 64) }
 {
     let mount = mounts.get(id)?;
     mounts.detach(id);
     if let Some(point) = mount.mount_point {
-        filesystems.unpin(point.node);
+        store.plain_mut().unpin(point.node);
     }
-    let_go_mount(mounts, filesystems, id);
+    let_go_mount(mounts, store, id);
     mount.mount_point
 }
 
 /// Mounts leave their namespaces one after the other. It does not allocate.
-pub fn detach_each(mounts: &mut Mounts, filesystems: &mut Filesystems, ids: &[MountId])
-    ensures { LeaveInTurn (map mount_number ids.now) (kept mounts.old filesystems.old)
-        (kept mounts.new filesystems.new) }
+pub fn detach_each(mounts: &mut Mounts, store: &mut Store, ids: &[MountId])
+    ensures { LeaveInTurn (map mount_number ids.now) (kept mounts.old store.old)
+        (kept mounts.new store.new) }
 {
     for id in ids {
-        detach(mounts, filesystems, *id);
+        detach(mounts, store, *id);
     }
 }
 
 /// Mounts leave their namespaces one after the other, and their groups at once: the slaves of a group that ends get its
 /// master. It does not allocate.
-pub fn detach_together(
-    mounts: &mut Mounts,
-    groups: &mut Groups,
-    filesystems: &mut Filesystems,
-    ids: &[MountId],
-)
-    ensures { LeaveTogether (map mount_number ids.now) (kept mounts.old filesystems.old) groups.old
-        (kept mounts.new filesystems.new) groups.new }
+pub fn detach_together(mounts: &mut Mounts, groups: &mut Groups, store: &mut Store, ids: &[MountId])
+    ensures { LeaveTogether (map mount_number ids.now) (kept mounts.old store.old) groups.old
+        (kept mounts.new store.new) groups.new }
 {
-    detach_each(mounts, filesystems, ids);
+    detach_each(mounts, store, ids);
     leave_all(mounts, groups, ids);
 }

@@ -2,16 +2,16 @@
 ghost use Rattle.std.specs.Prelude.{◌≡◌};
 ghost use Rattle.vt_location.specs.Numbers.{namespace_number};
 ghost use Rattle.vt_detach.specs.NamespacesLeft.{MountsAreLeft, NamespaceIsLeft, namespace_entry, with_one_task_less};
-ghost use Rattle.vt_detach.specs.Uses.{kept};
+ghost use Rattle.vt_detach.specs.Stored.{kept};
 ghost use Rattle.vt_world.specs.WorldValue.{entries_of};
 
 use crate::detaching::detach;
 use indexmap::IndexMap;
-use vt_fs::Filesystems;
 use vt_group::Groups;
 use vt_location::NamespaceId;
 use vt_mount::Mounts;
 use vt_retype::leave;
+use vt_store::Store;
 use vt_world::namespaces::Namespace;
 
 /// One task less of a namespace. With its last it goes, and its mounts are detached: they leave their groups at once,
@@ -19,14 +19,14 @@ use vt_world::namespaces::Namespace;
 pub fn leave_namespace(
     mounts: &mut Mounts,
     groups: &mut Groups,
-    filesystems: &mut Filesystems,
+    store: &mut Store,
     namespaces: &mut IndexMap<NamespaceId, Namespace>,
     id: NamespaceId,
 )
     ensures namespaces { entries_of namespaces.new.entries
         ≡ with_one_task_less id.count (entries_of namespaces.old.entries) }
     ensures mounts { MountsAreLeft (namespace_number id) (namespace_entry id.count (entries_of namespaces.old.entries))
-        (kept mounts.old filesystems.old) groups.old (kept mounts.new filesystems.new) groups.new }
+        (kept mounts.old store.old) groups.old (kept mounts.new store.new) groups.new }
 {
     let Some(namespace) = namespaces.get_mut(&id) else {
         return;
@@ -36,22 +36,17 @@ pub fn leave_namespace(
         return;
     }
     namespaces.shift_remove(&id);
-    end_namespace(mounts, groups, filesystems, id);
+    end_namespace(mounts, groups, store, id);
 }
 
 // The mounts of a namespace are detached and leave their groups, the last one first.
-fn end_namespace(
-    mounts: &mut Mounts,
-    groups: &mut Groups,
-    filesystems: &mut Filesystems,
-    id: NamespaceId,
-)
-    ensures { NamespaceIsLeft (namespace_number id) (kept mounts.old filesystems.old) groups.old
-        (kept mounts.new filesystems.new) groups.new }
+fn end_namespace(mounts: &mut Mounts, groups: &mut Groups, store: &mut Store, id: NamespaceId)
+    ensures { NamespaceIsLeft (namespace_number id) (kept mounts.old store.old) groups.old
+        (kept mounts.new store.new) groups.new }
 {
     while let Some(last) = mounts.attached_in(id).last() {
         let mount = *last;
-        detach(mounts, filesystems, mount);
+        detach(mounts, store, mount);
         leave(mounts, groups, mount);
     }
 }

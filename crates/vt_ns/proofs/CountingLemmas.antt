@@ -10,9 +10,11 @@ use Rattle.vt_location.specs.Locations.{number_of}
 use Rattle.vt_location.specs.Numbers.{counted}
 use Rattle.vt_mount.specs.MountsValue.{MountEntry, changed, entry_numbered, held, uses_of, writers_of}
 use Rattle.vt_spec.specs.Inodes.{Inodes, uses_in}
+use Rattle.vt_store.specs.StoreValue.{StoreValue}
 use Rattle.vt_world.specs.declared.namespaces.Namespace.{Namespace}
 use Rattle.vt_detach.specs.Forking.{HasRoom, more_tasks, with_task_more}
-use Rattle.vt_detach.specs.Uses.{kept, pinned_in, with_location}
+use Rattle.vt_detach.specs.Stored.{kept}
+use Rattle.vt_detach.specs.Uses.{pinned_in, with_location}
 use Rattle.vt_world.specs.WorldValue.{entries_of}
 use Rattle.vt_detach.proofs.NamespaceEntries.{Entries, entries_written, is_id, none_written, same_namespace}
 use Rattle.vt_attach.proofs.RoomLemmas.{pinned_if_more}
@@ -85,24 +87,24 @@ inodes_grow inode count number (old ∷ olds) (new ∷ news) is =
 
 -- where there was room for one use more there is room for so many after one
 pub room_still : (more : ℕ) (other at : Location) (mounts news : List MountEntry)
-    (filesystems new_filesystems : Filesystems)
-    → HasRoom (more + 1) at mounts filesystems
-    → kept news new_filesystems ≡ with_location other false (kept mounts filesystems)
-    → HasRoom more at news new_filesystems
-room_still more other at mounts news filesystems new_filesystems room is =
+    (store new_store : StoreValue)
+    → HasRoom (more + 1) at mounts store.plain
+    → kept news new_store ≡ with_location other false (kept mounts store)
+    → HasRoom more at news new_store.plain
+room_still more other at mounts news store new_store room is =
     let grown = uses_grow (counted other.mount.count) (counted at.mount.count) mounts in
     let inode = inodes_grow (counted other.node.filesystem.count, number_of other.node) at.node.filesystem.count
-    (number_of at.node) filesystems new_filesystems
+    (number_of at.node) store.plain new_store.plain
     (ap (λ k. k.filesystems) is) in
-    subst (λ all. HasRoom more at all new_filesystems) (sym (ap (λ k. k.mounts) is)) (record {
+    subst (λ all. HasRoom more at all new_store.plain) (sym (ap (λ k. k.mounts) is)) (record {
       uses = (let most = room.uses in let more_uses = grown.0 in omega (arith, most, more_uses));
       writers = (let most = room.writers in let more_uses = grown.1 in omega (arith, most, more_uses));
       inode = (let most = room.inode in omega (arith, most, inode));
     })
 
-pub room_left : (other at : Location) (mounts news : List MountEntry) (filesystems new_filesystems : Filesystems)
-    → HasRoom 2 at mounts filesystems → kept news new_filesystems ≡ with_location other false (kept mounts filesystems)
-    → HasRoom 1 at news new_filesystems
+pub room_left : (other at : Location) (mounts news : List MountEntry) (store new_store : StoreValue)
+    → HasRoom 2 at mounts store.plain → kept news new_store ≡ with_location other false (kept mounts store)
+    → HasRoom 1 at news new_store.plain
 room_left = room_still 1
 
 -- and after one more use of an inode, where mounts keep their counts

@@ -23,6 +23,7 @@ pub mod PivotedWorlds
 pub mod PointsMoved
 pub mod RemainingTasks
 pub mod RenamedOver
+pub mod StoresKept
 pub mod TypesDone
 pub mod UnmountedEverywhere
 pub mod UnmountedWorlds

@@ -5,7 +5,7 @@ use Rattle.vt_spec.specs.Lists.{holds_of}
 use Rattle.vt_spec.specs.Machine.Mounts.{Mount, is_shared, mount_in}
 use Rattle.vt_attach.specs.Planned.{Point, is_small, points_left, points_taken, with_planned}
 use Rattle.vt_detach.specs.Detached.{LeaveTogether}
-use Rattle.vt_detach.specs.Uses.{Kept, kept}
+use Rattle.vt_detach.specs.Uses.{Kept, Merged, kept_with}
 use Rattle.vt_fs.specs.FilesystemsValue.{Filesystems}
 use Rattle.vt_group.specs.Grouping.{Grouping}
 use Rattle.vt_group.specs.Together.{GrowsTo}
@@ -34,11 +34,12 @@ pub record GoTogether (gone : List ℕ) (points : List Point) (old : Kept) (befo
     (now : Grouping) : Type 0 where
   pub between : List MountEntry
   pub files : Filesystems
+  pub merged : List Merged
   pub groups : Grouping
   pub left : List Location
   pub left_are : map location_of left ≡ points_left points old.mounts
   pub left_small : list_all is_small left ≡ true
   pub taken_small : list_all is_small (points_taken points old.mounts) ≡ true
-  pub moved : kept between files ≡ with_planned [] points left old
+  pub moved : kept_with between files merged ≡ with_planned [] points left old
   pub grown : GrowsTo before groups [] []
-  pub together : LeaveTogether gone (kept between files) groups new now
+  pub together : LeaveTogether gone (kept_with between files merged) groups new now

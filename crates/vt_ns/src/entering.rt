@@ -32,27 +32,21 @@ impl World {
         ensures err { OnErr result (self.new ≡ self.old) }
     {
         let root = namespace_root(&self.mounts, namespace).unwrap();
-        if !has_room(2, &self.mounts, &self.filesystems, root)
+        if !has_room(2, &self.mounts, &self.store, root)
             || !has_room_for_task(&self.namespaces, namespace)
         {
             return Err(AllocError);
         }
         let mounts = &mut self.mounts;
-        let filesystems = &mut self.filesystems;
-        hold_once_more(mounts, filesystems, root, false);
-        hold_once_more(mounts, filesystems, root, false);
+        let store = &mut self.store;
+        hold_once_more(mounts, store, root, false);
+        hold_once_more(mounts, store, root, false);
         count_task(&mut self.namespaces, namespace);
         if let Some(left) = self.tasks.enter(name, namespace, root) {
-            leave(mounts, filesystems, left.root, false);
-            leave(mounts, filesystems, left.directory, false);
+            leave(mounts, store, left.root, false);
+            leave(mounts, store, left.directory, false);
             let groups = &mut self.groups;
-            leave_namespace(
-                mounts,
-                groups,
-                filesystems,
-                &mut self.namespaces,
-                left.namespace,
-            );
+            leave_namespace(mounts, groups, store, &mut self.namespaces, left.namespace);
         }
         Ok(())
     }

@@ -4,14 +4,14 @@ ghost use Rattle.std.specs.List.{list_all};
 ghost use Rattle.vt_spec.specs.Machine.Permits.Permit.{ToExit};
 ghost use Rattle.vt_detach.specs.Events.{Becomes, Permits};
 ghost use Rattle.vt_detach.specs.NamespacesLeft.{has_slot, without_file};
-ghost use Rattle.vt_detach.specs.Uses.{kept};
+ghost use Rattle.vt_detach.specs.Stored.{kept};
 
 use crate::world::World;
 use vt_detach::ending::leave_namespace;
 use vt_detach::uses::leave;
-use vt_fs::Filesystems;
 use vt_mount::Mounts;
 use vt_request::TaskName;
+use vt_store::Store;
 use vt_tasks::OpenFile;
 
 impl World {
@@ -25,27 +25,21 @@ impl World {
             return;
         };
         let mounts = &mut self.mounts;
-        let filesystems = &mut self.filesystems;
-        leave(mounts, filesystems, task.root, false);
-        leave(mounts, filesystems, task.directory, false);
-        leave_files(mounts, filesystems, task.descriptors.files());
+        let store = &mut self.store;
+        leave(mounts, store, task.root, false);
+        leave(mounts, store, task.directory, false);
+        leave_files(mounts, store, task.descriptors.files());
         let groups = &mut self.groups;
-        leave_namespace(
-            mounts,
-            groups,
-            filesystems,
-            &mut self.namespaces,
-            task.namespace,
-        );
+        leave_namespace(mounts, groups, store, &mut self.namespaces, task.namespace);
     }
 }
 
 // One use less for each of these open files.
-fn leave_files(mounts: &mut Mounts, filesystems: &mut Filesystems, files: &[OpenFile])
-    ensures left { kept mounts.new filesystems.new ≡ fold without_file (kept mounts.old filesystems.old) files.now }
+fn leave_files(mounts: &mut Mounts, store: &mut Store, files: &[OpenFile])
+    ensures left { kept mounts.new store.new ≡ fold without_file (kept mounts.old store.old) files.now }
     ensures slots { list_all has_slot files.now ≡ true }
 {
     for file in files {
-        leave(mounts, filesystems, file.location, file.access.writes());
+        leave(mounts, store, file.location, file.access.writes());
     }
 }

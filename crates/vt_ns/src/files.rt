@@ -24,7 +24,7 @@ impl World {
         ensures { Becomes self.old name.now
             (ToChange (location_of object) (SetAttr (number_of object.node) attr)) self.new }
     {
-        self.filesystems.set_attr(object.node, attr);
+        self.store.plain_mut().set_attr(object.node, attr);
     }
 
     /// Marks a directory opaque, or takes its mark away: setxattr(2) of `trusted.overlay.opaque`. It does not allocate.
@@ -35,7 +35,7 @@ impl World {
         ensures { Becomes self.old name.now
             (ToChange (location_of directory) (SetMark (number_of directory.node) opaque)) self.new }
     {
-        self.filesystems.set_opaque(directory.node, opaque);
+        self.store.plain_mut().set_opaque(directory.node, opaque);
     }
 
     /// Sets the whole content of a file: write(2) after open(2) with O_TRUNC. It does not allocate.
@@ -46,7 +46,7 @@ impl World {
         ensures { Becomes self.old name.now
             (ToChange (location_of file) (SetBytes (number_of file.node) bytes.items)) self.new }
     {
-        self.filesystems.write(file.node, bytes);
+        self.store.plain_mut().write(file.node, bytes);
     }
 
     /// Makes a further hard link to an inode: link(2).
@@ -57,7 +57,8 @@ impl World {
         ensures ok { OnOk result (Becomes self.old name.now (make_permit (Link new)) self.new) }
         ensures err { OnErr result (self.new ≡ self.old) }
     {
-        self.filesystems
+        self.store
+            .plain_mut()
             .link(new.directory.node, new.name, new.object)
     }
 
@@ -68,7 +69,8 @@ impl World {
         requires { Permits self.old name.now (remove_permit (Unlink gone)) }
         ensures { Becomes self.old name.now (remove_permit (Unlink gone)) self.new }
     {
-        self.filesystems
+        self.store
+            .plain_mut()
             .unlink(gone.directory.node, gone.name.as_slice(), gone.object);
     }
 
@@ -80,12 +82,13 @@ impl World {
         ensures ok { OnOk result (Becomes self.old name.now (write_permit (Part part)) self.new) }
         ensures err { OnErr result (self.new ≡ self.old) }
     {
-        let filesystems = &mut self.filesystems;
         let bytes = part.bytes.as_slice();
         if bytes.is_empty() {
             return Ok(());
         }
-        filesystems.write_at(part.file.node, part.offset, bytes)
+        self.store
+            .plain_mut()
+            .write_at(part.file.node, part.offset, bytes)
     }
 
     /// Makes an inode under a name of a directory: mkdir(2), symlink(2), mknod(2).
@@ -95,7 +98,8 @@ impl World {
         ensures ok { OnOk result (Becomes self.old name.now (make_permit (Node new)) self.new) }
         ensures err { OnErr result (self.new ≡ self.old) }
     {
-        self.filesystems
+        self.store
+            .plain_mut()
             .create(new.directory.node, new.name, new.node)?;
         Ok(())
     }

@@ -6,7 +6,8 @@ ghost use Rattle.vt_spec.specs.Machine.World.{task_called};
 ghost use Rattle.vt_spec.specs.Errors.{denial};
 ghost use Rattle.vt_detach.specs.Events.{Becomes, Permits};
 ghost use Rattle.vt_detach.specs.Forking.{HasRoom, with_task_more};
-ghost use Rattle.vt_detach.specs.Uses.{kept, with_location};
+ghost use Rattle.vt_detach.specs.Stored.{kept};
+ghost use Rattle.vt_detach.specs.Uses.{with_location};
 ghost use Rattle.vt_world.specs.WorldValue.{entries_of, world_of};
 
 use crate::world::World;
@@ -14,10 +15,10 @@ use indexmap::IndexMap;
 use std::alloc::AllocError;
 use vt_cred::Cred;
 use vt_detach::uses::hold;
-use vt_fs::Filesystems;
 use vt_location::{Location, NamespaceId};
 use vt_mount::Mounts;
 use vt_request::TaskName;
+use vt_store::Store;
 use vt_world::namespaces::Namespace;
 
 impl World {
@@ -33,42 +34,37 @@ impl World {
     {
         let parent = self.tasks.get(name).unwrap();
         let (namespace, root, directory) = (parent.namespace, parent.root, parent.directory);
-        if !has_room(2, &self.mounts, &self.filesystems, root)
-            || !has_room(2, &self.mounts, &self.filesystems, directory)
+        if !has_room(2, &self.mounts, &self.store, root)
+            || !has_room(2, &self.mounts, &self.store, directory)
             || !has_room_for_task(&self.namespaces, namespace)
         {
             return Err(AllocError);
         }
         let child = self.tasks.fork(name, cred)?;
-        hold_once_more(&mut self.mounts, &mut self.filesystems, root, false);
-        hold_once_more(&mut self.mounts, &mut self.filesystems, directory, false);
+        hold_once_more(&mut self.mounts, &mut self.store, root, false);
+        hold_once_more(&mut self.mounts, &mut self.store, directory, false);
         count_task(&mut self.namespaces, namespace);
         Ok(child)
     }
 }
 
 // Whether so many more uses of a location may be counted.
-pub(crate) fn has_room(more: u64, mounts: &Mounts, filesystems: &Filesystems, at: Location) -> bool
-    ensures { (result ≡ true) ↔ HasRoom more at mounts.now filesystems.now }
+pub(crate) fn has_room(more: u64, mounts: &Mounts, store: &Store, at: Location) -> bool
+    ensures { (result ≡ true) ↔ HasRoom more at mounts.now store.now.plain }
 {
     mounts.uses(at.mount) <= u64::MAX - more
         && mounts.writers(at.mount) < u64::MAX
-        && filesystems.uses(at.node) <= u64::MAX - more
+        && store.plain().uses(at.node) <= u64::MAX - more
 }
 
 // One use more of a location, for which there is room. It does not allocate.
-pub(crate) fn hold_once_more(
-    mounts: &mut Mounts,
-    filesystems: &mut Filesystems,
-    at: Location,
-    writes: bool,
-)
-    requires { HasRoom 1 at mounts.old filesystems.old }
-    ensures held { kept mounts.new filesystems.new ≡ with_location at writes (kept mounts.old filesystems.old) }
+pub(crate) fn hold_once_more(mounts: &mut Mounts, store: &mut Store, at: Location, writes: bool)
+    requires { HasRoom 1 at mounts.old store.old.plain }
+    ensures held { kept mounts.new store.new ≡ with_location at writes (kept mounts.old store.old) }
     ensures slot { at.node.slot < 2 ^ 64 }
 {
     // It cannot fail: there is room.
-    let _ = hold(mounts, filesystems, at, writes);
+    let _ = hold(mounts, store, at, writes);
 }
 
 // Whether one more task may be counted in a namespace.

@@ -44,7 +44,7 @@ impl World {
             alloc: self.alloc,
             mounts: &self.mounts,
             groups: &self.groups,
-            filesystems: &self.filesystems,
+            filesystems: self.store.plain(),
         }
     }
 }

@@ -74,7 +74,7 @@ impl Look for World {
     #[inline(always)]
     fn node(&self, at: Location) -> Option<&Node> {
         if self.is_seen(at) {
-            self.filesystems.node(at.node)
+            self.store.plain().node(at.node)
         } else {
             None
         }
@@ -114,7 +114,7 @@ impl Look for World {
     #[inline(always)]
     fn node_on(&self, ground: Ground, at: Location) -> Option<&Node> {
         if ground.filesystem == at.node.filesystem {
-            self.filesystems.node(at.node)
+            self.store.plain().node(at.node)
         } else {
             None
         }
@@ -122,12 +122,12 @@ impl Look for World {
 
     #[inline(always)]
     fn is_removed(&self, at: Location) -> bool {
-        !self.is_seen(at) || self.filesystems.is_removed(at.node)
+        !self.is_seen(at) || self.store.plain().is_removed(at.node)
     }
 
     fn is_under(&self, top: Location, directory: NodeRef) -> bool {
         if self.is_seen(top) && directory.filesystem == top.node.filesystem {
-            self.filesystems.is_under(top.node, directory)
+            self.store.plain().is_under(top.node, directory)
         } else {
             top.node.is_same(directory)
         }
@@ -136,7 +136,7 @@ impl Look for World {
     fn is_lost(&self, at: Location) -> bool {
         match self.mounts.get(at.mount) {
             Some(mount) if mount.root.filesystem == at.node.filesystem => {
-                self.filesystems.is_lost(mount.root, at.node)
+                self.store.plain().is_lost(mount.root, at.node)
             }
             _ => true,
         }

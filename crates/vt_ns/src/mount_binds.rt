@@ -52,7 +52,7 @@ impl World {
             self.alloc,
             &mut self.mounts,
             &mut self.groups,
-            &mut self.filesystems,
+            &mut self.store,
             &graft,
             counts,
         )?;

@@ -62,14 +62,14 @@ impl World {
         ensures err { OnErr result (self.new ≡ self.old) }
     {
         let left = self.mount_point(mount);
-        if self.filesystems.uses(place.node) == u64::MAX {
+        if self.store.plain().uses(place.node) == u64::MAX {
             return Err(AllocError);
         }
         self.mounts.move_to(mount, place)?;
         // It cannot fail: one more use can be counted.
-        let _ = self.filesystems.pin(place.node);
+        let _ = self.store.plain_mut().pin(place.node);
         if let Some(point) = left {
-            self.filesystems.unpin(point.node);
+            self.store.plain_mut().unpin(point.node);
         }
         Ok(())
     }
@@ -112,7 +112,7 @@ impl World {
             self.alloc,
             &mut self.mounts,
             &mut self.groups,
-            &mut self.filesystems,
+            &mut self.store,
             &graft,
             counts,
         )?;

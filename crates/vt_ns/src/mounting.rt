@@ -12,7 +12,7 @@ ghost use Rattle.vt_spec.specs.Machine.Permits.Permit.{ToMountPlain};
 ghost use Rattle.vt_spec.specs.Machine.NewMounts.{new_mount};
 ghost use Rattle.vt_spec.specs.Machine.World as meant;
 ghost use Rattle.vt_detach.specs.Events.{Becomes, Permits};
-ghost use Rattle.vt_detach.specs.Uses.{kept};
+ghost use Rattle.vt_detach.specs.Stored.{kept};
 ghost use Rattle.vt_world.specs.WorldValue.{world_of};
 ghost use Rattle.vt_attach.specs.Grafted.{IsGrafted, MayGraft};
 
@@ -21,13 +21,13 @@ use crate::world::World;
 use std::alloc::{AllocError, Global};
 use vt_attach::grafted::attach_graft;
 use vt_cred::MountFlags;
-use vt_fs::Filesystems;
 use vt_group::Groups;
 use vt_location::{Birth, FilesystemId, Location, Mount, MountId, NodeRef, Propagation};
 use vt_mount::Mounts;
 use vt_node::{Attr, Mode};
 use vt_propagate::{Counts, Graft, parts};
 use vt_request::TaskName;
+use vt_store::Store;
 
 // The mode of the root directory of a new filesystem.
 const ROOT_MODE: u16 = 0o755;
@@ -76,7 +76,7 @@ impl World {
             self.alloc,
             &mut self.mounts,
             &mut self.groups,
-            &mut self.filesystems,
+            &mut self.store,
             filesystem,
             &graft,
             counts,
@@ -112,24 +112,24 @@ fn mount_new(
     alloc: Global,
     mounts: &mut Mounts,
     groups: &mut Groups,
-    filesystems: &mut Filesystems,
+    store: &mut Store,
     filesystem: FilesystemId,
     graft: &Graft,
     counts: Counts,
 ) -> Result<(), AllocError>
-    requires above { list_all (λ entry. nat_lt entry.count filesystem.count) filesystems.old ≡ true }
+    requires above { list_all (λ entry. nat_lt entry.count filesystem.count) store.old.plain ≡ true }
     requires room { HasRoomFor graft.now counts }
     requires may { MayGraft mounts.old groups.old graft.now counts }
     ensures ok { OnOk result ((entry : FilesystemEntry) × IsNew filesystem.count meant.root_attr entry
-        × IsGrafted graft.now counts (kept mounts.old (filesystems.old ++ entry ∷ [])) groups.old
-        (kept mounts.new filesystems.new) groups.new) }
+        × IsGrafted graft.now counts (kept mounts.old (record store.old { plain = store.old.plain ++ entry ∷ [] })) groups.old
+        (kept mounts.new store.new) groups.new) }
     ensures err_mounts { OnErr result (mounts.new ≡ mounts.old) }
     ensures err_groups { OnErr result (groups.new ≡ groups.old) }
-    ensures err_filesystems { OnErr result (filesystems.new ≡ filesystems.old) }
+    ensures err_store { OnErr result (store.new ≡ store.old) }
 {
-    filesystems.add(filesystem, root_attr())?;
-    if let Err(refused) = attach_graft(alloc, mounts, groups, filesystems, graft, counts) {
-        filesystems.remove(filesystem);
+    store.plain_mut().add(filesystem, root_attr())?;
+    if let Err(refused) = attach_graft(alloc, mounts, groups, store, graft, counts) {
+        store.plain_mut().remove(filesystem);
         return Err(refused);
     }
     Ok(())

@@ -17,6 +17,7 @@ use vt_location::{
     Birth, FilesystemId, Location, Mount, MountId, NamespaceId, NodeRef, Propagation,
 };
 use vt_mount::Mounts;
+use vt_store::Store;
 use vt_tasks::Tasks;
 use vt_world::namespaces::Namespace;
 
@@ -64,7 +65,7 @@ impl World {
         };
         Ok(World {
             mounts,
-            filesystems,
+            store: Store::new(alloc, filesystems),
             namespaces,
             tasks,
             groups: Groups::new(alloc),

@@ -40,7 +40,7 @@ impl World {
         ensures err { OnErr result (self.new ≡ self.old) }
     {
         let Location { mount, node } = new.directory;
-        let file = self.filesystems.next_number(node.filesystem).unwrap();
+        let file = self.store.plain().next_number(node.filesystem).unwrap();
         if !mount_has_room(&self.mounts, mount) {
             return Err(AllocError);
         }
@@ -50,11 +50,11 @@ impl World {
             access,
         };
         let tasks = &mut self.tasks;
-        let filesystems = &mut self.filesystems;
+        let filesystems = self.store.plain_mut();
         let number = open_next(tasks, filesystems, name, opened, node, new.name, new.node)?;
         // They cannot fail: the mount has room for a use more, and a new inode has one use.
         let _ = self.mounts.hold(mount, access.writes());
-        let _ = self.filesystems.pin(file);
+        let _ = self.store.plain_mut().pin(file);
         Ok(number)
     }
 }

@@ -5,16 +5,16 @@ ghost use Rattle.vt_location.specs.Numbers.{mount_number};
 ghost use Rattle.vt_spec.specs.Machine.Permits.Permit.{ToPivot};
 ghost use Rattle.vt_detach.specs.Events.{Becomes, Permits};
 ghost use Rattle.vt_detach.specs.Forking.{HasRoom};
-ghost use Rattle.vt_detach.specs.Uses.{kept};
+ghost use Rattle.vt_detach.specs.Stored.{kept};
 ghost use Rattle.vt_ns.specs.Pivoting.{with_uses, without_uses};
 
 use crate::forking::{has_room, hold_once_more};
 use crate::world::World;
 use std::alloc::AllocError;
-use vt_fs::Filesystems;
 use vt_location::{Location, MountId};
 use vt_mount::Mounts;
 use vt_request::TaskName;
+use vt_store::Store;
 
 impl World {
     /// Exchanges the mount of the caller's root with a mount under it, and attaches the old one at a place under the new
@@ -41,42 +41,42 @@ impl World {
         let left = root.root_location();
         let entered = new_root.root_location();
         let moved = self.tasks.places_at(namespace, left);
-        if !has_room(moved + 1, &self.mounts, &self.filesystems, entered)
-            || self.filesystems.uses(put.node) == u64::MAX
+        if !has_room(moved + 1, &self.mounts, &self.store, entered)
+            || self.store.plain().uses(put.node) == u64::MAX
         {
             return Err(AllocError);
         }
         self.mounts.pivot(&root, &new_root, put)?;
         let mounts = &mut self.mounts;
-        let filesystems = &mut self.filesystems;
+        let store = &mut self.store;
         // It cannot fail: one more use can be counted.
-        let _ = filesystems.pin(put.node);
-        hold_each(mounts, filesystems, entered, moved);
-        release_each(mounts, filesystems, left, moved);
-        filesystems.unpin(point.node);
+        let _ = store.plain_mut().pin(put.node);
+        hold_each(mounts, store, entered, moved);
+        release_each(mounts, store, left, moved);
+        store.plain_mut().unpin(point.node);
         self.tasks.pivot(namespace, &root, &new_root);
         Ok(())
     }
 }
 
 // So many uses more of a location, for which there is room. It does not allocate.
-fn hold_each(mounts: &mut Mounts, filesystems: &mut Filesystems, at: Location, uses: u64)
-    requires { HasRoom uses at mounts.old filesystems.old }
-    ensures held { kept mounts.new filesystems.new ≡ with_uses uses at (kept mounts.old filesystems.old) }
+fn hold_each(mounts: &mut Mounts, store: &mut Store, at: Location, uses: u64)
+    requires { HasRoom uses at mounts.old store.old.plain }
+    ensures held { kept mounts.new store.new ≡ with_uses uses at (kept mounts.old store.old) }
     ensures slot { at.node.slot < 2 ^ 64 }
 {
     for _ in 0..uses {
-        hold_once_more(mounts, filesystems, at, false);
+        hold_once_more(mounts, store, at, false);
     }
 }
 
 // So many uses less of a location that is in use by others too. It does not allocate.
-fn release_each(mounts: &mut Mounts, filesystems: &mut Filesystems, at: Location, uses: u64)
-    ensures left { kept mounts.new filesystems.new ≡ without_uses uses at (kept mounts.old filesystems.old) }
+fn release_each(mounts: &mut Mounts, store: &mut Store, at: Location, uses: u64)
+    ensures left { kept mounts.new store.new ≡ without_uses uses at (kept mounts.old store.old) }
     ensures slot { at.node.slot < 2 ^ 64 }
 {
     for _ in 0..uses {
         mounts.release(at.mount, false);
-        filesystems.unpin(at.node);
+        store.plain_mut().unpin(at.node);
     }
 }

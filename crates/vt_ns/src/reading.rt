@@ -71,7 +71,7 @@ impl World {
         ensures ok { IfOk result (λ names. map (λ name. name.items) names.items
             ≡ names_in (node_at nat_eq (world_of self.now) (location_of directory))) }
     {
-        self.filesystems.list(directory.node)
+        self.store.plain().list(directory.node)
     }
 
     /// At most `size` bytes of an open file from an offset on: pread(2). Past the end there are none.
@@ -81,7 +81,8 @@ impl World {
         ensures ok { IfOk result (λ bytes. bytes.items ≡ take part.size
             (drop part.offset (bytes_in (node_at nat_eq (world_of self.now) (location_of part.file))))) }
     {
-        self.filesystems
+        self.store
+            .plain()
             .read_part(part.file.node, part.offset, part.size)
     }
 }

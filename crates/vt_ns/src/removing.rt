@@ -30,15 +30,11 @@ impl World {
     {
         let directory = removed.directory.node;
         let gone = trees_on(&self.mounts, directory, self.alloc)?;
-        self.filesystems
+        self.store
+            .plain_mut()
             .unlink(removed.parent.node, removed.name.as_slice(), directory);
         if !gone.is_empty() {
-            detach_together(
-                &mut self.mounts,
-                &mut self.groups,
-                &mut self.filesystems,
-                &gone,
-            );
+            detach_together(&mut self.mounts, &mut self.groups, &mut self.store, &gone);
         }
         Ok(())
     }

@@ -33,15 +33,11 @@ impl World {
             replaced,
         } = renamed;
         let gone = trees_replaced(&self.mounts, replaced, self.alloc)?;
-        self.filesystems
+        self.store
+            .plain_mut()
             .rename(from.node, old.as_slice(), to.node, new, object.node)?;
         if !gone.is_empty() {
-            detach_together(
-                &mut self.mounts,
-                &mut self.groups,
-                &mut self.filesystems,
-                &gone,
-            );
+            detach_together(&mut self.mounts, &mut self.groups, &mut self.store, &gone);
         }
         Ok(())
     }

@@ -34,7 +34,7 @@ impl World {
     pub fn filesystems(&self) -> &Filesystems
         ensures { result.now ≡ self.now.filesystems }
     {
-        &self.filesystems
+        self.store.plain()
     }
 
     /// Its namespaces, in the order of their creation.

@@ -49,9 +49,9 @@ impl World {
         ensures room { HasRoom 1 directory self.old.mounts self.old.filesystems → IsOk result }
         ensures err { OnErr result (self.new ≡ self.old) }
     {
-        hold(&mut self.mounts, &mut self.filesystems, directory, false)?;
+        hold(&mut self.mounts, &mut self.store, directory, false)?;
         if let Some(left) = self.tasks.set_directory(name, directory) {
-            leave(&mut self.mounts, &mut self.filesystems, left, false);
+            leave(&mut self.mounts, &mut self.store, left, false);
         }
         Ok(())
     }
@@ -65,9 +65,9 @@ impl World {
         ensures room { HasRoom 1 root self.old.mounts self.old.filesystems → IsOk result }
         ensures err { OnErr result (self.new ≡ self.old) }
     {
-        hold(&mut self.mounts, &mut self.filesystems, root, false)?;
+        hold(&mut self.mounts, &mut self.store, root, false)?;
         if let Some(left) = self.tasks.set_root(name, root) {
-            leave(&mut self.mounts, &mut self.filesystems, left, false);
+            leave(&mut self.mounts, &mut self.store, left, false);
         }
         Ok(())
     }
@@ -80,7 +80,7 @@ impl World {
         if let Some(closed) = self.tasks.close(name, descriptor) {
             leave(
                 &mut self.mounts,
-                &mut self.filesystems,
+                &mut self.store,
                 closed.location,
                 closed.access.writes(),
             );
@@ -102,7 +102,7 @@ impl World {
         ensures ok { OnOk result (Becomes self.old name.now (ToOpen (location_of file) (access_of access)) self.new) }
         ensures err { OnErr result (self.new ≡ self.old) }
     {
-        if !has_room(1, &self.mounts, &self.filesystems, file) {
+        if !has_room(1, &self.mounts, &self.store, file) {
             return Err(AllocError);
         }
         let opened = OpenFile {
@@ -110,12 +110,7 @@ impl World {
             access,
         };
         let number = self.tasks.open(name, opened)?;
-        hold_once_more(
-            &mut self.mounts,
-            &mut self.filesystems,
-            file,
-            access.writes(),
-        );
+        hold_once_more(&mut self.mounts, &mut self.store, file, access.writes());
         Ok(number)
     }
 }

@@ -7,7 +7,7 @@ ghost use Rattle.vt_mount.specs.MountsValue.{mounts_in};
 ghost use Rattle.vt_spec.specs.Machine.Mounts.{is_shared, mount_in};
 ghost use Rattle.vt_ns.specs.Unmounting.{GoTogether, are_ungrouped, stands_on_shared, unmounts_alone};
 ghost use Rattle.vt_detach.specs.Detached.{tree_numbers};
-ghost use Rattle.vt_detach.specs.Uses.{kept};
+ghost use Rattle.vt_detach.specs.Stored.{kept};
 ghost use Rattle.vt_spec.specs.Machine.Permits.Permit.{ToUnmount, ToUnmountLazily};
 ghost use Rattle.vt_detach.specs.Events.{Becomes, Permits};
 ghost use Rattle.vt_laws_permits.specs.Taken.{is_ungrouped};
@@ -16,12 +16,12 @@ use crate::world::World;
 use std::alloc::AllocError;
 use vt_attach::planned::{Planned, attach_planned};
 use vt_detach::detaching::{detach, detach_each, detach_together};
-use vt_fs::Filesystems;
 use vt_group::Groups;
 use vt_location::{MountId, Propagation};
 use vt_mount::Mounts;
 use vt_propagate::Detachment;
 use vt_request::TaskName;
+use vt_store::Store;
 
 impl World {
     /// Detaches a mount on which no other stands, and at each receiver of its parent the mount at the same place,
@@ -55,7 +55,7 @@ impl World {
         requires alone { unmounts_alone (mounts_in self.old.mounts) (mount_number mount) ≡ true }
         ensures { Becomes self.old name.now (ToUnmount (mount_number mount)) self.new }
     {
-        detach(&mut self.mounts, &mut self.filesystems, mount);
+        detach(&mut self.mounts, &mut self.store, mount);
     }
 
     // Detaches a mount, and those at the receivers of its parent.
@@ -68,7 +68,7 @@ impl World {
         newest_first(&mut plan);
         let mounts = &mut self.mounts;
         let groups = &mut self.groups;
-        take_away(mounts, groups, &mut self.filesystems, &plan)?;
+        take_away(mounts, groups, &mut self.store, &plan)?;
         Ok(())
     }
 
@@ -107,7 +107,7 @@ impl World {
             && not (stands_on_shared (mounts_in self.old.mounts) (mount_number mount))) ≡ true }
         ensures { Becomes self.old name.now (ToUnmountLazily (mount_number mount)) self.new }
     {
-        detach_each(&mut self.mounts, &mut self.filesystems, tree);
+        detach_each(&mut self.mounts, &mut self.store, tree);
     }
 
     // Detaches the mounts of a tree, and those that propagation detaches with them.
@@ -124,7 +124,7 @@ impl World {
         newest_first(&mut plan);
         let mounts = &mut self.mounts;
         let groups = &mut self.groups;
-        take_away(mounts, groups, &mut self.filesystems, &plan)?;
+        take_away(mounts, groups, &mut self.store, &plan)?;
         Ok(())
     }
 }
@@ -133,14 +133,14 @@ impl World {
 fn take_away(
     mounts: &mut Mounts,
     groups: &mut Groups,
-    filesystems: &mut Filesystems,
+    store: &mut Store,
     plan: &Detachment,
 ) -> Result<(), AllocError>
     ensures ok { OnOk result (GoTogether (map mount_number plan.now.gone.items) plan.now.points.items
-        (kept mounts.old filesystems.old) groups.old (kept mounts.new filesystems.new) groups.new) }
+        (kept mounts.old store.old) groups.old (kept mounts.new store.new) groups.new) }
     ensures err_mounts { OnErr result (mounts.new ≡ mounts.old) }
     ensures err_groups { OnErr result (groups.new ≡ groups.old) }
-    ensures err_filesystems { OnErr result (filesystems.new ≡ filesystems.old) }
+    ensures err_store { OnErr result (store.new ≡ store.old) }
 {
     let moved = Planned {
         copies: &[],
@@ -148,8 +148,8 @@ fn take_away(
         points: &plan.points,
     };
     mounts.are_ascending();
-    attach_planned(mounts, groups, filesystems, &moved)?;
-    detach_together(mounts, groups, filesystems, &plan.gone);
+    attach_planned(mounts, groups, store, &moved)?;
+    detach_together(mounts, groups, store, &plan.gone);
     Ok(())
 }
 

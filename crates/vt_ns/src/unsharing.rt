@@ -33,10 +33,10 @@ impl World {
         }
         let mounts = &mut self.mounts;
         let groups = &mut self.groups;
-        let filesystems = &mut self.filesystems;
+        let store = &mut self.store;
         let new_root = moved(mounts, left, root, next);
         let new_directory = moved(mounts, left, directory, next);
-        attach_copies(self.alloc, mounts, groups, filesystems, left, next)?;
+        attach_copies(self.alloc, mounts, groups, store, left, next)?;
         move_use(mounts, root.mount, new_root.mount);
         move_use(mounts, directory.mount, new_directory.mount);
         let new = NamespaceId::new(next);
@@ -44,7 +44,7 @@ impl World {
         let _ = self.namespaces.insert(new, Namespace { tasks: 1 });
         self.tasks
             .move_root_and_directory(name, new, new_root, new_directory);
-        leave_namespace(mounts, groups, filesystems, &mut self.namespaces, left);
+        leave_namespace(mounts, groups, store, &mut self.namespaces, left);
         self.next += taken;
         Ok(())
     }

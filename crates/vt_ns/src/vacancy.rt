@@ -22,7 +22,7 @@ impl World {
         self.mounts.are_counted();
         self.mounts.groups_are_counted();
         let filesystem = self.shown(directory.mount);
-        if let Some(next) = self.filesystems.next_number(filesystem) {
+        if let Some(next) = self.store.plain().next_number(filesystem) {
             let _slot = next.slot;
         }
     }

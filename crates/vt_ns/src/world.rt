@@ -3,10 +3,10 @@
 use indexmap::IndexMap;
 use std::alloc::Global;
 use std::marker::Model;
-use vt_fs::Filesystems;
 use vt_group::Groups;
 use vt_location::NamespaceId;
 use vt_mount::Mounts;
+use vt_store::Store;
 use vt_tasks::Tasks;
 use vt_world::namespaces::Namespace;
 
@@ -15,7 +15,7 @@ use vt_world::namespaces::Namespace;
 pub struct World {
     pub(crate) mounts: Mounts,
     pub(crate) groups: Groups,
-    pub(crate) filesystems: Filesystems,
+    pub(crate) store: Store,
     pub(crate) namespaces: IndexMap<NamespaceId, Namespace>,
     pub(crate) tasks: Tasks,
     // What is counted next.
@@ -24,17 +24,17 @@ pub struct World {
 }
 
 impl Model for World {
-    ghost use Rattle.std.specs.Prelude.{[]};
     ghost use Rattle.vt_world.specs.WorldValue.{WorldValue, entries_of};
     ghost use Rattle.vt_world.specs.Held.{IsHeld};
+    ghost use Rattle.vt_world.specs.StoredWorld.{overlays_of_store};
 
     ghost Value = { WorldValue };
 
     ghost view = { λ w. record {
       mounts = w.mounts;
       groups = w.groups;
-      filesystems = w.filesystems;
-      overlays = [];
+      filesystems = w.store.plain;
+      overlays = overlays_of_store w.store;
       namespaces = entries_of w.namespaces.entries;
       tasks = w.tasks;
       next = w.next;
@@ -43,8 +43,8 @@ impl Model for World {
     ghost invariant = { λ w. IsHeld (record {
       mounts = w.mounts;
       groups = w.groups;
-      filesystems = w.filesystems;
-      overlays = [];
+      filesystems = w.store.plain;
+      overlays = overlays_of_store w.store;
       namespaces = entries_of w.namespaces.entries;
       tasks = w.tasks;
       next = w.next;

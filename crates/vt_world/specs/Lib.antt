@@ -1,2 +1,4 @@
 pub mod WorldValue
 pub mod Held
+pub mod StoredWorld
+pub mod Lent

@@ -53,7 +53,7 @@ use Rattle.vt_laws_worlds.proofs.settling.SettledTasks.{settling_leaves_a_world}
 use Rattle.vt_detach.specs.Events.{Permits, supply_of}
 use Rattle.vt_detach.specs.Detached.{LeaveInTurn, LeaveTogether}
 use Rattle.vt_world.specs.Held.{CountsWhatIsInIt, IsHeld}
-use Rattle.vt_detach.specs.Uses.{kept}
+use Rattle.vt_detach.specs.Uses.{Merged, kept_of, kept_with}
 use Rattle.vt_world.specs.WorldValue.{WorldValue, world_of}
 use Rattle.vt_detach.proofs.ChangedFiles.{ChangesFiles, change_is_held, change_is_swept, with_filesystems}
 use Rattle.vt_detach.proofs.Bridging.{swept_is_same}
@@ -389,29 +389,32 @@ module _ (value : WorldValue) (held : IsHeld value) (location : Location ℕ) (c
             settled_typed_has after groups has_after
             (detached_is_private (world_of value_changed) gone changed_first_is_held.in_world.mounts.nowhere)
 
-        typed_then_detached : (mounts : List MountEntry) (others : Filesystems)
-            → LeaveInTurn gone (kept value.mounts filesystems) (kept mounts others)
+        typed_then_detached : (mounts : List MountEntry) (others : Filesystems) (overlays : List Merged)
+            → LeaveInTurn gone (kept_of (with_filesystems value filesystems))
+            (kept_with mounts others overlays)
             → IsDone value name permit (typed_value groups (remade value mounts others value.tasks))
-        typed_then_detached mounts others turn =
+        typed_then_detached mounts others overlays turn =
             let untyped = remade value mounts others value.tasks in
             let new = typed_value groups untyped in
             let held_first = changed_first_is_held in
-            let detaching = all_detached value_changed [] (in_use_of after) gone (kept value.mounts filesystems)
-            (kept mounts others)
-            (detaching_begins value_changed [] [] (world_of value_changed) (kept value.mounts filesystems)
+            let detaching = all_detached value_changed [] (in_use_of after) gone
+            (kept_of (with_filesystems value filesystems))
+            (kept_with mounts others overlays)
+            (detaching_begins value_changed [] [] (world_of value_changed)
+            (kept_of (with_filesystems value filesystems))
             (held_is_kept value_changed held_first) gone closed) turn in
             let lost = detaching.lost in
             let kept_last = subst (λ one. IsKeptBut value_changed [] [] [] lost one
-            (kept mounts others)) detaching.ends detaching.is in
+            (kept_with mounts others overlays)) detaching.ends detaching.is in
             let swept = swept_typed groups untyped value_changed after [] lost
-            (detached_swept value_changed after [] lost untyped kept_last refl refl
+            (detached_swept value_changed after [] lost untyped overlays kept_last refl refl
             (same_files_keep value_changed (world_of value_changed) after refl
             (keeps_itself value_changed held_first.overlays)) refl refl) in
             let same = sameness_is_an_equivalence.onward (settled nat_eq (regrouped nat_eq last)) (settled nat_eq typed)
             (world_of new) same_typed
             (swept_is_same value_changed held_first typed [] lost new swept has_typed typed_is_world) in
             let counts = counts_typed groups untyped
-            (detached_counted value_changed after [] lost untyped kept_last refl refl
+            (detached_counted value_changed after [] lost untyped overlays kept_last refl refl
             (all_from_among (CountsWhatIsInIt (world_of untyped)) value.namespaces (λ entry m.
             let was = among_from_all (CountsWhatIsInIt
             (world_of value)) value.namespaces held.namespaces entry m in record { tasks = was.tasks }))) in
@@ -428,9 +431,11 @@ module _ (value : WorldValue) (held : IsHeld value) (location : Location ℕ) (c
 
       -- a change and then a detachment do what the permit does
       pub changed_then_detached : (mounts : List MountEntry) (groups : Grouping) (others : Filesystems)
-          → LeaveTogether gone (kept value.mounts filesystems) value.groups (kept mounts others) groups
+          (overlays : List Merged)
+          → LeaveTogether gone (kept_of (with_filesystems value filesystems)) value.groups
+          (kept_with mounts others overlays) groups
           → IsDone value name permit (record (remade value mounts others value.tasks) { groups = groups })
-      changed_then_detached mounts groups others together =
+      changed_then_detached mounts groups others overlays together =
           subst (λ all. IsDone value name permit (record (remade value all others value.tasks) { groups = groups }))
           (sym (together.types (has_ordered (world_of value) value.groups held.groups) (own_types value held)))
-          (typed_then_detached groups together.groups together.entries others together.turn)
+          (typed_then_detached groups together.groups together.entries others overlays together.turn)

@@ -28,7 +28,7 @@ use Rattle.vt_laws_worlds.specs.Worlds.Permits.{NamesWhatIsThere}
 use Rattle.vt_detach.specs.Detached.{LeaveTogether, tree_numbers}
 use Rattle.vt_detach.specs.Events.{Permits, supply_of}
 use Rattle.vt_world.specs.Held.{IsHeld}
-use Rattle.vt_detach.specs.Uses.{kept}
+use Rattle.vt_detach.specs.Uses.{Merged, kept_of, kept_with}
 use Rattle.vt_world.specs.WorldValue.{WorldValue, world_of}
 use Rattle.vt_detach.proofs.ChangedFiles.{ChangesFiles, IsFilesEvent, with_filesystems}
 use Rattle.vt_ns.proofs.world.ChangedWithMounts.{changed_then_detached, nothing_goes}
@@ -109,13 +109,14 @@ module _ (value : WorldValue) (held : IsHeld value) (name : TaskName) (parent : 
       (none_on world tops none) filesystems changes
 
   -- a directory on which mounts stand is removed with them
-  pub directory_is_removed : (filesystems others : Filesystems) (mounts : List MountEntry) (groups : Grouping)
-      → gone ≢ []
+  pub directory_is_removed : (filesystems others : Filesystems) (overlays : List Merged)
+      (mounts : List MountEntry) (groups : Grouping) → gone ≢ []
       → ChangesInodes parent.node.filesystem.count
       (λ inodes. changed nat_eq inodes change) value.filesystems filesystems
-      → LeaveTogether gone (kept value.mounts filesystems) value.groups (kept mounts others) groups
+      → LeaveTogether gone (kept_of (with_filesystems value filesystems)) value.groups
+      (kept_with mounts others overlays) groups
       → IsDone value name permit (record (remade value mounts others value.tasks) { groups = groups })
-  directory_is_removed filesystems others mounts groups some changes together =
+  directory_is_removed filesystems others overlays mounts groups some changes together =
       let made : ChangesFiles value (location_of parent) change filesystems = record {
         entry = parent_seen.entry;
         among = parent_seen.among;
@@ -141,4 +142,4 @@ module _ (value : WorldValue) (held : IsHeld value) (name : TaskName) (parent : 
       (nothing_goes value held (location_of parent) change filesystems made name permit permits gone reached named is_named applied
       (number_of directory.node) (ap option_to_list sees.1.named) tt on.mount on.among on.place on.placed on.at_inode
       (on.shows ∙ ap (λ n. (mount_numbered nat_eq world n).filesystem) sees.0))
-      closed mounts groups others together
+      closed mounts groups others overlays together

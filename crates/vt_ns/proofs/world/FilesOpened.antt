@@ -29,7 +29,7 @@ use Rattle.vt_tasks.specs.TasksValue.{MayOpenMore, Tasks, called, changed_by, ch
 use Rattle.vt_laws_worlds.proofs.RaisedInUse.{worlds_are_in_use}
 use Rattle.vt_detach.specs.Events.{Permits, supply_of}
 use Rattle.vt_world.specs.Held.{IsHeld, writes_of_task, writes_on}
-use Rattle.vt_detach.specs.Uses.{kept, with_location, with_use}
+use Rattle.vt_detach.specs.Uses.{Merged, kept_of, kept_with, with_location, with_use}
 use Rattle.vt_world.specs.WorldValue.{WorldValue, world_of}
 use Rattle.vt_laws_permits.proofs.sees.SeesTasks.{given_permits_are_seen_to}
 use Rattle.vt_detach.proofs.FileEvents.{permit_fits}
@@ -117,16 +117,16 @@ module _ (value : WorldValue) (whole : IsHeld value) (name : TaskName) (task : T
 
 -- a file is opened that needs no copy
 pub file_is_opened : (value : WorldValue) (name : TaskName) (opened : OpenFile) (mounts : List MountEntry)
-    (filesystems : Filesystems) (tasks : Tasks)
+    (filesystems : Filesystems) (overlays : List Merged) (tasks : Tasks)
     → IsHeld value → Permits value name (ToOpen (location_of opened.location) (access_of opened.access))
     → is_copied_up nat_eq (world_of value) (location_of opened.location) (access_of opened.access) ≡ false
     → opened.location.node.slot < 18446744073709551616
     → tasks ≡ changed_called name (with_open opened) value.tasks
-    → kept mounts filesystems ≡ with_location opened.location (opens_for_writing (access_of opened.access))
-    (kept value.mounts value.filesystems)
+    → kept_with mounts filesystems overlays ≡ with_location opened.location (opens_for_writing (access_of opened.access))
+    (kept_of value)
     → IsDone value name (ToOpen (location_of opened.location) (access_of opened.access))
     (remade value mounts filesystems tasks)
-file_is_opened value name opened mounts filesystems tasks whole permits uncopied few is is_kept =
+file_is_opened value name opened mounts filesystems overlays tasks whole permits uncopied few is is_kept =
     let task = permits.task in
     let file = location_of opened.location in
     let access = access_of opened.access in
@@ -142,10 +142,10 @@ file_is_opened value name opened mounts filesystems tasks whole permits uncopied
     subst (λ all. IsDone value name (ToOpen file access) (remade value mounts filesystems all))
     (sym (is ∙ ap (changed_by (with_open opened) value.tasks) permits.called))
     (remains_done value whole (replaced opens value.tasks) (used_by descriptor ∷ []) []
-    (opened_moves value whole name task permits.called descriptor well) mounts filesystems
+    (opened_moves value whole name task permits.called descriptor well) mounts filesystems overlays
     (is_kept ∙ (λ i. with_use (counted opened.location.mount.count)
     (sym (seen_where_located value whole opened.location few well) i, number_of opened.location.node)
-    (opens_for_writing access) (kept value.mounts value.filesystems)))
+    (opens_for_writing access) (kept_of value)))
     (opened_stays value whole name task permits.called descriptor well) name (ToOpen file access) task
     (record {
       called = permits.called;

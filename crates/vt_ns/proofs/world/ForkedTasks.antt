@@ -34,7 +34,7 @@ use Rattle.vt_laws_letting_go.proofs.sweeps.UpperUses.{times_append}
 use Rattle.vt_detach.specs.Events.{Permits, supply_of}
 use Rattle.vt_detach.specs.Forking.{more_tasks, with_task_more}
 use Rattle.vt_world.specs.Held.{CountsWhatIsInIt, IsHeld, writes_of, writes_of_task}
-use Rattle.vt_detach.specs.Uses.{Kept, kept, with_location, with_use}
+use Rattle.vt_detach.specs.Uses.{Kept, Merged, kept_of, kept_with, with_location, with_use}
 use Rattle.vt_world.specs.WorldValue.{NamespaceEntry, WorldValue, namespace_of, world_of}
 use Rattle.vt_detach.proofs.Overlaid.{world_is_plain}
 use Rattle.vt_detach.proofs.LocationsSeen.{seen_where_located}
@@ -161,14 +161,14 @@ module _ (value : WorldValue) (whole : IsHeld value) (name : TaskName) (task : T
       → (count : ℕ) → counted count ≡ task.namespace
       → (root directory : Location) → location_of root ≡ task.root → location_of directory ≡ task.directory
       → root.node.slot < 18446744073709551616 → directory.node.slot < 18446744073709551616
-      → (mounts : List MountEntry) (filesystems : Filesystems)
-      → kept mounts filesystems ≡ with_location directory false
-      (with_location root false (kept value.mounts value.filesystems))
+      → (mounts : List MountEntry) (filesystems : Filesystems) (overlays : List Merged)
+      → kept_with mounts filesystems overlays ≡ with_location directory false
+      (with_location root false (kept_of value))
       → IsDone value name (ToFork credentials)
       (remade_in value mounts filesystems (with_task_more count value.namespaces) tasks_forked)
-  forked_done permits is_task count in_namespace root directory root_is directory_is root_few directory_few mounts filesystems is_kept =
+  forked_done permits is_task count in_namespace root directory root_is directory_is root_few directory_few mounts filesystems overlays is_kept =
       remains_done_in value whole tasks_forked (standing task.root ∷ standing task.directory ∷ []) [] forked_moves
-      mounts filesystems (with_task_more count value.namespaces)
+      mounts filesystems overlays (with_task_more count value.namespaces)
       (is_kept ∙ seen)
       (task_is_counted value whole count tasks_forked
       (λ namespace. forked_inside namespace
@@ -197,17 +197,17 @@ module _ (value : WorldValue) (whole : IsHeld value) (name : TaskName) (task : T
           ∙ ap (λ (one : meant.Location ℕ). with_use one.mount
           ((mount_at nat_eq (world_of value) one).filesystem, one.node) false k) is
 
-      seen : with_location directory false (with_location root false (kept value.mounts value.filesystems))
+      seen : with_location directory false (with_location root false (kept_of value))
           ≡ with_use task.directory.mount
           ((mount_at nat_eq (world_of value) task.directory).filesystem, task.directory.node) false
           (with_use task.root.mount ((mount_at nat_eq (world_of value) task.root).filesystem, task.root.node) false
-          (kept value.mounts value.filesystems))
+          (kept_of value))
       seen =
           use_at task.directory directory directory_is directory_few directory_there
-          (with_location root false (kept value.mounts value.filesystems))
+          (with_location root false (kept_of value))
           ∙ ap (with_use task.directory.mount
           ((mount_at nat_eq (world_of value) task.directory).filesystem, task.directory.node) false)
-          (use_at task.root root root_is root_few root_there (kept value.mounts value.filesystems))
+          (use_at task.root root root_is root_few root_there (kept_of value))
 
 -- the task may fork
 pub may_fork : (value : WorldValue) → IsHeld value → (name : TaskName) (credentials : Credentials)
@@ -222,12 +222,13 @@ may_fork value whole name credentials permits =
 pub task_is_forked : (value : WorldValue) → IsHeld value → (name : TaskName) (credentials : Credentials)
     → Permits value name (ToFork credentials) → (own : Own) → Some (task_of own) ≡ called name value.tasks
     → own.root.node.slot < 18446744073709551616 → own.directory.node.slot < 18446744073709551616
-    → (mounts : List MountEntry) (filesystems : Filesystems) (namespaces : List NamespaceEntry) (tasks : Tasks)
+    → (mounts : List MountEntry) (filesystems : Filesystems) (overlays : List Merged)
+    (namespaces : List NamespaceEntry) (tasks : Tasks)
     → namespaces ≡ with_task_more own.namespace.count value.namespaces → tasks ≡ forked name credentials value.tasks
-    → kept mounts filesystems ≡ with_location own.directory false
-    (with_location own.root false (kept value.mounts value.filesystems))
+    → kept_with mounts filesystems overlays ≡ with_location own.directory false
+    (with_location own.root false (kept_of value))
     → IsDone value name (ToFork credentials) (remade_in value mounts filesystems namespaces tasks)
-task_is_forked value whole name credentials permits own is root_few directory_few mounts filesystems namespaces tasks counted_so forked_so is_kept =
+task_is_forked value whole name credentials permits own is root_few directory_few mounts filesystems overlays namespaces tasks counted_so forked_so is_kept =
     let same : task_of own ≡ permits.task = same_Some (task_of own) permits.task (is ∙ permits.called) in
     subst (λ all. IsDone value name (ToFork credentials) (remade_in value mounts filesystems all tasks))
     (sym counted_so)
@@ -237,4 +238,4 @@ task_is_forked value whole name credentials permits own is root_few directory_fe
     (forked_done value whole name permits.task permits.called credentials permits refl own.namespace.count
     (ap (λ one. one.namespace) same)
     own.root own.directory (ap (λ one. one.root) same)
-    (ap (λ one. one.directory) same) root_few directory_few mounts filesystems is_kept))
+    (ap (λ one. one.directory) same) root_few directory_few mounts filesystems overlays is_kept))

@@ -60,7 +60,7 @@ use Rattle.vt_laws_worlds.proofs.worlds.PermitsShow.{permits_keep_mounts_showing
 use Rattle.vt_laws_worlds.proofs.settling.SettledTasks.{settling_leaves_a_world}
 use Rattle.vt_detach.specs.Events.{Permits, next_inode, supply_of}
 use Rattle.vt_world.specs.Held.{IsHeld}
-use Rattle.vt_detach.specs.Uses.{kept, with_location, with_use}
+use Rattle.vt_detach.specs.Uses.{Merged, kept_of, kept_with, with_location, with_use}
 use Rattle.vt_world.specs.WorldValue.{WorldValue, world_of}
 use Rattle.vt_detach.proofs.Bridging.{IsSwept, swept_is_same}
 use Rattle.vt_detach.proofs.Grouped.{left_has}
@@ -399,23 +399,23 @@ module _ (value : WorldValue) (held : IsHeld value) (name : TaskName) (directory
         held.overlays.read_only permits.given).0)
 
     -- a use of its mount and of its inode
-    module _ (mounts : List MountEntry) (filesystems : Filesystems)
-        (is_kept : kept mounts filesystems
-        ≡ with_location file (opens_for_writing access) (kept value.mounts made_in)) where
+    module _ (mounts : List MountEntry) (filesystems : Filesystems) (overlays : List Merged)
+        (is_kept : kept_with mounts filesystems overlays
+        ≡ with_location file (opens_for_writing access) (kept_of (with_filesystems value made_in))) where
       abbrev new : WorldValue
       new = remade mid mounts filesystems tasks
 
-      moved : kept mounts filesystems
+      moved : kept_with mounts filesystems overlays
           ≡ with_use (counted directory.mount.count) (inode_at (world_of mid) (location_of file))
           (opens_for_writing access)
-          (kept value.mounts made_in)
+          (kept_of (with_filesystems value made_in))
       moved =
           is_kept ∙ (λ i. with_use (counted directory.mount.count)
           (sym (seen_where_located mid mid_held file small_made file_located) i, number_of made)
-          (opens_for_writing access) (kept value.mounts made_in))
+          (opens_for_writing access) (kept_of (with_filesystems value made_in)))
 
       swept : IsSwept mid next (inode_at (world_of mid) (location_of file) ∷ []) [] new
-      swept = remains_swept mid mid_held tasks (used_by descriptor ∷ []) [] moves mounts filesystems moved stay
+      swept = remains_swept mid mid_held tasks (used_by descriptor ∷ []) [] moves mounts filesystems overlays moved stay
 
       -- and has the groups that code has
       settled_has_groups : Has (settled nat_eq next) new.groups
@@ -433,7 +433,7 @@ module _ (value : WorldValue) (held : IsHeld value) (name : TaskName) (directory
       new_is_opened = record {
         held = swept_held mid mid_held next settled_is_world (inode_at (world_of mid) (location_of file) ∷ []) [] new
             swept settled_has_groups
-            (remains_counted mid mid_held tasks (used_by descriptor ∷ []) [] moves mounts filesystems moved stay
+            (remains_counted mid mid_held tasks (used_by descriptor ∷ []) [] moves mounts filesystems overlays moved stay
             (opened_tasks mid mid_held name permits.task permits.called descriptor file_located))
             (any_same_worlds_keep_to_numbers (is_counted_before value.next)
             (settled nat_eq (apply nat_eq (λ k. number_of made) (world_of value) permits.task permit).world)

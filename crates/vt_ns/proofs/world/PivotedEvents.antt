@@ -26,7 +26,7 @@ use Rattle.vt_world.specs.Held.{IsHeld}
 use Rattle.vt_world.specs.WorldValue.{WorldValue, world_of}
 use Rattle.vt_detach.specs.Events.{Permits}
 use Rattle.vt_detach.specs.Forking.{HasRoom}
-use Rattle.vt_detach.specs.Uses.{inode_of, kept, pinned_in, unpinned_in}
+use Rattle.vt_detach.specs.Uses.{Merged, inode_of, kept_with, merged_seen, pinned_in, unpinned_in}
 use Rattle.vt_detach.proofs.Remaining.{remade}
 use Rattle.vt_detach.proofs.Staying.{IsDone}
 use Rattle.vt_ns.specs.Pivoting.{with_uses, without_uses}
@@ -114,17 +114,20 @@ module _ (value : WorldValue) (whole : IsHeld value) (name : TaskName) (number :
             (ap (λ all. uses_of all n) pivoted_so ∙ same.0) (ap (λ all. writers_of all n) pivoted_so ∙ same.1) pinned_so
 
         pub root_is_pivoted : (between held_mounts mounts : List MountEntry)
-            (pinned_files held_files left_files filesystems : Filesystems) (tasks : Tasks)
+            (pinned_files held_files left_files filesystems : Filesystems)
+            (held_overlays overlays : List Merged) (tasks : Tasks)
             → put.node.slot < 18446744073709551616 → entered.node.slot < 18446744073709551616
             → left.node.slot < 18446744073709551616 → point.node.slot < 18446744073709551616
             → between ≡ map (pivoted_entry (mount_of root) (mount_of new) (location_of put)) value.mounts
             → shown pinned_files ≡ pinned_in (inode_of put.node) (shown value.filesystems)
-            → kept held_mounts held_files ≡ with_uses moved entered (kept between pinned_files)
-            → kept mounts left_files ≡ without_uses moved left (kept held_mounts held_files)
+            → kept_with held_mounts held_files held_overlays ≡ with_uses moved entered
+            (kept_with between pinned_files (map merged_seen value.overlays))
+            → kept_with mounts left_files overlays ≡ without_uses moved left
+            (kept_with held_mounts held_files held_overlays)
             → shown filesystems ≡ unpinned_in (inode_of point.node) (shown left_files)
             → tasks ≡ map (pivoted_task nat_eq (counted held.namespace.count) (mount_of root) (mount_of new)) value.tasks
             → IsDone value name (ToPivot number (location_of put)) (remade value mounts filesystems tasks)
-        root_is_pivoted between held_mounts mounts pinned_files held_files left_files filesystems tasks put_small entered_small left_small point_small pivoted_so pinned_so held_so left_so unpinned_so tasks_so =
+        root_is_pivoted between held_mounts mounts pinned_files held_files left_files filesystems held_overlays overlays tasks put_small entered_small left_small point_small pivoted_so pinned_so held_so left_so unpinned_so tasks_so =
             let inside : counted held.namespace.count ≡ permits.task.namespace =
             ap (λ (one : Task ℕ). one.namespace) caller_is in
             let as_many = moved_is
@@ -133,10 +136,11 @@ module _ (value : WorldValue) (whole : IsHeld value) (name : TaskName) (number :
             (sym (tasks_so ∙ (λ i. map (pivoted_task nat_eq (inside i) (root_so i) (new_so i)) value.tasks)))
             (root_is_changed value whole name number put permits entered left point
             (entered_is ∙ ap root_of new_so) (left_is ∙ ap root_of root_so) (sym point_is)
-            put_small entered_small left_small point_small between mounts pinned_files left_files filesystems
-            (kept held_mounts held_files)
+            put_small entered_small left_small point_small between mounts pinned_files left_files filesystems overlays
+            (kept_with held_mounts held_files held_overlays)
             (pivoted_so ∙ (λ i. map (pivoted_entry (root_so i) (new_so i) (location_of put)) value.mounts))
             pinned_so
-            (held_so ∙ ap (λ n. with_uses n entered (kept between pinned_files)) as_many)
-            (left_so ∙ ap (λ n. without_uses n left (kept held_mounts held_files)) as_many)
+            (held_so ∙ ap (λ n. with_uses n entered
+            (kept_with between pinned_files (map merged_seen value.overlays))) as_many)
+            (left_so ∙ ap (λ n. without_uses n left (kept_with held_mounts held_files held_overlays)) as_many)
             unpinned_so)

@@ -37,7 +37,7 @@ use Rattle.vt_mount.specs.MountsValue.{MountEntry, mounts_in}
 use Rattle.vt_world.specs.Held.{CountsItsMounts, CountsItsUses, CountsWhatIsInIt, IsHeld, writes_of}
 use Rattle.vt_world.specs.WorldValue.{WorldValue, world_of}
 use Rattle.vt_detach.specs.Events.{Permits}
-use Rattle.vt_detach.specs.Uses.{Kept, inode_of, kept, pinned_in, released_use, unpinned_in, with_use}
+use Rattle.vt_detach.specs.Uses.{Kept, Merged, inode_of, kept_with, merged_seen, pinned_in, released_use, unpinned_in, with_use}
 use Rattle.vt_detach.proofs.Bridging.{IsSwept}
 use Rattle.vt_detach.proofs.FileEvents.{permit_fits}
 use Rattle.vt_detach.proofs.Finishing.{CountsBeside, IsApplied, finished}
@@ -249,25 +249,28 @@ module _ (value : WorldValue) (whole : IsHeld value) (name : TaskName) (number :
         ∙ sym (folded_again (lose before) k n (standing (root_of root)))
 
     module _ (between mounts : List MountEntry) (pinned_files held_files : Filesystems) (filesystems : Filesystems)
-        (held : Kept) (pivoted_so : between ≡ map (pivoted_entry root new place) value.mounts)
+        (overlays : List Merged) (held : Kept) (pivoted_so : between ≡ map (pivoted_entry root new place) value.mounts)
         (pinned_so : shown pinned_files ≡ pinned_in (inode_of put.node) (shown value.filesystems))
-        (held_so : held ≡ with_uses moving entered (kept between pinned_files))
-        (left_so : kept mounts held_files ≡ without_uses moving left held)
+        (held_so : held ≡ with_uses moving entered (kept_with between pinned_files (map merged_seen value.overlays)))
+        (left_so : kept_with mounts held_files overlays ≡ without_uses moving left held)
         (unpinned_so : shown filesystems ≡ unpinned_in (inode_of point.node) (shown held_files)) where
       abbrev new_value : WorldValue
       new_value = remade value mounts filesystems (map (pivoted_task nat_eq permits.task.namespace root new) value.tasks)
 
-      all_so : kept mounts held_files ≡ moved_kept before more less (kept between pinned_files)
+      all_so : kept_with mounts held_files overlays ≡ moved_kept before more less
+          (kept_with between pinned_files (map merged_seen value.overlays))
       all_so =
           left_so ∙ without_uses_so moving held
-          ∙ ap (λ k. folded (lose before) k less) (held_so ∙ with_uses_so moving (kept between pinned_files))
+          ∙ ap (λ k. folded (lose before) k less) (held_so ∙ with_uses_so moving
+          (kept_with between pinned_files (map merged_seen value.overlays)))
 
       abbrev final : MountEntry → MountEntry
       final entry = folded_entry more less (pivoted_entry root new place entry)
 
       entries_are : mounts ≡ map final value.mounts
       entries_are =
-          ap (λ (k : Kept). k.mounts) all_so ∙ mounts_moved before more less (kept between pinned_files)
+          ap (λ (k : Kept). k.mounts) all_so ∙ mounts_moved before more less
+          (kept_with between pinned_files (map merged_seen value.overlays))
           ∙ ap (map (folded_entry more less)) pivoted_so
           ∙ map_twice (folded_entry more less) (pivoted_entry root new place) value.mounts
 
@@ -275,7 +278,7 @@ module _ (value : WorldValue) (whole : IsHeld value) (name : TaskName) (number :
       mounts_are =
           map_twice change (λ (entry : MountEntry). entry.mount) value.mounts
           ∙ sym (ap (λ (k : Kept). mounts_in k.mounts) all_so
-          ∙ same_moved_mounts before more less (kept between pinned_files)
+          ∙ same_moved_mounts before more less (kept_with between pinned_files (map merged_seen value.overlays))
           ∙ ap mounts_in pivoted_so
           ∙ map_twice (λ (entry : MountEntry). entry.mount) (pivoted_entry root new place) value.mounts)
 
@@ -284,7 +287,8 @@ module _ (value : WorldValue) (whole : IsHeld value) (name : TaskName) (number :
           unpinned_so
           ∙ (λ i. unpinned_in (point_inode i)
           ((ap (λ (k : Kept). k.filesystems) all_so
-          ∙ filesystems_moved before more less (kept between pinned_files)
+          ∙ filesystems_moved before more less
+          (kept_with between pinned_files (map merged_seen value.overlays))
           ∙ ap (map (exchanged_shown (inodes_of_uses before more) (inodes_of_uses before less)))
           (pinned_so ∙ ap (λ one. pinned_in one (shown value.filesystems)) put_inode)) i))
           ∙ map_twice _ _ (pinned_in (inode_at before place) (shown value.filesystems))

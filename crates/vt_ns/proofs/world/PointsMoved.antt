@@ -1,5 +1,5 @@
 -- Mounts that get other mount points: what is kept of the world then.
-use Rattle.std.proofs.Common.{◌≡◌, refl, sym, ap, subst, ◌∙◌, ⊎_elim, inl, inr, ℕ, ◌+◌, nat_eq, eqb-true, Bool, true, false, true≢false, cond, not, ◌&&◌, ◌||◌, List, [], ◌∷◌, ◌++◌, map, find, Option, Some, None, option_map, is_some, unwrap_or}
+use Rattle.std.proofs.Common.{◌≡◌, refl, sym, ap, subst, ◌∙◌, ⊎_elim, inl, inr, ℕ, ◌+◌, nat_eq, eqb-true, Bool, true, false, true≢false, cond, not, ◌&&◌, ◌||◌, List, [], ◌∷◌, ◌++◌, filter, map, find, Option, Some, None, option_map, is_some, unwrap_or}
 use Rattle.std.specs.Map.{lookup}
 use Rattle.std.specs.Option.{option_and_then}
 use Rattle.std.specs.Prelude.{option_to_list}
@@ -9,8 +9,8 @@ use Rattle.std.proofs.lemmas.List.{append-nil}
 use Rattle.std.proofs.lemmas.Option.{same_Some}
 use Rattle.vt_spec.specs.Lists.{is_among, or_else}
 use Rattle.vt_spec.specs.Machine.Mounts.{Location, Mount, mount_in, no_mount}
-use Rattle.vt_spec.specs.Machine.Settled.{filesystem_lives, mount_lives}
-use Rattle.vt_spec.specs.Machine.World.{Filesystem, World, all_locations, filesystem_numbered, mount_at, with_mounts}
+use Rattle.vt_spec.specs.Machine.Settled.{filesystem_lives, is_mounted, mount_lives}
+use Rattle.vt_spec.specs.Machine.World.{Filesystem, World, all_locations, filesystem_numbered, is_overlay, mount_at, with_mounts}
 use Rattle.vt_spec.specs.Machine.Invariants.{is_located_well, is_nowhere_or_attached, is_private, is_there}
 use Rattle.vt_spec.specs.Inodes as Trees
 use Rattle.vt_spec.specs.Inodes.{node_in}
@@ -24,7 +24,7 @@ use Rattle.vt_laws_letting_go.specs.InUse.{FilesystemsInUse}
 use Rattle.vt_laws_letting_go.specs.Leaving.{MountsStand, stands_on_attached}
 use Rattle.vt_laws_letting_go.specs.Mounting.{inode_at}
 use Rattle.vt_laws_letting_go.specs.OneByOne.{Inode, MountsInUseBut}
-use Rattle.vt_laws_letting_go.proofs.Lists.{Among, all_from_among, all_pass, among-append, among-from_map, among-map, among_from_all, any-map, passes}
+use Rattle.vt_laws_letting_go.proofs.Lists.{Among, all_from_among, all_pass, among-append, among-from_map, among-map, among_from_all, any-map, filter_alike, passes}
 use Rattle.vt_location.proofs.NodeLemmas.{small_parts}
 use Rattle.vt_location.specs.declared.locations.Location.{Location as At}
 use Rattle.vt_location.specs.Locations.{location_of, number_of}
@@ -39,11 +39,11 @@ use Rattle.vt_attach.proofs.PlacedUses.{points_are_uses}
 use Rattle.vt_attach.proofs.PlannedCounts.{exchanged_on, inodes_of_points, planned_shown}
 use Rattle.vt_attach.proofs.PointsCounted.{points_count}
 use Rattle.vt_world.specs.Held.{CountsItsMounts, CountsItsUses, IsHeld}
-use Rattle.vt_detach.specs.Uses.{Kept, kept}
-use Rattle.vt_world.specs.WorldValue.{WorldValue, world_of}
+use Rattle.vt_detach.specs.Uses.{Kept, Merged, kept_of, kept_with, merged_seen}
+use Rattle.vt_world.specs.WorldValue.{WorldValue, overlays_seen, world_of}
 use Rattle.vt_detach.proofs.BesideOverlays.{lives_alike}
 use Rattle.vt_detach.proofs.DetachingBegins.{pair_mapped}
-use Rattle.vt_detach.proofs.DetachingEnds.{point_located}
+use Rattle.vt_detach.proofs.DetachingEnds.{held_is_kept, point_located}
 use Rattle.vt_detach.proofs.Grouped.{stays_private}
 use Rattle.vt_detach.proofs.Keeping.{IsKeptBut, IsShownIn}
 use Rattle.vt_detach.proofs.LocationsSeen.{seen_where_located}
@@ -51,8 +51,9 @@ use Rattle.vt_detach.proofs.LostUses.{entry_found_at}
 use Rattle.vt_detach.proofs.MountsChanged.{times_map}
 use Rattle.vt_detach.proofs.MountsGone.{found_mapped}
 use Rattle.vt_detach.proofs.Moving.{map_itself}
-use Rattle.vt_detach.proofs.Overlaid.{found_plain_one, keeps_itself, plain_ones_are, same_files_keep}
-use Rattle.vt_spec.proofs.Lists.{map_twice}
+use Rattle.vt_detach.proofs.Overlaid.{found_plain_one, plain_ones_are}
+use Rattle.vt_detach.proofs.OverlaysGone.{layers_used, merged_in}
+use Rattle.vt_spec.proofs.Lists.{map_alike, map_twice}
 use Rattle.vt_spec.proofs.Worlds.{shown-mapped}
 
 -- what is looked up in a list stands there
@@ -279,8 +280,8 @@ module _ (value : WorldValue) (whole : IsHeld value) (points : List Point) (may 
   module _ (left : List At) (left_are : map location_of left ≡ points_left points value.mounts)
       (left_small : list_all is_small left ≡ true)
       (taken_small : list_all is_small (points_taken points value.mounts) ≡ true) (mounts : List MountEntry)
-      (filesystems : Filesystems)
-      (is_kept : kept mounts filesystems ≡ with_planned [] points left (kept value.mounts value.filesystems)) where
+      (filesystems : Filesystems) (overlays : List Merged)
+      (is_kept : kept_with mounts filesystems overlays ≡ with_planned [] points left (kept_of value)) where
     entries_are : mounts ≡ with_points points value.mounts
     entries_are = ap (λ (k : Kept). k.mounts) is_kept ∙ append-nil (with_points points value.mounts)
 
@@ -312,6 +313,15 @@ module _ (value : WorldValue) (whole : IsHeld value) (points : List Point) (may 
         (points_are_moved value.mounts points)
         (points_are_uses before value.mounts points refl whole.in_world.mounts.one_number filesystem)
 
+    merged_after : map merged_seen value.overlays ≡ map (merged_in after) (filter is_overlay after.filesystems)
+    merged_after =
+        (held_is_kept value whole).merged
+        ∙ map_alike (merged_in before) (merged_in after) (filter is_overlay before.filesystems) (λ overlay m. λ i. record {
+          number = overlay.number;
+          mounts = sym (showing overlay.number) i;
+          layers = layers_used overlay;
+        })
+
     no_more : (inodes : List Inode) → inodes ≡ inodes ++ []
     no_more inodes = sym (append-nil inodes)
 
@@ -342,7 +352,7 @@ module _ (value : WorldValue) (whole : IsHeld value) (points : List Point) (may 
         }
 
     -- the uses of both are counted
-    pub moved_is_kept : IsKeptBut value [] [] gained lost after (kept mounts filesystems)
+    pub moved_is_kept : IsKeptBut value [] [] gained lost after (kept_with mounts filesystems overlays)
     moved_is_kept = record {
       mounts = mounts_are ∙ map_itself (mounts_in mounts);
       uses = all_from_among (CountsItsUses after) mounts (λ entry m.
@@ -361,7 +371,15 @@ module _ (value : WorldValue) (whole : IsHeld value) (points : List Point) (may 
       located = located;
       in_use = in_use;
       mounted = mounted;
-      keeps = same_files_keep value before after refl (keeps_itself value whole.overlays);
+      merged = ap (λ (k : Kept). k.overlays) is_kept ∙ merged_after;
+      leaves = record {
+        overlays = (held_is_kept value whole).leaves.overlays
+            ∙ filter_alike (λ overlay. is_mounted nat_eq before overlay.number)
+            (λ overlay. is_mounted nat_eq after overlay.number) (overlays_seen value.overlays)
+            (λ overlay m. sym (any-map (λ (mount : Mount ℕ). nat_eq overlay.number mount.filesystem) moved before.mounts
+            (λ mount. refl)));
+        rise = whole.overlays.all_rise;
+      };
       points = λ mount m point p few.
           let from = among-from_map moved before.mounts mount (subst (Among mount) (sym mounts_are) m) in
           seen_where_located value whole point few

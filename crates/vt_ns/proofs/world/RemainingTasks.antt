@@ -14,7 +14,7 @@ use Rattle.vt_location.specs.Numbers.{counted}
 use Rattle.vt_mount.specs.MountsValue.{MountEntry}
 use Rattle.vt_tasks.specs.TasksValue.{Tasks}
 use Rattle.vt_world.specs.Held.{CountsItsMounts, CountsItsUses, CountsWhatIsInIt, IsHeld}
-use Rattle.vt_detach.specs.Uses.{kept}
+use Rattle.vt_detach.specs.Uses.{Merged, kept_of, kept_with}
 use Rattle.vt_world.specs.WorldValue.{NamespaceEntry, WorldValue, namespace_of, world_of}
 use Rattle.vt_detach.proofs.Bridging.{IsSwept}
 use Rattle.vt_detach.proofs.Finishing.{CountsBeside, IsApplied, finished}
@@ -37,8 +37,9 @@ pub record CountsTasks (value : WorldValue) (namespaces : List NamespaceEntry) (
 
 module _ (value : WorldValue) (whole : IsHeld value) (tasks : Tasks) (more less : List Use)
     (moves : Moves value tasks more less)
-    (mounts : List MountEntry) (filesystems : Filesystems) (namespaces : List NamespaceEntry)
-    (is_kept : kept mounts filesystems ≡ moved_kept (world_of value) more less (kept value.mounts value.filesystems))
+    (mounts : List MountEntry) (filesystems : Filesystems) (overlays : List Merged)
+    (namespaces : List NamespaceEntry)
+    (is_kept : kept_with mounts filesystems overlays ≡ moved_kept (world_of value) more less (kept_of value))
     (inside : CountsTasks value namespaces tasks)
     (stay : without_dead_mounts nat_eq (world_of (after value tasks)) ≡ world_of (after value tasks)) where
   abbrev next : World ℕ
@@ -49,7 +50,7 @@ module _ (value : WorldValue) (whole : IsHeld value) (tasks : Tasks) (more less 
 
   swept_in : IsSwept value next (inodes_of_uses (world_of value) more) (inodes_of_uses (world_of value) less) new
   swept_in =
-      let swept = remains_swept value whole tasks more less moves mounts filesystems is_kept stay in
+      let swept = remains_swept value whole tasks more less moves mounts filesystems overlays is_kept stay in
       record {
         midway = swept.midway;
         mounted = swept.mounted;
@@ -64,22 +65,22 @@ module _ (value : WorldValue) (whole : IsHeld value) (tasks : Tasks) (more less 
   counted_in : CountsBeside new
   counted_in = record {
     uses = all_from_among (CountsItsUses (world_of new)) mounts (λ entry m.
-        let from = entry_was value whole tasks more less moves mounts filesystems is_kept entry m in
+        let from = entry_was value whole tasks more less moves mounts filesystems overlays is_kept entry m in
         let counts = subst (CountsItsUses next) (sym from.2)
         (entry_counts value whole tasks more less moves from.0 from.1) in
         record { uses = counts.uses; writers = counts.writers });
-    mounts = λ entry m. let from = shown_was value whole tasks more less moves mounts filesystems is_kept entry m in
+    mounts = λ entry m. let from = shown_was value whole tasks more less moves mounts filesystems overlays is_kept entry m in
         ap (λ (one : Shown). one.mounts) from.2
         ∙ (among_from_all (CountsItsMounts (world_of value)) value.filesystems whole.filesystems from.0 from.1).mounts
         ∙ (λ i. times (λ (mount : Mount ℕ). nat_eq
         (counted (sym (ap (λ (one : Shown). one.count) from.2) i)) mount.filesystem)
-        (sym (same_mounts value whole tasks more less moves mounts filesystems is_kept) i)
+        (sym (same_mounts value whole tasks more less moves mounts filesystems overlays is_kept) i)
         + layer_count (world_of value) (counted (sym (ap (λ (one : Shown). one.count) from.2) i)))
         ∙ ap (λ n. mounts_showing (world_of new) (counted entry.count) + n)
         (sym (layers_kept value new whole.overlays refl (counted entry.count)));
     overlays = overlays_counted value new whole.overlays refl (λ number.
         ap (times (λ (mount : Mount ℕ). nat_eq number mount.filesystem))
-        (same_mounts value whole tasks more less moves mounts filesystems is_kept));
+        (same_mounts value whole tasks more less moves mounts filesystems overlays is_kept));
     namespaces = all_from_among (CountsWhatIsInIt (world_of new)) namespaces
         (λ entry m. record { tasks = inside.counts entry m });
   }

@@ -32,9 +32,9 @@ use Rattle.vt_laws_worlds.specs.Worlds.Permits.{IsReached, NamesWhatIsThere}
 use Rattle.vt_detach.specs.Detached.{LeaveTogether, trees_of_replaced}
 use Rattle.vt_detach.specs.Events.{Permits}
 use Rattle.vt_world.specs.Held.{IsHeld}
-use Rattle.vt_detach.specs.Uses.{kept}
+use Rattle.vt_detach.specs.Uses.{Merged, kept_of, kept_with}
 use Rattle.vt_world.specs.WorldValue.{WorldValue, world_of}
-use Rattle.vt_detach.proofs.ChangedFiles.{ChangesFiles}
+use Rattle.vt_detach.proofs.ChangedFiles.{ChangesFiles, with_filesystems}
 use Rattle.vt_ns.proofs.world.ChangedWithMounts.{changed_then_detached, nothing_goes}
 use Rattle.vt_detach.proofs.DetachingBegins.{HasChildrenOf, detached_world}
 use Rattle.vt_detach.proofs.DetachingEnds.{taken_regroups}
@@ -165,11 +165,13 @@ module _ (value : WorldValue) (held : IsHeld value) (name : TaskName) (from : Lo
       }
 
   -- an object is renamed over one on which mounts stand
-  pub rename_is_done : (filesystems others : Filesystems) (mounts : List MountEntry) (groups : Grouping) → gone ≢ []
+  pub rename_is_done : (filesystems others : Filesystems) (overlays : List Merged)
+      (mounts : List MountEntry) (groups : Grouping) → gone ≢ []
       → ChangesInodes from.node.filesystem.count (λ inodes. changed nat_eq inodes change) value.filesystems filesystems
-      → LeaveTogether gone (kept value.mounts filesystems) value.groups (kept mounts others) groups
+      → LeaveTogether gone (kept_of (with_filesystems value filesystems)) value.groups
+      (kept_with mounts others overlays) groups
       → IsDone value name permit (record (remade value mounts others value.tasks) { groups = groups })
-  rename_is_done filesystems others mounts groups some changes together =
+  rename_is_done filesystems others overlays mounts groups some changes together =
       let seen = Renaming.from_seen value held name from old to new object replaced small small_to small_object permits in
       let made : ChangesFiles value (location_of from) change filesystems = record {
         entry = seen.entry;
@@ -195,4 +197,4 @@ module _ (value : WorldValue) (held : IsHeld value) (name : TaskName) (from : Lo
       (location_of from) change filesystems made name permit permits gone reached named is_named applied
       (nothing_goes value held (location_of from) change filesystems made name permit permits gone reached named is_named applied
       on.inode on.lost (record { named = sees.moves.named; in_directory = sees.moves.in_directory }) on.mount on.among on.place on.placed on.at on.shows)
-      closed mounts groups others together
+      closed mounts groups others overlays together

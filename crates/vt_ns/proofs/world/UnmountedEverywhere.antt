@@ -32,7 +32,7 @@ use Rattle.vt_detach.specs.Detached.{LeaveTogether}
 use Rattle.vt_detach.specs.Events.{Permits}
 use Rattle.vt_world.specs.Held.{IsHeld}
 use Rattle.vt_retype.specs.Retyping.{AreTyped}
-use Rattle.vt_detach.specs.Uses.{Kept, kept}
+use Rattle.vt_detach.specs.Uses.{Kept, Merged, kept_of, kept_with}
 use Rattle.vt_detach.proofs.FollowedTypes.{changed_typed, own_types}
 use Rattle.vt_group.proofs.Others.{has_ordered}
 use Rattle.vt_world.specs.WorldValue.{WorldValue, world_of}
@@ -141,14 +141,14 @@ pub gone_together : (value : WorldValue) → IsHeld value → (name : TaskName) 
     → without_dead_groups nat_eq policy ≡ without_dead_groups nat_eq (taken_away nat_eq (world_of value) gone)
     → LeavesBy (world_of value) gone (map point_seen points)
     → All (FallsTo (world_of value) gone) (map point_seen points)
-    → (mounts : List MountEntry) (groups : Grouping) (filesystems : Filesystems)
-    → GoTogether gone points (kept value.mounts value.filesystems) value.groups (kept mounts filesystems) groups
+    → (mounts : List MountEntry) (groups : Grouping) (filesystems : Filesystems) (overlays : List Merged)
+    → GoTogether gone points (kept_of value) value.groups (kept_with mounts filesystems overlays) groups
     → IsDone value name permit (record (remade value mounts filesystems value.tasks) { groups = groups })
-gone_together value whole name permit task policy is gone points alike regroups falls mounts groups filesystems go =
+gone_together value whole name permit task policy is gone points alike regroups falls mounts groups filesystems overlays go =
     let world = world_of value in
     let start = with_mounts world (map (left_by gone (map point_seen points)) world.mounts) in
-    let together : LeaveTogether gone (kept go.between go.files) value.groups (kept mounts filesystems) groups =
-    subst (λ before. LeaveTogether gone (kept go.between go.files) before (kept mounts filesystems) groups)
+    let together : LeaveTogether gone (kept_with go.between go.files go.merged) value.groups (kept_with mounts filesystems overlays) groups =
+    subst (λ before. LeaveTogether gone (kept_with go.between go.files go.merged) before (kept_with mounts filesystems overlays) groups)
     (nothing_grows world value.groups go.groups whole.groups go.grown) go.together in
     let moved_typed : AreTyped value.groups go.between =
     subst (AreTyped value.groups) (sym
@@ -167,8 +167,8 @@ gone_together value whole name permit task policy is gone points alike regroups 
     ∙ fallen_to world gone (counted point.mount.count) (location_of point.place)
     (among_from_all (FallsTo world gone) (map point_seen points) falls (point_seen point)
     (among-map point_seen points point m)))
-    go.left go.left_are go.left_small go.taken_small go.between go.files go.moved
-    together.entries filesystems together.turn)
+    go.left go.left_are go.left_small go.taken_small go.between go.files go.merged go.moved
+    together.entries filesystems overlays together.turn)
 
 -- Which mounts go does not depend on the order in which they are named
 
@@ -211,8 +211,8 @@ gone_in_any_order : (value : WorldValue) → IsHeld value → (name : TaskName) 
     → without_dead_groups nat_eq policy ≡ without_dead_groups nat_eq (taken_away nat_eq (world_of value) planned)
     → LeavesBy (world_of value) planned (map point_seen points)
     → All (FallsTo (world_of value) planned) (map point_seen points)
-    → (mounts : List MountEntry) (groups : Grouping) (filesystems : Filesystems)
-    → GoTogether gone points (kept value.mounts value.filesystems) value.groups (kept mounts filesystems) groups
+    → (mounts : List MountEntry) (groups : Grouping) (filesystems : Filesystems) (overlays : List Merged)
+    → GoTogether gone points (kept_of value) value.groups (kept_with mounts filesystems overlays) groups
     → IsDone value name permit (record (remade value mounts filesystems value.tasks) { groups = groups })
 gone_in_any_order value whole name permit task policy is planned gone points same alike regroups falls =
     let world = world_of value in
@@ -228,8 +228,8 @@ pub unmounted_everywhere : (value : WorldValue) → IsHeld value → (name : Tas
     → planned ≡ going nat_eq (world_of value) (mount_numbered nat_eq (world_of value) number)
     → LeavesBy (world_of value) planned (map point_seen points)
     → All (FallsTo (world_of value) planned) (map point_seen points)
-    → (mounts : List MountEntry) (groups : Grouping) (filesystems : Filesystems)
-    → GoTogether gone points (kept value.mounts value.filesystems) value.groups (kept mounts filesystems) groups
+    → (mounts : List MountEntry) (groups : Grouping) (filesystems : Filesystems) (overlays : List Merged)
+    → GoTogether gone points (kept_of value) value.groups (kept_with mounts filesystems overlays) groups
     → IsDone value name (ToUnmount number) (record (remade value mounts filesystems value.tasks) { groups = groups })
 unmounted_everywhere value whole name number permits planned gone points same planned_is =
     let names = (permit_fits value whole name (ToUnmount number) permits).names in
@@ -250,8 +250,8 @@ pub unmounted_lazily : (value : WorldValue) → IsHeld value → (name : TaskNam
     → planned ≡ gone_lazily (world_of value) number
     → LeavesBy (world_of value) planned (map point_seen points)
     → All (FallsTo (world_of value) planned) (map point_seen points)
-    → (mounts : List MountEntry) (groups : Grouping) (filesystems : Filesystems)
-    → GoTogether gone points (kept value.mounts value.filesystems) value.groups (kept mounts filesystems) groups
+    → (mounts : List MountEntry) (groups : Grouping) (filesystems : Filesystems) (overlays : List Merged)
+    → GoTogether gone points (kept_of value) value.groups (kept_with mounts filesystems overlays) groups
     → IsDone value name (ToUnmountLazily number)
     (record (remade value mounts filesystems value.tasks) { groups = groups })
 unmounted_lazily value whole name number permits planned gone points same planned_is =

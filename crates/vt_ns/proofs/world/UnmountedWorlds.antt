@@ -35,7 +35,7 @@ use Rattle.vt_attach.specs.PlannedUses.{point_seen}
 use Rattle.vt_detach.specs.Detached.{LeaveInTurn}
 use Rattle.vt_detach.specs.Events.{supply_of}
 use Rattle.vt_world.specs.Held.{CountsWhatIsInIt, IsHeld}
-use Rattle.vt_detach.specs.Uses.{kept}
+use Rattle.vt_detach.specs.Uses.{Merged, kept_of, kept_with}
 use Rattle.vt_world.specs.WorldValue.{WorldValue, world_of}
 use Rattle.vt_detach.proofs.DetachingBegins.{HasChildrenOf, detached_world, detaching_begins}
 use Rattle.vt_detach.proofs.DetachingEnds.{detached_counted, detached_swept}
@@ -332,29 +332,29 @@ module _ (value : WorldValue) (whole : IsHeld value) (name : TaskName) (permit :
   module _ (left : List At) (left_are : map location_of left ≡ points_left points value.mounts)
       (left_small : list_all is_small left ≡ true)
       (taken_small : list_all is_small (points_taken points value.mounts) ≡ true) (between : List MountEntry)
-      (between_files : Filesystems)
-      (is_kept : kept between between_files ≡ with_planned [] points left (kept value.mounts value.filesystems)) where
+      (between_files : Filesystems) (between_merged : List Merged)
+      (is_kept : kept_with between between_files between_merged ≡ with_planned [] points left (kept_of value)) where
     -- what is moved and then detached is what the unmount leaves
-    pub moved_then_detached : (mounts : List MountEntry) (filesystems : Filesystems)
-        → LeaveInTurn gone (kept between between_files) (kept mounts filesystems)
+    pub moved_then_detached : (mounts : List MountEntry) (filesystems : Filesystems) (overlays : List Merged)
+        → LeaveInTurn gone (kept_with between between_files between_merged) (kept_with mounts filesystems overlays)
         → IsDone value name permit (typed_value groups (remade value mounts filesystems value.tasks))
-    moved_then_detached mounts filesystems turn =
+    moved_then_detached mounts filesystems overlays turn =
         let come = gained value whole points may in
         let go = lost value whole points may in
         let untyped = remade value mounts filesystems value.tasks in
-        let detaching = all_detached value come (in_use_of start) gone (kept between between_files)
-        (kept mounts filesystems)
-        (detaching_begins value come go (moved_world value points) (kept between between_files)
-        (moved_is_kept value whole points may left left_are left_small taken_small between between_files is_kept) gone closed) turn in
+        let detaching = all_detached value come (in_use_of start) gone (kept_with between between_files between_merged)
+        (kept_with mounts filesystems overlays)
+        (detaching_begins value come go (moved_world value points) (kept_with between between_files between_merged)
+        (moved_is_kept value whole points may left left_are left_small taken_small between between_files between_merged is_kept) gone closed) turn in
         let kept_last = subst (λ one. IsKeptBut value [] [] come detaching.lost one
-        (kept mounts filesystems)) detaching.ends detaching.is in
+        (kept_with mounts filesystems overlays)) detaching.ends detaching.is in
         finished_as value whole name permit task policy is typed alike come detaching.lost (typed_value groups untyped)
         (swept_typed groups untyped value start come detaching.lost
-        (detached_swept value start come detaching.lost untyped kept_last refl refl
+        (detached_swept value start come detaching.lost untyped overlays kept_last refl refl
         (same_files_keep value world start refl (keeps_itself value whole.overlays)) refl refl))
         settled_typed_has
         (counts_typed groups untyped
-        (detached_counted value start come detaching.lost untyped kept_last refl refl
+        (detached_counted value start come detaching.lost untyped overlays kept_last refl refl
         (all_from_among (CountsWhatIsInIt (world_of untyped)) value.namespaces (λ entry m.
         let was = among_from_all (CountsWhatIsInIt world) value.namespaces whole.namespaces entry m in record { tasks = was.tasks }))))
         refl

@@ -11,7 +11,7 @@ use Rattle.vt_mount.specs.MountsValue.{are_ascending, mounts_in}
 use Rattle.vt_attach.specs.Moved.{top_point, typed_all, with_types}
 use Rattle.vt_attach.specs.Planned.{Point, is_small, points_left, points_taken, with_planned}
 use Rattle.vt_attach.specs.Room.{has_small_slots}
-use Rattle.vt_detach.specs.Uses.{kept}
+use Rattle.vt_detach.specs.Stored.{kept}
 use Rattle.vt_attach.proofs.moved.move_tree.Goals as goal
 
 -- a list from one place on
@@ -33,7 +33,7 @@ pub returns-clause-ok : goal.returns-clause-ok
 returns-clause-ok c =
     let plan = c.in_ok-plan.plan in
     let n = length c.args.graft.now.tree.now in
-    let old = kept c.args.mounts.now c.args.filesystems.now in
+    let old = kept c.args.mounts.now c.args.store.now in
     let made = c.in_ok-attach_grouped.ensures.ok in
     let come : take (length c.deref.result.now - n) (drop n c.deref.result.now) ≡ drop n plan.copies.items =
     from_there n c.deref.result.now ∙ ap (drop n) c.deref.ensures.value in
@@ -53,7 +53,7 @@ returns-clause-ok c =
       leaver = c.in_ok-plan.ensures.leaver;
       left_are = made.1 ∙ ap (λ (list : List Point). points_left list c.args.mounts.now) points;
       left_small = made.2;
-      done = ap (λ mounts. kept mounts c.attach_grouped.new.filesystems) retyped
+      done = ap (λ mounts. kept mounts c.attach_grouped.new.store) retyped
           ∙ ap (with_types (map typed plan.copies.items)) (made.3 ∙ (λ i. with_planned (come i) (points i) made.0 old));
       grows = subst (λ (list : List Mount). GrowsTo c.args.groups.now c.attach_grouped.new.groups (map typed list)
           (map new_group plan.groups.items)) types

@@ -1,9 +1,11 @@
-use Rattle.std.proofs.Common.{◌≡◌, Some, None, ap, sym, option_map, ◌∙◌}
+use Rattle.std.proofs.Common.{◌≡◌, Some, None, ap, sym, map, option_map, ◌∙◌}
 use Rattle.vt_fs.specs.FilesystemsValue.{shown}
 use Rattle.vt_location.specs.Locations.{location_of, number_of}
 use Rattle.vt_location.specs.MountValue.{mount_of}
 use Rattle.vt_location.specs.Numbers.{counted}
-use Rattle.vt_detach.specs.Uses.{kept, let_go_mount, unpinned_at, without_attachment}
+use Rattle.vt_store.specs.StoreValue.{StoreValue}
+use Rattle.vt_detach.specs.Stored.{kept, merged_of}
+use Rattle.vt_detach.specs.Uses.{let_go_mount, unpinned_at, unpinned_in, without_attachment}
 use Rattle.vt_detach.proofs.MountsUnplaced.{detach_none, point_seen}
 use Rattle.vt_detach.proofs.Shown.{unpins}
 use Rattle.vt_detach.proofs.detaching.detach.Goals as goal
@@ -17,7 +19,7 @@ returns-in_err-mount-clause-point c =
 
 pub returns-in_err-mount-clause-left : goal.returns-in_err-mount-clause-left
 returns-in_err-mount-clause-left c =
-    let k = kept c.args.mounts.now c.args.filesystems.now in
+    let k = kept c.args.mounts.now c.args.store.now in
     detach_none (counted c.args.id.count) k (sym c.get.ensures ∙ ap (option_map mount_of) c.in_err-mount.was)
     ∙ ap (λ point. without_attachment (counted c.args.id.count) point k) (sym c.from_residual.ensures)
 
@@ -28,16 +30,23 @@ returns-clause-point c =
 
 pub returns-clause-left : goal.returns-clause-left
 returns-clause-left c =
-    let unpinned : shown c.match-mount.filesystems
-    ≡ unpinned_at c.in_ok-mount.mount.mount_point (shown c.args.filesystems.now) =
+    let unpinned : shown c.match-mount.store.plain
+    ≡ unpinned_at c.in_ok-mount.mount.mount_point (shown c.args.store.now.plain) =
     elim c.match-mount.branch [
-      | in-Some w ↦ ap shown w.filesystems-is
-          ∙ unpins w.in-Some.point.node.filesystem.count
-          (number_of w.in-Some.point.node) c.args.filesystems.now w.unpin.new.self w.unpin.ensures
-          ∙ ap (λ point. unpinned_at point (shown c.args.filesystems.now)) (sym w.in-Some.is)
-      | in_default w ↦ ap shown w.filesystems-is
-          ∙ ap (λ point. unpinned_at point (shown c.args.filesystems.now)) (sym w.in_default.is)
+      | in-Some w ↦ ap (λ (store : StoreValue). shown store.plain) w.store-is
+          ∙ unpins w.in-Some.point.node.filesystem.count (number_of w.in-Some.point.node) w.plain_mut.result.now
+          w.unpin.new.self w.unpin.ensures
+          ∙ ap (λ all. unpinned_in (counted w.in-Some.point.node.filesystem.count, number_of w.in-Some.point.node)
+          (shown all)) w.plain_mut.ensures.value
+          ∙ ap (λ point. unpinned_at point (shown c.args.store.now.plain)) (sym w.in-Some.is)
+      | in_default w ↦ ap (λ (store : StoreValue). shown store.plain) w.store-is
+          ∙ ap (λ point. unpinned_at point (shown c.args.store.now.plain)) (sym w.in_default.is)
+    ] in
+    let overlays : c.match-mount.store.overlays ≡ c.args.store.now.overlays =
+    elim c.match-mount.branch [
+      | in-Some w ↦ ap (λ (store : StoreValue). store.overlays) w.store-is
+      | in_default w ↦ ap (λ (store : StoreValue). store.overlays) w.store-is
     ] in
     c.let_go_mount.ensures
     ∙ ap (let_go_mount (counted c.args.id.count))
-    (λ i. record { mounts = c.detach.ensures i; filesystems = unpinned i })
+    (λ i. record { mounts = c.detach.ensures i; filesystems = unpinned i; overlays = map merged_of (overlays i) })

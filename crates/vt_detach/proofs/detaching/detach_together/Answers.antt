@@ -1,14 +1,14 @@
 use Rattle.std.proofs.Common.{map}
 use Rattle.vt_location.specs.Numbers.{counted}
-use Rattle.vt_detach.specs.Uses.{kept}
+use Rattle.vt_detach.specs.Stored.{kept}
 use Rattle.vt_detach.proofs.FollowedTypes.{turn_sourceless, turn_typed}
 use Rattle.vt_detach.proofs.detaching.detach_together.Goals as goal
 
 pub returns : goal.returns
 returns c =
     let numbers = map (λ id. counted id.count) c.args.ids.now in
-    let old = kept c.args.mounts.now c.args.filesystems.now in
-    let left = kept c.detach_each.new.mounts c.detach_each.new.filesystems in
+    let old = kept c.args.mounts.now c.args.store.now in
+    let left = kept c.detach_each.new.mounts c.detach_each.new.store in
     record {
       entries = c.detach_each.new.mounts;
       turn = c.detach_each.ensures;

@@ -9,7 +9,8 @@ use Rattle.vt_group.proofs.Together.{left_live, none_yet, one_more_private}
 use Rattle.vt_retype.specs.Retyping.{typed_entry}
 use Rattle.vt_retype.proofs.Left.{StillTyped, still_at_first, still_done, still_next}
 use Rattle.vt_detach.specs.NamespacesLeft.{AreDetached, Detached, is_attached_in}
-use Rattle.vt_detach.specs.Uses.{Kept, kept, without_attachment}
+use Rattle.vt_detach.specs.Stored.{kept, merged_of}
+use Rattle.vt_detach.specs.Uses.{Kept, without_attachment}
 use Rattle.vt_detach.proofs.EndingLemmas.{attached_so, none_listed, one_detached_less, one_more_detached}
 use Rattle.vt_detach.proofs.TypesAside.{all_taken, attached_alike, detached_alike, gone_numbers, is_attached-alike, last_listed, none_alike, one_more_gone, still_detached, with_types}
 use Rattle.vt_detach.proofs.ending.end_namespace.Goals as goal
@@ -27,13 +28,14 @@ loop-last-init c = record {
 pub loop-last-smaller : goal.loop-last-smaller
 loop-last-smaller c =
     let namespace = counted c.args.id.count in
-    let k = kept c.loop-last.mounts c.loop-last.filesystems in
+    let k = kept c.loop-last.mounts c.loop-last.store in
     subst (λ n. n < length (filter (is_attached_in namespace) k.mounts))
     (sym (attached_alike namespace c.detach.new.mounts c.leave.new.mounts c.leave.ensures.types))
     (subst (λ (new : Kept). length (filter (is_attached_in namespace) new.mounts) < length
     (filter (is_attached_in namespace) k.mounts)) (sym c.detach.ensures.left)
     (one_detached_less namespace k _
-    (attached_so namespace c.loop-last.mounts c.loop-last.filesystems c.attached_in.result.now c.in-Some.last.now
+    (attached_so namespace c.loop-last.mounts c.loop-last.store.plain (map merged_of c.loop-last.store.overlays)
+    c.attached_in.result.now c.in-Some.last.now
     c.detach.result
     c.attached_in.ensures.order c.attached_in.ensures.are
     (sym c.last.ensures.value ∙ ap option_copied c.in-Some.is) c.detach.ensures.point c.detach.ensures.slot)))
@@ -45,26 +47,31 @@ loop-last-preserved c =
     let number = counted c.in-Some.last.now.count in
     let point = c.detach.result in
     let one : Detached = record { number = number; point = point } in
-    let k = kept c.loop-last.mounts c.loop-last.filesystems in
-    let alone : Kept = record { mounts = sofar.entries; filesystems = shown c.loop-last.filesystems } in
-    let first = kept c.args.mounts.now c.args.filesystems.now in
+    let k = kept c.loop-last.mounts c.loop-last.store in
+    let alone = kept sofar.entries c.loop-last.store in
+    let first = kept c.args.mounts.now c.args.store.now in
     let numbers = gone_numbers sofar.gone in
     let more = one_more_gone sofar.gone one in
     let alike : (groups : Grouping) → with_types groups (without_attachment number point k)
     ≡ with_types groups (without_attachment number point alone) =
-    λ groups. detached_alike groups number point k alone (sofar.only_types groups) refl in
+    λ groups. detached_alike groups number point k alone (sofar.only_types groups) refl refl in
     record {
       gone = sofar.gone ++ (one ∷ []);
       entries = (without_attachment number point alone).mounts;
       detached =
-          subst (λ all. AreDetached namespace (sofar.gone ++ (one ∷ [])) first
-          (record { mounts = (without_attachment number point alone).mounts; filesystems = all }))
-          (sym (ap (λ (new : Kept). new.filesystems) c.detach.ensures.left
-          ∙ ap (λ (new : Kept). new.filesystems) (alike no_groups)))
+          subst (AreDetached namespace (sofar.gone ++ (one ∷ [])) first)
+          (λ i. record {
+            mounts = (without_attachment number point alone).mounts;
+            filesystems = sym (ap (λ (new : Kept). new.filesystems) c.detach.ensures.left
+                ∙ ap (λ (new : Kept). new.filesystems) (alike no_groups)) i;
+            overlays = sym (ap (λ (new : Kept). new.overlays) c.detach.ensures.left
+                ∙ ap (λ (new : Kept). new.overlays) (alike no_groups)) i;
+          })
           (one_more_detached namespace sofar.gone one first alone sofar.detached
           (is_attached-alike namespace sofar.entries c.loop-last.mounts sofar.only_types
-          (shown c.loop-last.filesystems) one
-          (attached_so namespace c.loop-last.mounts c.loop-last.filesystems c.attached_in.result.now c.in-Some.last.now
+          (shown c.loop-last.store.plain) (map merged_of c.loop-last.store.overlays) one
+          (attached_so namespace c.loop-last.mounts c.loop-last.store.plain
+          (map merged_of c.loop-last.store.overlays) c.attached_in.result.now c.in-Some.last.now
           point c.attached_in.ensures.order c.attached_in.ensures.are
           (sym c.last.ensures.value ∙ ap option_copied c.in-Some.is) c.detach.ensures.point c.detach.ensures.slot)));
       only_types = λ groups.
@@ -90,8 +97,8 @@ pub returns : goal.returns
 returns c =
     let namespace = counted c.args.id.count in
     let sofar = c.loop-last.invariant in
-    let first = kept c.args.mounts.now c.args.filesystems.now in
-    let last : Kept = record { mounts = sofar.entries; filesystems = shown c.loop-last.filesystems } in
+    let first = kept c.args.mounts.now c.args.store.now in
+    let last = kept sofar.entries c.loop-last.store in
     let none = none_alike namespace sofar.entries c.loop-last.mounts sofar.only_types
     (none_listed c.loop-last.mounts namespace c.attached_in.result.now c.attached_in.ensures.are
     (sym c.last.ensures.value ∙ ap option_copied c.in_default.is)) in

@@ -1,5 +1,4 @@
 use Rattle.std.proofs.Common.{List, filter, length, nat_eq, ℕ}
-use Rattle.vt_fs.specs.FilesystemsValue.{shown}
 use Rattle.vt_spec.specs.Machine.Receives.{regrouped}
 use Rattle.vt_spec.specs.Machine.World.{World}
 use Rattle.vt_location.specs.Numbers.{counted}
@@ -10,7 +9,7 @@ use Rattle.vt_retype.specs.Leaving.{OnlyTypesChange}
 use Rattle.vt_retype.specs.Retyping.{AreTyped}
 use Rattle.vt_retype.proofs.Left.{StillTyped}
 use Rattle.vt_detach.specs.NamespacesLeft.{AreDetached, Detached, is_attached_in}
-use Rattle.vt_detach.specs.Uses.{kept}
+use Rattle.vt_detach.specs.Stored.{kept}
 use Rattle.vt_detach.proofs.TypesAside.{gone_numbers}
 use Rattle.vt_detach.proofs.ending.end_namespace.Given as goal
 use Rattle.vt_laws_mounts.specs.Mounts.Receivers.{AllGroupsLive}
@@ -21,8 +20,8 @@ abbrev pub invariant-loop-last : goal.invariant-loop-last
 invariant-loop-last l = record {
   gone : List Detached;
   entries : List MountEntry;
-  detached : AreDetached (counted l.fn.id.count) gone (kept l.initial.mounts l.initial.filesystems)
-      (record { mounts = entries; filesystems = shown l.filesystems });
+  detached : AreDetached (counted l.fn.id.count) gone (kept l.initial.mounts l.initial.store)
+      (kept entries l.store);
   only_types : OnlyTypesChange entries l.mounts;
   groups : (world : World ℕ) → Has world l.initial.groups → AllGroupsLive world
       → Has (regrouped nat_eq (with_changed as_private world (gone_numbers gone))) l.groups;

@@ -3,7 +3,7 @@ use Rattle.std.proofs.lemmas.Bool.{le-leb, lt-leb}
 use Rattle.std.specs.Map.{remove_entry}
 use Rattle.std.specs.Option.{option_copied_mut}
 use Rattle.vt_location.specs.Numbers.{counted}
-use Rattle.vt_detach.specs.Uses.{kept}
+use Rattle.vt_detach.specs.Stored.{kept}
 use Rattle.vt_detach.proofs.EndingLemmas.{absent_left, absent_mounts, fewer_left, fewer_mounts, last_left, last_mounts}
 use Rattle.vt_detach.proofs.NamespaceEntries.{is_id, written_back}
 use Rattle.vt_detach.proofs.ending.leave_namespace.Goals as goal
@@ -17,7 +17,7 @@ returns-in_default-clause-namespaces c =
 pub returns-in_default-clause-mounts : goal.returns-in_default-clause-mounts
 returns-in_default-clause-mounts c =
     absent_mounts c.args.id.count c.args.namespaces.now.entries (counted c.args.id.count)
-    (kept c.args.mounts.now c.args.filesystems.now) c.args.groups.now
+    (kept c.args.mounts.now c.args.store.now) c.args.groups.now
     (sym c.get_mut.ensures.value ∙ ap option_copied_mut c.in_default.is)
 
 pub returns-then-namespace-gt1-clause-namespaces : goal.returns-then-namespace-gt1-clause-namespaces
@@ -30,7 +30,7 @@ returns-then-namespace-gt1-clause-namespaces c =
 pub returns-then-namespace-gt1-clause-mounts : goal.returns-then-namespace-gt1-clause-mounts
 returns-then-namespace-gt1-clause-mounts c =
     fewer_mounts c.args.id.count c.args.namespaces.now.entries (counted c.args.id.count)
-    (kept c.args.mounts.now c.args.filesystems.now) c.args.groups.now
+    (kept c.args.mounts.now c.args.store.now) c.args.groups.now
     c.in-Some.namespace.now
     (sym c.get_mut.ensures.value ∙ ap option_copied_mut c.in-Some.is)
     (lt-leb c.in-Some.namespace.now.tasks 1 c.if-namespace-gt1.true)
@@ -50,8 +50,8 @@ returns-clause-namespaces c =
 pub returns-clause-mounts : goal.returns-clause-mounts
 returns-clause-mounts c =
     last_mounts c.args.id.count c.args.namespaces.now.entries (counted c.args.id.count)
-    (kept c.args.mounts.now c.args.filesystems.now) c.args.groups.now
-    (kept c.end_namespace.new.mounts c.end_namespace.new.filesystems) c.end_namespace.new.groups c.in-Some.namespace.now
+    (kept c.args.mounts.now c.args.store.now) c.args.groups.now
+    (kept c.end_namespace.new.mounts c.end_namespace.new.store) c.end_namespace.new.groups c.in-Some.namespace.now
     (sym c.get_mut.ensures.value ∙ ap option_copied_mut c.in-Some.is)
     (le-leb c.in-Some.namespace.now.tasks 1 c.if-namespace-gt1.false)
     c.end_namespace.ensures

@@ -1,7 +1,9 @@
-use Rattle.std.proofs.Common.{ap, ◌∙◌}
+use Rattle.std.proofs.Common.{ap, map, ◌∙◌}
+use Rattle.vt_fs.specs.FilesystemsValue.{shown}
 use Rattle.vt_location.specs.Locations.{number_of}
 use Rattle.vt_location.specs.Numbers.{counted}
-use Rattle.vt_detach.specs.Uses.{let_go_mount}
+use Rattle.vt_detach.specs.Stored.{merged_of}
+use Rattle.vt_detach.specs.Uses.{let_go_mount, unpinned_in}
 use Rattle.vt_detach.proofs.Shown.{unpins}
 use Rattle.vt_detach.proofs.uses.leave.Goals as goal
 
@@ -10,6 +12,9 @@ returns-clause-left c =
     c.let_go_mount.ensures
     ∙ ap (let_go_mount (counted c.args.at.mount.count)) (λ i. record {
       mounts = c.release.ensures i;
-      filesystems = unpins c.args.at.node.filesystem.count
-          (number_of c.args.at.node) c.args.filesystems.now c.unpin.new.self c.unpin.ensures i;
+      filesystems = (unpins c.args.at.node.filesystem.count (number_of c.args.at.node) c.plain_mut.result.now
+          c.unpin.new.self c.unpin.ensures
+          ∙ ap (λ all. unpinned_in (counted c.args.at.node.filesystem.count, number_of c.args.at.node) (shown all))
+          c.plain_mut.ensures.value) i;
+      overlays = map merged_of c.args.store.now.overlays;
     })

@@ -1,11 +1,17 @@
-use Rattle.std.proofs.Common.{ap, ◌∙◌}
+use Rattle.std.proofs.Common.{ap, ◌∙◌, ◌++◌, ◌∷◌, []}
 use Rattle.vt_fs.specs.FilesystemsValue.{without}
 use Rattle.vt_attach.proofs.NewFilesystems.{removed_again}
+use Rattle.vt_store.specs.StoreValue.{StoreValue}
 use Rattle.vt_ns.proofs.mounting.mount_new.Goals as goal
 
-pub returns-in-Err-clause-err_filesystems : goal.returns-in-Err-clause-err_filesystems
-returns-in-Err-clause-err_filesystems c =
+pub returns-in-Err-clause-err_store : goal.returns-in-Err-clause-err_store
+returns-in-Err-clause-err_store c =
     let made = c.in_ok-add.ensures.ok in
-    c.remove.ensures
-    ∙ ap (without c.args.filesystem.count) (c.in-Err.ensures.err_filesystems ∙ made.1)
-    ∙ removed_again c.args.filesystems.now made.0 c.args.filesystem.count made.2.counts c.requires.above
+    let before = made.1 ∙ ap (λ all. all ++ made.0 ∷ []) c.plain_mut.ensures.value in
+    λ i. record {
+      plain = (c.remove.ensures
+          ∙ ap (without c.args.filesystem.count)
+          (c.plain_mut-in-Err.ensures.value ∙ ap (λ (store : StoreValue). store.plain) c.in-Err.ensures.err_store ∙ before)
+          ∙ removed_again c.args.store.now.plain made.0 c.args.filesystem.count made.2.counts c.requires.above) i;
+      overlays = (c.in-Err.ensures.err_store i).overlays;
+    }

@@ -1,13 +1,14 @@
 use Rattle.std.proofs.Common.{add-one, ap, arith, false, subst, sym, ◌+◌, ◌-◌, ◌≡◌, ◌∙◌, ℕ}
 use Rattle.vt_detach.specs.Forking.{HasRoom}
-use Rattle.vt_detach.specs.Uses.{kept, with_location}
+use Rattle.vt_detach.specs.Stored.{kept}
+use Rattle.vt_detach.specs.Uses.{with_location}
 use Rattle.vt_ns.specs.Pivoting.{with_uses}
 use Rattle.vt_ns.proofs.CountingLemmas.{room_less, room_still}
 use Rattle.vt_ns.proofs.pivoting.hold_each.Goals as goal
 
 pub hold_once_more-requires : goal.hold_once_more-requires
 hold_once_more-requires c =
-    room_less (c.args.uses - c.loop.counter) 1 c.args.at c.loop.mounts c.loop.filesystems
+    room_less (c.args.uses - c.loop.counter) 1 c.args.at c.loop.mounts c.loop.store.plain
     (omega (arith, c.loop-test.true)) c.loop.invariant.room
 
 pub loop-preserved : goal.loop-preserved
@@ -15,14 +16,14 @@ loop-preserved c =
     let left : ℕ = c.args.uses - (c.loop.counter + 1) in
     let one : c.args.uses - c.loop.counter ≡ left + 1 = omega (arith, c.loop-test.true) in record {
       held = c.hold_once_more.ensures.held ∙ ap (with_location c.args.at false) c.loop.invariant.held
-          ∙ ap (λ n. with_uses n c.args.at (kept c.args.mounts.now c.args.filesystems.now)) (sym (add-one c.loop.counter));
-      room = room_still left c.args.at c.args.at c.loop.mounts c.hold_once_more.new.mounts c.loop.filesystems
-          c.hold_once_more.new.filesystems
-          (subst (λ n. HasRoom n c.args.at c.loop.mounts c.loop.filesystems) one c.loop.invariant.room)
+          ∙ ap (λ n. with_uses n c.args.at (kept c.args.mounts.now c.args.store.now)) (sym (add-one c.loop.counter));
+      room = room_still left c.args.at c.args.at c.loop.mounts c.hold_once_more.new.mounts c.loop.store
+          c.hold_once_more.new.store
+          (subst (λ n. HasRoom n c.args.at c.loop.mounts c.loop.store.plain) one c.loop.invariant.room)
           c.hold_once_more.ensures.held;
     }
 
 pub returns-clause-held : goal.returns-clause-held
 returns-clause-held c =
     let last : c.loop.counter ≡ c.args.uses = omega (arith, c.loop-test.false, c.loop.auto) in
-    c.loop.invariant.held ∙ ap (λ n. with_uses n c.args.at (kept c.args.mounts.now c.args.filesystems.now)) last
+    c.loop.invariant.held ∙ ap (λ n. with_uses n c.args.at (kept c.args.mounts.now c.args.store.now)) last

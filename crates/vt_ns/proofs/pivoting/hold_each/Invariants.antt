@@ -1,12 +1,12 @@
 use Rattle.std.proofs.Common.{◌-◌, ◌≡◌}
 use Rattle.vt_detach.specs.Forking.{HasRoom}
-use Rattle.vt_detach.specs.Uses.{kept}
+use Rattle.vt_detach.specs.Stored.{kept}
 use Rattle.vt_ns.specs.Pivoting.{with_uses}
 use Rattle.vt_ns.proofs.pivoting.hold_each.Given as goal
 
 -- some are counted, and there is room for the others
 abbrev pub invariant-loop : goal.invariant-loop
 invariant-loop l = record {
-  held : kept l.mounts l.filesystems ≡ with_uses l.counter l.at (kept l.fn.mounts l.fn.filesystems);
-  room : HasRoom (l.uses - l.counter) l.at l.mounts l.filesystems;
+  held : kept l.mounts l.store ≡ with_uses l.counter l.at (kept l.fn.mounts l.fn.store);
+  room : HasRoom (l.uses - l.counter) l.at l.mounts l.store.plain;
 }

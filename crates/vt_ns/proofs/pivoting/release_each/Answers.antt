@@ -1,7 +1,9 @@
-use Rattle.std.proofs.Common.{add-one, ap, arith, false, sym, ◌≡◌, ◌∙◌}
+use Rattle.std.proofs.Common.{add-one, ap, arith, false, map, sym, ◌≡◌, ◌∙◌}
 use Rattle.vt_location.specs.Locations.{number_of}
 use Rattle.vt_location.specs.Numbers.{counted}
-use Rattle.vt_detach.specs.Uses.{inode_of, kept, released_use}
+use Rattle.vt_fs.specs.FilesystemsValue.{shown}
+use Rattle.vt_detach.specs.Stored.{kept, merged_of}
+use Rattle.vt_detach.specs.Uses.{inode_of, released_use, unpinned_in}
 use Rattle.vt_ns.specs.Pivoting.{without_uses}
 use Rattle.vt_detach.proofs.Shown.{unpins}
 use Rattle.vt_ns.proofs.pivoting.release_each.Goals as goal
@@ -11,12 +13,16 @@ loop-preserved c =
     let at = c.args.at in
     (λ i. record {
       mounts = c.release.ensures i;
-      filesystems = unpins at.node.filesystem.count (number_of at.node) c.loop.filesystems c.unpin.new.self c.unpin.ensures i;
+      filesystems = (unpins at.node.filesystem.count (number_of at.node) c.plain_mut.result.now c.unpin.new.self
+          c.unpin.ensures
+          ∙ ap (λ all. unpinned_in (counted at.node.filesystem.count, number_of at.node) (shown all))
+          c.plain_mut.ensures.value) i;
+      overlays = map merged_of c.loop.store.overlays;
     })
     ∙ ap (released_use (counted at.mount.count) (inode_of at.node) false) c.loop.invariant
-    ∙ ap (λ n. without_uses n at (kept c.args.mounts.now c.args.filesystems.now)) (sym (add-one c.loop.counter))
+    ∙ ap (λ n. without_uses n at (kept c.args.mounts.now c.args.store.now)) (sym (add-one c.loop.counter))
 
 pub returns-clause-left : goal.returns-clause-left
 returns-clause-left c =
     let last : c.loop.counter ≡ c.args.uses = omega (arith, c.loop-test.false, c.loop.auto) in
-    c.loop.invariant ∙ ap (λ n. without_uses n c.args.at (kept c.args.mounts.now c.args.filesystems.now)) last
+    c.loop.invariant ∙ ap (λ n. without_uses n c.args.at (kept c.args.mounts.now c.args.store.now)) last

@@ -1,9 +1,9 @@
 use Rattle.std.proofs.Common.{◌≡◌}
-use Rattle.vt_detach.specs.Uses.{kept}
+use Rattle.vt_detach.specs.Stored.{kept}
 use Rattle.vt_ns.specs.Pivoting.{without_uses}
 use Rattle.vt_ns.proofs.pivoting.release_each.Given as goal
 
 -- some are gone
 abbrev pub invariant-loop : goal.invariant-loop
 invariant-loop l =
-    kept l.mounts l.filesystems ≡ without_uses l.counter l.at (kept l.fn.mounts l.fn.filesystems)
+    kept l.mounts l.store ≡ without_uses l.counter l.at (kept l.fn.mounts l.fn.store)

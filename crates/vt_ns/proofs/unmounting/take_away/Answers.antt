@@ -7,7 +7,7 @@ use Rattle.vt_location.specs.Numbers.{counted}
 use Rattle.vt_mount.specs.MountsValue.{are_ascending, mounts_in}
 use Rattle.vt_attach.specs.Planned.{Point, is_small, points_left, points_taken, with_planned}
 use Rattle.vt_detach.specs.Detached.{LeaveTogether}
-use Rattle.vt_detach.specs.Uses.{kept}
+use Rattle.vt_detach.specs.Stored.{kept, merged_of}
 use Rattle.vt_ns.proofs.unmounting.take_away.Goals as goal
 
 pub attach_planned-requires : goal.attach_planned-requires
@@ -19,12 +19,13 @@ returns-clause-ok c =
     let moved = subst (λ (all : List Point). (left : List Location)
     × (map location_of left ≡ points_left all c.args.mounts.now)
     × (list_all is_small left ≡ true)
-    × (kept c.attach_planned.new.mounts c.attach_planned.new.filesystems
-    ≡ with_planned [] all left (kept c.args.mounts.now c.args.filesystems.now)))
+    × (kept c.attach_planned.new.mounts c.attach_planned.new.store
+    ≡ with_planned [] all left (kept c.args.mounts.now c.args.store.now)))
     c.deref.ensures.value c.in_ok-attach_planned.ensures.ok in
     record {
       between = c.attach_planned.new.mounts;
-      files = c.attach_planned.new.filesystems;
+      files = c.attach_planned.new.store.plain;
+      merged = map merged_of c.attach_planned.new.store.overlays;
       groups = c.attach_planned.new.groups;
       left = moved.0;
       left_are = moved.1;
@@ -34,7 +35,7 @@ returns-clause-ok c =
       moved = moved.3;
       grown = c.in_ok-attach_planned.ensures.groups_ok;
       together = subst (λ ids. LeaveTogether (map (λ id. counted id.count) ids)
-          (kept c.attach_planned.new.mounts c.attach_planned.new.filesystems) c.attach_planned.new.groups
-          (kept c.detach_together.new.mounts c.detach_together.new.filesystems) c.detach_together.new.groups)
+          (kept c.attach_planned.new.mounts c.attach_planned.new.store) c.attach_planned.new.groups
+          (kept c.detach_together.new.mounts c.detach_together.new.store) c.detach_together.new.groups)
           c.deref-2.ensures.value c.detach_together.ensures;
     }

@@ -6,16 +6,16 @@ use Rattle.vt_ns.proofs.looking.WorldLook.is_lost.Goals as goal
 use Rattle.vt_ns.specs.contracts.world.World.{the_view}
 
 pub is_lost-requires-clause-named : goal.is_lost-requires-clause-named
-is_lost-requires-clause-named c = parents_named_at
-    (the_view c.self.inside) c.self.invariant c.in-Some.mount.root.filesystem.count
+is_lost-requires-clause-named c = rw c.plain.ensures (parents_named_at
+    (the_view c.self.inside) c.self.invariant c.in-Some.mount.root.filesystem.count)
 
 pub is_lost-requires-clause-rooted : goal.is_lost-requires-clause-rooted
-is_lost-requires-clause-rooted c = lie_under_root_at
-    (the_view c.self.inside) c.self.invariant c.in-Some.mount.root.filesystem.count
+is_lost-requires-clause-rooted c = rw c.plain.ensures (lie_under_root_at
+    (the_view c.self.inside) c.self.invariant c.in-Some.mount.root.filesystem.count)
 
 pub returns-in-Some : goal.returns-in-Some
 returns-in-Some c =
-    c.is_lost.ensures
+    (rw c.plain.ensures at c.is_lost.ensures)
     ∙ lost_is (the_view c.self.inside) c.args.self.now c.self.view_is c.self.invariant c.args.at (omega arith)
     c.get.result c.get.ensures c.in-Some.mount c.in-Some.is
 

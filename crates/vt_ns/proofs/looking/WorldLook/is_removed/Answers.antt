@@ -5,10 +5,10 @@ use Rattle.vt_ns.proofs.looking.WorldLook.is_removed.Goals as goal
 use Rattle.vt_ns.specs.contracts.world.World.{the_view}
 
 pub is_removed-requires : goal.is_removed-requires
-is_removed-requires c = record {
+is_removed-requires c = rw c.plain.ensures (record {
   named = parents_named_at
       (the_view c.self.inside) c.self.invariant c.args.at.node.filesystem.count;
-}
+})
 
 pub returns-then-not-is_seen : goal.returns-then-not-is_seen
 returns-then-not-is_seen c =
@@ -19,6 +19,6 @@ returns-then-not-is_seen c =
 
 pub returns-else-not-is_seen : goal.returns-else-not-is_seen
 returns-else-not-is_seen c =
-    c.is_removed.ensures
+    (rw c.plain.ensures at c.is_removed.ensures)
     ∙ removed_is (the_view c.self.inside) c.args.self.now c.self.view_is c.self.invariant c.args.at (omega arith)
     (sym c.is_seen.ensures ∙ c.if-not-is_seen.false)

@@ -6,12 +6,12 @@ use Rattle.vt_ns.proofs.looking.WorldLook.is_under.Goals.{else-is_seen-via-else-
 use Rattle.vt_ns.specs.contracts.world.World.{the_view}
 
 pub is_under-requires-clause-named : goal.is_under-requires-clause-named
-is_under-requires-clause-named c = parents_named_at
-    (the_view c.self.inside) c.self.invariant c.args.top.node.filesystem.count
+is_under-requires-clause-named c = rw c.plain.ensures (parents_named_at
+    (the_view c.self.inside) c.self.invariant c.args.top.node.filesystem.count)
 
 pub returns-then-eq : goal.returns-then-eq
 returns-then-eq c =
-    c.is_under.ensures
+    (rw c.plain.ensures at c.is_under.ensures)
     ∙ under_is (the_view c.self.inside) c.args.self.now c.self.view_is c.self.invariant c.args.top
     (omega arith) c.args.directory
     (sym c.is_seen.ensures ∙ c.if-is_seen.true)

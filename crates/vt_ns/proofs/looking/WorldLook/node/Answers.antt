@@ -15,7 +15,7 @@ returns-then-is_seen c =
     (node_at nat_eq (world_of c.args.self.now) (location_of c.args.at)) (omega arith)
     (λ there. here_number c.args.at.node (born_at (the_view c.self.inside) c.args.self.now c.self.view_is
     c.self.invariant c.args.at (omega arith) there))
-    (c.node.ensures
+    ((rw c.plain.ensures at c.node.ensures)
     ∙ node_is (the_view c.self.inside) c.args.self.now c.self.view_is c.self.invariant c.args.at (omega arith)
     (sym c.is_seen.ensures ∙ c.if-is_seen.true))
 

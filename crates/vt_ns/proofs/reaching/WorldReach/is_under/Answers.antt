@@ -9,12 +9,12 @@ use Rattle.vt_ns.proofs.reaching.WorldReach.is_under.Goals as goal
 use Rattle.vt_ns.specs.contracts.world.World.{the_view}
 
 pub is_under-requires-clause-named : goal.is_under-requires-clause-named
-is_under-requires-clause-named c = parents_named_at
-    (the_view c.self.inside) c.self.invariant c.args.top.filesystem.count
+is_under-requires-clause-named c = rw c.plain.ensures (parents_named_at
+    (the_view c.self.inside) c.self.invariant c.args.top.filesystem.count)
 
 pub returns-then-eq : goal.returns-then-eq
 returns-then-eq c =
-    c.is_under.ensures
+    (rw c.plain.ensures at c.is_under.ensures)
     ∙ sym (lies_so (the_view c.self.inside) c.args.top c.args.directory c.self.invariant)
     ∙ ap (λ value. lies_under value (counted c.args.top.filesystem.count) (number_of c.args.top)
     (number_of c.args.directory)) c.self.view_is

@@ -1,4 +1,4 @@
-use Rattle.std.proofs.Common.{ap, arith, length, map, false, nat_eq, refl, subst, sym, true, ◌≡◌, ◌+◌, ◌*◌, ◌∙◌}
+use Rattle.std.proofs.Common.{ap, arith, length, map, false, nat_eq, refl, subst, sym, true, ◌≡◌, ◌+◌, ◌*◌, ◌∙◌, List}
 use Rattle.vt_location.specs.Locations.{location_of}
 use Rattle.vt_location.specs.MountValue.{mount_of}
 use Rattle.vt_propagate.specs.declared.copying.Counts.{Counts}
@@ -12,9 +12,15 @@ use Rattle.vt_detach.specs.Events.{Becomes, Permits}
 use Rattle.vt_world.specs.WorldValue.{WorldValue, world_of}
 use Rattle.vt_attach.proofs.Binding.{bind_is_done, may_bind, source_there}
 use Rattle.vt_attach.proofs.GraftedDone.{grafted_value}
+use Rattle.vt_attach.specs.Grafted.{IsGrafted}
 use Rattle.vt_ns.specs.Counting.{counted_for}
 use Rattle.vt_ns.proofs.world.Counted.{counted_so}
 use Rattle.vt_ns.proofs.world.BoundEvents.{bind_place_there, parts_found, place_mounted}
+use Rattle.vt_world.specs.Held.{IsHeld}
+use Rattle.vt_world.specs.StoredWorld.{overlays_of_store}
+use Rattle.vt_detach.specs.Stored.{kept, merged_of}
+use Rattle.vt_detach.specs.Uses.{Kept, kept_of}
+use Rattle.vt_ns.proofs.world.StoresKept.{held_stored, kept_is, kept_still, none_attached, none_kept}
 use Rattle.vt_ns.proofs.world.World.bind.Goals as goal
 
 pub mounts_bound-requires : goal.mounts_bound-requires
@@ -79,9 +85,17 @@ invariant_of-self-2 c =
     let grows : c.self.inside.next + c.in-Some.taken
     ≡ value.next + 2 * (length c.deref.result.now * length c.deref-2.result.now) =
     ap (λ n. c.self.inside.next + n) (c.in-Some.ensures.count ∙ (λ i. 2 * (one i * two i))) in
+    held_stored IsHeld
+    (the_view c.self.inside) c.self.invariant _ c.attach_graft.new.store (kept_still (the_view c.self.inside) c.self.invariant (map merged_of c.attach_graft.new.store.overlays))
+    (ap (λ (k : Kept). k.overlays) (subst (λ k. IsGrafted graft counts k c.self.inside.groups (kept c.attach_graft.new.mounts c.attach_graft.new.store) c.attach_graft.new.groups)
+    (kept_is (the_view c.self.inside) c.self.inside.store) c.in_ok-attach_graft.ensures.ok).done
+    ∙ none_attached (subst (λ k. IsGrafted graft counts k c.self.inside.groups (kept c.attach_graft.new.mounts c.attach_graft.new.store) c.attach_graft.new.groups)
+    (kept_is (the_view c.self.inside) c.self.inside.store) c.in_ok-attach_graft.ensures.ok).copies (kept_of (the_view c.self.inside)).overlays (none_kept (the_view c.self.inside) c.self.invariant))
     (bind_is_done value c.self.invariant c.args.name.now c.args.bind.source c.args.bind.recursive graft counts permits tree_is refl parts_are refl refl
-    c.attach_graft.new.mounts c.attach_graft.new.groups c.attach_graft.new.filesystems
-    (c.self.inside.next + c.in-Some.taken) c.in_ok-attach_graft.ensures.ok
+    c.attach_graft.new.mounts c.attach_graft.new.groups c.attach_graft.new.store.plain (map merged_of c.attach_graft.new.store.overlays)
+    (c.self.inside.next + c.in-Some.taken)
+    (subst (λ k. IsGrafted graft counts k c.self.inside.groups (kept c.attach_graft.new.mounts c.attach_graft.new.store) c.attach_graft.new.groups)
+    (kept_is (the_view c.self.inside) c.self.inside.store) c.in_ok-attach_graft.ensures.ok)
     c.are_ascending.ensures c.are_counted.ensures grows).held
 
 pub returns-clause-ok : goal.returns-clause-ok
@@ -108,12 +122,22 @@ returns-clause-ok c =
     ap (λ n. c.self.inside.next + n) (c.in-Some.ensures.count ∙ (λ i. 2 * (one i * two i))) in
     subst (λ (v : WorldValue). Becomes v c.args.name.now
     (attachment_permit (Bind c.args.bind))
-    (grafted_value (the_view c.self.inside) c.attach_graft.new.mounts c.attach_graft.new.groups c.attach_graft.new.filesystems (c.self.inside.next + c.in-Some.taken)))
+    (record (grafted_value (the_view c.self.inside) c.attach_graft.new.mounts c.attach_graft.new.groups c.attach_graft.new.store.plain (map merged_of c.attach_graft.new.store.overlays)
+    (c.self.inside.next + c.in-Some.taken)) { overlays = overlays_of_store c.attach_graft.new.store }))
     c.self.view_is
+    (held_stored (λ new. Becomes (the_view c.self.inside) c.args.name.now (attachment_permit (Bind c.args.bind)) new)
+    (the_view c.self.inside) c.self.invariant (grafted_value (the_view c.self.inside) c.attach_graft.new.mounts c.attach_graft.new.groups c.attach_graft.new.store.plain (map merged_of c.attach_graft.new.store.overlays)
+    (c.self.inside.next + c.in-Some.taken)) c.attach_graft.new.store (kept_still (the_view c.self.inside) c.self.invariant (map merged_of c.attach_graft.new.store.overlays))
+    (ap (λ (k : Kept). k.overlays) (subst (λ k. IsGrafted graft counts k c.self.inside.groups (kept c.attach_graft.new.mounts c.attach_graft.new.store) c.attach_graft.new.groups)
+    (kept_is (the_view c.self.inside) c.self.inside.store) c.in_ok-attach_graft.ensures.ok).done
+    ∙ none_attached (subst (λ k. IsGrafted graft counts k c.self.inside.groups (kept c.attach_graft.new.mounts c.attach_graft.new.store) c.attach_graft.new.groups)
+    (kept_is (the_view c.self.inside) c.self.inside.store) c.in_ok-attach_graft.ensures.ok).copies (kept_of (the_view c.self.inside)).overlays (none_kept (the_view c.self.inside) c.self.invariant))
     (bind_is_done value c.self.invariant c.args.name.now c.args.bind.source c.args.bind.recursive graft counts permits tree_is refl parts_are refl refl
-    c.attach_graft.new.mounts c.attach_graft.new.groups c.attach_graft.new.filesystems
-    (c.self.inside.next + c.in-Some.taken) c.in_ok-attach_graft.ensures.ok
-    c.are_ascending.ensures c.are_counted.ensures grows).becomes
+    c.attach_graft.new.mounts c.attach_graft.new.groups c.attach_graft.new.store.plain (map merged_of c.attach_graft.new.store.overlays)
+    (c.self.inside.next + c.in-Some.taken)
+    (subst (λ k. IsGrafted graft counts k c.self.inside.groups (kept c.attach_graft.new.mounts c.attach_graft.new.store) c.attach_graft.new.groups)
+    (kept_is (the_view c.self.inside) c.self.inside.store) c.in_ok-attach_graft.ensures.ok)
+    c.are_ascending.ensures c.are_counted.ensures grows).becomes)
 
 pub returns-clause-counts : goal.returns-clause-counts
 returns-clause-counts c =

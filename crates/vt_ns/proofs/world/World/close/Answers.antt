@@ -1,43 +1,57 @@
-use Rattle.std.proofs.Common.{sym, subst, ap, ◌∙◌, option_map}
+use Rattle.std.proofs.Common.{sym, subst, ap, ◌∙◌, option_map, map, refl, List}
 use Rattle.vt_laws_letting_go.proofs.Lists.{passes}
 use Rattle.vt_spec.specs.Machine.Permits.Permit.{ToClose}
 use Rattle.vt_tasks.specs.Open.{numbered}
 use Rattle.vt_tasks.specs.TasksValue.{has_files_in_order}
 use Rattle.vt_ns.specs.contracts.world.World.{the_view}
 use Rattle.vt_detach.specs.Events.{Becomes, Permits}
-use Rattle.vt_detach.specs.Uses.{kept, without_location}
+use Rattle.vt_detach.specs.Uses.{Kept, kept_of, without_location}
 use Rattle.vt_detach.proofs.Closing.{file_is_closed, nothing_is_closed}
 use Rattle.vt_detach.proofs.Remaining.{remade}
 use Rattle.vt_detach.proofs.Staying.{after}
+use Rattle.vt_world.specs.Held.{IsHeld}
+use Rattle.vt_world.specs.StoredWorld.{overlays_of_store}
+use Rattle.vt_detach.specs.Stored.{merged_of}
+use Rattle.vt_ns.proofs.world.StoresKept.{held_stored, kept_is, none_kept, none_without}
 use Rattle.vt_ns.proofs.world.World.close.Goals as goal
 
 pub invariant_of-self : goal.invariant_of-self
 invariant_of-self c =
-    (file_is_closed (the_view c.self.inside) c.args.name.now c.args.descriptor c.in-Some.closed c.leave.new.mounts c.leave.new.filesystems c.close.new.self
+    held_stored IsHeld
+    (the_view c.self.inside) c.self.invariant _ c.leave.new.store refl
+    (ap (λ (k : Kept). k.overlays) (c.leave.ensures.left
+    ∙ (λ i. without_location c.in-Some.closed.location (c.writes.ensures i) (kept_is (the_view c.self.inside) c.self.inside.store i)))
+    ∙ none_without c.in-Some.closed.location _ (kept_of (the_view c.self.inside)) (none_kept (the_view c.self.inside) c.self.invariant))
+    (file_is_closed (the_view c.self.inside) c.args.name.now c.args.descriptor c.in-Some.closed c.leave.new.mounts c.leave.new.store.plain (map merged_of c.leave.new.store.overlays) c.close.new.self
     c.self.invariant
     (subst (λ value. Permits value c.args.name.now (ToClose c.args.descriptor)) (sym c.self.view_is) c.requires)
     c.leave.ensures.slot
     (passes has_files_in_order c.self.inside.tasks c.close.ensures.order)
     (sym (ap (option_map (numbered c.args.descriptor)) c.in-Some.is) ∙ c.close.ensures.value)
     c.close.ensures.rest
-    (c.leave.ensures.left ∙ ap (λ writes.
-    without_location c.in-Some.closed.location writes
-    (kept c.self.inside.mounts c.self.inside.filesystems)) c.writes.ensures)).held
+    (c.leave.ensures.left
+    ∙ (λ i. without_location c.in-Some.closed.location (c.writes.ensures i) (kept_is (the_view c.self.inside) c.self.inside.store i)))).held
 
 pub returns-in-Some : goal.returns-in-Some
 returns-in-Some c =
     subst (λ value. Becomes value c.args.name.now (ToClose c.args.descriptor)
-    (remade (the_view c.self.inside) c.leave.new.mounts c.leave.new.filesystems c.close.new.self)) c.self.view_is
-    (file_is_closed (the_view c.self.inside) c.args.name.now c.args.descriptor c.in-Some.closed c.leave.new.mounts c.leave.new.filesystems c.close.new.self
+    (record (remade (the_view c.self.inside) c.leave.new.mounts c.leave.new.store.plain c.close.new.self) {
+      overlays = overlays_of_store c.leave.new.store;
+    })) c.self.view_is
+    (held_stored (λ new. Becomes (the_view c.self.inside) c.args.name.now (ToClose c.args.descriptor) new)
+    (the_view c.self.inside) c.self.invariant (remade (the_view c.self.inside) c.leave.new.mounts c.leave.new.store.plain c.close.new.self) c.leave.new.store refl
+    (ap (λ (k : Kept). k.overlays) (c.leave.ensures.left
+    ∙ (λ i. without_location c.in-Some.closed.location (c.writes.ensures i) (kept_is (the_view c.self.inside) c.self.inside.store i)))
+    ∙ none_without c.in-Some.closed.location _ (kept_of (the_view c.self.inside)) (none_kept (the_view c.self.inside) c.self.invariant))
+    (file_is_closed (the_view c.self.inside) c.args.name.now c.args.descriptor c.in-Some.closed c.leave.new.mounts c.leave.new.store.plain (map merged_of c.leave.new.store.overlays) c.close.new.self
     c.self.invariant
     (subst (λ value. Permits value c.args.name.now (ToClose c.args.descriptor)) (sym c.self.view_is) c.requires)
     c.leave.ensures.slot
     (passes has_files_in_order c.self.inside.tasks c.close.ensures.order)
     (sym (ap (option_map (numbered c.args.descriptor)) c.in-Some.is) ∙ c.close.ensures.value)
     c.close.ensures.rest
-    (c.leave.ensures.left ∙ ap (λ writes.
-    without_location c.in-Some.closed.location writes
-    (kept c.self.inside.mounts c.self.inside.filesystems)) c.writes.ensures)).becomes
+    (c.leave.ensures.left
+    ∙ (λ i. without_location c.in-Some.closed.location (c.writes.ensures i) (kept_is (the_view c.self.inside) c.self.inside.store i)))).becomes)
 
 pub invariant_of-self-in_default : goal.invariant_of-self-in_default
 invariant_of-self-in_default c =

@@ -1,19 +1,36 @@
-use Rattle.std.proofs.Common.{ap, false, fold, option_map, subst, sym, ◌∙◌, []}
+use Rattle.std.proofs.Common.{ap, false, fold, option_map, subst, sym, ◌∙◌, map, refl, List}
 use Rattle.vt_spec.specs.Machine.Permits.Permit.{ToExit}
 use Rattle.vt_tasks.specs.TaskValue.{task_of}
 use Rattle.vt_ns.specs.contracts.world.World.{the_view}
 use Rattle.vt_detach.specs.Events.{Becomes, Permits}
-use Rattle.vt_detach.specs.NamespacesLeft.{without_file}
-use Rattle.vt_detach.specs.Uses.{kept, without_location}
+use Rattle.vt_detach.specs.NamespacesLeft.{namespace_entry, without_file}
+use Rattle.vt_location.specs.Numbers.{counted}
+use Rattle.vt_detach.specs.Stored.{kept, merged_of}
+use Rattle.vt_detach.specs.Uses.{Kept, kept_of, without_location}
 use Rattle.vt_world.specs.WorldValue.{WorldValue, entries_of}
 use Rattle.vt_detach.proofs.Exiting.{task_exits}
+use Rattle.vt_world.specs.Held.{IsHeld}
+use Rattle.vt_world.specs.StoredWorld.{overlays_of_store}
+use Rattle.vt_ns.proofs.world.StoresKept.{held_stored, kept_is, none_kept, none_left, none_with_files, none_without}
 use Rattle.vt_ns.proofs.world.World.exit.Goals as goal
 
 pub invariant_of-self-2 : goal.invariant_of-self-2
 invariant_of-self-2 c =
+    held_stored IsHeld
+    (the_view c.self.inside) c.self.invariant _ c.leave_namespace.new.store refl
+    (none_left (counted c.in-Some.task.namespace.count) (namespace_entry c.in-Some.task.namespace.count (entries_of c.self.inside.namespaces.entries))
+    (kept c.leave_files.new.mounts c.leave_files.new.store) c.self.inside.groups
+    (kept c.leave_namespace.new.mounts c.leave_namespace.new.store) c.leave_namespace.new.groups
+    (ap (λ (k : Kept). k.overlays) (c.leave_files.ensures.left
+    ∙ ap (λ k. fold without_file k c.files.result.now)
+    (c.leave-2.ensures.left ∙ ap (without_location c.in-Some.task.directory false)
+    (c.leave.ensures.left ∙ ap (without_location c.in-Some.task.root false) (kept_is (the_view c.self.inside) c.self.inside.store))))
+    ∙ none_with_files c.files.result.now _ (none_without c.in-Some.task.directory false _
+    (none_without c.in-Some.task.root false (kept_of (the_view c.self.inside)) (none_kept (the_view c.self.inside) c.self.invariant))))
+    c.leave_namespace.ensures.mounts)
     (task_exits (the_view c.self.inside) c.args.name.now c.in-Some.task c.files.result.now
-    (kept c.leave_files.new.mounts c.leave_files.new.filesystems)
-    c.leave_namespace.new.mounts c.leave_namespace.new.groups c.leave_namespace.new.filesystems
+    (kept c.leave_files.new.mounts c.leave_files.new.store)
+    c.leave_namespace.new.mounts c.leave_namespace.new.groups c.leave_namespace.new.store.plain (map merged_of c.leave_namespace.new.store.overlays)
     (entries_of c.leave_namespace.new.namespaces.entries) c.exit.new.self
     c.self.invariant
     (subst (λ value. Permits value c.args.name.now ToExit) (sym c.self.view_is) c.requires)
@@ -27,7 +44,8 @@ invariant_of-self-2 c =
       writes = c.files.ensures.writes;
       is = c.leave_files.ensures.left
           ∙ ap (λ k. fold without_file k c.files.result.now)
-          (c.leave-2.ensures.left ∙ ap (without_location c.in-Some.task.directory false) c.leave.ensures.left);
+          (c.leave-2.ensures.left ∙ ap (without_location c.in-Some.task.directory false)
+          (c.leave.ensures.left ∙ ap (without_location c.in-Some.task.root false) (kept_is (the_view c.self.inside) c.self.inside.store)));
     })
     c.leave_namespace.ensures.namespaces c.leave_namespace.ensures.mounts).held
 
@@ -36,16 +54,28 @@ returns c =
     let new : WorldValue = record {
       mounts = c.leave_namespace.new.mounts;
       groups = c.leave_namespace.new.groups;
-      filesystems = c.leave_namespace.new.filesystems;
-      overlays = [];
+      filesystems = c.leave_namespace.new.store.plain;
+      overlays = overlays_of_store c.leave_namespace.new.store;
       namespaces = entries_of c.leave_namespace.new.namespaces.entries;
       tasks = c.exit.new.self;
       next = c.self.inside.next;
     } in
     subst (λ value. Becomes value c.args.name.now ToExit new) c.self.view_is
+    (held_stored (λ new. Becomes (the_view c.self.inside) c.args.name.now ToExit new)
+    (the_view c.self.inside) c.self.invariant (record new { overlays = (the_view c.self.inside).overlays }) c.leave_namespace.new.store refl
+    (none_left (counted c.in-Some.task.namespace.count) (namespace_entry c.in-Some.task.namespace.count (entries_of c.self.inside.namespaces.entries))
+    (kept c.leave_files.new.mounts c.leave_files.new.store) c.self.inside.groups
+    (kept c.leave_namespace.new.mounts c.leave_namespace.new.store) c.leave_namespace.new.groups
+    (ap (λ (k : Kept). k.overlays) (c.leave_files.ensures.left
+    ∙ ap (λ k. fold without_file k c.files.result.now)
+    (c.leave-2.ensures.left ∙ ap (without_location c.in-Some.task.directory false)
+    (c.leave.ensures.left ∙ ap (without_location c.in-Some.task.root false) (kept_is (the_view c.self.inside) c.self.inside.store))))
+    ∙ none_with_files c.files.result.now _ (none_without c.in-Some.task.directory false _
+    (none_without c.in-Some.task.root false (kept_of (the_view c.self.inside)) (none_kept (the_view c.self.inside) c.self.invariant))))
+    c.leave_namespace.ensures.mounts)
     (task_exits (the_view c.self.inside) c.args.name.now c.in-Some.task c.files.result.now
-    (kept c.leave_files.new.mounts c.leave_files.new.filesystems)
-    c.leave_namespace.new.mounts c.leave_namespace.new.groups c.leave_namespace.new.filesystems
+    (kept c.leave_files.new.mounts c.leave_files.new.store)
+    c.leave_namespace.new.mounts c.leave_namespace.new.groups c.leave_namespace.new.store.plain (map merged_of c.leave_namespace.new.store.overlays)
     (entries_of c.leave_namespace.new.namespaces.entries) c.exit.new.self
     c.self.invariant
     (subst (λ value. Permits value c.args.name.now ToExit) (sym c.self.view_is) c.requires)
@@ -59,6 +89,7 @@ returns c =
       writes = c.files.ensures.writes;
       is = c.leave_files.ensures.left
           ∙ ap (λ k. fold without_file k c.files.result.now)
-          (c.leave-2.ensures.left ∙ ap (without_location c.in-Some.task.directory false) c.leave.ensures.left);
+          (c.leave-2.ensures.left ∙ ap (without_location c.in-Some.task.directory false)
+          (c.leave.ensures.left ∙ ap (without_location c.in-Some.task.root false) (kept_is (the_view c.self.inside) c.self.inside.store)));
     })
-    c.leave_namespace.ensures.namespaces c.leave_namespace.ensures.mounts).becomes
+    c.leave_namespace.ensures.namespaces c.leave_namespace.ensures.mounts).becomes)

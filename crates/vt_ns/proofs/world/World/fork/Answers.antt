@@ -1,4 +1,4 @@
-use Rattle.std.proofs.Common.{ap, false, option_map, option_copied, rules, subst, sym, ◌∙◌}
+use Rattle.std.proofs.Common.{ap, false, option_map, option_copied, rules, subst, sym, ◌∙◌, map, refl, List}
 use Rattle.vt_spec.specs.Machine.Permits.Permit.{ToFork}
 use Rattle.vt_tasks.specs.TaskValue.{task_of}
 use Rattle.vt_ns.specs.contracts.world.World.{the_view}
@@ -8,6 +8,11 @@ use Rattle.vt_world.specs.WorldValue.{entries_of}
 use Rattle.vt_ns.proofs.CountingLemmas.{room_left}
 use Rattle.vt_ns.proofs.world.ForkedTasks.{may_fork, task_is_forked}
 use Rattle.vt_ns.proofs.world.RemainingTasks.{remade_in}
+use Rattle.vt_world.specs.Held.{IsHeld}
+use Rattle.vt_world.specs.StoredWorld.{overlays_of_store}
+use Rattle.vt_detach.specs.Stored.{merged_of}
+use Rattle.vt_detach.specs.Uses.{Kept}
+use Rattle.vt_ns.proofs.world.StoresKept.{held_stored, kept_is, none_kept}
 use Rattle.vt_ns.proofs.world.World.fork.Goals as goal
 
 pub fork-requires : goal.fork-requires
@@ -18,34 +23,47 @@ fork-requires c =
 pub hold_once_more-requires-2 : goal.hold_once_more-requires-2
 hold_once_more-requires-2 c =
     room_left c.unwrap-parent.result.now.root c.unwrap-parent.result.now.directory c.self.inside.mounts c.hold_once_more.new.mounts
-    c.self.inside.filesystems c.hold_once_more.new.filesystems
+    c.self.inside.store c.hold_once_more.new.store
     (c.has_room-else-not-has_room.ensures.0
     (let room = c.if-not-has_room-2.false in search rules))
     c.hold_once_more.ensures.held
 
 pub invariant_of-self-2 : goal.invariant_of-self-2
 invariant_of-self-2 c =
+    held_stored IsHeld
+    (the_view c.self.inside) c.self.invariant _ c.hold_once_more-2.new.store refl
+    (ap (λ (k : Kept). k.overlays) (c.hold_once_more-2.ensures.held
+    ∙ ap (with_location c.unwrap-parent.result.now.directory false)
+    (c.hold_once_more.ensures.held ∙ ap (with_location c.unwrap-parent.result.now.root false) (kept_is (the_view c.self.inside) c.self.inside.store))) ∙ (none_kept (the_view c.self.inside) c.self.invariant))
     (task_is_forked (the_view c.self.inside) c.self.invariant c.args.name.now c.args.cred
     (subst (λ value. Permits value c.args.name.now (ToFork c.args.cred)) (sym c.self.view_is) c.requires)
     c.unwrap-parent.result.now (sym (ap (λ found. option_map task_of (option_copied found)) c.unwrap-parent.ensures) ∙ c.get.ensures)
     c.hold_once_more.ensures.slot c.hold_once_more-2.ensures.slot
-    c.hold_once_more-2.new.mounts c.hold_once_more-2.new.filesystems
+    c.hold_once_more-2.new.mounts c.hold_once_more-2.new.store.plain (map merged_of c.hold_once_more-2.new.store.overlays)
     (entries_of c.count_task.new.namespaces.entries) c.fork.new.self
     c.count_task.ensures c.in_ok-child.ensures.ok
     (c.hold_once_more-2.ensures.held
-    ∙ ap (with_location c.unwrap-parent.result.now.directory false) c.hold_once_more.ensures.held)).held
+    ∙ ap (with_location c.unwrap-parent.result.now.directory false)
+    (c.hold_once_more.ensures.held ∙ ap (with_location c.unwrap-parent.result.now.root false) (kept_is (the_view c.self.inside) c.self.inside.store)))).held
 
 pub returns-clause-ok : goal.returns-clause-ok
 returns-clause-ok c =
     subst (λ value. Becomes value c.args.name.now (ToFork c.args.cred)
-    (remade_in (the_view c.self.inside) c.hold_once_more-2.new.mounts c.hold_once_more-2.new.filesystems
-    (entries_of c.count_task.new.namespaces.entries) c.fork.new.self)) c.self.view_is
+    (record (remade_in (the_view c.self.inside) c.hold_once_more-2.new.mounts c.hold_once_more-2.new.store.plain
+    (entries_of c.count_task.new.namespaces.entries) c.fork.new.self) { overlays = overlays_of_store c.hold_once_more-2.new.store })) c.self.view_is
+    (held_stored (λ new. Becomes (the_view c.self.inside) c.args.name.now (ToFork c.args.cred) new)
+    (the_view c.self.inside) c.self.invariant (remade_in (the_view c.self.inside) c.hold_once_more-2.new.mounts c.hold_once_more-2.new.store.plain
+    (entries_of c.count_task.new.namespaces.entries) c.fork.new.self) c.hold_once_more-2.new.store refl
+    (ap (λ (k : Kept). k.overlays) (c.hold_once_more-2.ensures.held
+    ∙ ap (with_location c.unwrap-parent.result.now.directory false)
+    (c.hold_once_more.ensures.held ∙ ap (with_location c.unwrap-parent.result.now.root false) (kept_is (the_view c.self.inside) c.self.inside.store))) ∙ (none_kept (the_view c.self.inside) c.self.invariant))
     (task_is_forked (the_view c.self.inside) c.self.invariant c.args.name.now c.args.cred
     (subst (λ value. Permits value c.args.name.now (ToFork c.args.cred)) (sym c.self.view_is) c.requires)
     c.unwrap-parent.result.now (sym (ap (λ found. option_map task_of (option_copied found)) c.unwrap-parent.ensures) ∙ c.get.ensures)
     c.hold_once_more.ensures.slot c.hold_once_more-2.ensures.slot
-    c.hold_once_more-2.new.mounts c.hold_once_more-2.new.filesystems
+    c.hold_once_more-2.new.mounts c.hold_once_more-2.new.store.plain (map merged_of c.hold_once_more-2.new.store.overlays)
     (entries_of c.count_task.new.namespaces.entries) c.fork.new.self
     c.count_task.ensures c.in_ok-child.ensures.ok
     (c.hold_once_more-2.ensures.held
-    ∙ ap (with_location c.unwrap-parent.result.now.directory false) c.hold_once_more.ensures.held)).becomes
+    ∙ ap (with_location c.unwrap-parent.result.now.directory false)
+    (c.hold_once_more.ensures.held ∙ ap (with_location c.unwrap-parent.result.now.root false) (kept_is (the_view c.self.inside) c.self.inside.store)))).becomes)

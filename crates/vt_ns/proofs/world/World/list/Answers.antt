@@ -16,5 +16,5 @@ returns c = record {
       (subst (λ value. Permits value c.args.name.now (ToList (location_of c.args.directory)))
       (sym c.self.view_is) c.requires)
       ∙ ap (λ value. node_at nat_eq (world_of value) (location_of c.args.directory)) c.self.view_is)
-      c.list.ensures.ok;
+      (rw c.plain.ensures at c.list.ensures.ok);
 }

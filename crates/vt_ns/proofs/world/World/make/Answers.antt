@@ -4,25 +4,27 @@ use Rattle.vt_permits.specs.GrantValue.{make_permit}
 use Rattle.vt_permits.specs.declared.grant.MakeGrant.TheVariants.{Node}
 use Rattle.vt_ns.specs.contracts.world.World.{the_view}
 use Rattle.vt_detach.specs.Events.{Becomes, Permits}
-use Rattle.vt_detach.proofs.ChangedFiles.{with_filesystems}
 use Rattle.vt_ns.proofs.world.FileMaking.{make_fits, make_is_done, new_in_directory}
+use Rattle.vt_world.specs.Held.{IsHeld}
+use Rattle.vt_world.specs.StoredWorld.{with_store}
+use Rattle.vt_ns.proofs.world.StoresKept.{plain_changed}
 use Rattle.vt_ns.proofs.world.World.make.Goals as goal
 
 pub create-requires-clause-directory : goal.create-requires-clause-directory
 create-requires-clause-directory c =
-    (make_fits (the_view c.self.inside) c.self.invariant c.args.name.now c.args.new.directory c.args.new.name.items c.args.new.node
+    rw c.plain_mut.ensures.value ((make_fits (the_view c.self.inside) c.self.invariant c.args.name.now c.args.new.directory c.args.new.name.items c.args.new.node
     (omega arith)
     (subst (λ value. Permits value c.args.name.now
     (make_permit (Node c.args.new)))
-    (sym c.self.view_is) c.requires)).0
+    (sym c.self.view_is) c.requires)).0)
 
 pub create-requires-clause-free : goal.create-requires-clause-free
 create-requires-clause-free c =
-    (make_fits (the_view c.self.inside) c.self.invariant c.args.name.now c.args.new.directory c.args.new.name.items c.args.new.node
+    rw c.plain_mut.ensures.value ((make_fits (the_view c.self.inside) c.self.invariant c.args.name.now c.args.new.directory c.args.new.name.items c.args.new.node
     (omega arith)
     (subst (λ value. Permits value c.args.name.now
     (make_permit (Node c.args.new)))
-    (sym c.self.view_is) c.requires)).1
+    (sym c.self.view_is) c.requires)).1)
 
 pub create-requires-clause-node : goal.create-requires-clause-node
 create-requires-clause-node c =
@@ -33,23 +35,28 @@ create-requires-clause-node c =
 
 pub invariant_of-self-2 : goal.invariant_of-self-2
 invariant_of-self-2 c =
-    (make_is_done (the_view c.self.inside) c.self.invariant c.args.name.now c.args.new.directory c.args.new.name.items c.args.new.node (omega arith)
+    plain_changed IsHeld (the_view c.self.inside) c.self.inside.store c.self.invariant c.create.new.self
+    ((make_is_done (the_view c.self.inside) c.self.invariant c.args.name.now c.args.new.directory c.args.new.name.items c.args.new.node (omega arith)
     (subst (λ value. Permits value c.args.name.now
     (make_permit (Node c.args.new)))
     (sym c.self.view_is) c.requires)
     c.create.new.self c.in_ok-create.field-0
     (here_is_own c.in_ok-create.field-0 (omega arith) (omega arith) c.in_ok-create.ensures.birth)
-    c.in_ok-create.ensures.filesystem c.in_ok-create.ensures.number c.in_ok-create.ensures.ok).held
+    c.in_ok-create.ensures.filesystem c.in_ok-create.ensures.number c.in_ok-create.ensures.ok).held)
 
 pub returns-clause-ok : goal.returns-clause-ok
 returns-clause-ok c =
     subst (λ value. Becomes value c.args.name.now
     (make_permit (Node c.args.new))
-    (with_filesystems (the_view c.self.inside) c.create.new.self)) c.self.view_is
-    (make_is_done (the_view c.self.inside) c.self.invariant c.args.name.now c.args.new.directory c.args.new.name.items c.args.new.node (omega arith)
+    (with_store (record c.self.inside.store { plain = c.create.new.self }) (the_view c.self.inside))) c.self.view_is
+    (plain_changed (λ new. Becomes (the_view c.self.inside) c.args.name.now
+    (make_permit (Node c.args.new))
+    new)
+    (the_view c.self.inside) c.self.inside.store c.self.invariant c.create.new.self
+    ((make_is_done (the_view c.self.inside) c.self.invariant c.args.name.now c.args.new.directory c.args.new.name.items c.args.new.node (omega arith)
     (subst (λ value. Permits value c.args.name.now
     (make_permit (Node c.args.new)))
     (sym c.self.view_is) c.requires)
     c.create.new.self c.in_ok-create.field-0
     (here_is_own c.in_ok-create.field-0 (omega arith) (omega arith) c.in_ok-create.ensures.birth)
-    c.in_ok-create.ensures.filesystem c.in_ok-create.ensures.number c.in_ok-create.ensures.ok).becomes
+    c.in_ok-create.ensures.filesystem c.in_ok-create.ensures.number c.in_ok-create.ensures.ok).becomes))

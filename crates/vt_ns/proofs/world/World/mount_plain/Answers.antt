@@ -1,4 +1,4 @@
-use Rattle.std.proofs.Common.{[], ap, arith, false, length, map, refl, subst, sym, ℕ, ◌≡◌, ◌+◌, ◌*◌, ◌∙◌, ◌∷◌, nat_eq}
+use Rattle.std.proofs.Common.{[], ap, arith, false, length, map, refl, subst, sym, ℕ, ◌≡◌, ◌+◌, ◌*◌, ◌∙◌, ◌∷◌, nat_eq, List, ◌++◌}
 use Rattle.vt_cred.specs.MountFlags.{flags_of}
 use Rattle.vt_location.specs.Locations.{location_of}
 use Rattle.vt_location.specs.MountValue.{mount_of}
@@ -18,6 +18,12 @@ use Rattle.vt_attach.proofs.NewFilesystems.{next_is_above}
 use Rattle.vt_attach.proofs.NewMounts.{may_mount, new_mount_is_done}
 use Rattle.vt_ns.proofs.world.Counted.{as_many_mounts}
 use Rattle.vt_ns.proofs.world.BoundEvents.{parts_found, place_mounted}
+use Rattle.vt_world.specs.Held.{IsHeld}
+use Rattle.vt_world.specs.StoredWorld.{overlays_of_store}
+use Rattle.vt_attach.specs.Grafted.{IsGrafted}
+use Rattle.vt_detach.specs.Stored.{kept, merged_of}
+use Rattle.vt_detach.specs.Uses.{Kept, kept_of, kept_with}
+use Rattle.vt_ns.proofs.world.StoresKept.{held_stored, kept_is, kept_still, none_attached, none_kept}
 use Rattle.vt_ns.proofs.world.World.mount_plain.Goals as goal
 
 pub parts-requires : goal.parts-requires
@@ -87,11 +93,18 @@ invariant_of-self-2 c =
     let grows : c.self.inside.next + c.in-Some.taken ≡ value.next + 2 * (length c.deref.result.now * 2) =
     ap (λ n. c.self.inside.next + n) (c.in-Some.ensures.count ∙ (λ i. 2 * (one i * 2))) in
     let made = c.in_ok-mount_new.ensures.ok in
+    held_stored IsHeld
+    (the_view c.self.inside) c.self.invariant _ c.mount_new.new.store (kept_still (the_view c.self.inside) c.self.invariant (map merged_of c.mount_new.new.store.overlays))
+    (ap (λ (k : Kept). k.overlays) (subst (λ k. IsGrafted graft counts k c.self.inside.groups (kept c.mount_new.new.mounts c.mount_new.new.store) c.mount_new.new.groups)
+    (λ i. kept_with c.self.inside.mounts (c.self.inside.store.plain ++ made.0 ∷ []) (kept_is (the_view c.self.inside) c.self.inside.store i).overlays) made.2).done
+    ∙ none_attached _ (kept_of (the_view c.self.inside)).overlays (none_kept (the_view c.self.inside) c.self.invariant))
     (new_mount_is_done value c.self.invariant c.args.name.now graft counts
     (flags_of c.args.flags) permits refl tree_is parts_are refl refl
     c.are_ascending.ensures c.are_counted.ensures made.0 made.1 (omega arith)
-    c.mount_new.new.mounts c.mount_new.new.groups c.mount_new.new.filesystems
-    (c.self.inside.next + c.in-Some.taken) made.2 grows).held
+    c.mount_new.new.mounts c.mount_new.new.groups c.mount_new.new.store.plain (map merged_of c.mount_new.new.store.overlays)
+    (c.self.inside.next + c.in-Some.taken)
+    (subst (λ k. IsGrafted graft counts k c.self.inside.groups (kept c.mount_new.new.mounts c.mount_new.new.store) c.mount_new.new.groups)
+    (λ i. kept_with c.self.inside.mounts (c.self.inside.store.plain ++ made.0 ∷ []) (kept_is (the_view c.self.inside) c.self.inside.store i).overlays) made.2) grows).held
 
 pub returns-clause-ok : goal.returns-clause-ok
 returns-clause-ok c =
@@ -122,14 +135,22 @@ returns-clause-ok c =
     let made = c.in_ok-mount_new.ensures.ok in
     subst (λ (v : WorldValue). Becomes v c.args.name.now
     (ToMountPlain (location_of c.args.place) (flags_of c.args.flags))
-    (grafted_value (the_view c.self.inside) c.mount_new.new.mounts c.mount_new.new.groups c.mount_new.new.filesystems
-    (c.self.inside.next + c.in-Some.taken)))
+    (record (grafted_value (the_view c.self.inside) c.mount_new.new.mounts c.mount_new.new.groups c.mount_new.new.store.plain (map merged_of c.mount_new.new.store.overlays)
+    (c.self.inside.next + c.in-Some.taken)) { overlays = overlays_of_store c.mount_new.new.store }))
     c.self.view_is
+    (held_stored (λ new. Becomes (the_view c.self.inside) c.args.name.now (ToMountPlain (location_of c.args.place) (flags_of c.args.flags)) new)
+    (the_view c.self.inside) c.self.invariant (grafted_value (the_view c.self.inside) c.mount_new.new.mounts c.mount_new.new.groups c.mount_new.new.store.plain (map merged_of c.mount_new.new.store.overlays)
+    (c.self.inside.next + c.in-Some.taken)) c.mount_new.new.store (kept_still (the_view c.self.inside) c.self.invariant (map merged_of c.mount_new.new.store.overlays))
+    (ap (λ (k : Kept). k.overlays) (subst (λ k. IsGrafted graft counts k c.self.inside.groups (kept c.mount_new.new.mounts c.mount_new.new.store) c.mount_new.new.groups)
+    (λ i. kept_with c.self.inside.mounts (c.self.inside.store.plain ++ made.0 ∷ []) (kept_is (the_view c.self.inside) c.self.inside.store i).overlays) made.2).done
+    ∙ none_attached _ (kept_of (the_view c.self.inside)).overlays (none_kept (the_view c.self.inside) c.self.invariant))
     (new_mount_is_done value c.self.invariant c.args.name.now graft counts
     (flags_of c.args.flags) permits refl tree_is parts_are refl refl
     c.are_ascending.ensures c.are_counted.ensures made.0 made.1 (omega arith)
-    c.mount_new.new.mounts c.mount_new.new.groups c.mount_new.new.filesystems
-    (c.self.inside.next + c.in-Some.taken) made.2 grows).becomes
+    c.mount_new.new.mounts c.mount_new.new.groups c.mount_new.new.store.plain (map merged_of c.mount_new.new.store.overlays)
+    (c.self.inside.next + c.in-Some.taken)
+    (subst (λ k. IsGrafted graft counts k c.self.inside.groups (kept c.mount_new.new.mounts c.mount_new.new.store) c.mount_new.new.groups)
+    (λ i. kept_with c.self.inside.mounts (c.self.inside.store.plain ++ made.0 ∷ []) (kept_is (the_view c.self.inside) c.self.inside.store i).overlays) made.2) grows).becomes)
 
 pub returns-clause-counts : goal.returns-clause-counts
 returns-clause-counts c =

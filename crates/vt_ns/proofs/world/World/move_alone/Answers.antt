@@ -1,4 +1,4 @@
-use Rattle.std.proofs.Common.{Ok, Err, OnOk, Result, ap, arith, nat_eq, refl, subst, sym, ℕ, ◌<◌, ◌≡◌, ◌∙◌}
+use Rattle.std.proofs.Common.{Ok, Err, OnOk, Result, ap, arith, nat_eq, refl, subst, sym, ℕ, ◌<◌, ◌≡◌, ◌∙◌, map, List}
 use Rattle.std.specs.Prelude.{IsErr, ◌↔◌}
 use Rattle.vt_fs.specs.FilesystemsValue.{shown}
 use Rattle.vt_location.specs.declared.locations.Location.{Location}
@@ -15,6 +15,9 @@ use Rattle.vt_detach.proofs.MountsMoved.{mount_is_moved}
 use Rattle.vt_detach.proofs.Remaining.{remade}
 use Rattle.vt_detach.proofs.Shown.{pins, unpins}
 use Rattle.vt_detach.proofs.Staying.{IsDone}
+use Rattle.vt_world.specs.Held.{IsHeld}
+use Rattle.vt_world.specs.StoredWorld.{overlays_of_store}
+use Rattle.vt_ns.proofs.world.StoresKept.{held_stored, none_there}
 use Rattle.vt_ns.proofs.world.World.move_alone.Goals as goal
 
 -- one use more is counted, where there was room
@@ -29,8 +32,11 @@ invariant_of-self-in-Some c =
     (ToMove (counted c.args.mount.count) (location_of c.args.place)) =
     subst (λ value. Permits value c.args.name.now (ToMove (counted c.args.mount.count) (location_of c.args.place)))
     (sym c.self.view_is) c.requires.permitted in
-    let pinned_so = surely c.pin.result _ c.pin.ensures.limit
-    (λ full. absurd (omega (arith, c.if-uses.false, c.uses.ensures, full))) c.pin.ensures.ok in
+    let pinned_so = surely c.pin.result _ (rw c.plain_mut.ensures.value at c.pin.ensures.limit)
+    (λ full. absurd (omega (arith, c.if-uses.false, (rw c.plain.ensures at c.uses.ensures), full))) (rw c.plain_mut.ensures.value at c.pin.ensures.ok) in
+    held_stored IsHeld
+    (the_view c.self.inside) c.self.invariant _ (record c.self.inside.store { plain = c.unpin.new.self }) refl
+    (none_there (the_view c.self.inside) c.self.inside.store c.self.invariant)
     (subst (λ mounts. IsDone (the_view c.self.inside) c.args.name.now
     (ToMove (counted c.args.mount.count) (location_of c.args.place))
     (remade (the_view c.self.inside) mounts c.unpin.new.self c.self.inside.tasks)) (sym c.in_ok-move_to.ensures.ok)
@@ -46,11 +52,11 @@ invariant_of-self-in-Some c =
     ∙ ap (λ (value : WorldValue). (mount_numbered nat_eq (world_of value) (counted c.args.mount.count)).mount_point)
     (sym c.self.view_is))
     (unpins c.in-Some.point.node.filesystem.count
-    (number_of c.in-Some.point.node) c.pin.new.self c.unpin.new.self c.unpin.ensures
+    (number_of c.in-Some.point.node) c.pin.new.self c.unpin.new.self (rw c.plain_mut-in-Some.ensures.value at c.unpin.ensures)
     ∙ ap (unpinned_in (inode_of c.in-Some.point.node))
     (pins c.args.place.node.filesystem.count
-    (number_of c.args.place.node) c.self.inside.filesystems c.pin.new.self pinned_so)
-    ∙ ap (λ o. unpinned_at o (pinned_in (inode_of c.args.place.node) (shown c.self.inside.filesystems)))
+    (number_of c.args.place.node) c.self.inside.store.plain c.pin.new.self pinned_so)
+    ∙ ap (λ o. unpinned_at o (pinned_in (inode_of c.args.place.node) (shown c.self.inside.store.plain)))
     (sym c.in-Some.is)))).held
 
 pub invariant_of-self-in_default : goal.invariant_of-self-in_default
@@ -59,8 +65,11 @@ invariant_of-self-in_default c =
     (ToMove (counted c.args.mount.count) (location_of c.args.place)) =
     subst (λ value. Permits value c.args.name.now (ToMove (counted c.args.mount.count) (location_of c.args.place)))
     (sym c.self.view_is) c.requires.permitted in
-    let pinned_so = surely c.pin.result _ c.pin.ensures.limit
-    (λ full. absurd (omega (arith, c.if-uses.false, c.uses.ensures, full))) c.pin.ensures.ok in
+    let pinned_so = surely c.pin.result _ (rw c.plain_mut.ensures.value at c.pin.ensures.limit)
+    (λ full. absurd (omega (arith, c.if-uses.false, (rw c.plain.ensures at c.uses.ensures), full))) (rw c.plain_mut.ensures.value at c.pin.ensures.ok) in
+    held_stored IsHeld
+    (the_view c.self.inside) c.self.invariant _ (record c.self.inside.store { plain = c.pin.new.self }) refl
+    (none_there (the_view c.self.inside) c.self.inside.store c.self.invariant)
     (subst (λ mounts. IsDone (the_view c.self.inside) c.args.name.now
     (ToMove (counted c.args.mount.count) (location_of c.args.place))
     (remade (the_view c.self.inside) mounts c.pin.new.self c.self.inside.tasks)) (sym c.in_ok-move_to.ensures.ok)
@@ -75,8 +84,8 @@ invariant_of-self-in_default c =
     ∙ ap (λ (value : WorldValue). (mount_numbered nat_eq (world_of value) (counted c.args.mount.count)).mount_point)
     (sym c.self.view_is))
     (pins c.args.place.node.filesystem.count
-    (number_of c.args.place.node) c.self.inside.filesystems c.pin.new.self pinned_so
-    ∙ ap (λ o. unpinned_at o (pinned_in (inode_of c.args.place.node) (shown c.self.inside.filesystems)))
+    (number_of c.args.place.node) c.self.inside.store.plain c.pin.new.self pinned_so
+    ∙ ap (λ o. unpinned_at o (pinned_in (inode_of c.args.place.node) (shown c.self.inside.store.plain)))
     (sym c.in_default.is)))).held
 
 pub returns-in-Some-clause-ok : goal.returns-in-Some-clause-ok
@@ -85,10 +94,15 @@ returns-in-Some-clause-ok c =
     (ToMove (counted c.args.mount.count) (location_of c.args.place)) =
     subst (λ value. Permits value c.args.name.now (ToMove (counted c.args.mount.count) (location_of c.args.place)))
     (sym c.self.view_is) c.requires.permitted in
-    let pinned_so = surely c.pin.result _ c.pin.ensures.limit
-    (λ full. absurd (omega (arith, c.if-uses.false, c.uses.ensures, full))) c.pin.ensures.ok in
+    let pinned_so = surely c.pin.result _ (rw c.plain_mut.ensures.value at c.pin.ensures.limit)
+    (λ full. absurd (omega (arith, c.if-uses.false, (rw c.plain.ensures at c.uses.ensures), full))) (rw c.plain_mut.ensures.value at c.pin.ensures.ok) in
     subst (λ value. Becomes value c.args.name.now (ToMove (counted c.args.mount.count) (location_of c.args.place))
-    (remade (the_view c.self.inside) c.move_to.new.self c.unpin.new.self c.self.inside.tasks)) c.self.view_is
+    (record (remade (the_view c.self.inside) c.move_to.new.self c.unpin.new.self c.self.inside.tasks) {
+      overlays = overlays_of_store (record c.self.inside.store { plain = c.unpin.new.self });
+    })) c.self.view_is
+    (held_stored (λ new. Becomes (the_view c.self.inside) c.args.name.now (ToMove (counted c.args.mount.count) (location_of c.args.place)) new)
+    (the_view c.self.inside) c.self.invariant (remade (the_view c.self.inside) c.move_to.new.self c.unpin.new.self c.self.inside.tasks) (record c.self.inside.store { plain = c.unpin.new.self }) refl
+    (none_there (the_view c.self.inside) c.self.inside.store c.self.invariant)
     (subst (λ mounts. IsDone (the_view c.self.inside) c.args.name.now
     (ToMove (counted c.args.mount.count) (location_of c.args.place))
     (remade (the_view c.self.inside) mounts c.unpin.new.self c.self.inside.tasks)) (sym c.in_ok-move_to.ensures.ok)
@@ -104,12 +118,12 @@ returns-in-Some-clause-ok c =
     ∙ ap (λ (value : WorldValue). (mount_numbered nat_eq (world_of value) (counted c.args.mount.count)).mount_point)
     (sym c.self.view_is))
     (unpins c.in-Some.point.node.filesystem.count
-    (number_of c.in-Some.point.node) c.pin.new.self c.unpin.new.self c.unpin.ensures
+    (number_of c.in-Some.point.node) c.pin.new.self c.unpin.new.self (rw c.plain_mut-in-Some.ensures.value at c.unpin.ensures)
     ∙ ap (unpinned_in (inode_of c.in-Some.point.node))
     (pins c.args.place.node.filesystem.count
-    (number_of c.args.place.node) c.self.inside.filesystems c.pin.new.self pinned_so)
-    ∙ ap (λ o. unpinned_at o (pinned_in (inode_of c.args.place.node) (shown c.self.inside.filesystems)))
-    (sym c.in-Some.is)))).becomes
+    (number_of c.args.place.node) c.self.inside.store.plain c.pin.new.self pinned_so)
+    ∙ ap (λ o. unpinned_at o (pinned_in (inode_of c.args.place.node) (shown c.self.inside.store.plain)))
+    (sym c.in-Some.is)))).becomes)
 
 pub returns-in_default-clause-ok : goal.returns-in_default-clause-ok
 returns-in_default-clause-ok c =
@@ -117,10 +131,15 @@ returns-in_default-clause-ok c =
     (ToMove (counted c.args.mount.count) (location_of c.args.place)) =
     subst (λ value. Permits value c.args.name.now (ToMove (counted c.args.mount.count) (location_of c.args.place)))
     (sym c.self.view_is) c.requires.permitted in
-    let pinned_so = surely c.pin.result _ c.pin.ensures.limit
-    (λ full. absurd (omega (arith, c.if-uses.false, c.uses.ensures, full))) c.pin.ensures.ok in
+    let pinned_so = surely c.pin.result _ (rw c.plain_mut.ensures.value at c.pin.ensures.limit)
+    (λ full. absurd (omega (arith, c.if-uses.false, (rw c.plain.ensures at c.uses.ensures), full))) (rw c.plain_mut.ensures.value at c.pin.ensures.ok) in
     subst (λ value. Becomes value c.args.name.now (ToMove (counted c.args.mount.count) (location_of c.args.place))
-    (remade (the_view c.self.inside) c.move_to.new.self c.pin.new.self c.self.inside.tasks)) c.self.view_is
+    (record (remade (the_view c.self.inside) c.move_to.new.self c.pin.new.self c.self.inside.tasks) {
+      overlays = overlays_of_store (record c.self.inside.store { plain = c.pin.new.self });
+    })) c.self.view_is
+    (held_stored (λ new. Becomes (the_view c.self.inside) c.args.name.now (ToMove (counted c.args.mount.count) (location_of c.args.place)) new)
+    (the_view c.self.inside) c.self.invariant (remade (the_view c.self.inside) c.move_to.new.self c.pin.new.self c.self.inside.tasks) (record c.self.inside.store { plain = c.pin.new.self }) refl
+    (none_there (the_view c.self.inside) c.self.inside.store c.self.invariant)
     (subst (λ mounts. IsDone (the_view c.self.inside) c.args.name.now
     (ToMove (counted c.args.mount.count) (location_of c.args.place))
     (remade (the_view c.self.inside) mounts c.pin.new.self c.self.inside.tasks)) (sym c.in_ok-move_to.ensures.ok)
@@ -135,6 +154,6 @@ returns-in_default-clause-ok c =
     ∙ ap (λ (value : WorldValue). (mount_numbered nat_eq (world_of value) (counted c.args.mount.count)).mount_point)
     (sym c.self.view_is))
     (pins c.args.place.node.filesystem.count
-    (number_of c.args.place.node) c.self.inside.filesystems c.pin.new.self pinned_so
-    ∙ ap (λ o. unpinned_at o (pinned_in (inode_of c.args.place.node) (shown c.self.inside.filesystems)))
-    (sym c.in_default.is)))).becomes
+    (number_of c.args.place.node) c.self.inside.store.plain c.pin.new.self pinned_so
+    ∙ ap (λ o. unpinned_at o (pinned_in (inode_of c.args.place.node) (shown c.self.inside.store.plain)))
+    (sym c.in_default.is)))).becomes)

@@ -1,4 +1,4 @@
-use Rattle.std.proofs.Common.{ap, arith, is_some, length, map, nat_eq, refl, subst, sym, true, ◌≡◌, ◌+◌, ◌*◌, ◌∙◌}
+use Rattle.std.proofs.Common.{ap, arith, is_some, length, map, nat_eq, refl, subst, sym, true, ◌≡◌, ◌+◌, ◌*◌, ◌∙◌, List}
 use Rattle.vt_location.specs.Locations.{location_of}
 use Rattle.vt_location.specs.MountValue.{mount_of}
 use Rattle.vt_location.specs.Numbers.{counted}
@@ -14,10 +14,16 @@ use Rattle.vt_detach.specs.Events.{Becomes, Permits}
 use Rattle.vt_world.specs.WorldValue.{WorldValue, world_of}
 use Rattle.vt_attach.proofs.GraftedDone.{grafted_value}
 use Rattle.vt_attach.proofs.MovedDone.{may_move, move_is_done}
+use Rattle.vt_attach.specs.Moved.{IsMovedBy}
 use Rattle.vt_ns.specs.Counting.{counted_for}
 use Rattle.vt_ns.proofs.world.Counted.{counted_so}
 use Rattle.vt_ns.proofs.world.BoundEvents.{parts_found, place_mounted}
 use Rattle.vt_ns.proofs.world.MovedEvents.{move_place_there, moved_there}
+use Rattle.vt_world.specs.Held.{IsHeld}
+use Rattle.vt_world.specs.StoredWorld.{overlays_of_store}
+use Rattle.vt_detach.specs.Stored.{kept, merged_of}
+use Rattle.vt_detach.specs.Uses.{Kept, kept_of}
+use Rattle.vt_ns.proofs.world.StoresKept.{held_stored, kept_is, kept_still, none_attached, none_kept}
 use Rattle.vt_ns.proofs.world.World.move_everywhere.Goals as goal
 
 pub mounts_below-requires : goal.mounts_below-requires
@@ -99,10 +105,17 @@ invariant_of-self-2 c =
     let grows : c.self.inside.next + c.in-Some.taken
     ≡ value.next + 2 * (length c.deref.result.now * length c.deref-2.result.now) =
     ap (λ n. c.self.inside.next + n) (c.in-Some.ensures.count ∙ (λ i. 2 * (one i * two i))) in
+    held_stored IsHeld
+    (the_view c.self.inside) c.self.invariant _ c.move_tree.new.store (kept_still (the_view c.self.inside) c.self.invariant (map merged_of c.move_tree.new.store.overlays))
+    (ap (λ (k : Kept). k.overlays) (subst (λ k. IsMovedBy graft counts k c.self.inside.groups (kept c.move_tree.new.mounts c.move_tree.new.store) c.move_tree.new.groups)
+    (kept_is (the_view c.self.inside) c.self.inside.store) c.in_ok-move_tree.ensures.ok).done
+    ∙ none_attached _ (kept_of (the_view c.self.inside)).overlays (none_kept (the_view c.self.inside) c.self.invariant))
     (move_is_done value c.self.invariant c.args.name.now
     (counted c.args.mount.count) graft counts permits tree_is refl
-    parts_are refl refl shared c.move_tree.new.mounts c.move_tree.new.groups c.move_tree.new.filesystems
-    (c.self.inside.next + c.in-Some.taken) c.in_ok-move_tree.ensures.ok c.are_ascending.ensures c.are_counted.ensures
+    parts_are refl refl shared c.move_tree.new.mounts c.move_tree.new.groups c.move_tree.new.store.plain (map merged_of c.move_tree.new.store.overlays)
+    (c.self.inside.next + c.in-Some.taken)
+    (subst (λ k. IsMovedBy graft counts k c.self.inside.groups (kept c.move_tree.new.mounts c.move_tree.new.store) c.move_tree.new.groups)
+    (kept_is (the_view c.self.inside) c.self.inside.store) c.in_ok-move_tree.ensures.ok) c.are_ascending.ensures c.are_counted.ensures
     grows).held
 
 pub returns-clause-ok : goal.returns-clause-ok
@@ -139,13 +152,22 @@ returns-clause-ok c =
     ap (λ n. c.self.inside.next + n) (c.in-Some.ensures.count ∙ (λ i. 2 * (one i * two i))) in
     subst (λ (v : WorldValue). Becomes v c.args.name.now
     (ToMove (counted c.args.mount.count) (location_of c.args.place))
-    (grafted_value (the_view c.self.inside) c.move_tree.new.mounts c.move_tree.new.groups c.move_tree.new.filesystems (c.self.inside.next + c.in-Some.taken)))
+    (record (grafted_value (the_view c.self.inside) c.move_tree.new.mounts c.move_tree.new.groups c.move_tree.new.store.plain (map merged_of c.move_tree.new.store.overlays)
+    (c.self.inside.next + c.in-Some.taken)) { overlays = overlays_of_store c.move_tree.new.store }))
     c.self.view_is
+    (held_stored (λ new. Becomes (the_view c.self.inside) c.args.name.now (ToMove (counted c.args.mount.count) (location_of c.args.place)) new)
+    (the_view c.self.inside) c.self.invariant (grafted_value (the_view c.self.inside) c.move_tree.new.mounts c.move_tree.new.groups c.move_tree.new.store.plain (map merged_of c.move_tree.new.store.overlays)
+    (c.self.inside.next + c.in-Some.taken)) c.move_tree.new.store (kept_still (the_view c.self.inside) c.self.invariant (map merged_of c.move_tree.new.store.overlays))
+    (ap (λ (k : Kept). k.overlays) (subst (λ k. IsMovedBy graft counts k c.self.inside.groups (kept c.move_tree.new.mounts c.move_tree.new.store) c.move_tree.new.groups)
+    (kept_is (the_view c.self.inside) c.self.inside.store) c.in_ok-move_tree.ensures.ok).done
+    ∙ none_attached _ (kept_of (the_view c.self.inside)).overlays (none_kept (the_view c.self.inside) c.self.invariant))
     (move_is_done value c.self.invariant c.args.name.now
     (counted c.args.mount.count) graft counts permits tree_is refl
-    parts_are refl refl shared c.move_tree.new.mounts c.move_tree.new.groups c.move_tree.new.filesystems
-    (c.self.inside.next + c.in-Some.taken) c.in_ok-move_tree.ensures.ok c.are_ascending.ensures c.are_counted.ensures
-    grows).becomes
+    parts_are refl refl shared c.move_tree.new.mounts c.move_tree.new.groups c.move_tree.new.store.plain (map merged_of c.move_tree.new.store.overlays)
+    (c.self.inside.next + c.in-Some.taken)
+    (subst (λ k. IsMovedBy graft counts k c.self.inside.groups (kept c.move_tree.new.mounts c.move_tree.new.store) c.move_tree.new.groups)
+    (kept_is (the_view c.self.inside) c.self.inside.store) c.in_ok-move_tree.ensures.ok) c.are_ascending.ensures c.are_counted.ensures
+    grows).becomes)
 
 pub returns-clause-counts : goal.returns-clause-counts
 returns-clause-counts c =

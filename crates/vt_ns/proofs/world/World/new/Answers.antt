@@ -1,36 +1,57 @@
-use Rattle.std.proofs.Common.{ap, ◌∙◌}
+use Rattle.std.proofs.Common.{ap, subst, sym, ◌∙◌}
 use Rattle.vt_location.specs.declared.numbers.FilesystemId.{FilesystemId}
 use Rattle.vt_attach.specs.Opening.{first_shown}
-use Rattle.vt_world.specs.WorldValue.{entries_of}
+use Rattle.vt_store.specs.StoreValue.{StoreValue}
+use Rattle.vt_world.specs.Held.{IsHeld}
+use Rattle.vt_world.specs.StoredWorld.{overlays_of_store}
+use Rattle.vt_world.specs.WorldValue.{entries_of, world_of}
 use Rattle.vt_attach.proofs.OpeningLemmas.{mounts_made, namespaces_made, opening_held, opening_seen, tasks_made}
 use Rattle.vt_ns.proofs.world.World.new.Goals as goal
 
 pub invariant_of-result : goal.invariant_of-result
 invariant_of-result c =
-    opening_held c.in-Ok-first_mounts.mounts c.new-2.result c.in-Ok-first_filesystems.filesystems
+    subst (λ (store : StoreValue). IsHeld (record {
+      mounts = c.in-Ok-first_mounts.mounts;
+      groups = c.new-3.result;
+      filesystems = store.plain;
+      overlays = overlays_of_store store;
+      namespaces = entries_of c.in-Ok.namespaces.entries;
+      tasks = c.in_ok-tasks.tasks;
+      next = 3;
+    })) (sym c.new-2.ensures)
+    (opening_held c.in-Ok-first_mounts.mounts c.new-3.result c.in-Ok-first_filesystems.filesystems
     (entries_of c.in-Ok.namespaces.entries)
     c.in_ok-tasks.tasks
     (c.in-Ok-first_mounts.ensures.ok
     ∙ mounts_made c.new-number.result c.new-namespace.result c.new-filesystem.result c.plain.result
     c.new-number.ensures c.new-namespace.ensures c.new-filesystem.ensures c.plain.ensures)
-    c.new-2.ensures
+    c.new-3.ensures
     (c.in-Ok-first_filesystems.ensures.ok ∙ ap (λ (id : FilesystemId). first_shown id.count) c.new-filesystem.ensures)
     (c.in-Ok.ensures.ok
     ∙ namespaces_made c.new-number.result c.new-namespace.result c.new-filesystem.result c.plain.result
     c.new-number.ensures c.new-namespace.ensures c.new-filesystem.ensures c.plain.ensures)
     (c.in_ok-tasks.ensures.ok
     ∙ tasks_made c.new-number.result c.new-namespace.result c.new-filesystem.result c.plain.result
-    c.new-number.ensures c.new-namespace.ensures c.new-filesystem.ensures c.plain.ensures)
+    c.new-number.ensures c.new-namespace.ensures c.new-filesystem.ensures c.plain.ensures))
 
 pub returns : goal.returns
 returns c = record {
-  opening = opening_seen c.in-Ok-first_mounts.mounts c.new-2.result c.in-Ok-first_filesystems.filesystems
+  opening = ap (λ (store : StoreValue). world_of (record {
+    mounts = c.in-Ok-first_mounts.mounts;
+    groups = c.new-3.result;
+    filesystems = store.plain;
+    overlays = overlays_of_store store;
+    namespaces = entries_of c.in-Ok.namespaces.entries;
+    tasks = c.in_ok-tasks.tasks;
+    next = 3;
+  })) c.new-2.ensures
+      ∙ opening_seen c.in-Ok-first_mounts.mounts c.new-3.result c.in-Ok-first_filesystems.filesystems
       (entries_of c.in-Ok.namespaces.entries)
       c.in_ok-tasks.tasks
       (c.in-Ok-first_mounts.ensures.ok
       ∙ mounts_made c.new-number.result c.new-namespace.result c.new-filesystem.result c.plain.result
       c.new-number.ensures c.new-namespace.ensures c.new-filesystem.ensures c.plain.ensures)
-      c.new-2.ensures
+      c.new-3.ensures
       (c.in-Ok-first_filesystems.ensures.ok ∙ ap (λ (id : FilesystemId). first_shown id.count) c.new-filesystem.ensures)
       (c.in-Ok.ensures.ok
       ∙ namespaces_made c.new-number.result c.new-namespace.result c.new-filesystem.result c.plain.result

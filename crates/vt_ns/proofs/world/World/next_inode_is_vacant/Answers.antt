@@ -23,8 +23,8 @@ returns-in-Some c =
     ≡ (mount_numbered nat_eq (world_of value) (counted c.args.directory.mount.count)).filesystem)
     (sym c.self.view_is) c.shown-filesystem.ensures)
     next.slot (omega arith)
-    (ap Some (sym number) ∙ c.in-Some.ensures.number)
-    (subst (λ n. (inodes_at c.self.inside.filesystems count).inode n ≡ None) number c.in-Some.ensures.vacant))
+    (ap Some (sym number) ∙ rw c.plain.ensures at c.in-Some.ensures.number)
+    (subst (λ n. (inodes_at c.self.inside.store.plain count).inode n ≡ None) number (rw c.plain.ensures at c.in-Some.ensures.vacant)))
 
 pub returns-in_default : goal.returns-in_default
 returns-in_default c =
@@ -35,4 +35,4 @@ returns-in_default c =
     (subst (λ value. counted count
     ≡ (mount_numbered nat_eq (world_of value) (counted c.args.directory.mount.count)).filesystem)
     (sym c.self.view_is) c.shown-filesystem.ensures)
-    c.in_default.ensures.number)
+    (rw c.plain.ensures at c.in_default.ensures.number))

@@ -1,4 +1,4 @@
-use Rattle.std.proofs.Common.{◌≡◌, sym, subst, ap, ◌∙◌, arith, nat_eq, rules, ℕ, Result, Ok, Err, IfSome, OnOk, refl}
+use Rattle.std.proofs.Common.{◌≡◌, sym, subst, ap, ◌∙◌, arith, nat_eq, rules, ℕ, Result, Ok, Err, IfSome, OnOk, refl, map, List}
 use Rattle.std.specs.Prelude.{IsErr}
 use Rattle.vt_spec.specs.Language.Changes.Change.{Make}
 use Rattle.vt_permits.specs.GrantValue.{descriptor_permit}
@@ -19,6 +19,10 @@ use Rattle.vt_detach.proofs.ChangedFiles.{with_filesystems}
 use Rattle.vt_ns.proofs.world.OpeningNew.{has_next, make_fits, may_open_one, new_in_directory, new_opens, next_is_numbered, used_once}
 use Rattle.vt_detach.proofs.Remaining.{remade}
 use Rattle.vt_detach.proofs.Shown.{pins}
+use Rattle.vt_world.specs.Held.{IsHeld}
+use Rattle.vt_world.specs.StoredWorld.{overlays_of_store}
+use Rattle.vt_detach.specs.Uses.{merged_seen}
+use Rattle.vt_ns.proofs.world.StoresKept.{held_stored, none_there}
 use Rattle.vt_ns.proofs.world.World.open_new.Goals as goal
 
 -- a new inode has one use, and room for another
@@ -34,7 +38,7 @@ unwrap-file-requires c =
     (descriptor_permit (OpenNew c.args.new)))
     (sym c.self.view_is) c.requires in
     has_next (the_view c.self.inside) c.self.invariant c.args.name.now c.args.new.directory c.args.new.name.items c.args.new.node
-    (access_of c.args.new.access) (omega arith) permits c.next_number.result c.next_number.ensures.number
+    (access_of c.args.new.access) (omega arith) permits c.next_number.result (rw c.plain.ensures at c.next_number.ensures.number)
 
 pub open_next-requires-clause-may : goal.open_next-requires-clause-may
 open_next-requires-clause-may c =
@@ -46,19 +50,19 @@ open_next-requires-clause-may c =
 
 pub open_next-requires-clause-directory : goal.open_next-requires-clause-directory
 open_next-requires-clause-directory c =
-    let permits = subst (λ value. Permits value c.args.name.now
+    rw c.plain_mut-filesystems.ensures.value (let permits = subst (λ value. Permits value c.args.name.now
     (descriptor_permit (OpenNew c.args.new)))
     (sym c.self.view_is) c.requires in
     (make_fits (the_view c.self.inside) c.self.invariant c.args.name.now c.args.new.directory c.args.new.name.items c.args.new.node
-    (access_of c.args.new.access) (omega arith) permits).0
+    (access_of c.args.new.access) (omega arith) permits).0)
 
 pub open_next-requires-clause-free : goal.open_next-requires-clause-free
 open_next-requires-clause-free c =
-    let permits = subst (λ value. Permits value c.args.name.now
+    rw c.plain_mut-filesystems.ensures.value (let permits = subst (λ value. Permits value c.args.name.now
     (descriptor_permit (OpenNew c.args.new)))
     (sym c.self.view_is) c.requires in
     (make_fits (the_view c.self.inside) c.self.invariant c.args.name.now c.args.new.directory c.args.new.name.items c.args.new.node
-    (access_of c.args.new.access) (omega arith) permits).1
+    (access_of c.args.new.access) (omega arith) permits).1)
 
 pub open_next-requires-clause-node : goal.open_next-requires-clause-node
 open_next-requires-clause-node c =
@@ -74,7 +78,7 @@ invariant_of-self-2 c =
     (descriptor_permit (OpenNew c.args.new)))
     (sym c.self.view_is) c.requires in
     let number = next_is_numbered (the_view c.self.inside) c.self.invariant c.args.name.now c.args.new.directory c.args.new.name.items c.args.new.node (access_of c.args.new.access) (omega arith)
-    permits c.next_number.result c.unwrap-file.result c.next_number.ensures.number c.unwrap-file.ensures in
+    permits c.next_number.result c.unwrap-file.result (rw c.plain.ensures at c.next_number.ensures.number) c.unwrap-file.ensures in
     let inside = subst (λ next. IfSome next
     (λ (node : NodeRef). node.filesystem
     ≡ c.args.new.directory.node.filesystem)) c.unwrap-file.ensures c.next_number.ensures.filesystem in
@@ -85,23 +89,27 @@ invariant_of-self-2 c =
     (λ inodes. changed nat_eq inodes
     (Make (number_of c.args.new.directory.node) c.args.new.name.items n
     (node_seen c.args.new.directory.node.filesystem.count c.args.new.node)))
-    c.self.inside.filesystems c.open_next.new.filesystems) (sym number) c.in_ok-number.ensures.made.made in
+    c.self.inside.store.plain c.open_next.new.filesystems) (sym number) (rw c.plain_mut-filesystems.ensures.value at c.in_ok-number.ensures.made.made) in
     let once = ap (λ filesystem. uses_in ((inodes_at c.open_next.new.filesystems filesystem.count).inode
     (number_of c.unwrap-file.result))) inside
     ∙ used_once (the_view c.self.inside) c.self.invariant c.args.name.now c.args.new.directory c.args.new.name.items c.args.new.node (access_of c.args.new.access) (omega arith)
     permits c.open_next.new.filesystems c.unwrap-file.result (omega arith) own inside number made in
     let room = c.mount_has_room.ensures (let room = c.if-not-mount_has_room.false in search rules) in
     let mounts = of-ok c.hold.result (c.hold.ensures.few room.0 room.1) c.hold.ensures.ok in
-    let filesystems = new_pinned c.pin.result _ c.pin.ensures.limit.0 once c.pin.ensures.ok in
+    let filesystems = new_pinned c.pin.result _ (rw c.plain_mut.ensures.value at c.pin.ensures.limit).0 once (rw c.plain_mut.ensures.value at c.pin.ensures.ok) in
+    held_stored IsHeld
+    (the_view c.self.inside) c.self.invariant _ (record c.self.inside.store { plain = c.pin.new.self }) refl
+    (none_there (the_view c.self.inside) c.self.inside.store c.self.invariant)
     (new_opens (the_view c.self.inside) c.self.invariant c.args.name.now c.args.new.directory c.args.new.name.items c.args.new.node
     (access_of c.args.new.access) (omega arith)
     permits c.open_next.new.filesystems c.unwrap-file.result (omega arith) own inside number made
-    c.hold.new.self c.pin.new.self
+    c.hold.new.self c.pin.new.self (map merged_seen (the_view c.self.inside).overlays)
     (λ i. record {
       mounts = (mounts ∙ ap (λ writes. changed_mounts (counted c.args.new.directory.mount.count)
           (held writes) c.self.inside.mounts) c.writes.ensures) i;
       filesystems = pins c.unwrap-file.result.filesystem.count
           (number_of c.unwrap-file.result) c.open_next.new.filesystems c.pin.new.self filesystems i;
+      overlays = map merged_seen (the_view c.self.inside).overlays;
     })
     c.open_next.new.tasks c.in_ok-number.ensures.ok).held
 
@@ -111,7 +119,7 @@ returns-clause-ok c =
     (descriptor_permit (OpenNew c.args.new)))
     (sym c.self.view_is) c.requires in
     let number = next_is_numbered (the_view c.self.inside) c.self.invariant c.args.name.now c.args.new.directory c.args.new.name.items c.args.new.node (access_of c.args.new.access) (omega arith)
-    permits c.next_number.result c.unwrap-file.result c.next_number.ensures.number c.unwrap-file.ensures in
+    permits c.next_number.result c.unwrap-file.result (rw c.plain.ensures at c.next_number.ensures.number) c.unwrap-file.ensures in
     let inside = subst (λ next. IfSome next
     (λ (node : NodeRef). node.filesystem
     ≡ c.args.new.directory.node.filesystem)) c.unwrap-file.ensures c.next_number.ensures.filesystem in
@@ -122,26 +130,33 @@ returns-clause-ok c =
     (λ inodes. changed nat_eq inodes
     (Make (number_of c.args.new.directory.node) c.args.new.name.items n
     (node_seen c.args.new.directory.node.filesystem.count c.args.new.node)))
-    c.self.inside.filesystems c.open_next.new.filesystems) (sym number) c.in_ok-number.ensures.made.made in
+    c.self.inside.store.plain c.open_next.new.filesystems) (sym number) (rw c.plain_mut-filesystems.ensures.value at c.in_ok-number.ensures.made.made) in
     let once = ap (λ filesystem. uses_in ((inodes_at c.open_next.new.filesystems filesystem.count).inode
     (number_of c.unwrap-file.result))) inside
     ∙ used_once (the_view c.self.inside) c.self.invariant c.args.name.now c.args.new.directory c.args.new.name.items c.args.new.node (access_of c.args.new.access) (omega arith)
     permits c.open_next.new.filesystems c.unwrap-file.result (omega arith) own inside number made in
     let room = c.mount_has_room.ensures (let room = c.if-not-mount_has_room.false in search rules) in
     let mounts = of-ok c.hold.result (c.hold.ensures.few room.0 room.1) c.hold.ensures.ok in
-    let filesystems = new_pinned c.pin.result _ c.pin.ensures.limit.0 once c.pin.ensures.ok in
+    let filesystems = new_pinned c.pin.result _ (rw c.plain_mut.ensures.value at c.pin.ensures.limit).0 once (rw c.plain_mut.ensures.value at c.pin.ensures.ok) in
     subst (λ value. Becomes value c.args.name.now
     (descriptor_permit (OpenNew c.args.new))
-    (remade (with_filesystems (the_view c.self.inside) c.open_next.new.filesystems) c.hold.new.self c.pin.new.self
-    c.open_next.new.tasks)) c.self.view_is
+    (record (remade (with_filesystems (the_view c.self.inside) c.open_next.new.filesystems) c.hold.new.self c.pin.new.self
+    c.open_next.new.tasks) {
+      overlays = overlays_of_store (record c.self.inside.store { plain = c.pin.new.self });
+    })) c.self.view_is
+    (held_stored (λ new. Becomes (the_view c.self.inside) c.args.name.now (descriptor_permit (OpenNew c.args.new)) new)
+    (the_view c.self.inside) c.self.invariant (remade (with_filesystems (the_view c.self.inside) c.open_next.new.filesystems) c.hold.new.self c.pin.new.self
+    c.open_next.new.tasks) (record c.self.inside.store { plain = c.pin.new.self }) refl
+    (none_there (the_view c.self.inside) c.self.inside.store c.self.invariant)
     (new_opens (the_view c.self.inside) c.self.invariant c.args.name.now c.args.new.directory c.args.new.name.items c.args.new.node
     (access_of c.args.new.access) (omega arith)
     permits c.open_next.new.filesystems c.unwrap-file.result (omega arith) own inside number made
-    c.hold.new.self c.pin.new.self
+    c.hold.new.self c.pin.new.self (map merged_seen (the_view c.self.inside).overlays)
     (λ i. record {
       mounts = (mounts ∙ ap (λ writes. changed_mounts (counted c.args.new.directory.mount.count)
           (held writes) c.self.inside.mounts) c.writes.ensures) i;
       filesystems = pins c.unwrap-file.result.filesystem.count
           (number_of c.unwrap-file.result) c.open_next.new.filesystems c.pin.new.self filesystems i;
+      overlays = map merged_seen (the_view c.self.inside).overlays;
     })
-    c.open_next.new.tasks c.in_ok-number.ensures.ok).becomes
+    c.open_next.new.tasks c.in_ok-number.ensures.ok).becomes)

@@ -19,5 +19,5 @@ returns c = record {
       (subst (λ value. Permits value c.args.name.now (look_permit (ReadPart c.args.part)))
       (sym c.self.view_is) c.requires)
       ∙ ap (λ value. node_at nat_eq (world_of value) (location_of c.args.part.file)) c.self.view_is)
-      c.read_part.ensures.ok;
+      (rw c.plain.ensures at c.read_part.ensures.ok);
 }

@@ -5,9 +5,11 @@ use Rattle.vt_permits.specs.GrantValue.{remove_permit}
 use Rattle.vt_permits.specs.declared.grant.RemoveGrant.TheVariants.{Unlink}
 use Rattle.vt_ns.specs.contracts.world.World.{the_view}
 use Rattle.vt_detach.specs.Events.{Becomes, Permits}
-use Rattle.vt_detach.proofs.ChangedFiles.{with_filesystems}
 use Rattle.vt_detach.proofs.FileEvents.{change_fits}
 use Rattle.vt_ns.proofs.world.FileAnswers.{unlinked_in, unlinked_is_kept, unlink_is_done}
+use Rattle.vt_world.specs.Held.{IsHeld}
+use Rattle.vt_world.specs.StoredWorld.{with_store}
+use Rattle.vt_ns.proofs.world.StoresKept.{plain_changed}
 use Rattle.vt_ns.proofs.world.World.unlink.Goals as goal
 
 pub unlink-requires-clause-one_filesystem : goal.unlink-requires-clause-one_filesystem
@@ -19,42 +21,47 @@ unlink-requires-clause-one_filesystem c =
 
 pub unlink-requires-clause-there : goal.unlink-requires-clause-there
 unlink-requires-clause-there c =
-    unlinked_is_kept (the_view c.self.inside) c.self.invariant c.args.name.now c.args.gone.directory c.args.gone.name.items c.args.gone.object (omega arith) (omega arith)
+    rw c.plain_mut.ensures.value (unlinked_is_kept (the_view c.self.inside) c.self.invariant c.args.name.now c.args.gone.directory c.args.gone.name.items c.args.gone.object (omega arith) (omega arith)
     (subst (λ value. Permits value c.args.name.now
     (remove_permit (Unlink c.args.gone)))
-    (sym c.self.view_is) c.requires)
+    (sym c.self.view_is) c.requires))
 
 pub unlink-requires-clause-named : goal.unlink-requires-clause-named
 unlink-requires-clause-named c =
-    rw c.as_slice.ensures.value ((change_fits (the_view c.self.inside) c.self.invariant c.args.name.now c.args.gone.directory (omega arith)
+    rw c.plain_mut.ensures.value (rw c.as_slice.ensures.value ((change_fits (the_view c.self.inside) c.self.invariant c.args.name.now c.args.gone.directory (omega arith)
     (Remove (number_of c.args.gone.directory.node) c.args.gone.name.items (number_of c.args.gone.object))
     (subst (λ value. Permits value c.args.name.now
     (remove_permit (Unlink c.args.gone)))
-    (sym c.self.view_is) c.requires)).0)
+    (sym c.self.view_is) c.requires)).0))
 
 pub unlink-requires-clause-empty : goal.unlink-requires-clause-empty
 unlink-requires-clause-empty c =
-    (change_fits (the_view c.self.inside) c.self.invariant c.args.name.now c.args.gone.directory (omega arith)
+    rw c.plain_mut.ensures.value ((change_fits (the_view c.self.inside) c.self.invariant c.args.name.now c.args.gone.directory (omega arith)
     (Remove (number_of c.args.gone.directory.node) c.args.gone.name.items (number_of c.args.gone.object))
     (subst (λ value. Permits value c.args.name.now
     (remove_permit (Unlink c.args.gone)))
-    (sym c.self.view_is) c.requires)).1
+    (sym c.self.view_is) c.requires)).1)
 
 pub invariant_of-self : goal.invariant_of-self
 invariant_of-self c =
-    (unlink_is_done (the_view c.self.inside) c.self.invariant c.args.name.now c.args.gone.directory c.args.gone.name.items c.args.gone.object (omega arith) (omega arith)
+    plain_changed IsHeld (the_view c.self.inside) c.self.inside.store c.self.invariant c.unlink.new.self
+    ((unlink_is_done (the_view c.self.inside) c.self.invariant c.args.name.now c.args.gone.directory c.args.gone.name.items c.args.gone.object (omega arith) (omega arith)
     (subst (λ value. Permits value c.args.name.now
     (remove_permit (Unlink c.args.gone)))
     (sym c.self.view_is) c.requires)
-    c.unlink.new.self (rw c.as_slice.ensures.value at c.unlink.ensures)).held
+    c.unlink.new.self (rw c.plain_mut.ensures.value at (rw c.as_slice.ensures.value at c.unlink.ensures))).held)
 
 pub returns : goal.returns
 returns c =
     subst (λ value. Becomes value c.args.name.now
     (remove_permit (Unlink c.args.gone))
-    (with_filesystems (the_view c.self.inside) c.unlink.new.self)) c.self.view_is
-    (unlink_is_done (the_view c.self.inside) c.self.invariant c.args.name.now c.args.gone.directory c.args.gone.name.items c.args.gone.object (omega arith) (omega arith)
+    (with_store (record c.self.inside.store { plain = c.unlink.new.self }) (the_view c.self.inside))) c.self.view_is
+    (plain_changed (λ new. Becomes (the_view c.self.inside) c.args.name.now
+    (remove_permit (Unlink c.args.gone))
+    new)
+    (the_view c.self.inside) c.self.inside.store c.self.invariant c.unlink.new.self
+    ((unlink_is_done (the_view c.self.inside) c.self.invariant c.args.name.now c.args.gone.directory c.args.gone.name.items c.args.gone.object (omega arith) (omega arith)
     (subst (λ value. Permits value c.args.name.now
     (remove_permit (Unlink c.args.gone)))
     (sym c.self.view_is) c.requires)
-    c.unlink.new.self (rw c.as_slice.ensures.value at c.unlink.ensures)).becomes
+    c.unlink.new.self (rw c.plain_mut.ensures.value at (rw c.as_slice.ensures.value at c.unlink.ensures))).becomes))

@@ -1,4 +1,4 @@
-use Rattle.std.proofs.Common.{Bool, ap, arith, length, nat_eq, not, option_copied, option_map, refl, subst, sym, ℕ, ◌*◌, ◌+◌, ◌≤◌, ◌∙◌, ◌≡◌, ◌++◌, ◌∷◌, []}
+use Rattle.std.proofs.Common.{Bool, ap, arith, length, nat_eq, not, option_copied, option_map, refl, subst, sym, ℕ, ◌*◌, ◌+◌, ◌≤◌, ◌∙◌, ◌≡◌, ◌++◌, ◌∷◌, [], map, List}
 use Rattle.std.proofs.lemmas.List.{length-map}
 use Rattle.std.proofs.lemmas.List.Filters.{length-filter_both}
 use Rattle.vt_spec.specs.Lists.{holds_of}
@@ -13,13 +13,17 @@ use Rattle.vt_tasks.specs.TaskValue.{task_of}
 use Rattle.vt_tasks.specs.TasksValue.{changed_called}
 use Rattle.vt_ns.specs.contracts.world.World.{the_view}
 use Rattle.vt_mount.specs.Attached.{attached_in}
-use Rattle.vt_attach.specs.Copying.{with_use_moved}
+use Rattle.vt_attach.specs.Copying.{CopiesAttached, with_use_moved}
+use Rattle.vt_detach.specs.Stored.{kept, merged_of}
+use Rattle.vt_detach.specs.Uses.{Kept, kept_of, with_attached}
 use Rattle.vt_detach.specs.Events.{Becomes, Permits}
 use Rattle.vt_world.specs.WorldValue.{WorldValue, entries_of}
 use Rattle.vt_mount.proofs.AttachedLemmas.{as_many}
 use Rattle.vt_detach.proofs.Staying.{IsDone}
 use Rattle.vt_attach.proofs.TasksUnshared.{task_is_unshared}
 use Rattle.vt_attach.proofs.UnsharingLemmas.{namespace_added, numbers_before, uses_left, uses_left_then, writers_left, writers_left_then}
+use Rattle.vt_world.specs.StoredWorld.{overlays_of_store}
+use Rattle.vt_ns.proofs.world.StoresKept.{done_stored, kept_is, none_attached, none_kept, none_left}
 use Rattle.vt_ns.proofs.world.World.unshare.Goals as goal
 
 pub attach_copies-requires-clause-before : goal.attach_copies-requires-clause-before
@@ -31,7 +35,8 @@ move_use-requires-clause-uses c =
     let made = c.in_ok-attach_copies.ensures.ok in
     uses_left (the_view c.self.inside) c.self.invariant c.are_counted.ensures
     (attached_in (counted own.namespace.count) c.self.inside.mounts)
-    made.added c.attach_copies.new.mounts c.attach_copies.new.filesystems made.attached own.root
+    made.added c.attach_copies.new.mounts c.attach_copies.new.store.plain (map merged_of c.attach_copies.new.store.overlays)
+    (made.attached ∙ ap (with_attached made.added) (kept_is (the_view c.self.inside) c.self.inside.store)) own.root
     c.moved-new_root.result c.moved-new_root.ensures
 
 pub move_use-requires-clause-writers : goal.move_use-requires-clause-writers
@@ -40,7 +45,8 @@ move_use-requires-clause-writers c =
     let made = c.in_ok-attach_copies.ensures.ok in
     writers_left (the_view c.self.inside) c.self.invariant c.are_counted.ensures
     (attached_in (counted own.namespace.count) c.self.inside.mounts)
-    made.added c.attach_copies.new.mounts c.attach_copies.new.filesystems made.attached own.root
+    made.added c.attach_copies.new.mounts c.attach_copies.new.store.plain (map merged_of c.attach_copies.new.store.overlays)
+    (made.attached ∙ ap (with_attached made.added) (kept_is (the_view c.self.inside) c.self.inside.store)) own.root
     c.moved-new_root.result c.moved-new_root.ensures
 
 pub move_use-requires-2-clause-uses : goal.move_use-requires-2-clause-uses
@@ -49,7 +55,8 @@ move_use-requires-2-clause-uses c = λ other.
     let made = c.in_ok-attach_copies.ensures.ok in
     uses_left_then (the_view c.self.inside) c.self.invariant c.are_counted.ensures
     (attached_in (counted own.namespace.count) c.self.inside.mounts)
-    made.added c.attach_copies.new.mounts c.attach_copies.new.filesystems made.attached own.directory
+    made.added c.attach_copies.new.mounts c.attach_copies.new.store.plain (map merged_of c.attach_copies.new.store.overlays)
+    (made.attached ∙ ap (with_attached made.added) (kept_is (the_view c.self.inside) c.self.inside.store)) own.directory
     c.moved-new_directory.result c.moved-new_directory.ensures other
     (counted own.root.mount.count)
     (counted c.moved-new_root.result.mount.count) c.move_use.new.mounts c.move_use.ensures
@@ -60,7 +67,8 @@ move_use-requires-2-clause-writers c = λ other.
     let made = c.in_ok-attach_copies.ensures.ok in
     writers_left_then (the_view c.self.inside) c.self.invariant c.are_counted.ensures
     (attached_in (counted own.namespace.count) c.self.inside.mounts)
-    made.added c.attach_copies.new.mounts c.attach_copies.new.filesystems made.attached own.directory
+    made.added c.attach_copies.new.mounts c.attach_copies.new.store.plain (map merged_of c.attach_copies.new.store.overlays)
+    (made.attached ∙ ap (with_attached made.added) (kept_is (the_view c.self.inside) c.self.inside.store)) own.directory
     c.moved-new_directory.result c.moved-new_directory.ensures other
     (counted own.root.mount.count)
     (counted c.moved-new_root.result.mount.count) c.move_use.new.mounts c.move_use.ensures
@@ -79,28 +87,41 @@ entered c =
     (ap entries_of c.reserve.ensures.entries)
     c.new-new.result (ap (λ (id : NamespaceId). id.count) c.new-new.ensures) (record { tasks = 1 })
 
-abbrev after : (c : goal.After-self-1) → WorldValue
-after c = record {
+abbrev before_stored : (c : goal.After-self-1) → WorldValue
+before_stored c = record {
   mounts = c.leave_namespace.new.mounts;
   groups = c.leave_namespace.new.groups;
-  filesystems = c.leave_namespace.new.filesystems;
-  overlays = [];
+  filesystems = c.leave_namespace.new.store.plain;
+  overlays = overlays_of_store c.self.inside.store;
   namespaces = entries_of c.leave_namespace.new.namespaces.entries;
   tasks = c.move_root_and_directory.new.self;
   next = c.self.inside.next + 2 * length c.attached_in.result.now;
 }
+
+abbrev after : (c : goal.After-self-1) → WorldValue
+after c = record (before_stored c) { overlays = overlays_of_store c.leave_namespace.new.store }
 
 done : (c : goal.After-self-1) → IsDone (the_view c.self.inside) c.args.name.now ToUnshare (after c)
 done c =
     let own = c.unwrap-task.result.now in
     let root = c.moved-new_root.result in
     let directory = c.moved-new_directory.result in
-    task_is_unshared (the_view c.self.inside) c.self.invariant c.args.name.now (permitted c) own
+    let made : CopiesAttached c.self.inside.next (counted own.namespace.count) (kept_of (the_view c.self.inside)) c.self.inside.groups
+    (kept c.attach_copies.new.mounts c.attach_copies.new.store) c.attach_copies.new.groups =
+    subst (λ k. CopiesAttached c.self.inside.next (counted own.namespace.count) k c.self.inside.groups
+    (kept c.attach_copies.new.mounts c.attach_copies.new.store) c.attach_copies.new.groups) (kept_is (the_view c.self.inside) c.self.inside.store) c.in_ok-attach_copies.ensures.ok in
+    done_stored (the_view c.self.inside) c.self.invariant c.args.name.now ToUnshare (before_stored c) c.leave_namespace.new.store refl
+    (none_left (counted own.namespace.count) _ (kept c.move_use-2.new.mounts c.attach_copies.new.store) c.attach_copies.new.groups
+    (kept c.leave_namespace.new.mounts c.leave_namespace.new.store) c.leave_namespace.new.groups
+    (ap (λ (k : Kept). k.overlays) made.attached ∙ none_attached made.added (kept_of (the_view c.self.inside)).overlays (none_kept (the_view c.self.inside) c.self.invariant))
+    c.leave_namespace.ensures.mounts)
+    (task_is_unshared (the_view c.self.inside) c.self.invariant c.args.name.now (permitted c) own
     (sym (ap (λ found. option_map task_of (option_copied found)) c.unwrap-task.ensures) ∙ c.get.ensures)
-    root directory c.attach_copies.new.mounts c.attach_copies.new.groups c.attach_copies.new.filesystems
-    c.move_use-2.new.mounts (entries_of c.insert.new.self.entries) (after c)
+    root directory c.attach_copies.new.mounts c.attach_copies.new.groups c.attach_copies.new.store.plain (map merged_of c.attach_copies.new.store.overlays)
+    c.move_use-2.new.mounts (map merged_of c.leave_namespace.new.store.overlays) (entries_of c.insert.new.self.entries)
+    (before_stored c)
     (record {
-      made = c.in_ok-attach_copies.ensures.ok;
+      made = made;
       root_is = c.moved-new_root.ensures;
       directory_is = c.moved-new_directory.ensures;
       uses = c.move_use-2.ensures ∙ ap
@@ -116,8 +137,8 @@ done c =
       next = ap (λ n. c.self.inside.next + 2 * n)
           (as_many c.attached_in.result.now
           (attached_in (counted own.namespace.count) c.self.inside.mounts) c.attached_in.ensures.are);
-      overlays = refl;
-    })
+      same_overlays = refl;
+    }))
 
 pub invariant_of-self-2 : goal.invariant_of-self-2
 invariant_of-self-2 c = (done c).held

@@ -4,18 +4,20 @@ use Rattle.vt_spec.specs.Language.Changes.Change.{SetBytes}
 use Rattle.vt_spec.specs.Machine.Permits.Permit.{ToChange}
 use Rattle.vt_ns.specs.contracts.world.World.{the_view}
 use Rattle.vt_detach.specs.Events.{Becomes, Permits}
-use Rattle.vt_detach.proofs.ChangedFiles.{with_filesystems}
 use Rattle.vt_detach.proofs.FileEvents.{change_fits}
 use Rattle.vt_ns.proofs.world.FileAnswers.{write_is_done}
+use Rattle.vt_world.specs.Held.{IsHeld}
+use Rattle.vt_world.specs.StoredWorld.{with_store}
+use Rattle.vt_ns.proofs.world.StoresKept.{plain_changed}
 use Rattle.vt_ns.proofs.world.World.write.Goals as goal
 
 pub write-requires-clause-file : goal.write-requires-clause-file
 write-requires-clause-file c =
-    (change_fits (the_view c.self.inside) c.self.invariant c.args.name.now c.args.file (omega arith)
+    rw c.plain_mut.ensures.value ((change_fits (the_view c.self.inside) c.self.invariant c.args.name.now c.args.file (omega arith)
     (SetBytes (number_of c.args.file.node) c.args.bytes.items)
     (subst (λ value. Permits value c.args.name.now
     (ToChange (location_of c.args.file) (SetBytes (number_of c.args.file.node) c.args.bytes.items)))
-    (sym c.self.view_is) c.requires)).0
+    (sym c.self.view_is) c.requires)).0)
 
 pub write-requires-clause-size : goal.write-requires-clause-size
 write-requires-clause-size c =
@@ -27,21 +29,26 @@ write-requires-clause-size c =
 
 pub invariant_of-self : goal.invariant_of-self
 invariant_of-self c =
-    (write_is_done (the_view c.self.inside) c.self.invariant c.args.name.now c.args.file c.args.bytes.items
+    plain_changed IsHeld (the_view c.self.inside) c.self.inside.store c.self.invariant c.write.new.self
+    ((write_is_done (the_view c.self.inside) c.self.invariant c.args.name.now c.args.file c.args.bytes.items
     (omega arith)
     (subst (λ value. Permits value c.args.name.now
     (ToChange (location_of c.args.file) (SetBytes (number_of c.args.file.node) c.args.bytes.items)))
     (sym c.self.view_is) c.requires)
-    c.write.new.self c.write.ensures).held
+    c.write.new.self (rw c.plain_mut.ensures.value at c.write.ensures)).held)
 
 pub returns : goal.returns
 returns c =
     subst (λ value. Becomes value c.args.name.now
     (ToChange (location_of c.args.file) (SetBytes (number_of c.args.file.node) c.args.bytes.items))
-    (with_filesystems (the_view c.self.inside) c.write.new.self)) c.self.view_is
-    (write_is_done (the_view c.self.inside) c.self.invariant c.args.name.now c.args.file c.args.bytes.items
+    (with_store (record c.self.inside.store { plain = c.write.new.self }) (the_view c.self.inside))) c.self.view_is
+    (plain_changed (λ new. Becomes (the_view c.self.inside) c.args.name.now
+    (ToChange (location_of c.args.file) (SetBytes (number_of c.args.file.node) c.args.bytes.items))
+    new)
+    (the_view c.self.inside) c.self.inside.store c.self.invariant c.write.new.self
+    ((write_is_done (the_view c.self.inside) c.self.invariant c.args.name.now c.args.file c.args.bytes.items
     (omega arith)
     (subst (λ value. Permits value c.args.name.now
     (ToChange (location_of c.args.file) (SetBytes (number_of c.args.file.node) c.args.bytes.items)))
     (sym c.self.view_is) c.requires)
-    c.write.new.self c.write.ensures).becomes
+    c.write.new.self (rw c.plain_mut.ensures.value at c.write.ensures)).becomes))

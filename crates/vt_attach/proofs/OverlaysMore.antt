@@ -1,0 +1,131 @@
+-- Overlays where mounts come: each mount is one more of its overlay, and all overlays stay.
+use Rattle.std.proofs.Common.{◌≡◌, sym, ap, ◌∙◌, ℕ, ◌+◌, nat_eq, nat_lt, Bool, true, false, cond, ◌||◌, List, [], ◌∷◌, ◌++◌, map, filter, arith}
+use Rattle.std.specs.Prelude.{All}
+use Rattle.vt_spec.specs.Lists.{folded}
+use Rattle.vt_spec.specs.Machine.Mounts.{Mount}
+use Rattle.vt_spec.specs.Machine.Settled.{is_mounted}
+use Rattle.vt_spec.specs.Machine.World.{Filesystem, World, is_overlay}
+use Rattle.vt_spec.proofs.Lists.{map_alike, map_twice}
+use Rattle.vt_laws_letting_go.specs.Counts.{mounts_showing, times}
+use Rattle.vt_laws_letting_go.proofs.Lists.{all_from_among, among_from_all}
+use Rattle.vt_laws_letting_go.proofs.sweeps.UpperUses.{times_append}
+use Rattle.vt_laws_letting_go.proofs.sweeps.UsesCounted.{mounted_while_counted}
+use Rattle.vt_location.specs.declared.mounts.Mount.{Mount as Attached}
+use Rattle.vt_location.specs.MountValue.{mount_of}
+use Rattle.vt_location.specs.Numbers.{counted}
+use Rattle.vt_world.specs.Held.{IsHeld, IsMountedSoOften}
+use Rattle.vt_world.specs.WorldValue.{WorldValue, overlays_seen, world_of}
+use Rattle.vt_detach.specs.Uses.{Merged, merged_by, merged_seen, overlays_kept}
+use Rattle.vt_detach.proofs.BesideOverlays.{mounted_at_first, some_of_both}
+use Rattle.vt_detach.proofs.MountsLeave.{LeavesOverlays, merged_at_first}
+use Rattle.vt_detach.proofs.Moving.{map_itself, swap_eq}
+use Rattle.vt_detach.proofs.Overlaid.{AreStillMounted, all_shown, overlays_are}
+use Rattle.vt_detach.proofs.OverlaysGone.{layers_used, merged_in}
+use Rattle.vt_detach.proofs.OverlaysRemade.{counted_kept, seen_kept}
+
+-- an overlay with as many mounts more as are added
+abbrev pub mounted_more : List (Mount ℕ) → Merged → Merged
+mounted_more added one =
+    record one { mounts = one.mounts + times (λ (mount : Mount ℕ). nat_eq one.number mount.filesystem) added }
+
+-- each mount that comes is one more of its overlay
+pub merged_by_all : (copies : List Attached) (all : List Merged)
+    → folded merged_by all copies ≡ map (mounted_more (map mount_of copies)) all
+merged_by_all [] all =
+    map_itself all
+    ∙ map_alike (λ (one : Merged). one) (mounted_more []) all (λ one m. λ i. record one { mounts = same one.mounts i })
+  where
+    same : (n : ℕ) → n ≡ n + 0
+    same n = omega arith
+merged_by_all (copy ∷ rest) all =
+    merged_by_all rest (merged_by all copy)
+    ∙ map_twice (mounted_more later) step all
+    ∙ map_alike (λ (one : Merged). mounted_more later (step one)) (mounted_more (mount_of copy ∷ later)) all
+    (λ one m. by one (nat_eq (counted copy.root.filesystem.count) one.number)
+    ∙ ap (λ b. record one { mounts = one.mounts + (cond b 1 0 + showing one) })
+    (swap_eq (counted copy.root.filesystem.count) one.number))
+  where
+    later : List (Mount ℕ)
+    later = map mount_of rest
+
+    showing : Merged → ℕ
+    showing one = times (λ (mount : Mount ℕ). nat_eq one.number mount.filesystem) (map mount_of rest)
+
+    step : Merged → Merged
+    step one = cond (nat_eq (counted copy.root.filesystem.count) one.number) (record one { mounts = one.mounts + 1 })
+        one
+
+    by : (one : Merged) (b : Bool)
+        → mounted_more (map mount_of rest) (cond b (record one { mounts = one.mounts + 1 }) one)
+        ≡ record one {
+          mounts = one.mounts + (cond b 1 0
+              + times (λ (mount : Mount ℕ). nat_eq one.number mount.filesystem) (map mount_of rest));
+        }
+    by one true = λ i. record one {
+      mounts = one_more one.mounts
+          (times (λ (mount : Mount ℕ). nat_eq one.number mount.filesystem) (map mount_of rest)) i;
+    }
+      where
+        one_more : (n k : ℕ) → n + 1 + k ≡ n + (1 + k)
+        one_more n k = omega arith
+    by one false = λ i. record one {
+      mounts = none_more one.mounts
+          (times (λ (mount : Mount ℕ). nat_eq one.number mount.filesystem) (map mount_of rest)) i;
+    }
+      where
+        none_more : (n k : ℕ) → n + k ≡ n + (0 + k)
+        none_more n k = omega arith
+
+module _ (value : WorldValue) (whole : IsHeld value) (added : List (Mount ℕ)) where
+  abbrev world : World ℕ
+  world = world_of value
+
+  abbrev pub grown : World ℕ
+  grown = record world { mounts = world.mounts ++ added }
+
+  more_shown : (n : ℕ)
+      → mounts_showing world n + times (λ (mount : Mount ℕ). nat_eq n mount.filesystem) added ≡ mounts_showing grown n
+  more_shown n = sym (times_append (λ (mount : Mount ℕ). nat_eq n mount.filesystem) world.mounts added)
+
+  still_shown : AreStillMounted value grown
+  still_shown =
+      all_from_among (λ (overlay : Filesystem ℕ). is_mounted nat_eq grown overlay.number ≡ true)
+      (overlays_seen value.overlays) (λ overlay m.
+      mounted_while_counted grown overlay.number
+      ∙ ap (nat_lt 0) (sym (more_shown overlay.number))
+      ∙ sym (some_of_both (mounts_showing world overlay.number)
+      (times (λ (mount : Mount ℕ). nat_eq overlay.number mount.filesystem) added))
+      ∙ ap (λ b. b || nat_lt 0 (times (λ (mount : Mount ℕ). nat_eq overlay.number mount.filesystem) added))
+      (sym (mounted_while_counted world overlay.number)
+      ∙ among_from_all (λ (one : Filesystem ℕ). is_mounted nat_eq world one.number ≡ true)
+      (overlays_seen value.overlays) (mounted_at_first value whole) overlay m))
+
+  pub leaves_grown : LeavesOverlays value grown
+  leaves_grown = record {
+    overlays = overlays_are value whole.overlays ∙ all_shown value grown still_shown;
+    rise = whole.overlays.all_rise;
+  }
+
+  pub merged_grown : map (mounted_more added) (map merged_seen value.overlays)
+      ≡ map (merged_in grown) (filter is_overlay grown.filesystems)
+  merged_grown =
+      ap (map (mounted_more added)) (merged_at_first value whole)
+      ∙ map_twice (mounted_more added) (merged_in world) (filter is_overlay world.filesystems)
+      ∙ map_alike (λ overlay. mounted_more added (merged_in world overlay)) (merged_in grown)
+      (filter is_overlay world.filesystems)
+      (λ overlay m. λ i. record {
+        number = overlay.number;
+        mounts = more_shown overlay.number i;
+        layers = layers_used overlay;
+      })
+
+  module _ (overlays : List Merged) (are : overlays ≡ map (mounted_more added) (map merged_seen value.overlays)) where
+    -- the overlays of before are kept,
+    pub seen_more : overlays_seen (overlays_kept overlays value.overlays) ≡ overlays_seen value.overlays
+    seen_more =
+        seen_kept value whole grown leaves_grown overlays (are ∙ merged_grown)
+        ∙ sym (all_shown value grown still_shown)
+
+    -- as often as they are mounted then
+    pub counted_more : All (IsMountedSoOften grown) (overlays_kept overlays value.overlays)
+    counted_more = counted_kept value whole grown leaves_grown overlays (are ∙ merged_grown)

@@ -1,0 +1,20 @@
+-- Mounts, and a store of filesystems, as they are counted.
+use Rattle.std.specs.Prelude.{List, map}
+use Rattle.vt_laws_letting_go.specs.OneByOne.{Inode}
+use Rattle.vt_location.specs.Locations.{inode_of}
+use Rattle.vt_location.specs.Numbers.{counted}
+use Rattle.vt_merge.specs.declared.layers.LayerRef.{LayerRef}
+use Rattle.vt_mount.specs.MountsValue.{MountEntry}
+use Rattle.vt_store.specs.OverlaysValue.{OverlayEntry}
+use Rattle.vt_store.specs.StoreValue.{StoreValue}
+use Rattle.vt_detach.specs.Uses.{Kept, Merged, kept_with}
+
+abbrev pub layer_of : LayerRef → Inode
+layer_of layer = (counted layer.directory.filesystem.count, inode_of layer.directory)
+
+abbrev pub merged_of : OverlayEntry → Merged
+merged_of entry =
+    record { number = counted entry.count; mounts = entry.mounts; layers = map layer_of entry.overlay.lowers }
+
+abbrev pub kept : List MountEntry → StoreValue → Kept
+kept mounts store = kept_with mounts store.plain (map merged_of store.overlays)
