@@ -7,18 +7,18 @@ use Rattle.vt_ns.specs.contracts.world.World.{the_view}
 use Rattle.vt_detach.specs.Events.{Becomes, Permits}
 use Rattle.vt_detach.specs.Uses.{Kept, kept_of, without_location}
 use Rattle.vt_detach.proofs.Closing.{file_is_closed, nothing_is_closed}
-use Rattle.vt_detach.proofs.Remaining.{remade}
+use Rattle.vt_detach.proofs.Remaining.{remade, remade_with}
 use Rattle.vt_detach.proofs.Staying.{after}
 use Rattle.vt_world.specs.Held.{IsHeld}
 use Rattle.vt_world.specs.StoredWorld.{overlays_of_store}
 use Rattle.vt_detach.specs.Stored.{merged_of}
-use Rattle.vt_ns.proofs.world.StoresKept.{held_stored, kept_is, none_kept, none_without}
+use Rattle.vt_ns.proofs.world.StoresKept.{held_stored, kept_is, kept_still, none_kept, none_without}
 use Rattle.vt_ns.proofs.world.World.close.Goals as goal
 
 pub invariant_of-self : goal.invariant_of-self
 invariant_of-self c =
     held_stored IsHeld
-    (the_view c.self.inside) c.self.invariant _ c.leave.new.store refl
+    (the_view c.self.inside) c.self.invariant _ c.leave.new.store (kept_still (the_view c.self.inside) c.self.invariant (map merged_of c.leave.new.store.overlays))
     (ap (λ (k : Kept). k.overlays) (c.leave.ensures.left
     ∙ (λ i. without_location c.in-Some.closed.location (c.writes.ensures i) (kept_is (the_view c.self.inside) c.self.inside.store i)))
     ∙ none_without c.in-Some.closed.location _ (kept_of (the_view c.self.inside)) (none_kept (the_view c.self.inside) c.self.invariant))
@@ -39,7 +39,8 @@ returns-in-Some c =
       overlays = overlays_of_store c.leave.new.store;
     })) c.self.view_is
     (held_stored (λ new. Becomes (the_view c.self.inside) c.args.name.now (ToClose c.args.descriptor) new)
-    (the_view c.self.inside) c.self.invariant (remade (the_view c.self.inside) c.leave.new.mounts c.leave.new.store.plain c.close.new.self) c.leave.new.store refl
+    (the_view c.self.inside) c.self.invariant
+    (remade_with (the_view c.self.inside) c.leave.new.mounts c.leave.new.store.plain (map merged_of c.leave.new.store.overlays) c.close.new.self) c.leave.new.store (kept_still (the_view c.self.inside) c.self.invariant (map merged_of c.leave.new.store.overlays))
     (ap (λ (k : Kept). k.overlays) (c.leave.ensures.left
     ∙ (λ i. without_location c.in-Some.closed.location (c.writes.ensures i) (kept_is (the_view c.self.inside) c.self.inside.store i)))
     ∙ none_without c.in-Some.closed.location _ (kept_of (the_view c.self.inside)) (none_kept (the_view c.self.inside) c.self.invariant))

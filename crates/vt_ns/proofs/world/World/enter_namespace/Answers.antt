@@ -6,7 +6,7 @@ use Rattle.vt_tasks.specs.TasksValue.{left_of}
 use Rattle.vt_ns.specs.contracts.world.World.{the_view}
 use Rattle.vt_detach.specs.Events.{Becomes, Permits}
 use Rattle.vt_detach.specs.NamespacesLeft.{MountsAreLeft, namespace_entry, with_one_task_less}
-use Rattle.vt_detach.specs.Uses.{Kept, kept_of, with_location, without_location}
+use Rattle.vt_detach.specs.Uses.{Kept, kept_of, overlays_kept, with_location, without_location}
 use Rattle.vt_world.specs.WorldValue.{WorldValue, entries_of}
 use Rattle.vt_ns.proofs.CountingLemmas.{room_left}
 use Rattle.vt_detach.proofs.Entered.{namespace_has_a_root, task_enters}
@@ -14,7 +14,7 @@ use Rattle.vt_ns.specs.Entering.{HasRoomToEnter}
 use Rattle.vt_world.specs.Held.{IsHeld}
 use Rattle.vt_world.specs.StoredWorld.{overlays_of_store}
 use Rattle.vt_detach.specs.Stored.{kept, merged_of}
-use Rattle.vt_ns.proofs.world.StoresKept.{held_stored, kept_is, none_kept, none_left, none_without}
+use Rattle.vt_ns.proofs.world.StoresKept.{held_stored, kept_is, kept_still, none_kept, none_left, none_without}
 use Rattle.vt_ns.proofs.world.World.enter_namespace.Goals as goal
 use Rattle.vt_ns.proofs.world.World.enter_namespace.Goals.{then-not-has_room-via-then-not-has_room, then-not-has_room-via-else-not-has_room+then-not-has_room_for_task}
 
@@ -35,7 +35,7 @@ pub invariant_of-self : goal.invariant_of-self
 invariant_of-self c =
     let left = c.in-Some.left in
     held_stored IsHeld
-    (the_view c.self.inside) c.self.invariant _ c.leave_namespace.new.store refl
+    (the_view c.self.inside) c.self.invariant _ c.leave_namespace.new.store (kept_still (the_view c.self.inside) c.self.invariant (map merged_of c.leave_namespace.new.store.overlays))
     (none_left (counted left.namespace.count) _ (kept c.leave-in-Some.new.mounts c.leave-in-Some.new.store) c.self.inside.groups
     (kept c.leave_namespace.new.mounts c.leave_namespace.new.store) c.leave_namespace.new.groups
     (ap (λ (k : Kept). k.overlays) (c.leave-in-Some.ensures.left ∙ ap (without_location left.directory false)
@@ -84,7 +84,7 @@ returns-in-Some-clause-ok c =
     subst (λ value. Becomes value c.args.name.now
     (ToEnterNamespace (counted c.args.namespace.count)) new) c.self.view_is
     (held_stored (λ new. Becomes (the_view c.self.inside) c.args.name.now (ToEnterNamespace (counted c.args.namespace.count)) new)
-    (the_view c.self.inside) c.self.invariant (record new { overlays = (the_view c.self.inside).overlays }) c.leave_namespace.new.store refl
+    (the_view c.self.inside) c.self.invariant (record new { overlays = overlays_kept (map merged_of c.leave_namespace.new.store.overlays) (the_view c.self.inside).overlays }) c.leave_namespace.new.store (kept_still (the_view c.self.inside) c.self.invariant (map merged_of c.leave_namespace.new.store.overlays))
     (none_left (counted left.namespace.count) _ (kept c.leave-in-Some.new.mounts c.leave-in-Some.new.store) c.self.inside.groups
     (kept c.leave_namespace.new.mounts c.leave_namespace.new.store) c.leave_namespace.new.groups
     (ap (λ (k : Kept). k.overlays) (c.leave-in-Some.ensures.left ∙ ap (without_location left.directory false)

@@ -6,18 +6,18 @@ use Rattle.vt_detach.specs.Events.{Becomes, Permits}
 use Rattle.vt_detach.specs.NamespacesLeft.{namespace_entry, without_file}
 use Rattle.vt_location.specs.Numbers.{counted}
 use Rattle.vt_detach.specs.Stored.{kept, merged_of}
-use Rattle.vt_detach.specs.Uses.{Kept, kept_of, without_location}
+use Rattle.vt_detach.specs.Uses.{Kept, kept_of, overlays_kept, without_location}
 use Rattle.vt_world.specs.WorldValue.{WorldValue, entries_of}
 use Rattle.vt_detach.proofs.Exiting.{task_exits}
 use Rattle.vt_world.specs.Held.{IsHeld}
 use Rattle.vt_world.specs.StoredWorld.{overlays_of_store}
-use Rattle.vt_ns.proofs.world.StoresKept.{held_stored, kept_is, none_kept, none_left, none_with_files, none_without}
+use Rattle.vt_ns.proofs.world.StoresKept.{held_stored, kept_is, kept_still, none_kept, none_left, none_with_files, none_without}
 use Rattle.vt_ns.proofs.world.World.exit.Goals as goal
 
 pub invariant_of-self-2 : goal.invariant_of-self-2
 invariant_of-self-2 c =
     held_stored IsHeld
-    (the_view c.self.inside) c.self.invariant _ c.leave_namespace.new.store refl
+    (the_view c.self.inside) c.self.invariant _ c.leave_namespace.new.store (kept_still (the_view c.self.inside) c.self.invariant (map merged_of c.leave_namespace.new.store.overlays))
     (none_left (counted c.in-Some.task.namespace.count) (namespace_entry c.in-Some.task.namespace.count (entries_of c.self.inside.namespaces.entries))
     (kept c.leave_files.new.mounts c.leave_files.new.store) c.self.inside.groups
     (kept c.leave_namespace.new.mounts c.leave_namespace.new.store) c.leave_namespace.new.groups
@@ -62,7 +62,7 @@ returns c =
     } in
     subst (λ value. Becomes value c.args.name.now ToExit new) c.self.view_is
     (held_stored (λ new. Becomes (the_view c.self.inside) c.args.name.now ToExit new)
-    (the_view c.self.inside) c.self.invariant (record new { overlays = (the_view c.self.inside).overlays }) c.leave_namespace.new.store refl
+    (the_view c.self.inside) c.self.invariant (record new { overlays = overlays_kept (map merged_of c.leave_namespace.new.store.overlays) (the_view c.self.inside).overlays }) c.leave_namespace.new.store (kept_still (the_view c.self.inside) c.self.invariant (map merged_of c.leave_namespace.new.store.overlays))
     (none_left (counted c.in-Some.task.namespace.count) (namespace_entry c.in-Some.task.namespace.count (entries_of c.self.inside.namespaces.entries))
     (kept c.leave_files.new.mounts c.leave_files.new.store) c.self.inside.groups
     (kept c.leave_namespace.new.mounts c.leave_namespace.new.store) c.leave_namespace.new.groups

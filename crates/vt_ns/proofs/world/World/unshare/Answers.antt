@@ -15,7 +15,7 @@ use Rattle.vt_ns.specs.contracts.world.World.{the_view}
 use Rattle.vt_mount.specs.Attached.{attached_in}
 use Rattle.vt_attach.specs.Copying.{CopiesAttached, with_use_moved}
 use Rattle.vt_detach.specs.Stored.{kept, merged_of}
-use Rattle.vt_detach.specs.Uses.{Kept, kept_of, with_attached}
+use Rattle.vt_detach.specs.Uses.{Kept, kept_of, overlays_kept, with_attached}
 use Rattle.vt_detach.specs.Events.{Becomes, Permits}
 use Rattle.vt_world.specs.WorldValue.{WorldValue, entries_of}
 use Rattle.vt_mount.proofs.AttachedLemmas.{as_many}
@@ -23,7 +23,7 @@ use Rattle.vt_detach.proofs.Staying.{IsDone}
 use Rattle.vt_attach.proofs.TasksUnshared.{task_is_unshared}
 use Rattle.vt_attach.proofs.UnsharingLemmas.{namespace_added, numbers_before, uses_left, uses_left_then, writers_left, writers_left_then}
 use Rattle.vt_world.specs.StoredWorld.{overlays_of_store}
-use Rattle.vt_ns.proofs.world.StoresKept.{done_stored, kept_is, none_attached, none_kept, none_left}
+use Rattle.vt_ns.proofs.world.StoresKept.{done_stored, kept_is, kept_still, none_attached, none_kept, none_left}
 use Rattle.vt_ns.proofs.world.World.unshare.Goals as goal
 
 pub attach_copies-requires-clause-before : goal.attach_copies-requires-clause-before
@@ -92,7 +92,7 @@ before_stored c = record {
   mounts = c.leave_namespace.new.mounts;
   groups = c.leave_namespace.new.groups;
   filesystems = c.leave_namespace.new.store.plain;
-  overlays = overlays_of_store c.self.inside.store;
+  overlays = overlays_kept (map merged_of c.leave_namespace.new.store.overlays) (the_view c.self.inside).overlays;
   namespaces = entries_of c.leave_namespace.new.namespaces.entries;
   tasks = c.move_root_and_directory.new.self;
   next = c.self.inside.next + 2 * length c.attached_in.result.now;
@@ -110,7 +110,8 @@ done c =
     (kept c.attach_copies.new.mounts c.attach_copies.new.store) c.attach_copies.new.groups =
     subst (λ k. CopiesAttached c.self.inside.next (counted own.namespace.count) k c.self.inside.groups
     (kept c.attach_copies.new.mounts c.attach_copies.new.store) c.attach_copies.new.groups) (kept_is (the_view c.self.inside) c.self.inside.store) c.in_ok-attach_copies.ensures.ok in
-    done_stored (the_view c.self.inside) c.self.invariant c.args.name.now ToUnshare (before_stored c) c.leave_namespace.new.store refl
+    done_stored (the_view c.self.inside) c.self.invariant c.args.name.now ToUnshare (before_stored c) c.leave_namespace.new.store
+    (kept_still (the_view c.self.inside) c.self.invariant (map merged_of c.leave_namespace.new.store.overlays))
     (none_left (counted own.namespace.count) _ (kept c.move_use-2.new.mounts c.attach_copies.new.store) c.attach_copies.new.groups
     (kept c.leave_namespace.new.mounts c.leave_namespace.new.store) c.leave_namespace.new.groups
     (ap (λ (k : Kept). k.overlays) made.attached ∙ none_attached made.added (kept_of (the_view c.self.inside)).overlays (none_kept (the_view c.self.inside) c.self.invariant))
