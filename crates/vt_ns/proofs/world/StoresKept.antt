@@ -10,14 +10,13 @@ use Rattle.vt_group.specs.Grouping.{Grouping}
 use Rattle.vt_location.specs.declared.locations.Location.{Location}
 use Rattle.vt_location.specs.declared.mounts.Mount.{Mount as Attached}
 use Rattle.vt_location.specs.Numbers.{counted}
-use Rattle.vt_merge.specs.declared.layers.LayerRef.{LayerRef}
 use Rattle.vt_mount.specs.MountsValue.{MountEntry, entry_numbered}
 use Rattle.vt_overlay.specs.MergedTree.{layer_seen}
 use Rattle.vt_store.specs.OverlaysValue as stored
 use Rattle.vt_store.specs.StoreValue.{StoreValue}
 use Rattle.vt_tasks.specs.declared.descriptors.OpenFile.{OpenFile}
 use Rattle.vt_detach.specs.Detached.{LeaveInTurn, LeaveTogether}
-use Rattle.vt_detach.specs.NamespacesLeft.{AreDetached, Detached, EndsIf, MountsAreLeft, NamespaceIsLeft, has_one_task, without_file}
+use Rattle.vt_detach.specs.NamespacesLeft.{AreDetached, Detached, EndsIf, MountsAreLeft, has_one_task, without_file}
 use Rattle.vt_detach.specs.Stored.{kept, merged_of}
 use Rattle.vt_detach.specs.Uses.{Kept, Merged, detached_use, inode_of, is_unused, kept_of, leave_filesystem, let_go_entry, let_go_mount, merged_at, merged_by, merged_left_by, merged_seen, overlays_kept, released_use, without_attachment, without_location, without_mount}
 use Rattle.vt_world.specs.Held.{IsHeld}

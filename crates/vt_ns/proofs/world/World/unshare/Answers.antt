@@ -1,4 +1,4 @@
-use Rattle.std.proofs.Common.{Bool, ap, arith, length, nat_eq, not, option_copied, option_map, refl, subst, sym, ℕ, ◌*◌, ◌+◌, ◌≤◌, ◌∙◌, ◌≡◌, ◌++◌, ◌∷◌, [], map, List}
+use Rattle.std.proofs.Common.{Bool, ap, arith, length, nat_eq, not, option_copied, option_map, refl, subst, sym, ℕ, ◌*◌, ◌+◌, ◌≤◌, ◌∙◌, ◌≡◌, ◌++◌, ◌∷◌, [], map}
 use Rattle.std.proofs.lemmas.List.{length-map}
 use Rattle.std.proofs.lemmas.List.Filters.{length-filter_both}
 use Rattle.vt_spec.specs.Lists.{holds_of}
