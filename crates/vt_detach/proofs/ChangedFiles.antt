@@ -374,7 +374,7 @@ module _ (value : WorldValue) (held : IsHeld value) (location : Location ℕ) (c
               (counted_then source.was entry source.among source.is)));
         });
     own_inodes = all_from_among HasOwnInodes filesystems own_after;
-    overlays = overlays_hold_still value new held.overlays held.overlays.none_yet refl
+    overlays = overlays_hold_still value new held.overlays refl
         (same_files_rise
         (with_tree (world_of value) (filesystem_of (world_of value) location) (files_seen partner.entry)).filesystems
         (world_of new).filesystems same_with_tree.filesystems rising_with_tree)

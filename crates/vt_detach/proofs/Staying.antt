@@ -112,7 +112,7 @@ module _ (value : WorldValue) (tasks : Tasks)
       overlays_rise = held.overlays.overlays_rise;
       all_rise = held.overlays.all_rise;
       mounts = overlays_counted value (after value tasks) held.overlays refl (λ number. refl);
-      none_yet = held.overlays.none_yet;
+      own_nodes = held.overlays.own_nodes;
     };
     namespaces = all_from_among (CountsWhatIsInIt (world_of (after value tasks))) value.namespaces (λ entry m.
         let was = among_from_all (CountsWhatIsInIt

@@ -195,7 +195,7 @@ module _ (value : WorldValue) (whole : IsHeld value) (group : ℕ → ℕ) (word
       mounts = overlays_counted value (retyped_value next) whole.overlays refl (λ number.
           ap (λ (world : World ℕ). mounts_showing world number) (sym (now_is next))
           ∙ same_showing (world_of value) kind (master_in groups) number);
-      none_yet = whole.overlays.none_yet;
+      own_nodes = whole.overlays.own_nodes;
     };
     namespaces = all_from_among (CountsWhatIsInIt (world_of (retyped_value next))) value.namespaces (λ entry m.
         let was = among_from_all (CountsWhatIsInIt (world_of value)) value.namespaces whole.namespaces entry m in

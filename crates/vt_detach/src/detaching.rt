@@ -19,7 +19,7 @@ pub fn detach(mounts: &mut Mounts, store: &mut Store, id: MountId) -> Option<Loc
     ensures point { option_map location_of result ≡ point_of (mount_number id) mounts.old }
     ensures left { kept mounts.new store.new
         ≡ without_attachment (mount_number id) result (kept mounts.old store.old) }
-    ensures slot { IfSome result (λ point. point.node.slot < 2 ^ 64) }
+    ensures slot { IfSome result (λ point. is_small_node point.node ≡ true) }
 {
     let mount = mounts.get(id)?;
     mounts.detach(id);

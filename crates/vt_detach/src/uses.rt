@@ -22,7 +22,7 @@ pub fn hold(
 ) -> Result<(), AllocError>
     ensures ok { OnOk result
         (kept mounts.new store.new ≡ with_location at writes (kept mounts.old store.old)) }
-    ensures slot { at.node.slot < 2 ^ 64 }
+    ensures slot { is_small_node at.node ≡ true }
     ensures room { HasRoom 1 at mounts.old store.old.plain → IsOk result }
     ensures err_mounts { OnErr result (mounts.new ≡ mounts.old) }
     ensures err_store { OnErr result (store.new ≡ store.old) }
@@ -38,7 +38,7 @@ pub fn hold(
 /// One use less of a location: what nothing uses any more goes. It does not allocate.
 pub fn leave(mounts: &mut Mounts, store: &mut Store, at: Location, writes: bool)
     ensures left { kept mounts.new store.new ≡ without_location at writes (kept mounts.old store.old) }
-    ensures slot { at.node.slot < 2 ^ 64 }
+    ensures slot { is_small_node at.node ≡ true }
 {
     mounts.release(at.mount, writes);
     store.plain_mut().unpin(at.node);
