@@ -247,7 +247,7 @@ module _ (entry : FilesystemEntry) (counts : entry.count ≡ 2)
           overlays_rise = refl;
           all_rise = refl;
           mounts = All-nil _;
-          none_yet = refl;
+          own_nodes = All-nil _;
         };
         namespaces = subst (λ world. All (CountsWhatIsInIt world) first_namespace_entries) (sym first_world)
             (All-cons (CountsWhatIsInIt (opening nat_eq opening_numbers)) _ [] (record { tasks = refl }) (All-nil _));
