@@ -25,7 +25,7 @@ use Rattle.vt_world.specs.Held.{IsHeld}
 use Rattle.vt_world.specs.WorldValue.{WorldValue, world_of}
 use Rattle.vt_detach.proofs.ChangedFiles.{IsFilesEvent, changed_by, files_are_changed, with_filesystems}
 use Rattle.vt_detach.proofs.ChangedNumbers.{MakesOther}
-use Rattle.vt_detach.proofs.FilesSeen.{IsLocated, nodes_named, located, located_filesystem, located_inodes}
+use Rattle.vt_detach.proofs.FilesSeen.{IsLocated, IsPlainAt, nodes_named, located, located_filesystem, located_inodes}
 
 -- what the permit of a call names is there
 pub permit_fits : (value : WorldValue) → IsHeld value
@@ -43,8 +43,12 @@ IsSmall at = at.node.slot < 18446744073709551616
 module _ (value : WorldValue) (held : IsHeld value) (name : TaskName) (at : Location) (small : IsSmall at)
     (change : Change ℕ)
     (permits : Permits value name (ToChange (location_of at) change)) where
+  -- what is changed is in no overlay
+  change_is_plain : IsPlainAt value at
+  change_is_plain = ?
+
   pub change_at : IsLocated value at
-  change_at = located value held at small
+  change_at = located value held at small change_is_plain
       (permit_fits value held name (ToChange (location_of at) change) permits).names.0.there
 
   pub change_is_done : (filesystems : Filesystems) → change_named (is_counted_before value.next) change ≡ true

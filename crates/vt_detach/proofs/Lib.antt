@@ -1,6 +1,7 @@
 pub mod FilesystemsFound
 pub mod Overlaid
 pub mod PlainFound
+pub mod NodesFound
 pub mod LayersShown
 pub mod LookLemmas
 pub mod OwnInodesKept
@@ -68,3 +69,4 @@ pub mod MountsLeave
 pub mod OverlaysKept
 pub mod StoreLends
 pub mod StoreTrees
+pub mod OverlaysListed

@@ -190,7 +190,7 @@ module _ (value : WorldValue) (held : IsHeld value) where
             (world_of value).filesystems held.overlays.read_only)
 
         without : (overlay : Overlay ℕ) (o : Option (Layer ℕ)) → is_some o ≡ false
-            → option_to_list (then_some o
+            → option_to_list {X = ℕ × ℕ} (then_some o
             (λ layer. option_map (λ object. (layer.filesystem, object)) (upper_object (overlay.real (number_of at.node)))))
             ≡ []
         without overlay None e = refl

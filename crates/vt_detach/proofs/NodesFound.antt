@@ -1,5 +1,5 @@
 -- An inode that is found in a filesystem, plain or an overlay, has the number of a node of that filesystem.
-use Rattle.std.proofs.Common.{◌≡◌, refl, sym, ap, subst, ◌∙◌, ⊎_elim, ℕ, nat_eq, nat_lt, eq-eqb, Bool, true, false, true≢false, cond, List, [], ◌∷◌, Option, Some, None, is_some}
+use Rattle.std.proofs.Common.{◌≡◌, refl, sym, ap, subst, ◌∙◌, ⊎_elim, ℕ, nat_eq, nat_lt, eq-eqb, Bool, true, false, true≢false, cond, ◌&&◌, List, [], ◌∷◌, Option, Some, None, is_some}
 use Rattle.std.specs.Prelude.{All}
 use Rattle.std.proofs.lemmas.Bool.{lt-ltb}
 use Rattle.std.proofs.lemmas.List.Elements.{All-cons, All-head, All-nil, All-tail}
@@ -42,11 +42,11 @@ plain_node entry own number there = by (is_own_number entry.count number) refl
           slot.2,
         )
 
-put_all : {P : Filesystem ℕ → Type 0} (overlay : Filesystem ℕ) (list : List (Filesystem ℕ)) → P overlay → All P list
+put_all : (P : Filesystem ℕ → Type 0) (overlay : Filesystem ℕ) (list : List (Filesystem ℕ)) → P overlay → All P list
     → All P (put_in overlay list)
-put_all {P = P} overlay [] here all = All-cons P overlay [] here (All-nil P)
-put_all {P = P} overlay (first ∷ rest) here all =
-    by (nat_lt first.number overlay.number) (put_all overlay rest here (All-tail P first rest all))
+put_all P overlay [] here all = All-cons P overlay [] here (All-nil P)
+put_all P overlay (first ∷ rest) here all =
+    by (nat_lt first.number overlay.number) (put_all P overlay rest here (All-tail P first rest all))
   where
     by : (b : Bool) → All P (put_in overlay rest)
         → All P (cond b (first ∷ put_in overlay rest) (overlay ∷ first ∷ rest))
@@ -58,7 +58,7 @@ pub woven_all : (P : Filesystem ℕ → Type 0) (plain overlays : List (Filesyst
     → All P (woven plain overlays)
 woven_all P plain [] all over = all
 woven_all P plain (overlay ∷ rest) all over =
-    put_all overlay (woven plain rest) (All-head P overlay rest over)
+    put_all P overlay (woven plain rest) (All-head P overlay rest over)
     (woven_all P plain rest all (All-tail P overlay rest over))
 
 pub own_together : (base : Filesystems) → All HasOwnInodes base → (overlays : List (Filesystem ℕ))

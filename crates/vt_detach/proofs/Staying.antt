@@ -17,15 +17,13 @@ use Rattle.vt_spec.specs.Machine.Invariants.{IsWorld}
 use Rattle.vt_fs.specs.FilesystemsValue.{filesystem_seen}
 use Rattle.vt_laws_rules.specs.Numbers.{KeepsTo}
 use Rattle.vt_laws_letting_go.specs.Counts.{inode_uses, times}
-use Rattle.vt_laws_letting_go.specs.Leaving.{IsSettledPlain, is_location_among, only_these_are_left}
+use Rattle.vt_laws_letting_go.specs.Leaving.{is_location_among, only_these_are_left}
 use Rattle.vt_laws_letting_go.proofs.Lists.{Among, all_from_among, all_pass, among_from_all, any_passes, or_first}
 use Rattle.vt_location.specs.Numbers.{counted}
 use Rattle.vt_laws_runs.proofs.answered.AlikeWorlds.{sameness_is_an_equivalence}
 use Rattle.vt_tasks.specs.Counts.{one_if}
-use Rattle.vt_laws_worlds.proofs.RaisedInUse.{worlds_are_in_use}
-use Rattle.vt_laws_letting_go.proofs.sweeps.OfWorlds.{mounts_of_worlds_stand, worlds_are_settled, worlds_have_trees}
+use Rattle.vt_laws_letting_go.proofs.sweeps.OfWorlds.{worlds_are_settled}
 use Rattle.vt_laws_letting_go.proofs.leaving.LeftWithOverlays.{staying_keeps_overlays}
-use Rattle.vt_laws_counts.proofs.using.Swept.{plain_of}
 use Rattle.vt_laws_permits.specs.Left.{IsGiven}
 use Rattle.vt_laws_permits.specs.Named.{permit_named}
 use Rattle.vt_laws_permits.proofs.named.PermitsKeepTo.{permits_keep_to_numbers}
@@ -36,24 +34,12 @@ use Rattle.vt_detach.specs.Events.{Becomes, Permits, credentials_called, left_by
 use Rattle.vt_world.specs.Held.{CountsItsMounts, CountsItsUses, CountsWhatIsInIt, IsHeld, writes_of, writes_of_task, writes_on}
 use Rattle.vt_world.specs.WorldValue.{WorldValue, world_of}
 use Rattle.vt_detach.proofs.Splits.{locations_stay, replaced_split, times_replaced, writes_replaced}
-pub use Rattle.vt_detach.proofs.Overlaid.{world_is_plain}
 use Rattle.vt_detach.proofs.Overlaid.{overlays_counted}
 use Rattle.vt_detach.proofs.Grouped.{same_has}
 
 -- the world with other tasks
 abbrev pub after : WorldValue → Tasks → WorldValue
 after value tasks = record value { tasks = tasks }
-
--- The world of the code
-
--- a world that code has is settled; nothing makes an overlay yet
-pub held_is_settled : (value : WorldValue) → IsHeld value → IsSettledPlain (world_of value)
-held_is_settled value held = record {
-  in_use = worlds_are_in_use (world_of value) held.in_world;
-  plain = plain_of (world_of value) (world_is_plain value held);
-  trees = worlds_have_trees (world_of value) held.in_world;
-  mounts = mounts_of_worlds_stand (world_of value) held.in_world;
-}
 
 -- Where all locations are as they were, all counts are.
 

@@ -1,5 +1,5 @@
 -- Mounts that leave their namespaces one after the other.
-use Rattle.std.specs.Prelude.{IfSome, List, None, Option, Some, [], filter, flat_map, map, nat_eq, option_map, ℕ, ◌<◌, ◌∷◌, ◌≡◌, ◌^◌}
+use Rattle.std.specs.Prelude.{IfSome, List, None, Option, Some, [], filter, flat_map, map, nat_eq, option_map, true, ℕ, ◌∷◌, ◌≡◌}
 use Rattle.vt_spec.specs.Machine.Mounts.{Mount, mount_in, mount_tree}
 use Rattle.vt_group.specs.Grouping.{Grouping}
 use Rattle.vt_group.specs.Together.{TakesAway}
