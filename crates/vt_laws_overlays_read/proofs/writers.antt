@@ -1,0 +1,4 @@
+-- What the proofs of src/writers.rt use.
+pub mod Changes
+pub mod Kept
+pub mod Swept
