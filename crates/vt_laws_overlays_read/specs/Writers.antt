@@ -1,8 +1,8 @@
 -- Overlays without an upper layer are read-only: the kernel's overlayfs document, "multiple lower layers". Rule F2
--- refuses what would change one. pwrite(2) is not asked: who may write has opened the file for writing, and there is
--- nobody who has one of such an overlay open so.
+-- refuses what would change one, but is not asked by pwrite(2): open(2) has asked it, and no later call takes an upper
+-- layer from an overlay, or puts another filesystem under a descriptor.
 use Rattle.std.specs.List.{list_all}
-use Rattle.std.specs.Prelude.{Bool, Some, false, nat_eq, not, true, ℕ, ◌&&◌, ◌≡◌}
+use Rattle.std.specs.Prelude.{Bool, List, Some, false, nat_eq, not, true, ℕ, ◌&&◌, ◌≡◌}
 use Rattle.vt_laws_calls.specs.Inodes.{change_of}
 use Rattle.vt_laws_counts.specs.BesideOverlays.{OverlaysHaveNoUpper}
 use Rattle.vt_laws_given.specs.LeftWorlds.{IsGivenToTask}
@@ -10,8 +10,10 @@ use Rattle.vt_laws_overlay_permits.specs.Asked.{change_asked}
 use Rattle.vt_laws_permits.specs.Left.{IsGiven, left_by}
 use Rattle.vt_laws_rules.specs.Plain.{IsPlain}
 use Rattle.vt_laws_trees.specs.Trees.Limits.{names_few_groups}
+use Rattle.vt_laws_worlds.specs.Worlds.Calls.{LeadsTo}
 use Rattle.vt_spec.specs.Language.Calls.{Access, Call, TaskName}
 use Rattle.vt_spec.specs.Language.Changes.{Change}
+use Rattle.vt_spec.specs.Language.Script.{Grammar}
 use Rattle.vt_spec.specs.Lists.{Fresh}
 use Rattle.vt_spec.specs.Machine.Apply.{apply}
 use Rattle.vt_spec.specs.Machine.Descriptors.{is_copied_up}
@@ -25,7 +27,7 @@ use Rattle.vt_spec.specs.Machine.Rules.Conditions.{has_no_upper}
 use Rattle.vt_spec.specs.Machine.Run.{Serves}
 use Rattle.vt_spec.specs.Machine.SameWorlds.{SameWorlds}
 use Rattle.vt_spec.specs.Machine.Settled.{settled}
-use Rattle.vt_spec.specs.Machine.World.{Descriptor, Task, World, filesystem_at, is_overlay}
+use Rattle.vt_spec.specs.Machine.World.{Descriptor, Task, World, filesystem_at, is_overlay, opening}
 
 -- a descriptor that is open for writing is on a plain tree, or on an overlay with an upper layer
 abbrev pub writes_to_a_layer : World ℕ → Descriptor ℕ → Bool
@@ -85,3 +87,19 @@ EveryCallKeepsWriters =
     (world : World ℕ) (fresh : Fresh ℕ) (name : TaskName) (call : Call) → IsWorld nat_eq world
     → Serves nat_eq world fresh → names_few_groups call ≡ true → WritersHaveLayers world
     → WritersHaveLayers (policy nat_eq fresh world name call).world
+
+-- It is so in every world that a script leads to,
+abbrev pub ScriptsKeepWriters : Type 0
+ScriptsKeepWriters =
+    (grammar : Grammar) (lines : List (List ℕ)) (refused : List Bool) (supply : Fresh ℕ) (world : World ℕ)
+    → ((j k : ℕ) → supply j ≡ supply k → j ≡ k) → LeadsTo grammar (opening nat_eq supply) lines refused world
+    → WritersHaveLayers world
+
+-- so there no permit changes an overlay without an upper layer.
+abbrev pub ScriptsChangeNone : Type 0
+ScriptsChangeNone =
+    (grammar : Grammar) (lines : List (List ℕ)) (refused : List Bool) (supply : Fresh ℕ) (world : World ℕ)
+    (fresh : Fresh ℕ) (task : Task ℕ) (permit : Permit ℕ) (location : Location ℕ) (change : Change ℕ)
+    → ((j k : ℕ) → supply j ≡ supply k → j ≡ k) → LeadsTo grammar (opening nat_eq supply) lines refused world
+    → IsGivenToTask fresh world task permit → change_asked fresh world permit ≡ Some (location, change)
+    → has_no_upper (looks_of nat_eq world) location ≡ false

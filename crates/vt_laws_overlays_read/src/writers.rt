@@ -1,5 +1,5 @@
 //! Who writes to overlays.
-ghost use Rattle.vt_laws_overlays_read.specs.Writers.{ChangesHaveLayers, EveryCallKeepsWriters, OpensCopyNothing, PermitsKeepWriters, PlainOnesAreChanged, PlainWorldsHaveLayers, SameWorldsHaveLayersAlike, SweepsKeepWriters};
+ghost use Rattle.vt_laws_overlays_read.specs.Writers.{ChangesHaveLayers, EveryCallKeepsWriters, OpensCopyNothing, PermitsKeepWriters, PlainOnesAreChanged, PlainWorldsHaveLayers, SameWorldsHaveLayersAlike, ScriptsChangeNone, ScriptsKeepWriters, SweepsKeepWriters};
 
 /// Where no descriptor is open for writing in an overlay without an upper layer, a permit changes no such overlay
 /// (`layers`). So where no overlay has an upper layer, permits change `plain` trees alone, and nothing is copied up
@@ -26,4 +26,12 @@ pub fn writers_keep_their_layers()
 pub fn worlds_whose_writers_have_layers()
     ensures plain { PlainWorldsHaveLayers }
     ensures alike { SameWorldsHaveLayersAlike }
+{}
+
+/// In every world that a script leads to no descriptor is open for writing in an overlay without an upper layer
+/// (`writers`), whatever numbers its lines are handed that are not in use, and whichever lines an allocation fails in.
+/// So there no permit changes such an overlay (`none`).
+pub fn scripts_leave_overlays_without_an_upper_layer()
+    ensures writers { ScriptsKeepWriters }
+    ensures none { ScriptsChangeNone }
 {}
