@@ -1,7 +1,6 @@
 -- A permit leaves no descriptor open for writing in an overlay without an upper layer.
-use Rattle.std.proofs.Common.{Bool, List, None, Ok, Option, Some, [], ap, cond, false, filter, inl, inr, is_some, map, nat_eq, not, option_map, refl, subst, sym, true, ⊎_elim, ℕ, ◌&&◌, ◌+◌, ◌++◌, ◌==◌, ◌∙◌, ◌∷◌, ◌≡◌}
+use Rattle.std.proofs.Common.{Bool, List, None, Ok, Option, Some, [], ap, cond, false, inr, is_some, map, nat_eq, not, option_map, refl, subst, sym, true, ⊎_elim, ℕ, ◌&&◌, ◌+◌, ◌++◌, ◌==◌, ◌∙◌, ◌∷◌, ◌≡◌}
 use Rattle.std.proofs.lemmas.Bool.{and_parts}
-use Rattle.std.specs.List.{list_all}
 use Rattle.std.specs.Prelude.{⊤}
 use Rattle.vt_laws_calls.proofs.tasks.TasksLeft.{left_tasks, tasks_left}
 use Rattle.vt_laws_given.specs.LeftWorlds.{IsGivenToTask}
@@ -14,7 +13,7 @@ use Rattle.vt_laws_overlay_permits.proofs.worlds.LowersGoOn.{Layers, changed_lay
 use Rattle.vt_laws_overlay_permits.proofs.worlds.PolicyLeads.{policy_leads}
 use Rattle.vt_laws_overlay_permits.specs.Asked.{change_asked}
 use Rattle.vt_laws_overlay_permits.specs.Changed.{numbers_left}
-use Rattle.vt_laws_overlays_read.proofs.writers.Swept.{all_write_alike, lacks_upper, sweeps_keep_writers, writers_alike, writes, writes_still, writes_there}
+use Rattle.vt_laws_overlays_read.proofs.writers.Swept.{all_write_alike, lacks_upper, sweeps_keep_writers, writers_alike, writes, writes_still}
 use Rattle.vt_laws_overlays_read.specs.Writers.{EveryCallKeepsWriters, PermitsKeepWriters, WritersHaveLayers, writes_to_a_layer}
 use Rattle.vt_laws_layers.proofs.layers.LowersCalls.{same_filesystem}
 use Rattle.vt_laws_rules.proofs.given.Inversion.{calls_are_granted}
@@ -33,7 +32,7 @@ use Rattle.vt_spec.specs.Language.Calls.{Access, Call, TaskName, opens_for_writi
 use Rattle.vt_spec.specs.Language.Changes.{Change}
 use Rattle.vt_spec.specs.Lists.{Fresh, evens, odds}
 use Rattle.vt_spec.specs.Machine.Apply.{apply, overfills}
-use Rattle.vt_spec.specs.Machine.Descriptors.{inserted, with_descriptor, without_descriptor}
+use Rattle.vt_spec.specs.Machine.Descriptors.{with_descriptor, without_descriptor}
 use Rattle.vt_spec.specs.Machine.Filesystems.{raised, with_change}
 use Rattle.vt_spec.specs.Machine.Invariants.{IsWorld, is_located_well, is_there}
 use Rattle.vt_spec.specs.Machine.Judge.{judge_in}
@@ -45,7 +44,7 @@ use Rattle.vt_spec.specs.Machine.NewMounts.{overlay_filesystem, plain_filesystem
 use Rattle.vt_spec.specs.Machine.Outcomes.{Outcome, after as outcome_after}
 use Rattle.vt_spec.specs.Machine.Permits.{Permit}
 use Rattle.vt_spec.specs.Machine.Permits.Permit.{ToClose, ToEnterNamespace, ToExit, ToFork, ToOpen, ToOpenNew, ToPivot, ToSetCredentials, ToSetDirectory, ToSetRoot, ToSetUmask, ToUnshare}
-use Rattle.vt_spec.specs.Machine.Policy.{call_outcome, numbers_raised, policy, raised_task}
+use Rattle.vt_spec.specs.Machine.Policy.{call_outcome, numbers_raised, raised_task}
 use Rattle.vt_spec.specs.Machine.Rules.Conditions.{has_no_upper}
 use Rattle.vt_spec.specs.Machine.Rules.Mounting.{overlay_at}
 use Rattle.vt_spec.specs.Machine.Settled.{settled}

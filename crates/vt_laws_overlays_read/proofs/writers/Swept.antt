@@ -1,5 +1,5 @@
 -- Whether an overlay has an upper layer is as it was after the sweep, and where worlds are the same.
-use Rattle.std.proofs.Common.{Bool, List, None, Option, Some, [], ap, cond, eqb-true, false, filter, find, inl, inr, is_some, map, nat_eq, not, option_map, refl, sym, true, true≢false, ℕ, ◌&&◌, ◌||◌, ◌∙◌, ◌∷◌, ◌≡◌}
+use Rattle.std.proofs.Common.{Bool, List, None, Option, Some, [], ap, cond, eqb-true, false, filter, find, inr, is_some, map, nat_eq, not, option_map, refl, sym, true, true≢false, ℕ, ◌&&◌, ◌||◌, ◌∙◌, ◌∷◌, ◌≡◌}
 use Rattle.std.specs.List.{list_all, list_any}
 use Rattle.std.specs.Prelude.{unwrap_or}
 use Rattle.vt_laws_overlays_read.specs.Writers.{PlainWorldsHaveLayers, SameWorldsHaveLayersAlike, SweepsKeepWriters, WritersHaveLayers, writes_to_a_layer}
@@ -12,9 +12,9 @@ use Rattle.vt_spec.specs.Machine.Locked.{of_overlay, overlay_or}
 use Rattle.vt_spec.specs.Machine.Looks.{looks_of}
 use Rattle.vt_spec.specs.Machine.Mounts.{Location, Mount, mount_in, no_mount}
 use Rattle.vt_spec.specs.Machine.Rules.Conditions.{has_no_upper}
-use Rattle.vt_spec.specs.Machine.SameWorlds.{SameFilesystems, SameWorlds}
+use Rattle.vt_spec.specs.Machine.SameWorlds.{SameFilesystems}
 use Rattle.vt_spec.specs.Machine.Settled.{has_layer_on, is_located, is_mounted, mount_lives, only_used, only_used_by, real_among, settled, used_in, without_dead_filesystems, without_dead_in, without_dead_mounts}
-use Rattle.vt_spec.specs.Machine.World.{Descriptor, Filesystem, Overlay, Task, World, all_locations, filesystem_at, filesystem_numbered, is_overlay, locations_of, mount_at, no_filesystem}
+use Rattle.vt_spec.specs.Machine.World.{Descriptor, Filesystem, Overlay, Task, World, all_locations, filesystem_numbered, is_overlay, locations_of, mount_at, no_filesystem}
 
 -- the filesystem is an overlay without an upper layer
 abbrev pub lacks_upper : Filesystem ℕ → Bool
