@@ -241,6 +241,7 @@ module _ (entry : FilesystemEntry) (counts : entry.count ≡ 2)
           read_only = All-cons (λ (filesystem : Filesystem ℕ).
               of_overlay false (λ overlay. is_some overlay.upper) filesystem ≡ false) (filesystem_seen entry) [] refl
               (All-nil _);
+          writers = refl;
           named = All-cons (λ (filesystem : Filesystem ℕ). is_overlay filesystem ≡ true
               → has_only_named filesystem ≡ true) (filesystem_seen entry) []
               (λ e. absurd (true≢false (sym e))) (All-nil _);

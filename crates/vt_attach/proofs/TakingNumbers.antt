@@ -16,6 +16,8 @@ use Rattle.vt_laws_one_text.proofs.same.SameNumbers.{any_same_worlds_keep_to_num
 use Rattle.vt_laws_one_text.proofs.same.SameWhole.{any_same_worlds_are_worlds}
 use Rattle.vt_laws_overlays_stay.proofs.left.Given.{given_permits_give_no_upper}
 use Rattle.vt_laws_runs.specs.Handed.{is_counted_before}
+use Rattle.vt_laws_overlays_read.proofs.writers.Swept.{same_worlds_have_layers_alike}
+use Rattle.vt_detach.proofs.Writers.{left_writers}
 use Rattle.vt_detach.specs.Events.{left_by, supply_of}
 use Rattle.vt_world.specs.Held.{CountsItsMounts, HasOwnInodes, IsHeld}
 use Rattle.vt_world.specs.WorldValue.{WorldValue, overlays_seen, world_of}
@@ -65,7 +67,9 @@ module _ (value : WorldValue) (whole : IsHeld value) (name : TaskName) (permit :
           overlays = overlays_hold_still value new whole.overlays same_overlays
               (same_files_rise (left_by value task permit).filesystems (world_of new).filesystems same.filesystems
               shows.rise)
-              counts.overlays;
+              counts.overlays
+              (same_worlds_have_layers_alike (left_by value task permit) (world_of new) same
+              (left_writers value whole task permit takes.given));
           namespaces = counts.namespaces;
         };
         becomes = becomes_so value name permit new task takes.called same;

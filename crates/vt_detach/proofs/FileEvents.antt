@@ -17,6 +17,7 @@ use Rattle.vt_laws_permits.specs.Named.{change_named}
 use Rattle.vt_laws_permits.specs.Sees.{SeesToChange}
 use Rattle.vt_laws_permits.proofs.sees.SeesFit.{given_changes_fit}
 use Rattle.vt_laws_permits.proofs.sees.SeesTasks.{given_permits_are_seen_to}
+use Rattle.vt_laws_overlays_read.proofs.writers.Changes.{plain_ones_are_changed}
 use Rattle.vt_laws_runs.specs.Handed.{is_counted_before}
 use Rattle.vt_laws_worlds.specs.Worlds.Permits.{IsFitPermit}
 use Rattle.vt_laws_worlds.proofs.worlds.FitPermitsNamed.{all_permits_fit}
@@ -45,7 +46,10 @@ module _ (value : WorldValue) (held : IsHeld value) (name : TaskName) (at : Loca
     (permits : Permits value name (ToChange (location_of at) change)) where
   -- what is changed is in no overlay
   change_is_plain : IsPlainAt value at
-  change_is_plain = ?
+  change_is_plain =
+      plain_ones_are_changed (world_of value) (supply_of value (ToChange (location_of at) change)) permits.task
+      (ToChange (location_of at) change) (location_of at) change held.overlays.read_only held.overlays.writers
+      permits.given refl
 
   pub change_at : IsLocated value at
   change_at = located value held at small change_is_plain

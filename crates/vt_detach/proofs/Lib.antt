@@ -2,6 +2,7 @@ pub mod FilesystemsFound
 pub mod Overlaid
 pub mod PlainFound
 pub mod NodesFound
+pub mod Writers
 pub mod LayersShown
 pub mod LookLemmas
 pub mod OwnInodesKept

@@ -1,14 +1,13 @@
 -- The overlays of the code's world, and of worlds midway in an event, which leaves overlays as they are.
-use Rattle.std.proofs.Common.{◌≡◌, refl, sym, ap, subst, ◌∙◌, inl, inr, ℕ, nat_eq, nat_lt, Bool, true, false, true≢false, eqb-true, cond, not, ◌&&◌, List, [], ◌∷◌, map, filter, find, is_some, unwrap_or, arith}
+use Rattle.std.proofs.Common.{◌≡◌, refl, sym, ap, subst, ◌∙◌, inl, inr, ℕ, nat_eq, nat_lt, Bool, true, false, true≢false, eqb-true, cond, not, ◌&&◌, List, [], ◌∷◌, map, filter, is_some, arith}
 use Rattle.std.specs.Prelude.{All}
 use Rattle.std.specs.List.{list_all}
 use Rattle.vt_spec.specs.Lists.{any_pair}
 use Rattle.vt_spec.specs.Machine.Locked.{of_overlay}
 use Rattle.vt_spec.specs.Machine.SameWorlds.{SameFilesystems}
 use Rattle.vt_spec.specs.Machine.Settled.{filesystem_lives, is_mounted, only_used, settled, used_in, without_dead_in, without_dead_mounts}
-use Rattle.vt_spec.specs.Machine.World.{Filesystem, World, filesystem_numbered, is_overlay, no_filesystem}
+use Rattle.vt_spec.specs.Machine.World.{Filesystem, World, filesystem_numbered, is_overlay}
 use Rattle.vt_laws_counts.specs.BesideOverlays.{OverlaysHaveNoUpper}
-use Rattle.vt_laws_counts.specs.Counted.{IsPlain}
 use Rattle.vt_laws_counts.specs.OverlaysStay.{OverlaysAreNamed, layer_count}
 use Rattle.vt_laws_counts.proofs.overlays.Living.{overlays_are_mounted, overlays_use_filesystems}
 use Rattle.vt_laws_counts.proofs.overlays.NamedStay.{filter_stays}
@@ -20,13 +19,14 @@ use Rattle.vt_laws_letting_go.specs.TreesOverlays.{in_use_of}
 use Rattle.vt_laws_letting_go.proofs.Lists.{Among, all_from_among, among-filter, among-from_filter, among_from_all, among-from_map, among-map, filter_all}
 use Rattle.vt_laws_letting_go.proofs.sweeps.InUse.{after_first, after_second, number-first, number-second, overlay-left}
 use Rattle.vt_laws_letting_go.proofs.sweeps.OfWorlds.{found_filesystem}
+use Rattle.vt_laws_overlays_read.specs.Writers.{WritersHaveLayers}
 use Rattle.vt_laws_overlays_stay.specs.Woven.{ArePartedBy, are_rising, put_in, woven}
 use Rattle.vt_laws_overlays_stay.proofs.kept.OverlaysLeft.{by_overlays, no_upper_of_plain}
 use Rattle.vt_laws_overlays_stay.proofs.weaving.WovenLists.{rising_filtered, woven_lists_are_failing, woven_lists_are_passing}
 use Rattle.vt_fs.specs.FilesystemsValue.{FilesystemEntry, Filesystems, filesystem_seen, filesystems_seen}
 use Rattle.vt_location.specs.Numbers.{counted}
 use Rattle.vt_world.specs.Held.{HasOwnNodes, HoldsOverlays, IsHeld, IsMountedSoOften}
-use Rattle.vt_world.specs.WorldValue.{OverlayEntry, WorldValue, overlays_seen, world_of}
+use Rattle.vt_world.specs.WorldValue.{WorldValue, overlays_seen, world_of}
 
 -- those that are no overlays
 abbrev pub is_plain_one : Filesystem ℕ → Bool
@@ -325,10 +325,11 @@ still_mounted old held world same =
 -- What holds of overlays holds still of another value of the world with the same ones.
 pub overlays_hold_still : (old new : WorldValue) → HoldsOverlays old
     → overlays_seen new.overlays ≡ overlays_seen old.overlays → are_rising (world_of new).filesystems ≡ true
-    → All (IsMountedSoOften (world_of new)) new.overlays → HoldsOverlays new
-overlays_hold_still old new holds same rising mounts = record {
+    → All (IsMountedSoOften (world_of new)) new.overlays → WritersHaveLayers (world_of new) → HoldsOverlays new
+overlays_hold_still old new holds same rising mounts writers = record {
   merged = subst (All (λ filesystem. is_overlay filesystem ≡ true)) (sym same) holds.merged;
   read_only = no_upper_midway old holds (world_of new) keeps;
+  writers = writers;
   named = named_midway old holds (world_of new) keeps;
   overlays_rise = ap are_rising same ∙ holds.overlays_rise;
   all_rise = rising;
@@ -390,9 +391,10 @@ module _ (old new : WorldValue) (holds : HoldsOverlays old) (stays : Filesystem 
 
   -- What holds of overlays holds of these.
   pub fewer_overlays_hold : are_rising (world_of new).filesystems ≡ true
-      → All (IsMountedSoOften (world_of new)) new.overlays → HoldsOverlays new
-  fewer_overlays_hold rising mounts = record {
+      → All (IsMountedSoOften (world_of new)) new.overlays → WritersHaveLayers (world_of new) → HoldsOverlays new
+  fewer_overlays_hold rising mounts writers = record {
     merged = fewer_are_merged;
+    writers = writers;
     read_only = all_from_among (λ f. of_overlay false (λ overlay. is_some overlay.upper) f ≡ false)
         (world_of new).filesystems (λ f m. no_upper f m (is_overlay f) refl);
     named = all_from_among (λ f. is_overlay f ≡ true → has_only_named f ≡ true) (world_of new).filesystems (λ f m e.

@@ -141,8 +141,14 @@ kept_by : (plain : Filesystems) (stays : ℕ × OverlayValue → Bool) (old new 
     → overlays_kept (map merged_of new) (map (overlay_of_store plain) old) ≡ map (overlay_of_store plain) new
 kept_by plain stays [] [] left apart = refl
 kept_by plain stays [] (entry ∷ new) left apart = absurd cc
-kept_by plain stays (first ∷ rest) new left apart = by (stays (first.count, first.overlay)) refl
+kept_by plain stays (first ∷ rest) new left apart =
+    by (kept_by plain stays rest) (stays (first.count, first.overlay)) refl
   where
+    Later : Type 0
+    Later =
+        (news : Overlays) → under_counts news ≡ filter stays (under_counts rest) → AreApart plain rest
+        → overlays_kept (map merged_of news) (map (overlay_of_store plain) rest) ≡ map (overlay_of_store plain) news
+
     over : OverlayEntry → worlds.OverlayEntry
     over = overlay_of_store plain
 
@@ -158,10 +164,10 @@ kept_by plain stays (first ∷ rest) new left apart = by (stays (first.count, fi
         fails (λ (b : Filesystem ℕ). nat_eq (counted first.count) b.number) (overlays_seen (map over rest)) parts.0
         (overlay_seen (over entry)) (among-map overlay_seen (map over rest) (over entry) (among-map over rest entry m))
 
-    stays_with : (news : Overlays) → under_counts news ≡ (first.count, first.overlay) ∷ filter stays (under_counts rest)
+    stays_with : Later → (news : Overlays) → under_counts news ≡ (first.count, first.overlay) ∷ filter stays (under_counts rest)
         → overlays_kept (map merged_of news) (over first ∷ map over rest) ≡ map over news
-    stays_with [] e = absurd cc
-    stays_with (entry ∷ more) e =
+    stays_with later [] e = absurd cc
+    stays_with later (entry ∷ more) e =
         let heads : (entry.count, entry.overlay) ≡ (first.count, first.overlay) = cc in
         let tails : under_counts more ≡ filter stays (under_counts rest) = cc in
         let count : first.count ≡ entry.count = sym (ap (λ (one : ℕ × OverlayValue). one.0) heads) in
@@ -177,24 +183,24 @@ kept_by plain stays (first ∷ rest) new left apart = by (stays (first.count, fi
         ∙ nat_eq_turned (counted was.0.count) (counted entry.count)
         ∙ ap (λ n. nat_eq (counted n) (counted was.0.count)) (sym count)
         ∙ others was.0 was.1)
-        ∙ kept_by plain stays rest more tails parts.1) i)
+        ∙ later more tails parts.1) i)
 
-    goes : under_counts new ≡ filter stays (under_counts rest)
+    goes : Later → under_counts new ≡ filter stays (under_counts rest)
         → overlays_kept (map merged_of new) (over first ∷ map over rest) ≡ map over new
-    goes e =
+    goes later e =
         ap (λ o. cons_option (counted_again (over first) o) (overlays_kept (map merged_of new) (map over rest)))
         (none_at (counted first.count) new (λ entry m.
         let was = were_there rest new (stays, e) entry m in
         ap (λ n. nat_eq (counted first.count) (counted n)) (sym was.2) ∙ others was.0 was.1))
-        ∙ kept_by plain stays rest new e parts.1
+        ∙ later new e parts.1
 
-    by : (b : Bool) → stays (first.count, first.overlay) ≡ b
+    by : Later → (b : Bool) → stays (first.count, first.overlay) ≡ b
         → overlays_kept (map merged_of new) (over first ∷ map over rest) ≡ map over new
-    by true e =
-        stays_with new (left ∙ ap (λ b. cond b ((first.count, first.overlay) ∷ filter stays (under_counts rest))
+    by later true e =
+        stays_with later new (left ∙ ap (λ b. cond b ((first.count, first.overlay) ∷ filter stays (under_counts rest))
         (filter stays (under_counts rest))) e)
-    by false e =
-        goes (left ∙ ap (λ b. cond b ((first.count, first.overlay) ∷ filter stays (under_counts rest))
+    by later false e =
+        goes later (left ∙ ap (λ b. cond b ((first.count, first.overlay) ∷ filter stays (under_counts rest))
         (filter stays (under_counts rest))) e)
 
 -- Those that are left of its overlays, as often as they are mounted, are those that the store keeps, as the old plain

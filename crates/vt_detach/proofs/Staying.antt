@@ -27,6 +27,7 @@ use Rattle.vt_laws_letting_go.proofs.leaving.LeftWithOverlays.{staying_keeps_ove
 use Rattle.vt_laws_permits.specs.Left.{IsGiven}
 use Rattle.vt_laws_permits.specs.Named.{permit_named}
 use Rattle.vt_laws_permits.proofs.named.PermitsKeepTo.{permits_keep_to_numbers}
+use Rattle.vt_laws_overlays_read.specs.Writers.{WritersHaveLayers}
 use Rattle.vt_laws_overlays_stay.proofs.left.Given.{given_permits_give_no_upper}
 use Rattle.vt_laws_runs.specs.Handed.{is_counted_before}
 use Rattle.vt_tasks.specs.TasksValue.{Tasks, changed_by, changed_called, replaced}
@@ -36,6 +37,7 @@ use Rattle.vt_world.specs.WorldValue.{WorldValue, world_of}
 use Rattle.vt_detach.proofs.Splits.{locations_stay, replaced_split, times_replaced, writes_replaced}
 use Rattle.vt_detach.proofs.Overlaid.{overlays_counted}
 use Rattle.vt_detach.proofs.Grouped.{same_has}
+use Rattle.vt_detach.proofs.Writers.{left_writers}
 
 -- the world with other tasks
 abbrev pub after : WorldValue → Tasks → WorldValue
@@ -67,8 +69,8 @@ module _ (value : WorldValue) (tasks : Tasks)
       ≡ times (λ task. nat_eq namespace task.namespace) value.tasks)
       → IsWorld nat_eq (world_of (after value tasks))
       → KeepsTo (is_counted_before value.next) (world_of (after value tasks))
-      → IsHeld (after value tasks)
-  stays_held held writes inside is keeps = record {
+      → WritersHaveLayers (world_of (after value tasks)) → IsHeld (after value tasks)
+  stays_held held writes inside is keeps writers = record {
     in_world = is;
     groups = same_has (world_of value) (world_of (after value tasks)) value.groups held.groups refl (λ group. refl);
     given = keeps;
@@ -94,6 +96,7 @@ module _ (value : WorldValue) (tasks : Tasks)
     overlays = record {
       merged = held.overlays.merged;
       read_only = held.overlays.read_only;
+      writers = writers;
       named = held.overlays.named;
       overlays_rise = held.overlays.overlays_rise;
       all_rise = held.overlays.all_rise;
@@ -175,6 +178,8 @@ module _ (value : WorldValue) (name : TaskName) (permit : Permit ℕ) (task new 
       (subst (KeepsTo (is_counted_before value.next)) (stayed_exactly (λ k. 0))
       (permits_keep_to_numbers (is_counted_before value.next) (λ k. 0)
       (world_of value) task permit stays.given.called held.given (λ k. refl) stays.named))
+      (subst WritersHaveLayers (stayed_exactly (supply_of value permit))
+      (left_writers value held task permit stays.given))
 
 -- an event that leaves the invariants and does what its permit says
 pub record IsDone (value : WorldValue) (name : TaskName) (permit : Permit ℕ) (new : WorldValue) : Type 0 where

@@ -6,6 +6,7 @@ use Rattle.vt_spec.specs.Machine.Invariants.{IsWorld}
 use Rattle.vt_laws_counts.specs.BesideOverlays.{OverlaysHaveNoUpper}
 use Rattle.vt_laws_counts.specs.Counted.{IsCounted}
 use Rattle.vt_laws_counts.specs.OverlaysStay.{OverlaysAreNamed, layer_count}
+use Rattle.vt_laws_overlays_read.specs.Writers.{WritersHaveLayers}
 use Rattle.vt_laws_overlays_stay.specs.Woven.{are_rising}
 use Rattle.vt_fs.specs.FilesystemsValue.{FilesystemEntry, filesystem_seen, inodes_seen}
 use Rattle.vt_group.specs.Grouping.{Has}
@@ -51,11 +52,12 @@ HasOwnNodes filesystem =
     → (node : NodeRef) × (is_small_node node ≡ true) × (filesystem.number ≡ counted node.filesystem.count)
     × (number ≡ number_of node)
 
--- The overlays of a world are read-only, and each of their inodes is the root or has a name. They are kept in the order
--- of their numbers, as all filesystems are.
+-- The overlays of a world are read-only, so no descriptor is open for writing in one, and each of their inodes is the
+-- root or has a name. They are kept in the order of their numbers, as all filesystems are.
 pub record HoldsOverlays (value : WorldValue) : Type 0 where
   pub merged : All (λ filesystem. is_overlay filesystem ≡ true) (overlays_seen value.overlays)
   pub read_only : OverlaysHaveNoUpper (world_of value)
+  pub writers : WritersHaveLayers (world_of value)
   pub named : OverlaysAreNamed (world_of value)
   pub overlays_rise : are_rising (overlays_seen value.overlays) ≡ true
   pub all_rise : are_rising (world_of value).filesystems ≡ true
