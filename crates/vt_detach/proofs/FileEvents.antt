@@ -1,13 +1,16 @@
 -- The events that change files and names.
-use Rattle.std.proofs.Common.{◌≡◌, refl, sym, ap, subst, ◌∙◌, ℕ, ◌<◌, ◌&&◌, Bool, true, false, nat_eq}
+use Rattle.std.proofs.Common.{◌≡◌, refl, sym, ap, subst, ◌∙◌, ℕ, ◌<◌, ◌&&◌, Bool, true, false, nat_eq, Some}
 use Rattle.vt_spec.specs.declared.attributes.Attr.{Attr}
 use Rattle.vt_spec.specs.Language.Calls.{TaskName}
 use Rattle.vt_spec.specs.Language.Changes.{Change}
 use Rattle.vt_spec.specs.Language.Changes.Change.{SetAttr, SetMark}
+use Rattle.vt_spec.specs.Machine.Mounts as meant
 use Rattle.vt_spec.specs.Machine.Permits.{Permit}
 use Rattle.vt_spec.specs.Machine.Permits.Permit.{ToChange}
+use Rattle.vt_spec.specs.Machine.World.{filesystem_at, is_overlay}
 use Rattle.vt_spec.specs.Fits.{Fits}
 use Rattle.vt_spec.specs.Inodes.{changed, tree_of}
+use Rattle.vt_laws_calls.specs.Inodes.{change_of}
 use Rattle.vt_laws_counts.specs.Changing.{LinksWhatIsThere}
 use Rattle.vt_fs.specs.FilesystemsValue.{ChangesInodes, Filesystems, inodes_at, inodes_seen}
 use Rattle.vt_location.specs.declared.locations.Location.{Location}
@@ -36,6 +39,16 @@ permit_fits value held name permit permits =
     all_permits_fit (world_of value) (supply_of value permit) permits.task permits.given.call permit held.in_world
     permits.given.serves permits.given.called permits.given.no_overlay permits.given.judged
 
+-- what the permit of a call changes is in no overlay
+pub changed_is_plain : (value : WorldValue) → IsHeld value
+    → (name : TaskName) (permit : Permit ℕ) (permits : Permits value name permit)
+    → (location : meant.Location ℕ) (change : Change ℕ)
+    → change_of (supply_of value permit) (world_of value) permit ≡ Some (location, change)
+    → is_overlay (filesystem_at nat_eq (world_of value) location) ≡ false
+changed_is_plain value held name permit permits location change =
+    plain_ones_are_changed (world_of value) (supply_of value permit) permits.task permit location change
+    held.overlays.read_only held.overlays.writers permits.given
+
 -- an inode of a location that is there, in the slots of its filesystem
 abbrev pub IsSmall : Location → Type 0
 IsSmall at = at.node.slot < 18446744073709551616
@@ -44,12 +57,9 @@ IsSmall at = at.node.slot < 18446744073709551616
 module _ (value : WorldValue) (held : IsHeld value) (name : TaskName) (at : Location) (small : IsSmall at)
     (change : Change ℕ)
     (permits : Permits value name (ToChange (location_of at) change)) where
-  -- what is changed is in no overlay
   change_is_plain : IsPlainAt value at
   change_is_plain =
-      plain_ones_are_changed (world_of value) (supply_of value (ToChange (location_of at) change)) permits.task
-      (ToChange (location_of at) change) (location_of at) change held.overlays.read_only held.overlays.writers
-      permits.given refl
+      changed_is_plain value held name (ToChange (location_of at) change) permits (location_of at) change refl
 
   pub change_at : IsLocated value at
   change_at = located value held at small change_is_plain
