@@ -3,6 +3,7 @@ pub mod BoundEvents
 pub mod BoundTrees
 pub mod ChangedWithMounts
 pub mod Counted
+pub mod DetachedStored
 pub mod DirectoryRemoved
 pub mod FileAnswers
 pub mod FileMaking

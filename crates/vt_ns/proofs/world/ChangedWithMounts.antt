@@ -65,7 +65,7 @@ use Rattle.vt_detach.proofs.FollowedTypes.{own_types}
 use Rattle.vt_detach.proofs.Overlaid.{found_plain_one, keeps_itself, plain_one_among, same_files_keep, world_is_plain}
 use Rattle.vt_detach.proofs.Keeping.{IsKeptBut, detached_in}
 use Rattle.vt_detach.proofs.MountsGone.{pending_filesystem, pending_number}
-use Rattle.vt_detach.proofs.Remaining.{remade}
+use Rattle.vt_detach.proofs.Remaining.{remade_with}
 use Rattle.vt_detach.proofs.Staying.{IsDone, becomes_so, held_is_settled}
 use Rattle.vt_detach.proofs.TypedEvents.{counts_typed, swept_typed, typed_value}
 use Rattle.vt_detach.proofs.TypedWorlds.{settled_typed, settled_typed_has, typed_world}
@@ -392,9 +392,9 @@ module _ (value : WorldValue) (held : IsHeld value) (location : Location ℕ) (c
         typed_then_detached : (mounts : List MountEntry) (others : Filesystems) (overlays : List Merged)
             → LeaveInTurn gone (kept_of (with_filesystems value filesystems))
             (kept_with mounts others overlays)
-            → IsDone value name permit (typed_value groups (remade value mounts others value.tasks))
+            → IsDone value name permit (typed_value groups (remade_with value mounts others overlays value.tasks))
         typed_then_detached mounts others overlays turn =
-            let untyped = remade value mounts others value.tasks in
+            let untyped = remade_with value mounts others overlays value.tasks in
             let new = typed_value groups untyped in
             let held_first = changed_first_is_held in
             let detaching = all_detached value_changed [] (in_use_of after) gone
@@ -434,8 +434,9 @@ module _ (value : WorldValue) (held : IsHeld value) (location : Location ℕ) (c
           (overlays : List Merged)
           → LeaveTogether gone (kept_of (with_filesystems value filesystems)) value.groups
           (kept_with mounts others overlays) groups
-          → IsDone value name permit (record (remade value mounts others value.tasks) { groups = groups })
+          → IsDone value name permit (record (remade_with value mounts others overlays value.tasks) { groups = groups })
       changed_then_detached mounts groups others overlays together =
-          subst (λ all. IsDone value name permit (record (remade value all others value.tasks) { groups = groups }))
+          subst (λ all. IsDone value name permit
+          (record (remade_with value all others overlays value.tasks) { groups = groups }))
           (sym (together.types (has_ordered (world_of value) value.groups held.groups) (own_types value held)))
           (typed_then_detached groups together.groups together.entries others overlays together.turn)
