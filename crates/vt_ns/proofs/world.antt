@@ -21,6 +21,7 @@ pub mod OpeningNew
 pub mod PivotedEvents
 pub mod PivotedUses
 pub mod PivotedWorlds
+pub mod PlainStored
 pub mod PointsMoved
 pub mod RemainingTasks
 pub mod RenamedOver

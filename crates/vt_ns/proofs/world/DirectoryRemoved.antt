@@ -45,7 +45,7 @@ use Rattle.vt_detach.proofs.FilesSeen.{IsLocated, nodes_named, located, located_
 use Rattle.vt_detach.proofs.LazilyUnmounted.{trees_have_children, trees_numbers}
 use Rattle.vt_ns.proofs.world.DetachedStored.{collected_leave, left_is_stored, none_goes, some_go}
 use Rattle.vt_ns.proofs.world.MountsOn.{none_on, one_on, tops_on, trees_collected}
-use Rattle.vt_ns.proofs.world.StoresKept.{plain_changed}
+use Rattle.vt_ns.proofs.world.PlainStored.{files_stored}
 use Rattle.vt_detach.proofs.Remaining.{remade_with}
 use Rattle.vt_detach.proofs.Staying.{IsDone}
 
@@ -194,6 +194,6 @@ module _ (base : WorldValue) (store : StoreValue) (held : IsHeld (with_store sto
       store.plain plain
       → IsFilesEvent (with_store store base) name removed (with_store (record store { plain = plain }) base)
   directory_goes_alone none plain changes =
-      plain_changed (IsFilesEvent (with_store store base) name removed) base store held plain
+      files_stored base store held name removed permits plain
       (alone_is_removed (with_store store base) held name parent entry directory small small_directory permits
       (none_goes base store held ids trees are none) plain changes)

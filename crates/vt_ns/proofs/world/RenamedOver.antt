@@ -49,7 +49,7 @@ use Rattle.vt_detach.proofs.FilesSeen.{nodes_named}
 use Rattle.vt_detach.proofs.LazilyUnmounted.{trees_have_children, trees_numbers}
 use Rattle.vt_ns.proofs.world.DetachedStored.{collected_leave, left_is_stored, none_goes, some_go}
 use Rattle.vt_ns.proofs.world.MountsOn.{none_on, one_on, tops_on, trees_collected}
-use Rattle.vt_ns.proofs.world.StoresKept.{plain_changed}
+use Rattle.vt_ns.proofs.world.PlainStored.{files_stored}
 use Rattle.vt_detach.proofs.Moving.{map_itself}
 use Rattle.vt_detach.proofs.Remaining.{remade_with}
 use Rattle.vt_detach.proofs.Staying.{IsDone}
@@ -251,7 +251,7 @@ module _ (base : WorldValue) (store : StoreValue) (held : IsHeld (with_store sto
       store.plain plain
       → IsFilesEvent (with_store store base) name renamed (with_store (record store { plain = plain }) base)
   rename_stays none plain changes =
-      plain_changed (IsFilesEvent (with_store store base) name renamed) base store held plain
+      files_stored base store held name renamed permits plain
       (Renaming.rename_alone_is_done (with_store store base) held name from old to new object replaced small small_to
       small_object permits
       (nothing_on_replaced (with_store store base) held name from old to new object replaced small small_to small_object
