@@ -27,6 +27,7 @@ use Rattle.vt_laws_permits.specs.Named.{permit_named}
 use Rattle.vt_laws_permits.proofs.named.PermitsKeepTo.{permits_keep_to_numbers}
 use Rattle.vt_laws_one_text.proofs.same.SameNumbers.{any_same_worlds_keep_to_numbers}
 use Rattle.vt_laws_one_text.proofs.same.SameWhole.{any_same_worlds_are_worlds}
+use Rattle.vt_laws_overlay_permits.proofs.kept.KeptOverlays.{overlays_in}
 use Rattle.vt_laws_overlay_permits.proofs.worlds.SweptWorlds.{settling_leaves_every_world}
 use Rattle.vt_laws_overlays_stay.proofs.left.Given.{given_permits_are_under_way_without_upper, given_permits_give_no_upper}
 use Rattle.vt_laws_letting_go.proofs.Lists.{Among, all_from_among, among-append_right, among-filter, among-filter_map, among-map, among_from_all, is_among_left, is_among_numbers, is_among_right, map_same, or_second}
@@ -175,14 +176,8 @@ module _ (value : WorldValue) (held : IsHeld value) (location : Location ℕ) (c
         one_filesystem = last.0.files.one_filesystem;
         fit_filesystems = last.0.files.fit_filesystems;
       },
-      record {
-        overlays_merge = last.1.overlays_merge;
-        fit_layers = last.1.fit_layers;
-        plain_layers = last.1.plain_layers;
-        changed_apart = last.1.changed_apart;
-        lowers_apart = last.1.lowers_apart;
-        uppers_reached = last.1.uppers_reached;
-      },
+      overlays_in (changed_first fresh) (regrouped_by nat_eq true (detached_world gone (changed_first fresh))) refl
+          last.1,
     )
     trees_under_way false last = (
       record {
@@ -192,14 +187,8 @@ module _ (value : WorldValue) (held : IsHeld value) (location : Location ℕ) (c
         one_filesystem = last.0.files.one_filesystem;
         fit_filesystems = last.0.files.fit_filesystems;
       },
-      record {
-        overlays_merge = last.1.overlays_merge;
-        fit_layers = last.1.fit_layers;
-        plain_layers = last.1.plain_layers;
-        changed_apart = last.1.changed_apart;
-        lowers_apart = last.1.lowers_apart;
-        uppers_reached = last.1.uppers_reached;
-      },
+      overlays_in (changed_first fresh) (regrouped_by nat_eq false (detached_world gone (changed_first fresh))) refl
+          last.1,
     )
 
     trees_ready : TreeInvariants nat_eq (changed_first fresh) × OverlayInvariants nat_eq (changed_first fresh)
@@ -353,21 +342,15 @@ module _ (value : WorldValue) (held : IsHeld value) (location : Location ℕ) (c
       no_object (f ∷ rest) =
           λ i. by (nat_eq changed_files.number f.number) refl i ++ no_object rest i
         where
-          abbrev one : Bool → Filesystem ℕ
-          one b = cond b changed_files f
+          neither : (b : Bool) (none : List Inode) → none ≡ [] → cond b none [] ≡ []
+          neither true none e = e
+          neither false none e = refl
 
           by : (b : Bool) → nat_eq changed_files.number f.number ≡ b
-              → uppers_of_inode_in (number, object) (one b) ≡ []
+              → uppers_of_inode_in (number, object) (cond b changed_files f) ≡ []
           by true e =
-              ap (λ o. cond (nat_eq changed_files.number number) (overlay_or [] (uppers_in object) o) []) no_overlay
-              ∙ neither (nat_eq changed_files.number number)
-            where
-              abbrev nothing : List Inode
-              nothing = []
-
-              neither : (b : Bool) → cond b nothing nothing ≡ []
-              neither true = refl
-              neither false = refl
+              neither (nat_eq changed_files.number number) (overlay_or [] (uppers_in object) changed_files.overlay)
+              (ap (overlay_or [] (uppers_in object)) no_overlay)
           by false e =
               ap (λ b. cond b (overlay_or [] (uppers_in object) f.overlay) [])
               (swap_eq f.number number ∙ ap (λ n. nat_eq n f.number) (sym files_numbered) ∙ e)

@@ -1,7 +1,7 @@
 -- A task opens a file: open(2).
-use Rattle.std.proofs.Common.{◌≡◌, ◌<◌, refl, sym, ap, subst, ◌∙◌, ℕ, ◌+◌, nat_eq, Bool, true, false, cond, ◌&&◌, List, [], ◌∷◌, ◌++◌, map, find, Option, None, Some, is_some, unwrap_or, true≢false, arith}
+use Rattle.std.proofs.Common.{◌≡◌, ◌<◌, refl, sym, ap, subst, ◌∙◌, ℕ, ◌+◌, nat_eq, Bool, true, false, cond, ◌&&◌, List, [], ◌∷◌, ◌++◌, map, find, Option, None, Some, is_some, unwrap_or, true≢false, inl, inr, arith}
 use Rattle.std.proofs.Math.Bool.{and-false}
-use Rattle.std.specs.Prelude.{All, nat_lt}
+use Rattle.std.specs.Prelude.{nat_lt}
 use Rattle.std.proofs.lemmas.Bool.{leb-false}
 use Rattle.std.proofs.lemmas.List.{map-append}
 use Rattle.vt_spec.specs.Language.Calls.{TaskName, opens_for_reading, opens_for_writing}
@@ -42,7 +42,7 @@ use Rattle.vt_detach.proofs.Places.{located_is_named}
 use Rattle.vt_detach.proofs.Remaining.{remade, remains_done}
 use Rattle.vt_detach.proofs.Splits.{IsSplit, locations_around, replaced_split, times_replaced, writes_replaced}
 use Rattle.vt_detach.proofs.Staying.{IsDone, after}
-use Rattle.vt_laws_letting_go.proofs.Lists.{times_around}
+use Rattle.vt_laws_letting_go.proofs.Lists.{Among, among_from_all, times_around}
 
 -- a descriptor that is put in can be taken out
 pub inserted_goes : (new : Descriptor ℕ) (all : List (Descriptor ℕ)) → Goes new (inserted new all) all
@@ -119,13 +119,13 @@ module _ (value : WorldValue) (whole : IsHeld value) (name : TaskName) (task : T
 -- no overlay has an upper layer, so nothing is copied up
 
 no_upper_numbered : (number : ℕ) (all : List (Filesystem ℕ))
-    → All (λ f. of_overlay false (λ overlay. is_some overlay.upper) f ≡ false) all
+    → ((f : Filesystem ℕ) → Among f all → of_overlay false (λ overlay. is_some overlay.upper) f ≡ false)
     → of_overlay false (λ overlay. is_some overlay.upper)
     (unwrap_or (find (λ (f : Filesystem ℕ). nat_eq number f.number) all) (no_filesystem number))
     ≡ false
 no_upper_numbered number [] none = refl
 no_upper_numbered number (f ∷ rest) none =
-    by (nat_eq number f.number) (no_upper_numbered number rest none.1)
+    by (nat_eq number f.number) (no_upper_numbered number rest (λ g m. none g (inr m)))
   where
     by : (b : Bool)
         → of_overlay false (λ overlay. is_some overlay.upper)
@@ -134,7 +134,7 @@ no_upper_numbered number (f ∷ rest) none =
         → of_overlay false (λ overlay. is_some overlay.upper)
         (unwrap_or (cond b (Some f) (find (λ (g : Filesystem ℕ). nat_eq number g.number) rest)) (no_filesystem number))
         ≡ false
-    by true later = none.0
+    by true later = none f (inl refl)
     by false later = later
 
 nothing_copied : (value : WorldValue) → IsHeld value → (file : meant.Location ℕ) (access : spoken.Access)
@@ -154,7 +154,8 @@ nothing_copied value whole file access fresh = in_overlay (filesystem_at nat_eq 
     over overlay e (Some upper) u true =
         absurd (true≢false (sym (ap (overlay_or false (λ (v : Overlay ℕ). is_some v.upper)) e ∙ ap is_some u)
         ∙ no_upper_numbered (mount_at nat_eq (world_of value) file).filesystem (world_of value).filesystems
-        whole.overlays.read_only))
+        (among_from_all (λ f. of_overlay false (λ overlay. is_some overlay.upper) f ≡ false)
+        (world_of value).filesystems whole.overlays.read_only)))
 
     in_overlay : (o : Option (Overlay ℕ)) → (filesystem_at nat_eq (world_of value) file).overlay ≡ o
         → with_copy nat_eq (is_copied_up nat_eq (world_of value) file access) fresh (world_of value) file

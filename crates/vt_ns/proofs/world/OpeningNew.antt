@@ -41,6 +41,7 @@ use Rattle.vt_laws_permits.proofs.named.PermitsKeepTo.{permits_keep_to_numbers}
 use Rattle.vt_laws_one_text.proofs.answered.AlikeAnswered.{any_same_worlds_are_swept_alike}
 use Rattle.vt_laws_one_text.proofs.same.SameNumbers.{any_same_worlds_keep_to_numbers}
 use Rattle.vt_laws_one_text.proofs.same.SameWhole.{any_same_worlds_are_under_way, any_same_worlds_are_worlds}
+use Rattle.vt_laws_overlay_permits.proofs.kept.KeptOverlays.{overlays_in}
 use Rattle.vt_laws_overlay_permits.proofs.worlds.SweptWorlds.{settling_leaves_every_world}
 use Rattle.vt_laws_overlays_stay.proofs.left.Given.{given_permits_are_under_way_without_upper, given_permits_give_no_upper}
 use Rattle.vt_laws_permits.proofs.sees.SeesFit.{given_changes_fit}
@@ -289,14 +290,9 @@ module _ (value : WorldValue) (held : IsHeld value) (name : TaskName) (directory
         }
 
     overlays_ready : OverlayInvariants nat_eq (apply nat_eq handed (world_of value) permits.task making).world
-    overlays_ready = record {
-      overlays_merge = under_way.1.overlays_merge;
-      fit_layers = under_way.1.fit_layers;
-      plain_layers = under_way.1.plain_layers;
-      changed_apart = under_way.1.changed_apart;
-      lowers_apart = under_way.1.lowers_apart;
-      uppers_reached = under_way.1.uppers_reached;
-    }
+    overlays_ready =
+        overlays_in (apply nat_eq handed (world_of value) permits.task making).world
+        (apply nat_eq handed (world_of value) permits.task permit).world refl under_way.1
 
     mid_is_world : IsWorld nat_eq (world_of mid)
     mid_is_world =
