@@ -41,7 +41,8 @@ invariant_of-self-2 c =
     (make_is_done (the_view c.self.inside) c.self.invariant c.args.name.now c.args.new.directory c.args.new.name.items
     c.args.new.node (omega arith) permits c.create.new.self c.in_ok-create.field-0
     (here_is_own c.in_ok-create.field-0 (omega arith) (omega arith) c.in_ok-create.ensures.birth)
-    c.in_ok-create.ensures.filesystem c.in_ok-create.ensures.number c.in_ok-create.ensures.ok)).held
+    c.in_ok-create.ensures.filesystem (rw c.plain_mut.ensures.value at c.in_ok-create.ensures.number)
+    (rw c.plain_mut.ensures.value at c.in_ok-create.ensures.ok))).held
 
 pub returns-clause-ok : goal.returns-clause-ok
 returns-clause-ok c =
@@ -56,4 +57,5 @@ returns-clause-ok c =
     (make_is_done (the_view c.self.inside) c.self.invariant c.args.name.now c.args.new.directory c.args.new.name.items
     c.args.new.node (omega arith) permits c.create.new.self c.in_ok-create.field-0
     (here_is_own c.in_ok-create.field-0 (omega arith) (omega arith) c.in_ok-create.ensures.birth)
-    c.in_ok-create.ensures.filesystem c.in_ok-create.ensures.number c.in_ok-create.ensures.ok)).becomes
+    c.in_ok-create.ensures.filesystem (rw c.plain_mut.ensures.value at c.in_ok-create.ensures.number)
+    (rw c.plain_mut.ensures.value at c.in_ok-create.ensures.ok))).becomes

@@ -11,11 +11,10 @@ use Rattle.vt_ns.proofs.world.World.write_part.Goals as goal
 
 pub returns-then-is_empty-clause-ok : goal.returns-then-is_empty-clause-ok
 returns-then-is_empty-clause-ok c =
-    subst (λ value. Becomes value c.args.name.now (write_permit (Part c.args.part))
-    (the_view c.self.inside)) c.self.view_is
-    (nothing_is_written (the_view c.self.inside) c.self.invariant c.args.name.now
+    nothing_is_written c.args.self.now c.is_held.ensures c.args.name.now
     (location_of c.args.part.file) c.args.part.offset c.args.part.bytes.items
-    (no_bytes c.args.part.bytes.items c.is_empty.result (rw c.as_slice-bytes.ensures.value at c.is_empty.ensures) c.if-is_empty.true))
+    (no_bytes c.args.part.bytes.items c.is_empty.result (rw c.as_slice-bytes.ensures.value at c.is_empty.ensures)
+    c.if-is_empty.true)
 
 pub write_at-requires-clause-file : goal.write_at-requires-clause-file
 write_at-requires-clause-file c =
@@ -33,10 +32,6 @@ write_at-requires-clause-size c =
 
 pub invariant_of-self : goal.invariant_of-self
 invariant_of-self c =
-    c.self.invariant
-
-pub invariant_of-self-2 : goal.invariant_of-self-2
-invariant_of-self-2 c =
     let permits = subst (λ value. Permits value c.args.name.now
     (write_permit (Part c.args.part))) (sym c.self.view_is) c.requires in
     (answered_stored (the_view c.self.inside) c.self.inside.store c.self.invariant c.args.name.now
