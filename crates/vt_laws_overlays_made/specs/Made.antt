@@ -5,6 +5,7 @@ use Rattle.vt_spec.specs.Lists.{Fresh, evens, odds}
 use Rattle.vt_spec.specs.Machine.Invariants.{IsWorld}
 use Rattle.vt_spec.specs.Machine.Merging.{Merged, merged_objects, real_object}
 use Rattle.vt_spec.specs.Machine.NewMounts.{inode_count, overlay_filesystem}
+use Rattle.vt_spec.specs.Machine.SameWorlds.{SameFilesystem}
 use Rattle.vt_spec.specs.Machine.World.{Filesystem, Real, World}
 use Rattle.vt_laws_given.specs.NumbersHanded.{Placed, handed_at}
 use Rattle.vt_laws_layers.specs.Layers.Mounted.{AreLayers}
@@ -80,3 +81,8 @@ MadeTreesAreShown =
 abbrev pub MadeObjectsAreShown : Type 0
 MadeObjectsAreShown =
     OfMadeOverlays (λ trees overlay made. made.overlay ≡ Some (with_objects trees overlay))
+
+-- So it is the one that they show, but for the order of the numbers beside its tree.
+abbrev pub MadeOverlaysAreSame : Type 0
+MadeOverlaysAreSame =
+    OfMadeOverlays (λ trees overlay made. SameFilesystem made (overlay_shown trees overlay))
