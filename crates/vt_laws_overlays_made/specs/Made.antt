@@ -1,6 +1,6 @@
 -- The overlay that a mount makes, where it is handed the numbers by which code knows its inodes: mount(2), and the
 -- kernel's overlayfs document, "upper and lower" and "multiple lower layers".
-use Rattle.std.specs.Prelude.{List, Some, [], false, length, nat_eq, slice_get, ℕ, ◌+◌, ◌<◌, ◌∷◌, ◌≡◌, ◌≤◌}
+use Rattle.std.specs.Prelude.{List, Some, [], false, length, nat_eq, slice_get, true, ℕ, ◌*◌, ◌+◌, ◌<◌, ◌∷◌, ◌≡◌, ◌≤◌}
 use Rattle.vt_spec.specs.Lists.{Fresh, evens, odds}
 use Rattle.vt_spec.specs.Machine.Invariants.{IsWorld}
 use Rattle.vt_spec.specs.Machine.Merging.{Merged, merged_objects, real_object}
@@ -9,10 +9,19 @@ use Rattle.vt_spec.specs.Machine.SameWorlds.{SameFilesystem}
 use Rattle.vt_spec.specs.Machine.World.{Filesystem, Real, World}
 use Rattle.vt_laws_given.specs.NumbersHanded.{Placed, handed_at}
 use Rattle.vt_laws_layers.specs.Layers.Mounted.{AreLayers}
+use Rattle.vt_laws_permits.specs.InUse.{is_in_use}
+use Rattle.vt_laws_rules.specs.Numbers.{Allotment}
+use Rattle.vt_laws_runs.specs.Handed.{counts_from, is_counted_before, may_be_given}
+use Rattle.vt_laws_runs.specs.Runs.{ServesInHand}
 use Rattle.vt_laws_overlays_kept.specs.Kept.{ShowsLayers, with_objects}
+use Rattle.vt_location.specs.declared.locations.NodeRef.{NodeRef}
+use Rattle.vt_location.specs.declared.numbers.FilesystemId.{FilesystemId}
+use Rattle.vt_location.specs.Locations.{number_of}
+use Rattle.vt_location.specs.NodeNumbers.{IsSmall}
 use Rattle.vt_location.specs.Numbers.{counted}
 use Rattle.vt_fs.specs.FilesystemsValue.{Filesystems}
 use Rattle.vt_merge.specs.LayerValue.{layers_of}
+use Rattle.vt_overlay.specs.MergedTree as Kept
 use Rattle.vt_overlay.specs.MergedTree.{OverlayValue, merged_files, merged_tree, overlay_seen, real_number}
 
 -- the number of each object that is shown, at every fourth place of a supply from this one on
@@ -65,6 +74,12 @@ InodesGetTheirNumbers =
     → odds (evens (handed_for most trees overlay)) place
     ≡ real_number trees overlay (real_object false object.seen.layer object)
 
+-- Mounts and peer groups get counts after its own.
+abbrev pub MountsGetCounts : Type 0
+MountsGetCounts =
+    (most : ℕ) (trees : Filesystems) (overlay : OverlayValue) (k : ℕ)
+    → odds (handed_for most trees overlay) k ≡ counts_from overlay.number.count (2 * k + 1)
+
 -- what is said of the overlay that is made of layers of a world that are kept, if all numbers of the supply differ
 abbrev pub OfMadeOverlays : (Filesystems → OverlayValue → Filesystem ℕ → Type 0) → Type 0
 OfMadeOverlays Said =
@@ -86,3 +101,26 @@ MadeObjectsAreShown =
 abbrev pub MadeOverlaysAreSame : Type 0
 MadeOverlaysAreSame =
     OfMadeOverlays (λ trees overlay made. SameFilesystem made (overlay_shown trees overlay))
+
+-- The supply
+
+-- No number of a node of the overlay is in use, and of odd ones only those are that are counted before its own.
+pub record IsNew (world : World ℕ) (number : FilesystemId) : Type 0 where
+  pub small : number.count < 18446744073709551616
+  pub counted_before : (other : ℕ) → is_in_use world other ≡ true → is_counted_before number.count other ≡ true
+  pub nodes : (node : NodeRef) → IsSmall node → node.filesystem ≡ number → is_in_use world (number_of node) ≡ false
+
+-- Then the supply serves: the numbers of births are even, apart, and not in use.
+abbrev pub SuppliesForOverlaysServe : Type 0
+SuppliesForOverlaysServe =
+    (most : ℕ) (trees : Filesystems) (overlay : OverlayValue) (world : World ℕ) → IsWorld nat_eq world
+    → Kept.AreLayers trees overlay.lowers → length overlay.lowers ≤ 128 → IsNew world overlay.number
+    → (allotment : Allotment) × (allotment.new ≡ handed_for most trees overlay)
+    × ServesInHand may_be_given world allotment
+
+-- So with it the overlay of a world is the one that its layers show.
+abbrev pub NewOverlaysAreSame : Type 0
+NewOverlaysAreSame =
+    (world : World ℕ) (trees : Filesystems) (overlay : OverlayValue) → IsWorld nat_eq world
+    → AreLayers world (overlay_seen overlay) → ShowsLayers world trees overlay → length overlay.lowers ≤ 128
+    → IsNew world overlay.number → SameFilesystem (overlay_made world trees overlay) (overlay_shown trees overlay)
