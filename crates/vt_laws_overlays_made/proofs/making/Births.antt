@@ -1,15 +1,14 @@
 -- What is shown at two paths was born at two places, so it has two numbers.
-use Rattle.std.proofs.Common.{Bool, List, None, Option, Some, [], ap, arith, false, length, refl, slice_get, subst, sym, true, true≢false, ℕ, ◌++◌, ◌<◌, ◌∙◌, ◌∷◌, ◌≡◌, ◌≤◌}
+use Rattle.std.proofs.Common.{Bool, List, Some, [], ap, arith, false, length, refl, subst, sym, true, true≢false, ℕ, ◌++◌, ◌∙◌, ◌∷◌, ◌≡◌, ◌≤◌}
 use Rattle.std.proofs.lemmas.Option.{same_Some, slice_get_within}
 use Rattle.std.specs.Prelude.{if◌then◌else◌}
-use Rattle.vt_fs.specs.FilesystemsValue.{Filesystems, files_at}
+use Rattle.vt_fs.specs.FilesystemsValue.{Filesystems}
 use Rattle.vt_laws_layers.proofs.layers.ShownPaths.{one_path}
 use Rattle.vt_laws_layers.proofs.layers.UpperLine.{has_entries}
 use Rattle.vt_location.specs.Births.{born_in}
 use Rattle.vt_location.specs.Locations.{number_of}
 use Rattle.vt_location.specs.Numbers.{inode_number}
 use Rattle.vt_location.specs.declared.births.Birth.TheVariants.{Below, Here}
-use Rattle.vt_merge.specs.declared.layers.LayerRef.{LayerRef}
 use Rattle.vt_node.proofs.RankLemmas.{ranked_is_found}
 use Rattle.vt_node.specs.Ranks.{name_ranked}
 use Rattle.vt_overlay.proofs.BirthsFound.{Birthplace, IsBorn, has_last, in_slot, is_born}
@@ -18,7 +17,7 @@ use Rattle.vt_overlay.proofs.TreeFound.{IsAt}
 use Rattle.vt_overlay.specs.MergedTree.{AreLayers, OverlayValue, node_born, rank_at, slot_at}
 use Rattle.vt_spec.specs.Lists.{without_last}
 use Rattle.vt_spec.specs.Machine.Merging.{is_root_path}
-use Rattle.vt_spec.specs.Tree.{Tree, entries_in}
+use Rattle.vt_spec.specs.Tree.{entries_in}
 use Rattle.vt_spec.specs.TreeInvariant.{IsTree}
 
 root_is : (path : List (List ℕ)) → is_root_path path ≡ true → path ≡ []

@@ -1,5 +1,5 @@
 -- The overlay that is made is the one that its layers show.
-use Rattle.std.proofs.Common.{List, None, Option, Some, ap, arith, inl, length, map, nat_eq, option_map, refl, slice_get, subst, sym, true≢false, unwrap_or, ⊎_elim, ℕ, ◌+◌, ◌*◌, ◌∙◌, ◌≡◌, ◌≢◌, false}
+use Rattle.std.proofs.Common.{List, None, Option, Some, ap, arith, map, nat_eq, option_map, refl, slice_get, subst, sym, unwrap_or, ⊎_elim, ℕ, ◌∙◌, ◌≡◌, ◌≢◌, false}
 use Rattle.std.specs.Prelude.{get_or}
 use Rattle.std.proofs.lemmas.Option.{same_Some}
 use Rattle.vt_fs.specs.FilesystemsValue.{Filesystems}
@@ -24,12 +24,12 @@ use Rattle.vt_overlay.specs.MergedTree.{OverlayValue, layer_seen, longest, merge
 use Rattle.vt_spec.proofs.FreshNumbers.{evens-distinct, odds-distinct}
 use Rattle.vt_spec.proofs.Options.{none_is_some}
 use Rattle.vt_spec.proofs.Trees.{reached_named}
-use Rattle.vt_spec.specs.Lists.{Fresh, evens, index_from, odds}
+use Rattle.vt_spec.specs.Lists.{Fresh, evens, odds}
 use Rattle.vt_spec.specs.Machine.Invariants.{IsWorld, ListsNumbers}
-use Rattle.vt_spec.specs.Machine.Layers.{OpenLayer, Shown, shown}
+use Rattle.vt_spec.specs.Machine.Layers.{OpenLayer, shown}
 use Rattle.vt_spec.specs.Machine.Merging.{Merged, MergedInode, inode_of, is_one_inode, merged_objects, real_object, real_of}
 use Rattle.vt_spec.specs.Machine.NewMounts.{inode_count}
-use Rattle.vt_spec.specs.Machine.World.{Filesystem, Layer, Overlay, Real, World, filesystem_numbered, open_layer}
+use Rattle.vt_spec.specs.Machine.World.{Filesystem, Overlay, Real, World, filesystem_numbered}
 use Rattle.vt_spec.specs.TreeInvariant.{HasName, led}
 
 module _ (world : World ℕ) (trees : Filesystems) (overlay : OverlayValue) (is : IsWorld nat_eq world)

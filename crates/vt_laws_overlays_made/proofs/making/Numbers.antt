@@ -1,7 +1,7 @@
 -- The numbers beside the tree that is made are those beside the one that the layers show.
-use Rattle.std.proofs.Common.{Bool, List, None, Option, Some, [], ap, cond, eqb-true, inl, inr, length, ne_eqb, false, filter, is_some, map, nat_eq, not, option_map, refl, subst, sym, true, true≢false, ℕ, ◌||◌, ◌∙◌, ◌∷◌, ◌≡◌, ◌≢◌, ◌≤◌}
+use Rattle.std.proofs.Common.{Bool, List, None, Option, Some, [], ap, cond, inl, inr, length, ne_eqb, false, filter, is_some, map, nat_eq, not, option_map, refl, sym, true, ℕ, ◌||◌, ◌∙◌, ◌∷◌, ◌≡◌, ◌≢◌, ◌≤◌}
 use Rattle.std.proofs.lemmas.Option.{same_Some}
-use Rattle.std.specs.List.{filter_map, list_any}
+use Rattle.std.specs.List.{list_any}
 use Rattle.std.specs.List.Sorted.{IsPermutation}
 use Rattle.vt_fs.specs.FilesystemsValue.{Filesystems}
 use Rattle.vt_laws_counts.proofs.Listed.{same_numbers_are_permuted}
@@ -14,22 +14,22 @@ use Rattle.vt_laws_layers.specs.Layers.Mounted.{AreLayers}
 use Rattle.vt_laws_merging.specs.MergedTrees.{layers_shown}
 use Rattle.vt_laws_overlays_kept.proofs.inodes.InodesInOrder.{numbers_are_listed}
 use Rattle.vt_laws_overlays_kept.specs.Kept.{ShowsLayers}
-use Rattle.vt_laws_overlays_made.proofs.making.Made.{born_so, layers, merged, opened, seen, objects_are, tree_is}
+use Rattle.vt_laws_overlays_made.proofs.making.Made.{born_so, layers, merged, opened, objects_are, tree_is}
 use Rattle.vt_laws_overlays_made.proofs.making.Paths.{Differ, paths_differ}
 use Rattle.vt_laws_overlays_made.proofs.making.Supplied.{overlays_get_their_count}
 use Rattle.vt_laws_overlays_made.specs.Made.{MadeOverlaysAreSame, handed_in, overlay_made}
 use Rattle.vt_merge.specs.LayerValue.{layers_of}
 use Rattle.vt_overlay.proofs.TreeFound.{real_is}
-use Rattle.vt_overlay.specs.MergedTree.{OverlayValue, longest, merged_tree, number_at, numbers_shown, overlay_seen, plain_world, real_number}
+use Rattle.vt_overlay.specs.MergedTree.{OverlayValue, longest, number_at, numbers_shown, overlay_seen, plain_world, real_number}
 use Rattle.vt_spec.proofs.FreshNumbers.{evens-distinct, odds-distinct}
 use Rattle.vt_spec.proofs.Lists.{pair-filter}
 use Rattle.vt_spec.proofs.Options.{none_is_some}
-use Rattle.vt_spec.specs.Lists.{Fresh, any_pair, each_once, evens, is_among, odds}
-use Rattle.vt_spec.specs.Machine.Invariants.{IsWorld, real_shown}
+use Rattle.vt_spec.specs.Lists.{Fresh, any_pair, each_once, evens, odds}
+use Rattle.vt_spec.specs.Machine.Invariants.{IsWorld}
 use Rattle.vt_spec.specs.Machine.Layers.{OpenLayer, Shown, shown, view_of}
 use Rattle.vt_spec.specs.Machine.Merging.{Merged, MergedInode, merged_objects}
 use Rattle.vt_spec.specs.Machine.NewMounts.{inode_count}
-use Rattle.vt_spec.specs.Machine.World.{Filesystem, Overlay, Real, World}
+use Rattle.vt_spec.specs.Machine.World.{Filesystem, Real, World}
 use Rattle.vt_spec.specs.Machine.World.Real.{Lower, Upper}
 use Rattle.vt_spec.specs.Tree.{Tree}
 

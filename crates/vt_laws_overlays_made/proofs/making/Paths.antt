@@ -1,5 +1,5 @@
 -- Each path at which something may be shown is gone through once.
-use Rattle.std.proofs.Common.{List, T, [], ap, arith, drop, flat_map, inl, inr, length, map, refl, subst, suc, sym, zero, ⊎_elim, ℕ, ◌+◌, ◌++◌, ◌∙◌, ◌∷◌, ◌≡◌, ◌≢◌}
+use Rattle.std.proofs.Common.{List, T, [], ap, arith, drop, flat_map, inl, inr, length, map, refl, subst, suc, sym, zero, ℕ, ◌+◌, ◌++◌, ◌∙◌, ◌∷◌, ◌≡◌, ◌≢◌}
 use Rattle.std.proofs.lemmas.List.{append-nil, length-append}
 use Rattle.std.specs.Cmp.{tied_itself}
 use Rattle.std.specs.Cmp.Lexicographic.{nat_list_cmp_total}

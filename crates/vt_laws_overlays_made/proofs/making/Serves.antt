@@ -1,7 +1,7 @@
 -- The supply for an overlay serves a world.
-use Rattle.std.proofs.Common.{Bool, List, None, Option, Some, [], ap, arith, eq-eqb, false, inl, inr, length, map, nat_eq, ne_eqb, option_map, refl, subst, sym, true, ℕ, ◌%◌, ◌&&◌, ◌+◌, ◌<◌, ◌==◌, ◌||◌, ◌∙◌, ◌∷◌, ◌≡◌, ◌≢◌, ◌≤◌}
+use Rattle.std.proofs.Common.{Bool, List, None, Option, Some, [], ap, arith, eq-eqb, false, inl, inr, length, map, ne_eqb, option_map, refl, subst, sym, true, ℕ, ◌%◌, ◌&&◌, ◌+◌, ◌<◌, ◌==◌, ◌||◌, ◌∙◌, ◌∷◌, ◌≡◌, ◌≢◌, ◌≤◌}
 use Rattle.std.proofs.lemmas.Option.{same_Some, slice_get_within}
-use Rattle.std.specs.List.{filter_map, list_all, list_any}
+use Rattle.std.specs.List.{list_all, list_any}
 use Rattle.vt_fs.specs.FilesystemsValue.{Filesystems}
 use Rattle.vt_laws_given.specs.NumbersHanded.{AreApart, Placed}
 use Rattle.vt_laws_layers.proofs.directories.Order.{Pairwise, pairwise_filter_map}
@@ -10,7 +10,7 @@ use Rattle.vt_laws_one_text.proofs.in_use.InUseServes.{unused_numbers_serve}
 use Rattle.vt_laws_overlays_made.proofs.making.Births.{one_path_numbered}
 use Rattle.vt_laws_overlays_made.proofs.making.Numbers.{made_overlays_are_same}
 use Rattle.vt_laws_overlays_made.proofs.making.Paths.{Differ, paths_differ}
-use Rattle.vt_laws_overlays_made.specs.Made.{IsNew, NewOverlaysAreSame, SuppliesForOverlaysServe, handed_in, objects_shown, placed_from, placed_inodes}
+use Rattle.vt_laws_overlays_made.specs.Made.{IsNew, NewOverlaysAreSame, SuppliesForOverlaysServe, objects_shown, placed_from, placed_inodes}
 use Rattle.vt_laws_permits.specs.InUse.{is_in_use}
 use Rattle.vt_laws_rules.specs.Numbers.{Allotment, Lot}
 use Rattle.vt_laws_rules.specs.Numbers.Lot.{Kept, LeftOver, New}
@@ -21,7 +21,7 @@ use Rattle.vt_location.specs.Numbers.{inode_number}
 use Rattle.vt_location.specs.declared.locations.NodeRef.{NodeRef}
 use Rattle.vt_merge.specs.LayerValue.{layers_of}
 use Rattle.vt_overlay.proofs.BirthsFound.{in_slot, small_birth}
-use Rattle.vt_overlay.proofs.TreeFound.{IsAt, number_at, numbered_is_at, real_is, real_of}
+use Rattle.vt_overlay.proofs.TreeFound.{IsAt, numbered_is_at, real_is, real_of}
 use Rattle.vt_overlay.specs.MergedTree.{AreLayers, OverlayValue, node_born, real_number}
 use Rattle.vt_spec.proofs.Options.{none_is_some}
 use Rattle.vt_spec.specs.Lists.{Fresh, any_pair}
@@ -29,7 +29,6 @@ use Rattle.vt_spec.specs.Machine.Layers.{OpenLayer, Shown, paths_from, shown, vi
 use Rattle.vt_spec.specs.Machine.Merging.{Merged, merged_at, real_object}
 use Rattle.vt_spec.specs.Machine.NewMounts.{inode_count}
 use Rattle.vt_spec.specs.Machine.World.{Real, World}
-use Rattle.vt_spec.specs.Machine.World.Real.{Lower}
 
 -- Lists of placed numbers, by their objects
 module _ (number_of_real : Real ℕ → ℕ) where

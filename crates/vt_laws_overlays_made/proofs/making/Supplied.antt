@@ -1,8 +1,8 @@
 -- The numbers at the places of a supply for an overlay.
-use Rattle.std.proofs.Common.{List, Some, [], ap, arith, cond, eq-eqb, false, ne_eqb, refl, sym, true, zero, suc, slice_get, ℕ, ◌*◌, ◌+◌, ◌∙◌, ◌∷◌, ◌≡◌, ◌≢◌}
+use Rattle.std.proofs.Common.{List, Some, [], ap, arith, cond, eq-eqb, false, ne_eqb, refl, zero, suc, slice_get, ℕ, ◌*◌, ◌+◌, ◌∙◌, ◌∷◌, ◌≡◌, ◌≢◌}
 use Rattle.std.proofs.lemmas.Option.{same_Some}
 use Rattle.vt_laws_given.specs.NumbersHanded.{handed_at}
-use Rattle.vt_laws_overlays_made.specs.Made.{InodesGetTheirNumbers, MountsGetCounts, OverlaysGetTheirCount, handed_for, objects_shown, placed_from, placed_inodes}
+use Rattle.vt_laws_overlays_made.specs.Made.{InodesGetTheirNumbers, MountsGetCounts, OverlaysGetTheirCount, handed_for, objects_shown, placed_from}
 use Rattle.vt_laws_runs.specs.Handed.{counts_from}
 use Rattle.vt_overlay.specs.MergedTree.{real_number}
 use Rattle.vt_spec.proofs.Options.{none_is_some}
