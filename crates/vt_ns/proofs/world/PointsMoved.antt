@@ -141,7 +141,7 @@ module _ (value : WorldValue) (whole : IsHeld value) where
   inodes_are (at ∷ rest) there small =
       let parts = and_parts (is_small at) (list_all is_small rest) small in
       λ i. (
-        sym (seen_where_located value whole at parts.0
+        sym (seen_where_located value whole at (small_parts at.node parts.0).slot
             (there at (inl refl))) i,
         number_of at.node,
       )
