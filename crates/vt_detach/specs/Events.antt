@@ -9,7 +9,7 @@ use Rattle.vt_spec.specs.Machine.Permits.Permit.{ToMake, ToMountPlain, ToOpenNew
 use Rattle.vt_spec.specs.Machine.SameWorlds.{SameWorlds}
 use Rattle.vt_spec.specs.Machine.World.{Task, World, first_credentials, mount_at, task_called}
 use Rattle.vt_spec.specs.Rights.{Credentials}
-use Rattle.vt_fs.specs.FilesystemsValue.{entry_at, next_seen}
+use Rattle.vt_fs.specs.FilesystemsValue.{entry_of, next_seen}
 use Rattle.vt_location.specs.Numbers.{inode_number}
 use Rattle.vt_laws_permits.specs.Left.{IsGiven, left_by as left}
 use Rattle.vt_laws_runs.specs.Handed.{counts_from, handed_from}
@@ -19,9 +19,11 @@ use Rattle.vt_world.specs.WorldValue.{WorldValue, world_of}
 abbrev pub filesystem_count : WorldValue → Location ℕ → ℕ
 filesystem_count value location = (mount_at nat_eq (world_of value) location).filesystem / 4
 
--- the number that the next inode of that filesystem gets
+-- the number that the next inode of that filesystem gets, or the root of the next filesystem, where that is no plain one
 abbrev pub next_inode : WorldValue → Location ℕ → ℕ
-next_inode value location = next_seen (entry_at value.filesystems (filesystem_count value location))
+next_inode value location =
+    unwrap_or (option_map next_seen (entry_of value.filesystems (filesystem_count value location)))
+    (inode_number value.next 0)
 
 -- The numbers that a permit is handed: counts from the next one on, and where an inode is made the number that its slot
 -- gives it.

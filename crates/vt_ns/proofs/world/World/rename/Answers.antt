@@ -62,7 +62,7 @@ invariant_of-self-then-not-is_empty c =
     c.in_ok-gone.gone.items c.in_ok-gone.ensures.ok some c.rename.new.self
     (rw c.plain_mut.ensures.value at (rw c.as_slice.ensures.value at c.in_ok-rename.ensures.ok))
     c.detach_together.new.mounts c.detach_together.new.groups c.detach_together.new.store
-    (rw c.deref.ensures.value at c.detach_together.ensures)).held
+    (rw c.deref.ensures.value at c.detach_together.ensures.left) c.detach_together.ensures.overlays).held
 
 pub invariant_of-self-else-not-is_empty : goal.invariant_of-self-else-not-is_empty
 invariant_of-self-else-not-is_empty c =
@@ -95,7 +95,7 @@ returns-clause-ok c =
           c.in_ok-gone.gone.items c.in_ok-gone.ensures.ok some c.rename.new.self
           (rw c.plain_mut.ensures.value at (rw c.as_slice.ensures.value at c.in_ok-rename.ensures.ok))
           w.detach_together.new.mounts w.detach_together.new.groups w.detach_together.new.store
-          (rw w.deref.ensures.value at w.detach_together.ensures)).becomes)
+          (rw w.deref.ensures.value at w.detach_together.ensures.left) w.detach_together.ensures.overlays).becomes)
       | else-not-is_empty w ↦
           let none : length c.in_ok-gone.gone.items ≡ 0 = search rules in
           subst (λ new. Becomes c.args.self.now c.args.name.now (remove_permit (Rename c.args.renamed)) new)
