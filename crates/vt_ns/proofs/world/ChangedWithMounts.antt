@@ -274,7 +274,7 @@ module _ (value : WorldValue) (held : IsHeld value) (location : Location ℕ) (c
         (world_of (with_filesystems value filesystems))
         (change_is_swept value held location change filesystems made fresh)
         (sweeps_keep_writers (changed_first fresh)
-        (change_keeps_writers value held location change filesystems made fresh)))
+        (change_keeps_writers fresh)))
 
     abbrev number : ℕ
     number = filesystem_of world location
