@@ -1,6 +1,6 @@
 -- Where plain filesystems change alone, the store that code has then shows its overlays as they were: what lies in a
 -- layer is not changed.
-use Rattle.std.proofs.Common.{◌≡◌, refl, sym, subst, ℕ, OnErr, OnOk}
+use Rattle.std.proofs.Common.{◌≡◌, refl, sym, subst, ℕ, OnErr}
 use Rattle.std.specs.Prelude.{Err, Ok, Result}
 use Rattle.std.specs.declared.alloc.AllocError.{AllocError}
 use Rattle.vt_spec.specs.Language.Calls.{TaskName}

@@ -1,4 +1,4 @@
-use Rattle.std.proofs.Common.{sym, subst, ap, ◌∙◌, map, refl, List}
+use Rattle.std.proofs.Common.{sym, subst, ap, ◌∙◌, map, refl}
 use Rattle.vt_location.specs.Locations.{location_of}
 use Rattle.vt_request.specs.Requests.{access_of}
 use Rattle.vt_spec.specs.Machine.Permits.Permit.{ToOpen}

@@ -1,4 +1,4 @@
-use Rattle.std.proofs.Common.{◌≡◌, sym, subst, ap, ◌∙◌, arith, nat_eq, rules, ℕ, Result, Ok, Err, IfSome, OnOk, refl, map, List}
+use Rattle.std.proofs.Common.{◌≡◌, sym, subst, ap, ◌∙◌, arith, nat_eq, rules, ℕ, Result, Ok, Err, IfSome, OnOk, refl, map}
 use Rattle.std.specs.Prelude.{IsErr}
 use Rattle.vt_spec.specs.Language.Changes.Change.{Make}
 use Rattle.vt_permits.specs.GrantValue.{descriptor_permit}
