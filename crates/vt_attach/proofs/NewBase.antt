@@ -336,7 +336,9 @@ module _ (value : WorldValue) (whole : IsHeld value) (name : TaskName) (place : 
             none_passes (λ (layer : Layer ℕ). nat_eq (counted value.next) layer.filesystem) layers (λ layer m.
             let low = found_below value whole layer.filesystem layer.directory
             (directory_there ((filesystem_numbered nat_eq world layer.filesystem).files.tree.node layer.directory)
-            (and_parts _ _ (passes (is_plain_layer nat_eq world) layers plain layer m)).1) in
+            (and_parts (not (is_overlay (filesystem_numbered nat_eq world layer.filesystem)))
+            (is_directory_node ((filesystem_numbered nat_eq world layer.filesystem).files.tree.node layer.directory))
+            (passes (is_plain_layer nat_eq world) layers plain layer m)).1) in
             ne_eqb (counted value.next) layer.filesystem (λ same. absurd (omega (arith, low, same))))
 
         none_by : (o : Option (Overlay ℕ))
