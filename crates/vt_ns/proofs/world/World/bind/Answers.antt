@@ -9,17 +9,18 @@ use Rattle.vt_permits.specs.GrantValue.{attachment_permit}
 use Rattle.vt_permits.specs.declared.grant.Attachment.TheVariants.{Bind}
 use Rattle.vt_ns.specs.contracts.world.World.{the_view}
 use Rattle.vt_detach.specs.Events.{Becomes, Permits}
-use Rattle.vt_world.specs.WorldValue.{WorldValue, entries_of, world_of}
+use Rattle.vt_world.specs.WorldValue.{WorldValue, world_of}
+use Rattle.vt_detach.proofs.OverlaysListed.{done_in_store, left_still}
 use Rattle.vt_detach.proofs.Staying.{IsDone}
 use Rattle.vt_attach.proofs.Binding.{bind_is_done, may_bind, source_there}
 use Rattle.vt_attach.specs.Grafted.{IsGrafted}
 use Rattle.vt_ns.specs.Counting.{counted_for}
 use Rattle.vt_ns.proofs.world.Counted.{counted_so}
 use Rattle.vt_ns.proofs.world.BoundEvents.{bind_place_there, parts_found, place_mounted}
-use Rattle.vt_world.specs.StoredWorld.{overlays_of_store}
+use Rattle.vt_world.specs.StoredWorld.{with_store}
 use Rattle.vt_detach.specs.Stored.{kept, merged_of}
-use Rattle.vt_detach.specs.Uses.{Kept, kept_of}
-use Rattle.vt_ns.proofs.world.StoresKept.{done_stored, kept_is, kept_still, none_attached, none_kept}
+use Rattle.vt_detach.specs.Uses.{kept_of}
+use Rattle.vt_ns.proofs.world.StoresKept.{kept_is}
 use Rattle.vt_ns.proofs.world.World.bind.Goals as goal
 
 pub mounts_bound-requires : goal.mounts_bound-requires
@@ -63,15 +64,13 @@ attach_graft-requires-clause-may c =
     c.are_ascending.ensures c.are_counted.ensures
 
 abbrev after : (c : goal.After-drop-tree-2) → WorldValue
-after c = record {
-  mounts = c.attach_graft.new.mounts;
-  groups = c.attach_graft.new.groups;
-  filesystems = c.attach_graft.new.store.plain;
-  overlays = overlays_of_store c.attach_graft.new.store;
-  namespaces = entries_of c.self.inside.namespaces.entries;
-  tasks = c.self.inside.tasks;
-  next = c.self.inside.next + c.in-Some.taken;
-}
+after c =
+    with_store c.attach_graft.new.store
+    (record (the_view c.self.inside) {
+      mounts = c.attach_graft.new.mounts;
+      groups = c.attach_graft.new.groups;
+      next = c.self.inside.next + c.in-Some.taken;
+    })
 
 -- the world then is the one that the permit leaves
 done : (c : goal.After-drop-tree-2) → IsDone (the_view c.self.inside) c.args.name.now
@@ -113,10 +112,15 @@ done c =
     subst (λ k. IsGrafted graft counts k c.self.inside.groups
     (kept c.attach_graft.new.mounts c.attach_graft.new.store) c.attach_graft.new.groups)
     (kept_is value c.self.inside.store) c.in_ok-attach_graft.ensures.ok in
-    done_stored value c.self.invariant c.args.name.now (attachment_permit (Bind c.args.bind)) _
-    c.attach_graft.new.store (kept_still value c.self.invariant (map merged_of c.attach_graft.new.store.overlays))
-    (ap (λ (k : Kept). k.overlays) grafted.done
-    ∙ none_attached grafted.copies (kept_of value).overlays (none_kept value c.self.invariant))
+    done_in_store value
+    (record value {
+      mounts = c.attach_graft.new.mounts;
+      groups = c.attach_graft.new.groups;
+      next = c.self.inside.next + c.in-Some.taken;
+    })
+    c.self.inside.store c.attach_graft.new.store c.self.invariant
+    (left_still c.self.inside.store.overlays c.attach_graft.new.store.overlays c.attach_graft.ensures.overlays)
+    c.args.name.now (attachment_permit (Bind c.args.bind)) permits
     (bind_is_done value c.self.invariant c.args.name.now c.args.bind.source c.args.bind.recursive graft counts
     permits tree_is refl parts_are refl refl c.attach_graft.new.mounts c.attach_graft.new.groups
     c.attach_graft.new.store.plain (map merged_of c.attach_graft.new.store.overlays)
