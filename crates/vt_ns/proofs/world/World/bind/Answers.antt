@@ -31,7 +31,8 @@ mounts_bound-requires c =
     (attachment_permit (Bind c.args.bind)))
     (sym c.self.view_is) c.requires in
     subst (λ (v : WorldValue). is_located_well nat_eq (world_of v) (location_of c.args.bind.source) ≡ true) c.self.view_is
-    (source_there (the_view c.self.inside) c.self.invariant c.args.name.now c.args.bind.source c.args.bind.destination c.args.bind.recursive permits)
+    (source_there (the_view c.self.inside) c.self.invariant c.args.name.now c.args.bind.source
+    c.args.bind.destination c.args.bind.recursive permits)
 
 pub parts-requires : goal.parts-requires
 parts-requires c =
@@ -41,7 +42,8 @@ parts-requires c =
     (attachment_permit (Bind c.args.bind)))
     (sym c.self.view_is) c.requires in
     place_mounted (the_view c.self.inside) c.args.bind.destination
-    (bind_place_there (the_view c.self.inside) c.self.invariant c.args.name.now c.args.bind.source c.args.bind.destination c.args.bind.recursive permits)
+    (bind_place_there (the_view c.self.inside) c.self.invariant c.args.name.now c.args.bind.source
+    c.args.bind.destination c.args.bind.recursive permits)
 
 pub attach_graft-requires-clause-may : goal.attach_graft-requires-clause-may
 attach_graft-requires-clause-may c =
@@ -59,8 +61,10 @@ attach_graft-requires-clause-may c =
     ∙ ap (λ (v : WorldValue). bind_tree nat_eq (world_of v) (location_of c.args.bind.source) c.args.bind.recursive)
     (sym c.self.view_is) in
     let parts_are : map mount_of c.deref.result.now ≡ parts_of nat_eq (world_of value) (location_of c.args.bind.destination) =
-    parts_found value c.args.self.now c.self.view_is c.self.invariant c.args.bind.destination c.in_ok-parts.parts.items c.deref.result.now c.deref.ensures.value c.in_ok-parts.ensures.ok in
-    may_bind value c.self.invariant c.args.name.now c.args.bind.source c.args.bind.recursive graft counts permits tree_is refl parts_are refl refl
+    parts_found value c.args.self.now c.self.view_is c.self.invariant c.args.bind.destination
+    c.in_ok-parts.parts.items c.deref.result.now c.deref.ensures.value c.in_ok-parts.ensures.ok in
+    may_bind value c.self.invariant c.args.name.now c.args.bind.source c.args.bind.recursive graft counts permits
+    tree_is refl parts_are refl refl
     c.are_ascending.ensures c.are_counted.ensures
 
 abbrev after : (c : goal.After-drop-tree-2) → WorldValue
@@ -143,9 +147,14 @@ returns-clause-counts c =
     ∙ ap (λ (v : WorldValue). bind_tree nat_eq (world_of v) (location_of c.args.bind.source) c.args.bind.recursive)
     (sym c.self.view_is) in
     let parts_are : map mount_of c.deref.result.now ≡ parts_of nat_eq (world_of value) (location_of c.args.bind.destination) =
-    parts_found value c.args.self.now c.self.view_is c.self.invariant c.args.bind.destination c.in_ok-parts.parts.items c.deref.result.now c.deref.ensures.value c.in_ok-parts.ensures.ok in
-    let one : c.len.result ≡ length c.deref.result.now = let many = c.len.ensures in let alike = c.deref.ensures.len in omega (arith, many, alike) in
-    let two : c.len-2.result ≡ length c.deref-2.result.now = let many = c.len-2.ensures in let alike = c.deref-2.ensures.len in omega (arith, many, alike) in
+    parts_found value c.args.self.now c.self.view_is c.self.invariant c.args.bind.destination
+    c.in_ok-parts.parts.items c.deref.result.now c.deref.ensures.value c.in_ok-parts.ensures.ok in
+    let one : c.len.result
+    ≡ length c.deref.result.now = let many = c.len.ensures in let alike = c.deref.ensures.len in omega
+    (arith, many, alike) in
+    let two : c.len-2.result
+    ≡ length c.deref-2.result.now = let many = c.len-2.ensures in let alike = c.deref-2.ensures.len in omega
+    (arith, many, alike) in
     let grows : c.self.inside.next + c.in-Some.taken
     ≡ value.next + 2 * (length c.deref.result.now * length c.deref-2.result.now) =
     ap (λ n. c.self.inside.next + n) (c.in-Some.ensures.count ∙ (λ i. 2 * (one i * two i))) in

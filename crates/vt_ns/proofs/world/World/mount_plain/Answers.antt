@@ -61,7 +61,8 @@ mount_new-requires-clause-may c =
     ≡ new_mount (counted c.self.inside.next) (inode_number c.self.inside.next 0) (flags_of c.args.flags) ∷ [] =
     ap (λ (mount : meant.Mount ℕ). mount ∷ []) c.mount_of_new.ensures in
     let parts_are : map mount_of c.deref.result.now ≡ parts_of nat_eq (world_of value) (location_of c.args.place) =
-    parts_found value c.args.self.now c.self.view_is c.self.invariant c.args.place c.in_ok-parts.parts.items c.deref.result.now c.deref.ensures.value c.in_ok-parts.ensures.ok in
+    parts_found value c.args.self.now c.self.view_is c.self.invariant c.args.place c.in_ok-parts.parts.items
+    c.deref.result.now c.deref.ensures.value c.in_ok-parts.ensures.ok in
     may_mount value c.self.invariant c.args.name.now graft counts
     (flags_of c.args.flags) permits refl tree_is parts_are refl refl
     c.are_ascending.ensures c.are_counted.ensures
@@ -140,8 +141,11 @@ pub returns-clause-counts : goal.returns-clause-counts
 returns-clause-counts c =
     let value = the_view c.self.inside in
     let parts_are : map mount_of c.deref.result.now ≡ parts_of nat_eq (world_of value) (location_of c.args.place) =
-    parts_found value c.args.self.now c.self.view_is c.self.invariant c.args.place c.in_ok-parts.parts.items c.deref.result.now c.deref.ensures.value c.in_ok-parts.ensures.ok in
-    let one : c.len.result ≡ length c.deref.result.now = let many = c.len.ensures in let alike = c.deref.ensures.len in omega (arith, many, alike) in
+    parts_found value c.args.self.now c.self.view_is c.self.invariant c.args.place c.in_ok-parts.parts.items
+    c.deref.result.now c.deref.ensures.value c.in_ok-parts.ensures.ok in
+    let one : c.len.result
+    ≡ length c.deref.result.now = let many = c.len.ensures in let alike = c.deref.ensures.len in omega
+    (arith, many, alike) in
     let grows : c.self.inside.next + c.in-Some.taken ≡ value.next + 2 * (length c.deref.result.now * 2) =
     ap (λ n. c.self.inside.next + n) (c.in-Some.ensures.count ∙ (λ i. 2 * (one i * 2))) in
     let parts = as_many_mounts c.deref.result.now (parts_of nat_eq (world_of value) (location_of c.args.place))

@@ -1,4 +1,4 @@
-use Rattle.std.proofs.Common.{Ok, Err, OnOk, Result, Some, None, ap, arith, false, nat_eq, rules, subst, sym, true, ℕ, ◌≡◌, ◌∙◌}
+use Rattle.std.proofs.Common.{Ok, Err, OnOk, Result, ap, arith, false, nat_eq, rules, subst, sym, true, ℕ, ◌≡◌, ◌∙◌}
 use Rattle.std.specs.Prelude.{IsErr, ◌↔◌}
 use Rattle.vt_fs.specs.FilesystemsValue.{shown}
 use Rattle.vt_location.specs.declared.locations.Location.{Location}

@@ -68,7 +68,8 @@ move_tree-requires-clause-may c =
     (mount_numbered nat_eq (world_of v) (counted c.args.mount.count)))
     (sym c.self.view_is) in
     let parts_are : map mount_of c.deref.result.now ≡ parts_of nat_eq (world_of value) (location_of c.args.place) =
-    parts_found value c.args.self.now c.self.view_is c.self.invariant c.args.place c.in_ok-parts.parts.items c.deref.result.now c.deref.ensures.value c.in_ok-parts.ensures.ok in
+    parts_found value c.args.self.now c.self.view_is c.self.invariant c.args.place c.in_ok-parts.parts.items
+    c.deref.result.now c.deref.ensures.value c.in_ok-parts.ensures.ok in
     may_move value c.self.invariant c.args.name.now
     (counted c.args.mount.count) graft counts permits tree_is refl parts_are refl refl
     c.are_ascending.ensures c.are_counted.ensures
@@ -160,7 +161,8 @@ returns-clause-counts c =
     (mount_numbered nat_eq (world_of v) (counted c.args.mount.count)))
     (sym c.self.view_is) in
     let parts_are : map mount_of c.deref.result.now ≡ parts_of nat_eq (world_of value) (location_of c.args.place) =
-    parts_found value c.args.self.now c.self.view_is c.self.invariant c.args.place c.in_ok-parts.parts.items c.deref.result.now c.deref.ensures.value c.in_ok-parts.ensures.ok in
+    parts_found value c.args.self.now c.self.view_is c.self.invariant c.args.place c.in_ok-parts.parts.items
+    c.deref.result.now c.deref.ensures.value c.in_ok-parts.ensures.ok in
     let one : c.len.result
     ≡ length c.deref.result.now = let many = c.len.ensures in let alike = c.deref.ensures.len in omega
     (arith, many, alike) in
