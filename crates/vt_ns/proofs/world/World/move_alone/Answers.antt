@@ -1,4 +1,4 @@
-use Rattle.std.proofs.Common.{Ok, Err, OnOk, Result, ap, arith, false, nat_eq, rules, subst, sym, true, ℕ, ◌≡◌, ◌∙◌}
+use Rattle.std.proofs.Common.{Ok, Err, OnOk, Result, ap, arith, false, nat_eq, refl, rules, subst, sym, true, ℕ, ◌≡◌, ◌∙◌}
 use Rattle.std.specs.Prelude.{IsErr, ◌↔◌}
 use Rattle.vt_fs.specs.FilesystemsValue.{shown}
 use Rattle.vt_location.specs.declared.locations.Location.{Location}
@@ -23,13 +23,13 @@ surely : {A E P : Type 0} (r : Result A E) (uses : ℕ) → IsErr r ↔ (uses �
 surely (Ok a) uses limit room so = so
 surely (Err refused) uses limit room so = absurd (room (limit.0 refl))
 
-abbrev after : (c : goal.After-unpin) → WorldValue
+abbrev after : (c : goal.After-self-in-Some-1) → WorldValue
 after c =
     with_store (record c.self.inside.store { plain = c.unpin.new.self })
     (record (the_view c.self.inside) { mounts = c.move_to.new.self })
 
 -- the world then is the one that the permit leaves
-done : (c : goal.After-unpin) → IsDone (the_view c.self.inside) c.args.name.now
+done : (c : goal.After-self-in-Some-1) → IsDone (the_view c.self.inside) c.args.name.now
     (ToMove (counted c.args.mount.count) (location_of c.args.place)) (after c)
 done c =
     let permits : Permits (the_view c.self.inside) c.args.name.now
@@ -69,12 +69,12 @@ returns-in-Some-clause-ok c =
     (after c)) c.self.view_is (done c).becomes
 
 -- and where it had no mount point
-abbrev after_none : (c : goal.In_default) → WorldValue
+abbrev after_none : (c : goal.After-self-in_default-1) → WorldValue
 after_none c =
     with_store (record c.self.inside.store { plain = c.pin.new.self })
     (record (the_view c.self.inside) { mounts = c.move_to.new.self })
 
-done_none : (c : goal.In_default) → IsDone (the_view c.self.inside) c.args.name.now
+done_none : (c : goal.After-self-in_default-1) → IsDone (the_view c.self.inside) c.args.name.now
     (ToMove (counted c.args.mount.count) (location_of c.args.place)) (after_none c)
 done_none c =
     let permits : Permits (the_view c.self.inside) c.args.name.now
