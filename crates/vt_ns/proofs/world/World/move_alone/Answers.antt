@@ -16,6 +16,7 @@ use Rattle.vt_detach.proofs.Shown.{pins, unpins}
 use Rattle.vt_detach.proofs.Staying.{IsDone}
 use Rattle.vt_ns.proofs.world.MovedEvents.{moved_in_store}
 use Rattle.vt_ns.proofs.world.World.move_alone.Goals as goal
+use Rattle.vt_ns.proofs.world.World.move_alone.Goals.{In_default}
 
 -- one use more is counted, where there was room
 surely : {A E P : Type 0} (r : Result A E) (uses : ℕ) → IsErr r ↔ (uses ≡ 18446744073709551615)
@@ -69,12 +70,12 @@ returns-in-Some-clause-ok c =
     (after c)) c.self.view_is (done c).becomes
 
 -- and where it had no mount point
-abbrev after_none : (c : goal.After-self-in_default-1) → WorldValue
+abbrev after_none : (c : In_default) → WorldValue
 after_none c =
     with_store (record c.self.inside.store { plain = c.pin.new.self })
     (record (the_view c.self.inside) { mounts = c.move_to.new.self })
 
-done_none : (c : goal.After-self-in_default-1) → IsDone (the_view c.self.inside) c.args.name.now
+done_none : (c : In_default) → IsDone (the_view c.self.inside) c.args.name.now
     (ToMove (counted c.args.mount.count) (location_of c.args.place)) (after_none c)
 done_none c =
     let permits : Permits (the_view c.self.inside) c.args.name.now
