@@ -2,3 +2,6 @@
 pub mod Lending
 pub mod LooksKept
 pub mod LostKept
+pub mod NodesOwned
+pub mod StoreLooked
+pub mod WaysUp

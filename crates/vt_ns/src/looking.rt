@@ -10,7 +10,7 @@ use crate::world::World;
 use vt_cred::Rights;
 use vt_location::{FilesystemId, Location, Mount, MountId, NamespaceId, NodeRef};
 use vt_looks::{Asked, Ground, Look};
-use vt_node::{Node, NodeId};
+use vt_node::Node;
 use vt_request::TaskName;
 use vt_spec::errors::Deny;
 
@@ -37,13 +37,16 @@ impl World {
 }
 
 impl Look for World {
-    ghost use Rattle.vt_ns.specs.Lent.{filesystem_of, lent_alike, real_of_value};
+    ghost use Rattle.vt_ns.specs.Lent.{lent_alike, real_of_value};
+    ghost use Rattle.vt_spec.specs.Machine.World.{mount_at};
+    ghost use Rattle.vt_world.specs.Lent.{lent_of_world};
 
     ghost looks = { looks_of_value };
 
     ghost real = { real_of_value };
 
-    ghost alike = { λ here at. lent_alike (filesystem_of at.node) ((looks_of_value here).node at) };
+    ghost alike = { λ here at. lent_alike ((looks_of_value here).node at)
+        (lent_of_world (world_of here) (mount_at nat_eq (world_of here) at).filesystem at.node) };
 
     fn namespace_called(&self, name: &TaskName) -> Option<NamespaceId> {
         self.tasks.namespace_called(name)
@@ -74,7 +77,7 @@ impl Look for World {
     #[inline(always)]
     fn node(&self, at: Location) -> Option<&Node> {
         if self.is_seen(at) {
-            self.store.plain().node(at.node)
+            self.store.object(at.node)
         } else {
             None
         }
@@ -82,25 +85,19 @@ impl Look for World {
 
     #[inline(always)]
     fn entry(&self, at: Location, object: &Node, name: &[u8]) -> Option<NodeRef> {
-        self.is_held();
-        let entry = object.entry(name)?;
-        Some(NodeRef::new(at.node.filesystem, entry))
+        self.store.entry(at.node, object, name)
     }
 
     fn is_nonempty(&self, at: Location) -> bool {
-        match self.node(at) {
-            Some(directory) => directory.is_nonempty(),
-            None => false,
-        }
+        self.is_seen(at) && self.store.is_nonempty(at.node)
     }
 
     fn parent(&self, at: Location) -> NodeRef {
-        let Some(directory) = self.node(at) else {
-            return at.node;
-        };
-        self.is_held();
-        let parent = directory.parent(NodeId::new(at.node.slot));
-        NodeRef::new(at.node.filesystem, parent)
+        if self.is_seen(at) {
+            self.store.parent(at.node)
+        } else {
+            at.node
+        }
     }
 
     #[inline(always)]
@@ -114,7 +111,7 @@ impl Look for World {
     #[inline(always)]
     fn node_on(&self, ground: Ground, at: Location) -> Option<&Node> {
         if ground.filesystem == at.node.filesystem {
-            self.store.plain().node(at.node)
+            self.store.object(at.node)
         } else {
             None
         }
@@ -122,12 +119,12 @@ impl Look for World {
 
     #[inline(always)]
     fn is_removed(&self, at: Location) -> bool {
-        !self.is_seen(at) || self.store.plain().is_removed(at.node)
+        !self.is_seen(at) || self.store.is_removed(at.node)
     }
 
     fn is_under(&self, top: Location, directory: NodeRef) -> bool {
         if self.is_seen(top) && directory.filesystem == top.node.filesystem {
-            self.store.plain().is_under(top.node, directory)
+            self.store.is_under(top.node, directory)
         } else {
             top.node.is_same(directory)
         }
@@ -136,7 +133,7 @@ impl Look for World {
     fn is_lost(&self, at: Location) -> bool {
         match self.mounts.get(at.mount) {
             Some(mount) if mount.root.filesystem == at.node.filesystem => {
-                self.store.plain().is_lost(mount.root, at.node)
+                self.store.is_lost(mount.root, at.node)
             }
             _ => true,
         }

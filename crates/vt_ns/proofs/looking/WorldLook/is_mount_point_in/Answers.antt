@@ -8,13 +8,13 @@ use Rattle.vt_ns.specs.contracts.world.World.{the_view}
 pub returns-then-is_seen : goal.returns-then-is_seen
 returns-then-is_seen c =
     c.is_mount_point_in.ensures
-    ∙ points_seen (the_view c.self.inside) c.args.self.now c.self.view_is c.self.invariant c.args.at (omega arith)
-    (λ mount. holds_of (nat_eq (counted c.args.namespace.count)) mount.namespace)
+    ∙ points_seen (the_view c.self.inside) c.self.inside.store c.args.self.now c.self.view_is c.self.invariant
+    c.args.at (omega arith) (λ mount. holds_of (nat_eq (counted c.args.namespace.count)) mount.namespace)
     (sym c.is_seen.ensures ∙ c.if-is_seen.true)
 
 pub returns-else-is_seen : goal.returns-else-is_seen
 returns-else-is_seen c =
     c.if-is_seen.false
-    ∙ sym (no_points (the_view c.self.inside) c.args.self.now c.self.view_is c.self.invariant c.args.at (omega arith)
-    (λ mount. holds_of (nat_eq (counted c.args.namespace.count)) mount.namespace)
+    ∙ sym (no_points (the_view c.self.inside) c.self.inside.store c.args.self.now c.self.view_is c.self.invariant
+    c.args.at (omega arith) (λ mount. holds_of (nat_eq (counted c.args.namespace.count)) mount.namespace)
     (sym c.is_seen.ensures ∙ c.if-is_seen.false))
