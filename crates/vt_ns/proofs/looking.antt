@@ -3,5 +3,7 @@ pub mod Lending
 pub mod LooksKept
 pub mod LostKept
 pub mod NodesOwned
+pub mod OverlaysAt
+pub mod OverlaysLooked
 pub mod StoreLooked
 pub mod WaysUp

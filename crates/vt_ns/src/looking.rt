@@ -1,5 +1,7 @@
 //! The world, as walks and rules look at it.
-ghost use Rattle.std.specs.Prelude.{◌≡◌, nat_eq};
+ghost use Rattle.std.specs.Prelude.{◌≡◌, nat_eq, option_copied};
+ghost use Rattle.vt_cred.specs.Rights.{right_bits};
+ghost use Rattle.vt_spec.specs.Machine.Rightful.{node_allows};
 ghost use Rattle.vt_spec.specs.Machine.World.{mount_numbered};
 ghost use Rattle.vt_location.specs.Locations.{location_of, number_of};
 ghost use Rattle.vt_location.specs.Numbers.{filesystem_number, mount_number};
@@ -7,7 +9,7 @@ ghost use Rattle.vt_detach.specs.Looking.{is_seen, looks_of_value};
 ghost use Rattle.vt_world.specs.WorldValue.{world_of};
 
 use crate::world::World;
-use vt_cred::Rights;
+use vt_cred::{Cred, Rights, allows};
 use vt_location::{FilesystemId, Location, Mount, MountId, NamespaceId, NodeRef};
 use vt_looks::{Asked, Ground, Look};
 use vt_node::Node;
@@ -143,17 +145,37 @@ impl Look for World {
         self.is_held();
     }
 
-    // No filesystem is an overlay, since no call mounts one: so nothing is locked, and no mounter is asked.
-
-    fn is_overlay(&self, _at: Location) -> bool {
-        self.is_held();
-        false
+    fn is_overlay(&self, at: Location) -> bool {
+        self.store.is_overlay(self.shown(at.mount))
     }
 
-    fn has_no_upper(&self, _at: Location) -> bool {
-        self.is_held();
-        false
+    // No overlay has an upper layer, since no call mounts such a one: each is read-only, and all its objects are in
+    // lower layers.
+
+    fn has_no_upper(&self, at: Location) -> bool {
+        self.store.is_overlay(self.shown(at.mount))
     }
+
+    fn is_only_below(&self, at: Location) -> bool {
+        self.store.is_overlay(self.shown(at.mount))
+    }
+
+    fn mounter_may(&self, at: Location, wanted: Rights) -> bool {
+        match self.store.overlay(self.shown(at.mount)) {
+            Some(overlay) => grants(overlay.mounter(), self.node(at), wanted),
+            None => true,
+        }
+    }
+
+    #[inline(always)]
+    fn mounter_may_on(&self, ground: Ground, _at: Location, object: &Node, wanted: Rights) -> bool {
+        match self.store.overlay(ground.filesystem) {
+            Some(overlay) => grants(overlay.mounter(), Some(object), wanted),
+            None => true,
+        }
+    }
+
+    // No filesystem is an overlay, since no call mounts one: so nothing is locked, and no mounter is asked for a change.
 
     fn is_locked(&self, _at: Location) -> bool {
         self.is_held();
@@ -165,30 +187,19 @@ impl Look for World {
         false
     }
 
-    fn is_only_below(&self, _at: Location) -> bool {
-        self.is_held();
-        false
-    }
-
-    fn mounter_may(&self, _at: Location, _wanted: Rights) -> bool {
-        self.is_held();
-        true
-    }
-
-    #[inline(always)]
-    fn mounter_may_on(
-        &self,
-        _ground: Ground,
-        _at: Location,
-        _object: &Node,
-        _wanted: Rights,
-    ) -> bool {
-        self.is_held();
-        true
-    }
-
     fn mounter_may_change(&self, _at: Location, _asked: Asked) -> Result<(), Deny> {
         self.is_held();
         Ok(())
+    }
+}
+
+// Whether these credentials grant rights on an object, which nobody has on what is not there.
+#[inline(always)]
+fn grants(who: &Cred, object: Option<&Node>, wanted: Rights) -> bool
+    ensures { result ≡ node_allows who.now (right_bits wanted) (option_copied object.entry) }
+{
+    match object {
+        Some(node) => allows(who, &node.attr(), node.kind(), wanted),
+        None => false,
     }
 }

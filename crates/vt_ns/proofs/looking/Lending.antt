@@ -1,15 +1,14 @@
 -- What is lent for a location, and what the definitions see there.
 use Rattle.std.proofs.Common.{◌≡◌, refl, sym, ap, ◌∙◌, ℕ, List, Option, None, Some, option_map}
+use Rattle.std.proofs.lemmas.Option.{same_Some}
 use Rattle.vt_spec.proofs.Options.{none_is_some}
-use Rattle.vt_spec.specs.declared.attributes.Attr.{Attr}
-use Rattle.vt_spec.specs.declared.attributes.Kind.{Kind}
+use Rattle.vt_spec.specs.Machine.Rightful.{node_allows}
+use Rattle.vt_spec.specs.Rights.{Credentials, allows}
 use Rattle.vt_spec.specs.Tree.{Content, Node, bytes_in, bytes_of, kind_of}
 use Rattle.vt_spec.specs.Tree.Content.{Directory, Regular, Symlink, Whiteout}
+use Rattle.vt_looks.specs.Looking.{front as shown_front, front_of as shown_front_of}
 use Rattle.vt_overlay.specs.Alike.{Front, front, front_of}
 use Rattle.vt_ns.specs.Lent.{as_lent, with_names}
-
-same_front : (a b : Front) → Some a ≡ Some b → a ≡ b
-same_front a b e = cc
 
 -- what looks like the inode is lent as it is
 same_content : (seen lent : Content ℕ) → kind_of lent ≡ kind_of seen → bytes_of lent ≡ bytes_of seen
@@ -36,7 +35,7 @@ lent_as_it_is None None e = refl
 lent_as_it_is None (Some lent) e = none_is_some (front_of lent) (sym e)
 lent_as_it_is (Some seen) None e = none_is_some (front_of seen) e
 lent_as_it_is (Some seen) (Some lent) e =
-    let same = same_front (front_of lent) (front_of seen) e in
+    let same = same_Some (front_of lent) (front_of seen) e in
     λ i. Some (record {
       attr = (sym (ap (λ (f : Front). f.attr) same)) i;
       content = same_content seen.content lent.content (ap (λ (f : Front). f.kind) same)
@@ -59,3 +58,12 @@ lent_bytes (Some seen) (Some lent) = by seen.content lent.content
     by (Regular bytes) other = refl
     by (Symlink text) other = refl
     by Whiteout other = refl
+
+-- what looks alike grants the same rights
+pub allows_alike : (who : Credentials) (wanted : ℕ) (one other : Option (Node ℕ)) → shown_front one ≡ shown_front other
+    → node_allows who wanted one ≡ node_allows who wanted other
+allows_alike who wanted None None e = refl
+allows_alike who wanted None (Some other) e = absurd cc
+allows_alike who wanted (Some one) None e = absurd cc
+allows_alike who wanted (Some one) (Some other) e =
+    ap (λ shown. allows who shown.attr shown.kind wanted) (same_Some (shown_front_of one) (shown_front_of other) e)

@@ -5,14 +5,12 @@ use Rattle.std.specs.List.{list_any}
 use Rattle.vt_spec.specs.Language.Changes.{Change}
 use Rattle.vt_spec.specs.FileTree.{is_directory_under, is_removed}
 use Rattle.vt_spec.specs.Machine.Detach.{mounts_on}
-use Rattle.vt_spec.specs.Machine.Filesystems.{has_lower_directory_at, lies_only_in_lowers, mounter_rules, overlay_rules, path_of_name}
+use Rattle.vt_spec.specs.Machine.Filesystems.{has_lower_directory_at, mounter_rules, overlay_rules, path_of_name}
 use Rattle.vt_spec.specs.Machine.Layers.{has_lower_directory}
 use Rattle.vt_spec.specs.Machine.Locked.{is_locked_at, lies_or_counts_under, of_overlay, overlay_or}
 use Rattle.vt_spec.specs.Machine.Mounts as meant
 use Rattle.vt_spec.specs.Lists.{chain, holds_of, last_or}
-use Rattle.vt_spec.specs.Machine.Looks.{mounter_may, topmost}
-use Rattle.vt_spec.specs.Machine.Rightful.{mounter_allows}
-use Rattle.vt_spec.specs.Machine.Rules.Conditions.{has_no_upper, is_overlay_at}
+use Rattle.vt_spec.specs.Machine.Looks.{topmost}
 use Rattle.vt_spec.specs.Machine.Walking.{is_lost}
 use Rattle.vt_spec.specs.Machine.Mounts.{child_at, no_mount, root_of, same_location, stands_on}
 use Rattle.vt_spec.specs.Machine.World.{Filesystem, filesystem_at, filesystem_numbered, is_removed_at, layers_of, mount_at, mount_numbered, node_at, open_layer}
@@ -24,7 +22,7 @@ use Rattle.vt_location.specs.MountValue.{mount_of}
 use Rattle.vt_location.specs.Numbers.{counted}
 use Rattle.vt_location.proofs.NumberLemmas.{counted_test}
 use Rattle.vt_looks.specs.declared.look.Ground.{Ground}
-use Rattle.vt_looks.specs.Looking.{IsGround, is_only_below}
+use Rattle.vt_looks.specs.Looking.{IsGround}
 use Rattle.vt_fs.proofs.Entries.{or_first, or_second}
 use Rattle.vt_fs.specs.Laws.{is_lost_under}
 use Rattle.vt_mount.specs.MountsValue.{mounts_in, stands_over}
@@ -261,20 +259,14 @@ seen_on value at ground b is same =
     ap (λ n. nat_eq n (counted at.node.filesystem.count)) (sym is.filesystem)
     ∙ counted_test ground.filesystem.count at.node.filesystem.count ∙ same
 
--- Nothing makes an overlay yet. So no location is in one: nothing is locked, no lower layer has a directory, and no
--- mounter is asked.
+-- Nothing makes an overlay yet. So nothing is locked, no lower layer has a directory, and no mounter is asked for a
+-- change.
 module _ (value : WorldValue) (held : IsHeld value) (at : meant.Location ℕ) where
   plain : (filesystem_at nat_eq (world_of value) at).overlay ≡ None
   plain =
       ap (λ (filesystem : Filesystem ℕ). filesystem.overlay)
       (found_as_kept value held (mount_at nat_eq (world_of value) at).filesystem)
       ∙ found_plain value.filesystems (mount_at nat_eq (world_of value) at).filesystem
-
-  pub no_overlay : is_overlay_at (looks_of_value value) at ≡ false
-  no_overlay = ap is_some plain
-
-  pub no_missing_upper : has_no_upper (looks_of_value value) at ≡ false
-  no_missing_upper = ap (overlay_or false (λ overlay. not (is_some overlay.upper))) plain
 
   pub unlocked : is_locked_at nat_eq (world_of value) at ≡ false
   unlocked = ap (λ all.
@@ -288,12 +280,6 @@ module _ (value : WorldValue) (held : IsHeld value) (at : meant.Location ℕ) wh
       (map (open_layer nat_eq (world_of value)) (option_to_list overlay.upper))
       (map (open_layer nat_eq (world_of value)) overlay.lowers)
       (path_of_name nat_eq (world_of value) at name))) plain
-
-  pub none_below : is_only_below (looks_of_value value) at ≡ false
-  none_below = ap (overlay_or false (λ overlay. lies_only_in_lowers overlay at.node)) plain
-
-  pub unmounted : (wanted : ℕ) → mounter_may (looks_of_value value) at wanted ≡ true
-  unmounted wanted = ap (λ overlay. mounter_allows overlay wanted (node_at nat_eq (world_of value) at)) plain
 
   pub unasked : (change : Change ℕ) → mounter_rules nat_eq (world_of value) at change ≡ []
   unasked change =
