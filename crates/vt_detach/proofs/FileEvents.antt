@@ -25,7 +25,6 @@ use Rattle.vt_world.specs.Held.{IsHeld}
 use Rattle.vt_world.specs.WorldValue.{WorldValue, world_of}
 use Rattle.vt_detach.proofs.ChangedFiles.{IsFilesEvent, changed_by, files_are_changed, with_filesystems}
 use Rattle.vt_detach.proofs.ChangedNumbers.{MakesOther}
-use Rattle.vt_detach.proofs.Overlaid.{world_is_plain}
 use Rattle.vt_detach.proofs.FilesSeen.{IsLocated, nodes_named, located, located_filesystem, located_inodes}
 
 -- what the permit of a call names is there
@@ -72,7 +71,7 @@ module _ (value : WorldValue) (held : IsHeld value) (name : TaskName) (at : Loca
         fits =
             given_changes_fit (world_of value) (supply_of value (ToChange (location_of at) change)) permits.task
             (ToChange (location_of at) change) (location_of at) change (inodes_seen change_at.entry) held.in_world
-            (world_is_plain value held) permits.given refl
+            permits.given refl
             (ap (λ filesystem. filesystem.files.tree) (sym (located_filesystem value held at change_at)));
         links = links;
         changes =
@@ -84,14 +83,14 @@ module _ (value : WorldValue) (held : IsHeld value) (name : TaskName) (at : Loca
   pub change_sees : SeesToChange (world_of value) (location_of at) change
   change_sees =
       given_permits_are_seen_to (world_of value) (supply_of value (ToChange (location_of at) change)) permits.task
-      (ToChange (location_of at) change) held.in_world (world_is_plain value held) permits.given
+      (ToChange (location_of at) change) held.in_world permits.given
 
   pub change_fits : Fits (inodes_at value.filesystems at.node.filesystem.count) change
   change_fits =
       given_changes_fit (world_of value) (supply_of value (ToChange (location_of at) change)) permits.task
       (ToChange (location_of at) change) (location_of at) change
       (inodes_at value.filesystems at.node.filesystem.count) held.in_world
-      (world_is_plain value held) permits.given refl
+      permits.given refl
       (ap tree_of (located_inodes value at change_at)
       ∙ ap (λ filesystem. filesystem.files.tree) (sym (located_filesystem value held at change_at)))
 

@@ -188,7 +188,7 @@ module _ (world : World ℕ) (fresh : Fresh ℕ) (name : TaskName) (call : Call)
     after_tree : IsListedTree (changed nat_eq files change)
     after_tree = record {
       tree = changes_keep_trees files change tree.tree
-          (given_changes_are_proper world fresh did.task did.permit location change is plain
+          (given_changes_are_proper world fresh did.task did.permit location change is
           (given_of world fresh name call answer serves other few did) asks).0;
       numbers = changes_keep_numbers files change tree.numbers;
     }

@@ -103,7 +103,7 @@ module _ (world : World ℕ) (fresh : Fresh ℕ) (name : TaskName) (call : Call)
   pub may : MayBeMade world parent entry node
   may =
       subst (SeesTo world did.task) permit
-      (given_permits_are_seen_to world fresh did.task did.permit is plain
+      (given_permits_are_seen_to world fresh did.task did.permit is
       (given_of world fresh name call answer serves other few did))
 
   pub something : is_some (node_at nat_eq world parent) ≡ true

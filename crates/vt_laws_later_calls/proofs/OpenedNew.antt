@@ -229,7 +229,7 @@ module _ (world : World ℕ) (fresh : Fresh ℕ) (name : TaskName) (task : Task 
 
   seen_to : SeesTo world did.task did.permit
   seen_to =
-      given_permits_are_seen_to world fresh did.task did.permit is plain
+      given_permits_are_seen_to world fresh did.task did.permit is
       (given_of world fresh name (OpenFile path access creation) (Opened number) serves refl refl did)
 
   may : MayBeMade world place.parent (name_of place.last) (new_file task mode [])

@@ -21,7 +21,6 @@ use Rattle.vt_spec.specs.Tree.{Node, Tree, is_directory_node}
 use Rattle.vt_spec.specs.TreeInvariant.{entry_at}
 use Rattle.vt_laws_trees.specs.Trees.{IsFree, IsProper, MayAddName, MayMove, MayRemove}
 use Rattle.vt_laws_trees.specs.Trees.Sizes.{IsFitChange, is_fit_name, is_fit_node}
-use Rattle.vt_laws_worlds.specs.Worlds.Kept.{IsPlain}
 
 -- the tree of the filesystem that a location is in
 abbrev pub tree_at : World ℕ → Location ℕ → Tree ℕ
@@ -112,17 +111,18 @@ SeesTo world task (ToSetType mount word recursive) = ⊤
 SeesTo world task (ToPivot new put) = ⊤
 SeesTo world task ToListMounts = ⊤
 
--- In a world of plain filesystems the judgement of a call sees to this for each permit that it gives.
+-- In every world with all invariants, with overlays or without, the judgement of a call sees to this for each permit
+-- that it gives.
 abbrev pub GivenPermitsAreSeenTo : Type 0
 GivenPermitsAreSeenTo =
-    (world : World ℕ) (fresh : Fresh ℕ) (task : Task ℕ) (permit : Permit ℕ) → IsWorld nat_eq world → IsPlain world
+    (world : World ℕ) (fresh : Fresh ℕ) (task : Task ℕ) (permit : Permit ℕ) → IsWorld nat_eq world
     → IsGiven fresh world task permit → SeesTo world task permit
 
 -- So each change of a tree that a permit asks for is proper, and within the limits,
 abbrev pub GivenChangesAreProper : Type 0
 GivenChangesAreProper =
     (world : World ℕ) (fresh : Fresh ℕ) (task : Task ℕ) (permit : Permit ℕ) (location : Location ℕ) (change : Change ℕ)
-    → IsWorld nat_eq world → IsPlain world → IsGiven fresh world task permit
+    → IsWorld nat_eq world → IsGiven fresh world task permit
     → change_of fresh world permit ≡ Some (location, change)
     → IsProper (tree_at world location) change × IsFitChange change
 
@@ -130,6 +130,6 @@ GivenChangesAreProper =
 abbrev pub GivenChangesFit : Type 0
 GivenChangesFit =
     (world : World ℕ) (fresh : Fresh ℕ) (task : Task ℕ) (permit : Permit ℕ) (location : Location ℕ) (change : Change ℕ)
-    (inodes : Inodes ℕ) → IsWorld nat_eq world → IsPlain world → IsGiven fresh world task permit
+    (inodes : Inodes ℕ) → IsWorld nat_eq world → IsGiven fresh world task permit
     → change_of fresh world permit ≡ Some (location, change)
     → tree_of inodes ≡ tree_at world location → Fits inodes change

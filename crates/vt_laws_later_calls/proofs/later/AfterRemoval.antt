@@ -89,7 +89,7 @@ module _ (world : World ℕ) (fresh : Fresh ℕ) (name : TaskName) (call : Call)
   pub seen_to : SeesTo world did.task (ToRemoveDirectory parent word object)
   seen_to =
       subst (SeesTo world did.task) permit_is
-      (given_permits_are_seen_to world fresh did.task did.permit is plain
+      (given_permits_are_seen_to world fresh did.task did.permit is
       (given_of world fresh name call answer serves other few did))
 
   pub may : MayRemove (files_at nat_eq world parent).tree parent.node word object.node

@@ -141,7 +141,7 @@ module _ (world : World ℕ) (fresh : Fresh ℕ) (name : TaskName) (call : Call)
   pub may : MayBeRenamed world from old to new object replaced
   may =
       subst (SeesTo world did.task) permit_is
-      (given_permits_are_seen_to world fresh did.task did.permit is plain
+      (given_permits_are_seen_to world fresh did.task did.permit is
       (given_of world fresh name call answer serves other few did))
 
   from_directory : is_directory_node ((files_at nat_eq world from).tree.node from.node) ≡ true

@@ -298,7 +298,7 @@ module _ (path : List ℕ) (world : World ℕ) (fresh : Fresh ℕ) (name : TaskN
   may : MayBeMade world parent entry node
   may =
       (subst (SeesTo world did.task) permit
-      (given_permits_are_seen_to world fresh did.task did.permit is plain (given_of world fresh name call
+      (given_permits_are_seen_to world fresh did.task did.permit is (given_of world fresh name call
       (Opened number) serves refl refl did))).0
 
   something : is_some (node_at nat_eq world parent) ≡ true
@@ -313,7 +313,7 @@ module _ (path : List ℕ) (world : World ℕ) (fresh : Fresh ℕ) (name : TaskN
   after_tree : IsListedTree (changed nat_eq (files_at nat_eq world parent) change)
   after_tree = record {
     tree = changes_keep_trees (files_at nat_eq world parent) change tree.tree
-        (given_changes_are_proper world fresh did.task did.permit parent change is plain
+        (given_changes_are_proper world fresh did.task did.permit parent change is
         (given_of world fresh name call (Opened number) serves refl refl did) (ap (change_of fresh world) permit)).0;
     numbers = changes_keep_numbers (files_at nat_eq world parent) change tree.numbers;
   }

@@ -34,8 +34,7 @@ use Rattle.vt_laws_trees.proofs.trees.ChangesOfCalls.{mapped_none}
 use Rattle.vt_laws_trees.proofs.trees.TreesOfWorlds.{new_at, numbered_all}
 use Rattle.vt_laws_trees.proofs.trees.ChangesWithinSizes.{overwritten_length}
 use Rattle.vt_laws_worlds.proofs.worlds.CallsKept.{new_numbers}
-use Rattle.vt_laws_worlds.proofs.worlds.FitPermitsNamed.{permits_fit}
-use Rattle.vt_laws_worlds.specs.Worlds.Kept.{IsPlain}
+use Rattle.vt_laws_worlds.proofs.worlds.FitPermitsNamed.{all_permits_fit}
 use Rattle.vt_laws_worlds.specs.Worlds.Permits.{NamesWhatIsThere}
 use Rattle.vt_spec.proofs.NodeChanges.{file_is_there}
 use Rattle.vt_spec.proofs.Truths.{and_true_first}
@@ -146,7 +145,7 @@ file_is_no_directory (Some node) e = by node.content e
     by Whiteout h = refl
 
 module _ (world : World ℕ) (fresh : Fresh ℕ) (task : Task ℕ) (permit : Permit ℕ) (whole : IsWorld nat_eq world)
-    (plain : IsPlain world) (given : IsGiven fresh world task permit) where
+    (given : IsGiven fresh world task permit) where
   -- the bytes of a file are within the limit
   bytes_small : (file : Location ℕ) → is_kind_in File (node_at nat_eq world file) ≡ true
       → nat_le (length (bytes_in (node_at nat_eq world file))) largest_file ≡ true
@@ -263,17 +262,17 @@ module _ (world : World ℕ) (fresh : Fresh ℕ) (task : Task ℕ) (permit : Per
   given_facts location change asks =
       subst FactsOf asks
       (facts_of permit
-      (permits_fit world fresh task given.call permit whole plain given.serves given.called given.no_overlay
+      (all_permits_fit world fresh task given.call permit whole given.serves given.called given.no_overlay
       given.judged).names
-      (given_permits_are_seen_to world fresh task permit whole plain given))
+      (given_permits_are_seen_to world fresh task permit whole given))
 
 pub given_changes_are_proper : GivenChangesAreProper
-given_changes_are_proper world fresh task permit location change whole plain given asks =
-    let facts = given_facts world fresh task permit whole plain given location change asks in
+given_changes_are_proper world fresh task permit location change whole given asks =
+    let facts = given_facts world fresh task permit whole given location change asks in
     (facts.0.0, facts.1)
 
 pub given_changes_fit : GivenChangesFit
-given_changes_fit world fresh task permit location change inodes whole plain given asks same =
+given_changes_fit world fresh task permit location change inodes whole given asks same =
     fits inodes change
     (subst (λ tree. Facts tree change) (sym same)
-    (given_facts world fresh task permit whole plain given location change asks).0)
+    (given_facts world fresh task permit whole given location change asks).0)

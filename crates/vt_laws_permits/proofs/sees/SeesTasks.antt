@@ -174,7 +174,7 @@ module _ (fresh : Fresh ℕ) (world : World ℕ) (whole : IsWorld nat_eq world) 
   granted_seen call permit other granted = tt
 
 pub given_permits_are_seen_to : GivenPermitsAreSeenTo
-given_permits_are_seen_to world fresh task permit whole plain given =
+given_permits_are_seen_to world fresh task permit whole given =
     granted_seen fresh world whole task given.called given.call permit given.no_overlay
     (calls_are_granted nat_eq (looks_of nat_eq world) (overfills nat_eq fresh world task) task given.call permit
     given.judged)

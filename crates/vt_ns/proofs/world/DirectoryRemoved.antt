@@ -37,7 +37,6 @@ use Rattle.vt_detach.proofs.DetachingEnds.{taken_regroups}
 use Rattle.vt_detach.proofs.FileEvents.{IsSmall, permit_fits}
 use Rattle.vt_ns.proofs.world.FileRemoving.{removal_is_done}
 use Rattle.vt_detach.proofs.FilesSeen.{IsLocated, nodes_named, located, located_filesystem}
-use Rattle.vt_detach.proofs.Overlaid.{world_is_plain}
 use Rattle.vt_detach.proofs.LazilyUnmounted.{trees_have_children, trees_numbers}
 use Rattle.vt_ns.proofs.world.MountsOn.{none_on, one_on, tops_on, trees_collected}
 use Rattle.vt_detach.proofs.Remaining.{remade}
@@ -74,7 +73,7 @@ module _ (value : WorldValue) (held : IsHeld value) (name : TaskName) (parent : 
 
   sees : SeesTo world permits.task permit
   sees = given_permits_are_seen_to world (supply_of value permit) permits.task permit held.in_world
-      (world_is_plain value held) permits.given
+      permits.given
 
   -- what is collected are the mounts on the directory, with their descendants
   pub collected_are : (numbers : List ℕ)
@@ -95,7 +94,7 @@ module _ (value : WorldValue) (held : IsHeld value) (name : TaskName) (parent : 
   change_fits : (inodes : Inodes ℕ) → inodes ≡ inodes_seen parent_seen.entry → Fits inodes change
   change_fits inodes same =
       given_changes_fit world (supply_of value permit) permits.task permit (location_of parent)
-      change inodes held.in_world (world_is_plain value held) permits.given refl
+      change inodes held.in_world permits.given refl
       (ap tree_of same
       ∙ ap (λ filesystem. filesystem.files.tree) (sym (located_filesystem value held parent parent_seen)))
 

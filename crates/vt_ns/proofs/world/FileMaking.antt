@@ -35,7 +35,6 @@ use Rattle.vt_world.specs.WorldValue.{WorldValue, world_of}
 use Rattle.vt_detach.proofs.ChangedFiles.{IsFilesEvent, files_are_changed, with_filesystems}
 use Rattle.vt_detach.proofs.FileEvents.{IsSmall, permit_fits}
 use Rattle.vt_detach.proofs.FilesSeen.{IsLocated, nodes_named, located, located_filesystem, located_inodes}
-use Rattle.vt_detach.proofs.Overlaid.{world_is_plain}
 
 -- what is made in a directory of a tree has its slots
 pub made_in_tree : (directory : Location) → directory.node.birth ≡ Here → (node : Node ℕ)
@@ -105,7 +104,7 @@ module _ (value : WorldValue) (held : IsHeld value) (name : TaskName) (directory
   sees : MayBeMade (world_of value) (location_of directory) entry (node_seen directory.node.filesystem.count node)
   sees =
       given_permits_are_seen_to (world_of value) (supply_of value permit) permits.task permit held.in_world
-      (world_is_plain value held) permits.given
+      permits.given
 
   -- it is new in its directory
   pub new_in_directory : IsNewIn directory.node.slot node
@@ -122,7 +121,7 @@ module _ (value : WorldValue) (held : IsHeld value) (name : TaskName) (directory
   fits_next inodes same =
       given_changes_fit (world_of value) (supply_of value permit) permits.task permit (location_of directory)
       (change (next_inode value (location_of directory))) inodes held.in_world
-      (world_is_plain value held) permits.given refl
+      permits.given refl
       (ap tree_of same ∙ ap (λ filesystem. filesystem.files.tree)
       (sym (located_filesystem value held directory directory_seen)))
 

@@ -33,7 +33,6 @@ use Rattle.vt_detach.proofs.ChangedFiles.{files_are_changed, with_filesystems}
 use Rattle.vt_ns.proofs.world.FileAnswers.{IsAnswered, answered}
 use Rattle.vt_detach.proofs.FileEvents.{IsSmall}
 use Rattle.vt_detach.proofs.FilesSeen.{IsLocated, located, located_filesystem, located_inodes}
-use Rattle.vt_detach.proofs.Overlaid.{world_is_plain}
 use Rattle.vt_spec.proofs.Options.{OnOk_then}
 
 -- what a task has open is there
@@ -83,7 +82,7 @@ module _ (value : WorldValue) (held : IsHeld value) (name : TaskName) (file : Lo
   sees : SeesTo (world_of value) permits.task permit
   sees =
       given_permits_are_seen_to (world_of value) (supply_of value permit) permits.task permit held.in_world
-      (world_is_plain value held) permits.given
+      permits.given
 
   -- the file stands where the world has it
   file_seen : IsLocated value file
@@ -99,7 +98,7 @@ module _ (value : WorldValue) (held : IsHeld value) (name : TaskName) (file : Lo
   change_fits : (inodes : Inodes ℕ) → inodes ≡ inodes_seen file_seen.entry → Fits inodes change
   change_fits inodes same =
       given_changes_fit (world_of value) (supply_of value permit) permits.task permit (location_of file)
-      change inodes held.in_world (world_is_plain value held) permits.given refl
+      change inodes held.in_world permits.given refl
       (ap tree_of same ∙ ap (λ filesystem. filesystem.files.tree) (sym (located_filesystem value held file file_seen)))
 
   abbrev here : Inodes ℕ

@@ -26,7 +26,6 @@ use Rattle.vt_world.specs.WorldValue.{WorldValue, world_of}
 use Rattle.vt_detach.proofs.ChangedFiles.{IsFilesEvent, files_are_changed, with_filesystems}
 use Rattle.vt_detach.proofs.FileEvents.{IsSmall, permit_fits}
 use Rattle.vt_detach.proofs.FilesSeen.{IsLocated, also_there, kept_there, located, located_filesystem, located_inodes, tree_of_entry}
-use Rattle.vt_detach.proofs.Overlaid.{world_is_plain}
 
 -- Where no mount stands nothing is detached
 
@@ -57,7 +56,7 @@ module _ (value : WorldValue) (held : IsHeld value) (name : TaskName) (parent : 
   sees : SeesTo (world_of value) permits.task permit
   sees =
       given_permits_are_seen_to (world_of value) (supply_of value permit) permits.task permit held.in_world
-      (world_is_plain value held) permits.given
+      permits.given
 
   abbrev change : Change ℕ
   change = Remove (number_of parent.node) entry (number_of directory.node)
@@ -85,7 +84,7 @@ module _ (value : WorldValue) (held : IsHeld value) (name : TaskName) (parent : 
   change_fits : (inodes : Inodes ℕ) → inodes ≡ inodes_seen parent_seen.entry → Fits inodes change
   change_fits inodes same =
       given_changes_fit (world_of value) (supply_of value permit) permits.task permit (location_of parent)
-      change inodes held.in_world (world_is_plain value held) permits.given refl
+      change inodes held.in_world permits.given refl
       (ap tree_of same
       ∙ ap (λ filesystem. filesystem.files.tree) (sym (located_filesystem value held parent parent_seen)))
 

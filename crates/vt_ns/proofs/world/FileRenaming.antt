@@ -33,7 +33,6 @@ use Rattle.vt_detach.proofs.FileEvents.{IsSmall, permit_fits}
 use Rattle.vt_ns.proofs.world.FileRemoving.{nothing_detached}
 use Rattle.vt_detach.proofs.Places.{located_is_named}
 use Rattle.vt_detach.proofs.FilesSeen.{IsLocated, also_there, kept_there, located, located_filesystem, located_inodes}
-use Rattle.vt_detach.proofs.Overlaid.{world_is_plain}
 
 module _ (value : WorldValue) (held : IsHeld value) (name : TaskName) (from : Location) (old : List ℕ) (to : Location)
     (new : List ℕ)
@@ -66,7 +65,7 @@ module _ (value : WorldValue) (held : IsHeld value) (name : TaskName) (from : Lo
       (option_map location_of replaced)
   sees =
       given_permits_are_seen_to (world_of value) (supply_of value permit) permits.task permit held.in_world
-      (world_is_plain value held) permits.given
+      permits.given
 
   -- an inode that is seen through the same mount is in the same filesystem
   same_there : (at : Location) → (location_of at).mount ≡ (location_of from).mount
@@ -103,7 +102,7 @@ module _ (value : WorldValue) (held : IsHeld value) (name : TaskName) (from : Lo
   pub change_fits : (inodes : Inodes ℕ) → inodes ≡ inodes_seen from_seen.entry → Fits inodes change
   change_fits inodes same =
       given_changes_fit (world_of value) (supply_of value permit) permits.task permit (location_of from)
-      change inodes held.in_world (world_is_plain value held) permits.given refl
+      change inodes held.in_world permits.given refl
       (ap tree_of same ∙ ap (λ filesystem. filesystem.files.tree) (sym (located_filesystem value held from from_seen)))
 
   -- the rename can be made

@@ -33,7 +33,7 @@ use Rattle.vt_detach.specs.Uses.{Merged, kept_of, kept_with, with_location, with
 use Rattle.vt_world.specs.WorldValue.{WorldValue, world_of}
 use Rattle.vt_laws_permits.proofs.sees.SeesTasks.{given_permits_are_seen_to}
 use Rattle.vt_detach.proofs.FileEvents.{permit_fits}
-use Rattle.vt_detach.proofs.Overlaid.{found_as_kept, world_is_plain}
+use Rattle.vt_detach.proofs.Overlaid.{found_as_kept}
 use Rattle.vt_detach.proofs.LocationsSeen.{seen_where_located}
 use Rattle.vt_detach.proofs.Closing.{Goes, around, place, used_by}
 use Rattle.vt_detach.proofs.Moving.{Moves, only_left}
@@ -187,4 +187,4 @@ may_open_more value whole name file access permits =
     subst MayOpenMore (sym permits.called)
     (leb-false _ _ (given_permits_are_seen_to (world_of value) (supply_of value (ToOpen file access)) permits.task
     (ToOpen file access)
-    whole.in_world (world_is_plain value whole) permits.given).1)
+    whole.in_world permits.given).1)

@@ -15,7 +15,6 @@ use Rattle.vt_world.specs.WorldValue.{WorldValue, world_of}
 use Rattle.vt_detach.proofs.FileEvents.{IsSmall}
 use Rattle.vt_ns.proofs.world.FileParts.{open_there}
 use Rattle.vt_detach.proofs.FilesSeen.{looked_node}
-use Rattle.vt_detach.proofs.Overlaid.{world_is_plain}
 
 -- the directory that is listed is that of the world
 pub listed_node : (value : WorldValue) → IsHeld value → (name : TaskName) (directory : Location) → IsSmall directory
@@ -25,7 +24,7 @@ pub listed_node : (value : WorldValue) → IsHeld value → (name : TaskName) (d
 listed_node value held name directory small permits =
     looked_node value held directory small (directory_there (node_at nat_eq (world_of value) (location_of directory))
     (given_permits_are_seen_to (world_of value) (supply_of value (ToList (location_of directory))) permits.task
-    (ToList (location_of directory)) held.in_world (world_is_plain value held) permits.given))
+    (ToList (location_of directory)) held.in_world permits.given))
 
 -- the file that is read is that of the world
 pub read_node : (value : WorldValue) → IsHeld value → (name : TaskName) (file : Location) (offset size : ℕ)
@@ -40,4 +39,4 @@ read_node value held name file offset size small permits =
     (λ descriptor. descriptor.reads)
     (given_permits_are_seen_to (world_of value)
     (supply_of value (ToReadPart (location_of file) offset size)) permits.task
-    (ToReadPart (location_of file) offset size) held.in_world (world_is_plain value held) permits.given))).1
+    (ToReadPart (location_of file) offset size) held.in_world permits.given))).1

@@ -36,7 +36,6 @@ use Rattle.vt_detach.specs.Forking.{more_tasks, with_task_more}
 use Rattle.vt_world.specs.Held.{CountsWhatIsInIt, IsHeld, writes_of, writes_of_task}
 use Rattle.vt_detach.specs.Uses.{Kept, Merged, kept_of, kept_with, with_location, with_use}
 use Rattle.vt_world.specs.WorldValue.{NamespaceEntry, WorldValue, namespace_of, world_of}
-use Rattle.vt_detach.proofs.Overlaid.{world_is_plain}
 use Rattle.vt_detach.proofs.LocationsSeen.{seen_where_located}
 use Rattle.vt_detach.proofs.Moving.{Moves, only_left, swap_eq}
 use Rattle.vt_detach.proofs.Places.{standing}
@@ -215,7 +214,7 @@ pub may_fork : (value : WorldValue) → IsHeld value → (name : TaskName) (cred
 may_fork value whole name credentials permits =
     let sees = given_permits_are_seen_to (world_of value) (supply_of value (ToFork credentials)) permits.task
     (ToFork credentials)
-    whole.in_world (world_is_plain value whole) permits.given in
+    whole.in_world permits.given in
     subst MayFork (sym permits.called) (leb-false _ _ sees.0, leb-false _ _ sees.1)
 
 -- the tasks after a fork, with its child counted in its namespace and where it is

@@ -129,7 +129,7 @@ module _ (value : WorldValue) (held : IsHeld value) (name : TaskName) (directory
   sees : MayBeMade (world_of value) (location_of directory) entry (node_seen count node) × HasRoom permits.task
   sees =
       given_permits_are_seen_to (world_of value) handed permits.task permit held.in_world
-      (world_is_plain value held) permits.given
+      permits.given
 
   -- the new file is new in its directory
   pub new_in_directory : IsNewIn directory.node.slot node
@@ -148,7 +148,7 @@ module _ (value : WorldValue) (held : IsHeld value) (name : TaskName) (directory
   fits_next inodes same =
       given_changes_fit (world_of value) handed permits.task permit (location_of directory)
       (change next_number) inodes held.in_world
-      (world_is_plain value held) permits.given refl
+      permits.given refl
       (ap tree_of same ∙ ap (λ filesystem. filesystem.files.tree)
       (sym (located_filesystem value held directory directory_seen)))
 

@@ -158,7 +158,7 @@ module _ (world : World ℕ) (fresh : Fresh ℕ) (name : TaskName) (old new : Li
   may : MayBeRenamed world from.parent (name_of from.last) to.parent (name_of to.last) (object_there from) None
   may =
       subst (SeesTo world did.task) parts.permit_is
-      (given_permits_are_seen_to world fresh did.task did.permit is plain
+      (given_permits_are_seen_to world fresh did.task did.permit is
       (given_of world fresh name (Rename old new) Done serves refl refl did))
 
   from_directory : is_directory_at nat_eq world from.parent ≡ true

@@ -85,7 +85,7 @@ module _ (world : World ℕ) (fresh : Fresh ℕ) (name : TaskName) (path : List 
   seen_to : SeesTo world did.task (ToChange place.parent change)
   seen_to =
       subst (SeesTo world did.task) parts.permit_is
-      (given_permits_are_seen_to world fresh did.task did.permit is plain
+      (given_permits_are_seen_to world fresh did.task did.permit is
       (given_of world fresh name (Unlink path) Done serves refl refl did))
 
   in_directory : is_directory_at nat_eq world place.parent ≡ true
