@@ -2,6 +2,7 @@
 pub mod Lending
 pub mod LooksKept
 pub mod LostKept
+pub mod MarksTold
 pub mod NodesOwned
 pub mod OverlaysAt
 pub mod OverlaysLooked

@@ -1,5 +1,5 @@
 -- What code finds in what is kept of a world is what the definitions see of its value.
-use Rattle.std.proofs.Common.{◌≡◌, refl, sym, ap, subst, ◌∙◌, ℕ, ◌<◌, nat_eq, eqb-true, Bool, true, false, cond, is_some, not, ◌&&◌, ◌||◌, List, [], ◌∷◌, zero, suc, length, Option, Some, None, flat_map, map, option_map, unwrap_or}
+use Rattle.std.proofs.Common.{◌≡◌, refl, sym, ap, subst, ◌∙◌, ℕ, ◌<◌, nat_eq, eqb-true, true≢false, Bool, true, false, cond, is_some, not, ◌&&◌, ◌||◌, List, [], ◌∷◌, zero, suc, length, Option, Some, None, flat_map, map, option_map, unwrap_or}
 use Rattle.std.specs.Prelude.{find, option_to_list}
 use Rattle.std.specs.List.{list_any}
 use Rattle.vt_spec.specs.Language.Changes.{Change}
@@ -104,7 +104,15 @@ module _ (base : WorldValue) (store : StoreValue) (value : WorldValue) (is : wit
       ap (λ o. as_lent o (lent_of_world (world_of value) (mount_at nat_eq (world_of value) (location_of at)).filesystem
       (number_of at.node))) (no_node unseen)
 
-  -- so what is lent is seen
+  -- so what is there is seen
+  pub seen_if_there : is_some (node_at nat_eq (world_of value) (location_of at)) ≡ true → is_seen value at ≡ true
+  seen_if_there there = by (is_seen value at) refl
+    where
+      by : (b : Bool) → is_seen value at ≡ b → b ≡ true
+      by true e = refl
+      by false e = absurd (true≢false (sym there ∙ ap is_some (no_node e)))
+
+  -- and what is lent
   pub seen_if_lent : (object : Node ℕ) → real_of_value value (location_of at) ≡ Some object → is_seen value at ≡ true
   seen_if_lent object lent = by (is_seen value at) refl
     where
