@@ -1,6 +1,6 @@
 -- The inodes of plain filesystems and of overlays have numbers of their own nodes, which tell them apart.
-use Rattle.std.proofs.Common.{◌≡◌, ◌<◌, refl, sym, ap, ◌∙◌, true≢false, ℕ, nat_eq, eq-eqb, Bool, true, false, List, Option, Some, None, is_some, slice_get, arith}
-use Rattle.std.proofs.lemmas.List.Elements.{slice_get_within}
+use Rattle.std.proofs.Common.{◌≡◌, ◌<◌, ◌≤◌, refl, sym, ap, subst, ◌∙◌, true≢false, ℕ, nat_eq, eq-eqb, Bool, true, false, List, Option, Some, None, is_some, length, arith}
+use Rattle.std.proofs.lemmas.Option.{slice_get_within}
 use Rattle.vt_spec.proofs.Options.{none_is_some}
 use Rattle.vt_spec.specs.Inodes.{node_in}
 use Rattle.vt_spec.specs.Tree.{Node}

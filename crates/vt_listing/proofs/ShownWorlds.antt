@@ -1,5 +1,5 @@
 -- What a table of mounts shows of the worlds that have its mounts, groups and filesystems.
-use Rattle.std.proofs.Common.{◌≡◌, refl, sym, ap, ◌∙◌, nat_eq, ℕ, List, Option, map, reverse}
+use Rattle.std.proofs.Common.{◌≡◌, refl, sym, ap, ◌∙◌, nat_eq, ℕ, List, [], Option, map, reverse}
 use Rattle.vt_spec.specs.FileTree.{FileTree, ancestors, own_name, path_down}
 use Rattle.vt_spec.specs.Lists.{before_first, is_among, when}
 use Rattle.vt_spec.specs.Machine.World.{World, filesystem_numbered}

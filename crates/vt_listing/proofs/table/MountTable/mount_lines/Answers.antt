@@ -1,4 +1,4 @@
-use Rattle.std.proofs.Common.{List, Some, ap, find, map, nat_eq, option_map, refl, rules, sym, ◌∙◌, ℕ}
+use Rattle.std.proofs.Common.{List, Some, ap, find, map, nat_eq, option_map, rules, sym, ◌∙◌, ℕ}
 use Rattle.std.specs.Prelude.{filter, filter_map}
 use Rattle.vt_spec.specs.Lists.{holds_of}
 use Rattle.std.proofs.lemmas.List.{take_all}
@@ -22,9 +22,6 @@ mount_line-requires c = record {
       attached_rising (counted c.args.namespace.count) c.args.self.now.mounts.now c.attached_in-listed.ensures.order
       c.attached_in-listed.result.now c.attached_in-listed.ensures.are;
 }
-
-pub loop-id-entry : goal.loop-id-entry
-loop-id-entry c world shows = refl
 
 pub loop-id-preserved : goal.loop-id-preserved
 loop-id-preserved c world shows =
