@@ -11,7 +11,7 @@ use Rattle.vt_laws_seen.specs.TreesSeen.{real_by}
 use Rattle.vt_laws_trees.proofs.trees.TreesOfWorlds.{number_numbered}
 use Rattle.vt_location.specs.Numbers.{counted}
 use Rattle.vt_fs.specs.FilesystemsValue.{Filesystems}
-use Rattle.vt_overlay.specs.MergedTree.{OverlayValue, overlay_seen, path_at, plain_world}
+use Rattle.vt_overlay.specs.MergedTree.{OverlayValue, longest, overlay_seen, path_at, plain_world, real_number}
 use Rattle.vt_store.proofs.Woven.{is_over, is_plain}
 use Rattle.vt_store.specs.StoreValue.{StandsOnLayers, StoreValue, filesystems_of, overlay_in}
 use Rattle.vt_world.specs.Held.{IsHeld}
@@ -26,7 +26,8 @@ lower_objects : (plain : Filesystems) (overlay : OverlayValue) (number : ℕ)
 lower_objects plain overlay number = by (path_at plain overlay number)
   where
     by : (o : Option (List (List ℕ)))
-        → upper_object (real_by (λ number. None) (plain_world plain) (overlay_seen overlay) number o) ≡ None
+        → upper_object (real_by (real_number plain overlay) (λ number. None) (longest plain overlay.lowers)
+        (plain_world plain) (overlay_seen overlay) number o) ≡ None
     by None = refl
     by (Some path) = of_object (merged_at (map (open_layer nat_eq (plain_world plain)) (shown_layers (overlay_seen overlay))) path)
       where

@@ -1,5 +1,5 @@
 -- What a store shows is what the world that holds it shows.
-use Rattle.std.proofs.Common.{◌≡◌, refl, sym, ap, subst, ◌∙◌, ⊎_elim, inl, inr, ◌⊎◌, ⊥, ℕ, nat_eq, true≢false, true, false, List, Option, Some, None, is_some, unwrap_or}
+use Rattle.std.proofs.Common.{◌≡◌, refl, sym, ap, subst, ◌∙◌, ⊎_elim, inl, inr, ◌⊎◌, ℕ, nat_eq, true≢false, true, false, List, Option, Some, None, is_some, unwrap_or}
 use Rattle.vt_spec.specs.FileTree.{FileTree, ancestors, is_directory_under}
 use Rattle.vt_spec.specs.Lists.{is_among}
 use Rattle.vt_spec.specs.Machine.World.{Filesystem, World, filesystem_numbered, is_overlay, no_filesystem}
