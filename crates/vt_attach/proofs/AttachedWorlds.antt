@@ -1,32 +1,31 @@
 -- A world in which mounts were attached: what they use is counted, and nothing else changed.
-use Rattle.std.proofs.Common.{◌≡◌, refl, sym, ap, subst, ◌∙◌, inl, inr, ℕ, ◌<◌, nat_eq, eqb-true, Bool, true, false, not, ◌&&◌, ◌||◌, List, [], ◌∷◌, ◌++◌, map, find, Option, Some, None, option_map, is_some}
-use Rattle.std.specs.Prelude.{All, nat_lt, option_to_list, unwrap_or}
+use Rattle.std.proofs.Common.{◌≡◌, refl, sym, ap, subst, ◌∙◌, inl, inr, ℕ, nat_eq, eqb-true, Bool, true, false, not, ◌&&◌, ◌||◌, List, [], ◌∷◌, ◌++◌, map, Option, Some, None, option_map, is_some}
+use Rattle.std.specs.Prelude.{All, option_to_list}
 use Rattle.std.specs.List.{list_all}
-use Rattle.std.proofs.lemmas.Bool.{and_parts, ltb-true}
+use Rattle.std.proofs.lemmas.Bool.{and_parts}
 use Rattle.vt_spec.specs.Machine.Mounts as meant
-use Rattle.vt_spec.specs.Machine.World.{Filesystem, World, filesystem_numbered, is_directory_at, mount_at, no_filesystem, node_at}
+use Rattle.vt_spec.specs.Machine.World.{Filesystem, World, filesystem_numbered, is_directory_at, mount_at, node_at}
 use Rattle.vt_spec.specs.Machine.Invariants.{has_its_root}
 use Rattle.vt_spec.specs.Inodes.{Inode as Counted, node_in}
 use Rattle.vt_spec.specs.Tree.{is_directory_node}
 use Rattle.vt_laws_counts.specs.Using.{AreThere}
-use Rattle.vt_fs.specs.FilesystemsValue.{FilesystemEntry, Filesystems, filesystem_seen, filesystems_seen, inodes_seen}
+use Rattle.vt_fs.specs.FilesystemsValue.{FilesystemEntry, filesystem_seen, inodes_seen}
 use Rattle.vt_laws_letting_go.specs.OneByOne.{Inode}
 use Rattle.vt_laws_letting_go.proofs.Lists.{Among, among-append_right, among-map, passes}
 use Rattle.vt_laws_letting_go.proofs.leaving.PlacesLeft.{found_itself}
 use Rattle.vt_location.specs.declared.locations.Location.{Location}
 use Rattle.vt_location.specs.declared.locations.NodeRef.{NodeRef}
 use Rattle.vt_location.specs.declared.mounts.Mount.{Mount}
-use Rattle.vt_location.specs.Locations.{location_of, number_of}
+use Rattle.vt_location.specs.Locations.{is_small_node, location_of, number_of}
 use Rattle.vt_location.specs.MountValue.{mount_of}
 use Rattle.vt_location.specs.Numbers.{counted}
-use Rattle.vt_location.proofs.NodeLemmas.{own_count}
 use Rattle.vt_laws_worlds.specs.Worlds.Kept.{IsUnderWay}
 use Rattle.vt_laws_worlds.proofs.worlds.Roots.{directory_there}
 use Rattle.vt_detach.proofs.Detached.{inodes_of_point}
-use Rattle.vt_world.specs.Held.{HasOwnInodes}
-use Rattle.vt_attach.specs.Room.{has_small_slots, point_is_small}
+use Rattle.vt_world.specs.Held.{HasOwnNodes}
+use Rattle.vt_attach.specs.Room.{has_small_nodes, point_is_small}
 use Rattle.vt_attach.proofs.AddedUses.{IsFoundIn, gained_by}
-use Rattle.vt_detach.proofs.FilesSeen.{seen_in}
+use Rattle.vt_detach.proofs.NodesFound.{node_at_home}
 use Rattle.vt_laws_letting_go.proofs.sweeps.OfWorlds.{found_filesystem}
 
 -- an inode of which there is a node is there
@@ -36,8 +35,8 @@ inode_is_there (Some inode) e = refl
 
 -- Mounts that were attached in a world, with these filesystems
 module _ (after : World ℕ) (is_world : IsUnderWay after) (front : List (meant.Mount ℕ)) (new : List Mount)
-    (after_mounts : after.mounts ≡ front ++ map mount_of new) (slots : list_all has_small_slots new ≡ true)
-    (base : Filesystems) (after_files : after.filesystems ≡ filesystems_seen base) (own : All HasOwnInodes base) where
+    (after_mounts : after.mounts ≡ front ++ map mount_of new) (slots : list_all has_small_nodes new ≡ true)
+    (own : All HasOwnNodes after.filesystems) where
   new_there : (mount : Mount) → Among mount new → Among (mount_of mount) after.mounts
   new_there mount m =
       subst (Among (mount_of mount)) (sym after_mounts)
@@ -58,17 +57,10 @@ module _ (after : World ℕ) (is_world : IsUnderWay after) (front : List (meant.
       let directory : is_directory_at nat_eq after (location_of point) ≡ true =
       (and_parts _ _ (subst (λ o. list_all (is_directory_at nat_eq after) (option_to_list (option_map location_of o))
       ≡ true) is (roots mount m).1)).0 in
-      let seen = seen_in base own (mount_at nat_eq after (location_of point)).filesystem (number_of point.node)
-      (subst (λ files. is_some ((unwrap_or
-      (find (λ (f : Filesystem ℕ). nat_eq (mount_at nat_eq after (location_of point)).filesystem f.number) files)
-      (no_filesystem (mount_at nat_eq after (location_of point)).filesystem)).files.tree.node (number_of point.node))
-      ≡ true)
-      after_files (directory_there (node_at nat_eq after (location_of point)) directory)) in
-      let small : point.node.slot < 18446744073709551616 =
-      ltb-true point.node.slot 18446744073709551616
+      node_at_home after own (mount_at nat_eq after (location_of point)).filesystem point.node
       (subst (λ o. point_is_small o ≡ true) is
-      (and_parts (nat_lt mount.root.slot 18446744073709551616) _ (passes has_small_slots new slots mount m)).1) in
-      seen.number_is ∙ ap counted (own_count seen.entry.count point.node small seen.own)
+      (and_parts (is_small_node mount.root) _ (passes has_small_nodes new slots mount m)).1)
+      (directory_there (node_at nat_eq after (location_of point)) directory)
 
   pub new_found : (mount : Mount) → Among mount new → IsFoundIn after mount
   new_found mount m = record {
@@ -77,7 +69,7 @@ module _ (after : World ℕ) (is_world : IsUnderWay after) (front : List (meant.
     point = λ point is. ap (λ filesystem. (filesystem, number_of point.node)) (point_shown mount m point is);
   }
 
-  pub there_in : (entry : FilesystemEntry) → Among entry base → (node : NodeRef)
+  pub there_in : (entry : FilesystemEntry) → Among (filesystem_seen entry) after.filesystems → (node : NodeRef)
       → is_directory_node ((filesystem_numbered nat_eq after (counted node.filesystem.count)).files.tree.node
       (number_of node)) ≡ true
       → (not (nat_eq (counted entry.count) (counted node.filesystem.count))
@@ -86,7 +78,7 @@ module _ (after : World ℕ) (is_world : IsUnderWay after) (front : List (meant.
     where
       found : filesystem_numbered nat_eq after (counted entry.count) ≡ filesystem_seen entry
       found = found_filesystem after.filesystems is_world.files.one_filesystem (filesystem_seen entry)
-          (subst (Among (filesystem_seen entry)) (sym after_files) (among-map filesystem_seen base entry m))
+          m
 
       by : (b : Bool) → nat_eq (counted entry.count) (counted node.filesystem.count) ≡ b
           → (not b || is_some ((inodes_seen entry).inode (number_of node))) ≡ true
@@ -97,7 +89,7 @@ module _ (after : World ℕ) (is_world : IsUnderWay after) (front : List (meant.
           (ap (λ (f : Filesystem ℕ). is_directory_node (f.files.tree.node (number_of node)))
           (sym found ∙ ap (filesystem_numbered nat_eq after) (eqb-true _ _ e)) ∙ directory))
 
-  pub new_uses_there : (entry : FilesystemEntry) → Among entry base
+  pub new_uses_there : (entry : FilesystemEntry) → Among (filesystem_seen entry) after.filesystems
       → AreThere (counted entry.count) (inodes_seen entry) (gained_by new)
   new_uses_there entry m = each new (λ mount n. n)
     where

@@ -61,7 +61,7 @@ use Rattle.vt_attach.specs.Grafted.{IsGrafted}
 use Rattle.vt_attach.specs.Moved.{typed_all, with_types}
 use Rattle.vt_attach.specs.Planned.{Point, is_small, points_left, points_taken, with_planned, with_points}
 use Rattle.vt_attach.specs.PlannedUses.{point_seen}
-use Rattle.vt_attach.specs.Room.{has_small_slots}
+use Rattle.vt_attach.specs.Room.{has_small_nodes}
 use Rattle.vt_attach.proofs.AddedUses.{gained_by, showing}
 use Rattle.vt_attach.proofs.AttachedCounts.{unused_counts}
 use Rattle.vt_mount.proofs.EnteringLemmas.{mounts_entered}
@@ -166,7 +166,7 @@ pub record IsEntered (value : WorldValue) (base : Filesystems) (copies : List Mo
   pub done : kept_with mounts filesystems overlays
       ≡ with_types types (with_planned copies points left (kept_with value.mounts base (map merged_seen value.overlays)))
   pub seen : mounts_in mounts ≡ map (changed_at points kinds) (mounts_in value.mounts) ++ map mount_of copies
-  pub slots : list_all has_small_slots copies ≡ true
+  pub slots : list_all has_small_nodes copies ≡ true
   pub taken_small : list_all is_small (points_taken points value.mounts) ≡ true
 
 -- a mount that gets a type counts its uses as before

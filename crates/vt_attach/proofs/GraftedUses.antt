@@ -10,7 +10,7 @@ use Rattle.vt_laws_counts.specs.Using.{AreThere, Exchanges, is_inode, is_on, pla
 use Rattle.vt_laws_counts.proofs.using.MountRoots as Roots
 use Rattle.vt_laws_counts.proofs.using.MountRoots.{places_stand}
 use Rattle.vt_laws_counts.proofs.using.Places.{exchanges_follow}
-use Rattle.vt_fs.specs.FilesystemsValue.{FilesystemEntry, Filesystems, filesystems_seen, inodes_seen}
+use Rattle.vt_fs.specs.FilesystemsValue.{FilesystemEntry, Filesystems, filesystem_seen, filesystems_seen, inodes_seen}
 use Rattle.vt_laws_letting_go.specs.Counts.{times}
 use Rattle.vt_laws_letting_go.specs.Mounting.{inode_at}
 use Rattle.vt_laws_letting_go.specs.OneByOne.{Inode, let_go_inode_of, let_go_inodes, without_inode}
@@ -24,27 +24,27 @@ use Rattle.vt_location.specs.declared.mounts.Mount.{Mount}
 use Rattle.vt_location.specs.Locations.{location_of, number_of}
 use Rattle.vt_location.specs.MountValue.{mount_of}
 use Rattle.vt_location.specs.Numbers.{counted}
-use Rattle.vt_location.proofs.NodeLemmas.{own_count, small_parts}
 use Rattle.vt_mount.specs.MountsValue.{MountEntry, are_ascending, mounts_in}
 use Rattle.vt_laws_mounts.proofs.mounts.MountsReplaced.{one_number_by_numbers}
 use Rattle.vt_propagate.specs.Pushing.{MovesOnce}
 use Rattle.vt_spec.specs.Lists.{any_pair, is_among, or_else}
 use Rattle.vt_spec.specs.Machine.Mounts as meant
 use Rattle.vt_spec.specs.Machine.Mounts.{Propagation, mount_in, no_mount, root_of}
-use Rattle.vt_spec.specs.Machine.World.{Filesystem, World, all_locations, filesystem_numbered, is_directory_at, mount_at, no_filesystem, node_at, with_mounts}
+use Rattle.vt_spec.specs.Machine.World.{Filesystem, World, all_locations, filesystem_numbered, is_directory_at, mount_at, node_at, with_mounts}
 use Rattle.vt_spec.specs.Machine.Invariants.{IsWorld, ListsNumbers, has_its_root}
 use Rattle.vt_spec.specs.Machine.Settled.{layers_in, named_in, objects_of_overlay, used_in}
 use Rattle.vt_spec.specs.Tree.{is_directory_node}
 use Rattle.vt_laws_worlds.specs.Worlds.Kept.{IsUnderWay}
 use Rattle.vt_laws_worlds.proofs.RaisedInUse.{worlds_are_in_use}
 use Rattle.vt_laws_worlds.proofs.worlds.Roots.{directory_there}
-use Rattle.vt_world.specs.Held.{HasOwnInodes, IsHeld}
+use Rattle.vt_world.specs.Held.{HasOwnInodes, HasOwnNodes, IsHeld}
 use Rattle.vt_detach.specs.Uses.{inode_of, unused_entry}
 use Rattle.vt_world.specs.WorldValue.{WorldValue, overlays_seen, world_of}
-use Rattle.vt_detach.proofs.FilesSeen.{seen_in}
+use Rattle.vt_detach.proofs.NodesFound.{node_at_home, own_together}
+use Rattle.vt_detach.proofs.Overlaid.{plain_one_among}
 use Rattle.vt_attach.specs.Planned.{Point, is_small, points_left, points_taken, with_points}
 use Rattle.vt_attach.specs.PlannedUses.{point_seen}
-use Rattle.vt_attach.specs.Room.{has_small_slots}
+use Rattle.vt_attach.specs.Room.{has_small_nodes}
 use Rattle.vt_attach.proofs.AddedUses.{IsFoundIn, gained_by, mounts_are_gained}
 use Rattle.vt_attach.proofs.AttachedWorlds.{new_found, new_uses_there, there_in}
 use Rattle.vt_mount.proofs.EnteringLemmas.{mounts_entered}
@@ -97,30 +97,28 @@ none_let_go after is (inode ∷ lost) there =
 
 -- The inode at a mount point of code is the definitions'
 
-point_shown : (world : World ℕ) (base : Filesystems) → All HasOwnInodes base → world.filesystems
-    ≡ filesystems_seen base
-    → (point : Location)
+point_shown : (world : World ℕ) → All HasOwnNodes world.filesystems → (point : Location)
     → is_small point ≡ true → is_directory_at nat_eq world (location_of point) ≡ true
     → (mount_at nat_eq world (location_of point)).filesystem ≡ counted point.node.filesystem.count
-point_shown world base own files point small directory =
-    let seen = seen_in base own (mount_at nat_eq world (location_of point)).filesystem (number_of point.node)
-    (subst (λ all. is_some ((unwrap_or
-    (find (λ (f : Filesystem ℕ). nat_eq (mount_at nat_eq world (location_of point)).filesystem f.number) all)
-    (no_filesystem (mount_at nat_eq world (location_of point)).filesystem)).files.tree.node (number_of point.node))
-    ≡ true)
-    files (directory_there (node_at nat_eq world (location_of point)) directory)) in
-    seen.number_is
-    ∙ ap counted (own_count seen.entry.count point.node (small_parts point.node small).slot seen.own)
+point_shown world own point small directory =
+    node_at_home world own (mount_at nat_eq world (location_of point)).filesystem point.node small
+    (directory_there (node_at nat_eq world (location_of point)) directory)
 
 -- these filesystems, and the overlays of the code's world
 abbrev pub beside_overlays : WorldValue → Filesystems → List (Filesystem ℕ)
 beside_overlays value base = woven (filesystems_seen base) (overlays_seen value.overlays)
 
--- which has none yet
-pub only_these : (value : WorldValue) → IsHeld value → (base : Filesystems)
-    → beside_overlays value base ≡ filesystems_seen base
-only_these value whole base =
-    ap (λ overlays. woven (filesystems_seen base) (overlays_seen overlays)) whole.overlays.none_yet
+-- their inodes are their own
+pub own_beside : (value : WorldValue) → IsHeld value → (base : Filesystems) → All HasOwnInodes base
+    → All HasOwnNodes (beside_overlays value base)
+own_beside value whole base own =
+    own_together base own (overlays_seen value.overlays) whole.overlays.own_nodes
+
+-- and each of them is among both
+base_among : (value : WorldValue) → IsHeld value → (base : Filesystems) (entry : FilesystemEntry) → Among entry base
+    → Among (filesystem_seen entry) (beside_overlays value base)
+base_among value whole base entry m =
+    plain_one_among (record value { filesystems = base }) whole.overlays.merged entry m
 
 -- Mounts that come behind others, which get other mount points
 
@@ -220,7 +218,7 @@ module _ (value : WorldValue) (base : Filesystems) (master : ℕ → Option ℕ)
       (once : MovesOnce (mounts_in value.mounts) (map point_seen points)) (left : List Location)
       (left_are : map location_of left ≡ points_left points value.mounts) (left_small : list_all is_small left ≡ true)
       (taken_small : list_all is_small (points_taken points value.mounts) ≡ true)
-      (slots : list_all has_small_slots copies ≡ true)
+      (slots : list_all has_small_nodes copies ≡ true)
       (ascending : are_ascending (mounts_in value.mounts ++ map mount_of copies) ≡ true) where
     abbrev taken : List Location
     taken = points_taken points value.mounts
@@ -265,7 +263,7 @@ module _ (value : WorldValue) (base : Filesystems) (master : ℕ → Option ℕ)
     taken_inode point m =
         (λ i. come_as_after i (location_of point))
         ∙ (λ i. (
-          point_shown after base own (only_these value whole base) point (passes is_small taken taken_small point m)
+          point_shown after (own_beside value whole base own) point (passes is_small taken taken_small point m)
               (taken_directory point m) i,
           number_of point.node,
         ))
@@ -300,7 +298,7 @@ module _ (value : WorldValue) (base : Filesystems) (master : ℕ → Option ℕ)
     left_shown : (point : Location) → Among point left
         → (mount_at nat_eq middle (location_of point)).filesystem ≡ counted point.node.filesystem.count
     left_shown point m =
-        point_shown middle base own (only_these value whole base) point (passes is_small left left_small point m)
+        point_shown middle (own_beside value whole base own) point (passes is_small left left_small point m)
         (left_directory point m)
 
     left_inode : (point : Location) → Among point left → inode_at come (location_of point) ≡ inode_of point.node
@@ -352,8 +350,8 @@ module _ (value : WorldValue) (base : Filesystems) (master : ℕ → Option ℕ)
     -- each copy is found in the world that is left
     copies_found : (mount : Mount) → Among mount copies → IsFoundIn after mount
     copies_found = new_found after is_world
-        (map (changed_at points kinds) (mounts_in value.mounts)) copies refl slots base
-        (only_these value whole base) own
+        (map (changed_at points kinds) (mounts_in value.mounts)) copies refl slots
+        (own_beside value whole base own)
 
     found_come : (mount : Mount) → Among mount copies → IsFoundIn come mount
     found_come mount m = record {
@@ -417,8 +415,8 @@ module _ (value : WorldValue) (base : Filesystems) (master : ℕ → Option ℕ)
         || is_some ((inodes_seen entry).inode inode.1))
         (inodes_of_points taken) (gained_by copies)
         ∙ (λ i. taken_there i && new_uses_there after is_world
-        (map (changed_at points kinds) (mounts_in value.mounts)) copies refl slots base
-        (only_these value whole base) own entry m i)
+        (map (changed_at points kinds) (mounts_in value.mounts)) copies refl slots
+        (own_beside value whole base own) entry (base_among value whole base entry m) i)
       where
         taken_there : list_all (λ (inode : Inode). not (nat_eq (counted entry.count) inode.0)
             || is_some ((inodes_seen entry).inode inode.1)) (inodes_of_points taken) ≡ true
@@ -426,13 +424,14 @@ module _ (value : WorldValue) (base : Filesystems) (master : ℕ → Option ℕ)
             all_pass (λ (inode : Inode). not (nat_eq (counted entry.count) inode.0)
             || is_some ((inodes_seen entry).inode inode.1)) (inodes_of_points taken) (λ inode n.
             let from = among-from_map (λ (point : Location). inode_of point.node) taken inode n in
-            let shown = point_shown after base own (only_these value whole base) from.0
+            let shown = point_shown after (own_beside value whole base own) from.0
             (passes is_small taken taken_small from.0 from.1)
             (taken_directory from.0 from.1) in
             ap (λ (one : Inode). not (nat_eq (counted entry.count) one.0)
             || is_some ((inodes_seen entry).inode one.1)) from.2
             ∙ there_in after is_world (map (changed_at points kinds)
-            (mounts_in value.mounts)) copies refl slots base (only_these value whole base) own entry m from.0.node
+            (mounts_in value.mounts)) copies refl slots (own_beside value whole base own) entry
+            (base_among value whole base entry m) from.0.node
             (ap (λ number. is_directory_node
             ((filesystem_numbered nat_eq after number).files.tree.node (number_of from.0.node))) (sym shown)
             ∙ taken_directory from.0 from.1))

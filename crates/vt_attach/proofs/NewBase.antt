@@ -1,40 +1,42 @@
 -- A new filesystem stands beside the others before its mount comes: mount(2) of a tmpfs.
-use Rattle.std.proofs.Common.{◌≡◌, ◌⊎◌, refl, sym, ap, subst, ◌∙◌, inl, inr, ⊎_elim, ℕ, ◌<◌, ◌+◌, ◌*◌, nat_eq, eq-eqb, lt-ltb, nat_lt, true, false, cond, not, ◌&&◌, ◌||◌, List, [], ◌∷◌, ◌++◌, map, filter, find, flat_map, Option, Some, None, is_some, option_map, arith}
+use Rattle.std.proofs.Common.{◌≡◌, ◌⊎◌, refl, sym, ap, subst, ◌∙◌, inl, inr, ⊎_elim, ℕ, ◌<◌, ◌+◌, ◌*◌, nat_eq, eq-eqb, lt-ltb, nat_lt, Bool, true, false, cond, not, ◌&&◌, ◌||◌, List, [], ◌∷◌, ◌++◌, map, filter, find, flat_map, Option, Some, None, is_some, option_map, arith}
 use Rattle.std.specs.Prelude.{All, filter_map, option_to_list, unwrap_or}
-use Rattle.std.specs.List.{list_all}
-use Rattle.std.proofs.lemmas.Bool.{and_parts, ne_eqb}
+use Rattle.std.specs.List.{list_all, list_any}
+use Rattle.std.proofs.lemmas.Bool.{and_parts, le-ltb, ne_eqb}
+use Rattle.std.proofs.lemmas.List.Elements.{All-head, All-tail}
 use Rattle.std.proofs.lemmas.List.{map-append}
 use Rattle.std.proofs.lemmas.List.Folds.{list_all-append}
 use Rattle.vt_spec.specs.Language.Calls.{MountFlags, TaskName}
 use Rattle.vt_spec.specs.FileTree.{is_directory_under}
 use Rattle.vt_spec.specs.Lists.{Fresh, is_among, odds}
 use Rattle.vt_spec.specs.Machine.Attach.{attach, parts_of, receivers_of, takes_part}
-use Rattle.vt_spec.specs.Machine.Locked.{of_overlay}
+use Rattle.vt_spec.specs.Machine.Locked.{of_overlay, overlay_or}
 use Rattle.vt_spec.specs.Machine.Mounts as meant
 use Rattle.vt_spec.specs.Machine.Mounts.{Location, group_of, mount_in}
 use Rattle.vt_spec.specs.Machine.NewMounts.{mounted, new_mount, plain_filesystem}
 use Rattle.vt_spec.specs.Machine.Permits.Permit.{ToMountPlain}
 use Rattle.vt_spec.specs.Machine.Receives.{receivers, receives}
 use Rattle.vt_spec.specs.Machine.Settled.{has_layer_on, layers_in, located_in, named_in, objects_of_overlay, used_in}
-use Rattle.vt_spec.specs.Machine.World.{Filesystem, World, all_locations, filesystem_numbered, is_directory_at, is_overlay, layers_of, mount_at, new_plain, no_filesystem, root_attr}
-use Rattle.vt_spec.specs.Machine.Invariants.{IsWorld, has_its_root, is_located_well}
+use Rattle.vt_spec.specs.Machine.World.{Filesystem, Layer, Overlay, World, all_locations, filesystem_numbered, is_directory_at, is_overlay, layers_of, mount_at, new_plain, no_filesystem, root_attr}
+use Rattle.vt_spec.specs.Machine.Invariants.{IsWorld, has_its_root, is_located_well, is_plain_layer}
 use Rattle.vt_spec.specs.Tree.{is_directory_node}
 use Rattle.vt_laws_counts.specs.BesideOverlays.{OverlaysHaveNoUpper}
 use Rattle.vt_laws_counts.specs.Counted.{IsCounted}
-use Rattle.vt_laws_counts.specs.OverlaysStay.{layer_count}
+use Rattle.vt_laws_counts.specs.OverlaysStay.{layer_count, layers_among}
 use Rattle.vt_laws_counts.specs.Using.{is_on, is_outside, one_counted, places_of}
 use Rattle.vt_laws_counts.proofs.overlays.FilesystemUses.{new_tree_is_counted_beside_overlays, no_upper_is_in_any, plain_ones_use_nothing}
 use Rattle.vt_laws_counts.proofs.using.Exchanged.{uses_are_exchanged_beside_overlays}
 use Rattle.vt_laws_counts.proofs.using.MountRoots as Roots
 use Rattle.vt_laws_counts.proofs.using.MountRoots.{places_stand}
 use Rattle.vt_fs.specs.FilesystemsValue.{FilesystemEntry, Filesystems, IsNew, filesystem_seen, filesystems_seen, inodes_seen}
-use Rattle.vt_laws_letting_go.specs.Counts.{mounts_showing}
+use Rattle.vt_laws_letting_go.specs.Counts.{mounts_showing, times}
 use Rattle.vt_laws_letting_go.specs.InUse.{HasTrees, InodesInUse, is_inode_used}
+use Rattle.vt_laws_letting_go.proofs.sweeps.UpperUses.{times_append}
 use Rattle.vt_laws_letting_go.proofs.mounting.AttachedSwept.{new_mounts_of_trees_keep_all}
-use Rattle.vt_laws_letting_go.proofs.Lists.{Among, all_from_among, all_pass, among-append, among-append_left, among-append_right, among-filter_map, among-from_filter, among-from_filter_map, among-from_map, among_from_all, among_numbers, filter_alike, passes}
+use Rattle.vt_laws_letting_go.proofs.Lists.{Among, all_from_among, all_pass, among-append, among-append_left, among-append_right, among-filter_map, among-from_filter, among-from_filter_map, among-from_map, among_from_all, among_numbers, fails, filter_alike, none_passes, passes}
 use Rattle.vt_laws_letting_go.proofs.sweeps.OfWorlds.{found_filesystem, mounts_of_worlds_stand, worlds_have_trees}
 use Rattle.vt_laws_letting_go.proofs.leaving.PlacesLeft.{found_itself}
-use Rattle.vt_laws_overlays_stay.specs.Woven.{are_rising}
+use Rattle.vt_laws_overlays_stay.specs.Woven.{are_rising, put_in, woven}
 use Rattle.vt_location.specs.Numbers.{counted, inode_number}
 use Rattle.vt_mount.specs.MountsValue.{mounts_in}
 use Rattle.vt_laws_runs.specs.Handed.{handed_from}
@@ -45,13 +47,13 @@ use Rattle.vt_world.specs.Held.{CountsItsMounts, IsHeld}
 use Rattle.vt_world.specs.WorldValue.{WorldValue, overlays_seen, world_of}
 use Rattle.vt_detach.proofs.FileEvents.{permit_fits}
 use Rattle.vt_detach.proofs.BesideOverlays.{layers_alike}
-use Rattle.vt_detach.proofs.FilesSeen.{seen_in}
 use Rattle.vt_detach.proofs.LookLemmas.{turned}
-use Rattle.vt_detach.proofs.Overlaid.{found_plain_one, only_plain_ones, overlays_are, there_as_kept}
+use Rattle.vt_detach.proofs.Overlaid.{found_plain_one}
+use Rattle.vt_detach.proofs.PlainFound.{overlay_among}
 use Rattle.vt_attach.proofs.AttachedCounts.{times_none}
 use Rattle.vt_attach.proofs.GraftedDone.{IsBase, with_base}
-use Rattle.vt_attach.proofs.GraftedUses.{beside_overlays, only_these}
-use Rattle.vt_attach.proofs.NewFilesystems.{all_own, filesystem_counted}
+use Rattle.vt_attach.proofs.GraftedUses.{beside_overlays}
+use Rattle.vt_attach.proofs.NewFilesystems.{all_own, filesystem_counted, found_below, number_below}
 use Rattle.vt_attach.proofs.TakingNumbers.{TakesNumbers, left_is_world}
 
 -- the destination is there
@@ -94,6 +96,28 @@ rising_last (first ∷ rest) added rising lower =
     λ i. (list_all-append (λ (f : Filesystem ℕ). nat_lt first.number f.number) rest (added ∷ [])
     ∙ (λ j. parts.0 j && (low.0 j && true))) i
     && rising_last rest added parts.1 low.1 i
+
+-- and behind those that are woven it is woven
+put_before : (overlay added : Filesystem ℕ) → nat_lt added.number overlay.number ≡ false
+    → (filesystems : List (Filesystem ℕ))
+    → put_in overlay (filesystems ++ added ∷ []) ≡ put_in overlay filesystems ++ added ∷ []
+put_before overlay added above [] = ap (λ b. cond b (added ∷ overlay ∷ []) (overlay ∷ added ∷ [])) above
+put_before overlay added above (first ∷ rest) =
+    by (nat_lt first.number overlay.number) (put_before overlay added above rest)
+  where
+    by : (b : Bool) → put_in overlay (rest ++ added ∷ []) ≡ put_in overlay rest ++ added ∷ []
+        → cond b (first ∷ put_in overlay (rest ++ added ∷ [])) (overlay ∷ first ∷ (rest ++ added ∷ []))
+        ≡ cond b (first ∷ put_in overlay rest) (overlay ∷ first ∷ rest) ++ added ∷ []
+    by true later = ap (λ list. first ∷ list) later
+    by false later = refl
+
+woven_last : (plain overlays : List (Filesystem ℕ)) (added : Filesystem ℕ)
+    → ((overlay : Filesystem ℕ) → Among overlay overlays → nat_lt added.number overlay.number ≡ false)
+    → woven (plain ++ added ∷ []) overlays ≡ woven plain overlays ++ added ∷ []
+woven_last plain [] added above = refl
+woven_last plain (overlay ∷ rest) added above =
+    ap (put_in overlay) (woven_last plain rest added (λ other m. above other (inr m)))
+    ∙ put_before overlay added (above overlay (inl refl)) (woven plain rest)
 
 module _ (value : WorldValue) (whole : IsHeld value) (name : TaskName) (place : Location ℕ) (flags : MountFlags)
     (permits : Permits value name (ToMountPlain place flags)) where
@@ -147,12 +171,9 @@ module _ (value : WorldValue) (whole : IsHeld value) (name : TaskName) (place : 
       → nat_eq (counted value.next) other.filesystem ≡ false
   others_elsewhere other m =
       let root = (and_parts _ _ (passes (has_its_root nat_eq world) world.mounts whole.in_world.roots other m)).0 in
-      let seen = seen_in value.filesystems whole.own_inodes other.filesystem other.root
-      (there_as_kept value whole other.filesystem other.root
-      (directory_there ((filesystem_numbered nat_eq world other.filesystem).files.tree.node other.root) root)) in
-      let low = filesystem_counted value whole seen.entry seen.among in
-      let is = seen.number_is in
-      ne_eqb (counted value.next) other.filesystem (λ same. absurd (omega (arith, low, is, same)))
+      let low = found_below value whole other.filesystem other.root
+      (directory_there ((filesystem_numbered nat_eq world other.filesystem).files.tree.node other.root) root) in
+      ne_eqb (counted value.next) other.filesystem (λ same. absurd (omega (arith, low, same)))
 
   all_stand : list_all (is_on (mounts_in value.mounts)) (all_locations world ++ places_of (mounts_in value.mounts))
       ≡ true
@@ -268,10 +289,12 @@ module _ (value : WorldValue) (whole : IsHeld value) (name : TaskName) (place : 
 
     seen_base : beside_overlays value (value.filesystems ++ entry ∷ []) ≡ world.filesystems ++ added ∷ []
     seen_base =
-        only_these value whole (value.filesystems ++ entry ∷ [])
-        ∙ map-append filesystem_seen value.filesystems (entry ∷ [])
-        ∙ ap (λ filesystem. filesystems_seen value.filesystems ++ filesystem ∷ []) is_new.seen
-        ∙ ap (λ list. list ++ added ∷ []) (sym (only_plain_ones value whole))
+        ap (λ list. woven list (overlays_seen value.overlays))
+        (map-append filesystem_seen value.filesystems (entry ∷ [])
+        ∙ ap (λ filesystem. filesystems_seen value.filesystems ++ filesystem ∷ []) is_new.seen)
+        ∙ woven_last (filesystems_seen value.filesystems) (overlays_seen value.overlays) added (λ overlay m.
+        let low = number_below value whole overlay (overlay_among value whole.overlays overlay m).0 in
+        le-ltb added.number overlay.number (omega (arith, low)))
 
     pub base_is : middle ≡ with_base value (value.filesystems ++ entry ∷ [])
     base_is = λ i. record (world_of value) { filesystems = sym seen_base i }
@@ -300,11 +323,30 @@ module _ (value : WorldValue) (whole : IsHeld value) (name : TaskName) (place : 
     -- no overlay has a layer in the new one
     no_layer : All (λ merged. has_layer_on nat_eq (counted value.next) merged ≡ false) middle.filesystems
     no_layer =
-        subst (All (λ merged. has_layer_on nat_eq (counted value.next) merged ≡ false))
-        (sym (only_these value whole base) ∙ seen_base)
-        (all_from_among (λ merged. has_layer_on nat_eq (counted value.next) merged ≡ false)
-        (filesystems_seen base)
-        (λ f m. ap (has_layer_on nat_eq (counted value.next)) (among-from_map filesystem_seen base f m).2))
+        all_from_among (λ merged. has_layer_on nat_eq (counted value.next) merged ≡ false) middle.filesystems (λ f m.
+        ⊎_elim
+        (λ old. none_by f.overlay (passes (of_overlay true (λ overlay. list_all (is_plain_layer nat_eq world)
+        (layers_of overlay))) world.filesystems whole.in_world.overlays.plain_layers f old))
+        (λ last. ⊎_elim (λ same. ap (has_layer_on nat_eq (counted value.next)) same) (λ none. absurd none) last)
+        (among-append world.filesystems (added ∷ []) f m))
+      where
+        layers_elsewhere : (layers : List (Layer ℕ)) → list_all (is_plain_layer nat_eq world) layers ≡ true
+            → list_any (λ (layer : Layer ℕ). nat_eq (counted value.next) layer.filesystem) layers ≡ false
+        layers_elsewhere layers plain =
+            none_passes (λ (layer : Layer ℕ). nat_eq (counted value.next) layer.filesystem) layers (λ layer m.
+            let low = found_below value whole layer.filesystem layer.directory
+            (directory_there ((filesystem_numbered nat_eq world layer.filesystem).files.tree.node layer.directory)
+            (and_parts (not (is_overlay (filesystem_numbered nat_eq world layer.filesystem)))
+            (is_directory_node ((filesystem_numbered nat_eq world layer.filesystem).files.tree.node layer.directory))
+            (passes (is_plain_layer nat_eq world) layers plain layer m)).1) in
+            ne_eqb (counted value.next) layer.filesystem (λ same. absurd (omega (arith, low, same))))
+
+        none_by : (o : Option (Overlay ℕ))
+            → overlay_or true (λ overlay. list_all (is_plain_layer nat_eq world) (layers_of overlay)) o ≡ true
+            → overlay_or false (λ overlay. list_any (λ layer. nat_eq (counted value.next) layer.filesystem)
+            (layers_of overlay)) o ≡ false
+        none_by None plain = refl
+        none_by (Some overlay) plain = layers_elsewhere (layers_of overlay) plain
 
     -- nor in any other
     base_overlays : filter is_overlay (with_base value (value.filesystems ++ entry ∷ [])).filesystems
@@ -313,20 +355,35 @@ module _ (value : WorldValue) (whole : IsHeld value) (name : TaskName) (place : 
 
     none_layered : layer_count (with_base value (value.filesystems ++ entry ∷ [])) (counted value.next) ≡ 0
     none_layered =
-        layers_alike (record (world_of value) { filesystems = [] })
-        (with_base value (value.filesystems ++ entry ∷ [])) (base_overlays ∙ overlays_are value whole.overlays
-        ∙ ap overlays_seen whole.overlays.none_yet) (counted value.next)
+        ap (λ list. layers_among (counted value.next) list) seen_base
+        ∙ none_in middle.filesystems no_layer
+      where
+        none_of : (f : Filesystem ℕ) → has_layer_on nat_eq (counted value.next) f ≡ false → (o : Option (Overlay ℕ))
+            → f.overlay ≡ o
+            → times (λ (layer : Layer ℕ). nat_eq (counted value.next) layer.filesystem) (overlay_or [] layers_of o) ≡ 0
+        none_of f none None is = refl
+        none_of f none (Some overlay) is =
+            times_none (λ (layer : Layer ℕ). nat_eq (counted value.next) layer.filesystem) (layers_of overlay)
+            (fails (λ (layer : Layer ℕ). nat_eq (counted value.next) layer.filesystem) (layers_of overlay)
+            (ap (overlay_or false (λ other. list_any (λ (layer : Layer ℕ). nat_eq (counted value.next) layer.filesystem)
+            (layers_of other))) (sym is) ∙ none))
+
+        none_in : (list : List (Filesystem ℕ))
+            → All (λ merged. has_layer_on nat_eq (counted value.next) merged ≡ false) list
+            → layers_among (counted value.next) list ≡ 0
+        none_in [] all = refl
+        none_in (first ∷ rest) all =
+            times_append (λ (layer : Layer ℕ). nat_eq (counted value.next) layer.filesystem)
+            (of_overlay [] layers_of first) (flat_map (of_overlay [] layers_of) rest)
+            ∙ (λ i. none_of first (All-head (λ merged. has_layer_on nat_eq (counted value.next) merged ≡ false) first
+            rest all) first.overlay refl i
+            + none_in rest (All-tail (λ merged. has_layer_on nat_eq (counted value.next) merged ≡ false) first rest all) i)
 
     -- all others have lower numbers
     all_lower : list_all (λ (f : Filesystem ℕ). nat_lt f.number added.number) world.filesystems ≡ true
     all_lower =
-        subst (λ list. list_all (λ (f : Filesystem ℕ). nat_lt f.number (counted value.next)) list ≡ true)
-        (sym (only_plain_ones value whole))
-        (all_pass (λ (f : Filesystem ℕ). nat_lt f.number (counted value.next)) (filesystems_seen value.filesystems)
-        (λ f m. let from = among-from_map filesystem_seen value.filesystems f m in
-        let low = filesystem_counted value whole from.0 from.1 in
-        ap (λ (g : Filesystem ℕ). nat_lt g.number (counted value.next)) from.2
-        ∙ lt-ltb (counted from.0.count) (counted value.next) (omega (arith, low))))
+        all_pass (λ (f : Filesystem ℕ). nat_lt f.number (counted value.next)) world.filesystems
+        (λ f m. lt-ltb f.number (counted value.next) (number_below value whole f m))
 
     new_counted : IsCounted middle (filesystem_numbered nat_eq middle (counted entry.count)) (inodes_seen entry)
     new_counted =

@@ -1,12 +1,13 @@
 -- A filesystem that is new: one empty directory, with a number that no other has.
-use Rattle.std.proofs.Common.{◌≡◌, refl, sym, ap, subst, ◌∙◌, inl, inr, ⊎_elim, ℕ, ◌<◌, ◌%◌, ◌/◌, ◌==◌, nat_eq, eq-eqb, eqb-true, lt-ltb, nat_lt, Bool, true, false, true≢false, cond, not, ◌&&◌, ◌||◌, List, [], ◌∷◌, ◌++◌, map, flat_map, Some, None, arith}
+use Rattle.std.proofs.Common.{◌≡◌, refl, sym, ap, subst, ◌∙◌, inl, inr, ⊎_elim, ℕ, ◌<◌, ◌%◌, ◌/◌, ◌==◌, nat_eq, eq-eqb, eqb-true, lt-ltb, nat_lt, Bool, true, false, true≢false, cond, not, ◌&&◌, ◌||◌, List, [], ◌∷◌, ◌++◌, map, flat_map, Some, None, is_some, arith}
 use Rattle.std.specs.Prelude.{All}
 use Rattle.std.specs.List.{list_all}
 use Rattle.std.proofs.lemmas.Bool.{ltb-true, ne_eqb}
 use Rattle.vt_spec.proofs.Lists.{list_all_from_among}
 use Rattle.vt_spec.proofs.Truths.{and_true_left, and_true_right}
 use Rattle.vt_spec.specs.Machine.Run.{used_by_filesystem, used_by_mount}
-use Rattle.vt_spec.specs.Machine.World.{Namespace, root_attr}
+use Rattle.vt_spec.specs.Machine.World.{Filesystem, Namespace, filesystem_numbered, root_attr}
+use Rattle.vt_spec.specs.TreeInvariant.{IsTree}
 use Rattle.vt_spec.specs.Inodes.{Inodes}
 use Rattle.vt_laws_counts.specs.Using.{root_counted}
 use Rattle.vt_fs.specs.FilesystemsValue.{FilesystemEntry, Filesystems, IsNew, entry_of, filesystem_seen, inodes_seen, without}
@@ -15,8 +16,11 @@ use Rattle.vt_laws_letting_go.proofs.Lists.{Among, all_from_among, among-append,
 use Rattle.vt_location.specs.Numbers.{counted, inode_number, is_own_number}
 use Rattle.vt_location.proofs.NumberLemmas.{is_own}
 use Rattle.vt_laws_runs.specs.Handed.{is_counted_before}
-use Rattle.vt_world.specs.Held.{HasOwnInodes, IsHeld}
+use Rattle.vt_laws_trees.proofs.trees.TreesOfWorlds.{number_numbered, numbered_all}
+use Rattle.vt_laws_worlds.proofs.worlds.Roots.{directory_there}
+use Rattle.vt_world.specs.Held.{HasOwnInodes, HasOwnNodes, IsHeld}
 use Rattle.vt_world.specs.WorldValue.{WorldValue, world_of}
+use Rattle.vt_detach.proofs.NodesFound.{own_nodes}
 use Rattle.vt_detach.proofs.Overlaid.{plain_one_among}
 use Rattle.vt_detach.proofs.OwnInodesKept.{IsOwn}
 use Rattle.vt_laws_permits.proofs.in_use.InUseServes.{leaves_two}
@@ -33,17 +37,16 @@ counted_before next count is = by (counted count % 2 == 0) refl (counted count %
     by false e true false f g = absurd (true≢false (sym g))
     by false e false less f g = absurd (true≢false (sym g))
 
-pub filesystem_counted : (value : WorldValue) → IsHeld value → (entry : FilesystemEntry) → Among entry value.filesystems
-    → entry.count < value.next
-filesystem_counted value whole entry m =
-    counted_before value.next entry.count
-    (used_numbers_are_named (is_counted_before value.next) (world_of value) whole.given (leaves_two value.next)
-    (counted entry.count)
-    (is_among_numbers (counted entry.count) (mounts_used ++ files_used ++ namespaces_used)
-    (among-append_left (mounts_used ++ files_used) namespaces_used (counted entry.count)
-    (among-append_right mounts_used files_used (counted entry.count)
-    (among-flat_map used_by_filesystem (world_of value).filesystems (filesystem_seen entry) (counted entry.count)
-    (plain_one_among value whole.overlays.merged entry m) (inl refl))))))
+-- the number of each filesystem was counted
+number_named : (value : WorldValue) → IsHeld value → (filesystem : Filesystem ℕ)
+    → Among filesystem (world_of value).filesystems → is_counted_before value.next filesystem.number ≡ true
+number_named value whole filesystem m =
+    used_numbers_are_named (is_counted_before value.next) (world_of value) whole.given (leaves_two value.next)
+    filesystem.number
+    (is_among_numbers filesystem.number (mounts_used ++ files_used ++ namespaces_used)
+    (among-append_left (mounts_used ++ files_used) namespaces_used filesystem.number
+    (among-append_right mounts_used files_used filesystem.number
+    (among-flat_map used_by_filesystem (world_of value).filesystems filesystem filesystem.number m (inl refl)))))
   where
     mounts_used : List ℕ
     mounts_used = flat_map used_by_mount (world_of value).mounts
@@ -53,6 +56,40 @@ filesystem_counted value whole entry m =
 
     namespaces_used : List ℕ
     namespaces_used = map (λ (namespace : Namespace ℕ). namespace.number) (world_of value).namespaces
+
+pub filesystem_counted : (value : WorldValue) → IsHeld value → (entry : FilesystemEntry) → Among entry value.filesystems
+    → entry.count < value.next
+filesystem_counted value whole entry m =
+    counted_before value.next entry.count
+    (number_named value whole (filesystem_seen entry) (plain_one_among value whole.overlays.merged entry m))
+
+-- so it is below that of the next one
+pub number_below : (value : WorldValue) → IsHeld value → (filesystem : Filesystem ℕ)
+    → Among filesystem (world_of value).filesystems → filesystem.number < counted value.next
+number_below value whole filesystem m =
+    let root = among_from_all HasOwnNodes (world_of value).filesystems (own_nodes value whole) filesystem m
+    filesystem.files.tree.root
+    (directory_there (filesystem.files.tree.node filesystem.files.tree.root)
+    (among_from_all (λ (f : Filesystem ℕ). IsTree f.files.tree) (world_of value).filesystems
+    whole.in_world.files.trees filesystem m).root_directory) in
+    let number = root.2 in
+    let low = counted_before value.next root.0.filesystem.count
+    (ap (is_counted_before value.next) (sym root.2) ∙ number_named value whole filesystem m) in
+    omega (arith, number, low)
+
+-- that of one in which something is found, too
+pub found_below : (value : WorldValue) → IsHeld value → (number inode : ℕ)
+    → is_some ((filesystem_numbered nat_eq (world_of value) number).files.tree.node inode) ≡ true
+    → number < counted value.next
+found_below value whole number inode there =
+    let found = ⊎_elim (λ low. low)
+    (λ missing. absurd (true≢false (sym there
+    ∙ ap (λ (f : Filesystem ℕ). is_some (f.files.tree.node inode)) missing.0)))
+    (numbered_all (λ (f : Filesystem ℕ). f.number < counted value.next) number (world_of value).filesystems
+    (all_from_among (λ (f : Filesystem ℕ). f.number < counted value.next) (world_of value).filesystems
+    (number_below value whole))) in
+    let same = number_numbered number (world_of value).filesystems in
+    omega (arith, found, same)
 
 none_of : (filesystems : Filesystems) (count : ℕ)
     → ((entry : FilesystemEntry) → Among entry filesystems → entry.count < count)

@@ -241,13 +241,14 @@ module _ (entry : FilesystemEntry) (counts : entry.count ≡ 2)
           read_only = All-cons (λ (filesystem : Filesystem ℕ).
               of_overlay false (λ overlay. is_some overlay.upper) filesystem ≡ false) (filesystem_seen entry) [] refl
               (All-nil _);
+          writers = refl;
           named = All-cons (λ (filesystem : Filesystem ℕ). is_overlay filesystem ≡ true
               → has_only_named filesystem ≡ true) (filesystem_seen entry) []
               (λ e. absurd (true≢false (sym e))) (All-nil _);
           overlays_rise = refl;
           all_rise = refl;
           mounts = All-nil _;
-          none_yet = refl;
+          own_nodes = All-nil _;
         };
         namespaces = subst (λ world. All (CountsWhatIsInIt world) first_namespace_entries) (sym first_world)
             (All-cons (CountsWhatIsInIt (opening nat_eq opening_numbers)) _ [] (record { tasks = refl }) (All-nil _));

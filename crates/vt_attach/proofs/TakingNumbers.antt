@@ -16,12 +16,14 @@ use Rattle.vt_laws_one_text.proofs.same.SameNumbers.{any_same_worlds_keep_to_num
 use Rattle.vt_laws_one_text.proofs.same.SameWhole.{any_same_worlds_are_worlds}
 use Rattle.vt_laws_overlays_stay.proofs.left.Given.{given_permits_give_no_upper}
 use Rattle.vt_laws_runs.specs.Handed.{is_counted_before}
+use Rattle.vt_laws_overlays_read.proofs.writers.Swept.{same_worlds_have_layers_alike}
+use Rattle.vt_detach.proofs.Writers.{left_writers}
 use Rattle.vt_detach.specs.Events.{left_by, supply_of}
 use Rattle.vt_world.specs.Held.{CountsItsMounts, HasOwnInodes, IsHeld}
 use Rattle.vt_world.specs.WorldValue.{WorldValue, overlays_seen, world_of}
 use Rattle.vt_attach.proofs.NumbersByParts.{unshares_keep_to_numbers}
 use Rattle.vt_detach.proofs.Finishing.{CountsBeside}
-use Rattle.vt_detach.proofs.Overlaid.{none_still, overlays_hold_still, same_files_rise}
+use Rattle.vt_detach.proofs.Overlaid.{overlays_hold_still, same_files_rise}
 use Rattle.vt_detach.proofs.OwnInodesKept.{IsOwn}
 use Rattle.vt_detach.proofs.Showing.{ShowsAs, shown_has, shown_is_counted, shown_is_same}
 use Rattle.vt_detach.proofs.Staying.{IsDone, becomes_so}
@@ -62,11 +64,12 @@ module _ (value : WorldValue) (whole : IsHeld value) (name : TaskName) (permit :
             inodes = shown_is_counted (left_by value task permit) new shows left_is_world.0 entry m world;
           });
           own_inodes = all_from_among HasOwnInodes new.filesystems own;
-          overlays = overlays_hold_still value new whole.overlays (none_still value new whole same_overlays)
-              same_overlays
+          overlays = overlays_hold_still value new whole.overlays same_overlays
               (same_files_rise (left_by value task permit).filesystems (world_of new).filesystems same.filesystems
               shows.rise)
-              counts.overlays;
+              counts.overlays
+              (same_worlds_have_layers_alike (left_by value task permit) (world_of new) same
+              (left_writers value whole task permit takes.given));
           namespaces = counts.namespaces;
         };
         becomes = becomes_so value name permit new task takes.called same;

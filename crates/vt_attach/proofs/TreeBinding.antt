@@ -1,5 +1,5 @@
 -- The mounts of a tree that a bind copies: what code makes of them is the policy's tree.
-use Rattle.std.proofs.Common.{◌≡◌, ◌<◌, refl, sym, ap, subst, ◌∙◌, ⊎_elim, inl, inr, ℕ, nat_eq, eq-eqb, Bool, true, false, true≢false, cond, length, List, [], ◌∷◌, map, find, Some, option_map}
+use Rattle.std.proofs.Common.{◌≡◌, refl, sym, ap, subst, ◌∙◌, ⊎_elim, inl, inr, ℕ, nat_eq, eq-eqb, Bool, true, false, true≢false, cond, length, List, [], ◌∷◌, map, find, Some, option_map}
 use Rattle.std.specs.Prelude.{filter, flat_map}
 use Rattle.std.specs.List.{cons_option}
 use Rattle.std.proofs.lemmas.Bool.{and_parts}
@@ -7,7 +7,7 @@ use Rattle.vt_laws_letting_go.proofs.Lists.{Among}
 use Rattle.vt_laws_letting_go.proofs.leaving.PlacesLeft.{number_found}
 use Rattle.vt_location.specs.declared.locations.Location.{Location as Place}
 use Rattle.vt_location.specs.declared.numbers.MountId.{MountId}
-use Rattle.vt_location.specs.Locations.{location_of, number_of}
+use Rattle.vt_location.specs.Locations.{is_small_node, location_of, number_of}
 use Rattle.vt_location.specs.Numbers.{counted}
 use Rattle.vt_mount.specs.MountsValue.{are_ascending, mounts_in}
 use Rattle.vt_laws_mounts.proofs.attached.BindsStand.{bind_there_or_source}
@@ -20,7 +20,7 @@ use Rattle.vt_attach.specs.BoundMounts.{bound_mounts, rooted_at}
 use Rattle.vt_mount.specs.Attached.{AreOf}
 use Rattle.vt_world.specs.Held.{IsHeld}
 use Rattle.vt_world.specs.WorldValue.{WorldValue, world_of}
-use Rattle.vt_detach.proofs.FilesSeen.{IsLocated, located}
+use Rattle.vt_detach.proofs.LocationsSeen.{seen_where_located}
 use Rattle.vt_attach.proofs.Binding.{found_some}
 use Rattle.vt_attach.proofs.CopiesAscend.{differs}
 use Rattle.vt_mount.proofs.AttachedLemmas.{ascending_found, picked}
@@ -28,7 +28,7 @@ use Rattle.vt_laws_worlds.proofs.worlds.FitPermits.{some_of}
 use Rattle.vt_laws_mounts.specs.Mounts.Attaching.{OneNumberAMount}
 
 module _ (value : WorldValue) (whole : IsHeld value) (source : Place) (recursive : Bool)
-    (small : source.node.slot < 18446744073709551616)
+    (small : is_small_node source.node ≡ true)
     (there : is_located_well nat_eq (world_of value) (location_of source) ≡ true) where
   abbrev world : World ℕ
   world = world_of value
@@ -76,9 +76,6 @@ module _ (value : WorldValue) (whole : IsHeld value) (source : Place) (recursive
       (λ later. later)
       (bind_there_or_source world (location_of source) recursive mount (subst (Among mount) (sym tree_is) (inr m)))
 
-  source_seen : IsLocated value source
-  source_seen = located value whole source small there
-
   source_found : find (λ (mount : Mount ℕ). nat_eq (counted source.mount.count) mount.number) mounts_now
       ≡ Some (mount_at nat_eq world (location_of source))
   source_found =
@@ -91,7 +88,7 @@ module _ (value : WorldValue) (whole : IsHeld value) (source : Place) (recursive
       ap (λ b. cond b (record (mount_at nat_eq world
       (location_of source)) { filesystem = counted source.node.filesystem.count; root = number_of source.node })
       (mount_at nat_eq world (location_of source))) (eq-eqb top.number (counted source.mount.count) top_number)
-      ∙ (λ i. record top { filesystem = sym (source_seen.shows ∙ ap counted source_seen.count_is) i })
+      ∙ (λ i. record top { filesystem = sym (seen_where_located value whole source small there) i })
 
   below_rooted : (mount : Mount ℕ) → Among mount rest → rooted_at source mount ≡ mount
   below_rooted mount m =

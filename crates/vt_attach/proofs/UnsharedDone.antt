@@ -29,6 +29,8 @@ use Rattle.vt_laws_runs.specs.Handed.{counts_from, is_counted_before}
 use Rattle.vt_tasks.specs.TasksValue.{Tasks}
 use Rattle.vt_mount.specs.Attached.{attached_in}
 use Rattle.vt_attach.specs.Copying.{copies_of}
+use Rattle.vt_laws_overlays_read.specs.Writers.{WritersHaveLayers}
+use Rattle.vt_detach.proofs.Writers.{left_writers}
 use Rattle.vt_detach.specs.Events.{Permits, left_by}
 use Rattle.vt_world.specs.Held.{CountsWhatIsInIt, IsHeld}
 use Rattle.vt_detach.specs.NamespacesLeft.{MountsAreLeft, namespace_entry, numbers_inside, with_one_task_less}
@@ -278,7 +280,8 @@ module _ (value : WorldValue) (whole : IsHeld value) (name : TaskName) (permits 
         subst (λ mounts. IsDone value name ToUnshare (record new { mounts = mounts })) (sym ended_is_left.typed)
         (record {
           held = swept_held value whole typed_ended world_left (gained_by copies) ended_is_left.reached.lost typed_new
-              typed_swept typed_has typed_counts keeps_numbers;
+              typed_swept typed_has typed_counts keeps_numbers
+              (subst WritersHaveLayers typed_left (left_writers value whole task ToUnshare takes.given));
           becomes = becomes_so value name ToUnshare typed_new task permits.called
               (subst (λ w. SameWorlds w (world_of typed_new)) (sym typed_left) settled_same);
         })

@@ -2,7 +2,7 @@
 use Rattle.std.proofs.Common.{◌≡◌, ◌<◌, refl, sym, ap, subst, ◌∙◌, inl, inr, ℕ, nat_eq, eqb-true, Bool, true, false, not, ◌&&◌, ◌||◌, List, [], ◌∷◌, ◌++◌, map, Option, Some, None, option_map, is_some}
 use Rattle.std.specs.Prelude.{nat_lt}
 use Rattle.std.specs.List.{list_all}
-use Rattle.std.proofs.lemmas.Bool.{and_parts, ltb-true}
+use Rattle.std.proofs.lemmas.Bool.{and_parts}
 use Rattle.std.proofs.lemmas.Option.{same_Some}
 use Rattle.vt_spec.specs.Language.Calls.{TaskName}
 use Rattle.vt_spec.specs.Lists.{Fresh, holds_of}
@@ -23,28 +23,27 @@ use Rattle.vt_laws_letting_go.proofs.leaving.PlacesLeft.{found_itself}
 use Rattle.vt_location.specs.declared.locations.Location.{Location}
 use Rattle.vt_location.specs.declared.locations.NodeRef.{NodeRef}
 use Rattle.vt_location.specs.declared.mounts.Mount.{Mount}
-use Rattle.vt_location.specs.Locations.{location_of, number_of}
+use Rattle.vt_location.specs.Locations.{is_small_node, location_of, number_of}
 use Rattle.vt_location.specs.MountValue.{mount_of}
 use Rattle.vt_location.specs.Numbers.{counted}
-use Rattle.vt_location.proofs.NodeLemmas.{own_count}
 use Rattle.vt_laws_mounts.proofs.namespaces.Unsharing.{parent_of}
 use Rattle.vt_laws_worlds.proofs.worlds.Roots.{directory_there}
 use Rattle.vt_detach.proofs.Detached.{inodes_of_point}
 use Rattle.vt_world.specs.Held.{IsHeld}
-use Rattle.vt_attach.specs.Room.{has_small_slots, point_is_small}
+use Rattle.vt_attach.specs.Room.{has_small_nodes, point_is_small}
 use Rattle.vt_world.specs.WorldValue.{WorldValue, world_of}
 use Rattle.vt_attach.proofs.AddedBegins.{nothing_moves, with_added}
 use Rattle.vt_attach.proofs.AddedUses.{IsFoundIn, gained_by, gained_uses}
-use Rattle.vt_detach.proofs.FilesSeen.{seen_in}
 use Rattle.vt_detach.proofs.MidwayBegins.{point_is_located}
-use Rattle.vt_detach.proofs.Overlaid.{found_plain_one, there_as_kept}
+use Rattle.vt_detach.proofs.NodesFound.{at_home}
+use Rattle.vt_detach.proofs.Overlaid.{found_plain_one}
 use Rattle.vt_attach.proofs.UnsharedTasks.{added, copied, copy, copy_is, from_spec, new_namespace, one_number, tasks_moved, to_spec}
 
 module _ (value : WorldValue) (whole : IsHeld value) (name : TaskName) (task : Task ℕ)
     (found : task_called (world_of value) name ≡ Some task)
     (fresh : Fresh ℕ) (serves : Serves nat_eq (world_of value) fresh)
     (copies : List Mount) (same : map mount_of copies ≡ added value whole name task found fresh serves)
-    (slots : list_all has_small_slots copies ≡ true) where
+    (slots : list_all has_small_nodes copies ≡ true) where
   abbrev world : World ℕ
   world = world_of value
 
@@ -95,7 +94,7 @@ module _ (value : WorldValue) (whole : IsHeld value) (name : TaskName) (task : T
   point_is : (x : meant.Mount ℕ) → Among x originals → (o : Option (meant.Location ℕ)) → x.mount_point ≡ o
       → (point : Location)
       → Some (location_of point) ≡ option_map (location_on_copy number_of_copy) o
-      → point.node.slot < 18446744073709551616 → IsPointOf point
+      → is_small_node point.node ≡ true → IsPointOf point
   point_is x m None e point at small = absurd cc
   point_is x m (Some place) e point at small =
       let was = was_there x m in
@@ -121,11 +120,8 @@ module _ (value : WorldValue) (whole : IsHeld value) (name : TaskName) (task : T
       let there : is_there nat_eq world (mount_at nat_eq world place).filesystem (number_of point.node) ≡ true =
       ap (λ (l : meant.Location ℕ). is_there nat_eq world (mount_at nat_eq world place).filesystem l.node) is
       ∙ (and_parts _ _ well).1 in
-      let seen = seen_in value.filesystems whole.own_inodes (mount_at nat_eq world place).filesystem
-      (number_of point.node)
-      (there_as_kept value whole (mount_at nat_eq world place).filesystem (number_of point.node) there) in
       let shown_in : (mount_at nat_eq world place).filesystem ≡ counted point.node.filesystem.count =
-      seen.number_is ∙ ap counted (own_count seen.entry.count point.node small seen.own) in
+      at_home value whole (mount_at nat_eq world place).filesystem point.node small there in
       record {
         shown = through ∙ shown_in;
         there = ap (λ f. is_there nat_eq world f (number_of point.node)) (sym shown_in) ∙ there;
@@ -137,9 +133,8 @@ module _ (value : WorldValue) (whole : IsHeld value) (name : TaskName) (task : T
       let from = original mount m in
       point_is from.0 from.1 from.0.mount_point refl point
       (sym (ap (option_map location_of) e) ∙ ap (λ (x : meant.Mount ℕ). x.mount_point) from.2)
-      (ltb-true point.node.slot 18446744073709551616
       (subst (λ o. point_is_small o ≡ true) e
-      (and_parts (nat_lt mount.root.slot 18446744073709551616) _ (passes has_small_slots copies slots mount m)).1))
+      (and_parts (is_small_node mount.root) _ (passes has_small_nodes copies slots mount m)).1)
 
   copy_found : (mount : Mount) → Among mount copies → IsFoundIn base mount
   copy_found mount m = record {

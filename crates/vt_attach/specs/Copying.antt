@@ -12,7 +12,7 @@ use Rattle.vt_laws_runs.specs.Handed.{counts_from}
 use Rattle.vt_spec.specs.Lists.{odds}
 use Rattle.vt_spec.specs.Machine.Mounts.{Location, Mount, numbers_by}
 use Rattle.vt_spec.specs.Machine.Namespaces.{copied_mount, moved_location}
-use Rattle.vt_attach.specs.Room.{has_small_slots}
+use Rattle.vt_attach.specs.Room.{has_small_nodes}
 use Rattle.vt_detach.specs.Uses.{Kept, with_attached}
 
 -- the numbers of copies, which are counted with their namespace from the next count on; and the copies
@@ -30,7 +30,7 @@ pub record CopiesAttached (next namespace : ℕ) (old : Kept) (before : Grouping
     : Type 0 where
   pub added : List Attached
   pub copied : map mount_of added ≡ copies_of next (attached_in namespace old.mounts)
-  pub slots : list_all has_small_slots added ≡ true
+  pub slots : list_all has_small_nodes added ≡ true
   pub attached : new ≡ with_attached added old
   pub grows : GrowsTo before now (map typed added) []
 

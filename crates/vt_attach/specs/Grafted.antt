@@ -19,7 +19,7 @@ use Rattle.vt_spec.specs.Machine.Attach.{parts_of}
 use Rattle.vt_spec.specs.Machine.World.{World}
 use Rattle.vt_attach.specs.Planned.{Point, is_small, points_left, points_taken, with_planned}
 use Rattle.vt_attach.specs.PlannedUses.{point_seen}
-use Rattle.vt_attach.specs.Room.{has_small_slots}
+use Rattle.vt_attach.specs.Room.{has_small_nodes}
 use Rattle.vt_detach.specs.Uses.{Kept}
 use Rattle.vt_laws_mounts.specs.Mounts.Attaching.{OneNumberAMount}
 
@@ -48,5 +48,5 @@ pub record IsGrafted (graft : Graft) (counts : Counts) (old : Kept) (before : Gr
   pub left_small : list_all is_small left ≡ true
   pub done : new ≡ with_planned copies points left old
   pub grows : GrowsTo before now (map typed copies) (map new_group groups)
-  pub slots : list_all has_small_slots copies ≡ true
+  pub slots : list_all has_small_nodes copies ≡ true
   pub taken_small : list_all is_small (points_taken points old.mounts) ≡ true

@@ -22,7 +22,7 @@ use Rattle.vt_spec.specs.Machine.Mounts.{Propagation}
 use Rattle.vt_spec.specs.Machine.World.{World}
 use Rattle.vt_attach.specs.Planned.{Point, is_small, points_left, points_taken, with_planned}
 use Rattle.vt_attach.specs.PlannedUses.{point_seen}
-use Rattle.vt_attach.specs.Room.{has_small_slots}
+use Rattle.vt_attach.specs.Room.{has_small_nodes}
 use Rattle.vt_detach.specs.Uses.{Kept}
 use Rattle.vt_laws_mounts.specs.Mounts.Attaching.{OneNumberAMount}
 
@@ -72,5 +72,5 @@ pub record IsMovedBy (graft : Graft) (counts : Counts) (old : Kept) (before : Gr
       ≡ with_types (map typed copies)
       (with_planned (drop (length graft.tree.now) copies) (pushed ++ top_point graft) left old)
   pub grows : GrowsTo before now (map typed copies) (map new_group groups)
-  pub slots : list_all has_small_slots (drop (length graft.tree.now) copies) ≡ true
+  pub slots : list_all has_small_nodes (drop (length graft.tree.now) copies) ≡ true
   pub taken_small : list_all is_small (points_taken (pushed ++ top_point graft) old.mounts) ≡ true

@@ -1,9 +1,10 @@
 -- Room for the uses that new mounts make.
-use Rattle.std.specs.Prelude.{Bool, List, None, Option, Some, find, nat_eq, nat_le, nat_lt, option_map, true, unwrap_or, ℕ, ◌&&◌, ◌^◌}
+use Rattle.std.specs.Prelude.{Bool, List, None, Option, Some, find, nat_eq, nat_le, option_map, true, unwrap_or, ℕ, ◌&&◌}
 use Rattle.vt_fs.specs.FilesystemsValue.{Shown}
 use Rattle.vt_laws_letting_go.specs.OneByOne.{Inode}
 use Rattle.vt_location.specs.declared.locations.Location.{Location}
 use Rattle.vt_location.specs.declared.mounts.Mount.{Mount}
+use Rattle.vt_location.specs.Locations.{is_small_node}
 use Rattle.vt_location.specs.Numbers.{counted}
 use Rattle.vt_spec.specs.Inodes.{uses_in}
 use Rattle.vt_detach.specs.Uses.{Merged, inode_of, merged_at, mounts_shown}
@@ -35,8 +36,8 @@ merged_has_room most all mount =
 
 abbrev pub point_is_small : Option Location → Bool
 point_is_small None = true
-point_is_small (Some point) = nat_lt point.node.slot (2 ^ 64)
+point_is_small (Some point) = is_small_node point.node
 
--- the inodes of its root and of its mount point are in slots
-abbrev pub has_small_slots : Mount → Bool
-has_small_slots mount = nat_lt mount.root.slot (2 ^ 64) && point_is_small mount.mount_point
+-- its root and its mount point have numbers below 2^64
+abbrev pub has_small_nodes : Mount → Bool
+has_small_nodes mount = is_small_node mount.root && point_is_small mount.mount_point

@@ -4,8 +4,8 @@ ghost use Rattle.std.specs.List.{list_all};
 ghost use Rattle.vt_fs.specs.FilesystemsValue.{shown};
 ghost use Rattle.vt_spec.specs.Lists.{folded};
 ghost use Rattle.vt_attach.specs.Room as meant;
-ghost use Rattle.vt_attach.specs.Room.{has_small_slots, merged_has_room, most_counted, point_is_small};
-ghost use Rattle.vt_detach.specs.Stored.{merged_of};
+ghost use Rattle.vt_attach.specs.Room.{has_small_nodes, merged_has_room, most_counted, point_is_small};
+ghost use Rattle.vt_detach.specs.Stored.{OverlaysStay, merged_of};
 ghost use Rattle.vt_detach.specs.Uses.{merged_by, pinned_at, shown_by};
 
 use vt_fs::Filesystems;
@@ -15,7 +15,7 @@ use vt_store::Store;
 // Whether the roots, the mount points and the filesystems of mounts have no more uses than so many.
 pub(crate) fn have_room(filesystems: &Filesystems, new: &[Mount], most: u64) -> bool
     ensures room { result ≡ true → list_all (meant.has_room most (shown filesystems.now)) new.now ≡ true }
-    ensures slots { result ≡ true → list_all has_small_slots new.now ≡ true }
+    ensures slots { result ≡ true → list_all has_small_nodes new.now ≡ true }
 {
     for mount in new {
         if !has_room(filesystems, *mount, most) {
@@ -28,7 +28,7 @@ pub(crate) fn have_room(filesystems: &Filesystems, new: &[Mount], most: u64) -> 
 // Whether the root, the mount point and the filesystem of a mount have no more uses than so many.
 fn has_room(filesystems: &Filesystems, mount: Mount, most: u64) -> bool
     ensures room { result ≡ meant.has_room most (shown filesystems.now) mount }
-    ensures slots { has_small_slots mount ≡ true }
+    ensures slots { has_small_nodes mount ≡ true }
 {
     filesystems.uses(mount.root) <= most
         && point_has_room(filesystems, mount.mount_point, most)
@@ -78,6 +78,7 @@ pub(crate) fn hold_overlays(store: &mut Store, new: &[Mount])
     ensures plain { store.new.plain ≡ store.old.plain }
     ensures overlays { map merged_of store.new.overlays
         ≡ folded merged_by (map merged_of store.old.overlays) new.now }
+    ensures stay { OverlaysStay store.old.overlays store.new.overlays }
 {
     for mount in new {
         hold_overlay(store, mount);
@@ -89,6 +90,7 @@ fn hold_overlay(store: &mut Store, mount: &Mount)
     requires { merged_has_room (most_counted - 1) (map merged_of store.old.overlays) mount.now ≡ true }
     ensures plain { store.new.plain ≡ store.old.plain }
     ensures overlays { map merged_of store.new.overlays ≡ merged_by (map merged_of store.old.overlays) mount.now }
+    ensures stay { OverlaysStay store.old.overlays store.new.overlays }
 {
     let filesystem = mount.root.filesystem;
     if store.overlay(filesystem).is_some() {

@@ -10,7 +10,7 @@ ghost use Rattle.vt_spec.specs.Machine.Mounts as meant;
 ghost use Rattle.vt_spec.specs.Machine.Namespaces.{location_on_copy};
 ghost use Rattle.vt_mount.specs.Attached.{AreOf, are_rising, attached_in};
 ghost use Rattle.vt_attach.specs.Copying.{CopiesAttached, copied_by, copies_of, copy_numbers, moved_in, with_use_moved};
-ghost use Rattle.vt_detach.specs.Stored.{kept};
+ghost use Rattle.vt_detach.specs.Stored.{OverlaysStay, kept};
 
 use crate::planned::{Planned, attach_planned};
 use std::alloc::{AllocError, Global};
@@ -35,6 +35,7 @@ pub fn attach_copies(
     requires before { list_all (λ mount. nat_lt mount.number (counted next)) (mounts_in mounts.old) ≡ true }
     ensures ok { OnOk result (CopiesAttached next (namespace_number namespace) (kept mounts.old store.old) groups.old
         (kept mounts.new store.new) groups.new) }
+    ensures overlays { OverlaysStay store.old.overlays store.new.overlays }
     ensures err_mounts { OnErr result (mounts.new ≡ mounts.old) }
     ensures err_groups { OnErr result (groups.new ≡ groups.old) }
     ensures err_store { OnErr result (store.new ≡ store.old) }

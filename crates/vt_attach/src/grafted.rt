@@ -3,7 +3,7 @@
 ghost use Rattle.std.specs.Prelude.{◌≡◌, OnErr, OnOk};
 ghost use Rattle.vt_propagate.specs.Copying.{HasRoomFor};
 ghost use Rattle.vt_attach.specs.Grafted.{IsGrafted, MayGraft};
-ghost use Rattle.vt_detach.specs.Stored.{kept};
+ghost use Rattle.vt_detach.specs.Stored.{OverlaysStay, kept};
 
 use crate::planned::{Planned, attach_planned};
 use std::alloc::{AllocError, Global};
@@ -28,6 +28,7 @@ pub fn attach_graft(
     requires may { MayGraft mounts.old groups.old graft.now counts }
     ensures ok { OnOk result (IsGrafted graft.now counts (kept mounts.old store.old) groups.old
         (kept mounts.new store.new) groups.new) }
+    ensures overlays { OverlaysStay store.old.overlays store.new.overlays }
     ensures err_mounts { OnErr result (mounts.new ≡ mounts.old) }
     ensures err_groups { OnErr result (groups.new ≡ groups.old) }
     ensures err_store { OnErr result (store.new ≡ store.old) }

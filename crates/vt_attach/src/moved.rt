@@ -3,7 +3,7 @@
 ghost use Rattle.std.specs.Prelude.{◌≡◌, ◌++◌, OnErr, OnOk};
 ghost use Rattle.vt_propagate.specs.Copying.{HasRoomFor};
 ghost use Rattle.vt_attach.specs.Moved.{IsMovedBy, MayMoveTree, top_point};
-ghost use Rattle.vt_detach.specs.Stored.{kept};
+ghost use Rattle.vt_detach.specs.Stored.{OverlaysStay, kept};
 
 use crate::planned::{Planned, attach_grouped};
 use std::alloc::{AllocError, Global};
@@ -29,6 +29,7 @@ pub fn move_tree(
     requires may { MayMoveTree mounts.old groups.old graft.now counts }
     ensures ok { OnOk result (IsMovedBy graft.now counts (kept mounts.old store.old) groups.old
         (kept mounts.new store.new) groups.new) }
+    ensures overlays { OverlaysStay store.old.overlays store.new.overlays }
     ensures err_mounts { OnErr result (mounts.new ≡ mounts.old) }
     ensures err_groups { OnErr result (groups.new ≡ groups.old) }
     ensures err_store { OnErr result (store.new ≡ store.old) }

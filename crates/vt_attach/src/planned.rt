@@ -10,8 +10,8 @@ ghost use Rattle.vt_mount.specs.MountsValue.{are_ascending, mounts_in};
 ghost use Rattle.vt_spec.specs.Lists.{folded};
 ghost use Rattle.vt_attach.specs.Planned.{AreMoves, is_small, left_of, pinned_by, points_left, points_taken};
 ghost use Rattle.vt_attach.specs.Planned.{taken_of, unpinned_by, with_planned, with_points};
-ghost use Rattle.vt_attach.specs.Room.{has_room, has_small_slots, merged_has_room, most_counted, point_has_room};
-ghost use Rattle.vt_detach.specs.Stored.{kept, merged_of};
+ghost use Rattle.vt_attach.specs.Room.{has_room, has_small_nodes, merged_has_room, most_counted, point_has_room};
+ghost use Rattle.vt_detach.specs.Stored.{OverlaysStay, kept, merged_of};
 ghost use Rattle.vt_detach.specs.Uses.{shown_by, unused_entry};
 
 use crate::attaching::{have_room, hold_overlays, overlays_have_room, show_all};
@@ -52,8 +52,9 @@ pub fn attach_planned(
         ≡ with_planned plan.now.copies.now plan.now.points.now left (kept mounts.old store.old))) }
     ensures groups_ok { OnOk result
         (GrowsTo groups.old groups.new (map typed plan.now.copies.now) (map new_group plan.now.groups.now)) }
-    ensures slots { OnOk result (list_all has_small_slots plan.now.copies.now ≡ true) }
+    ensures slots { OnOk result (list_all has_small_nodes plan.now.copies.now ≡ true) }
     ensures places { OnOk result (list_all is_small (points_taken plan.now.points.now mounts.old) ≡ true) }
+    ensures overlays { OverlaysStay store.old.overlays store.new.overlays }
     ensures err_mounts { OnErr result (mounts.new ≡ mounts.old) }
     ensures err_groups { OnErr result (groups.new ≡ groups.old) }
     ensures err_store { OnErr result (store.new ≡ store.old) }
@@ -78,8 +79,9 @@ pub(crate) fn attach_grouped(
         ≡ with_planned plan.now.copies.now plan.now.points.now left (kept mounts.old store.old))) }
     ensures groups_ok { OnOk result
         (GrowsTo groups.old groups.new (map typed types.now) (map new_group plan.now.groups.now)) }
-    ensures slots { OnOk result (list_all has_small_slots plan.now.copies.now ≡ true) }
+    ensures slots { OnOk result (list_all has_small_nodes plan.now.copies.now ≡ true) }
     ensures places { OnOk result (list_all is_small (points_taken plan.now.points.now mounts.old) ≡ true) }
+    ensures overlays { OverlaysStay store.old.overlays store.new.overlays }
     ensures err_mounts { OnErr result (mounts.new ≡ mounts.old) }
     ensures err_groups { OnErr result (groups.new ≡ groups.old) }
     ensures err_store { OnErr result (store.new ≡ store.old) }
@@ -124,7 +126,7 @@ fn plan_has_room(store: &Store, plan: &Planned) -> bool
     ensures points { result ≡ true → list_all
         (λ point. point_has_room (most_counted - (2 * length plan.now.copies.now + length plan.now.points.now))
         (shown store.now.plain) (Some point.place)) plan.now.points.now ≡ true }
-    ensures slots { result ≡ true → list_all has_small_slots plan.now.copies.now ≡ true }
+    ensures slots { result ≡ true → list_all has_small_nodes plan.now.copies.now ≡ true }
 {
     let most = u64::MAX - 2 * plan.copies.len() as u64;
     let moves = plan.points.len() as u64;

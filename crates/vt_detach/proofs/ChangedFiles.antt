@@ -42,6 +42,9 @@ use Rattle.vt_laws_overlays_stay.proofs.left.Given.{same_gives_no_upper}
 use Rattle.vt_laws_overlays_stay.proofs.weaving.WovenLists.{woven_lists_are_alike}
 use Rattle.vt_laws_runs.specs.Handed.{is_counted_before}
 use Rattle.vt_laws_runs.proofs.answered.AlikeWorlds.{sameness_is_an_equivalence}
+use Rattle.vt_laws_overlays_read.specs.Writers.{WritersHaveLayers}
+use Rattle.vt_laws_overlays_read.proofs.writers.Swept.{same_worlds_have_layers_alike}
+use Rattle.vt_detach.proofs.Writers.{left_writers}
 use Rattle.vt_detach.specs.Events.{Becomes, Permits, left_by, supply_of}
 use Rattle.vt_world.specs.Held.{CountsItsMounts, CountsItsUses, CountsWhatIsInIt, HasOwnInodes, IsHeld}
 use Rattle.vt_world.specs.WorldValue.{WorldValue, overlays_seen, world_of}
@@ -347,8 +350,8 @@ module _ (value : WorldValue) (held : IsHeld value) (location : Location ℕ) (c
       by false e is = ap (λ (inodes : Inodes ℕ). inodes.inode number) is ∙ none_before
 
   pub change_is_held : IsWorld nat_eq (world_of new) → KeepsTo (is_counted_before value.next) (world_of new)
-      → IsHeld new
-  change_is_held is keeps = record {
+      → WritersHaveLayers (world_of new) → IsHeld new
+  change_is_held is keeps writers = record {
     in_world = is;
     groups = same_has (world_of value) (world_of new) value.groups held.groups refl (λ group. refl);
     given = keeps;
@@ -374,11 +377,11 @@ module _ (value : WorldValue) (held : IsHeld value) (location : Location ℕ) (c
               (counted_then source.was entry source.among source.is)));
         });
     own_inodes = all_from_among HasOwnInodes filesystems own_after;
-    overlays = overlays_hold_still value new held.overlays held.overlays.none_yet refl
+    overlays = overlays_hold_still value new held.overlays refl
         (same_files_rise
         (with_tree (world_of value) (filesystem_of (world_of value) location) (files_seen partner.entry)).filesystems
         (world_of new).filesystems same_with_tree.filesystems rising_with_tree)
-        (overlays_counted value new held.overlays refl (λ number. refl));
+        (overlays_counted value new held.overlays refl (λ number. refl)) writers;
     namespaces = all_from_among (CountsWhatIsInIt (world_of new)) value.namespaces (λ entry m.
         let was = among_from_all (CountsWhatIsInIt (world_of value)) value.namespaces held.namespaces entry m in
         record { tasks = was.tasks });
@@ -430,7 +433,9 @@ files_are_changed value name permit location change filesystems held permits ask
       (subst (λ w. SameWorlds (settled nat_eq w) (world_of new)) (sym asks.applied_named)
       (change_is_swept value held location change filesystems made asks.named_rest))
       (permits_keep_to_numbers (is_counted_before value.next) asks.named_supply (world_of value) permits.task permit
-      permits.given.called held.given asks.are_named asks.named));
+      permits.given.called held.given asks.are_named asks.named))
+      (same_worlds_have_layers_alike (left_by value permits.task permit) (world_of new) same
+      (left_writers value held permits.task permit permits.given));
   becomes = λ other called.
       subst (λ task. SameWorlds (left_by value task permit) (world_of new))
       (same_Some permits.task other (sym permits.called ∙ called)) same;

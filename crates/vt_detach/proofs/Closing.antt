@@ -12,7 +12,7 @@ use Rattle.vt_spec.specs.Machine.Invariants.{are_ascending_from, is_located_well
 use Rattle.vt_fs.specs.FilesystemsValue.{Filesystems}
 use Rattle.vt_laws_letting_go.specs.Counts.{times}
 use Rattle.vt_laws_letting_go.proofs.Lists.{Among, among-append_right, passes, times_around}
-use Rattle.vt_location.specs.Locations.{location_of, number_of}
+use Rattle.vt_location.specs.Locations.{is_small_node, location_of, number_of}
 use Rattle.vt_location.specs.Numbers.{counted}
 use Rattle.vt_mount.specs.MountsValue.{MountEntry}
 use Rattle.vt_request.specs.Requests.{access_of}
@@ -140,7 +140,7 @@ module _ (value : WorldValue) (whole : IsHeld value) (name : TaskName) (task : T
 -- A descriptor is closed, and what it alone used is let go.
 pub file_is_closed : (value : WorldValue) (name : TaskName) (number : ℕ) (closed : OpenFile) (mounts : List MountEntry)
     (filesystems : Filesystems) (overlays : List Merged) (tasks : Tasks)
-    → IsHeld value → Permits value name (ToClose number) → closed.location.node.slot < 18446744073709551616
+    → IsHeld value → Permits value name (ToClose number) → is_small_node closed.location.node ≡ true
     → ((task : Task ℕ) → Among task value.tasks → are_ascending_from 0 task.descriptors ≡ true)
     → Some (numbered number closed)
     ≡ option_and_then (λ task. descriptor_numbered task number) (called name value.tasks)

@@ -14,7 +14,7 @@ use Rattle.vt_laws_letting_go.specs.Mounting.{inode_at}
 use Rattle.vt_laws_letting_go.specs.OneByOne.{Inode}
 use Rattle.vt_laws_letting_go.proofs.Lists.{Among, all_from_among, among-from_map, among-map, among_from_all, found_in}
 use Rattle.vt_location.specs.declared.locations.Location.{Location}
-use Rattle.vt_location.specs.Locations.{location_of, number_of}
+use Rattle.vt_location.specs.Locations.{is_small_node, location_of, number_of}
 use Rattle.vt_location.specs.Numbers.{counted}
 use Rattle.vt_mount.specs.MountsValue.{MountEntry, changed, entry_numbered, mounts_in}
 use Rattle.vt_world.specs.Held.{CountsItsUses}
@@ -80,7 +80,7 @@ unpinned_is (Some point) all = refl
 module _ (old : WorldValue) (number : ℕ) (pending : List ℕ) (gained lost : List Inode) (world : World ℕ) (k : Kept)
     (is : IsKeptBut old (number ∷ pending) (number ∷ pending) gained lost world k) (point : Option Location)
     (point_is : option_map location_of point ≡ point_of number k.mounts)
-    (few : IfSome point (λ point. point.node.slot < 18446744073709551616)) where
+    (few : IfSome point (λ point. is_small_node point.node ≡ true)) where
   abbrev kept_now : Kept
   kept_now = detached_use number point k
 
@@ -102,7 +102,7 @@ module _ (old : WorldValue) (number : ℕ) (pending : List ℕ) (gained lost : L
     where
       seen : (one : Location) → (o : Option MountEntry) → entry_numbered k.mounts number ≡ o
           → Some (location_of one) ≡ option_and_then (λ (entry : MountEntry). entry.mount.mount_point) o
-          → one.node.slot < 18446744073709551616
+          → is_small_node one.node ≡ true
           → (mount_at nat_eq (world_of old) (location_of one)).filesystem ≡ counted one.node.filesystem.count
       seen one None e h small = absurd cc
       seen one (Some entry) e h small =
@@ -110,7 +110,7 @@ module _ (old : WorldValue) (number : ℕ) (pending : List ℕ) (gained lost : L
           (found_in (λ (x : MountEntry). nat_eq number x.mount.number) k.mounts entry e).0) one (sym h) small
 
       by : (o : Option Location) → option_map location_of o ≡ point_of number k.mounts
-          → IfSome o (λ point. point.node.slot < 18446744073709551616)
+          → IfSome o (λ point. is_small_node point.node ≡ true)
           → map (inode_at (world_of old)) (option_to_list (option_map location_of o)) ≡ inodes_of_point o
       by None h small = refl
       by (Some one) h small = λ i. (seen one (entry_numbered k.mounts number) refl h small i, number_of one.node) ∷ []
@@ -223,7 +223,7 @@ pub record IsDetaching (old : WorldValue) (gained : List Inode) (last : World �
 pub detaching_on : (old : WorldValue) (gained : List Inode) (last : World ℕ) (number : ℕ) (pending : List ℕ) (k : Kept)
     (point : Option Location)
     → IsDetaching old gained last (number ∷ pending) k → option_map location_of point ≡ point_of number k.mounts
-    → IfSome point (λ point. point.node.slot < 18446744073709551616)
+    → IfSome point (λ point. is_small_node point.node ≡ true)
     → IsDetaching old gained last pending (without_attachment number point k)
 detaching_on old gained last number pending k point detaching point_is few =
     let one = one_detached old number pending gained detaching.lost detaching.world k detaching.is point point_is few in

@@ -13,7 +13,7 @@ use Rattle.vt_group.specs.Grouping.{Grouping}
 use Rattle.vt_laws_letting_go.proofs.Lists.{Among, among-from_filter, among-from_map, among-map, filter-map, none_passes, passes}
 use Rattle.vt_location.specs.declared.locations.Location.{Location}
 use Rattle.vt_location.specs.declared.numbers.MountId.{MountId}
-use Rattle.vt_location.specs.Locations.{location_of}
+use Rattle.vt_location.specs.Locations.{is_small_node, location_of}
 use Rattle.vt_location.specs.Numbers.{counted}
 use Rattle.vt_mount.specs.MountsValue.{MountEntry, are_ascending, changed, entry_numbered, mounts_in, without}
 use Rattle.vt_world.specs.declared.namespaces.Namespace.{Namespace}
@@ -221,7 +221,7 @@ pub attached_so : (namespace : ℕ) (mounts : List MountEntry) (filesystems : Fi
     ≡ map (λ mount. mount.number) (filter (λ mount. holds_of (nat_eq namespace) mount.namespace) (mounts_in mounts))
     → slice_get ids (length ids - 1) ≡ Some last
     → option_map location_of point ≡ point_of (counted last.count) mounts
-    → IfSome point (λ place. place.node.slot < 18446744073709551616)
+    → IfSome point (λ place. is_small_node place.node ≡ true)
     → IsAttached namespace (kept_with mounts filesystems overlays) (record { number = counted last.count; point = point })
 attached_so namespace mounts filesystems overlays ids last point rising listed found is slot =
     let entry = listed_entry mounts namespace ids last rising listed found in record {

@@ -20,7 +20,7 @@ use Rattle.vt_laws_letting_go.specs.Counts.{times}
 use Rattle.vt_laws_letting_go.proofs.Lists.{Among, among-append_right, among-from_filter, among-from_map, among-map, among_from_all, among_numbers, is_among_numbers, passes}
 use Rattle.vt_laws_letting_go.proofs.leaving.PlacesLeft.{found_itself}
 use Rattle.vt_location.specs.declared.locations.Location.{Location}
-use Rattle.vt_location.specs.Locations.{location_of, number_of}
+use Rattle.vt_location.specs.Locations.{is_small_node, location_of, number_of}
 use Rattle.vt_location.specs.Numbers.{counted}
 use Rattle.vt_mount.specs.MountsValue.{MountEntry}
 use Rattle.vt_laws_runs.specs.Handed.{is_counted_before}
@@ -233,7 +233,7 @@ listed_is_named value whole namespace listed =
     (among_numbers namespace (map (λ (n : Namespace ℕ). n.number) (world_of value).namespaces) listed)))
 
 -- what code holds is what the definitions name
-held_so : (value : WorldValue) → IsHeld value → (at : Location) (k : Kept) → at.node.slot < 18446744073709551616
+held_so : (value : WorldValue) → IsHeld value → (at : Location) (k : Kept) → is_small_node at.node ≡ true
     → is_located_well nat_eq (world_of value) (location_of at) ≡ true
     → with_location at false k ≡ gain (world_of value) k (standing (location_of at))
 held_so value whole at k few well =
@@ -246,8 +246,8 @@ pub task_enters : (value : WorldValue) (name : TaskName) (count : ℕ) (root : L
     (new_tasks : Tasks) (k : Kept)
     → IsHeld value → Permits value name (ToEnterNamespace (counted count))
     → Some (location_of root) ≡ namespace_root nat_eq (world_of value) (counted count)
-    → root.node.slot < 18446744073709551616 → left.root.node.slot < 18446744073709551616
-    → left.directory.node.slot < 18446744073709551616
+    → is_small_node root.node ≡ true → is_small_node left.root.node ≡ true
+    → is_small_node left.directory.node ≡ true
     → Some (left_of left) ≡ option_map left_by (called name value.tasks)
     → new_tasks ≡ changed_called name (λ task. entered_at task (counted count) (location_of root)) value.tasks
     → k ≡ without_location left.directory false (without_location left.root false

@@ -17,7 +17,7 @@ use Rattle.vt_group.specs.Grouping.{Grouping}
 use Rattle.vt_laws_letting_go.specs.Counts.{times}
 use Rattle.vt_laws_letting_go.proofs.Lists.{Among, among-append_left, among-append_right, among-map, among_from_all, passes}
 use Rattle.vt_location.specs.declared.locations.Location.{Location}
-use Rattle.vt_location.specs.Locations.{location_of, number_of}
+use Rattle.vt_location.specs.Locations.{is_small_node, location_of, number_of}
 use Rattle.vt_location.specs.Numbers.{counted}
 use Rattle.vt_mount.specs.MountsValue.{MountEntry}
 use Rattle.vt_request.specs.Requests.{access_of}
@@ -30,7 +30,7 @@ use Rattle.vt_tasks.proofs.GivenOnce.{name-of-called, same_names}
 use Rattle.vt_tasks.proofs.LocationLemmas.{total-without, without-nobody}
 use Rattle.vt_detach.specs.Events.{Permits}
 use Rattle.vt_world.specs.Held.{CountsWhatIsInIt, IsHeld, writes_of_task, writes_on}
-use Rattle.vt_detach.specs.NamespacesLeft.{MountsAreLeft, has_slot, namespace_entry, with_one_task_less, without_file}
+use Rattle.vt_detach.specs.NamespacesLeft.{MountsAreLeft, is_small_file, namespace_entry, with_one_task_less, without_file}
 use Rattle.vt_detach.specs.Uses.{Kept, Merged, kept_of, kept_with, overlays_kept, without_location, without_use}
 use Rattle.vt_world.specs.WorldValue.{NamespaceEntry, WorldValue, namespace_of, world_of}
 use Rattle.vt_detach.proofs.Closing.{place, used_by}
@@ -152,7 +152,7 @@ module _ (value : WorldValue) (whole : IsHeld value) (name : TaskName) (task : T
 
 -- code leaves what the definitions name
 pub left_so : (value : WorldValue) → IsHeld value → (at : Location) (writes : Bool) (k : Kept)
-    → at.node.slot < 18446744073709551616
+    → is_small_node at.node ≡ true
     → is_located_well nat_eq (world_of value) (location_of at) ≡ true
     → without_location at writes k
     ≡ leave_use (world_of value) k (record { location = location_of at; writes = writes })
@@ -166,7 +166,7 @@ pub files_left_so : (value : WorldValue) → IsHeld value
     → map (λ (file : OpenFile). location_of file.location) files ≡ map (λ (d : Descriptor ℕ). d.location) descriptors
     → map (λ (file : OpenFile). opens_for_writing (access_of file.access)) files
     ≡ map (λ (d : Descriptor ℕ). d.writes) descriptors
-    → list_all has_slot files ≡ true
+    → list_all is_small_file files ≡ true
     → ((location : meant.Location ℕ) → Among location (map place descriptors)
     → is_located_well nat_eq (world_of value) location ≡ true)
     → fold without_file k files ≡ folded (leave_use (world_of value)) k (map used_by descriptors)
@@ -180,10 +180,10 @@ files_left_so value whole (file ∷ files) (d ∷ ds) k places writes slots well
     let write : opens_for_writing (access_of file.access) ≡ d.writes = cc in
     let later : map (λ (file : OpenFile). opens_for_writing (access_of file.access)) files
     ≡ map (λ (d : Descriptor ℕ). d.writes) ds = cc in
-    let few = and_parts (has_slot file) (list_all has_slot files) slots in
+    let few = and_parts (is_small_file file) (list_all is_small_file files) slots in
     let here : without_file k file ≡ leave_use (world_of value) k (used_by d) =
     left_so value whole file.location (opens_for_writing (access_of file.access)) k
-    (ltb-true file.location.node.slot 18446744073709551616 few.0)
+    few.0
     (ap (is_located_well nat_eq (world_of value)) at ∙ well d.location (inl refl))
     ∙ (λ i. leave_use (world_of value) k (record { location = at i; writes = write i })) in
     ap (λ one. fold without_file one files) here
@@ -192,9 +192,9 @@ files_left_so value whole (file ∷ files) (d ∷ ds) k places writes slots well
 
 -- what code leaves of a task
 pub record LeavesAll (old : Kept) (task : Held) (files : List OpenFile) (left : Kept) : Type 0 where
-  pub root : task.root.node.slot < 18446744073709551616
-  pub directory : task.directory.node.slot < 18446744073709551616
-  pub slots : list_all has_slot files ≡ true
+  pub root : is_small_node task.root.node ≡ true
+  pub directory : is_small_node task.directory.node ≡ true
+  pub slots : list_all is_small_file files ≡ true
   pub places : map (λ (file : OpenFile). location_of file.location) files
       ≡ map (λ (d : Descriptor ℕ). d.location) (task_of task).descriptors
   pub writes : map (λ (file : OpenFile). opens_for_writing (access_of file.access)) files

@@ -1,13 +1,16 @@
 -- The events that change files and names.
-use Rattle.std.proofs.Common.{◌≡◌, refl, sym, ap, subst, ◌∙◌, ℕ, ◌<◌, ◌&&◌, Bool, true, false, nat_eq}
+use Rattle.std.proofs.Common.{◌≡◌, refl, sym, ap, subst, ◌∙◌, ℕ, ◌<◌, ◌&&◌, Bool, true, false, nat_eq, Some}
 use Rattle.vt_spec.specs.declared.attributes.Attr.{Attr}
 use Rattle.vt_spec.specs.Language.Calls.{TaskName}
 use Rattle.vt_spec.specs.Language.Changes.{Change}
 use Rattle.vt_spec.specs.Language.Changes.Change.{SetAttr, SetMark}
+use Rattle.vt_spec.specs.Machine.Mounts as meant
 use Rattle.vt_spec.specs.Machine.Permits.{Permit}
 use Rattle.vt_spec.specs.Machine.Permits.Permit.{ToChange}
+use Rattle.vt_spec.specs.Machine.World.{filesystem_at, is_overlay}
 use Rattle.vt_spec.specs.Fits.{Fits}
 use Rattle.vt_spec.specs.Inodes.{changed, tree_of}
+use Rattle.vt_laws_calls.specs.Inodes.{change_of}
 use Rattle.vt_laws_counts.specs.Changing.{LinksWhatIsThere}
 use Rattle.vt_fs.specs.FilesystemsValue.{ChangesInodes, Filesystems, inodes_at, inodes_seen}
 use Rattle.vt_location.specs.declared.locations.Location.{Location}
@@ -17,6 +20,7 @@ use Rattle.vt_laws_permits.specs.Named.{change_named}
 use Rattle.vt_laws_permits.specs.Sees.{SeesToChange}
 use Rattle.vt_laws_permits.proofs.sees.SeesFit.{given_changes_fit}
 use Rattle.vt_laws_permits.proofs.sees.SeesTasks.{given_permits_are_seen_to}
+use Rattle.vt_laws_overlays_read.proofs.writers.Changes.{plain_ones_are_changed}
 use Rattle.vt_laws_runs.specs.Handed.{is_counted_before}
 use Rattle.vt_laws_worlds.specs.Worlds.Permits.{IsFitPermit}
 use Rattle.vt_laws_worlds.proofs.worlds.FitPermitsNamed.{all_permits_fit}
@@ -25,7 +29,7 @@ use Rattle.vt_world.specs.Held.{IsHeld}
 use Rattle.vt_world.specs.WorldValue.{WorldValue, world_of}
 use Rattle.vt_detach.proofs.ChangedFiles.{IsFilesEvent, changed_by, files_are_changed, with_filesystems}
 use Rattle.vt_detach.proofs.ChangedNumbers.{MakesOther}
-use Rattle.vt_detach.proofs.FilesSeen.{IsLocated, nodes_named, located, located_filesystem, located_inodes}
+use Rattle.vt_detach.proofs.FilesSeen.{IsLocated, IsPlainAt, nodes_named, located, located_filesystem, located_inodes}
 
 -- what the permit of a call names is there
 pub permit_fits : (value : WorldValue) → IsHeld value
@@ -35,6 +39,16 @@ permit_fits value held name permit permits =
     all_permits_fit (world_of value) (supply_of value permit) permits.task permits.given.call permit held.in_world
     permits.given.serves permits.given.called permits.given.no_overlay permits.given.judged
 
+-- what the permit of a call changes is in no overlay
+pub changed_is_plain : (value : WorldValue) → IsHeld value
+    → (name : TaskName) (permit : Permit ℕ) (permits : Permits value name permit)
+    → (location : meant.Location ℕ) (change : Change ℕ)
+    → change_of (supply_of value permit) (world_of value) permit ≡ Some (location, change)
+    → is_overlay (filesystem_at nat_eq (world_of value) location) ≡ false
+changed_is_plain value held name permit permits location change =
+    plain_ones_are_changed (world_of value) (supply_of value permit) permits.task permit location change
+    held.overlays.read_only held.overlays.writers permits.given
+
 -- an inode of a location that is there, in the slots of its filesystem
 abbrev pub IsSmall : Location → Type 0
 IsSmall at = at.node.slot < 18446744073709551616
@@ -43,8 +57,12 @@ IsSmall at = at.node.slot < 18446744073709551616
 module _ (value : WorldValue) (held : IsHeld value) (name : TaskName) (at : Location) (small : IsSmall at)
     (change : Change ℕ)
     (permits : Permits value name (ToChange (location_of at) change)) where
+  change_is_plain : IsPlainAt value at
+  change_is_plain =
+      changed_is_plain value held name (ToChange (location_of at) change) permits (location_of at) change refl
+
   pub change_at : IsLocated value at
-  change_at = located value held at small
+  change_at = located value held at small change_is_plain
       (permit_fits value held name (ToChange (location_of at) change) permits).names.0.there
 
   pub change_is_done : (filesystems : Filesystems) → change_named (is_counted_before value.next) change ≡ true

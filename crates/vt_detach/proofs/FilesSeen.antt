@@ -7,7 +7,7 @@ use Rattle.std.specs.List.{list_any}
 use Rattle.vt_spec.specs.Lists.{any_pair, is_among}
 use Rattle.vt_spec.specs.Machine.Mounts.{Mount, source_of}
 use Rattle.vt_spec.specs.Machine.Run.{used_by_filesystem, used_by_mount}
-use Rattle.vt_spec.specs.Machine.World.{Filesystem, Namespace, filesystem_at, filesystem_numbered, mount_at, node_at}
+use Rattle.vt_spec.specs.Machine.World.{Filesystem, Namespace, filesystem_at, filesystem_numbered, is_overlay, mount_at, node_at}
 use Rattle.vt_spec.specs.Machine.Invariants.{is_located_well}
 use Rattle.vt_spec.specs.Inodes.{Inodes, node_in}
 use Rattle.vt_spec.specs.TreeInvariant.{IsTree}
@@ -26,7 +26,8 @@ use Rattle.vt_location.proofs.NumberLemmas.{counted_same, counted_test}
 use Rattle.vt_laws_runs.specs.Handed.{is_counted_before}
 use Rattle.vt_world.specs.Held.{HasOwnInodes, IsHeld}
 use Rattle.vt_world.specs.WorldValue.{WorldValue, world_of}
-use Rattle.vt_detach.proofs.Overlaid.{found_as_kept, found_plain_one, plain_one_among, there_as_kept}
+use Rattle.vt_detach.proofs.Overlaid.{found_plain_one, plain_one_among}
+use Rattle.vt_detach.proofs.PlainFound.{found_where_plain}
 use Rattle.vt_detach.proofs.FilesystemsFound.{found as filesystem_found, found_if}
 use Rattle.vt_fs.proofs.Numbers.{found_by_number}
 use Rattle.vt_laws_permits.proofs.in_use.InUseServes.{leaves_two}
@@ -162,16 +163,31 @@ pub record IsLocated (value : WorldValue) (at : Location) : Type 0 where
   pub shows : (mount_at nat_eq (world_of value) (location_of at)).filesystem ≡ counted entry.count
   pub named : location_named (is_counted_before value.next) (location_of at) ≡ true
 
--- a location of the world stands in a filesystem of code
+-- an inode that is there, where that is no overlay, is one of those that are kept
+pub there_where_plain : (value : WorldValue) → IsHeld value → (number inode : ℕ)
+    → is_overlay (filesystem_numbered nat_eq (world_of value) number) ≡ false
+    → is_some ((filesystem_numbered nat_eq (world_of value) number).files.tree.node inode) ≡ true
+    → is_some ((filesystem_found value.filesystems number).files.tree.node inode) ≡ true
+there_where_plain value held number inode plain there =
+    ap (λ (filesystem : Filesystem ℕ). is_some (filesystem.files.tree.node inode))
+    (sym (found_where_plain value held number plain))
+    ∙ there
+
+-- it is in no overlay
+abbrev pub IsPlainAt : WorldValue → Location → Type 0
+IsPlainAt value at = is_overlay (filesystem_at nat_eq (world_of value) (location_of at)) ≡ false
+
+-- a location of the world that is in no overlay stands in a filesystem of code
 pub located : (value : WorldValue) → IsHeld value → (at : Location) → at.node.slot < 18446744073709551616
+    → IsPlainAt value at
     → is_located_well nat_eq (world_of value) (location_of at) ≡ true → IsLocated value at
-located value held at small there =
+located value held at small plain there =
     let parts = and_parts (is_among nat_eq (counted at.mount.count)
     (map (λ (mount : Mount ℕ). mount.number) (world_of value).mounts)) _ there in
     let seen = seen_in value.filesystems held.own_inodes (mount_at nat_eq (world_of value) (location_of at)).filesystem
     (number_of at.node)
-    (there_as_kept value held (mount_at nat_eq (world_of value) (location_of at)).filesystem (number_of at.node)
-    parts.1) in
+    (there_where_plain value held (mount_at nat_eq (world_of value) (location_of at)).filesystem
+    (number_of at.node) plain parts.1) in
     record {
       entry = seen.entry;
       among = seen.among;
@@ -188,6 +204,11 @@ pub located_filesystem : (value : WorldValue) → IsHeld value → (at : Locatio
     → filesystem_at nat_eq (world_of value) (location_of at) ≡ filesystem_seen seen.entry
 located_filesystem value held at seen =
     ap (filesystem_numbered nat_eq (world_of value)) seen.shows ∙ found_plain_one value held seen.entry seen.among
+
+-- so it is no overlay
+pub located_plain : (value : WorldValue) → IsHeld value → (at : Location) (seen : IsLocated value at)
+    → IsPlainAt value at
+located_plain value held at seen = ap is_overlay (located_filesystem value held at seen)
 
 -- and so does code
 pub located_inodes : (value : WorldValue) (at : Location) (seen : IsLocated value at)
@@ -214,7 +235,8 @@ pub also_there : (value : WorldValue) → IsHeld value → (at : Location) (seen
 also_there value held at seen object small there =
     let own = seen_in value.filesystems held.own_inodes (mount_at nat_eq (world_of value) (location_of at)).filesystem
     (number_of object)
-    (there_as_kept value held (mount_at nat_eq (world_of value) (location_of at)).filesystem (number_of object) there)
+    (there_where_plain value held (mount_at nat_eq (world_of value) (location_of at)).filesystem (number_of object)
+    (located_plain value held at seen) there)
     in
     let same : object.filesystem.count ≡ at.node.filesystem.count =
     sym (own_count own.entry.count object small own.own)
@@ -230,31 +252,23 @@ tree_of_entry value held entry m =
     (world_of value).filesystems held.in_world.files.trees
     (filesystem_seen entry) (plain_one_among value held.overlays.merged entry m)
 
--- what has something was born here
-pub seen_here : (value : WorldValue) → IsHeld value → (at : Location) → at.node.slot < 18446744073709551616
-    → is_some (node_at nat_eq (world_of value) (location_of at)) ≡ true → at.node.birth ≡ Here
-seen_here value held at small there =
-    let seen = seen_in value.filesystems held.own_inodes (mount_at nat_eq (world_of value) (location_of at)).filesystem
-    (number_of at.node)
-    (there_as_kept value held (mount_at nat_eq (world_of value) (location_of at)).filesystem (number_of at.node) there)
-    in
-    own_birth seen.entry.count at.node small seen.own
-
--- what is at a location, as the definitions look and as code does
+-- what is at a location in no overlay, as the definitions look and as code does
 pub looked_node : (value : WorldValue) → IsHeld value → (at : Location) → at.node.slot < 18446744073709551616
+    → IsPlainAt value at
     → is_some (node_at nat_eq (world_of value) (location_of at)) ≡ true
     → (files_at value.filesystems at.node.filesystem.count).tree.node (number_of at.node)
     ≡ node_at nat_eq (world_of value) (location_of at)
-looked_node value held at small there =
+looked_node value held at small plain there =
     let seen = seen_in value.filesystems held.own_inodes (mount_at nat_eq (world_of value) (location_of at)).filesystem
     (number_of at.node)
-    (there_as_kept value held (mount_at nat_eq (world_of value) (location_of at)).filesystem (number_of at.node) there)
+    (there_where_plain value held (mount_at nat_eq (world_of value) (location_of at)).filesystem
+    (number_of at.node) plain there)
     in
     let count_is = own_count seen.entry.count at.node small seen.own in
     ap (λ count. (files_at value.filesystems count).tree.node (number_of at.node)) (sym count_is)
     ∙ ap (λ (filesystem : Filesystem ℕ). filesystem.files.tree.node (number_of at.node))
     (sym (found_by_number value.filesystems seen.entry.count))
-    ∙ ap (λ (filesystem : Filesystem ℕ). filesystem.files.tree.node (number_of at.node))
-    (sym (found_as_kept value held (counted seen.entry.count)))
-    ∙ ap (λ number. (filesystem_numbered nat_eq (world_of value) number).files.tree.node (number_of at.node))
+    ∙ ap (λ number. (filesystem_found value.filesystems number).files.tree.node (number_of at.node))
     (sym seen.number_is)
+    ∙ ap (λ (filesystem : Filesystem ℕ). filesystem.files.tree.node (number_of at.node))
+    (sym (found_where_plain value held (mount_at nat_eq (world_of value) (location_of at)).filesystem plain))

@@ -27,6 +27,9 @@ use Rattle.vt_laws_one_text.proofs.same.SameNumbers.{any_same_worlds_keep_to_num
 use Rattle.vt_laws_one_text.proofs.same.SameWhole.{any_same_worlds_are_worlds}
 use Rattle.vt_laws_overlays_stay.proofs.left.Given.{given_permits_give_no_upper}
 use Rattle.vt_laws_runs.specs.Handed.{is_counted_before}
+use Rattle.vt_laws_overlays_read.specs.Writers.{WritersHaveLayers}
+use Rattle.vt_laws_overlays_read.proofs.writers.Swept.{same_worlds_have_layers_alike}
+use Rattle.vt_detach.proofs.Writers.{left_writers}
 use Rattle.vt_detach.specs.Events.{supply_of}
 use Rattle.vt_world.specs.Held.{CountsItsMounts, CountsItsUses, CountsWhatIsInIt, HasOwnInodes, IsHeld, IsMountedSoOften}
 use Rattle.vt_world.specs.WorldValue.{WorldValue, world_of}
@@ -87,8 +90,9 @@ module _ (value : WorldValue) (whole : IsHeld value) (next : World ℕ)
   -- what holds of each world holds of the one that the sweep leaves
   pub swept_held : (gained lost : List Inode) (new : WorldValue) → IsSwept value next gained lost new
       → Has (settled nat_eq next) new.groups
-      → CountsBeside new → KeepsTo (is_counted_before new.next) (world_of new) → IsHeld new
-  swept_held gained lost new swept has counts keeps =
+      → CountsBeside new → KeepsTo (is_counted_before new.next) (world_of new)
+      → WritersHaveLayers (settled nat_eq next) → IsHeld new
+  swept_held gained lost new swept has counts keeps writers =
       let same = swept_is_same value whole next gained lost new swept has left in
       let world = any_same_worlds_are_worlds (settled nat_eq next) (world_of new) same left in
       record {
@@ -109,7 +113,8 @@ module _ (value : WorldValue) (whole : IsHeld value) (next : World ℕ)
             (λ overlay. is_mounted nat_eq (in_use_of next) overlay.number) swept.overlays
             (same_files_rise (settled nat_eq next).filesystems (world_of new).filesystems same.filesystems
             (rise_left value whole next gained lost new swept has left))
-            counts.overlays;
+            counts.overlays
+            (same_worlds_have_layers_alike (settled nat_eq next) (world_of new) same writers);
         namespaces = counts.namespaces;
       }
 
@@ -122,6 +127,12 @@ module _ (value : WorldValue) (whole : IsHeld value) (name : TaskName) (permit :
       subst (λ world. IsWorld nat_eq (settled nat_eq world)) (is.applied (supply_of value permit))
       (given_permits_give_no_upper (world_of value) (supply_of value permit) task permit whole.in_world
       whole.overlays.read_only is.given).0
+
+  -- in which no descriptor is open for writing in an overlay
+  writers_left : WritersHaveLayers (settled nat_eq next)
+  writers_left =
+      subst (λ world. WritersHaveLayers (settled nat_eq world)) (is.applied (supply_of value permit))
+      (left_writers value whole task permit is.given)
 
   -- the settled world names numbers that were counted
   pub keeps_left : KeepsTo (is_counted_before value.next) (settled nat_eq next)
@@ -143,7 +154,8 @@ module _ (value : WorldValue) (whole : IsHeld value) (name : TaskName) (permit :
         held = swept_held value whole after left gained lost new swept has counts
             (subst (λ count. KeepsTo (is_counted_before count) (world_of new)) (sym same_next)
             (any_same_worlds_keep_to_numbers (is_counted_before value.next) (settled nat_eq after) (world_of new) same
-            (subst (KeepsTo (is_counted_before value.next)) alike keeps_left)));
+            (subst (KeepsTo (is_counted_before value.next)) alike keeps_left)))
+            (subst WritersHaveLayers alike writers_left);
         becomes = becomes_so value name permit new task is.called
             (subst (λ one. SameWorlds (settled nat_eq one) (world_of new)) (sym (is.applied (supply_of value permit)))
             (subst (λ left. SameWorlds left (world_of new)) (sym alike) same));

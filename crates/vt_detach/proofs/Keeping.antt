@@ -20,7 +20,7 @@ use Rattle.vt_laws_letting_go.specs.OneByOne as Looks
 use Rattle.vt_laws_letting_go.proofs.Lists.{Among, filter-map}
 use Rattle.vt_laws_letting_go.proofs.leaving.PlacesLeft.{found_in_filter}
 use Rattle.vt_location.specs.declared.locations.Location.{Location}
-use Rattle.vt_location.specs.Locations.{location_of}
+use Rattle.vt_location.specs.Locations.{is_small_node, location_of}
 use Rattle.vt_location.specs.Numbers.{counted}
 use Rattle.vt_mount.specs.MountsValue.{mounts_in}
 use Rattle.vt_world.specs.Held.{CountsItsUses, IsHeld}
@@ -59,7 +59,7 @@ pub record IsShownIn (old : WorldValue) (gained lost later : List Inode) (world 
 abbrev pub PointsAreSeen : WorldValue → List (Mount ℕ) → Type 0
 PointsAreSeen old mounts =
     (mount : Mount ℕ) → Among mount mounts → (point : Location) → mount.mount_point ≡ Some (location_of point)
-    → point.node.slot < 18446744073709551616
+    → is_small_node point.node ≡ true
     → (mount_at nat_eq (world_of old) (location_of point)).filesystem ≡ counted point.node.filesystem.count
 
 -- What is kept of a world in which the pending mounts are detached, while code has them still attached. Mounts but the

@@ -1,6 +1,8 @@
 pub mod FilesystemsFound
 pub mod Overlaid
 pub mod PlainFound
+pub mod NodesFound
+pub mod Writers
 pub mod LayersShown
 pub mod LookLemmas
 pub mod OwnInodesKept
@@ -68,3 +70,4 @@ pub mod MountsLeave
 pub mod OverlaysKept
 pub mod StoreLends
 pub mod StoreTrees
+pub mod OverlaysListed

@@ -1,38 +1,35 @@
 -- What a world shows, by what is kept of it.
-use Rattle.std.proofs.Common.{◌≡◌, ◌≢◌, refl, sym, ap, ◌∙◌, ⊎_elim, inl, inr, true≢false, ℕ, ◌<◌, nat_eq, eq-eqb, eqb-true, ne_eqb, Bool, true, false, cond, not, ◌||◌, ◌&&◌, List, [], ◌∷◌, filter, Option, Some, None, is_some}
-use Rattle.std.specs.Prelude.{option_to_list}
+use Rattle.std.proofs.Common.{◌≡◌, ◌≢◌, refl, sym, ap, subst, ◌∙◌, ⊎_elim, inl, inr, true≢false, ℕ, nat_eq, eq-eqb, eqb-true, ne_eqb, Bool, true, false, cond, not, ◌||◌, ◌&&◌, List, [], ◌∷◌, filter, Option, Some, None, is_some}
+use Rattle.std.specs.Prelude.{All, option_map, option_to_list}
 use Rattle.std.specs.List.{list_all, list_any}
 use Rattle.std.proofs.lemmas.Bool.{and_parts}
 use Rattle.vt_spec.specs.FileTree.{is_directory_under, is_removed}
-use Rattle.vt_spec.specs.Lists.{holds_of}
+use Rattle.vt_spec.specs.Lists.{holds_of, then_some}
 use Rattle.vt_spec.specs.Machine.Detach.{is_point, mounts_on, points_of, upper_points}
-use Rattle.vt_spec.specs.Machine.Locked.{overlay_or}
+use Rattle.vt_spec.specs.Machine.Locked.{of_overlay, overlay_or}
 use Rattle.vt_spec.specs.Machine.Mounts as meant
 use Rattle.vt_spec.specs.Machine.Mounts.{no_mount}
-use Rattle.vt_spec.specs.Machine.World.{Filesystem, filesystem_at, filesystem_numbered, is_directory_at, is_removed_at, mount_at, mount_numbered, node_at}
+use Rattle.vt_spec.specs.Machine.World.{Filesystem, Layer, Overlay, filesystem_at, filesystem_numbered, is_directory_at, is_removed_at, mount_at, mount_numbered, no_filesystem, node_at, upper_object}
 use Rattle.vt_spec.specs.Machine.Invariants.{has_its_root}
 use Rattle.vt_spec.specs.Tree.{is_directory_node}
 use Rattle.vt_spec.specs.TreeInvariant.{HasOwnParents, IsTree}
-use Rattle.vt_spec.proofs.Lists.{Among, all_from_among, among_from_all, among_from_list_all}
+use Rattle.vt_spec.proofs.Lists.{Among, among_from_list_all}
+use Rattle.vt_laws_trees.proofs.trees.TreesOfWorlds.{number_numbered, numbered_all}
 use Rattle.vt_laws_mounts.proofs.mounts.MountsFound.{found_or_none}
 use Rattle.vt_laws_worlds.proofs.worlds.Roots.{directory_there}
 use Rattle.vt_location.specs.declared.locations.Location.{Location}
 use Rattle.vt_location.specs.declared.locations.NodeRef.{NodeRef}
 use Rattle.vt_location.specs.Births.{born_in}
-use Rattle.vt_location.specs.Locations.{location_of, number_of}
-use Rattle.vt_location.specs.Numbers.{counted, inode_number, is_own_number}
-use Rattle.vt_location.proofs.NodeLemmas.{own_count}
-use Rattle.vt_location.proofs.NumberLemmas.{counted_inode, counted_test, exchanged_back}
-use Rattle.vt_fs.specs.FilesystemsValue.{entry_at, files_at, filesystem_seen, filesystems_seen}
+use Rattle.vt_location.specs.Locations.{is_small_node, location_of, number_of}
+use Rattle.vt_location.specs.Numbers.{counted, inode_number}
+use Rattle.vt_location.proofs.NumberLemmas.{counted_inode, counted_test}
 use Rattle.vt_fs.specs.Laws.{ParentsAreNamed}
-use Rattle.vt_fs.proofs.Numbers.{found_by_number}
 use Rattle.vt_mount.specs.MountsValue.{mounts_in, stands_over}
 pub use Rattle.vt_spec.proofs.Truths.{nat_eq_turned as turned}
 use Rattle.vt_world.specs.Held.{IsHeld}
 use Rattle.vt_detach.specs.Looking.{is_seen}
 use Rattle.vt_world.specs.WorldValue.{WorldValue, world_of}
-use Rattle.vt_detach.proofs.Overlaid.{found_as_kept, seen_one_among, there_as_kept}
-use Rattle.vt_detach.proofs.FilesystemsFound.{found, found_number, found_plain, holds_at, in_no_other, no_counted_inode, own_filesystem}
+use Rattle.vt_detach.proofs.NodesFound.{IsNodeIn, at_home, in_no_other, no_counted_inode, nodes_own}
 use Rattle.vt_fs.proofs.Parents.{parents_named}
 use Rattle.vt_fs.proofs.TreesLookedAt.{nowhere_removed, nowhere_under, under_nowhere}
 use Rattle.std.proofs.Math.Bool.{or-false, and-false, and-true}
@@ -57,98 +54,102 @@ any_filtered {A = A} seen on over test (x ∷ xs) same =
     by true false rest = rest
     by false over_x rest = rest
 
--- the root of a tree is there, or is no inode's number
-abbrev RootIsThere : Filesystem ℕ → Type 0
-RootIsThere filesystem =
-    (owner slot : ℕ) → filesystem.files.tree.node (inode_number owner slot) ≡ None
-    → inode_number owner slot ≢ filesystem.files.tree.root
-
 module _ (value : WorldValue) (held : IsHeld value) where
-  tree_is : (filesystem : Filesystem ℕ) → Among filesystem (filesystems_seen value.filesystems)
-      → IsTree filesystem.files.tree
-  tree_is filesystem m = among_from_all (λ (x : Filesystem ℕ). IsTree x.files.tree)
-      (world_of value).filesystems held.in_world.files.trees filesystem
-      (seen_one_among value held.overlays.merged filesystem m)
-
   -- in each tree directories are named by their parents
-  pub parents_named_at : (count : ℕ) → ParentsAreNamed (files_at value.filesystems count).tree
+  pub parents_named_at : (count : ℕ)
+      → ParentsAreNamed (filesystem_numbered nat_eq (world_of value) (counted count)).files.tree
   parents_named_at count =
-      holds_at (λ filesystem. ParentsAreNamed filesystem.files.tree) value.filesystems
-      (all_from_among (λ (filesystem : Filesystem ℕ). ParentsAreNamed filesystem.files.tree)
-      (filesystems_seen value.filesystems)
-      (λ filesystem m. parents_named filesystem.files.tree (tree_is filesystem m)
-      (among_from_all (λ (x : Filesystem ℕ). HasOwnParents x.files.tree)
-      (world_of value).filesystems held.in_world.files.own_parents filesystem
-      (seen_one_among value held.overlays.merged filesystem m))))
-      count
-      (λ directory other. ap not (sym (eq-eqb directory directory refl)))
+      ⊎_elim
+      (λ tree. ⊎_elim
+      (λ own. parents_named (filesystem_numbered nat_eq (world_of value) (counted count)).files.tree tree own)
+      missing
+      (numbered_all (λ (f : Filesystem ℕ). HasOwnParents f.files.tree) (counted count) (world_of value).filesystems
+      held.in_world.files.own_parents))
+      missing
+      (numbered_all (λ (f : Filesystem ℕ). IsTree f.files.tree) (counted count) (world_of value).filesystems
+      held.in_world.files.trees)
+    where
+      missing : (filesystem_numbered nat_eq (world_of value) (counted count) ≡ no_filesystem (counted count))
+          × All (λ (f : Filesystem ℕ). nat_eq (counted count) f.number ≡ false) (world_of value).filesystems
+          → ParentsAreNamed (filesystem_numbered nat_eq (world_of value) (counted count)).files.tree
+      missing none =
+          subst (λ (f : Filesystem ℕ). ParentsAreNamed f.files.tree) (sym none.0)
+          (λ directory other. ap not (sym (eq-eqb directory directory refl)))
 
-  root_there : (count owner slot : ℕ) → (files_at value.filesystems count).tree.node (inode_number owner slot) ≡ None
-      → inode_number owner slot ≢ (files_at value.filesystems count).tree.root
-  root_there count owner slot none =
-      holds_at RootIsThere value.filesystems
-      (all_from_among RootIsThere (filesystems_seen value.filesystems)
-      (λ filesystem m owner slot none same.
-      true≢false (sym (directory_there (filesystem.files.tree.node filesystem.files.tree.root)
-      (tree_is filesystem m).root_directory)
-      ∙ ap (λ n. is_some (filesystem.files.tree.node n)) (sym same) ∙ ap is_some none)))
-      count
-      (λ owner slot none same. counted_inode count owner slot (sym (same ∙ exchanged_back count (counted count))))
-      owner slot none
+  -- what is not in a tree is not its root
+  root_there : (count owner slot : ℕ)
+      → (filesystem_numbered nat_eq (world_of value) (counted count)).files.tree.node (inode_number owner slot) ≡ None
+      → inode_number owner slot ≢ (filesystem_numbered nat_eq (world_of value) (counted count)).files.tree.root
+  root_there count owner slot none same =
+      ⊎_elim
+      (λ tree. true≢false (sym (directory_there (found.files.tree.node found.files.tree.root) tree.root_directory)
+      ∙ ap (λ n. is_some (found.files.tree.node n)) (sym same) ∙ ap is_some none))
+      (λ missing. counted_inode count owner slot
+      (sym (same ∙ ap (λ (f : Filesystem ℕ). f.files.tree.root) missing.0)))
+      (numbered_all (λ (f : Filesystem ℕ). IsTree f.files.tree) (counted count) (world_of value).filesystems
+      held.in_world.files.trees)
+    where
+      found : Filesystem ℕ
+      found = filesystem_numbered nat_eq (world_of value) (counted count)
+
+  -- a mount that is there has its root, and what its mount point is on
+  mount_shows : (mount : meant.Mount ℕ) → Among mount (mounts_in value.mounts)
+      → (is_directory_node ((filesystem_numbered nat_eq (world_of value) mount.filesystem).files.tree.node mount.root)
+      ≡ true)
+      × (list_all (is_directory_at nat_eq (world_of value)) (option_to_list mount.mount_point) ≡ true)
+  mount_shows mount m =
+      and_parts (is_directory_node
+      ((filesystem_numbered nat_eq (world_of value) mount.filesystem).files.tree.node mount.root))
+      (list_all (is_directory_at nat_eq (world_of value)) (option_to_list mount.mount_point))
+      (among_from_list_all (has_its_root nat_eq (world_of value))
+      (mounts_in value.mounts) held.in_world.roots mount m)
+
+  root_node : (mount : meant.Mount ℕ) → Among mount (mounts_in value.mounts)
+      → IsNodeIn mount.filesystem mount.root
+  root_node mount m =
+      nodes_own value held mount.filesystem mount.root (directory_there _ (mount_shows mount m).0)
 
   -- the filesystem that a mount shows is counted
   pub shown_counted : (number : ℕ)
       → (count : ℕ) × ((mount_numbered nat_eq (world_of value) (counted number)).filesystem ≡ counted count)
   shown_counted number =
       ⊎_elim
-      (λ m.
-      let mount = mount_numbered nat_eq (world_of value) (counted number) in
-      let shows = and_parts (is_directory_node
-      ((filesystem_numbered nat_eq (world_of value) mount.filesystem).files.tree.node mount.root))
-      (list_all (is_directory_at nat_eq (world_of value)) (option_to_list mount.mount_point))
-      (among_from_list_all (has_its_root nat_eq (world_of value))
-      (mounts_in value.mounts) held.in_world.roots mount m) in
-      let place = own_filesystem value.filesystems held.own_inodes mount.filesystem mount.root
-      (there_as_kept value held mount.filesystem mount.root (directory_there _ shows.0)) in
-      (place.0, place.1))
+      (λ m. let node = root_node (mount_numbered nat_eq (world_of value) (counted number)) m in
+      (node.0.filesystem.count, node.2))
       (λ none. (number, ap (λ (mount : meant.Mount ℕ). mount.filesystem) none))
       (found_or_none (mounts_in value.mounts) (counted number))
 
-  module _ (at : Location) (small : at.node.slot < 18446744073709551616) where
-    -- a location that is seen is in the filesystem that code has for it
+  module _ (at : Location) (small : is_small_node at.node ≡ true) where
+    -- a location that is seen is in the filesystem that has the count of its node
     pub seen_filesystem : is_seen value at ≡ true
         → filesystem_at nat_eq (world_of value) (location_of at)
-        ≡ filesystem_seen (entry_at value.filesystems at.node.filesystem.count)
+        ≡ filesystem_numbered nat_eq (world_of value) (counted at.node.filesystem.count)
     seen_filesystem seen =
         ap (filesystem_numbered nat_eq (world_of value))
         (eqb-true (mount_at nat_eq (world_of value) (location_of at)).filesystem
         (counted at.node.filesystem.count) seen)
-        ∙ found_as_kept value held (counted at.node.filesystem.count)
-        ∙ found_by_number value.filesystems at.node.filesystem.count
 
     -- one that is not seen has no inode
     pub unseen_node : is_seen value at ≡ false → node_at nat_eq (world_of value) (location_of at) ≡ None
     unseen_node unseen =
-        ap (λ (filesystem : Filesystem ℕ). filesystem.files.tree.node (number_of at.node))
-        (found_as_kept value held (mount_at nat_eq (world_of value) (location_of at)).filesystem)
-        ∙ in_no_other value.filesystems held.own_inodes (mount_at nat_eq (world_of value) (location_of at)).filesystem
-        at.node small unseen
+        in_no_other value held (mount_at nat_eq (world_of value) (location_of at)).filesystem at.node small unseen
 
     -- and counts as removed
     pub unseen_removed : is_seen value at ≡ false → is_removed_at nat_eq (world_of value) (location_of at) ≡ true
     unseen_removed unseen =
         let shown = shown_counted at.mount.count in
-        let is = ap (filesystem_numbered nat_eq (world_of value)) shown.1 ∙ found_as_kept value held (counted shown.0)
-        ∙ found_by_number value.filesystems shown.0 in
+        let is = ap (filesystem_numbered nat_eq (world_of value)) shown.1 in
         let none = ap (λ (filesystem : Filesystem ℕ). filesystem.files.tree.node (number_of at.node)) (sym is)
         ∙ unseen_node unseen in
         ap (λ (filesystem : Filesystem ℕ). is_removed nat_eq filesystem.files.tree (number_of at.node)) is
-        ∙ nowhere_removed (files_at value.filesystems shown.0).tree (number_of at.node) none
-        (ne_eqb (number_of at.node) (files_at value.filesystems shown.0).tree.root
+        ∙ nowhere_removed (filesystem_numbered nat_eq (world_of value) (counted shown.0)).files.tree
+        (number_of at.node) none
+        (ne_eqb (number_of at.node)
+        (filesystem_numbered nat_eq (world_of value) (counted shown.0)).files.tree.root
         (root_there shown.0 (born_in at.node.filesystem.count at.node.birth) at.node.slot none))
 
     -- a directory lies under what is seen in another filesystem, or not seen, only where it is that itself
-    pub under_another : (directory : NodeRef) → directory.slot < 18446744073709551616
+    pub under_another : (directory : NodeRef) → is_small_node directory ≡ true
         → (is_seen value at && nat_eq directory.filesystem.count at.node.filesystem.count) ≡ false
         → is_directory_under nat_eq (filesystem_at nat_eq (world_of value) (location_of at)).files (number_of at.node)
         (number_of directory)
@@ -160,9 +161,7 @@ module _ (value : WorldValue) (held : IsHeld value) where
         (λ seen other.
         nowhere_under (filesystem_at nat_eq (world_of value) (location_of at)).files (number_of at.node)
         (number_of directory)
-        (ap (λ (filesystem : Filesystem ℕ). filesystem.files.tree.node (number_of directory))
-        (found_as_kept value held (mount_at nat_eq (world_of value) (location_of at)).filesystem)
-        ∙ in_no_other value.filesystems held.own_inodes (mount_at nat_eq (world_of value) (location_of at)).filesystem
+        (in_no_other value held (mount_at nat_eq (world_of value) (location_of at)).filesystem
         directory directory_small
         (ap (λ n. nat_eq n (counted directory.filesystem.count))
         (eqb-true (mount_at nat_eq (world_of value) (location_of at)).filesystem
@@ -173,16 +172,36 @@ module _ (value : WorldValue) (held : IsHeld value) where
     -- the mounts that stand on an inode, through whatever mount
     pub points_are : points_of nat_eq (world_of value) (location_of at)
         ≡ ((mount_at nat_eq (world_of value) (location_of at)).filesystem, number_of at.node) ∷ []
-    points_are =
-        let shown = (mount_at nat_eq (world_of value) (location_of at)).filesystem in
-        ap (λ (filesystem : Filesystem ℕ). (filesystem.number, number_of at.node)
-        ∷ overlay_or [] (λ overlay. upper_points (world_of value) filesystem overlay (number_of at.node))
-        filesystem.overlay)
-        (found_as_kept value held shown)
-        ∙ λ i. (found_number value.filesystems shown i, number_of at.node)
-        ∷ overlay_or [] (λ overlay. upper_points (world_of value) (found value.filesystems shown) overlay
-        (number_of at.node))
-        (found_plain value.filesystems shown i)
+    points_are = λ i. (
+      number_numbered shown (world_of value).filesystems i,
+      number_of at.node,
+    ) ∷ no_upper (filesystem_numbered nat_eq (world_of value) shown).overlay read_only i
+      where
+        shown : ℕ
+        shown = (mount_at nat_eq (world_of value) (location_of at)).filesystem
+
+        -- an overlay has no upper layer
+        read_only : of_overlay false (λ overlay. is_some overlay.upper)
+            (filesystem_numbered nat_eq (world_of value) shown) ≡ false
+        read_only =
+            ⊎_elim (λ none. none)
+            (λ missing. ap (of_overlay false (λ overlay. is_some overlay.upper)) missing.0)
+            (numbered_all (λ (f : Filesystem ℕ). of_overlay false (λ overlay. is_some overlay.upper) f ≡ false) shown
+            (world_of value).filesystems held.overlays.read_only)
+
+        without : (overlay : Overlay ℕ) (o : Option (Layer ℕ)) → is_some o ≡ false
+            → option_to_list {X = ℕ × ℕ} (then_some o
+            (λ layer. option_map (λ object. (layer.filesystem, object)) (upper_object (overlay.real (number_of at.node)))))
+            ≡ []
+        without overlay None e = refl
+        without overlay (Some layer) e = absurd (true≢false e)
+
+        no_upper : (o : Option (Overlay ℕ)) → overlay_or false (λ overlay. is_some overlay.upper) o ≡ false
+            → overlay_or [] (λ overlay. upper_points (world_of value)
+            (filesystem_numbered nat_eq (world_of value) shown) overlay (number_of at.node)) o
+            ≡ []
+        no_upper None e = refl
+        no_upper (Some overlay) e = without overlay overlay.upper e
 
     -- a mount is a mount point of the location just where it stands over its inode
     pub point_seen : (mount : meant.Mount ℕ) → Among mount (mounts_in value.mounts)
@@ -192,12 +211,7 @@ module _ (value : WorldValue) (held : IsHeld value) where
     point_seen mount m =
         ap (list_any (λ (point : ℕ × ℕ). is_point nat_eq (world_of value) point.0 point.1 mount)) points_are
         ∙ or-false _
-        ∙ by mount.mount_point
-        (and_parts (is_directory_node ((filesystem_numbered nat_eq
-        (world_of value) mount.filesystem).files.tree.node mount.root))
-        (list_all (is_directory_at nat_eq (world_of value)) (option_to_list mount.mount_point))
-        (among_from_list_all (has_its_root nat_eq (world_of value))
-        (mounts_in value.mounts) held.in_world.roots mount m)).1
+        ∙ by mount.mount_point (mount_shows mount m).1
       where
         there : (place : meant.Location ℕ) → is_some (node_at nat_eq (world_of value) place) ≡ true → (b : Bool)
             → nat_eq place.node (number_of at.node) ≡ b
@@ -206,12 +220,11 @@ module _ (value : WorldValue) (held : IsHeld value) where
             ≡ (is_seen value at && b)
         there place is false e = sym (and-false (is_seen value at))
         there place is true e =
-            let own = own_filesystem value.filesystems held.own_inodes
-            (mount_at nat_eq (world_of value) place).filesystem place.node
-            (there_as_kept value held (mount_at nat_eq (world_of value) place).filesystem place.node is) in
-            let one = own_count own.0 at.node small
-            (ap (is_own_number own.0) (sym (eqb-true place.node (number_of at.node) e)) ∙ own.2) in
-            ap (λ n. nat_eq n (mount_at nat_eq (world_of value) (location_of at)).filesystem) (own.1 ∙ ap counted one)
+            let home = at_home value held (mount_at nat_eq (world_of value) place).filesystem at.node small
+            (ap (λ n. is_some ((filesystem_numbered nat_eq (world_of value)
+            (mount_at nat_eq (world_of value) place).filesystem).files.tree.node n))
+            (sym (eqb-true place.node (number_of at.node) e)) ∙ is) in
+            ap (λ n. nat_eq n (mount_at nat_eq (world_of value) (location_of at)).filesystem) home
             ∙ turned (counted at.node.filesystem.count) (mount_at nat_eq (world_of value) (location_of at)).filesystem
             ∙ sym (and-true (is_seen value at))
 
@@ -246,16 +259,10 @@ module _ (value : WorldValue) (held : IsHeld value) where
         (⊎_elim
         (λ m same.
         let mount = mount_at nat_eq (world_of value) (location_of at) in
-        let shows = and_parts (is_directory_node
-        ((filesystem_numbered nat_eq (world_of value) mount.filesystem).files.tree.node mount.root))
-        (list_all (is_directory_at nat_eq (world_of value)) (option_to_list mount.mount_point))
-        (among_from_list_all (has_its_root nat_eq (world_of value))
-        (mounts_in value.mounts) held.in_world.roots mount m) in
-        let own = own_filesystem value.filesystems held.own_inodes mount.filesystem mount.root
-        (there_as_kept value held mount.filesystem mount.root (directory_there _ shows.0)) in
-        let one = own_count own.0 at.node small
-        (ap (is_own_number own.0) (sym same) ∙ own.2) in
-        true≢false (sym (eq-eqb mount.filesystem (counted at.node.filesystem.count) (own.1 ∙ ap counted one)) ∙ unseen))
+        let home = at_home value held mount.filesystem at.node small
+        (ap (λ n. is_some ((filesystem_numbered nat_eq (world_of value) mount.filesystem).files.tree.node n))
+        (sym same) ∙ directory_there _ (mount_shows mount m).0) in
+        true≢false (sym (eq-eqb mount.filesystem (counted at.node.filesystem.count) home) ∙ unseen))
         (λ none same.
         counted_inode at.mount.count (born_in at.node.filesystem.count at.node.birth) at.node.slot
         (sym (ap (λ (mount : meant.Mount ℕ). mount.root) none) ∙ same))
@@ -281,8 +288,6 @@ module _ (value : WorldValue) (held : IsHeld value) where
         ∙ under_nowhere (filesystem_numbered nat_eq (world_of value) (counted at.mount.count)).files
         (counted at.mount.count)
         (number_of at.node)
-        (ap (λ (filesystem : Filesystem ℕ). filesystem.files.tree.node (counted at.mount.count))
-        (found_as_kept value held (counted at.mount.count))
-        ∙ no_counted_inode value.filesystems held.own_inodes (counted at.mount.count) at.mount.count)
+        (no_counted_inode value held (counted at.mount.count) at.mount.count)
         ∙ ne_eqb (counted at.mount.count) (number_of at.node)
         (counted_inode at.mount.count (born_in at.node.filesystem.count at.node.birth) at.node.slot)

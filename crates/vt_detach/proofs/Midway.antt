@@ -20,7 +20,7 @@ use Rattle.vt_laws_letting_go.specs.Mounting.{inode_at}
 use Rattle.vt_laws_letting_go.specs.OneByOne.{Inode}
 use Rattle.vt_laws_letting_go.proofs.Lists.{Among, among-from_map, among-map, fails, map_same}
 use Rattle.vt_location.specs.declared.locations.Location.{Location as Place}
-use Rattle.vt_location.specs.Locations.{location_of, number_of}
+use Rattle.vt_location.specs.Locations.{is_small_node, location_of, number_of}
 use Rattle.vt_location.specs.Numbers.{counted}
 use Rattle.vt_mount.specs.MountsValue.{MountEntry, changed, entry_numbered, mounts_in, released}
 use Rattle.vt_laws_letting_go.proofs.sweeps.UpperUses.{times_append}
@@ -255,7 +255,7 @@ module _ (value : WorldValue) (whole : IsHeld value) (start : World ℕ) (gained
   IsGoing k number point entry =
       (entry_numbered k.mounts number ≡ Some entry) × (goes entry.mount ≡ true)
       × (option_map location_of point ≡ entry.mount.mount_point)
-      × IfSome point (λ place. place.node.slot < 18446744073709551616)
+      × IfSome point (λ place. is_small_node place.node ≡ true)
 
   not_going_detached : (mount : Mount ℕ) → goes (detached mount) ≡ false
   not_going_detached mount = by (goes (detached mount)) refl
@@ -360,7 +360,7 @@ module _ (value : WorldValue) (whole : IsHeld value) (start : World ℕ) (gained
     unpinned_are = by point going.2 going.3
       where
         by : (o : Option Place) → option_map location_of o ≡ entry.mount.mount_point
-            → IfSome o (λ place. place.node.slot < 18446744073709551616)
+            → IfSome o (λ place. is_small_node place.node ≡ true)
             → unpinned_at o k.filesystems
             ≡ map (λ (one : Shown). record one {
               inodes = folded

@@ -25,7 +25,7 @@ use Rattle.vt_laws_letting_go.proofs.Lists.{Among, among-map, is_among_numbers, 
 use Rattle.vt_laws_letting_go.proofs.sweeps.OfWorlds.{mounts_of_worlds_stand}
 use Rattle.vt_laws_letting_go.proofs.leaving.PlacesLeft.{found_is_there}
 use Rattle.vt_location.specs.declared.locations.Location.{Location as At}
-use Rattle.vt_location.specs.Locations.{location_of, number_of}
+use Rattle.vt_location.specs.Locations.{is_small_node, location_of, number_of}
 use Rattle.vt_location.specs.Numbers.{counted}
 use Rattle.vt_mount.specs.MountsValue.{changed, mounts_in}
 use Rattle.vt_laws_mounts.proofs.mounts.MountsFound.{number_found}
@@ -262,8 +262,8 @@ module _ (value : WorldValue) (whole : IsHeld value) (name : TaskName) (number :
     (filesystems : Filesystems)
     (permits : Permits value name (ToMove number (location_of place)))
     (unshared : is_shared (mount_at nat_eq (world_of value) (location_of place)).propagation ≡ false)
-    (small : place.node.slot < 18446744073709551616)
-    (small_left : (point : At) → left ≡ Some point → point.node.slot < 18446744073709551616)
+    (small : is_small_node place.node ≡ true)
+    (small_left : (point : At) → left ≡ Some point → is_small_node point.node ≡ true)
     (left_is : option_map location_of left ≡ (mount_numbered nat_eq (world_of value) number).mount_point)
     (shown_is : shown filesystems ≡ unpinned_at left (pinned_in (inode_of place.node) (shown value.filesystems))) where
   abbrev there_world : World ℕ
@@ -286,7 +286,7 @@ module _ (value : WorldValue) (whole : IsHeld value) (name : TaskName) (number :
   place_inode = λ i. (sym (seen_where_located value whole place small place_located) i, number_of place.node)
 
   shown_moved : (o : Option At) → option_map location_of o ≡ (mount_numbered nat_eq (world_of value) number).mount_point
-      → ((point : At) → o ≡ Some point → point.node.slot < 18446744073709551616)
+      → ((point : At) → o ≡ Some point → is_small_node point.node ≡ true)
       → unpinned_at o (pinned_in (inode_of place.node) (shown value.filesystems))
       ≡ map (exchanged_shown gained lost) (shown value.filesystems)
   shown_moved None is few = absurd (true≢false (sym (ap is_some is ∙ may.placed)))

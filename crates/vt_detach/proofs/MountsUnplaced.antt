@@ -1,8 +1,15 @@
 -- What a mount leaves when it is detached.
-use Rattle.std.proofs.Common.{◌≡◌, refl, sym, ap, ◌∙◌, ℕ, nat_eq, Bool, true, false, cond, List, [], ◌∷◌, find, Option, Some, None, option_map}
+use Rattle.std.proofs.Common.{◌≡◌, ◌<◌, refl, sym, ap, subst, ◌∙◌, ℕ, suc, arith, ◌+◌, nat_eq, Bool, true, false, cond, List, [], ◌∷◌, drop, find, get_or, length, map, Option, Some, None, option_map}
+use Rattle.std.specs.Prelude.{IfSome}
+use Rattle.std.proofs.Math.Seq.{drop-cons}
+use Rattle.vt_location.specs.declared.locations.Location.{Location}
+use Rattle.vt_location.specs.declared.numbers.MountId.{MountId}
+use Rattle.vt_location.specs.Locations.{is_small_node, location_of}
+use Rattle.vt_location.specs.Numbers.{counted}
 use Rattle.std.specs.Option.{option_and_then}
 use Rattle.vt_spec.specs.Machine.Mounts.{Mount}
 use Rattle.vt_mount.specs.MountsValue.{MountEntry, changed, entry_numbered, mounts_in}
+use Rattle.vt_detach.specs.Detached.{LeaveInTurn}
 use Rattle.vt_detach.specs.Uses.{Kept, detached_entry, point_of, without_attachment}
 use Rattle.vt_detach.proofs.Shown.{found_entry, let_go_none}
 
@@ -42,3 +49,17 @@ detach_none number k none =
     by : (o : Option MountEntry) → option_map (λ entry. entry.mount) o ≡ None → o ≡ None
     by None e = refl
     by (Some entry) e = absurd cc
+
+-- what leaves in turn from the next one on leaves in turn from this one on
+pub turn_goes_on : (ids : List MountId) (i : ℕ) (d : MountId) → i < length ids → (k middle last : Kept)
+    (point : Option Location) → option_map location_of point ≡ point_of (counted (get_or ids i d).count) k.mounts
+    → IfSome point (λ place. is_small_node place.node ≡ true)
+    → middle ≡ without_attachment (counted (get_or ids i d).count) point k
+    → LeaveInTurn (map (λ (id : MountId). counted id.count) (drop (i + 1) ids)) middle last
+    → LeaveInTurn (map (λ (id : MountId). counted id.count) (drop i ids)) k last
+turn_goes_on ids i d less k middle last point at small left turn =
+    let next : suc i ≡ i + 1 = omega arith in
+    subst (λ (rest : List MountId). LeaveInTurn (map (λ (id : MountId). counted id.count) rest) k last)
+    (sym (drop-cons ids i d less ∙ ap (λ n. get_or ids i d ∷ drop n ids) next))
+    (point, at, small, subst (λ (one : Kept). LeaveInTurn (map (λ (id : MountId). counted id.count) (drop (i + 1) ids))
+    one last) left turn)

@@ -1,14 +1,13 @@
 -- The overlays of the code's world, and of worlds midway in an event, which leaves overlays as they are.
-use Rattle.std.proofs.Common.{◌≡◌, refl, sym, ap, subst, ◌∙◌, inl, inr, ℕ, nat_eq, nat_lt, Bool, true, false, true≢false, eqb-true, cond, not, ◌&&◌, List, [], ◌∷◌, map, filter, find, is_some, unwrap_or, arith}
+use Rattle.std.proofs.Common.{◌≡◌, refl, sym, ap, subst, ◌∙◌, inl, inr, ℕ, nat_eq, nat_lt, Bool, true, false, true≢false, eqb-true, cond, not, ◌&&◌, List, [], ◌∷◌, map, filter, is_some, arith}
 use Rattle.std.specs.Prelude.{All}
 use Rattle.std.specs.List.{list_all}
 use Rattle.vt_spec.specs.Lists.{any_pair}
 use Rattle.vt_spec.specs.Machine.Locked.{of_overlay}
 use Rattle.vt_spec.specs.Machine.SameWorlds.{SameFilesystems}
 use Rattle.vt_spec.specs.Machine.Settled.{filesystem_lives, is_mounted, only_used, settled, used_in, without_dead_in, without_dead_mounts}
-use Rattle.vt_spec.specs.Machine.World.{Filesystem, World, filesystem_numbered, is_overlay, no_filesystem}
+use Rattle.vt_spec.specs.Machine.World.{Filesystem, World, filesystem_numbered, is_overlay}
 use Rattle.vt_laws_counts.specs.BesideOverlays.{OverlaysHaveNoUpper}
-use Rattle.vt_laws_counts.specs.Counted.{IsPlain}
 use Rattle.vt_laws_counts.specs.OverlaysStay.{OverlaysAreNamed, layer_count}
 use Rattle.vt_laws_counts.proofs.overlays.Living.{overlays_are_mounted, overlays_use_filesystems}
 use Rattle.vt_laws_counts.proofs.overlays.NamedStay.{filter_stays}
@@ -20,13 +19,14 @@ use Rattle.vt_laws_letting_go.specs.TreesOverlays.{in_use_of}
 use Rattle.vt_laws_letting_go.proofs.Lists.{Among, all_from_among, among-filter, among-from_filter, among_from_all, among-from_map, among-map, filter_all}
 use Rattle.vt_laws_letting_go.proofs.sweeps.InUse.{after_first, after_second, number-first, number-second, overlay-left}
 use Rattle.vt_laws_letting_go.proofs.sweeps.OfWorlds.{found_filesystem}
+use Rattle.vt_laws_overlays_read.specs.Writers.{WritersHaveLayers}
 use Rattle.vt_laws_overlays_stay.specs.Woven.{ArePartedBy, are_rising, put_in, woven}
 use Rattle.vt_laws_overlays_stay.proofs.kept.OverlaysLeft.{by_overlays, no_upper_of_plain}
 use Rattle.vt_laws_overlays_stay.proofs.weaving.WovenLists.{rising_filtered, woven_lists_are_failing, woven_lists_are_passing}
 use Rattle.vt_fs.specs.FilesystemsValue.{FilesystemEntry, Filesystems, filesystem_seen, filesystems_seen}
 use Rattle.vt_location.specs.Numbers.{counted}
-use Rattle.vt_world.specs.Held.{HoldsOverlays, IsHeld, IsMountedSoOften}
-use Rattle.vt_world.specs.WorldValue.{OverlayEntry, WorldValue, overlays_seen, world_of}
+use Rattle.vt_world.specs.Held.{HasOwnNodes, HoldsOverlays, IsHeld, IsMountedSoOften}
+use Rattle.vt_world.specs.WorldValue.{WorldValue, overlays_seen, world_of}
 
 -- those that are no overlays
 abbrev pub is_plain_one : Filesystem ℕ → Bool
@@ -323,64 +323,22 @@ still_mounted old held world same =
     (world_of old).filesystems (overlays_are_mounted (world_of old) held.in_world) f there.0 there.1)
 
 -- What holds of overlays holds still of another value of the world with the same ones.
-pub overlays_hold_still : (old new : WorldValue) → HoldsOverlays old → new.overlays ≡ []
+pub overlays_hold_still : (old new : WorldValue) → HoldsOverlays old
     → overlays_seen new.overlays ≡ overlays_seen old.overlays → are_rising (world_of new).filesystems ≡ true
-    → All (IsMountedSoOften (world_of new)) new.overlays → HoldsOverlays new
-overlays_hold_still old new holds none same rising mounts = record {
+    → All (IsMountedSoOften (world_of new)) new.overlays → WritersHaveLayers (world_of new) → HoldsOverlays new
+overlays_hold_still old new holds same rising mounts writers = record {
   merged = subst (All (λ filesystem. is_overlay filesystem ≡ true)) (sym same) holds.merged;
   read_only = no_upper_midway old holds (world_of new) keeps;
+  writers = writers;
   named = named_midway old holds (world_of new) keeps;
   overlays_rise = ap are_rising same ∙ holds.overlays_rise;
   all_rise = rising;
   mounts = mounts;
-  none_yet = none;
+  own_nodes = subst (All HasOwnNodes) (sym same) holds.own_nodes;
 }
   where
     keeps : KeepsOverlays old (world_of new)
     keeps = record { overlays = same_overlays old new holds same; rise = rising }
-
--- no other value of the world has an overlay then
-pub none_still : (old new : WorldValue) → IsHeld old → overlays_seen new.overlays ≡ overlays_seen old.overlays
-    → new.overlays ≡ []
-none_still old new held same = by new.overlays (same ∙ ap overlays_seen held.overlays.none_yet)
-  where
-    by : (list : List OverlayEntry) → overlays_seen list ≡ [] → list ≡ []
-    by [] e = refl
-    by (first ∷ rest) e = absurd cc
-
--- Nothing makes an overlay yet: what is not stated for overlays takes these.
-
--- the filesystems of the code's world are those that are kept by their inodes
-pub only_plain_ones : (value : WorldValue) → IsHeld value
-    → (world_of value).filesystems ≡ filesystems_seen value.filesystems
-only_plain_ones value held =
-    ap (λ overlays. woven (filesystems_seen value.filesystems) (overlays_seen overlays)) held.overlays.none_yet
-
--- no filesystem of the code's world is an overlay
-pub world_is_plain : (value : WorldValue) → IsHeld value → IsPlain (world_of value)
-world_is_plain value held =
-    subst (All (λ filesystem. is_overlay filesystem ≡ false)) (sym (only_plain_ones value held))
-    (files_are_plain value.filesystems)
-
--- and the definitions find what is kept by its inodes
-pub found_as_kept : (value : WorldValue) → IsHeld value → (number : ℕ)
-    → filesystem_numbered nat_eq (world_of value) number
-    ≡ unwrap_or (find (λ (filesystem : Filesystem ℕ). nat_eq number filesystem.number)
-    (filesystems_seen value.filesystems)) (no_filesystem number)
-found_as_kept value held number =
-    ap (λ (list : List (Filesystem ℕ)).
-    unwrap_or (find (λ (filesystem : Filesystem ℕ). nat_eq number filesystem.number) list) (no_filesystem number))
-    (only_plain_ones value held)
-
--- so an inode that is there is one of those that are kept
-pub there_as_kept : (value : WorldValue) → IsHeld value → (number inode : ℕ)
-    → is_some ((filesystem_numbered nat_eq (world_of value) number).files.tree.node inode) ≡ true
-    → is_some ((unwrap_or (find (λ (filesystem : Filesystem ℕ). nat_eq number filesystem.number)
-    (filesystems_seen value.filesystems)) (no_filesystem number)).files.tree.node inode) ≡ true
-there_as_kept value held number inode there =
-    ap (λ (filesystem : Filesystem ℕ). is_some (filesystem.files.tree.node inode))
-    (sym (found_as_kept value held number))
-    ∙ there
 
 -- overlays of which each is shown are those that are shown
 pub all_shown : (old : WorldValue) (world : World ℕ) → AreStillMounted old world
@@ -402,6 +360,11 @@ module _ (old new : WorldValue) (holds : HoldsOverlays old) (stays : Filesystem 
       all_from_among (λ filesystem. is_overlay filesystem ≡ true) (overlays_seen new.overlays) (λ f m.
       among_from_all (λ filesystem. is_overlay filesystem ≡ true) (overlays_seen old.overlays) holds.merged f
       (was_there f m))
+
+  fewer_have_own : All HasOwnNodes (overlays_seen new.overlays)
+  fewer_have_own =
+      all_from_among HasOwnNodes (overlays_seen new.overlays) (λ f m.
+      among_from_all HasOwnNodes (overlays_seen old.overlays) holds.own_nodes f (was_there f m))
 
   fewer_rise : are_rising (overlays_seen new.overlays) ≡ true
   fewer_rise = ap are_rising left ∙ rising_filtered stays (overlays_seen old.overlays) holds.overlays_rise
@@ -428,9 +391,10 @@ module _ (old new : WorldValue) (holds : HoldsOverlays old) (stays : Filesystem 
 
   -- What holds of overlays holds of these.
   pub fewer_overlays_hold : are_rising (world_of new).filesystems ≡ true
-      → All (IsMountedSoOften (world_of new)) new.overlays → HoldsOverlays new
-  fewer_overlays_hold rising mounts = record {
+      → All (IsMountedSoOften (world_of new)) new.overlays → WritersHaveLayers (world_of new) → HoldsOverlays new
+  fewer_overlays_hold rising mounts writers = record {
     merged = fewer_are_merged;
+    writers = writers;
     read_only = all_from_among (λ f. of_overlay false (λ overlay. is_some overlay.upper) f ≡ false)
         (world_of new).filesystems (λ f m. no_upper f m (is_overlay f) refl);
     named = all_from_among (λ f. is_overlay f ≡ true → has_only_named f ≡ true) (world_of new).filesystems (λ f m e.
@@ -439,7 +403,7 @@ module _ (old new : WorldValue) (holds : HoldsOverlays old) (stays : Filesystem 
     overlays_rise = fewer_rise;
     all_rise = rising;
     mounts = mounts;
-    none_yet = none new.overlays (left ∙ ap (λ all. filter stays (overlays_seen all)) holds.none_yet);
+    own_nodes = fewer_have_own;
   }
     where
       no_upper : (f : Filesystem ℕ) → Among f (world_of new).filesystems → (b : Bool) → is_overlay f ≡ b
@@ -448,7 +412,3 @@ module _ (old new : WorldValue) (holds : HoldsOverlays old) (stays : Filesystem 
           among_from_all (λ g. of_overlay false (λ overlay. is_some overlay.upper) g ≡ false)
           (world_of old).filesystems holds.read_only f (overlay_before f m e)
       no_upper f m false e = no_upper_of_plain f e
-
-      none : (list : List OverlayEntry) → overlays_seen list ≡ [] → list ≡ []
-      none [] e = refl
-      none (first ∷ rest) e = absurd cc

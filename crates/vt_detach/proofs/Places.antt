@@ -15,7 +15,7 @@ use Rattle.vt_laws_rules.proofs.numbers.Supports.{used_numbers_are_named}
 use Rattle.vt_laws_letting_go.specs.Counts.{times}
 use Rattle.vt_laws_letting_go.proofs.Lists.{Among, among-append_left, among-append_right, among-flat_map, among-from_map, among_from_all, among_numbers, is_among_numbers, passes}
 use Rattle.vt_location.specs.declared.locations.Location.{Location}
-use Rattle.vt_location.specs.Locations.{location_of, number_of}
+use Rattle.vt_location.specs.Locations.{is_small_node, location_of, number_of}
 use Rattle.vt_location.specs.Numbers.{counted}
 use Rattle.vt_mount.specs.MountsValue.{MountEntry}
 use Rattle.vt_laws_runs.specs.Handed.{is_counted_before}
@@ -151,7 +151,7 @@ module _ (value : WorldValue) (whole : IsHeld value) (name : TaskName) (task new
 
 -- what code holds and leaves is what the definitions count
 kept_so : (value : WorldValue) (whole : IsHeld value) (at left : Location) (k one : Kept)
-    → at.node.slot < 18446744073709551616 → left.node.slot < 18446744073709551616
+    → is_small_node at.node ≡ true → is_small_node left.node ≡ true
     → is_located_well nat_eq (world_of value) (location_of at) ≡ true
     → is_located_well nat_eq (world_of value) (location_of left) ≡ true
     → one ≡ without_location left false (with_location at false k)
@@ -187,7 +187,7 @@ located_task value whole name task found =
 pub directory_is_set : (value : WorldValue) (name : TaskName) (directory left : Location) (mounts : List MountEntry)
     (filesystems : Filesystems) (overlays : List Merged) (tasks : Tasks)
     → IsHeld value → Permits value name (ToSetDirectory (location_of directory))
-    → directory.node.slot < 18446744073709551616 → left.node.slot < 18446744073709551616
+    → is_small_node directory.node ≡ true → is_small_node left.node ≡ true
     → Some (location_of left) ≡ option_map (λ task. task.directory) (called name value.tasks)
     → tasks ≡ changed_called name (λ task. record task { directory = location_of directory }) value.tasks
     → kept_with mounts filesystems overlays ≡ without_location left false
@@ -218,7 +218,7 @@ directory_is_set value name directory left mounts filesystems overlays tasks who
 pub root_is_set : (value : WorldValue) (name : TaskName) (root left : Location) (mounts : List MountEntry)
     (filesystems : Filesystems) (overlays : List Merged) (tasks : Tasks)
     → IsHeld value → Permits value name (ToSetRoot (location_of root))
-    → root.node.slot < 18446744073709551616 → left.node.slot < 18446744073709551616
+    → is_small_node root.node ≡ true → is_small_node left.node ≡ true
     → Some (location_of left) ≡ option_map (λ task. task.root) (called name value.tasks)
     → tasks ≡ changed_called name (λ task. record task { root = location_of root }) value.tasks
     → kept_with mounts filesystems overlays ≡ without_location left false

@@ -17,18 +17,17 @@ use Rattle.vt_spec.specs.Machine.Invariants.{IsWorld}
 use Rattle.vt_fs.specs.FilesystemsValue.{filesystem_seen}
 use Rattle.vt_laws_rules.specs.Numbers.{KeepsTo}
 use Rattle.vt_laws_letting_go.specs.Counts.{inode_uses, times}
-use Rattle.vt_laws_letting_go.specs.Leaving.{IsSettledPlain, is_location_among, only_these_are_left}
+use Rattle.vt_laws_letting_go.specs.Leaving.{is_location_among, only_these_are_left}
 use Rattle.vt_laws_letting_go.proofs.Lists.{Among, all_from_among, all_pass, among_from_all, any_passes, or_first}
 use Rattle.vt_location.specs.Numbers.{counted}
 use Rattle.vt_laws_runs.proofs.answered.AlikeWorlds.{sameness_is_an_equivalence}
 use Rattle.vt_tasks.specs.Counts.{one_if}
-use Rattle.vt_laws_worlds.proofs.RaisedInUse.{worlds_are_in_use}
-use Rattle.vt_laws_letting_go.proofs.sweeps.OfWorlds.{mounts_of_worlds_stand, worlds_are_settled, worlds_have_trees}
+use Rattle.vt_laws_letting_go.proofs.sweeps.OfWorlds.{worlds_are_settled}
 use Rattle.vt_laws_letting_go.proofs.leaving.LeftWithOverlays.{staying_keeps_overlays}
-use Rattle.vt_laws_counts.proofs.using.Swept.{plain_of}
 use Rattle.vt_laws_permits.specs.Left.{IsGiven}
 use Rattle.vt_laws_permits.specs.Named.{permit_named}
 use Rattle.vt_laws_permits.proofs.named.PermitsKeepTo.{permits_keep_to_numbers}
+use Rattle.vt_laws_overlays_read.specs.Writers.{WritersHaveLayers}
 use Rattle.vt_laws_overlays_stay.proofs.left.Given.{given_permits_give_no_upper}
 use Rattle.vt_laws_runs.specs.Handed.{is_counted_before}
 use Rattle.vt_tasks.specs.TasksValue.{Tasks, changed_by, changed_called, replaced}
@@ -36,24 +35,13 @@ use Rattle.vt_detach.specs.Events.{Becomes, Permits, credentials_called, left_by
 use Rattle.vt_world.specs.Held.{CountsItsMounts, CountsItsUses, CountsWhatIsInIt, IsHeld, writes_of, writes_of_task, writes_on}
 use Rattle.vt_world.specs.WorldValue.{WorldValue, world_of}
 use Rattle.vt_detach.proofs.Splits.{locations_stay, replaced_split, times_replaced, writes_replaced}
-pub use Rattle.vt_detach.proofs.Overlaid.{world_is_plain}
 use Rattle.vt_detach.proofs.Overlaid.{overlays_counted}
 use Rattle.vt_detach.proofs.Grouped.{same_has}
+use Rattle.vt_detach.proofs.Writers.{left_writers}
 
 -- the world with other tasks
 abbrev pub after : WorldValue → Tasks → WorldValue
 after value tasks = record value { tasks = tasks }
-
--- The world of the code
-
--- a world that code has is settled; nothing makes an overlay yet
-pub held_is_settled : (value : WorldValue) → IsHeld value → IsSettledPlain (world_of value)
-held_is_settled value held = record {
-  in_use = worlds_are_in_use (world_of value) held.in_world;
-  plain = plain_of (world_of value) (world_is_plain value held);
-  trees = worlds_have_trees (world_of value) held.in_world;
-  mounts = mounts_of_worlds_stand (world_of value) held.in_world;
-}
 
 -- Where all locations are as they were, all counts are.
 
@@ -81,8 +69,8 @@ module _ (value : WorldValue) (tasks : Tasks)
       ≡ times (λ task. nat_eq namespace task.namespace) value.tasks)
       → IsWorld nat_eq (world_of (after value tasks))
       → KeepsTo (is_counted_before value.next) (world_of (after value tasks))
-      → IsHeld (after value tasks)
-  stays_held held writes inside is keeps = record {
+      → WritersHaveLayers (world_of (after value tasks)) → IsHeld (after value tasks)
+  stays_held held writes inside is keeps writers = record {
     in_world = is;
     groups = same_has (world_of value) (world_of (after value tasks)) value.groups held.groups refl (λ group. refl);
     given = keeps;
@@ -108,11 +96,12 @@ module _ (value : WorldValue) (tasks : Tasks)
     overlays = record {
       merged = held.overlays.merged;
       read_only = held.overlays.read_only;
+      writers = writers;
       named = held.overlays.named;
       overlays_rise = held.overlays.overlays_rise;
       all_rise = held.overlays.all_rise;
       mounts = overlays_counted value (after value tasks) held.overlays refl (λ number. refl);
-      none_yet = held.overlays.none_yet;
+      own_nodes = held.overlays.own_nodes;
     };
     namespaces = all_from_among (CountsWhatIsInIt (world_of (after value tasks))) value.namespaces (λ entry m.
         let was = among_from_all (CountsWhatIsInIt
@@ -189,6 +178,8 @@ module _ (value : WorldValue) (name : TaskName) (permit : Permit ℕ) (task new 
       (subst (KeepsTo (is_counted_before value.next)) (stayed_exactly (λ k. 0))
       (permits_keep_to_numbers (is_counted_before value.next) (λ k. 0)
       (world_of value) task permit stays.given.called held.given (λ k. refl) stays.named))
+      (subst WritersHaveLayers (stayed_exactly (supply_of value permit))
+      (left_writers value held task permit stays.given))
 
 -- an event that leaves the invariants and does what its permit says
 pub record IsDone (value : WorldValue) (name : TaskName) (permit : Permit ℕ) (new : WorldValue) : Type 0 where

@@ -29,6 +29,8 @@ use Rattle.vt_retype.specs.Retyping.{retyped as retyped_entry}
 use Rattle.vt_laws_overlays_stay.proofs.left.Given.{given_permits_give_no_upper}
 use Rattle.vt_laws_runs.specs.Handed.{counts_from, is_counted_before}
 use Rattle.vt_laws_worlds.proofs.RaisedInUse.{worlds_are_in_use}
+use Rattle.vt_laws_overlays_read.specs.Writers.{WritersHaveLayers}
+use Rattle.vt_detach.proofs.Writers.{left_writers}
 use Rattle.vt_detach.specs.Events.{Permits, left_by, supply_of}
 use Rattle.vt_world.specs.Held.{CountsItsMounts, CountsItsUses, CountsWhatIsInIt, IsHeld}
 use Rattle.vt_world.specs.WorldValue.{WorldValue, world_of}
@@ -160,8 +162,8 @@ module _ (value : WorldValue) (whole : IsHeld value) (group : ℕ → ℕ) (word
 
   pub types_held : (next : ℕ) → IsWorld nat_eq (world_of (retyped_value value.next))
       → KeepsTo (is_counted_before next) (world_of (retyped_value value.next))
-      → IsHeld (retyped_value next)
-  types_held next is given = record {
+      → WritersHaveLayers (world_of (retyped_value value.next)) → IsHeld (retyped_value next)
+  types_held next is given writers = record {
     in_world = is;
     groups = now_has next;
     given = given;
@@ -189,13 +191,14 @@ module _ (value : WorldValue) (whole : IsHeld value) (group : ℕ → ℕ) (word
     overlays = record {
       merged = whole.overlays.merged;
       read_only = whole.overlays.read_only;
+      writers = writers;
       named = whole.overlays.named;
       overlays_rise = whole.overlays.overlays_rise;
       all_rise = whole.overlays.all_rise;
       mounts = overlays_counted value (retyped_value next) whole.overlays refl (λ number.
           ap (λ (world : World ℕ). mounts_showing world number) (sym (now_is next))
           ∙ same_showing (world_of value) kind (master_in groups) number);
-      none_yet = whole.overlays.none_yet;
+      own_nodes = whole.overlays.own_nodes;
     };
     namespaces = all_from_among (CountsWhatIsInIt (world_of (retyped_value next))) value.namespaces (λ entry m.
         let was = among_from_all (CountsWhatIsInIt (world_of value)) value.namespaces whole.namespaces entry m in
@@ -229,7 +232,9 @@ module _ (value : WorldValue) (whole : IsHeld value) (name : TaskName) (number :
           (subst (IsWorld nat_eq) settles
           (given_permits_give_no_upper (world_of value) (supply_of value (ToSetType number word recursive)) permits.task
           (ToSetType number word recursive) whole.in_world whole.overlays.read_only permits.given).0)
-          given;
+          given
+          (subst WritersHaveLayers settles
+          (left_writers value whole permits.task (ToSetType number word recursive) permits.given));
       becomes = becomes_so value name (ToSetType number word recursive)
           (retyped_value value whole group word named kind groups mounts has next) permits.task permits.called
           (subst (λ (world : World ℕ). SameWorlds

@@ -14,7 +14,7 @@ use Rattle.vt_laws_rules.proofs.numbers.Supports.{used_numbers_are_named}
 use Rattle.vt_laws_letting_go.proofs.Lists.{Among, among-append_left, among-flat_map, fails, is_among_numbers}
 use Rattle.vt_laws_letting_go.proofs.leaving.PlacesLeft.{found_is_there, found_itself, number_found}
 use Rattle.vt_location.specs.declared.locations.Location.{Location}
-use Rattle.vt_location.specs.Locations.{location_of}
+use Rattle.vt_location.specs.Locations.{is_small_node, location_of}
 use Rattle.vt_mount.specs.MountsValue.{MountEntry, mounts_in}
 use Rattle.vt_laws_runs.specs.Handed.{is_counted_before}
 use Rattle.vt_detach.specs.Events.{Permits}
@@ -78,7 +78,7 @@ pub unmount_is_done : (value : WorldValue) (name : TaskName) (number : ℕ) (poi
     → holds_of (λ (place : Place ℕ). is_shared (mount_at nat_eq (world_of value) place).propagation)
     (mount_numbered nat_eq (world_of value) number).mount_point ≡ false
     → option_map location_of point ≡ point_of number value.mounts
-    → IfSome point (λ point. point.node.slot < 18446744073709551616)
+    → IfSome point (λ point. is_small_node point.node ≡ true)
     → kept_with mounts filesystems overlays ≡ without_attachment number point (kept_of value)
     → IsDone value name (ToUnmount number) (remade_with value mounts filesystems overlays value.tasks)
 unmount_is_done value name number point mounts filesystems overlays whole permits free apart point_is few is_kept =

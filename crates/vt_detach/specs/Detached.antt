@@ -1,10 +1,10 @@
 -- Mounts that leave their namespaces one after the other.
-use Rattle.std.specs.Prelude.{IfSome, List, None, Option, Some, [], filter, flat_map, map, nat_eq, option_map, ℕ, ◌<◌, ◌∷◌, ◌≡◌, ◌^◌}
+use Rattle.std.specs.Prelude.{IfSome, List, None, Option, Some, [], filter, flat_map, map, nat_eq, option_map, true, ℕ, ◌∷◌, ◌≡◌}
 use Rattle.vt_spec.specs.Machine.Mounts.{Mount, mount_in, mount_tree}
 use Rattle.vt_group.specs.Grouping.{Grouping}
 use Rattle.vt_group.specs.Together.{TakesAway}
 use Rattle.vt_location.specs.declared.locations.Location.{Location}
-use Rattle.vt_location.specs.Locations.{location_of, number_of}
+use Rattle.vt_location.specs.Locations.{is_small_node, location_of, number_of}
 use Rattle.vt_mount.specs.MountsValue.{MountEntry, stands_over}
 use Rattle.vt_retype.specs.Retyping.{FollowTypes}
 use Rattle.vt_detach.specs.Uses.{Kept, point_of, without_attachment}
@@ -14,7 +14,7 @@ abbrev pub LeaveInTurn : List ℕ → Kept → Kept → Type 0
 LeaveInTurn [] k last = last ≡ k
 LeaveInTurn (number ∷ rest) k last =
     (point : Option Location) × (option_map location_of point ≡ point_of number k.mounts)
-    × IfSome point (λ point. point.node.slot < 2 ^ 64)
+    × IfSome point (λ point. is_small_node point.node ≡ true)
     × LeaveInTurn rest (without_attachment number point k) last
 
 -- They leave their groups at once, too, and then each mount has the type that the groups tell.

@@ -3,7 +3,7 @@
 use Rattle.std.specs.List.{list_any}
 use Rattle.std.specs.Prelude.{Bool, IfSome, List, None, Option, Some, [], false, filter, find, if◌then◌else◌, map, nat_eq, nat_le, nat_lt, not, option_map, true, ℕ, ◌<◌, ◌-◌, ◌∷◌, ◌≡◌, ◌^◌}
 use Rattle.vt_location.specs.declared.locations.Location.{Location}
-use Rattle.vt_location.specs.Locations.{location_of}
+use Rattle.vt_location.specs.Locations.{is_small_node, location_of}
 use Rattle.vt_group.specs.Grouping.{Grouping}
 use Rattle.vt_group.specs.Together.{TakesAway}
 use Rattle.vt_mount.specs.MountsValue.{MountEntry, entry_numbered, mounts_in}
@@ -52,7 +52,7 @@ pub record IsAttached (namespace : ℕ) (k : Kept) (one : Detached) : Type 0 whe
   pub found : entry_numbered k.mounts one.number ≡ Some entry
   pub inside : entry.mount.namespace ≡ Some namespace
   pub point : option_map location_of one.point ≡ entry.mount.mount_point
-  pub slot : IfSome one.point (λ point. point.node.slot < 2 ^ 64)
+  pub slot : IfSome one.point (λ point. is_small_node point.node ≡ true)
 
 -- mounts that are attached in a namespace are detached, one after the other
 abbrev pub AreDetached : ℕ → List Detached → Kept → Kept → Type 0
@@ -96,5 +96,5 @@ MountsAreLeft namespace (Some entry) old before new now = EndsIf (has_one_task e
 abbrev pub without_file : Kept → OpenFile → Kept
 without_file k file = without_location file.location (opens_for_writing (access_of file.access)) k
 
-abbrev pub has_slot : OpenFile → Bool
-has_slot file = nat_lt file.location.node.slot (2 ^ 64)
+abbrev pub is_small_file : OpenFile → Bool
+is_small_file file = is_small_node file.location.node

@@ -1,11 +1,12 @@
 -- Mounts, and a store of filesystems, as they are counted.
-use Rattle.std.specs.Prelude.{List, map}
+use Rattle.std.specs.Prelude.{Bool, List, filter, map, ℕ, ◌≡◌}
 use Rattle.vt_laws_letting_go.specs.OneByOne.{Inode}
 use Rattle.vt_location.specs.Locations.{inode_of}
 use Rattle.vt_location.specs.Numbers.{counted}
 use Rattle.vt_merge.specs.declared.layers.LayerRef.{LayerRef}
 use Rattle.vt_mount.specs.MountsValue.{MountEntry}
-use Rattle.vt_store.specs.OverlaysValue.{OverlayEntry}
+use Rattle.vt_overlay.specs.MergedTree.{OverlayValue}
+use Rattle.vt_store.specs.OverlaysValue.{OverlayEntry, Overlays}
 use Rattle.vt_store.specs.StoreValue.{StoreValue}
 use Rattle.vt_detach.specs.Uses.{Kept, Merged, kept_with}
 
@@ -18,3 +19,15 @@ merged_of entry =
 
 abbrev pub kept : List MountEntry → StoreValue → Kept
 kept mounts store = kept_with mounts store.plain (map merged_of store.overlays)
+
+-- the overlays under their counts, with their layers and who mounted them
+abbrev pub under_counts : Overlays → List (ℕ × OverlayValue)
+under_counts overlays = map (λ entry. (entry.count, entry.overlay)) overlays
+
+-- some of them are left, in their order
+abbrev pub OverlaysLeft : Overlays → Overlays → Type 0
+OverlaysLeft old new = (stays : ℕ × OverlayValue → Bool) × (under_counts new ≡ filter stays (under_counts old))
+
+-- or all, and none comes
+abbrev pub OverlaysStay : Overlays → Overlays → Type 0
+OverlaysStay old new = under_counts new ≡ under_counts old

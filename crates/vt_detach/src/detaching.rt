@@ -1,9 +1,9 @@
 //! Mounts that leave their namespaces: umount(2).
-ghost use Rattle.std.specs.Prelude.{◌<◌, ◌≡◌, IfSome, map, option_map, ◌^◌};
-ghost use Rattle.vt_location.specs.Locations.{location_of};
+ghost use Rattle.std.specs.Prelude.{◌≡◌, IfSome, map, option_map, true};
+ghost use Rattle.vt_location.specs.Locations.{is_small_node, location_of};
 ghost use Rattle.vt_location.specs.Numbers.{mount_number};
 ghost use Rattle.vt_detach.specs.Detached.{LeaveInTurn, LeaveTogether};
-ghost use Rattle.vt_detach.specs.Stored.{kept};
+ghost use Rattle.vt_detach.specs.Stored.{OverlaysLeft, kept};
 ghost use Rattle.vt_detach.specs.Uses.{point_of, without_attachment};
 
 use crate::uses::let_go_mount;
@@ -19,7 +19,8 @@ pub fn detach(mounts: &mut Mounts, store: &mut Store, id: MountId) -> Option<Loc
     ensures point { option_map location_of result ≡ point_of (mount_number id) mounts.old }
     ensures left { kept mounts.new store.new
         ≡ without_attachment (mount_number id) result (kept mounts.old store.old) }
-    ensures slot { IfSome result (λ point. point.node.slot < 2 ^ 64) }
+    ensures overlays { OverlaysLeft store.old.overlays store.new.overlays }
+    ensures slot { IfSome result (λ point. is_small_node point.node ≡ true) }
 {
     let mount = mounts.get(id)?;
     mounts.detach(id);
@@ -32,8 +33,9 @@ pub fn detach(mounts: &mut Mounts, store: &mut Store, id: MountId) -> Option<Loc
 
 /// Mounts leave their namespaces one after the other. It does not allocate.
 pub fn detach_each(mounts: &mut Mounts, store: &mut Store, ids: &[MountId])
-    ensures { LeaveInTurn (map mount_number ids.now) (kept mounts.old store.old)
+    ensures left { LeaveInTurn (map mount_number ids.now) (kept mounts.old store.old)
         (kept mounts.new store.new) }
+    ensures overlays { OverlaysLeft store.old.overlays store.new.overlays }
 {
     for id in ids {
         detach(mounts, store, *id);
@@ -43,8 +45,9 @@ pub fn detach_each(mounts: &mut Mounts, store: &mut Store, ids: &[MountId])
 /// Mounts leave their namespaces one after the other, and their groups at once: the slaves of a group that ends get its
 /// master. It does not allocate.
 pub fn detach_together(mounts: &mut Mounts, groups: &mut Groups, store: &mut Store, ids: &[MountId])
-    ensures { LeaveTogether (map mount_number ids.now) (kept mounts.old store.old) groups.old
+    ensures left { LeaveTogether (map mount_number ids.now) (kept mounts.old store.old) groups.old
         (kept mounts.new store.new) groups.new }
+    ensures overlays { OverlaysLeft store.old.overlays store.new.overlays }
 {
     detach_each(mounts, store, ids);
     leave_all(mounts, groups, ids);

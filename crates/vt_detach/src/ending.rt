@@ -2,7 +2,7 @@
 ghost use Rattle.std.specs.Prelude.{◌≡◌};
 ghost use Rattle.vt_location.specs.Numbers.{namespace_number};
 ghost use Rattle.vt_detach.specs.NamespacesLeft.{MountsAreLeft, NamespaceIsLeft, namespace_entry, with_one_task_less};
-ghost use Rattle.vt_detach.specs.Stored.{kept};
+ghost use Rattle.vt_detach.specs.Stored.{OverlaysLeft, kept};
 ghost use Rattle.vt_world.specs.WorldValue.{entries_of};
 
 use crate::detaching::detach;
@@ -27,6 +27,7 @@ pub fn leave_namespace(
         ≡ with_one_task_less id.count (entries_of namespaces.old.entries) }
     ensures mounts { MountsAreLeft (namespace_number id) (namespace_entry id.count (entries_of namespaces.old.entries))
         (kept mounts.old store.old) groups.old (kept mounts.new store.new) groups.new }
+    ensures overlays { OverlaysLeft store.old.overlays store.new.overlays }
 {
     let Some(namespace) = namespaces.get_mut(&id) else {
         return;
@@ -41,8 +42,9 @@ pub fn leave_namespace(
 
 // The mounts of a namespace are detached and leave their groups, the last one first.
 fn end_namespace(mounts: &mut Mounts, groups: &mut Groups, store: &mut Store, id: NamespaceId)
-    ensures { NamespaceIsLeft (namespace_number id) (kept mounts.old store.old) groups.old
+    ensures left { NamespaceIsLeft (namespace_number id) (kept mounts.old store.old) groups.old
         (kept mounts.new store.new) groups.new }
+    ensures overlays { OverlaysLeft store.old.overlays store.new.overlays }
 {
     while let Some(last) = mounts.attached_in(id).last() {
         let mount = *last;

@@ -1,10 +1,11 @@
 //! Uses of locations: a root, a working directory or an open file is a use of its mount and of its inode.
-ghost use Rattle.std.specs.Prelude.{◌<◌, ◌≡◌, [], IfSome, IsOk, OnErr, OnOk, ◌^◌};
+ghost use Rattle.std.specs.Prelude.{◌≡◌, [], IfSome, IsOk, OnErr, OnOk, true};
 ghost use Rattle.vt_fs.specs.FilesystemsValue.{shown};
+ghost use Rattle.vt_location.specs.Locations.{is_small_node};
 ghost use Rattle.vt_location.specs.Numbers.{filesystem_number, mount_number};
 ghost use Rattle.vt_detach.specs.Forking.{HasRoom};
 ghost use Rattle.vt_detach.specs.Uses as meant;
-ghost use Rattle.vt_detach.specs.Stored.{kept};
+ghost use Rattle.vt_detach.specs.Stored.{OverlaysLeft, kept};
 ghost use Rattle.vt_detach.specs.Uses.{merged_at, released_in, with_location, without_location};
 
 use std::alloc::AllocError;
@@ -22,7 +23,8 @@ pub fn hold(
 ) -> Result<(), AllocError>
     ensures ok { OnOk result
         (kept mounts.new store.new ≡ with_location at writes (kept mounts.old store.old)) }
-    ensures slot { at.node.slot < 2 ^ 64 }
+    ensures slot { is_small_node at.node ≡ true }
+    ensures overlays { store.new.overlays ≡ store.old.overlays }
     ensures room { HasRoom 1 at mounts.old store.old.plain → IsOk result }
     ensures err_mounts { OnErr result (mounts.new ≡ mounts.old) }
     ensures err_store { OnErr result (store.new ≡ store.old) }
@@ -38,7 +40,8 @@ pub fn hold(
 /// One use less of a location: what nothing uses any more goes. It does not allocate.
 pub fn leave(mounts: &mut Mounts, store: &mut Store, at: Location, writes: bool)
     ensures left { kept mounts.new store.new ≡ without_location at writes (kept mounts.old store.old) }
-    ensures slot { at.node.slot < 2 ^ 64 }
+    ensures overlays { OverlaysLeft store.old.overlays store.new.overlays }
+    ensures slot { is_small_node at.node ≡ true }
 {
     mounts.release(at.mount, writes);
     store.plain_mut().unpin(at.node);
@@ -47,7 +50,8 @@ pub fn leave(mounts: &mut Mounts, store: &mut Store, at: Location, writes: bool)
 
 /// A mount goes if it is in no namespace and nothing is on it, and its filesystem with its last mount.
 pub(crate) fn let_go_mount(mounts: &mut Mounts, store: &mut Store, id: MountId)
-    ensures { kept mounts.new store.new ≡ meant.let_go_mount (mount_number id) (kept mounts.old store.old) }
+    ensures left { kept mounts.new store.new ≡ meant.let_go_mount (mount_number id) (kept mounts.old store.old) }
+    ensures overlays { OverlaysLeft store.old.overlays store.new.overlays }
 {
     let Some(mount) = mounts.get(id) else {
         return;
@@ -62,7 +66,8 @@ pub(crate) fn let_go_mount(mounts: &mut Mounts, store: &mut Store, id: MountId)
 
 // One mount less of a filesystem, which goes with its last.
 fn leave_filesystem(store: &mut Store, id: FilesystemId)
-    ensures { kept [] store.new ≡ meant.leave_filesystem (filesystem_number id) (kept [] store.old) }
+    ensures left { kept [] store.new ≡ meant.leave_filesystem (filesystem_number id) (kept [] store.old) }
+    ensures overlays { OverlaysLeft store.old.overlays store.new.overlays }
 {
     if store.overlay(id).is_some() {
         leave_overlay(store, id);
@@ -73,8 +78,9 @@ fn leave_filesystem(store: &mut Store, id: FilesystemId)
 
 // One mount less of an overlay, which goes with its last, and its layers with it.
 fn leave_overlay(store: &mut Store, id: FilesystemId)
-    ensures { IfSome (merged_at (filesystem_number id) (kept [] store.old).overlays) (λ one.
+    ensures left { IfSome (merged_at (filesystem_number id) (kept [] store.old).overlays) (λ one.
         kept [] store.new ≡ meant.leave_filesystem (filesystem_number id) (kept [] store.old)) }
+    ensures overlays { OverlaysLeft store.old.overlays store.new.overlays }
 {
     store.release_mount(id);
     if store.mounts(id) == 0 {

@@ -1,16 +1,19 @@
 -- What holds of each world of the code: the invariants of a world, and that what is kept beside it, groups and counts,
 -- is what the definitions say.
-use Rattle.std.specs.Prelude.{All, Bool, List, None, [], false, nat_eq, true, ℕ, ◌&&◌, ◌+◌, ◌∷◌, ◌≡◌}
-use Rattle.vt_spec.specs.Machine.World.{Descriptor, Task, World, is_overlay}
+use Rattle.std.specs.Prelude.{All, Bool, List, None, [], false, is_some, nat_eq, true, ℕ, ◌&&◌, ◌+◌, ◌∷◌, ◌≡◌}
+use Rattle.vt_spec.specs.Machine.World.{Descriptor, Filesystem, Task, World, is_overlay}
 use Rattle.vt_spec.specs.Machine.Invariants.{IsWorld}
 use Rattle.vt_laws_counts.specs.BesideOverlays.{OverlaysHaveNoUpper}
 use Rattle.vt_laws_counts.specs.Counted.{IsCounted}
 use Rattle.vt_laws_counts.specs.OverlaysStay.{OverlaysAreNamed, layer_count}
+use Rattle.vt_laws_overlays_read.specs.Writers.{WritersHaveLayers}
 use Rattle.vt_laws_overlays_stay.specs.Woven.{are_rising}
 use Rattle.vt_fs.specs.FilesystemsValue.{FilesystemEntry, filesystem_seen, inodes_seen}
 use Rattle.vt_group.specs.Grouping.{Has}
 use Rattle.vt_laws_rules.specs.Numbers.{KeepsTo}
 use Rattle.vt_laws_letting_go.specs.Counts.{mount_uses, mounts_showing, times}
+use Rattle.vt_location.specs.declared.locations.NodeRef.{NodeRef}
+use Rattle.vt_location.specs.Locations.{is_small_node, number_of}
 use Rattle.vt_location.specs.Numbers.{counted, is_own_number}
 use Rattle.vt_mount.specs.MountsValue.{MountEntry}
 use Rattle.vt_laws_runs.specs.Handed.{is_counted_before}
@@ -42,17 +45,24 @@ pub record CountsItsMounts (world : World ℕ) (entry : FilesystemEntry) : Type 
 abbrev pub IsMountedSoOften : World ℕ → OverlayEntry → Type 0
 IsMountedSoOften world entry = entry.mounts ≡ mounts_showing world entry.number
 
--- The overlays of a world are read-only, and each of their inodes is the root or has a name. They are kept in the order
--- of their numbers, as all filesystems are.
+-- each inode of an overlay has the number of a node in it, by where that was born
+abbrev pub HasOwnNodes : Filesystem ℕ → Type 0
+HasOwnNodes filesystem =
+    (number : ℕ) → is_some (filesystem.files.tree.node number) ≡ true
+    → (node : NodeRef) × (is_small_node node ≡ true) × (filesystem.number ≡ counted node.filesystem.count)
+    × (number ≡ number_of node)
+
+-- The overlays of a world are read-only, so no descriptor is open for writing in one, and each of their inodes is the
+-- root or has a name. They are kept in the order of their numbers, as all filesystems are.
 pub record HoldsOverlays (value : WorldValue) : Type 0 where
   pub merged : All (λ filesystem. is_overlay filesystem ≡ true) (overlays_seen value.overlays)
   pub read_only : OverlaysHaveNoUpper (world_of value)
+  pub writers : WritersHaveLayers (world_of value)
   pub named : OverlaysAreNamed (world_of value)
   pub overlays_rise : are_rising (overlays_seen value.overlays) ≡ true
   pub all_rise : are_rising (world_of value).filesystems ≡ true
   pub mounts : All (IsMountedSoOften (world_of value)) value.overlays
-  -- nothing makes an overlay yet
-  pub none_yet : value.overlays ≡ []
+  pub own_nodes : All HasOwnNodes (overlays_seen value.overlays)
 
 -- the number of each inode is one that its filesystem gives to a slot
 abbrev pub HasOwnInodes : FilesystemEntry → Type 0

@@ -1,11 +1,11 @@
-use Rattle.std.proofs.Common.{ap, arith, false, subst, sym, true, true≢false, ◌&&◌, ◌<◌, ◌≡◌, ◌≤◌, ◌∙◌}
+use Rattle.std.proofs.Common.{ap, arith, false, rules, subst, sym, true, true≢false, ◌&&◌, ◌<◌, ◌≡◌, ◌≤◌, ◌∙◌}
 use Rattle.std.specs.Prelude.{nat_le}
 use Rattle.std.proofs.lemmas.Bool.{le-leb, lt-leb}
 use Rattle.vt_fs.specs.FilesystemsValue.{shown}
-use Rattle.vt_location.specs.Locations.{number_of}
+use Rattle.vt_location.specs.Locations.{is_small_node, number_of}
 use Rattle.vt_location.specs.Numbers.{counted}
 use Rattle.vt_attach.specs.Room as meant
-use Rattle.vt_attach.specs.Room.{uses_shown}
+use Rattle.vt_attach.specs.Room.{point_is_small, uses_shown}
 use Rattle.vt_detach.specs.Uses.{inode_of, mounts_shown}
 use Rattle.vt_attach.proofs.RoomLemmas.{uses_are_shown}
 use Rattle.vt_detach.proofs.Shown.{mounts_are_shown}
@@ -50,3 +50,15 @@ returns-else-point_has_room-clause-room c =
           c.if-point_has_room.false ∙ (λ i. sym used i && meant.point_has_room c.args.most all c.args.mount.mount_point
           && shows)
     ]
+
+pub returns-then-point_has_room-clause-slots : goal.returns-then-point_has_room-clause-slots
+returns-then-point_has_room-clause-slots c =
+    let root : is_small_node c.args.mount.root ≡ true = search rules in
+    let point : point_is_small c.args.mount.mount_point ≡ true = search rules in
+    λ i. root i && point i
+
+pub returns-else-point_has_room-clause-slots : goal.returns-else-point_has_room-clause-slots
+returns-else-point_has_room-clause-slots c =
+    let root : is_small_node c.args.mount.root ≡ true = search rules in
+    let point : point_is_small c.args.mount.mount_point ≡ true = search rules in
+    λ i. root i && point i

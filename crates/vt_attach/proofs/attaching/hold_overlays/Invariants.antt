@@ -1,6 +1,6 @@
 use Rattle.std.proofs.Common.{◌≡◌, map, take}
 use Rattle.vt_spec.specs.Lists.{folded}
-use Rattle.vt_detach.specs.Stored.{merged_of}
+use Rattle.vt_detach.specs.Stored.{OverlaysStay, merged_of}
 use Rattle.vt_detach.specs.Uses.{merged_by}
 use Rattle.vt_attach.proofs.attaching.hold_overlays.Given as goal
 
@@ -9,3 +9,4 @@ invariant-loop-mount l =
     (l.store.plain ≡ l.fn.store.plain)
     × (map merged_of l.store.overlays
     ≡ folded merged_by (map merged_of l.fn.store.overlays) (take l.mount-index l.new))
+    × OverlaysStay l.fn.store.overlays l.store.overlays

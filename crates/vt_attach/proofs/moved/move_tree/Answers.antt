@@ -10,7 +10,7 @@ use Rattle.vt_location.specs.MountValue.{mount_of}
 use Rattle.vt_mount.specs.MountsValue.{are_ascending, mounts_in}
 use Rattle.vt_attach.specs.Moved.{top_point, typed_all, with_types}
 use Rattle.vt_attach.specs.Planned.{Point, is_small, points_left, points_taken, with_planned}
-use Rattle.vt_attach.specs.Room.{has_small_slots}
+use Rattle.vt_attach.specs.Room.{has_small_nodes}
 use Rattle.vt_detach.specs.Stored.{kept}
 use Rattle.vt_attach.proofs.moved.move_tree.Goals as goal
 
@@ -60,7 +60,7 @@ returns-clause-ok c =
           (subst (λ (list : List NewGroup). GrowsTo c.args.groups.now c.attach_grouped.new.groups
           (map typed c.deref-4.result.now) (map new_group list)) c.deref-2.ensures.value
           c.in_ok-attach_grouped.ensures.groups_ok);
-      slots = ap (list_all has_small_slots) (sym come) ∙ c.in_ok-attach_grouped.ensures.slots;
+      slots = ap (list_all has_small_nodes) (sym come) ∙ c.in_ok-attach_grouped.ensures.slots;
       taken_small = ap (λ (list : List Point). list_all is_small (points_taken list c.args.mounts.now)) (sym points)
           ∙ c.in_ok-attach_grouped.ensures.places;
     }

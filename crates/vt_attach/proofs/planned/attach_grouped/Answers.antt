@@ -81,3 +81,6 @@ returns-clause-ok c =
         overlays = c.hold_overlays.ensures.overlays i;
       },
     )
+
+pub returns-clause-overlays : goal.returns-clause-overlays
+returns-clause-overlays c = c.hold_overlays.ensures.stay

@@ -1,12 +1,14 @@
-use Rattle.std.proofs.Common.{◌≡◌, Some, None, ap, sym, map, option_map, ◌∙◌}
+use Rattle.std.proofs.Common.{◌≡◌, Some, None, ap, refl, subst, sym, map, option_map, ◌∙◌}
 use Rattle.vt_fs.specs.FilesystemsValue.{shown}
 use Rattle.vt_location.specs.Locations.{location_of, number_of}
 use Rattle.vt_location.specs.MountValue.{mount_of}
 use Rattle.vt_location.specs.Numbers.{counted}
+use Rattle.vt_store.specs.OverlaysValue.{Overlays}
 use Rattle.vt_store.specs.StoreValue.{StoreValue}
-use Rattle.vt_detach.specs.Stored.{kept, merged_of}
+use Rattle.vt_detach.specs.Stored.{OverlaysLeft, kept, merged_of}
 use Rattle.vt_detach.specs.Uses.{let_go_mount, unpinned_at, unpinned_in, without_attachment}
 use Rattle.vt_detach.proofs.MountsUnplaced.{detach_none, point_seen}
+use Rattle.vt_detach.proofs.OverlaysListed.{left_itself}
 use Rattle.vt_detach.proofs.Shown.{unpins}
 use Rattle.vt_detach.proofs.detaching.detach.Goals as goal
 use Rattle.vt_detach.proofs.detaching.detach.Goals.{in-Some, in_default}
@@ -47,6 +49,19 @@ returns-clause-left c =
       | in-Some w ↦ ap (λ (store : StoreValue). store.overlays) w.store-is
       | in_default w ↦ ap (λ (store : StoreValue). store.overlays) w.store-is
     ] in
-    c.let_go_mount.ensures
+    c.let_go_mount.ensures.left
     ∙ ap (let_go_mount (counted c.args.id.count))
     (λ i. record { mounts = c.detach.ensures i; filesystems = unpinned i; overlays = map merged_of (overlays i) })
+
+pub returns-in_err-mount-clause-overlays : goal.returns-in_err-mount-clause-overlays
+returns-in_err-mount-clause-overlays c = left_itself c.args.store.now.overlays c.args.store.now.overlays refl
+
+pub returns-clause-overlays : goal.returns-clause-overlays
+returns-clause-overlays c =
+    let overlays : c.match-mount.store.overlays ≡ c.args.store.now.overlays =
+    elim c.match-mount.branch [
+      | in-Some w ↦ ap (λ (store : StoreValue). store.overlays) w.store-is
+      | in_default w ↦ ap (λ (store : StoreValue). store.overlays) w.store-is
+    ] in
+    subst (λ (old : Overlays). OverlaysLeft old c.let_go_mount.new.store.overlays) overlays
+    c.let_go_mount.ensures.overlays

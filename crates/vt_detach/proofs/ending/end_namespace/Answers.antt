@@ -12,6 +12,7 @@ use Rattle.vt_detach.specs.NamespacesLeft.{AreDetached, Detached, is_attached_in
 use Rattle.vt_detach.specs.Stored.{kept, merged_of}
 use Rattle.vt_detach.specs.Uses.{Kept, without_attachment}
 use Rattle.vt_detach.proofs.EndingLemmas.{attached_so, none_listed, one_detached_less, one_more_detached}
+use Rattle.vt_detach.proofs.OverlaysListed.{left_itself, left_twice}
 use Rattle.vt_detach.proofs.TypesAside.{all_taken, attached_alike, detached_alike, gone_numbers, is_attached-alike, last_listed, none_alike, one_more_gone, still_detached, with_types}
 use Rattle.vt_detach.proofs.ending.end_namespace.Goals as goal
 
@@ -23,6 +24,7 @@ loop-last-init c = record {
   only_types = λ groups. refl;
   groups = λ world has live. none_yet as_private world c.args.groups.now live has;
   types = still_at_first c.args.groups.now c.args.mounts.now;
+  overlays = left_itself c.args.store.now.overlays c.args.store.now.overlays refl;
 }
 
 pub loop-last-smaller : goal.loop-last-smaller
@@ -91,10 +93,12 @@ loop-last-preserved c =
           (sym c.detach.ensures.left)
           (still_detached c.loop-last.groups numbers number point k (sofar.types typed)))
           (last_listed number numbers) c.leave.ensures.told c.leave.ensures.slaves);
+      overlays = left_twice c.args.store.now.overlays c.loop-last.store.overlays c.detach.new.store.overlays
+          sofar.overlays c.detach.ensures.overlays;
     }
 
-pub returns : goal.returns
-returns c =
+pub returns-clause-left : goal.returns-clause-left
+returns-clause-left c =
     let namespace = counted c.args.id.count in
     let sofar = c.loop-last.invariant in
     let first = kept c.args.mounts.now c.args.store.now in
@@ -111,3 +115,6 @@ returns c =
           sym (still_done c.loop-last.groups (gone_numbers sofar.gone) c.loop-last.mounts (sofar.types typed))
           ∙ sofar.only_types c.loop-last.groups;
     }
+
+pub returns-clause-overlays : goal.returns-clause-overlays
+returns-clause-overlays c = c.loop-last.invariant.overlays

@@ -9,7 +9,7 @@ use Rattle.vt_retype.specs.Leaving.{OnlyTypesChange}
 use Rattle.vt_retype.specs.Retyping.{AreTyped}
 use Rattle.vt_retype.proofs.Left.{StillTyped}
 use Rattle.vt_detach.specs.NamespacesLeft.{AreDetached, Detached, is_attached_in}
-use Rattle.vt_detach.specs.Stored.{kept}
+use Rattle.vt_detach.specs.Stored.{OverlaysLeft, kept}
 use Rattle.vt_detach.proofs.TypesAside.{gone_numbers}
 use Rattle.vt_detach.proofs.ending.end_namespace.Given as goal
 use Rattle.vt_laws_mounts.specs.Mounts.Receivers.{AllGroupsLive}
@@ -27,6 +27,7 @@ invariant-loop-last l = record {
       → Has (regrouped nat_eq (with_changed as_private world (gone_numbers gone))) l.groups;
   types : AreTyped l.initial.groups l.initial.mounts
       → StillTyped l.groups (gone_numbers gone) (gone_numbers gone) l.mounts;
+  overlays : OverlaysLeft l.initial.store.overlays l.store.overlays;
 }
 
 -- how many are still to go

@@ -5,6 +5,7 @@ use Rattle.std.specs.Option.{option_copied_mut}
 use Rattle.vt_location.specs.Numbers.{counted}
 use Rattle.vt_detach.specs.Stored.{kept}
 use Rattle.vt_detach.proofs.EndingLemmas.{absent_left, absent_mounts, fewer_left, fewer_mounts, last_left, last_mounts}
+use Rattle.vt_detach.proofs.OverlaysListed.{left_itself}
 use Rattle.vt_detach.proofs.NamespaceEntries.{is_id, written_back}
 use Rattle.vt_detach.proofs.ending.leave_namespace.Goals as goal
 
@@ -54,4 +55,13 @@ returns-clause-mounts c =
     (kept c.end_namespace.new.mounts c.end_namespace.new.store) c.end_namespace.new.groups c.in-Some.namespace.now
     (sym c.get_mut.ensures.value ∙ ap option_copied_mut c.in-Some.is)
     (le-leb c.in-Some.namespace.now.tasks 1 c.if-namespace-gt1.false)
-    c.end_namespace.ensures
+    c.end_namespace.ensures.left
+
+pub returns-in_default-clause-overlays : goal.returns-in_default-clause-overlays
+returns-in_default-clause-overlays c = left_itself c.args.store.now.overlays c.args.store.now.overlays refl
+
+pub returns-then-namespace-gt1-clause-overlays : goal.returns-then-namespace-gt1-clause-overlays
+returns-then-namespace-gt1-clause-overlays c = left_itself c.args.store.now.overlays c.args.store.now.overlays refl
+
+pub returns-clause-overlays : goal.returns-clause-overlays
+returns-clause-overlays c = c.end_namespace.ensures.overlays

@@ -9,7 +9,7 @@ use Rattle.vt_detach.proofs.uses.leave.Goals as goal
 
 pub returns-clause-left : goal.returns-clause-left
 returns-clause-left c =
-    c.let_go_mount.ensures
+    c.let_go_mount.ensures.left
     ∙ ap (let_go_mount (counted c.args.at.mount.count)) (λ i. record {
       mounts = c.release.ensures i;
       filesystems = (unpins c.args.at.node.filesystem.count (number_of c.args.at.node) c.plain_mut.result.now
@@ -18,3 +18,6 @@ returns-clause-left c =
           c.plain_mut.ensures.value) i;
       overlays = map merged_of c.args.store.now.overlays;
     })
+
+pub returns-clause-overlays : goal.returns-clause-overlays
+returns-clause-overlays c = c.let_go_mount.ensures.overlays
