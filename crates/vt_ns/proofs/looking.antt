@@ -3,7 +3,6 @@ pub mod Lending
 pub mod LooksKept
 pub mod LostKept
 pub mod MarksTold
-pub mod NodesOwned
 pub mod OverlaysAt
 pub mod OverlaysLooked
 pub mod StoreLooked

@@ -1,23 +1,19 @@
 -- What code finds in what is kept of a world is what the definitions see of its value.
-use Rattle.std.proofs.Common.{◌≡◌, refl, sym, ap, subst, ◌∙◌, ℕ, ◌<◌, nat_eq, eqb-true, true≢false, Bool, true, false, cond, is_some, not, ◌&&◌, ◌||◌, List, [], ◌∷◌, zero, suc, length, Option, Some, None, flat_map, map, option_map, unwrap_or}
-use Rattle.std.specs.Prelude.{find, option_to_list}
+use Rattle.std.proofs.Common.{◌≡◌, refl, sym, ap, subst, ◌∙◌, ℕ, nat_eq, eqb-true, true≢false, Bool, true, false, cond, is_some, not, ◌&&◌, ◌||◌, List, [], ◌∷◌, zero, suc, length, Option, Some, None, option_map, unwrap_or}
+use Rattle.std.specs.Prelude.{find}
 use Rattle.std.specs.List.{list_any}
-use Rattle.vt_spec.specs.Language.Changes.{Change}
 use Rattle.vt_spec.specs.FileTree.{is_directory_under, is_removed}
 use Rattle.vt_spec.specs.Machine.Detach.{mounts_on}
-use Rattle.vt_spec.specs.Machine.Filesystems.{has_lower_directory_at, mounter_rules, overlay_rules, path_of_name}
-use Rattle.vt_spec.specs.Machine.Layers.{has_lower_directory}
-use Rattle.vt_spec.specs.Machine.Locked.{is_locked_at, lies_or_counts_under, of_overlay, overlay_or}
 use Rattle.vt_spec.specs.Machine.Mounts as meant
 use Rattle.vt_spec.specs.Lists.{chain, holds_of, last_or}
 use Rattle.vt_spec.specs.Machine.Looks.{topmost}
 use Rattle.vt_spec.specs.Machine.Walking.{is_lost}
 use Rattle.vt_spec.specs.Machine.Mounts.{child_at, no_mount, root_of, same_location, stands_on}
-use Rattle.vt_spec.specs.Machine.World.{Filesystem, filesystem_at, filesystem_numbered, is_removed_at, layers_of, mount_at, mount_numbered, node_at, open_layer}
+use Rattle.vt_spec.specs.Machine.World.{filesystem_at, filesystem_numbered, is_removed_at, mount_at, mount_numbered, node_at}
 use Rattle.vt_location.specs.declared.locations.Location.{Location}
 use Rattle.vt_location.specs.declared.locations.NodeRef.{NodeRef}
 use Rattle.vt_location.specs.declared.mounts.Mount.{Mount}
-use Rattle.vt_location.specs.Locations.{location_of, number_of}
+use Rattle.vt_location.specs.Locations.{is_small_node, location_of, number_of}
 use Rattle.vt_location.specs.MountValue.{mount_of}
 use Rattle.vt_location.specs.Numbers.{counted}
 use Rattle.vt_location.proofs.NumberLemmas.{counted_test}
@@ -31,12 +27,10 @@ use Rattle.std.proofs.Math.Bool.{or-true}
 use Rattle.vt_detach.specs.Looking.{is_seen, looks_of_value}
 use Rattle.vt_world.specs.Lent.{lent_of_world}
 use Rattle.vt_world.specs.StoredWorld.{with_store}
-use Rattle.vt_world.specs.WorldValue.{WorldValue, overlays_seen, world_of}
+use Rattle.vt_world.specs.WorldValue.{WorldValue, world_of}
 use Rattle.vt_store.specs.StoreValue.{StoreValue, files_in, lent_in}
 use Rattle.vt_spec.specs.Tree.{Node, Tree}
 use Rattle.vt_spec.proofs.Options.{none_is_some}
-use Rattle.vt_detach.proofs.FilesystemsFound.{found_plain}
-use Rattle.vt_detach.proofs.Overlaid.{found_as_kept, overlays_are}
 use Rattle.vt_detach.proofs.LookLemmas.{any_point, missing_root, under_another, unseen_node, unseen_removed, unseen_root}
 use Rattle.vt_detach.proofs.StoreShown.{files_shown}
 use Rattle.vt_ns.proofs.looking.StoreLooked.{lent_shown, under_shown}
@@ -56,7 +50,7 @@ module _ (value : WorldValue) (number : ℕ) (got : Option Mount)
 
 -- what is shown at a location of a world that holds a store
 module _ (base : WorldValue) (store : StoreValue) (value : WorldValue) (is : with_store store base ≡ value)
-    (held : IsHeld (with_store store base)) (at : Location) (small : at.node.slot < 18446744073709551616) where
+    (held : IsHeld (with_store store base)) (at : Location) (small : is_small_node at.node ≡ true) where
   abbrev kept : WorldValue
   kept = with_store store base
 
@@ -153,7 +147,7 @@ module _ (base : WorldValue) (store : StoreValue) (value : WorldValue) (is : wit
       (number_of directory)) (sym (in_filesystem seen)))
 
   -- none lies under one of another filesystem
-  pub under_apart : (directory : NodeRef) → directory.slot < 18446744073709551616
+  pub under_apart : (directory : NodeRef) → is_small_node directory ≡ true
       → (is_seen value at && nat_eq directory.filesystem.count at.node.filesystem.count) ≡ false
       → nat_eq (number_of at.node) (number_of directory)
       ≡ is_directory_under nat_eq (filesystem_at nat_eq (world_of value) (location_of at)).files (number_of at.node)
@@ -266,29 +260,3 @@ pub seen_on : (value : WorldValue) (at : Location) (ground : Ground) (b : Bool)
 seen_on value at ground b is same =
     ap (λ n. nat_eq n (counted at.node.filesystem.count)) (sym is.filesystem)
     ∙ counted_test ground.filesystem.count at.node.filesystem.count ∙ same
-
--- Nothing makes an overlay yet. So nothing is locked, no lower layer has a directory, and no mounter is asked for a
--- change.
-module _ (value : WorldValue) (held : IsHeld value) (at : meant.Location ℕ) where
-  plain : (filesystem_at nat_eq (world_of value) at).overlay ≡ None
-  plain =
-      ap (λ (filesystem : Filesystem ℕ). filesystem.overlay)
-      (found_as_kept value held (mount_at nat_eq (world_of value) at).filesystem)
-      ∙ found_plain value.filesystems (mount_at nat_eq (world_of value) at).filesystem
-
-  pub unlocked : is_locked_at nat_eq (world_of value) at ≡ false
-  unlocked = ap (λ all.
-      list_any (lies_or_counts_under nat_eq (world_of value)
-      (mount_at nat_eq (world_of value) at).filesystem at.node)
-      (flat_map (of_overlay [] layers_of) all))
-      (overlays_are value held.overlays ∙ ap overlays_seen held.overlays.none_yet)
-
-  pub no_lower_directory : (name : List ℕ) → has_lower_directory_at nat_eq (world_of value) at name ≡ false
-  no_lower_directory name = ap (overlay_or false (λ overlay. has_lower_directory
-      (map (open_layer nat_eq (world_of value)) (option_to_list overlay.upper))
-      (map (open_layer nat_eq (world_of value)) overlay.lowers)
-      (path_of_name nat_eq (world_of value) at name))) plain
-
-  pub unasked : (change : Change ℕ) → mounter_rules nat_eq (world_of value) at change ≡ []
-  unasked change =
-      ap (overlay_or [] (overlay_rules nat_eq (filesystem_at nat_eq (world_of value) at) change)) plain

@@ -6,12 +6,13 @@ use Rattle.vt_location.specs.Locations.{is_small_node, number_of}
 use Rattle.vt_location.specs.SameNodes.{same_birth}
 use Rattle.vt_location.specs.Numbers.{counted}
 use Rattle.vt_location.proofs.NodeLemmas.{nodes_test}
+use Rattle.vt_location.proofs.NumberLemmas.{counted_test}
 use Rattle.vt_world.specs.Held.{IsHeld}
 use Rattle.vt_world.specs.WorldValue.{WorldValue, world_of}
 use Rattle.vt_detach.proofs.LookLemmas.{turned}
+use Rattle.vt_detach.proofs.NodesFound.{in_no_other}
 use Rattle.vt_fs.proofs.TreesLookedAt.{nowhere_under}
 use Rattle.vt_ns.specs.LyingUnder.{lies_under}
-use Rattle.vt_ns.proofs.looking.NodesOwned.{in_no_other}
 
 -- what is in another filesystem does not
 pub lies_apart : (value : WorldValue) (top directory : NodeRef) → IsHeld value → is_small_node top ≡ true
@@ -20,7 +21,10 @@ pub lies_apart : (value : WorldValue) (top directory : NodeRef) → IsHeld value
     → lies_under value (counted top.filesystem.count) (number_of top) (number_of directory) ≡ false
 lies_apart value top directory held small directory_small other =
     nowhere_under (filesystem_numbered nat_eq (world_of value) (counted top.filesystem.count)).files (number_of top)
-    (number_of directory) (in_no_other value held top.filesystem.count directory directory_small other)
+    (number_of directory)
+    (in_no_other value held (counted top.filesystem.count) directory directory_small
+    (counted_test top.filesystem.count directory.filesystem.count
+    ∙ turned top.filesystem.count directory.filesystem.count ∙ other))
     ∙ nodes_test top directory small directory_small
     ∙ ap (λ b. b && (nat_eq top.slot directory.slot && same_birth top.birth directory.birth))
     (turned top.filesystem.count directory.filesystem.count ∙ other)

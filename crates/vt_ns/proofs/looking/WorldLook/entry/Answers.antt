@@ -1,4 +1,4 @@
-use Rattle.std.proofs.Common.{ap, arith, ◌∙◌, ℕ}
+use Rattle.std.proofs.Common.{ap, rules, ◌∙◌, ℕ}
 use Rattle.std.specs.Prelude.{Option}
 use Rattle.vt_spec.specs.Tree.{Node, entries_in, entry_named}
 use Rattle.vt_detach.proofs.StoreShown.{store_stands}
@@ -11,9 +11,9 @@ entry-requires c = record {
   standing = store_stands (the_view c.self.inside) c.self.inside.store c.self.invariant;
   object =
       object_is (the_view c.self.inside) c.self.inside.store c.args.self.now c.self.view_is c.self.invariant c.args.at
-      (omega arith)
+      (search rules)
       (seen_if_lent (the_view c.self.inside) c.self.inside.store c.args.self.now c.self.view_is c.self.invariant
-      c.args.at (omega arith) c.args.object.now c.requires)
+      c.args.at (search rules) c.args.object.now c.requires)
       ∙ c.requires;
 }
 
@@ -22,6 +22,6 @@ returns c =
     c.entry.ensures
     ∙ ap (λ (node : Option (Node ℕ)). entry_named c.args.name.now (entries_in node))
     (node_is (the_view c.self.inside) c.self.inside.store c.args.self.now c.self.view_is c.self.invariant c.args.at
-    (omega arith)
+    (search rules)
     (seen_if_lent (the_view c.self.inside) c.self.inside.store c.args.self.now c.self.view_is c.self.invariant
-    c.args.at (omega arith) c.args.object.now c.requires))
+    c.args.at (search rules) c.args.object.now c.requires))

@@ -1,4 +1,4 @@
-use Rattle.std.proofs.Common.{arith, eqb-true, sym, ◌∙◌}
+use Rattle.std.proofs.Common.{rules, eqb-true, sym, ◌∙◌}
 use Rattle.vt_detach.proofs.StoreShown.{parents_named_in, store_stands}
 use Rattle.vt_ns.proofs.looking.LooksKept.{lost_apart, lost_is, lost_missing}
 use Rattle.vt_ns.proofs.looking.StoreLooked.{store_rooted}
@@ -22,14 +22,14 @@ pub returns-in-Some : goal.returns-in-Some
 returns-in-Some c =
     c.is_lost.ensures
     ∙ lost_is (the_view c.self.inside) c.self.inside.store c.args.self.now c.self.view_is c.self.invariant c.args.at
-    (omega arith) c.get.result c.get.ensures c.in-Some.mount c.in-Some.is
+    (search rules) c.get.result c.get.ensures c.in-Some.mount c.in-Some.is
 
 pub returns-in_default : goal.returns-in_default
 returns-in_default c =
     lost_apart (the_view c.self.inside) c.self.inside.store c.args.self.now c.self.view_is c.self.invariant c.args.at
-    (omega arith) c.get.result c.get.ensures c.in-Some.mount c.in-Some.is (sym c.eq.ensures ∙ c.if-eq.false)
+    (search rules) c.get.result c.get.ensures c.in-Some.mount c.in-Some.is (sym c.eq.ensures ∙ c.if-eq.false)
 
 pub returns-in_default-2 : goal.returns-in_default-2
 returns-in_default-2 c =
     lost_missing (the_view c.self.inside) c.self.inside.store c.args.self.now c.self.view_is c.self.invariant c.args.at
-    (omega arith) c.get.result c.get.ensures c.in_default.is
+    (search rules) c.get.result c.get.ensures c.in_default.is

@@ -1,4 +1,4 @@
-use Rattle.std.proofs.Common.{ap, arith, not, sym, ◌∙◌, ℕ}
+use Rattle.std.proofs.Common.{ap, rules, not, sym, ◌∙◌, ℕ}
 use Rattle.std.specs.Prelude.{Option}
 use Rattle.vt_spec.specs.Lists.{is_empty_list}
 use Rattle.vt_spec.specs.Tree.{Node, entries_in}
@@ -15,11 +15,11 @@ returns-then-is_seen c =
     c.is_nonempty.ensures
     ∙ ap (λ (node : Option (Node ℕ)). not (is_empty_list (entries_in node)))
     (node_is (the_view c.self.inside) c.self.inside.store c.args.self.now c.self.view_is c.self.invariant c.args.at
-    (omega arith) (sym c.is_seen.ensures ∙ c.if-is_seen.true))
+    (search rules) (sym c.is_seen.ensures ∙ c.if-is_seen.true))
 
 pub returns-else-is_seen : goal.returns-else-is_seen
 returns-else-is_seen c =
     c.if-is_seen.false
     ∙ ap (λ (node : Option (Node ℕ)). not (is_empty_list (entries_in node)))
     (sym (no_node (the_view c.self.inside) c.self.inside.store c.args.self.now c.self.view_is c.self.invariant c.args.at
-    (omega arith) (sym c.is_seen.ensures ∙ c.if-is_seen.false)))
+    (search rules) (sym c.is_seen.ensures ∙ c.if-is_seen.false)))

@@ -1,4 +1,4 @@
-use Rattle.std.proofs.Common.{ap, arith, eqb-true, nat_eq, sym, ◌&&◌, ◌∙◌}
+use Rattle.std.proofs.Common.{ap, rules, eqb-true, nat_eq, sym, ◌&&◌, ◌∙◌}
 use Rattle.vt_detach.proofs.StoreShown.{parents_named_in, store_stands}
 use Rattle.vt_ns.proofs.looking.LooksKept.{under_apart, under_is}
 use Rattle.vt_ns.proofs.looking.WorldLook.is_under.Goals as goal
@@ -20,14 +20,14 @@ pub returns-then-eq : goal.returns-then-eq
 returns-then-eq c =
     c.is_under.ensures
     ∙ under_is (the_view c.self.inside) c.self.inside.store c.args.self.now c.self.view_is c.self.invariant c.args.top
-    (omega arith) c.args.directory
+    (search rules) c.args.directory
     (sym c.is_seen.ensures ∙ c.if-is_seen.true)
 
 pub returns-else-is_seen : goal.returns-else-is_seen
 returns-else-is_seen c =
     c.is_same.ensures
     ∙ under_apart (the_view c.self.inside) c.self.inside.store c.args.self.now c.self.view_is c.self.invariant c.args.top
-    (omega arith) c.args.directory (omega arith)
+    (search rules) c.args.directory (search rules)
     (elim c.else-is_seen.branch [
       | else-is_seen-via-then-is_seen+else-eq w ↦
           (λ i. (sym c.is_seen.ensures ∙ w.if-is_seen.true) i && (sym w.eq.ensures ∙ w.if-eq.false) i)

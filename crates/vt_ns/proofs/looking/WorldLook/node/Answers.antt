@@ -1,4 +1,4 @@
-use Rattle.std.proofs.Common.{arith, sym, ◌∙◌}
+use Rattle.std.proofs.Common.{rules, sym, ◌∙◌}
 use Rattle.vt_detach.proofs.StoreShown.{store_stands}
 use Rattle.vt_ns.proofs.looking.LooksKept.{no_object, object_is}
 use Rattle.vt_ns.proofs.looking.WorldLook.node.Goals as goal
@@ -11,9 +11,9 @@ pub returns-then-is_seen : goal.returns-then-is_seen
 returns-then-is_seen c =
     c.object.ensures
     ∙ object_is (the_view c.self.inside) c.self.inside.store c.args.self.now c.self.view_is c.self.invariant c.args.at
-    (omega arith) (sym c.is_seen.ensures ∙ c.if-is_seen.true)
+    (search rules) (sym c.is_seen.ensures ∙ c.if-is_seen.true)
 
 pub returns-else-is_seen : goal.returns-else-is_seen
 returns-else-is_seen c =
     sym (no_object (the_view c.self.inside) c.self.inside.store c.args.self.now c.self.view_is c.self.invariant c.args.at
-    (omega arith) (sym c.is_seen.ensures ∙ c.if-is_seen.false))
+    (search rules) (sym c.is_seen.ensures ∙ c.if-is_seen.false))

@@ -1,4 +1,4 @@
-use Rattle.std.proofs.Common.{arith, false, sym, true, ◌∙◌}
+use Rattle.std.proofs.Common.{rules, false, sym, true, ◌∙◌}
 use Rattle.vt_detach.proofs.StoreShown.{store_stands}
 use Rattle.vt_ns.proofs.looking.LooksKept.{no_object, object_is, seen_on}
 use Rattle.vt_ns.proofs.looking.WorldLook.node_on.Goals as goal
@@ -11,9 +11,9 @@ pub returns-then-eq : goal.returns-then-eq
 returns-then-eq c =
     c.object.ensures
     ∙ object_is (the_view c.self.inside) c.self.inside.store c.args.self.now c.self.view_is c.self.invariant c.args.at
-    (omega arith) (seen_on c.args.self.now c.args.at c.args.ground true c.requires (sym c.eq.ensures ∙ c.if-eq.true))
+    (search rules) (seen_on c.args.self.now c.args.at c.args.ground true c.requires (sym c.eq.ensures ∙ c.if-eq.true))
 
 pub returns-else-eq : goal.returns-else-eq
 returns-else-eq c =
     sym (no_object (the_view c.self.inside) c.self.inside.store c.args.self.now c.self.view_is c.self.invariant c.args.at
-    (omega arith) (seen_on c.args.self.now c.args.at c.args.ground false c.requires (sym c.eq.ensures ∙ c.if-eq.false)))
+    (search rules) (seen_on c.args.self.now c.args.at c.args.ground false c.requires (sym c.eq.ensures ∙ c.if-eq.false)))

@@ -1,4 +1,4 @@
-use Rattle.std.proofs.Common.{ap, arith, sym, ◌∙◌, ℕ}
+use Rattle.std.proofs.Common.{ap, rules, sym, ◌∙◌, ℕ}
 use Rattle.std.specs.Prelude.{Option}
 use Rattle.vt_spec.specs.Tree.{Node, parent_in}
 use Rattle.vt_location.specs.Locations.{number_of}
@@ -15,10 +15,10 @@ returns-then-is_seen c =
     c.parent.ensures
     ∙ ap (λ (node : Option (Node ℕ)). parent_in (number_of c.args.at.node) node)
     (node_is (the_view c.self.inside) c.self.inside.store c.args.self.now c.self.view_is c.self.invariant c.args.at
-    (omega arith) (sym c.is_seen.ensures ∙ c.if-is_seen.true))
+    (search rules) (sym c.is_seen.ensures ∙ c.if-is_seen.true))
 
 pub returns-else-is_seen : goal.returns-else-is_seen
 returns-else-is_seen c =
     ap (λ (node : Option (Node ℕ)). parent_in (number_of c.args.at.node) node)
     (sym (no_node (the_view c.self.inside) c.self.inside.store c.args.self.now c.self.view_is c.self.invariant c.args.at
-    (omega arith) (sym c.is_seen.ensures ∙ c.if-is_seen.false)))
+    (search rules) (sym c.is_seen.ensures ∙ c.if-is_seen.false)))

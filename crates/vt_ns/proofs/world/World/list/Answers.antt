@@ -1,4 +1,4 @@
-use Rattle.std.proofs.Common.{arith, map, subst, ◌≡◌, IfOk}
+use Rattle.std.proofs.Common.{map, rules, subst, ◌≡◌, IfOk}
 use Rattle.vt_location.specs.Locations.{location_of}
 use Rattle.vt_spec.specs.Tree.{names_in}
 use Rattle.vt_ns.specs.contracts.world.World.{the_view}
@@ -19,7 +19,7 @@ returns c = record {
       let there = listed_there c.args.self.now (subst IsHeld c.self.view_is c.self.invariant) c.args.name.now
       (location_of c.args.directory) c.requires in
       subst (λ node. IfOk c.names.result (λ names. map (λ name. name.items) names.items ≡ names_in node))
-      (node_is base store c.args.self.now c.self.view_is c.self.invariant c.args.directory (omega arith)
-      (seen_if_there base store c.args.self.now c.self.view_is c.self.invariant c.args.directory (omega arith) there))
+      (node_is base store c.args.self.now c.self.view_is c.self.invariant c.args.directory (search rules)
+      (seen_if_there base store c.args.self.now c.self.view_is c.self.invariant c.args.directory (search rules) there))
       c.names.ensures.ok;
 }
