@@ -95,11 +95,10 @@ impl Look for World {
     }
 
     fn parent(&self, at: Location) -> NodeRef {
-        if self.is_seen(at) {
-            self.store.parent(at.node)
-        } else {
-            at.node
+        if !self.is_seen(at) {
+            return at.node;
         }
+        self.store.parent(at.node)
     }
 
     #[inline(always)]

@@ -10,15 +10,15 @@ use Rattle.vt_ns.specs.contracts.world.World.{the_view}
 pub parent-requires : goal.parent-requires
 parent-requires c = store_stands (the_view c.self.inside) c.self.inside.store c.self.invariant
 
-pub returns-then-is_seen : goal.returns-then-is_seen
-returns-then-is_seen c =
+pub returns-then-not-is_seen : goal.returns-then-not-is_seen
+returns-then-not-is_seen c =
+    ap (λ (node : Option (Node ℕ)). parent_in (number_of c.args.at.node) node)
+    (sym (no_node (the_view c.self.inside) c.self.inside.store c.args.self.now c.self.view_is c.self.invariant c.args.at
+    (search rules) (sym c.is_seen.ensures ∙ c.if-not-is_seen.true)))
+
+pub returns : goal.returns
+returns c =
     c.parent.ensures
     ∙ ap (λ (node : Option (Node ℕ)). parent_in (number_of c.args.at.node) node)
     (node_is (the_view c.self.inside) c.self.inside.store c.args.self.now c.self.view_is c.self.invariant c.args.at
-    (search rules) (sym c.is_seen.ensures ∙ c.if-is_seen.true))
-
-pub returns-else-is_seen : goal.returns-else-is_seen
-returns-else-is_seen c =
-    ap (λ (node : Option (Node ℕ)). parent_in (number_of c.args.at.node) node)
-    (sym (no_node (the_view c.self.inside) c.self.inside.store c.args.self.now c.self.view_is c.self.invariant c.args.at
-    (search rules) (sym c.is_seen.ensures ∙ c.if-is_seen.false)))
+    (search rules) (sym c.is_seen.ensures ∙ c.if-not-is_seen.false))
