@@ -176,9 +176,11 @@ impl Look for World {
 
     // No filesystem is an overlay, since no call mounts one: so nothing is locked, and no mounter is asked for a change.
 
-    fn is_locked(&self, _at: Location) -> bool {
-        self.is_held();
-        false
+    fn is_locked(&self, at: Location) -> bool {
+        match at.node.plain() {
+            Some(inode) if self.is_seen(at) => self.store.is_in_layer(inode),
+            _ => false,
+        }
     }
 
     fn has_lower_directory(&self, _at: Location, _name: &[u8]) -> bool {
