@@ -174,14 +174,14 @@ impl Look for World {
         }
     }
 
-    // No filesystem is an overlay, since no call mounts one: so nothing is locked, and no mounter is asked for a change.
-
     fn is_locked(&self, at: Location) -> bool {
         match at.node.plain() {
             Some(inode) if self.is_seen(at) => self.store.is_in_layer(inode),
             _ => false,
         }
     }
+
+    // These two are asked of what has an upper layer, if it is an overlay: so of plain trees.
 
     fn has_lower_directory(&self, _at: Location, _name: &[u8]) -> bool {
         self.is_held();
