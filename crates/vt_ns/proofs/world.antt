@@ -3,6 +3,7 @@ pub mod BoundEvents
 pub mod BoundTrees
 pub mod ChangedWithMounts
 pub mod Counted
+pub mod DetachedStored
 pub mod DirectoryRemoved
 pub mod FileAnswers
 pub mod FileMaking
@@ -20,6 +21,7 @@ pub mod OpeningNew
 pub mod PivotedEvents
 pub mod PivotedUses
 pub mod PivotedWorlds
+pub mod PlainStored
 pub mod PointsMoved
 pub mod RemainingTasks
 pub mod RenamedOver

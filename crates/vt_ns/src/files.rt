@@ -84,6 +84,7 @@ impl World {
     {
         let bytes = part.bytes.as_slice();
         if bytes.is_empty() {
+            self.is_held();
             return Ok(());
         }
         self.store

@@ -110,14 +110,14 @@ opened_alike : (world : World ℕ) (trees : Filesystems) (layer : LayerRef) → 
     → open_layer nat_eq world (layer_seen layer) ≡ layer_of trees layer
 opened_alike world trees layer shows = λ i. record { tree = sym shows.tree i; directory = inode_of layer.directory }
 
-all_opened : (world : World ℕ) (trees : Filesystems) (layers : List LayerRef) → All (ShowsLayer world trees) layers
+pub all_opened : (world : World ℕ) (trees : Filesystems) (layers : List LayerRef) → All (ShowsLayer world trees) layers
     → map (open_layer nat_eq world) (map layer_seen layers) ≡ layers_of trees layers
 all_opened world trees [] all = refl
 all_opened world trees (layer ∷ layers) all =
     λ i. opened_alike world trees layer (All-head (ShowsLayer world trees) layer layers all) i
     ∷ all_opened world trees layers (All-tail (ShowsLayer world trees) layer layers all) i
 
-no_larger : (world : World ℕ) (trees : Filesystems) (layers : List LayerRef) (most : ℕ)
+pub no_larger : (world : World ℕ) (trees : Filesystems) (layers : List LayerRef) (most : ℕ)
     → longest trees layers ≤ most → All (ShowsLayer world trees) layers
     → All (λ (layer : Layer ℕ). length (files_of world layer).numbers ≤ most) (map layer_seen layers)
 no_larger world trees [] most within all = All-nil _
@@ -144,14 +144,14 @@ module _ (world : World ℕ) (trees : Filesystems) (overlay : OverlayValue) (sho
       ≡ map (open_layer nat_eq world) (map layer_seen overlay.lowers)
   both_open = layers_are trees overlay shows.are ∙ sym (all_opened world trees overlay.lowers shows.all)
 
-  tree_kept : tree_seen numbered (λ number. None) most (plain_world trees) (overlay_seen overlay)
+  pub tree_kept : tree_seen numbered (λ number. None) most (plain_world trees) (overlay_seen overlay)
       ≡ tree_seen numbered (λ number. None) most world (record (overlay_seen overlay) { real = real })
   tree_kept =
       seen_in (plain_world trees) (map layer_seen overlay.lowers) overlay.mounter (λ number. None) numbered most
       ∙ ap (λ layers. tree_in layers numbered most) both_open
       ∙ sym (seen_in world (map layer_seen overlay.lowers) overlay.mounter real numbered most)
 
-  real_kept : real_seen numbered (λ number. None) most (plain_world trees) (overlay_seen overlay)
+  pub real_kept : real_seen numbered (λ number. None) most (plain_world trees) (overlay_seen overlay)
       ≡ real_seen numbered (λ number. None) most world (record (overlay_seen overlay) { real = real })
   real_kept =
       real_seen_in (plain_world trees) (map layer_seen overlay.lowers) overlay.mounter (λ number. None) numbered most

@@ -15,41 +15,43 @@ use Rattle.vt_spec.specs.Machine.Permits.Permit.{ToChange}
 use Rattle.vt_spec.specs.Machine.Receives.{inheriting, lost_a_group, regrouped, regrouped_by}
 use Rattle.vt_spec.specs.Machine.SameWorlds.{SameWorlds}
 use Rattle.vt_spec.specs.Machine.Settled.{layers_in, located_in, named_in, objects_of_overlay, settled}
-use Rattle.vt_spec.specs.Machine.World.{Filesystem, World, all_locations, filesystem_at, filesystem_numbered, mount_at, replaced_if_numbered, with_filesystem}
-use Rattle.vt_spec.specs.Machine.Invariants.{IsWorld, ListsNumbers, TreeInvariants, is_within_limits}
+use Rattle.vt_spec.specs.Machine.Locked.{overlay_or}
+use Rattle.vt_spec.specs.Machine.World.{Filesystem, World, all_locations, filesystem_at, filesystem_numbered, is_overlay, mount_at, replaced_if_numbered, with_filesystem}
+use Rattle.vt_spec.specs.Machine.Invariants.{IsWorld, ListsNumbers, OverlayInvariants, TreeInvariants, is_within_limits}
 use Rattle.vt_spec.specs.TreeInvariant.{IsTree}
 use Rattle.vt_laws_counts.specs.Changing.{filesystem_of}
-use Rattle.vt_laws_counts.specs.Counted.{IsPlain}
 use Rattle.vt_fs.specs.FilesystemsValue.{Filesystems, filesystem_seen}
 use Rattle.vt_group.specs.Grouping.{Grouping, Has}
 use Rattle.vt_group.specs.Together.{TakesAway}
 use Rattle.vt_laws_permits.specs.Named.{permit_named}
 use Rattle.vt_laws_permits.proofs.named.PermitsKeepTo.{permits_keep_to_numbers}
-use Rattle.vt_laws_permits.proofs.left.PermitsLeave.{given_permits_are_under_way}
 use Rattle.vt_laws_one_text.proofs.same.SameNumbers.{any_same_worlds_keep_to_numbers}
 use Rattle.vt_laws_one_text.proofs.same.SameWhole.{any_same_worlds_are_worlds}
-use Rattle.vt_laws_overlays_stay.proofs.left.Given.{given_permits_give_no_upper}
+use Rattle.vt_laws_overlay_permits.proofs.kept.KeptOverlays.{overlays_in}
+use Rattle.vt_laws_overlay_permits.proofs.worlds.SweptWorlds.{settling_leaves_every_world}
+use Rattle.vt_laws_overlays_stay.proofs.left.Given.{given_permits_are_under_way_without_upper, given_permits_give_no_upper}
 use Rattle.vt_laws_letting_go.proofs.Lists.{Among, all_from_among, among-append_right, among-filter, among-filter_map, among-map, among_from_all, is_among_left, is_among_numbers, is_among_right, map_same, or_second}
 use Rattle.vt_laws_letting_go.proofs.leaving.NamesKept.{changes_keep_names}
-use Rattle.vt_laws_letting_go.proofs.sweeps.OfWorlds.{worlds_have_trees}
-use Rattle.vt_laws_letting_go.proofs.leaving.TreesChanged.{unnamed_go}
+use Rattle.vt_laws_letting_go.proofs.sweeps.OfWorlds.{worlds_are_settled, worlds_have_trees}
+use Rattle.vt_laws_letting_go.proofs.leaving.TreesWithOverlays.{unnamed_go_with_overlays}
 use Rattle.vt_laws_letting_go.specs.FileChanges.{MayChange, names_lost}
 use Rattle.vt_laws_letting_go.specs.InUse.{IsListedTree, is_inode_used}
-use Rattle.vt_laws_letting_go.specs.OneByOne.{let_go_inode, let_go_inode_of, without_inode}
+use Rattle.vt_laws_letting_go.specs.OneByOne.{Inode}
+use Rattle.vt_laws_letting_go.specs.Overlays.{is_plain, let_go_all_inodes, let_go_in, let_go_in_of, let_go_plain, uppers_in, uppers_of_inode_in, without_inode_of}
 use Rattle.vt_laws_letting_go.specs.TreeChanges.{ChangesTree}
 use Rattle.vt_mount.specs.MountsValue.{MountEntry}
 use Rattle.vt_laws_runs.specs.Handed.{is_counted_before}
-use Rattle.vt_laws_runs.proofs.answered.AlikeMounts.{regrouped_alike}
-use Rattle.vt_laws_runs.proofs.answered.AlikeSettled.{settled_alike}
-use Rattle.vt_laws_runs.proofs.answered.AlikeWorlds.{alike_from_same, same_from_alike, sameness_is_an_equivalence}
-use Rattle.vt_laws_worlds.specs.Worlds.Kept.{IsWorldButForUse}
+use Rattle.vt_laws_one_text.proofs.answered.AlikeMounts.{regrouped_alike}
+use Rattle.vt_laws_one_text.proofs.answered.AlikeSettled.{settled_alike}
+use Rattle.vt_laws_one_text.proofs.answered.AlikeWorlds.{alike_from_same, same_from_alike}
+use Rattle.vt_laws_runs.proofs.answered.AlikeWorlds.{sameness_is_an_equivalence}
+use Rattle.vt_laws_worlds.specs.Worlds.Kept.{IsUnderWay}
 use Rattle.vt_laws_worlds.specs.Worlds.Permits.{IsFitPermit, NamesWhatIsThere}
-use Rattle.vt_laws_worlds.proofs.kept.MountsKept.{mounts_kept}
-use Rattle.vt_laws_worlds.proofs.kept.NamespacesKept.{namespaces_kept}
-use Rattle.vt_laws_worlds.proofs.worlds.PermitsNamed.{permits_keep_counting_forks, permits_keep_names}
-use Rattle.vt_laws_worlds.proofs.worlds.PermitsPlaced.{permits_keep_directories, permits_keep_locations, permits_keep_open_files}
-use Rattle.vt_laws_worlds.proofs.worlds.PermitsShow.{permits_keep_mounts_showing}
-use Rattle.vt_laws_worlds.proofs.settling.SettledTasks.{settling_leaves_a_world}
+use Rattle.vt_laws_worlds.proofs.kept.MountsKept.{all_mounts_kept}
+use Rattle.vt_laws_worlds.proofs.kept.NamespacesKept.{all_namespaces_kept}
+use Rattle.vt_laws_worlds.proofs.worlds.PermitsNamed.{all_permits_keep_counting_forks, all_permits_keep_names}
+use Rattle.vt_laws_worlds.proofs.worlds.PermitsPlaced.{directories_stay, locations_stay, open_files_stay}
+use Rattle.vt_laws_worlds.proofs.worlds.PermitsShow.{all_permits_keep_mounts_showing}
 use Rattle.vt_detach.specs.Events.{Permits, supply_of}
 use Rattle.vt_detach.specs.Detached.{LeaveInTurn, LeaveTogether}
 use Rattle.vt_world.specs.Held.{CountsWhatIsInIt, IsHeld}
@@ -62,11 +64,12 @@ use Rattle.vt_detach.proofs.DetachingEnds.{detached_counted, detached_is_private
 use Rattle.vt_group.proofs.Others.{has_ordered}
 use Rattle.vt_detach.proofs.Finishing.{swept_held}
 use Rattle.vt_detach.proofs.FollowedTypes.{own_types}
-use Rattle.vt_detach.proofs.Overlaid.{found_plain_one, keeps_itself, plain_one_among, same_files_keep, world_is_plain}
+use Rattle.vt_detach.proofs.Overlaid.{found_plain_one, keeps_itself, plain_one_among, same_files_keep}
 use Rattle.vt_detach.proofs.Keeping.{IsKeptBut, detached_in}
 use Rattle.vt_detach.proofs.MountsGone.{pending_filesystem, pending_number}
-use Rattle.vt_detach.proofs.Remaining.{remade}
-use Rattle.vt_detach.proofs.Staying.{IsDone, becomes_so, held_is_settled}
+use Rattle.vt_detach.proofs.Moving.{swap_eq}
+use Rattle.vt_detach.proofs.Remaining.{remade_with}
+use Rattle.vt_detach.proofs.Staying.{IsDone, becomes_so}
 use Rattle.vt_detach.proofs.TypedEvents.{counts_typed, swept_typed, typed_value}
 use Rattle.vt_detach.proofs.TypedWorlds.{settled_typed, settled_typed_has, typed_world}
 use Rattle.vt_detach.proofs.UnmountedLazily.{all_detached}
@@ -152,35 +155,44 @@ module _ (value : WorldValue) (held : IsHeld value) (location : Location ℕ) (c
         applied supply ∙ changed_regrouped supply gone
         ∙ ap (λ w. regrouped nat_eq (detached_world gone w)) (changed_is supply ∙ sym (changed_is fresh))
 
-    last_under_way : IsWorldButForUse (regrouped nat_eq (detached_world gone (changed_first fresh)))
+    -- the invariants of a world before the sweep
+    abbrev IsReady : World ℕ → Type 0
+    IsReady one = IsUnderWay one × OverlayInvariants nat_eq one
+
+    last_under_way : IsReady (regrouped nat_eq (detached_world gone (changed_first fresh)))
     last_under_way =
-        subst IsWorldButForUse (leaves fresh)
-        (given_permits_are_under_way world fresh permits.task permit held.in_world
-        (world_is_plain value held) permits.given)
+        subst IsReady (leaves fresh)
+        (let ready = given_permits_are_under_way_without_upper world fresh permits.task permit held.in_world
+        held.overlays.read_only permits.given in (ready.0, ready.1))
 
     -- groups that end leave the trees as they are
-    trees_under_way : (b : Bool) → IsWorldButForUse (regrouped_by nat_eq b (detached_world gone (changed_first fresh)))
-        → IsPlain (changed_first fresh) × TreeInvariants nat_eq (changed_first fresh)
+    trees_under_way : (b : Bool) → IsReady (regrouped_by nat_eq b (detached_world gone (changed_first fresh)))
+        → TreeInvariants nat_eq (changed_first fresh) × OverlayInvariants nat_eq (changed_first fresh)
     trees_under_way true last = (
-      last.plain,
       record {
-        trees = last.files.trees;
-        own_parents = last.files.own_parents;
-        numbers = last.files.numbers;
-        one_filesystem = last.files.one_filesystem;
-        fit_filesystems = last.files.fit_filesystems;
+        trees = last.0.files.trees;
+        own_parents = last.0.files.own_parents;
+        numbers = last.0.files.numbers;
+        one_filesystem = last.0.files.one_filesystem;
+        fit_filesystems = last.0.files.fit_filesystems;
       },
+      overlays_in (changed_first fresh) (regrouped_by nat_eq true (detached_world gone (changed_first fresh))) refl
+          last.1,
     )
     trees_under_way false last = (
-      last.plain,
       record {
-        trees = last.files.trees;
-        own_parents = last.files.own_parents;
-        numbers = last.files.numbers;
-        one_filesystem = last.files.one_filesystem;
-        fit_filesystems = last.files.fit_filesystems;
+        trees = last.0.files.trees;
+        own_parents = last.0.files.own_parents;
+        numbers = last.0.files.numbers;
+        one_filesystem = last.0.files.one_filesystem;
+        fit_filesystems = last.0.files.fit_filesystems;
       },
+      overlays_in (changed_first fresh) (regrouped_by nat_eq false (detached_world gone (changed_first fresh))) refl
+          last.1,
     )
+
+    trees_ready : TreeInvariants nat_eq (changed_first fresh) × OverlayInvariants nat_eq (changed_first fresh)
+    trees_ready = trees_under_way (loses (detached_world gone (changed_first fresh))) last_under_way
 
     fit : IsFitPermit fresh world permits.task (ToChange location change)
     fit = record {
@@ -189,32 +201,27 @@ module _ (value : WorldValue) (held : IsHeld value) (location : Location ℕ) (c
           (sym (changed_is fresh)) held.in_world.namespaces.few_mounts;
     }
 
-    first_under_way : IsWorldButForUse (changed_first fresh)
+    first_under_way : IsUnderWay (changed_first fresh)
     first_under_way =
         let is = held.in_world in
-        let plain = world_is_plain value held in
         let serves = permits.given.serves in
         let found = permits.given.called in
         let task = permits.task in
-        let last = trees_under_way (loses (detached_world gone (changed_first fresh))) last_under_way in
         record {
-          plain = last.0;
-          files = last.1;
-          mounts = mounts_kept world fresh task (ToChange location change) is plain serves found fit;
-          namespaces = namespaces_kept world fresh task (ToChange location change) is plain serves found fit;
+          files = trees_ready.0;
+          mounts = all_mounts_kept world fresh task (ToChange location change) is serves found fit;
+          namespaces = all_namespaces_kept world fresh task (ToChange location change) is serves found fit;
           tasks = record {
-            one_task = permits_keep_names world fresh task (ToChange location change) is plain serves found fit;
+            one_task = all_permits_keep_names world fresh task (ToChange location change) is serves found fit;
             small_tasks = subst (λ (w : World ℕ). list_all is_within_limits w.tasks ≡ true)
                 (sym (changed_is fresh)) is.tasks.small_tasks;
-            forks_counted = permits_keep_counting_forks world fresh task
-                (ToChange location change) is plain serves found fit;
-            locations_live = permits_keep_locations world fresh task
-                (ToChange location change) is plain serves found fit;
-            directories = permits_keep_directories world fresh task
-                (ToChange location change) is plain serves found fit;
-            open_files = permits_keep_open_files world fresh task (ToChange location change) is plain serves found fit;
+            forks_counted = all_permits_keep_counting_forks world fresh task
+                (ToChange location change) is serves found fit;
+            locations_live = locations_stay world fresh task (ToChange location change) is serves found fit tt;
+            directories = directories_stay world fresh task (ToChange location change) is serves found fit tt;
+            open_files = open_files_stay world fresh task (ToChange location change) is serves found fit tt;
           };
-          roots = permits_keep_mounts_showing world fresh task (ToChange location change) is plain serves found fit;
+          roots = all_permits_keep_mounts_showing world fresh task (ToChange location change) is serves found fit;
         }
 
     -- the world with the tree changed has its invariants, and counts what is in it
@@ -224,7 +231,7 @@ module _ (value : WorldValue) (held : IsHeld value) (location : Location ℕ) (c
         (any_same_worlds_are_worlds (settled nat_eq (changed_first fresh))
         (world_of (with_filesystems value filesystems))
         (change_is_swept value held location change filesystems made fresh)
-        (settling_leaves_a_world (changed_first fresh) first_under_way).0)
+        (settling_leaves_every_world (changed_first fresh) first_under_way trees_ready.1))
         (any_same_worlds_keep_to_numbers (is_counted_before value.next)
         (settled nat_eq (apply nat_eq (λ k. 0) world permits.task (ToChange location change)).world)
         (world_of (with_filesystems value filesystems))
@@ -257,7 +264,7 @@ module _ (value : WorldValue) (held : IsHeld value) (location : Location ℕ) (c
 
     listed_after : IsListedTree changed_files.files
     listed_after =
-        let files = subst IsWorldButForUse (changed_is fresh) first_under_way in
+        let files = subst IsUnderWay (changed_is fresh) first_under_way in
         record {
           tree = among_from_all (λ (f : Filesystem ℕ). IsTree f.files.tree) changed_plainly.filesystems files.files.trees changed_files changed_among;
           numbers = among_from_all (λ (f : Filesystem ℕ). ListsNumbers nat_eq f.files) changed_plainly.filesystems files.files.numbers changed_files changed_among;
@@ -312,24 +319,54 @@ module _ (value : WorldValue) (held : IsHeld value) (location : Location ℕ) (c
           (layers_in nat_eq changed_plainly f.number)
           (is_among_right object (named_in f.files) (located_in nat_eq changed_plainly f.number) (located f same))))
 
-      object_stays : let_go_inode changed_plainly (number, object) ≡ changed_plainly
-      object_stays =
+      -- so it stays, in plain filesystems and in overlays
+      stays_in : (chosen : Filesystem ℕ → Bool) → let_go_in chosen changed_plainly (number, object) ≡ changed_plainly
+      stays_in chosen =
           ap (λ all. record changed_plainly { filesystems = all })
-          (map_same (let_go_inode_of changed_plainly (number, object)) changed_plainly.filesystems
-          (λ f m. by f (nat_eq f.number number) refl))
+          (map_same (let_go_in_of chosen changed_plainly (number, object)) changed_plainly.filesystems
+          (λ f m. by f (chosen f) (nat_eq f.number number) refl))
         where
-          by : (f : Filesystem ℕ) (b : Bool) → nat_eq f.number number ≡ b
-              → cond (b && not (is_inode_used changed_plainly f object))
-              (record f { files = without_inode object f.files }) f ≡ f
-          by f true e = ap (λ c. cond (not c) (record f { files = without_inode object f.files }) f) (used f e)
-          by f false e = refl
+          by : (f : Filesystem ℕ) (a b : Bool) → nat_eq f.number number ≡ b
+              → cond ((a && b) && not (is_inode_used changed_plainly f object)) (without_inode_of object f) f ≡ f
+          by f true true e = ap (λ c. cond (not c) (without_inode_of object f) f) (used f e)
+          by f true false e = refl
+          by f false b e = refl
+
+      files_numbered : changed_files.number ≡ number
+      files_numbered = ap (λ (f : Filesystem ℕ). f.number) filesystem_is ∙ sym made.shows
+
+      -- and it has no object in an upper layer, since it is in no overlay
+      no_object : (all : List (Filesystem ℕ))
+          → flat_map (uppers_of_inode_in (number, object)) (map (replaced_if_numbered nat_eq changed_files) all) ≡ []
+      no_object [] = refl
+      no_object (f ∷ rest) =
+          λ i. by (nat_eq changed_files.number f.number) refl i ++ no_object rest i
+        where
+          neither : (b : Bool) (none : List Inode) → none ≡ [] → cond b none [] ≡ []
+          neither true none e = e
+          neither false none e = refl
+
+          by : (b : Bool) → nat_eq changed_files.number f.number ≡ b
+              → uppers_of_inode_in (number, object) (cond b changed_files f) ≡ []
+          by true e =
+              neither (nat_eq changed_files.number number) (overlay_or [] (uppers_in object) changed_files.overlay)
+              (ap (overlay_or [] (uppers_in object)) no_overlay)
+          by false e =
+              ap (λ b. cond b (overlay_or [] (uppers_in object) f.overlay) [])
+              (swap_eq f.number number ∙ ap (λ n. nat_eq n f.number) (sym files_numbered) ∙ e)
+
+      object_stays : let_go_all_inodes changed_plainly ((number, object) ∷ []) ≡ changed_plainly
+      object_stays =
+          (λ i. let_go_plain (stays_in is_overlay i) ((number, object) ∷ (no_object world.filesystems i ++ [])))
+          ∙ stays_in is_plain
 
       -- after the change nothing goes that nothing used before
       pub nothing_goes : settled nat_eq (changed_first fresh) ≡ changed_first fresh
       nothing_goes =
           subst (λ w. settled nat_eq w ≡ w) (sym (changed_is fresh))
-          (unnamed_go world number changed_files.files (object ∷ [])
-          (held_is_settled value held) filesystem_listed changes_tree ∙ object_stays)
+          (unnamed_go_with_overlays world number changed_files.files (object ∷ [])
+          (worlds_are_settled world held.in_world) held.in_world.files.one_filesystem filesystem_listed
+          (ap is_overlay filesystem_is) changes_tree ∙ object_stays)
 
     -- Where nothing goes by the change alone, the mounts are detached in the world with the tree changed.
     module _ (still : settled nat_eq (changed_first fresh) ≡ changed_first fresh)
@@ -349,7 +386,7 @@ module _ (value : WorldValue) (held : IsHeld value) (location : Location ℕ) (c
 
       same_left : SameWorlds (settled nat_eq (regrouped nat_eq last)) (settled nat_eq (regrouped nat_eq after))
       same_left =
-          let alike = alike_from_same (changed_first fresh) (world_of value_changed) same_first first_under_way.plain in
+          let alike = alike_from_same (changed_first fresh) (world_of value_changed) same_first in
           same_from_alike (settled nat_eq (regrouped nat_eq last)) (settled nat_eq (regrouped nat_eq after))
           (settled_alike (regrouped nat_eq last) (regrouped nat_eq after) (regrouped_alike last after (record {
             mounts = ap (map (detached_in gone)) alike.mounts;
@@ -392,9 +429,9 @@ module _ (value : WorldValue) (held : IsHeld value) (location : Location ℕ) (c
         typed_then_detached : (mounts : List MountEntry) (others : Filesystems) (overlays : List Merged)
             → LeaveInTurn gone (kept_of (with_filesystems value filesystems))
             (kept_with mounts others overlays)
-            → IsDone value name permit (typed_value groups (remade value mounts others value.tasks))
+            → IsDone value name permit (typed_value groups (remade_with value mounts others overlays value.tasks))
         typed_then_detached mounts others overlays turn =
-            let untyped = remade value mounts others value.tasks in
+            let untyped = remade_with value mounts others overlays value.tasks in
             let new = typed_value groups untyped in
             let held_first = changed_first_is_held in
             let detaching = all_detached value_changed [] (in_use_of after) gone
@@ -434,8 +471,9 @@ module _ (value : WorldValue) (held : IsHeld value) (location : Location ℕ) (c
           (overlays : List Merged)
           → LeaveTogether gone (kept_of (with_filesystems value filesystems)) value.groups
           (kept_with mounts others overlays) groups
-          → IsDone value name permit (record (remade value mounts others value.tasks) { groups = groups })
+          → IsDone value name permit (record (remade_with value mounts others overlays value.tasks) { groups = groups })
       changed_then_detached mounts groups others overlays together =
-          subst (λ all. IsDone value name permit (record (remade value all others value.tasks) { groups = groups }))
+          subst (λ all. IsDone value name permit
+          (record (remade_with value all others overlays value.tasks) { groups = groups }))
           (sym (together.types (has_ordered (world_of value) value.groups held.groups) (own_types value held)))
           (typed_then_detached groups together.groups together.entries others overlays together.turn)

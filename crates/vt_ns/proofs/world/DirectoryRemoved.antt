@@ -1,5 +1,5 @@
 -- The event that removes a directory, with the mounts on it: rmdir(2).
-use Rattle.std.proofs.Common.{◌≡◌, ◌≢◌, refl, sym, ap, subst, ◌∙◌, ℕ, nat_eq, true, ◌&&◌, List, [], map, filter, flat_map}
+use Rattle.std.proofs.Common.{◌≡◌, ◌≢◌, refl, sym, ap, subst, ◌∙◌, ℕ, nat_eq, true, ◌&&◌, List, [], map, filter, flat_map, length}
 use Rattle.std.specs.Prelude.{option_to_list}
 use Rattle.vt_spec.specs.Language.Calls.{TaskName}
 use Rattle.vt_spec.specs.Language.Changes.{Change}
@@ -17,8 +17,11 @@ use Rattle.vt_spec.specs.Inodes.{Inodes, changed, tree_of}
 use Rattle.vt_fs.specs.FilesystemsValue.{ChangesInodes, Filesystems, inodes_seen}
 use Rattle.vt_group.specs.Grouping.{Grouping}
 use Rattle.vt_location.specs.declared.locations.Location.{Location}
+use Rattle.vt_location.specs.declared.numbers.MountId.{MountId}
 use Rattle.vt_location.specs.Locations.{location_of, number_of}
+use Rattle.vt_location.specs.Numbers.{counted}
 use Rattle.vt_mount.specs.MountsValue.{MountEntry, mounts_in, stands_over}
+use Rattle.vt_store.specs.StoreValue.{StoreValue}
 use Rattle.vt_laws_permits.specs.Named.{permit_named}
 use Rattle.vt_laws_permits.specs.Sees.{SeesTo}
 use Rattle.vt_laws_permits.proofs.sees.SeesFit.{given_changes_fit}
@@ -28,6 +31,8 @@ use Rattle.vt_laws_worlds.specs.Worlds.Permits.{NamesWhatIsThere}
 use Rattle.vt_detach.specs.Detached.{LeaveTogether, tree_numbers}
 use Rattle.vt_detach.specs.Events.{Permits, supply_of}
 use Rattle.vt_world.specs.Held.{IsHeld}
+use Rattle.vt_world.specs.StoredWorld.{with_store}
+use Rattle.vt_detach.specs.Stored.{kept, merged_of}
 use Rattle.vt_detach.specs.Uses.{Merged, kept_of, kept_with}
 use Rattle.vt_world.specs.WorldValue.{WorldValue, world_of}
 use Rattle.vt_detach.proofs.ChangedFiles.{ChangesFiles, IsFilesEvent, with_filesystems}
@@ -38,8 +43,10 @@ use Rattle.vt_detach.proofs.FileEvents.{IsSmall, permit_fits}
 use Rattle.vt_ns.proofs.world.FileRemoving.{removal_is_done}
 use Rattle.vt_detach.proofs.FilesSeen.{IsLocated, nodes_named, located, located_filesystem}
 use Rattle.vt_detach.proofs.LazilyUnmounted.{trees_have_children, trees_numbers}
+use Rattle.vt_ns.proofs.world.DetachedStored.{collected_leave, left_is_stored, none_goes, some_go}
 use Rattle.vt_ns.proofs.world.MountsOn.{none_on, one_on, tops_on, trees_collected}
-use Rattle.vt_detach.proofs.Remaining.{remade}
+use Rattle.vt_ns.proofs.world.PlainStored.{files_stored}
+use Rattle.vt_detach.proofs.Remaining.{remade_with}
 use Rattle.vt_detach.proofs.Staying.{IsDone}
 
 module _ (value : WorldValue) (held : IsHeld value) (name : TaskName) (parent : Location) (entry : List ℕ)
@@ -114,7 +121,7 @@ module _ (value : WorldValue) (held : IsHeld value) (name : TaskName) (parent : 
       (λ inodes. changed nat_eq inodes change) value.filesystems filesystems
       → LeaveTogether gone (kept_of (with_filesystems value filesystems)) value.groups
       (kept_with mounts others overlays) groups
-      → IsDone value name permit (record (remade value mounts others value.tasks) { groups = groups })
+      → IsDone value name permit (record (remade_with value mounts others overlays value.tasks) { groups = groups })
   directory_is_removed filesystems others overlays mounts groups some changes together =
       let made : ChangesFiles value (location_of parent) change filesystems = record {
         entry = parent_seen.entry;
@@ -142,3 +149,51 @@ module _ (value : WorldValue) (held : IsHeld value) (name : TaskName) (parent : 
       (number_of directory.node) (ap option_to_list sees.1.named) tt on.mount on.among on.place on.placed on.at_inode
       (on.shows ∙ ap (λ n. (mount_numbered nat_eq world n).filesystem) sees.0))
       closed mounts groups others overlays together
+
+-- What code does with its store
+
+module _ (base : WorldValue) (store : StoreValue) (held : IsHeld (with_store store base)) (name : TaskName)
+    (parent : Location) (entry : List ℕ) (directory : Location)
+    (small : IsSmall parent) (small_directory : IsSmall directory)
+    (permits : Permits (with_store store base) name
+    (ToRemoveDirectory (location_of parent) entry (location_of directory)))
+    (ids : List MountId)
+    (collected : map (λ id. counted id.count) ids ≡ flat_map (tree_numbers (mounts_in base.mounts))
+    (map (λ (mount : Mount ℕ). mount.number)
+    (filter (stands_over (number_of directory.node)) (mounts_in base.mounts)))) where
+  abbrev removed : Permit ℕ
+  removed = ToRemoveDirectory (location_of parent) entry (location_of directory)
+
+  abbrev trees : List ℕ
+  trees = trees_numbers (world_of (with_store store base)) (tops_on (with_store store base) directory)
+
+  are : map (λ id. counted id.count) ids ≡ trees
+  are =
+      collected_are (with_store store base) held name parent entry directory small small_directory permits
+      (map (λ id. counted id.count) ids) collected
+
+  -- the mounts that are collected leave with the directory
+  pub directory_goes : length ids ≢ 0 → (plain : Filesystems)
+      → ChangesInodes parent.node.filesystem.count
+      (λ inodes. changed nat_eq inodes (Remove (number_of parent.node) entry (number_of directory.node)))
+      store.plain plain
+      → (mounts : List MountEntry) (groups : Grouping) (last : StoreValue)
+      → LeaveTogether (map (λ id. counted id.count) ids) (kept base.mounts (record store { plain = plain }))
+      base.groups (kept mounts last) groups
+      → IsDone (with_store store base) name removed (with_store last (record base { mounts = mounts; groups = groups }))
+  directory_goes some plain changes mounts groups last left =
+      left_is_stored base store held ids trees are plain mounts groups last left name removed
+      (directory_is_removed (with_store store base) held name parent entry directory small small_directory permits
+      plain last.plain (map merged_of last.overlays) mounts groups (some_go base store held ids trees are some) changes
+      (collected_leave base store held ids trees are plain mounts groups last left))
+
+  -- it goes alone where none is collected
+  pub directory_goes_alone : length ids ≡ 0 → (plain : Filesystems)
+      → ChangesInodes parent.node.filesystem.count
+      (λ inodes. changed nat_eq inodes (Remove (number_of parent.node) entry (number_of directory.node)))
+      store.plain plain
+      → IsFilesEvent (with_store store base) name removed (with_store (record store { plain = plain }) base)
+  directory_goes_alone none plain changes =
+      files_stored base store held name removed permits plain
+      (alone_is_removed (with_store store base) held name parent entry directory small small_directory permits
+      (none_goes base store held ids trees are none) plain changes)

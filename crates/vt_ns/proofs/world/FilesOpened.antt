@@ -1,20 +1,22 @@
 -- A task opens a file: open(2).
-use Rattle.std.proofs.Common.{◌≡◌, ◌<◌, refl, sym, ap, subst, ◌∙◌, ℕ, ◌+◌, nat_eq, Bool, true, false, cond, ◌&&◌, List, [], ◌∷◌, ◌++◌, map, find, Option, None, Some, unwrap_or, arith}
+use Rattle.std.proofs.Common.{◌≡◌, ◌<◌, refl, sym, ap, subst, ◌∙◌, ℕ, ◌+◌, nat_eq, Bool, true, false, cond, ◌&&◌, List, [], ◌∷◌, ◌++◌, map, find, Option, None, Some, is_some, unwrap_or, true≢false, inl, inr, arith}
 use Rattle.std.proofs.Math.Bool.{and-false}
 use Rattle.std.specs.Prelude.{nat_lt}
 use Rattle.std.proofs.lemmas.Bool.{leb-false}
 use Rattle.std.proofs.lemmas.List.{map-append}
 use Rattle.vt_spec.specs.Language.Calls.{TaskName, opens_for_reading, opens_for_writing}
 use Rattle.vt_spec.specs.Language.Calls as spoken
+use Rattle.vt_spec.specs.Language.Changes.Change.{CopyUp}
+use Rattle.vt_spec.specs.Lists.{Fresh}
 use Rattle.vt_spec.specs.Machine.Mounts as meant
 use Rattle.vt_spec.specs.Machine.Descriptors.{free_number, inserted, is_copied_up, with_copy, with_descriptor}
 use Rattle.vt_spec.specs.Machine.Permits.Permit.{ToOpen}
-use Rattle.vt_spec.specs.Machine.Filesystems.{lies_only_in_lowers}
-use Rattle.vt_spec.specs.Machine.Locked.{overlay_or}
+use Rattle.vt_spec.specs.Machine.Filesystems.{filesystem_changed, lies_only_in_lowers, overlay_changed}
+use Rattle.vt_spec.specs.Machine.Locked.{of_overlay, overlay_or}
 use Rattle.vt_spec.specs.Machine.Settled.{without_dead_mounts}
-use Rattle.vt_spec.specs.Machine.World.{Descriptor, Filesystem, Overlay, Task, mount_at, no_filesystem, task_called, with_task}
+use Rattle.vt_spec.specs.Machine.World.{Descriptor, Filesystem, Layer, Overlay, Task, filesystem_at, mount_at, no_filesystem, task_called, with_task}
 use Rattle.vt_spec.specs.Machine.Invariants.{is_located_well}
-use Rattle.vt_fs.specs.FilesystemsValue.{Filesystems, filesystem_seen, filesystems_seen}
+use Rattle.vt_fs.specs.FilesystemsValue.{Filesystems}
 use Rattle.vt_laws_letting_go.specs.Counts.{times}
 use Rattle.vt_laws_letting_go.proofs.sweeps.OneByOne.{mounts_go_one_by_one}
 use Rattle.vt_laws_letting_go.proofs.sweeps.OfWorlds.{mounts_of_worlds_stand}
@@ -33,7 +35,6 @@ use Rattle.vt_detach.specs.Uses.{Merged, kept_of, kept_with, with_location, with
 use Rattle.vt_world.specs.WorldValue.{WorldValue, world_of}
 use Rattle.vt_laws_permits.proofs.sees.SeesTasks.{given_permits_are_seen_to}
 use Rattle.vt_detach.proofs.FileEvents.{permit_fits}
-use Rattle.vt_detach.proofs.Overlaid.{found_as_kept}
 use Rattle.vt_detach.proofs.LocationsSeen.{seen_where_located}
 use Rattle.vt_detach.proofs.Closing.{Goes, around, place, used_by}
 use Rattle.vt_detach.proofs.Moving.{Moves, only_left}
@@ -41,7 +42,7 @@ use Rattle.vt_detach.proofs.Places.{located_is_named}
 use Rattle.vt_detach.proofs.Remaining.{remade, remains_done}
 use Rattle.vt_detach.proofs.Splits.{IsSplit, locations_around, replaced_split, times_replaced, writes_replaced}
 use Rattle.vt_detach.proofs.Staying.{IsDone, after}
-use Rattle.vt_laws_letting_go.proofs.Lists.{times_around}
+use Rattle.vt_laws_letting_go.proofs.Lists.{Among, among_from_all, times_around}
 
 -- a descriptor that is put in can be taken out
 pub inserted_goes : (new : Descriptor ℕ) (all : List (Descriptor ℕ)) → Goes new (inserted new all) all
@@ -115,18 +116,69 @@ module _ (value : WorldValue) (whole : IsHeld value) (name : TaskName) (task : T
       (λ one. nat_eq namespace one.namespace) in
       omega (arith, moved)
 
--- a file is opened that needs no copy
+-- no overlay has an upper layer, so nothing is copied up
+
+no_upper_numbered : (number : ℕ) (all : List (Filesystem ℕ))
+    → ((f : Filesystem ℕ) → Among f all → of_overlay false (λ overlay. is_some overlay.upper) f ≡ false)
+    → of_overlay false (λ overlay. is_some overlay.upper)
+    (unwrap_or (find (λ (f : Filesystem ℕ). nat_eq number f.number) all) (no_filesystem number))
+    ≡ false
+no_upper_numbered number [] none = refl
+no_upper_numbered number (f ∷ rest) none =
+    by (nat_eq number f.number) (no_upper_numbered number rest (λ g m. none g (inr m)))
+  where
+    by : (b : Bool)
+        → of_overlay false (λ overlay. is_some overlay.upper)
+        (unwrap_or (find (λ (g : Filesystem ℕ). nat_eq number g.number) rest) (no_filesystem number))
+        ≡ false
+        → of_overlay false (λ overlay. is_some overlay.upper)
+        (unwrap_or (cond b (Some f) (find (λ (g : Filesystem ℕ). nat_eq number g.number) rest)) (no_filesystem number))
+        ≡ false
+    by true later = none f (inl refl)
+    by false later = later
+
+nothing_copied : (value : WorldValue) → IsHeld value → (file : meant.Location ℕ) (access : spoken.Access)
+    (fresh : Fresh ℕ)
+    → with_copy nat_eq (is_copied_up nat_eq (world_of value) file access) fresh (world_of value) file ≡ world_of value
+nothing_copied value whole file access fresh = in_overlay (filesystem_at nat_eq (world_of value) file).overlay refl
+  where
+    over : (overlay : Overlay ℕ) → (filesystem_at nat_eq (world_of value) file).overlay ≡ Some overlay
+        → (o : Option (Layer ℕ)) → overlay.upper ≡ o → (b : Bool)
+        → with_copy nat_eq b fresh (world_of value) file ≡ world_of value
+    over overlay e o u false = refl
+    over overlay e None u true =
+        ap (λ o. filesystem_changed nat_eq fresh (world_of value) (filesystem_at nat_eq (world_of value) file) o
+        (CopyUp file.node)) e
+        ∙ ap (λ o. overlay_changed nat_eq fresh (world_of value) (filesystem_at nat_eq (world_of value) file) overlay o
+        (CopyUp file.node)) u
+    over overlay e (Some upper) u true =
+        absurd (true≢false (sym (ap (overlay_or false (λ (v : Overlay ℕ). is_some v.upper)) e ∙ ap is_some u)
+        ∙ no_upper_numbered (mount_at nat_eq (world_of value) file).filesystem (world_of value).filesystems
+        (among_from_all (λ f. of_overlay false (λ overlay. is_some overlay.upper) f ≡ false)
+        (world_of value).filesystems whole.overlays.read_only)))
+
+    in_overlay : (o : Option (Overlay ℕ)) → (filesystem_at nat_eq (world_of value) file).overlay ≡ o
+        → with_copy nat_eq (is_copied_up nat_eq (world_of value) file access) fresh (world_of value) file
+        ≡ world_of value
+    in_overlay None e =
+        ap (λ b. with_copy nat_eq b fresh (world_of value) file)
+        (ap (λ (o : Option (Overlay ℕ)). opens_for_writing access
+        && overlay_or false (λ overlay. lies_only_in_lowers overlay file.node) o) e
+        ∙ and-false (opens_for_writing access))
+    in_overlay (Some overlay) e =
+        over overlay e overlay.upper refl (is_copied_up nat_eq (world_of value) file access)
+
+-- a file is opened
 pub file_is_opened : (value : WorldValue) (name : TaskName) (opened : OpenFile) (mounts : List MountEntry)
     (filesystems : Filesystems) (overlays : List Merged) (tasks : Tasks)
     → IsHeld value → Permits value name (ToOpen (location_of opened.location) (access_of opened.access))
-    → is_copied_up nat_eq (world_of value) (location_of opened.location) (access_of opened.access) ≡ false
     → opened.location.node.slot < 18446744073709551616
     → tasks ≡ changed_called name (with_open opened) value.tasks
     → kept_with mounts filesystems overlays ≡ with_location opened.location (opens_for_writing (access_of opened.access))
     (kept_of value)
     → IsDone value name (ToOpen (location_of opened.location) (access_of opened.access))
     (remade value mounts filesystems tasks)
-file_is_opened value name opened mounts filesystems overlays tasks whole permits uncopied few is is_kept =
+file_is_opened value name opened mounts filesystems overlays tasks whole permits few is is_kept =
     let task = permits.task in
     let file = location_of opened.location in
     let access = access_of opened.access in
@@ -151,33 +203,9 @@ file_is_opened value name opened mounts filesystems overlays tasks whole permits
       called = permits.called;
       given = permits.given;
       named = located_is_named value whole file well;
-      applied = λ fresh. ap (λ b. with_task (with_copy nat_eq b fresh (world_of value) file) opens) uncopied;
+      applied = λ fresh. ap (λ world. with_task world opens) (nothing_copied value whole file access fresh);
     })
     (opened_tasks value whole name task permits.called descriptor well))
-
--- nothing makes an overlay yet, so nothing is copied
-pub nothing_copied : (value : WorldValue) → IsHeld value → (file : meant.Location ℕ) (access : spoken.Access)
-    → is_copied_up nat_eq (world_of value) file access ≡ false
-nothing_copied value whole file access =
-    ap (λ (o : Option (Overlay ℕ)). opens_for_writing access
-    && overlay_or false (λ overlay. lies_only_in_lowers overlay file.node) o)
-    (ap (λ (filesystem : Filesystem ℕ). filesystem.overlay)
-    (found_as_kept value whole (mount_at nat_eq (world_of value) file).filesystem)
-    ∙ no_overlay value.filesystems (mount_at nat_eq (world_of value) file).filesystem)
-    ∙ and-false (opens_for_writing access)
-  where
-    no_overlay : (entries : Filesystems) (number : ℕ)
-        → (unwrap_or (find (λ f. nat_eq number f.number) (filesystems_seen entries)) (no_filesystem number)).overlay
-        ≡ None
-    no_overlay [] number = refl
-    no_overlay (entry ∷ rest) number = by (nat_eq number (counted entry.count)) (no_overlay rest number)
-      where
-        by : (b : Bool) → (unwrap_or (find (λ f. nat_eq number f.number) (filesystems_seen rest))
-            (no_filesystem number)).overlay ≡ None
-            → (unwrap_or (cond b (Some (filesystem_seen entry))
-            (find (λ f. nat_eq number f.number) (filesystems_seen rest))) (no_filesystem number)).overlay ≡ None
-        by true later = refl
-        by false later = later
 
 -- the task may open another file
 pub may_open_more : (value : WorldValue) → IsHeld value

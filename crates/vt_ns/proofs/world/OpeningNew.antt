@@ -17,11 +17,10 @@ use Rattle.vt_spec.specs.Machine.Permits.Permit.{ToMake, ToOpenNew}
 use Rattle.vt_spec.specs.Machine.SameWorlds.{SameWorlds}
 use Rattle.vt_spec.specs.Machine.Settled.{settled, without_dead_mounts}
 use Rattle.vt_spec.specs.Machine.World.{Descriptor, Task, World, all_locations, locations_of, replaced_if_called, with_task}
-use Rattle.vt_spec.specs.Machine.Invariants.{IsWorld, is_located_well, is_within_limits}
+use Rattle.vt_spec.specs.Machine.Invariants.{IsWorld, OverlayInvariants, is_located_well, is_within_limits}
 use Rattle.vt_spec.specs.Fits.{Fits}
 use Rattle.vt_spec.specs.Inodes.{Inodes, changed, tree_of, uses_in, with_changed}
 use Rattle.vt_spec.specs.Tree.{Node, node_with_entry}
-use Rattle.vt_laws_counts.specs.Counted.{IsPlain}
 use Rattle.vt_laws_counts.proofs.changing.Changes.{only_files_change_beside_overlays}
 use Rattle.vt_laws_counts.proofs.changing.KeptAll.{names_keep_all_beside_overlays}
 use Rattle.vt_fs.specs.FilesystemsValue.{ChangesInodes, Filesystems, entry_at, entry_of, inodes_at, inodes_seen, next_seen, no_entry, node_seen}
@@ -39,25 +38,24 @@ use Rattle.vt_mount.specs.MountsValue.{MountEntry}
 use Rattle.vt_laws_permits.specs.Named.{permit_named}
 use Rattle.vt_laws_permits.specs.Sees.{HasRoom, MayBeMade}
 use Rattle.vt_laws_permits.proofs.named.PermitsKeepTo.{permits_keep_to_numbers}
-use Rattle.vt_laws_permits.proofs.left.PermitsLeave.{given_permits_are_under_way}
 use Rattle.vt_laws_one_text.proofs.answered.AlikeAnswered.{any_same_worlds_are_swept_alike}
 use Rattle.vt_laws_one_text.proofs.same.SameNumbers.{any_same_worlds_keep_to_numbers}
-use Rattle.vt_laws_one_text.proofs.same.SameWhole.{any_same_worlds_are_worlds}
-use Rattle.vt_laws_overlays_stay.proofs.left.Given.{given_permits_give_no_upper}
-use Rattle.vt_laws_permits.proofs.same.SameInvariants.{same_worlds_are_under_way}
+use Rattle.vt_laws_one_text.proofs.same.SameWhole.{any_same_worlds_are_under_way, any_same_worlds_are_worlds}
+use Rattle.vt_laws_overlay_permits.proofs.kept.KeptOverlays.{overlays_in}
+use Rattle.vt_laws_overlay_permits.proofs.worlds.SweptWorlds.{settling_leaves_every_world}
+use Rattle.vt_laws_overlays_stay.proofs.left.Given.{given_permits_are_under_way_without_upper, given_permits_give_no_upper}
 use Rattle.vt_laws_permits.proofs.sees.SeesFit.{given_changes_fit}
 use Rattle.vt_laws_permits.proofs.sees.SeesTasks.{given_permits_are_seen_to}
 use Rattle.vt_laws_runs.specs.Handed.{is_counted_before}
 use Rattle.vt_laws_runs.proofs.answered.AlikeWorlds.{sameness_is_an_equivalence}
 use Rattle.vt_tasks.specs.TasksValue.{MayOpenMore, Tasks, called, changed_by, changed_called, replaced}
-use Rattle.vt_laws_worlds.specs.Worlds.Kept.{IsWorldButForUse}
+use Rattle.vt_laws_worlds.specs.Worlds.Kept.{IsUnderWay}
 use Rattle.vt_laws_worlds.specs.Worlds.Permits.{IsFitPermit}
-use Rattle.vt_laws_worlds.proofs.kept.MountsKept.{mounts_kept}
-use Rattle.vt_laws_worlds.proofs.kept.NamespacesKept.{namespaces_kept}
-use Rattle.vt_laws_worlds.proofs.worlds.PermitsNamed.{permits_keep_counting_forks, permits_keep_names}
-use Rattle.vt_laws_worlds.proofs.worlds.PermitsPlaced.{permits_keep_directories, permits_keep_locations, permits_keep_open_files}
-use Rattle.vt_laws_worlds.proofs.worlds.PermitsShow.{permits_keep_mounts_showing}
-use Rattle.vt_laws_worlds.proofs.settling.SettledTasks.{settling_leaves_a_world}
+use Rattle.vt_laws_worlds.proofs.kept.MountsKept.{all_mounts_kept}
+use Rattle.vt_laws_worlds.proofs.kept.NamespacesKept.{all_namespaces_kept}
+use Rattle.vt_laws_worlds.proofs.worlds.PermitsNamed.{all_permits_keep_counting_forks, all_permits_keep_names}
+use Rattle.vt_laws_worlds.proofs.worlds.PermitsPlaced.{directories_stay, locations_stay, open_files_stay}
+use Rattle.vt_laws_worlds.proofs.worlds.PermitsShow.{all_permits_keep_mounts_showing}
 use Rattle.vt_detach.specs.Events.{Permits, next_inode, supply_of}
 use Rattle.vt_world.specs.Held.{IsHeld}
 use Rattle.vt_detach.specs.Uses.{Merged, kept_of, kept_with, with_location, with_use}
@@ -70,7 +68,7 @@ use Rattle.vt_detach.proofs.FileEvents.{IsSmall, permit_fits}
 use Rattle.vt_ns.proofs.world.FileMaking.{made_in_tree, new_in_slot, new_is_named}
 use Rattle.vt_ns.proofs.world.FilesOpened.{inserted_goes, opened_moves, opened_stays, opened_tasks}
 use Rattle.vt_detach.proofs.FilesSeen.{IsLocated, nodes_named, located, located_filesystem, located_inodes, one_entry}
-use Rattle.vt_detach.proofs.Overlaid.{plain_ones_apart, world_is_plain}
+use Rattle.vt_detach.proofs.Overlaid.{plain_ones_apart}
 use Rattle.vt_detach.proofs.Finishing.{swept_held}
 use Rattle.vt_detach.proofs.LocationsSeen.{seen_where_located}
 use Rattle.vt_detach.proofs.Closing.{used_by}
@@ -182,10 +180,15 @@ module _ (value : WorldValue) (held : IsHeld value) (name : TaskName) (directory
       && new_is_named (is_counted_before value.next) (number_of directory.node) (node_seen count node)
       (nodes_named value.next directory.node) sees.0.fits i
 
-  under_way : IsWorldButForUse (apply nat_eq handed (world_of value) permits.task permit).world
+  -- the invariants of a world before the sweep
+  abbrev IsReady : World ℕ → Type 0
+  IsReady one = IsUnderWay one × OverlayInvariants nat_eq one
+
+  under_way : IsReady (apply nat_eq handed (world_of value) permits.task permit).world
   under_way =
-      given_permits_are_under_way (world_of value) handed permits.task permit held.in_world
-      (world_is_plain value held) permits.given
+      let ready = given_permits_are_under_way_without_upper (world_of value) handed permits.task permit held.in_world
+      held.overlays.read_only permits.given in
+      (ready.0, ready.1)
 
   making_fits : IsFitPermit handed (world_of value) permits.task making
   making_fits = record { names = permit_is_fit.names.0; few_mounts = permit_is_fit.few_mounts }
@@ -256,40 +259,48 @@ module _ (value : WorldValue) (held : IsHeld value) (name : TaskName) (directory
     is_applied : (apply nat_eq handed (world_of value) permits.task making).world ≡ with_made (odds handed)
     is_applied = ap (λ n. with_change nat_eq (odds handed) (world_of value) (location_of directory) (change n)) next_is
 
-    unsettled : IsWorldButForUse (apply nat_eq handed (world_of value) permits.task making).world
-    unsettled = record {
-      plain = under_way.plain;
-      files = record {
-        trees = under_way.files.trees;
-        own_parents = under_way.files.own_parents;
-        numbers = under_way.files.numbers;
-        one_filesystem = under_way.files.one_filesystem;
-        fit_filesystems = under_way.files.fit_filesystems;
-      };
-      mounts = mounts_kept (world_of value) handed permits.task making held.in_world plain permits.given.serves permits.given.called making_fits;
-      namespaces = namespaces_kept (world_of value) handed permits.task making held.in_world plain permits.given.serves permits.given.called making_fits;
-      tasks = record {
-        one_task = permits_keep_names (world_of value) handed permits.task making held.in_world plain permits.given.serves permits.given.called making_fits;
-        small_tasks =
-            ap (λ (world : World ℕ). list_all is_within_limits world.tasks) is_applied
-            ∙ ap (list_all is_within_limits) (same_tasks (odds handed)) ∙ held.in_world.tasks.small_tasks;
-        forks_counted = permits_keep_counting_forks (world_of value) handed permits.task making held.in_world plain permits.given.serves permits.given.called making_fits;
-        locations_live = permits_keep_locations (world_of value) handed permits.task making held.in_world plain permits.given.serves permits.given.called making_fits;
-        directories = permits_keep_directories (world_of value) handed permits.task making held.in_world plain permits.given.serves permits.given.called making_fits;
-        open_files = permits_keep_open_files (world_of value) handed permits.task making held.in_world plain permits.given.serves permits.given.called making_fits;
-      };
-      roots = permits_keep_mounts_showing (world_of value) handed permits.task making held.in_world plain permits.given.serves permits.given.called making_fits;
-    }
-      where
-        plain : IsPlain (world_of value)
-        plain = world_is_plain value held
+    unsettled : IsUnderWay (apply nat_eq handed (world_of value) permits.task making).world
+    unsettled =
+        let world = world_of value in
+        let is = held.in_world in
+        let serves = permits.given.serves in
+        let found = permits.given.called in
+        let task = permits.task in
+        record {
+          files = record {
+            trees = under_way.0.files.trees;
+            own_parents = under_way.0.files.own_parents;
+            numbers = under_way.0.files.numbers;
+            one_filesystem = under_way.0.files.one_filesystem;
+            fit_filesystems = under_way.0.files.fit_filesystems;
+          };
+          mounts = all_mounts_kept world handed task making is serves found making_fits;
+          namespaces = all_namespaces_kept world handed task making is serves found making_fits;
+          tasks = record {
+            one_task = all_permits_keep_names world handed task making is serves found making_fits;
+            small_tasks =
+                ap (λ (world : World ℕ). list_all is_within_limits world.tasks) is_applied
+                ∙ ap (list_all is_within_limits) (same_tasks (odds handed)) ∙ held.in_world.tasks.small_tasks;
+            forks_counted = all_permits_keep_counting_forks world handed task making is serves found making_fits;
+            locations_live = locations_stay world handed task making is serves found making_fits tt;
+            directories = directories_stay world handed task making is serves found making_fits tt;
+            open_files = open_files_stay world handed task making is serves found making_fits tt;
+          };
+          roots = all_permits_keep_mounts_showing world handed task making is serves found making_fits;
+        }
+
+    overlays_ready : OverlayInvariants nat_eq (apply nat_eq handed (world_of value) permits.task making).world
+    overlays_ready =
+        overlays_in (apply nat_eq handed (world_of value) permits.task making).world
+        (apply nat_eq handed (world_of value) permits.task permit).world refl under_way.1
 
     mid_is_world : IsWorld nat_eq (world_of mid)
     mid_is_world =
         any_same_worlds_are_worlds (settled nat_eq (with_made (odds handed))) (world_of mid)
         (change_is_swept value held (location_of directory) (change (number_of made)) made_in is_made (odds handed))
         (subst (λ world. IsWorld nat_eq (settled nat_eq world)) is_applied
-        (settling_leaves_a_world (apply nat_eq handed (world_of value) permits.task making).world unsettled).0)
+        (settling_leaves_every_world (apply nat_eq handed (world_of value) permits.task making).world unsettled
+        overlays_ready))
 
     -- what holds of each world holds once the file is made
     pub mid_held : IsHeld mid
@@ -355,10 +366,10 @@ module _ (value : WorldValue) (held : IsHeld value) (name : TaskName) (directory
         ap (λ n. with_task (with_change nat_eq (odds handed) (world_of value) (location_of directory) (change n))
         (with_descriptor permits.task (record { mount = counted directory.mount.count; node = n }) access)) next_is
 
-    under_next : IsWorldButForUse next
+    under_next : IsUnderWay next
     under_next =
-        same_worlds_are_under_way (opened_at (odds handed)) next (opened_same (odds handed))
-        (subst IsWorldButForUse opened_applied under_way)
+        let ready = subst IsReady opened_applied under_way in
+        (any_same_worlds_are_under_way (opened_at (odds handed)) next (opened_same (odds handed)) ready.0 ready.1).0
 
     -- the new file is a location of the world
     file_located : is_located_well nat_eq (world_of mid) (location_of file) ≡ true

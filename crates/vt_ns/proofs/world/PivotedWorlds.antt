@@ -45,7 +45,7 @@ use Rattle.vt_detach.proofs.Grouped.{changed_has}
 use Rattle.vt_detach.proofs.LocationsSeen.{seen_where_located}
 use Rattle.vt_detach.proofs.MountsMoved.{mount_point_located}
 use Rattle.vt_detach.proofs.Moving.{Use, exchanged_shown, filesystems_moved, folded_entry, gain, held_counts, hold_if, inodes_of_uses, is_use_on, locations, lose, mounts_moved, moved_kept, released_counts, same_moved_mounts, writes_on_mount}
-use Rattle.vt_detach.proofs.Overlaid.{is_plain_one, keeps_itself, layers_kept, overlays_counted, plain_ones_are, same_files_keep, still_mounted}
+use Rattle.vt_detach.proofs.Overlaid.{all_shown, is_plain_one, keeps_itself, layers_kept, overlays_counted, plain_ones_are, same_files_keep, still_mounted}
 use Rattle.vt_detach.proofs.Places.{located_is_named, standing}
 use Rattle.vt_detach.proofs.Remaining.{remade}
 use Rattle.vt_detach.proofs.Staying.{IsDone}
@@ -355,9 +355,8 @@ module _ (value : WorldValue) (whole : IsHeld value) (name : TaskName) (number :
       swept : IsSwept value next gets loses_uses new_value
       swept = record {
         midway = same_files_keep value before next refl (keeps_itself value whole.overlays);
-        mounted = still_mounted value whole (in_use_of next) (λ number.
-            ap (λ (world : World ℕ). is_mounted nat_eq world number) living_is ∙ same_mounted number);
-        overlays = refl;
+        overlays = all_shown value (in_use_of next) (still_mounted value whole (in_use_of next) (λ number.
+            ap (λ (world : World ℕ). is_mounted nat_eq world number) living_is ∙ same_mounted number));
         mounts = ap (λ (world : World ℕ). world.mounts) living_is ∙ mounts_are;
         numbers = ap (λ (world : World ℕ). map (λ (f : Filesystem ℕ). f.number)
             (filter is_plain_one world.filesystems)) living_is

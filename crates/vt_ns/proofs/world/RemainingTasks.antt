@@ -53,8 +53,7 @@ module _ (value : WorldValue) (whole : IsHeld value) (tasks : Tasks) (more less 
       let swept = remains_swept value whole tasks more less moves mounts filesystems overlays is_kept stay in
       record {
         midway = swept.midway;
-        mounted = swept.mounted;
-        overlays = refl;
+        overlays = swept.overlays;
         mounts = swept.mounts;
         numbers = swept.numbers;
         entries = swept.entries;

@@ -1,5 +1,5 @@
 -- The event that renames, with the mounts on what is replaced: rename(2).
-use Rattle.std.proofs.Common.{◌≡◌, ◌≢◌, refl, sym, ap, subst, ◌∙◌, true, ℕ, nat_eq, ◌&&◌, List, [], ◌∷◌, Option, None, Some, option_map}
+use Rattle.std.proofs.Common.{◌≡◌, ◌≢◌, refl, sym, ap, subst, ◌∙◌, true, ℕ, nat_eq, ◌&&◌, List, [], ◌∷◌, Option, None, Some, option_map, map, length}
 use Rattle.std.specs.Prelude.{IfSome, option_to_list}
 use Rattle.std.proofs.lemmas.Option.{same_Some}
 use Rattle.vt_spec.specs.Language.Calls.{TaskName}
@@ -23,8 +23,11 @@ use Rattle.vt_group.proofs.Together.{regrouped_living}
 use Rattle.vt_laws_letting_go.specs.FileChanges.{names_lost}
 use Rattle.vt_laws_letting_go.proofs.Lists.{Among}
 use Rattle.vt_location.specs.declared.locations.Location.{Location}
+use Rattle.vt_location.specs.declared.numbers.MountId.{MountId}
 use Rattle.vt_location.specs.Locations.{location_of, number_of}
+use Rattle.vt_location.specs.Numbers.{counted}
 use Rattle.vt_mount.specs.MountsValue.{MountEntry, mounts_in}
+use Rattle.vt_store.specs.StoreValue.{StoreValue}
 use Rattle.vt_laws_permits.specs.Named.{permit_named}
 use Rattle.vt_laws_permits.specs.Sees.{MayBeRenamed}
 use Rattle.vt_laws_runs.specs.Handed.{is_counted_before}
@@ -32,9 +35,11 @@ use Rattle.vt_laws_worlds.specs.Worlds.Permits.{IsReached, NamesWhatIsThere}
 use Rattle.vt_detach.specs.Detached.{LeaveTogether, trees_of_replaced}
 use Rattle.vt_detach.specs.Events.{Permits}
 use Rattle.vt_world.specs.Held.{IsHeld}
+use Rattle.vt_world.specs.StoredWorld.{with_store}
+use Rattle.vt_detach.specs.Stored.{kept, merged_of}
 use Rattle.vt_detach.specs.Uses.{Merged, kept_of, kept_with}
 use Rattle.vt_world.specs.WorldValue.{WorldValue, world_of}
-use Rattle.vt_detach.proofs.ChangedFiles.{ChangesFiles, with_filesystems}
+use Rattle.vt_detach.proofs.ChangedFiles.{ChangesFiles, IsFilesEvent, with_filesystems}
 use Rattle.vt_ns.proofs.world.ChangedWithMounts.{changed_then_detached, nothing_goes}
 use Rattle.vt_detach.proofs.DetachingBegins.{HasChildrenOf, detached_world}
 use Rattle.vt_detach.proofs.DetachingEnds.{taken_regroups}
@@ -42,9 +47,11 @@ use Rattle.vt_detach.proofs.FileEvents.{IsSmall}
 use Rattle.vt_ns.proofs.world.FileRenaming as Renaming
 use Rattle.vt_detach.proofs.FilesSeen.{nodes_named}
 use Rattle.vt_detach.proofs.LazilyUnmounted.{trees_have_children, trees_numbers}
+use Rattle.vt_ns.proofs.world.DetachedStored.{collected_leave, left_is_stored, none_goes, some_go}
 use Rattle.vt_ns.proofs.world.MountsOn.{none_on, one_on, tops_on, trees_collected}
+use Rattle.vt_ns.proofs.world.PlainStored.{files_stored}
 use Rattle.vt_detach.proofs.Moving.{map_itself}
-use Rattle.vt_detach.proofs.Remaining.{remade}
+use Rattle.vt_detach.proofs.Remaining.{remade_with}
 use Rattle.vt_detach.proofs.Staying.{IsDone}
 
 -- the mounts on what is replaced
@@ -170,7 +177,7 @@ module _ (value : WorldValue) (held : IsHeld value) (name : TaskName) (from : Lo
       → ChangesInodes from.node.filesystem.count (λ inodes. changed nat_eq inodes change) value.filesystems filesystems
       → LeaveTogether gone (kept_of (with_filesystems value filesystems)) value.groups
       (kept_with mounts others overlays) groups
-      → IsDone value name permit (record (remade value mounts others value.tasks) { groups = groups })
+      → IsDone value name permit (record (remade_with value mounts others overlays value.tasks) { groups = groups })
   rename_is_done filesystems others overlays mounts groups some changes together =
       let seen = Renaming.from_seen value held name from old to new object replaced small small_to small_object permits in
       let made : ChangesFiles value (location_of from) change filesystems = record {
@@ -198,3 +205,54 @@ module _ (value : WorldValue) (held : IsHeld value) (name : TaskName) (from : Lo
       (nothing_goes value held (location_of from) change filesystems made name permit permits gone reached named is_named applied
       on.inode on.lost (record { named = sees.moves.named; in_directory = sees.moves.in_directory }) on.mount on.among on.place on.placed on.at on.shows)
       closed mounts groups others overlays together
+
+-- What code does with its store
+
+module _ (base : WorldValue) (store : StoreValue) (held : IsHeld (with_store store base)) (name : TaskName)
+    (from : Location) (old : List ℕ) (to : Location) (new : List ℕ) (object : Location) (replaced : Option Location)
+    (small : IsSmall from) (small_to : IsSmall to) (small_object : IsSmall object)
+    (small_replaced : IfSome replaced IsSmall)
+    (permits : Permits (with_store store base) name (ToRename (location_of from) old (location_of to) new
+    (location_of object) (option_map location_of replaced)))
+    (ids : List MountId)
+    (collected : map (λ id. counted id.count) ids ≡ trees_of_replaced (mounts_in base.mounts) replaced) where
+  abbrev renamed : Permit ℕ
+  renamed =
+      ToRename (location_of from) old (location_of to) new (location_of object) (option_map location_of replaced)
+
+  abbrev trees : List ℕ
+  trees = trees_numbers (world_of (with_store store base)) (tops_on_replaced (with_store store base) replaced)
+
+  are : map (λ id. counted id.count) ids ≡ trees
+  are =
+      replaced_collected (with_store store base) held name from old to new object replaced small small_to small_object
+      small_replaced permits (map (λ id. counted id.count) ids) collected
+
+  -- the mounts that are collected leave with what is replaced
+  pub rename_over : length ids ≢ 0 → (plain : Filesystems)
+      → ChangesInodes from.node.filesystem.count
+      (λ inodes. changed nat_eq inodes (Move (number_of from.node) old (number_of to.node) new (number_of object.node)))
+      store.plain plain
+      → (mounts : List MountEntry) (groups : Grouping) (last : StoreValue)
+      → LeaveTogether (map (λ id. counted id.count) ids) (kept base.mounts (record store { plain = plain }))
+      base.groups (kept mounts last) groups
+      → IsDone (with_store store base) name renamed (with_store last (record base { mounts = mounts; groups = groups }))
+  rename_over some plain changes mounts groups last left =
+      left_is_stored base store held ids trees are plain mounts groups last left name renamed
+      (rename_is_done (with_store store base) held name from old to new object replaced small small_to small_object
+      small_replaced permits plain last.plain (map merged_of last.overlays) mounts groups
+      (some_go base store held ids trees are some) changes
+      (collected_leave base store held ids trees are plain mounts groups last left))
+
+  -- none leaves where none is collected
+  pub rename_stays : length ids ≡ 0 → (plain : Filesystems)
+      → ChangesInodes from.node.filesystem.count
+      (λ inodes. changed nat_eq inodes (Move (number_of from.node) old (number_of to.node) new (number_of object.node)))
+      store.plain plain
+      → IsFilesEvent (with_store store base) name renamed (with_store (record store { plain = plain }) base)
+  rename_stays none plain changes =
+      files_stored base store held name renamed permits plain
+      (Renaming.rename_alone_is_done (with_store store base) held name from old to new object replaced small small_to
+      small_object permits
+      (nothing_on_replaced (with_store store base) held name from old to new object replaced small small_to small_object
+      small_replaced permits (none_goes base store held ids trees are none)) plain changes)

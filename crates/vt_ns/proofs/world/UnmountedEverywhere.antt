@@ -40,7 +40,7 @@ use Rattle.vt_detach.proofs.FileEvents.{permit_fits}
 use Rattle.vt_detach.proofs.Finishing.{IsApplied}
 use Rattle.vt_detach.proofs.Leaving.{found_it}
 use Rattle.vt_detach.proofs.MountsGone.{found_mapped}
-use Rattle.vt_detach.proofs.Remaining.{remade}
+use Rattle.vt_detach.proofs.Remaining.{remade_with}
 use Rattle.vt_detach.proofs.Staying.{IsDone}
 use Rattle.vt_detach.proofs.UnmountedAlone.{attached_is_named}
 use Rattle.vt_ns.specs.Unmounting.{GoTogether}
@@ -143,7 +143,7 @@ pub gone_together : (value : WorldValue) → IsHeld value → (name : TaskName) 
     → All (FallsTo (world_of value) gone) (map point_seen points)
     → (mounts : List MountEntry) (groups : Grouping) (filesystems : Filesystems) (overlays : List Merged)
     → GoTogether gone points (kept_of value) value.groups (kept_with mounts filesystems overlays) groups
-    → IsDone value name permit (record (remade value mounts filesystems value.tasks) { groups = groups })
+    → IsDone value name permit (record (remade_with value mounts filesystems overlays value.tasks) { groups = groups })
 gone_together value whole name permit task policy is gone points alike regroups falls mounts groups filesystems overlays go =
     let world = world_of value in
     let start = with_mounts world (map (left_by gone (map point_seen points)) world.mounts) in
@@ -156,7 +156,7 @@ gone_together value whole name permit task policy is gone points alike regroups 
     (points_typed value.groups value.mounts (own_types value whole) points) in
     let taken : Has (taken_away nat_eq world gone) groups =
     together.groups world whole.groups whole.in_world.mounts.groups in
-    subst (λ all. IsDone value name permit (record (remade value all filesystems value.tasks) { groups = groups }))
+    subst (λ all. IsDone value name permit (record (remade_with value all filesystems overlays value.tasks) { groups = groups }))
     (sym (together.types (has_ordered world value.groups whole.groups) moved_typed))
     (moved_then_detached value whole name permit task policy is gone points groups
     (same_groups policy (taken_away nat_eq world gone) groups alike taken)
@@ -213,7 +213,7 @@ gone_in_any_order : (value : WorldValue) → IsHeld value → (name : TaskName) 
     → All (FallsTo (world_of value) planned) (map point_seen points)
     → (mounts : List MountEntry) (groups : Grouping) (filesystems : Filesystems) (overlays : List Merged)
     → GoTogether gone points (kept_of value) value.groups (kept_with mounts filesystems overlays) groups
-    → IsDone value name permit (record (remade value mounts filesystems value.tasks) { groups = groups })
+    → IsDone value name permit (record (remade_with value mounts filesystems overlays value.tasks) { groups = groups })
 gone_in_any_order value whole name permit task policy is planned gone points same alike regroups falls =
     let world = world_of value in
     gone_together value whole name permit task policy is gone points
@@ -230,7 +230,7 @@ pub unmounted_everywhere : (value : WorldValue) → IsHeld value → (name : Tas
     → All (FallsTo (world_of value) planned) (map point_seen points)
     → (mounts : List MountEntry) (groups : Grouping) (filesystems : Filesystems) (overlays : List Merged)
     → GoTogether gone points (kept_of value) value.groups (kept_with mounts filesystems overlays) groups
-    → IsDone value name (ToUnmount number) (record (remade value mounts filesystems value.tasks) { groups = groups })
+    → IsDone value name (ToUnmount number) (record (remade_with value mounts filesystems overlays value.tasks) { groups = groups })
 unmounted_everywhere value whole name number permits planned gone points same planned_is =
     let names = (permit_fits value whole name (ToUnmount number) permits).names in
     gone_in_any_order value whole name (ToUnmount number) permits.task (unmounted nat_eq (world_of value) number)
@@ -253,7 +253,7 @@ pub unmounted_lazily : (value : WorldValue) → IsHeld value → (name : TaskNam
     → (mounts : List MountEntry) (groups : Grouping) (filesystems : Filesystems) (overlays : List Merged)
     → GoTogether gone points (kept_of value) value.groups (kept_with mounts filesystems overlays) groups
     → IsDone value name (ToUnmountLazily number)
-    (record (remade value mounts filesystems value.tasks) { groups = groups })
+    (record (remade_with value mounts filesystems overlays value.tasks) { groups = groups })
 unmounted_lazily value whole name number permits planned gone points same planned_is =
     let names = (permit_fits value whole name (ToUnmountLazily number) permits).names in
     gone_in_any_order value whole name (ToUnmountLazily number) permits.task

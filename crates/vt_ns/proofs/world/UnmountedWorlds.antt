@@ -46,7 +46,7 @@ use Rattle.vt_detach.proofs.Leaving.{found_it}
 use Rattle.vt_detach.proofs.MidwayBegins.{parent_inside}
 use Rattle.vt_detach.proofs.MountsGone.{found_mapped}
 use Rattle.vt_detach.proofs.Overlaid.{keeps_itself, same_files_keep}
-use Rattle.vt_detach.proofs.Remaining.{remade}
+use Rattle.vt_detach.proofs.Remaining.{remade_with}
 use Rattle.vt_detach.proofs.Staying.{IsDone}
 use Rattle.vt_detach.proofs.TypedEvents.{counts_typed, swept_typed, typed_value}
 use Rattle.vt_detach.proofs.TypedWorlds.{typed_world}
@@ -337,11 +337,11 @@ module _ (value : WorldValue) (whole : IsHeld value) (name : TaskName) (permit :
     -- what is moved and then detached is what the unmount leaves
     pub moved_then_detached : (mounts : List MountEntry) (filesystems : Filesystems) (overlays : List Merged)
         → LeaveInTurn gone (kept_with between between_files between_merged) (kept_with mounts filesystems overlays)
-        → IsDone value name permit (typed_value groups (remade value mounts filesystems value.tasks))
+        → IsDone value name permit (typed_value groups (remade_with value mounts filesystems overlays value.tasks))
     moved_then_detached mounts filesystems overlays turn =
         let come = gained value whole points may in
         let go = lost value whole points may in
-        let untyped = remade value mounts filesystems value.tasks in
+        let untyped = remade_with value mounts filesystems overlays value.tasks in
         let detaching = all_detached value come (in_use_of start) gone (kept_with between between_files between_merged)
         (kept_with mounts filesystems overlays)
         (detaching_begins value come go (moved_world value points) (kept_with between between_files between_merged)

@@ -9,18 +9,17 @@ use Rattle.vt_permits.specs.GrantValue.{attachment_permit}
 use Rattle.vt_permits.specs.declared.grant.Attachment.TheVariants.{Bind}
 use Rattle.vt_ns.specs.contracts.world.World.{the_view}
 use Rattle.vt_detach.specs.Events.{Becomes, Permits}
-use Rattle.vt_world.specs.WorldValue.{WorldValue, world_of}
+use Rattle.vt_world.specs.WorldValue.{WorldValue, entries_of, world_of}
+use Rattle.vt_detach.proofs.Staying.{IsDone}
 use Rattle.vt_attach.proofs.Binding.{bind_is_done, may_bind, source_there}
-use Rattle.vt_attach.proofs.GraftedDone.{grafted_value}
 use Rattle.vt_attach.specs.Grafted.{IsGrafted}
 use Rattle.vt_ns.specs.Counting.{counted_for}
 use Rattle.vt_ns.proofs.world.Counted.{counted_so}
 use Rattle.vt_ns.proofs.world.BoundEvents.{bind_place_there, parts_found, place_mounted}
-use Rattle.vt_world.specs.Held.{IsHeld}
 use Rattle.vt_world.specs.StoredWorld.{overlays_of_store}
 use Rattle.vt_detach.specs.Stored.{kept, merged_of}
 use Rattle.vt_detach.specs.Uses.{Kept, kept_of}
-use Rattle.vt_ns.proofs.world.StoresKept.{held_stored, kept_is, kept_still, none_attached, none_kept}
+use Rattle.vt_ns.proofs.world.StoresKept.{done_stored, kept_is, kept_still, none_attached, none_kept}
 use Rattle.vt_ns.proofs.world.World.bind.Goals as goal
 
 pub mounts_bound-requires : goal.mounts_bound-requires
@@ -63,81 +62,73 @@ attach_graft-requires-clause-may c =
     may_bind value c.self.invariant c.args.name.now c.args.bind.source c.args.bind.recursive graft counts permits tree_is refl parts_are refl refl
     c.are_ascending.ensures c.are_counted.ensures
 
-pub invariant_of-self-2 : goal.invariant_of-self-2
-invariant_of-self-2 c =
+abbrev after : (c : goal.After-drop-tree-2) → WorldValue
+after c = record {
+  mounts = c.attach_graft.new.mounts;
+  groups = c.attach_graft.new.groups;
+  filesystems = c.attach_graft.new.store.plain;
+  overlays = overlays_of_store c.attach_graft.new.store;
+  namespaces = entries_of c.self.inside.namespaces.entries;
+  tasks = c.self.inside.tasks;
+  next = c.self.inside.next + c.in-Some.taken;
+}
+
+-- the world then is the one that the permit leaves
+done : (c : goal.After-drop-tree-2) → IsDone (the_view c.self.inside) c.args.name.now
+    (attachment_permit (Bind c.args.bind)) (after c)
+done c =
     let permits : Permits (the_view c.self.inside) c.args.name.now
     (attachment_permit (Bind c.args.bind)) =
     subst (λ value. Permits value c.args.name.now
     (attachment_permit (Bind c.args.bind)))
     (sym c.self.view_is) c.requires in
     let value = the_view c.self.inside in
-    let graft : Graft = record { parts = c.deref.result; tree = c.deref-2.result; place = c.args.bind.destination; moves = false } in
+    let graft : Graft = record {
+      parts = c.deref.result;
+      tree = c.deref-2.result;
+      place = c.args.bind.destination;
+      moves = false;
+    } in
     let counts : Counts = record { first = c.self.inside.next; step = 1 } in
     let tree_is : map mount_of c.deref-2.result.now
     ≡ bind_tree nat_eq (world_of value) (location_of c.args.bind.source) c.args.bind.recursive =
     ap (map mount_of) c.deref-2.ensures.value ∙ c.in_ok-tree.ensures.ok
     ∙ ap (λ (v : WorldValue). bind_tree nat_eq (world_of v) (location_of c.args.bind.source) c.args.bind.recursive)
     (sym c.self.view_is) in
-    let parts_are : map mount_of c.deref.result.now ≡ parts_of nat_eq (world_of value) (location_of c.args.bind.destination) =
-    parts_found value c.args.self.now c.self.view_is c.self.invariant c.args.bind.destination c.in_ok-parts.parts.items c.deref.result.now c.deref.ensures.value c.in_ok-parts.ensures.ok in
-    let one : c.len.result ≡ length c.deref.result.now = let many = c.len.ensures in let alike = c.deref.ensures.len in omega (arith, many, alike) in
-    let two : c.len-2.result ≡ length c.deref-2.result.now = let many = c.len-2.ensures in let alike = c.deref-2.ensures.len in omega (arith, many, alike) in
+    let parts_are : map mount_of c.deref.result.now
+    ≡ parts_of nat_eq (world_of value) (location_of c.args.bind.destination) =
+    parts_found value c.args.self.now c.self.view_is c.self.invariant c.args.bind.destination
+    c.in_ok-parts.parts.items c.deref.result.now c.deref.ensures.value c.in_ok-parts.ensures.ok in
+    let one : c.len.result
+    ≡ length c.deref.result.now = let many = c.len.ensures in let alike = c.deref.ensures.len in omega
+    (arith, many, alike) in
+    let two : c.len-2.result
+    ≡ length c.deref-2.result.now = let many = c.len-2.ensures in let alike = c.deref-2.ensures.len in omega
+    (arith, many, alike) in
     let grows : c.self.inside.next + c.in-Some.taken
     ≡ value.next + 2 * (length c.deref.result.now * length c.deref-2.result.now) =
     ap (λ n. c.self.inside.next + n) (c.in-Some.ensures.count ∙ (λ i. 2 * (one i * two i))) in
-    held_stored IsHeld
-    (the_view c.self.inside) c.self.invariant _ c.attach_graft.new.store (kept_still (the_view c.self.inside) c.self.invariant (map merged_of c.attach_graft.new.store.overlays))
-    (ap (λ (k : Kept). k.overlays) (subst (λ k. IsGrafted graft counts k c.self.inside.groups (kept c.attach_graft.new.mounts c.attach_graft.new.store) c.attach_graft.new.groups)
-    (kept_is (the_view c.self.inside) c.self.inside.store) c.in_ok-attach_graft.ensures.ok).done
-    ∙ none_attached (subst (λ k. IsGrafted graft counts k c.self.inside.groups (kept c.attach_graft.new.mounts c.attach_graft.new.store) c.attach_graft.new.groups)
-    (kept_is (the_view c.self.inside) c.self.inside.store) c.in_ok-attach_graft.ensures.ok).copies (kept_of (the_view c.self.inside)).overlays (none_kept (the_view c.self.inside) c.self.invariant))
-    (bind_is_done value c.self.invariant c.args.name.now c.args.bind.source c.args.bind.recursive graft counts permits tree_is refl parts_are refl refl
-    c.attach_graft.new.mounts c.attach_graft.new.groups c.attach_graft.new.store.plain (map merged_of c.attach_graft.new.store.overlays)
-    (c.self.inside.next + c.in-Some.taken)
-    (subst (λ k. IsGrafted graft counts k c.self.inside.groups (kept c.attach_graft.new.mounts c.attach_graft.new.store) c.attach_graft.new.groups)
-    (kept_is (the_view c.self.inside) c.self.inside.store) c.in_ok-attach_graft.ensures.ok)
-    c.are_ascending.ensures c.are_counted.ensures grows).held
+    let grafted : IsGrafted graft counts (kept_of value) c.self.inside.groups
+    (kept c.attach_graft.new.mounts c.attach_graft.new.store) c.attach_graft.new.groups =
+    subst (λ k. IsGrafted graft counts k c.self.inside.groups
+    (kept c.attach_graft.new.mounts c.attach_graft.new.store) c.attach_graft.new.groups)
+    (kept_is value c.self.inside.store) c.in_ok-attach_graft.ensures.ok in
+    done_stored value c.self.invariant c.args.name.now (attachment_permit (Bind c.args.bind)) _
+    c.attach_graft.new.store (kept_still value c.self.invariant (map merged_of c.attach_graft.new.store.overlays))
+    (ap (λ (k : Kept). k.overlays) grafted.done
+    ∙ none_attached grafted.copies (kept_of value).overlays (none_kept value c.self.invariant))
+    (bind_is_done value c.self.invariant c.args.name.now c.args.bind.source c.args.bind.recursive graft counts
+    permits tree_is refl parts_are refl refl c.attach_graft.new.mounts c.attach_graft.new.groups
+    c.attach_graft.new.store.plain (map merged_of c.attach_graft.new.store.overlays)
+    (c.self.inside.next + c.in-Some.taken) grafted c.are_ascending.ensures c.are_counted.ensures grows)
+
+pub invariant_of-self-2 : goal.invariant_of-self-2
+invariant_of-self-2 c = (done c).held
 
 pub returns-clause-ok : goal.returns-clause-ok
 returns-clause-ok c =
-    let permits : Permits (the_view c.self.inside) c.args.name.now
-    (attachment_permit (Bind c.args.bind)) =
-    subst (λ value. Permits value c.args.name.now
-    (attachment_permit (Bind c.args.bind)))
-    (sym c.self.view_is) c.requires in
-    let value = the_view c.self.inside in
-    let graft : Graft = record { parts = c.deref.result; tree = c.deref-2.result; place = c.args.bind.destination; moves = false } in
-    let counts : Counts = record { first = c.self.inside.next; step = 1 } in
-    let tree_is : map mount_of c.deref-2.result.now
-    ≡ bind_tree nat_eq (world_of value) (location_of c.args.bind.source) c.args.bind.recursive =
-    ap (map mount_of) c.deref-2.ensures.value ∙ c.in_ok-tree.ensures.ok
-    ∙ ap (λ (v : WorldValue). bind_tree nat_eq (world_of v) (location_of c.args.bind.source) c.args.bind.recursive)
-    (sym c.self.view_is) in
-    let parts_are : map mount_of c.deref.result.now ≡ parts_of nat_eq (world_of value) (location_of c.args.bind.destination) =
-    parts_found value c.args.self.now c.self.view_is c.self.invariant c.args.bind.destination c.in_ok-parts.parts.items c.deref.result.now c.deref.ensures.value c.in_ok-parts.ensures.ok in
-    let one : c.len.result ≡ length c.deref.result.now = let many = c.len.ensures in let alike = c.deref.ensures.len in omega (arith, many, alike) in
-    let two : c.len-2.result ≡ length c.deref-2.result.now = let many = c.len-2.ensures in let alike = c.deref-2.ensures.len in omega (arith, many, alike) in
-    let grows : c.self.inside.next + c.in-Some.taken
-    ≡ value.next + 2 * (length c.deref.result.now * length c.deref-2.result.now) =
-    ap (λ n. c.self.inside.next + n) (c.in-Some.ensures.count ∙ (λ i. 2 * (one i * two i))) in
-    subst (λ (v : WorldValue). Becomes v c.args.name.now
-    (attachment_permit (Bind c.args.bind))
-    (record (grafted_value (the_view c.self.inside) c.attach_graft.new.mounts c.attach_graft.new.groups c.attach_graft.new.store.plain (map merged_of c.attach_graft.new.store.overlays)
-    (c.self.inside.next + c.in-Some.taken)) { overlays = overlays_of_store c.attach_graft.new.store }))
-    c.self.view_is
-    (held_stored (λ new. Becomes (the_view c.self.inside) c.args.name.now (attachment_permit (Bind c.args.bind)) new)
-    (the_view c.self.inside) c.self.invariant (grafted_value (the_view c.self.inside) c.attach_graft.new.mounts c.attach_graft.new.groups c.attach_graft.new.store.plain (map merged_of c.attach_graft.new.store.overlays)
-    (c.self.inside.next + c.in-Some.taken)) c.attach_graft.new.store (kept_still (the_view c.self.inside) c.self.invariant (map merged_of c.attach_graft.new.store.overlays))
-    (ap (λ (k : Kept). k.overlays) (subst (λ k. IsGrafted graft counts k c.self.inside.groups (kept c.attach_graft.new.mounts c.attach_graft.new.store) c.attach_graft.new.groups)
-    (kept_is (the_view c.self.inside) c.self.inside.store) c.in_ok-attach_graft.ensures.ok).done
-    ∙ none_attached (subst (λ k. IsGrafted graft counts k c.self.inside.groups (kept c.attach_graft.new.mounts c.attach_graft.new.store) c.attach_graft.new.groups)
-    (kept_is (the_view c.self.inside) c.self.inside.store) c.in_ok-attach_graft.ensures.ok).copies (kept_of (the_view c.self.inside)).overlays (none_kept (the_view c.self.inside) c.self.invariant))
-    (bind_is_done value c.self.invariant c.args.name.now c.args.bind.source c.args.bind.recursive graft counts permits tree_is refl parts_are refl refl
-    c.attach_graft.new.mounts c.attach_graft.new.groups c.attach_graft.new.store.plain (map merged_of c.attach_graft.new.store.overlays)
-    (c.self.inside.next + c.in-Some.taken)
-    (subst (λ k. IsGrafted graft counts k c.self.inside.groups (kept c.attach_graft.new.mounts c.attach_graft.new.store) c.attach_graft.new.groups)
-    (kept_is (the_view c.self.inside) c.self.inside.store) c.in_ok-attach_graft.ensures.ok)
-    c.are_ascending.ensures c.are_counted.ensures grows).becomes)
+    subst (λ (v : WorldValue). Becomes v c.args.name.now (attachment_permit (Bind c.args.bind)) (after c))
+    c.self.view_is (done c).becomes
 
 pub returns-clause-counts : goal.returns-clause-counts
 returns-clause-counts c =

@@ -1,57 +1,62 @@
-use Rattle.std.proofs.Common.{sym, subst, ap, ◌∙◌, option_map, map, refl, List}
+use Rattle.std.proofs.Common.{ap, map, option_map, subst, sym, ◌≡◌, ◌∙◌}
 use Rattle.vt_laws_letting_go.proofs.Lists.{passes}
+use Rattle.vt_spec.specs.Language.Calls.{opens_for_writing}
 use Rattle.vt_spec.specs.Machine.Permits.Permit.{ToClose}
+use Rattle.vt_request.specs.Requests.{access_of}
 use Rattle.vt_tasks.specs.Open.{numbered}
 use Rattle.vt_tasks.specs.TasksValue.{has_files_in_order}
 use Rattle.vt_ns.specs.contracts.world.World.{the_view}
 use Rattle.vt_detach.specs.Events.{Becomes, Permits}
 use Rattle.vt_detach.specs.Uses.{Kept, kept_of, without_location}
 use Rattle.vt_detach.proofs.Closing.{file_is_closed, nothing_is_closed}
-use Rattle.vt_detach.proofs.Remaining.{remade}
-use Rattle.vt_detach.proofs.Staying.{after}
-use Rattle.vt_world.specs.Held.{IsHeld}
+use Rattle.vt_detach.proofs.Remaining.{remade, remade_with}
+use Rattle.vt_detach.proofs.Staying.{IsDone, after}
+use Rattle.vt_world.specs.WorldValue.{WorldValue}
 use Rattle.vt_world.specs.StoredWorld.{overlays_of_store}
-use Rattle.vt_detach.specs.Stored.{merged_of}
-use Rattle.vt_ns.proofs.world.StoresKept.{held_stored, kept_is, none_kept, none_without}
+use Rattle.vt_detach.specs.Stored.{kept, merged_of}
+use Rattle.vt_ns.proofs.world.StoresKept.{done_stored, kept_is, kept_still, none_kept, none_without}
 use Rattle.vt_ns.proofs.world.World.close.Goals as goal
 
-pub invariant_of-self : goal.invariant_of-self
-invariant_of-self c =
-    held_stored IsHeld
-    (the_view c.self.inside) c.self.invariant _ c.leave.new.store refl
-    (ap (λ (k : Kept). k.overlays) (c.leave.ensures.left
-    ∙ (λ i. without_location c.in-Some.closed.location (c.writes.ensures i) (kept_is (the_view c.self.inside) c.self.inside.store i)))
-    ∙ none_without c.in-Some.closed.location _ (kept_of (the_view c.self.inside)) (none_kept (the_view c.self.inside) c.self.invariant))
-    (file_is_closed (the_view c.self.inside) c.args.name.now c.args.descriptor c.in-Some.closed c.leave.new.mounts c.leave.new.store.plain (map merged_of c.leave.new.store.overlays) c.close.new.self
-    c.self.invariant
+abbrev after_leaving : (c : goal.After-leave) → WorldValue
+after_leaving c =
+    record (remade (the_view c.self.inside) c.leave.new.mounts c.leave.new.store.plain c.close.new.self) {
+      overlays = overlays_of_store c.leave.new.store;
+    }
+
+-- what the file leaves
+left_so : (c : goal.After-leave) → kept c.leave.new.mounts c.leave.new.store
+    ≡ without_location c.in-Some.closed.location (opens_for_writing (access_of c.in-Some.closed.access))
+    (kept_of (the_view c.self.inside))
+left_so c =
+    c.leave.ensures.left
+    ∙ (λ i. without_location c.in-Some.closed.location (c.writes.ensures i)
+    (kept_is (the_view c.self.inside) c.self.inside.store i))
+
+done : (c : goal.After-leave) → IsDone (the_view c.self.inside) c.args.name.now (ToClose c.args.descriptor)
+    (after_leaving c)
+done c =
+    let kept_now = map merged_of c.leave.new.store.overlays in
+    done_stored (the_view c.self.inside) c.self.invariant c.args.name.now (ToClose c.args.descriptor)
+    (remade_with (the_view c.self.inside) c.leave.new.mounts c.leave.new.store.plain kept_now c.close.new.self)
+    c.leave.new.store (kept_still (the_view c.self.inside) c.self.invariant kept_now)
+    (ap (λ (k : Kept). k.overlays) (left_so c)
+    ∙ none_without c.in-Some.closed.location _ (kept_of (the_view c.self.inside))
+    (none_kept (the_view c.self.inside) c.self.invariant))
+    (file_is_closed (the_view c.self.inside) c.args.name.now c.args.descriptor c.in-Some.closed c.leave.new.mounts
+    c.leave.new.store.plain kept_now c.close.new.self c.self.invariant
     (subst (λ value. Permits value c.args.name.now (ToClose c.args.descriptor)) (sym c.self.view_is) c.requires)
     c.leave.ensures.slot
     (passes has_files_in_order c.self.inside.tasks c.close.ensures.order)
     (sym (ap (option_map (numbered c.args.descriptor)) c.in-Some.is) ∙ c.close.ensures.value)
-    c.close.ensures.rest
-    (c.leave.ensures.left
-    ∙ (λ i. without_location c.in-Some.closed.location (c.writes.ensures i) (kept_is (the_view c.self.inside) c.self.inside.store i)))).held
+    c.close.ensures.rest (left_so c))
+
+pub invariant_of-self : goal.invariant_of-self
+invariant_of-self c = (done c).held
 
 pub returns-in-Some : goal.returns-in-Some
 returns-in-Some c =
-    subst (λ value. Becomes value c.args.name.now (ToClose c.args.descriptor)
-    (record (remade (the_view c.self.inside) c.leave.new.mounts c.leave.new.store.plain c.close.new.self) {
-      overlays = overlays_of_store c.leave.new.store;
-    })) c.self.view_is
-    (held_stored (λ new. Becomes (the_view c.self.inside) c.args.name.now (ToClose c.args.descriptor) new)
-    (the_view c.self.inside) c.self.invariant (remade (the_view c.self.inside) c.leave.new.mounts c.leave.new.store.plain c.close.new.self) c.leave.new.store refl
-    (ap (λ (k : Kept). k.overlays) (c.leave.ensures.left
-    ∙ (λ i. without_location c.in-Some.closed.location (c.writes.ensures i) (kept_is (the_view c.self.inside) c.self.inside.store i)))
-    ∙ none_without c.in-Some.closed.location _ (kept_of (the_view c.self.inside)) (none_kept (the_view c.self.inside) c.self.invariant))
-    (file_is_closed (the_view c.self.inside) c.args.name.now c.args.descriptor c.in-Some.closed c.leave.new.mounts c.leave.new.store.plain (map merged_of c.leave.new.store.overlays) c.close.new.self
-    c.self.invariant
-    (subst (λ value. Permits value c.args.name.now (ToClose c.args.descriptor)) (sym c.self.view_is) c.requires)
-    c.leave.ensures.slot
-    (passes has_files_in_order c.self.inside.tasks c.close.ensures.order)
-    (sym (ap (option_map (numbered c.args.descriptor)) c.in-Some.is) ∙ c.close.ensures.value)
-    c.close.ensures.rest
-    (c.leave.ensures.left
-    ∙ (λ i. without_location c.in-Some.closed.location (c.writes.ensures i) (kept_is (the_view c.self.inside) c.self.inside.store i)))).becomes)
+    subst (λ value. Becomes value c.args.name.now (ToClose c.args.descriptor) (after_leaving c)) c.self.view_is
+    (done c).becomes
 
 pub invariant_of-self-in_default : goal.invariant_of-self-in_default
 invariant_of-self-in_default c =

@@ -1,4 +1,4 @@
-use Rattle.std.proofs.Common.{ap, false, option_map, rules, subst, sym, true, ◌≡◌, ◌∙◌, map, refl, List}
+use Rattle.std.proofs.Common.{[], ap, false, map, option_map, rules, subst, sym, true, ◌≡◌, ◌∙◌}
 use Rattle.vt_location.specs.Locations.{location_of}
 use Rattle.vt_location.specs.Numbers.{counted}
 use Rattle.vt_spec.specs.Machine.Permits.Permit.{ToEnterNamespace}
@@ -6,15 +6,15 @@ use Rattle.vt_tasks.specs.TasksValue.{left_of}
 use Rattle.vt_ns.specs.contracts.world.World.{the_view}
 use Rattle.vt_detach.specs.Events.{Becomes, Permits}
 use Rattle.vt_detach.specs.NamespacesLeft.{MountsAreLeft, namespace_entry, with_one_task_less}
-use Rattle.vt_detach.specs.Uses.{Kept, kept_of, with_location, without_location}
+use Rattle.vt_detach.specs.Uses.{Kept, kept_of, overlays_kept, with_location, without_location}
 use Rattle.vt_world.specs.WorldValue.{WorldValue, entries_of}
 use Rattle.vt_ns.proofs.CountingLemmas.{room_left}
 use Rattle.vt_detach.proofs.Entered.{namespace_has_a_root, task_enters}
 use Rattle.vt_ns.specs.Entering.{HasRoomToEnter}
-use Rattle.vt_world.specs.Held.{IsHeld}
+use Rattle.vt_detach.proofs.Staying.{IsDone}
 use Rattle.vt_world.specs.StoredWorld.{overlays_of_store}
 use Rattle.vt_detach.specs.Stored.{kept, merged_of}
-use Rattle.vt_ns.proofs.world.StoresKept.{held_stored, kept_is, none_kept, none_left, none_without}
+use Rattle.vt_ns.proofs.world.StoresKept.{done_stored, kept_is, kept_still, none_kept, none_left, none_without}
 use Rattle.vt_ns.proofs.world.World.enter_namespace.Goals as goal
 use Rattle.vt_ns.proofs.world.World.enter_namespace.Goals.{then-not-has_room-via-then-not-has_room, then-not-has_room-via-else-not-has_room+then-not-has_room_for_task}
 
@@ -27,29 +27,61 @@ unwrap-root-requires c =
 
 pub hold_once_more-requires-2 : goal.hold_once_more-requires-2
 hold_once_more-requires-2 c =
-    room_left c.unwrap-root.result c.unwrap-root.result c.self.inside.mounts c.hold_once_more.new.mounts c.self.inside.store c.hold_once_more.new.store
+    room_left c.unwrap-root.result c.unwrap-root.result c.self.inside.mounts c.hold_once_more.new.mounts
+    c.self.inside.store c.hold_once_more.new.store
     (c.has_room.ensures.0 (let room = c.if-not-has_room.false in search rules))
     c.hold_once_more.ensures.held
 
-pub invariant_of-self : goal.invariant_of-self
-invariant_of-self c =
-    let left = c.in-Some.left in
-    held_stored IsHeld
-    (the_view c.self.inside) c.self.invariant _ c.leave_namespace.new.store refl
-    (none_left (counted left.namespace.count) _ (kept c.leave-in-Some.new.mounts c.leave-in-Some.new.store) c.self.inside.groups
-    (kept c.leave_namespace.new.mounts c.leave_namespace.new.store) c.leave_namespace.new.groups
-    (ap (λ (k : Kept). k.overlays) (c.leave-in-Some.ensures.left ∙ ap (without_location left.directory false)
-    (c.leave.ensures.left ∙ ap (without_location left.root false)
+abbrev after : (c : goal.After-leave_namespace) → WorldValue
+after c = record {
+  mounts = c.leave_namespace.new.mounts;
+  groups = c.leave_namespace.new.groups;
+  filesystems = c.leave_namespace.new.store.plain;
+  overlays = overlays_of_store c.leave_namespace.new.store;
+  namespaces = entries_of c.leave_namespace.new.namespaces.entries;
+  tasks = c.enter.new.self;
+  next = c.self.inside.next;
+}
+
+-- what the task leaves, once its new places are held
+left_so : (c : goal.After-leave_namespace) → kept c.leave-in-Some.new.mounts c.leave-in-Some.new.store
+    ≡ without_location c.in-Some.left.directory false (without_location c.in-Some.left.root false
+    (with_location c.unwrap-root.result false (with_location c.unwrap-root.result false
+    (kept_of (the_view c.self.inside)))))
+left_so c =
+    c.leave-in-Some.ensures.left ∙ ap (without_location c.in-Some.left.directory false)
+    (c.leave.ensures.left ∙ ap (without_location c.in-Some.left.root false)
     (c.hold_once_more-2.ensures.held ∙ ap (with_location c.unwrap-root.result false)
-    (c.hold_once_more.ensures.held ∙ ap (with_location c.unwrap-root.result false) (kept_is (the_view c.self.inside) c.self.inside.store)))))
-    ∙ none_without left.directory false _ (none_without left.root false
-    (with_location c.unwrap-root.result false (with_location c.unwrap-root.result false (kept_of (the_view c.self.inside)))) (none_kept (the_view c.self.inside) c.self.invariant)))
-    (subst (λ all. MountsAreLeft (counted left.namespace.count) (namespace_entry left.namespace.count all)
+    (c.hold_once_more.ensures.held ∙ ap (with_location c.unwrap-root.result false)
+    (kept_is (the_view c.self.inside) c.self.inside.store))))
+
+-- no overlay comes
+none_come : (c : goal.After-leave_namespace)
+    → (kept c.leave_namespace.new.mounts c.leave_namespace.new.store).overlays ≡ []
+none_come c =
+    let left = c.in-Some.left in
+    none_left (counted left.namespace.count)
+    (namespace_entry left.namespace.count (entries_of c.count_task.new.namespaces.entries))
     (kept c.leave-in-Some.new.mounts c.leave-in-Some.new.store) c.self.inside.groups
-    (kept c.leave_namespace.new.mounts c.leave_namespace.new.store) c.leave_namespace.new.groups)
-    c.count_task.ensures c.leave_namespace.ensures.mounts))
+    (kept c.leave_namespace.new.mounts c.leave_namespace.new.store) c.leave_namespace.new.groups
+    (ap (λ (k : Kept). k.overlays) (left_so c)
+    ∙ none_without left.directory false _ (none_without left.root false
+    (with_location c.unwrap-root.result false
+    (with_location c.unwrap-root.result false (kept_of (the_view c.self.inside))))
+    (none_kept (the_view c.self.inside) c.self.invariant)))
+    c.leave_namespace.ensures.mounts
+
+done : (c : goal.After-leave_namespace) → IsDone (the_view c.self.inside) c.args.name.now
+    (ToEnterNamespace (counted c.args.namespace.count)) (after c)
+done c =
+    let left = c.in-Some.left in
+    let kept_now = map merged_of c.leave_namespace.new.store.overlays in
+    done_stored (the_view c.self.inside) c.self.invariant c.args.name.now
+    (ToEnterNamespace (counted c.args.namespace.count))
+    (record (after c) { overlays = overlays_kept kept_now (the_view c.self.inside).overlays })
+    c.leave_namespace.new.store (kept_still (the_view c.self.inside) c.self.invariant kept_now) (none_come c)
     (task_enters (the_view c.self.inside) c.args.name.now c.args.namespace.count c.unwrap-root.result left
-    c.leave_namespace.new.mounts c.leave_namespace.new.groups c.leave_namespace.new.store.plain (map merged_of c.leave_namespace.new.store.overlays)
+    c.leave_namespace.new.mounts c.leave_namespace.new.groups c.leave_namespace.new.store.plain kept_now
     (entries_of c.leave_namespace.new.namespaces.entries) c.enter.new.self
     (kept c.leave-in-Some.new.mounts c.leave-in-Some.new.store)
     c.self.invariant
@@ -59,64 +91,20 @@ invariant_of-self c =
     c.hold_once_more.ensures.slot c.leave.ensures.slot c.leave-in-Some.ensures.slot
     (sym (ap (option_map left_of) c.in-Some.is) ∙ c.enter.ensures.left)
     c.enter.ensures.rest
-    (c.leave-in-Some.ensures.left ∙ ap (without_location left.directory false)
-    (c.leave.ensures.left ∙ ap (without_location left.root false)
-    (c.hold_once_more-2.ensures.held ∙ ap (with_location c.unwrap-root.result false)
-    (c.hold_once_more.ensures.held ∙ ap (with_location c.unwrap-root.result false) (kept_is (the_view c.self.inside) c.self.inside.store)))))
+    (left_so c)
     (c.leave_namespace.ensures.namespaces ∙ ap (with_one_task_less left.namespace.count) c.count_task.ensures)
     (subst (λ all. MountsAreLeft (counted left.namespace.count) (namespace_entry left.namespace.count all)
     (kept c.leave-in-Some.new.mounts c.leave-in-Some.new.store) c.self.inside.groups
     (kept c.leave_namespace.new.mounts c.leave_namespace.new.store) c.leave_namespace.new.groups)
-    c.count_task.ensures c.leave_namespace.ensures.mounts)).held
+    c.count_task.ensures c.leave_namespace.ensures.mounts))
+
+pub invariant_of-self : goal.invariant_of-self
+invariant_of-self c = (done c).held
 
 pub returns-in-Some-clause-ok : goal.returns-in-Some-clause-ok
 returns-in-Some-clause-ok c =
-    let left = c.in-Some.left in
-    let new : WorldValue = record {
-      mounts = c.leave_namespace.new.mounts;
-      groups = c.leave_namespace.new.groups;
-      filesystems = c.leave_namespace.new.store.plain;
-      overlays = overlays_of_store c.leave_namespace.new.store;
-      namespaces = entries_of c.leave_namespace.new.namespaces.entries;
-      tasks = c.enter.new.self;
-      next = c.self.inside.next;
-    } in
-    subst (λ value. Becomes value c.args.name.now
-    (ToEnterNamespace (counted c.args.namespace.count)) new) c.self.view_is
-    (held_stored (λ new. Becomes (the_view c.self.inside) c.args.name.now (ToEnterNamespace (counted c.args.namespace.count)) new)
-    (the_view c.self.inside) c.self.invariant (record new { overlays = (the_view c.self.inside).overlays }) c.leave_namespace.new.store refl
-    (none_left (counted left.namespace.count) _ (kept c.leave-in-Some.new.mounts c.leave-in-Some.new.store) c.self.inside.groups
-    (kept c.leave_namespace.new.mounts c.leave_namespace.new.store) c.leave_namespace.new.groups
-    (ap (λ (k : Kept). k.overlays) (c.leave-in-Some.ensures.left ∙ ap (without_location left.directory false)
-    (c.leave.ensures.left ∙ ap (without_location left.root false)
-    (c.hold_once_more-2.ensures.held ∙ ap (with_location c.unwrap-root.result false)
-    (c.hold_once_more.ensures.held ∙ ap (with_location c.unwrap-root.result false) (kept_is (the_view c.self.inside) c.self.inside.store)))))
-    ∙ none_without left.directory false _ (none_without left.root false
-    (with_location c.unwrap-root.result false (with_location c.unwrap-root.result false (kept_of (the_view c.self.inside)))) (none_kept (the_view c.self.inside) c.self.invariant)))
-    (subst (λ all. MountsAreLeft (counted left.namespace.count) (namespace_entry left.namespace.count all)
-    (kept c.leave-in-Some.new.mounts c.leave-in-Some.new.store) c.self.inside.groups
-    (kept c.leave_namespace.new.mounts c.leave_namespace.new.store) c.leave_namespace.new.groups)
-    c.count_task.ensures c.leave_namespace.ensures.mounts))
-    (task_enters (the_view c.self.inside) c.args.name.now c.args.namespace.count c.unwrap-root.result left
-    c.leave_namespace.new.mounts c.leave_namespace.new.groups c.leave_namespace.new.store.plain (map merged_of c.leave_namespace.new.store.overlays)
-    (entries_of c.leave_namespace.new.namespaces.entries) c.enter.new.self
-    (kept c.leave-in-Some.new.mounts c.leave-in-Some.new.store)
-    c.self.invariant
-    (subst (λ value. Permits value c.args.name.now (ToEnterNamespace (counted c.args.namespace.count)))
-    (sym c.self.view_is) c.requires)
-    (sym (ap (option_map location_of) c.unwrap-root.ensures) ∙ c.namespace_root.ensures)
-    c.hold_once_more.ensures.slot c.leave.ensures.slot c.leave-in-Some.ensures.slot
-    (sym (ap (option_map left_of) c.in-Some.is) ∙ c.enter.ensures.left)
-    c.enter.ensures.rest
-    (c.leave-in-Some.ensures.left ∙ ap (without_location left.directory false)
-    (c.leave.ensures.left ∙ ap (without_location left.root false)
-    (c.hold_once_more-2.ensures.held ∙ ap (with_location c.unwrap-root.result false)
-    (c.hold_once_more.ensures.held ∙ ap (with_location c.unwrap-root.result false) (kept_is (the_view c.self.inside) c.self.inside.store)))))
-    (c.leave_namespace.ensures.namespaces ∙ ap (with_one_task_less left.namespace.count) c.count_task.ensures)
-    (subst (λ all. MountsAreLeft (counted left.namespace.count) (namespace_entry left.namespace.count all)
-    (kept c.leave-in-Some.new.mounts c.leave-in-Some.new.store) c.self.inside.groups
-    (kept c.leave_namespace.new.mounts c.leave_namespace.new.store) c.leave_namespace.new.groups)
-    c.count_task.ensures c.leave_namespace.ensures.mounts)).becomes)
+    subst (λ value. Becomes value c.args.name.now (ToEnterNamespace (counted c.args.namespace.count)) (after c))
+    c.self.view_is (done c).becomes
 
 pub returns-then-not-has_room-clause-room : goal.returns-then-not-has_room-clause-room
 returns-then-not-has_room-clause-room c = λ room.

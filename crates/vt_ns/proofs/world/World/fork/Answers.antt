@@ -1,18 +1,17 @@
-use Rattle.std.proofs.Common.{ap, false, option_map, option_copied, rules, subst, sym, ◌∙◌, map, refl, List}
+use Rattle.std.proofs.Common.{ap, false, map, option_copied, option_map, refl, rules, subst, sym, ◌≡◌, ◌∙◌}
 use Rattle.vt_spec.specs.Machine.Permits.Permit.{ToFork}
 use Rattle.vt_tasks.specs.TaskValue.{task_of}
 use Rattle.vt_ns.specs.contracts.world.World.{the_view}
 use Rattle.vt_detach.specs.Events.{Becomes, Permits}
-use Rattle.vt_detach.specs.Uses.{with_location}
-use Rattle.vt_world.specs.WorldValue.{entries_of}
+use Rattle.vt_world.specs.WorldValue.{WorldValue, entries_of}
 use Rattle.vt_ns.proofs.CountingLemmas.{room_left}
 use Rattle.vt_ns.proofs.world.ForkedTasks.{may_fork, task_is_forked}
 use Rattle.vt_ns.proofs.world.RemainingTasks.{remade_in}
-use Rattle.vt_world.specs.Held.{IsHeld}
+use Rattle.vt_detach.proofs.Staying.{IsDone}
 use Rattle.vt_world.specs.StoredWorld.{overlays_of_store}
-use Rattle.vt_detach.specs.Stored.{merged_of}
-use Rattle.vt_detach.specs.Uses.{Kept}
-use Rattle.vt_ns.proofs.world.StoresKept.{held_stored, kept_is, none_kept}
+use Rattle.vt_detach.specs.Stored.{kept, merged_of}
+use Rattle.vt_detach.specs.Uses.{Kept, kept_of, with_location}
+use Rattle.vt_ns.proofs.world.StoresKept.{done_stored, kept_is, none_kept}
 use Rattle.vt_ns.proofs.world.World.fork.Goals as goal
 
 pub fork-requires : goal.fork-requires
@@ -22,48 +21,49 @@ fork-requires c =
 
 pub hold_once_more-requires-2 : goal.hold_once_more-requires-2
 hold_once_more-requires-2 c =
-    room_left c.unwrap-parent.result.now.root c.unwrap-parent.result.now.directory c.self.inside.mounts c.hold_once_more.new.mounts
-    c.self.inside.store c.hold_once_more.new.store
+    room_left c.unwrap-parent.result.now.root c.unwrap-parent.result.now.directory c.self.inside.mounts
+    c.hold_once_more.new.mounts c.self.inside.store c.hold_once_more.new.store
     (c.has_room-else-not-has_room.ensures.0
     (let room = c.if-not-has_room-2.false in search rules))
     c.hold_once_more.ensures.held
 
-pub invariant_of-self-2 : goal.invariant_of-self-2
-invariant_of-self-2 c =
-    held_stored IsHeld
-    (the_view c.self.inside) c.self.invariant _ c.hold_once_more-2.new.store refl
-    (ap (λ (k : Kept). k.overlays) (c.hold_once_more-2.ensures.held
+-- the world but for its overlays
+abbrev forked : (c : goal.After-count_task) → WorldValue
+forked c =
+    remade_in (the_view c.self.inside) c.hold_once_more-2.new.mounts c.hold_once_more-2.new.store.plain
+    (entries_of c.count_task.new.namespaces.entries) c.fork.new.self
+
+abbrev after : (c : goal.After-count_task) → WorldValue
+after c = record (forked c) { overlays = overlays_of_store c.hold_once_more-2.new.store }
+
+-- what the child holds
+held_so : (c : goal.After-count_task) → kept c.hold_once_more-2.new.mounts c.hold_once_more-2.new.store
+    ≡ with_location c.unwrap-parent.result.now.directory false
+    (with_location c.unwrap-parent.result.now.root false (kept_of (the_view c.self.inside)))
+held_so c =
+    c.hold_once_more-2.ensures.held
     ∙ ap (with_location c.unwrap-parent.result.now.directory false)
-    (c.hold_once_more.ensures.held ∙ ap (with_location c.unwrap-parent.result.now.root false) (kept_is (the_view c.self.inside) c.self.inside.store))) ∙ (none_kept (the_view c.self.inside) c.self.invariant))
+    (c.hold_once_more.ensures.held ∙ ap (with_location c.unwrap-parent.result.now.root false)
+    (kept_is (the_view c.self.inside) c.self.inside.store))
+
+done : (c : goal.After-count_task) → IsDone (the_view c.self.inside) c.args.name.now (ToFork c.args.cred) (after c)
+done c =
+    done_stored (the_view c.self.inside) c.self.invariant c.args.name.now (ToFork c.args.cred) (forked c)
+    c.hold_once_more-2.new.store refl
+    (ap (λ (k : Kept). k.overlays) (held_so c) ∙ none_kept (the_view c.self.inside) c.self.invariant)
     (task_is_forked (the_view c.self.inside) c.self.invariant c.args.name.now c.args.cred
     (subst (λ value. Permits value c.args.name.now (ToFork c.args.cred)) (sym c.self.view_is) c.requires)
-    c.unwrap-parent.result.now (sym (ap (λ found. option_map task_of (option_copied found)) c.unwrap-parent.ensures) ∙ c.get.ensures)
+    c.unwrap-parent.result.now
+    (sym (ap (λ found. option_map task_of (option_copied found)) c.unwrap-parent.ensures) ∙ c.get.ensures)
     c.hold_once_more.ensures.slot c.hold_once_more-2.ensures.slot
-    c.hold_once_more-2.new.mounts c.hold_once_more-2.new.store.plain (map merged_of c.hold_once_more-2.new.store.overlays)
+    c.hold_once_more-2.new.mounts c.hold_once_more-2.new.store.plain
+    (map merged_of c.hold_once_more-2.new.store.overlays)
     (entries_of c.count_task.new.namespaces.entries) c.fork.new.self
-    c.count_task.ensures c.in_ok-child.ensures.ok
-    (c.hold_once_more-2.ensures.held
-    ∙ ap (with_location c.unwrap-parent.result.now.directory false)
-    (c.hold_once_more.ensures.held ∙ ap (with_location c.unwrap-parent.result.now.root false) (kept_is (the_view c.self.inside) c.self.inside.store)))).held
+    c.count_task.ensures c.in_ok-child.ensures.ok (held_so c))
+
+pub invariant_of-self-2 : goal.invariant_of-self-2
+invariant_of-self-2 c = (done c).held
 
 pub returns-clause-ok : goal.returns-clause-ok
 returns-clause-ok c =
-    subst (λ value. Becomes value c.args.name.now (ToFork c.args.cred)
-    (record (remade_in (the_view c.self.inside) c.hold_once_more-2.new.mounts c.hold_once_more-2.new.store.plain
-    (entries_of c.count_task.new.namespaces.entries) c.fork.new.self) { overlays = overlays_of_store c.hold_once_more-2.new.store })) c.self.view_is
-    (held_stored (λ new. Becomes (the_view c.self.inside) c.args.name.now (ToFork c.args.cred) new)
-    (the_view c.self.inside) c.self.invariant (remade_in (the_view c.self.inside) c.hold_once_more-2.new.mounts c.hold_once_more-2.new.store.plain
-    (entries_of c.count_task.new.namespaces.entries) c.fork.new.self) c.hold_once_more-2.new.store refl
-    (ap (λ (k : Kept). k.overlays) (c.hold_once_more-2.ensures.held
-    ∙ ap (with_location c.unwrap-parent.result.now.directory false)
-    (c.hold_once_more.ensures.held ∙ ap (with_location c.unwrap-parent.result.now.root false) (kept_is (the_view c.self.inside) c.self.inside.store))) ∙ (none_kept (the_view c.self.inside) c.self.invariant))
-    (task_is_forked (the_view c.self.inside) c.self.invariant c.args.name.now c.args.cred
-    (subst (λ value. Permits value c.args.name.now (ToFork c.args.cred)) (sym c.self.view_is) c.requires)
-    c.unwrap-parent.result.now (sym (ap (λ found. option_map task_of (option_copied found)) c.unwrap-parent.ensures) ∙ c.get.ensures)
-    c.hold_once_more.ensures.slot c.hold_once_more-2.ensures.slot
-    c.hold_once_more-2.new.mounts c.hold_once_more-2.new.store.plain (map merged_of c.hold_once_more-2.new.store.overlays)
-    (entries_of c.count_task.new.namespaces.entries) c.fork.new.self
-    c.count_task.ensures c.in_ok-child.ensures.ok
-    (c.hold_once_more-2.ensures.held
-    ∙ ap (with_location c.unwrap-parent.result.now.directory false)
-    (c.hold_once_more.ensures.held ∙ ap (with_location c.unwrap-parent.result.now.root false) (kept_is (the_view c.self.inside) c.self.inside.store)))).becomes)
+    subst (λ value. Becomes value c.args.name.now (ToFork c.args.cred) (after c)) c.self.view_is (done c).becomes

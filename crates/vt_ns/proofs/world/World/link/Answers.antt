@@ -7,9 +7,8 @@ use Rattle.vt_ns.specs.contracts.world.World.{the_view}
 use Rattle.vt_detach.specs.Events.{Becomes, Permits}
 use Rattle.vt_detach.proofs.FileEvents.{change_fits}
 use Rattle.vt_ns.proofs.world.FileAnswers.{linked_in, linked_is_kept, link_is_answered}
-use Rattle.vt_world.specs.Held.{IsHeld}
 use Rattle.vt_world.specs.StoredWorld.{with_store}
-use Rattle.vt_ns.proofs.world.StoresKept.{plain_changed}
+use Rattle.vt_ns.proofs.world.PlainStored.{answered_stored}
 use Rattle.vt_ns.proofs.world.World.link.Goals as goal
 
 pub link-requires-clause-one_filesystem : goal.link-requires-clause-one_filesystem
@@ -52,26 +51,26 @@ link-requires-clause-object c =
 
 pub invariant_of-self : goal.invariant_of-self
 invariant_of-self c =
-    plain_changed IsHeld (the_view c.self.inside) c.self.inside.store c.self.invariant c.link.new.self
-    ((link_is_answered (the_view c.self.inside) c.self.invariant c.args.name.now c.args.new.directory c.args.new.name.items c.args.new.object (omega arith) (omega arith)
-    (subst (λ value. Permits value c.args.name.now
-    (make_permit (Link c.args.new)))
-    (sym c.self.view_is) c.requires)
-    c.link.new.self c.link.result (rw c.plain_mut.ensures.value at c.link.ensures.ok) (rw c.plain_mut.ensures.value at c.link.ensures.err)).held)
+    let permits = subst (λ value. Permits value c.args.name.now
+    (make_permit (Link c.args.new))) (sym c.self.view_is) c.requires in
+    (answered_stored (the_view c.self.inside) c.self.inside.store c.self.invariant c.args.name.now
+    (make_permit (Link c.args.new)) permits c.link.new.self c.link.result
+    (rw c.plain_mut.ensures.value at c.link.ensures.err)
+    (link_is_answered (the_view c.self.inside) c.self.invariant c.args.name.now c.args.new.directory
+    c.args.new.name.items c.args.new.object (omega arith) (omega arith) permits c.link.new.self c.link.result
+    (rw c.plain_mut.ensures.value at c.link.ensures.ok) (rw c.plain_mut.ensures.value at c.link.ensures.err))).held
 
 pub returns-clause-ok : goal.returns-clause-ok
 returns-clause-ok c =
-    subst (λ value. OnOk c.link.result
-    (Becomes value c.args.name.now
+    let permits = subst (λ value. Permits value c.args.name.now
+    (make_permit (Link c.args.new))) (sym c.self.view_is) c.requires in
+    subst (λ value. OnOk c.link.result (Becomes value c.args.name.now
     (make_permit (Link c.args.new))
-    (with_store (record c.self.inside.store { plain = c.link.new.self }) (the_view c.self.inside)))) c.self.view_is
-    (plain_changed (λ new. OnOk c.link.result
-    (Becomes (the_view c.self.inside) c.args.name.now
-    (make_permit (Link c.args.new))
-    new))
-    (the_view c.self.inside) c.self.inside.store c.self.invariant c.link.new.self
-    ((link_is_answered (the_view c.self.inside) c.self.invariant c.args.name.now c.args.new.directory c.args.new.name.items c.args.new.object (omega arith) (omega arith)
-    (subst (λ value. Permits value c.args.name.now
-    (make_permit (Link c.args.new)))
-    (sym c.self.view_is) c.requires)
-    c.link.new.self c.link.result (rw c.plain_mut.ensures.value at c.link.ensures.ok) (rw c.plain_mut.ensures.value at c.link.ensures.err)).ok))
+    (with_store (record c.self.inside.store { plain = c.link.new.self }) (the_view c.self.inside))))
+    c.self.view_is
+    (answered_stored (the_view c.self.inside) c.self.inside.store c.self.invariant c.args.name.now
+    (make_permit (Link c.args.new)) permits c.link.new.self c.link.result
+    (rw c.plain_mut.ensures.value at c.link.ensures.err)
+    (link_is_answered (the_view c.self.inside) c.self.invariant c.args.name.now c.args.new.directory
+    c.args.new.name.items c.args.new.object (omega arith) (omega arith) permits c.link.new.self c.link.result
+    (rw c.plain_mut.ensures.value at c.link.ensures.ok) (rw c.plain_mut.ensures.value at c.link.ensures.err))).ok

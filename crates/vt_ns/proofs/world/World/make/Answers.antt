@@ -5,9 +5,8 @@ use Rattle.vt_permits.specs.declared.grant.MakeGrant.TheVariants.{Node}
 use Rattle.vt_ns.specs.contracts.world.World.{the_view}
 use Rattle.vt_detach.specs.Events.{Becomes, Permits}
 use Rattle.vt_ns.proofs.world.FileMaking.{make_fits, make_is_done, new_in_directory}
-use Rattle.vt_world.specs.Held.{IsHeld}
 use Rattle.vt_world.specs.StoredWorld.{with_store}
-use Rattle.vt_ns.proofs.world.StoresKept.{plain_changed}
+use Rattle.vt_ns.proofs.world.PlainStored.{files_stored}
 use Rattle.vt_ns.proofs.world.World.make.Goals as goal
 
 pub create-requires-clause-directory : goal.create-requires-clause-directory
@@ -35,28 +34,28 @@ create-requires-clause-node c =
 
 pub invariant_of-self-2 : goal.invariant_of-self-2
 invariant_of-self-2 c =
-    plain_changed IsHeld (the_view c.self.inside) c.self.inside.store c.self.invariant c.create.new.self
-    ((make_is_done (the_view c.self.inside) c.self.invariant c.args.name.now c.args.new.directory c.args.new.name.items c.args.new.node (omega arith)
-    (subst (λ value. Permits value c.args.name.now
-    (make_permit (Node c.args.new)))
-    (sym c.self.view_is) c.requires)
-    c.create.new.self c.in_ok-create.field-0
+    let permits = subst (λ value. Permits value c.args.name.now
+    (make_permit (Node c.args.new))) (sym c.self.view_is) c.requires in
+    (files_stored (the_view c.self.inside) c.self.inside.store c.self.invariant c.args.name.now
+    (make_permit (Node c.args.new)) permits c.create.new.self
+    (make_is_done (the_view c.self.inside) c.self.invariant c.args.name.now c.args.new.directory c.args.new.name.items
+    c.args.new.node (omega arith) permits c.create.new.self c.in_ok-create.field-0
     (here_is_own c.in_ok-create.field-0 (omega arith) (omega arith) c.in_ok-create.ensures.birth)
-    c.in_ok-create.ensures.filesystem c.in_ok-create.ensures.number c.in_ok-create.ensures.ok).held)
+    c.in_ok-create.ensures.filesystem (rw c.plain_mut.ensures.value at c.in_ok-create.ensures.number)
+    (rw c.plain_mut.ensures.value at c.in_ok-create.ensures.ok))).held
 
 pub returns-clause-ok : goal.returns-clause-ok
 returns-clause-ok c =
+    let permits = subst (λ value. Permits value c.args.name.now
+    (make_permit (Node c.args.new))) (sym c.self.view_is) c.requires in
     subst (λ value. Becomes value c.args.name.now
     (make_permit (Node c.args.new))
-    (with_store (record c.self.inside.store { plain = c.create.new.self }) (the_view c.self.inside))) c.self.view_is
-    (plain_changed (λ new. Becomes (the_view c.self.inside) c.args.name.now
-    (make_permit (Node c.args.new))
-    new)
-    (the_view c.self.inside) c.self.inside.store c.self.invariant c.create.new.self
-    ((make_is_done (the_view c.self.inside) c.self.invariant c.args.name.now c.args.new.directory c.args.new.name.items c.args.new.node (omega arith)
-    (subst (λ value. Permits value c.args.name.now
-    (make_permit (Node c.args.new)))
-    (sym c.self.view_is) c.requires)
-    c.create.new.self c.in_ok-create.field-0
+    (with_store (record c.self.inside.store { plain = c.create.new.self }) (the_view c.self.inside)))
+    c.self.view_is
+    (files_stored (the_view c.self.inside) c.self.inside.store c.self.invariant c.args.name.now
+    (make_permit (Node c.args.new)) permits c.create.new.self
+    (make_is_done (the_view c.self.inside) c.self.invariant c.args.name.now c.args.new.directory c.args.new.name.items
+    c.args.new.node (omega arith) permits c.create.new.self c.in_ok-create.field-0
     (here_is_own c.in_ok-create.field-0 (omega arith) (omega arith) c.in_ok-create.ensures.birth)
-    c.in_ok-create.ensures.filesystem c.in_ok-create.ensures.number c.in_ok-create.ensures.ok).becomes))
+    c.in_ok-create.ensures.filesystem (rw c.plain_mut.ensures.value at c.in_ok-create.ensures.number)
+    (rw c.plain_mut.ensures.value at c.in_ok-create.ensures.ok))).becomes

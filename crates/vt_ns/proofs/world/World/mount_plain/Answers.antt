@@ -11,19 +11,18 @@ use Rattle.vt_spec.specs.Machine.NewMounts.{new_mount}
 use Rattle.vt_spec.specs.Machine.Permits.Permit.{ToMountPlain}
 use Rattle.vt_ns.specs.contracts.world.World.{the_view}
 use Rattle.vt_detach.specs.Events.{Becomes, Permits}
-use Rattle.vt_world.specs.WorldValue.{WorldValue, world_of}
-use Rattle.vt_attach.proofs.GraftedDone.{grafted_value}
+use Rattle.vt_world.specs.WorldValue.{WorldValue, entries_of, world_of}
+use Rattle.vt_detach.proofs.Staying.{IsDone}
 use Rattle.vt_attach.proofs.NewBase.{destination_there}
 use Rattle.vt_attach.proofs.NewFilesystems.{next_is_above}
 use Rattle.vt_attach.proofs.NewMounts.{may_mount, new_mount_is_done}
 use Rattle.vt_ns.proofs.world.Counted.{as_many_mounts}
 use Rattle.vt_ns.proofs.world.BoundEvents.{parts_found, place_mounted}
-use Rattle.vt_world.specs.Held.{IsHeld}
 use Rattle.vt_world.specs.StoredWorld.{overlays_of_store}
 use Rattle.vt_attach.specs.Grafted.{IsGrafted}
 use Rattle.vt_detach.specs.Stored.{kept, merged_of}
 use Rattle.vt_detach.specs.Uses.{Kept, kept_of, kept_with}
-use Rattle.vt_ns.proofs.world.StoresKept.{held_stored, kept_is, kept_still, none_attached, none_kept}
+use Rattle.vt_ns.proofs.world.StoresKept.{done_stored, kept_is, kept_still, none_attached, none_kept}
 use Rattle.vt_ns.proofs.world.World.mount_plain.Goals as goal
 
 pub parts-requires : goal.parts-requires
@@ -66,8 +65,21 @@ mount_new-requires-clause-may c =
     (flags_of c.args.flags) permits refl tree_is parts_are refl refl
     c.are_ascending.ensures c.are_counted.ensures
 
-pub invariant_of-self-2 : goal.invariant_of-self-2
-invariant_of-self-2 c =
+abbrev after : (c : goal.After-drop-parts-2) → WorldValue
+after c = record {
+  mounts = c.mount_new.new.mounts;
+  groups = c.mount_new.new.groups;
+  filesystems = c.mount_new.new.store.plain;
+  overlays = overlays_of_store c.mount_new.new.store;
+  namespaces = entries_of c.self.inside.namespaces.entries;
+  tasks = c.self.inside.tasks;
+  next = c.self.inside.next + c.in-Some.taken;
+}
+
+-- the world then is the one that the permit leaves
+done : (c : goal.After-drop-parts-2) → IsDone (the_view c.self.inside) c.args.name.now
+    (ToMountPlain (location_of c.args.place) (flags_of c.args.flags)) (after c)
+done c =
     let permits : Permits (the_view c.self.inside) c.args.name.now
     (ToMountPlain (location_of c.args.place) (flags_of c.args.flags)) =
     subst (λ value. Permits value c.args.name.now (ToMountPlain (location_of c.args.place) (flags_of c.args.flags)))
@@ -88,69 +100,38 @@ invariant_of-self-2 c =
     ≡ new_mount (counted c.self.inside.next) (inode_number c.self.inside.next 0) (flags_of c.args.flags) ∷ [] =
     ap (λ (mount : meant.Mount ℕ). mount ∷ []) c.mount_of_new.ensures in
     let parts_are : map mount_of c.deref.result.now ≡ parts_of nat_eq (world_of value) (location_of c.args.place) =
-    parts_found value c.args.self.now c.self.view_is c.self.invariant c.args.place c.in_ok-parts.parts.items c.deref.result.now c.deref.ensures.value c.in_ok-parts.ensures.ok in
-    let one : c.len.result ≡ length c.deref.result.now = let many = c.len.ensures in let alike = c.deref.ensures.len in omega (arith, many, alike) in
+    parts_found value c.args.self.now c.self.view_is c.self.invariant c.args.place c.in_ok-parts.parts.items
+    c.deref.result.now c.deref.ensures.value c.in_ok-parts.ensures.ok in
+    let one : c.len.result ≡ length c.deref.result.now =
+    let many = c.len.ensures in let alike = c.deref.ensures.len in omega (arith, many, alike) in
     let grows : c.self.inside.next + c.in-Some.taken ≡ value.next + 2 * (length c.deref.result.now * 2) =
     ap (λ n. c.self.inside.next + n) (c.in-Some.ensures.count ∙ (λ i. 2 * (one i * 2))) in
     let made = c.in_ok-mount_new.ensures.ok in
-    held_stored IsHeld
-    (the_view c.self.inside) c.self.invariant _ c.mount_new.new.store (kept_still (the_view c.self.inside) c.self.invariant (map merged_of c.mount_new.new.store.overlays))
-    (ap (λ (k : Kept). k.overlays) (subst (λ k. IsGrafted graft counts k c.self.inside.groups (kept c.mount_new.new.mounts c.mount_new.new.store) c.mount_new.new.groups)
-    (λ i. kept_with c.self.inside.mounts (c.self.inside.store.plain ++ made.0 ∷ []) (kept_is (the_view c.self.inside) c.self.inside.store i).overlays) made.2).done
-    ∙ none_attached _ (kept_of (the_view c.self.inside)).overlays (none_kept (the_view c.self.inside) c.self.invariant))
+    let grafted : IsGrafted graft counts (kept_with c.self.inside.mounts (c.self.inside.store.plain ++ made.0 ∷ [])
+    (kept_of value).overlays) c.self.inside.groups (kept c.mount_new.new.mounts c.mount_new.new.store)
+    c.mount_new.new.groups =
+    subst (λ k. IsGrafted graft counts k c.self.inside.groups (kept c.mount_new.new.mounts c.mount_new.new.store)
+    c.mount_new.new.groups)
+    (λ i. kept_with c.self.inside.mounts (c.self.inside.store.plain ++ made.0 ∷ [])
+    (kept_is value c.self.inside.store i).overlays) made.2 in
+    done_stored value c.self.invariant c.args.name.now
+    (ToMountPlain (location_of c.args.place) (flags_of c.args.flags)) _ c.mount_new.new.store
+    (kept_still value c.self.invariant (map merged_of c.mount_new.new.store.overlays))
+    (ap (λ (k : Kept). k.overlays) grafted.done
+    ∙ none_attached grafted.copies (kept_of value).overlays (none_kept value c.self.invariant))
     (new_mount_is_done value c.self.invariant c.args.name.now graft counts
     (flags_of c.args.flags) permits refl tree_is parts_are refl refl
     c.are_ascending.ensures c.are_counted.ensures made.0 made.1 (omega arith)
-    c.mount_new.new.mounts c.mount_new.new.groups c.mount_new.new.store.plain (map merged_of c.mount_new.new.store.overlays)
-    (c.self.inside.next + c.in-Some.taken)
-    (subst (λ k. IsGrafted graft counts k c.self.inside.groups (kept c.mount_new.new.mounts c.mount_new.new.store) c.mount_new.new.groups)
-    (λ i. kept_with c.self.inside.mounts (c.self.inside.store.plain ++ made.0 ∷ []) (kept_is (the_view c.self.inside) c.self.inside.store i).overlays) made.2) grows).held
+    c.mount_new.new.mounts c.mount_new.new.groups c.mount_new.new.store.plain
+    (map merged_of c.mount_new.new.store.overlays) (c.self.inside.next + c.in-Some.taken) grafted grows)
+
+pub invariant_of-self-2 : goal.invariant_of-self-2
+invariant_of-self-2 c = (done c).held
 
 pub returns-clause-ok : goal.returns-clause-ok
 returns-clause-ok c =
-    let permits : Permits (the_view c.self.inside) c.args.name.now
-    (ToMountPlain (location_of c.args.place) (flags_of c.args.flags)) =
-    subst (λ value. Permits value c.args.name.now (ToMountPlain (location_of c.args.place) (flags_of c.args.flags)))
-    (sym c.self.view_is) c.requires in
-    let value = the_view c.self.inside in
-    let graft : Graft = record {
-      parts = c.deref.result;
-      tree = record {
-        ref_ptr =
-            (c.tree-1.given, 0);
-        now = c.mount_of_new.result ∷ [];
-      };
-      place = c.args.place;
-      moves = false;
-    } in
-    let counts : Counts = record { first = c.self.inside.next + 1; step = 2 } in
-    let tree_is : map mount_of (c.mount_of_new.result ∷ [])
-    ≡ new_mount (counted c.self.inside.next) (inode_number c.self.inside.next 0) (flags_of c.args.flags) ∷ [] =
-    ap (λ (mount : meant.Mount ℕ). mount ∷ []) c.mount_of_new.ensures in
-    let parts_are : map mount_of c.deref.result.now ≡ parts_of nat_eq (world_of value) (location_of c.args.place) =
-    parts_found value c.args.self.now c.self.view_is c.self.invariant c.args.place c.in_ok-parts.parts.items c.deref.result.now c.deref.ensures.value c.in_ok-parts.ensures.ok in
-    let one : c.len.result ≡ length c.deref.result.now = let many = c.len.ensures in let alike = c.deref.ensures.len in omega (arith, many, alike) in
-    let grows : c.self.inside.next + c.in-Some.taken ≡ value.next + 2 * (length c.deref.result.now * 2) =
-    ap (λ n. c.self.inside.next + n) (c.in-Some.ensures.count ∙ (λ i. 2 * (one i * 2))) in
-    let made = c.in_ok-mount_new.ensures.ok in
     subst (λ (v : WorldValue). Becomes v c.args.name.now
-    (ToMountPlain (location_of c.args.place) (flags_of c.args.flags))
-    (record (grafted_value (the_view c.self.inside) c.mount_new.new.mounts c.mount_new.new.groups c.mount_new.new.store.plain (map merged_of c.mount_new.new.store.overlays)
-    (c.self.inside.next + c.in-Some.taken)) { overlays = overlays_of_store c.mount_new.new.store }))
-    c.self.view_is
-    (held_stored (λ new. Becomes (the_view c.self.inside) c.args.name.now (ToMountPlain (location_of c.args.place) (flags_of c.args.flags)) new)
-    (the_view c.self.inside) c.self.invariant (grafted_value (the_view c.self.inside) c.mount_new.new.mounts c.mount_new.new.groups c.mount_new.new.store.plain (map merged_of c.mount_new.new.store.overlays)
-    (c.self.inside.next + c.in-Some.taken)) c.mount_new.new.store (kept_still (the_view c.self.inside) c.self.invariant (map merged_of c.mount_new.new.store.overlays))
-    (ap (λ (k : Kept). k.overlays) (subst (λ k. IsGrafted graft counts k c.self.inside.groups (kept c.mount_new.new.mounts c.mount_new.new.store) c.mount_new.new.groups)
-    (λ i. kept_with c.self.inside.mounts (c.self.inside.store.plain ++ made.0 ∷ []) (kept_is (the_view c.self.inside) c.self.inside.store i).overlays) made.2).done
-    ∙ none_attached _ (kept_of (the_view c.self.inside)).overlays (none_kept (the_view c.self.inside) c.self.invariant))
-    (new_mount_is_done value c.self.invariant c.args.name.now graft counts
-    (flags_of c.args.flags) permits refl tree_is parts_are refl refl
-    c.are_ascending.ensures c.are_counted.ensures made.0 made.1 (omega arith)
-    c.mount_new.new.mounts c.mount_new.new.groups c.mount_new.new.store.plain (map merged_of c.mount_new.new.store.overlays)
-    (c.self.inside.next + c.in-Some.taken)
-    (subst (λ k. IsGrafted graft counts k c.self.inside.groups (kept c.mount_new.new.mounts c.mount_new.new.store) c.mount_new.new.groups)
-    (λ i. kept_with c.self.inside.mounts (c.self.inside.store.plain ++ made.0 ∷ []) (kept_is (the_view c.self.inside) c.self.inside.store i).overlays) made.2) grows).becomes)
+    (ToMountPlain (location_of c.args.place) (flags_of c.args.flags)) (after c)) c.self.view_is (done c).becomes
 
 pub returns-clause-counts : goal.returns-clause-counts
 returns-clause-counts c =

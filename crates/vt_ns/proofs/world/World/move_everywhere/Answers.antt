@@ -1,4 +1,5 @@
 use Rattle.std.proofs.Common.{ap, arith, is_some, length, map, nat_eq, refl, subst, sym, true, ◌≡◌, ◌+◌, ◌*◌, ◌∙◌, List}
+use Rattle.std.specs.Prelude.{drop}
 use Rattle.vt_location.specs.Locations.{location_of}
 use Rattle.vt_location.specs.MountValue.{mount_of}
 use Rattle.vt_location.specs.Numbers.{counted}
@@ -11,19 +12,18 @@ use Rattle.vt_spec.specs.Machine.World.{mount_at, mount_numbered}
 use Rattle.vt_spec.specs.Machine.Permits.Permit.{ToMove}
 use Rattle.vt_ns.specs.contracts.world.World.{the_view}
 use Rattle.vt_detach.specs.Events.{Becomes, Permits}
-use Rattle.vt_world.specs.WorldValue.{WorldValue, world_of}
-use Rattle.vt_attach.proofs.GraftedDone.{grafted_value}
+use Rattle.vt_world.specs.WorldValue.{WorldValue, entries_of, world_of}
+use Rattle.vt_detach.proofs.Staying.{IsDone}
 use Rattle.vt_attach.proofs.MovedDone.{may_move, move_is_done}
 use Rattle.vt_attach.specs.Moved.{IsMovedBy}
 use Rattle.vt_ns.specs.Counting.{counted_for}
 use Rattle.vt_ns.proofs.world.Counted.{counted_so}
 use Rattle.vt_ns.proofs.world.BoundEvents.{parts_found, place_mounted}
 use Rattle.vt_ns.proofs.world.MovedEvents.{move_place_there, moved_there}
-use Rattle.vt_world.specs.Held.{IsHeld}
 use Rattle.vt_world.specs.StoredWorld.{overlays_of_store}
 use Rattle.vt_detach.specs.Stored.{kept, merged_of}
 use Rattle.vt_detach.specs.Uses.{Kept, kept_of}
-use Rattle.vt_ns.proofs.world.StoresKept.{held_stored, kept_is, kept_still, none_attached, none_kept}
+use Rattle.vt_ns.proofs.world.StoresKept.{done_stored, kept_is, kept_still, none_attached, none_kept}
 use Rattle.vt_ns.proofs.world.World.move_everywhere.Goals as goal
 
 pub mounts_below-requires : goal.mounts_below-requires
@@ -73,15 +73,33 @@ move_tree-requires-clause-may c =
     (counted c.args.mount.count) graft counts permits tree_is refl parts_are refl refl
     c.are_ascending.ensures c.are_counted.ensures
 
-pub invariant_of-self-2 : goal.invariant_of-self-2
-invariant_of-self-2 c =
+abbrev after : (c : goal.After-drop-tree-2) → WorldValue
+after c = record {
+  mounts = c.move_tree.new.mounts;
+  groups = c.move_tree.new.groups;
+  filesystems = c.move_tree.new.store.plain;
+  overlays = overlays_of_store c.move_tree.new.store;
+  namespaces = entries_of c.self.inside.namespaces.entries;
+  tasks = c.self.inside.tasks;
+  next = c.self.inside.next + c.in-Some.taken;
+}
+
+-- the world then is the one that the permit leaves
+done : (c : goal.After-drop-tree-2) → IsDone (the_view c.self.inside) c.args.name.now
+    (ToMove (counted c.args.mount.count) (location_of c.args.place)) (after c)
+done c =
     let permits : Permits (the_view c.self.inside) c.args.name.now
     (ToMove (counted c.args.mount.count) (location_of c.args.place)) =
     subst (λ value. Permits value c.args.name.now
     (ToMove (counted c.args.mount.count) (location_of c.args.place)))
     (sym c.self.view_is) c.requires.permitted in
     let value = the_view c.self.inside in
-    let graft : Graft = record { parts = c.deref.result; tree = c.deref-2.result; place = c.args.place; moves = true } in
+    let graft : Graft = record {
+      parts = c.deref.result;
+      tree = c.deref-2.result;
+      place = c.args.place;
+      moves = true;
+    } in
     let counts : Counts = record { first = c.self.inside.next; step = 1 } in
     let tree_is : map mount_of c.deref-2.result.now
     ≡ mount_tree nat_eq (mounts_in value.mounts)
@@ -91,7 +109,8 @@ invariant_of-self-2 c =
     (mount_numbered nat_eq (world_of v) (counted c.args.mount.count)))
     (sym c.self.view_is) in
     let parts_are : map mount_of c.deref.result.now ≡ parts_of nat_eq (world_of value) (location_of c.args.place) =
-    parts_found value c.args.self.now c.self.view_is c.self.invariant c.args.place c.in_ok-parts.parts.items c.deref.result.now c.deref.ensures.value c.in_ok-parts.ensures.ok in
+    parts_found value c.args.self.now c.self.view_is c.self.invariant c.args.place c.in_ok-parts.parts.items
+    c.deref.result.now c.deref.ensures.value c.in_ok-parts.ensures.ok in
     let shared : is_shared (mount_at nat_eq (world_of value) (location_of c.args.place)).propagation ≡ true =
     ap (λ (v : WorldValue). is_shared
     (mount_at nat_eq (world_of v) (location_of c.args.place)).propagation) c.self.view_is
@@ -105,69 +124,29 @@ invariant_of-self-2 c =
     let grows : c.self.inside.next + c.in-Some.taken
     ≡ value.next + 2 * (length c.deref.result.now * length c.deref-2.result.now) =
     ap (λ n. c.self.inside.next + n) (c.in-Some.ensures.count ∙ (λ i. 2 * (one i * two i))) in
-    held_stored IsHeld
-    (the_view c.self.inside) c.self.invariant _ c.move_tree.new.store (kept_still (the_view c.self.inside) c.self.invariant (map merged_of c.move_tree.new.store.overlays))
-    (ap (λ (k : Kept). k.overlays) (subst (λ k. IsMovedBy graft counts k c.self.inside.groups (kept c.move_tree.new.mounts c.move_tree.new.store) c.move_tree.new.groups)
-    (kept_is (the_view c.self.inside) c.self.inside.store) c.in_ok-move_tree.ensures.ok).done
-    ∙ none_attached _ (kept_of (the_view c.self.inside)).overlays (none_kept (the_view c.self.inside) c.self.invariant))
-    (move_is_done value c.self.invariant c.args.name.now
-    (counted c.args.mount.count) graft counts permits tree_is refl
-    parts_are refl refl shared c.move_tree.new.mounts c.move_tree.new.groups c.move_tree.new.store.plain (map merged_of c.move_tree.new.store.overlays)
-    (c.self.inside.next + c.in-Some.taken)
-    (subst (λ k. IsMovedBy graft counts k c.self.inside.groups (kept c.move_tree.new.mounts c.move_tree.new.store) c.move_tree.new.groups)
-    (kept_is (the_view c.self.inside) c.self.inside.store) c.in_ok-move_tree.ensures.ok) c.are_ascending.ensures c.are_counted.ensures
-    grows).held
+    let moved : IsMovedBy graft counts (kept_of value) c.self.inside.groups
+    (kept c.move_tree.new.mounts c.move_tree.new.store) c.move_tree.new.groups =
+    subst (λ k. IsMovedBy graft counts k c.self.inside.groups
+    (kept c.move_tree.new.mounts c.move_tree.new.store) c.move_tree.new.groups)
+    (kept_is value c.self.inside.store) c.in_ok-move_tree.ensures.ok in
+    done_stored value c.self.invariant c.args.name.now
+    (ToMove (counted c.args.mount.count) (location_of c.args.place)) _ c.move_tree.new.store
+    (kept_still value c.self.invariant (map merged_of c.move_tree.new.store.overlays))
+    (ap (λ (k : Kept). k.overlays) moved.done
+    ∙ none_attached (drop (length c.deref-2.result.now) moved.copies) (kept_of value).overlays
+    (none_kept value c.self.invariant))
+    (move_is_done value c.self.invariant c.args.name.now (counted c.args.mount.count) graft counts permits tree_is
+    refl parts_are refl refl shared c.move_tree.new.mounts c.move_tree.new.groups c.move_tree.new.store.plain
+    (map merged_of c.move_tree.new.store.overlays) (c.self.inside.next + c.in-Some.taken) moved
+    c.are_ascending.ensures c.are_counted.ensures grows)
+
+pub invariant_of-self-2 : goal.invariant_of-self-2
+invariant_of-self-2 c = (done c).held
 
 pub returns-clause-ok : goal.returns-clause-ok
 returns-clause-ok c =
-    let permits : Permits (the_view c.self.inside) c.args.name.now
-    (ToMove (counted c.args.mount.count) (location_of c.args.place)) =
-    subst (λ value. Permits value c.args.name.now
-    (ToMove (counted c.args.mount.count) (location_of c.args.place)))
-    (sym c.self.view_is) c.requires.permitted in
-    let value = the_view c.self.inside in
-    let graft : Graft = record { parts = c.deref.result; tree = c.deref-2.result; place = c.args.place; moves = true } in
-    let counts : Counts = record { first = c.self.inside.next; step = 1 } in
-    let tree_is : map mount_of c.deref-2.result.now
-    ≡ mount_tree nat_eq (mounts_in value.mounts)
-    (mount_numbered nat_eq (world_of value) (counted c.args.mount.count)) =
-    ap (map mount_of) c.deref-2.ensures.value ∙ c.in_ok-tree.ensures.ok
-    ∙ ap (λ (v : WorldValue). mount_tree nat_eq (mounts_in v.mounts)
-    (mount_numbered nat_eq (world_of v) (counted c.args.mount.count)))
-    (sym c.self.view_is) in
-    let parts_are : map mount_of c.deref.result.now ≡ parts_of nat_eq (world_of value) (location_of c.args.place) =
-    parts_found value c.args.self.now c.self.view_is c.self.invariant c.args.place c.in_ok-parts.parts.items c.deref.result.now c.deref.ensures.value c.in_ok-parts.ensures.ok in
-    let shared : is_shared (mount_at nat_eq (world_of value) (location_of c.args.place)).propagation ≡ true =
-    ap (λ (v : WorldValue). is_shared
-    (mount_at nat_eq (world_of v) (location_of c.args.place)).propagation) c.self.view_is
-    ∙ c.requires.shared in
-    let one : c.len.result
-    ≡ length c.deref.result.now = let many = c.len.ensures in let alike = c.deref.ensures.len in omega
-    (arith, many, alike) in
-    let two : c.len-2.result
-    ≡ length c.deref-2.result.now = let many = c.len-2.ensures in let alike = c.deref-2.ensures.len in omega
-    (arith, many, alike) in
-    let grows : c.self.inside.next + c.in-Some.taken
-    ≡ value.next + 2 * (length c.deref.result.now * length c.deref-2.result.now) =
-    ap (λ n. c.self.inside.next + n) (c.in-Some.ensures.count ∙ (λ i. 2 * (one i * two i))) in
     subst (λ (v : WorldValue). Becomes v c.args.name.now
-    (ToMove (counted c.args.mount.count) (location_of c.args.place))
-    (record (grafted_value (the_view c.self.inside) c.move_tree.new.mounts c.move_tree.new.groups c.move_tree.new.store.plain (map merged_of c.move_tree.new.store.overlays)
-    (c.self.inside.next + c.in-Some.taken)) { overlays = overlays_of_store c.move_tree.new.store }))
-    c.self.view_is
-    (held_stored (λ new. Becomes (the_view c.self.inside) c.args.name.now (ToMove (counted c.args.mount.count) (location_of c.args.place)) new)
-    (the_view c.self.inside) c.self.invariant (grafted_value (the_view c.self.inside) c.move_tree.new.mounts c.move_tree.new.groups c.move_tree.new.store.plain (map merged_of c.move_tree.new.store.overlays)
-    (c.self.inside.next + c.in-Some.taken)) c.move_tree.new.store (kept_still (the_view c.self.inside) c.self.invariant (map merged_of c.move_tree.new.store.overlays))
-    (ap (λ (k : Kept). k.overlays) (subst (λ k. IsMovedBy graft counts k c.self.inside.groups (kept c.move_tree.new.mounts c.move_tree.new.store) c.move_tree.new.groups)
-    (kept_is (the_view c.self.inside) c.self.inside.store) c.in_ok-move_tree.ensures.ok).done
-    ∙ none_attached _ (kept_of (the_view c.self.inside)).overlays (none_kept (the_view c.self.inside) c.self.invariant))
-    (move_is_done value c.self.invariant c.args.name.now
-    (counted c.args.mount.count) graft counts permits tree_is refl
-    parts_are refl refl shared c.move_tree.new.mounts c.move_tree.new.groups c.move_tree.new.store.plain (map merged_of c.move_tree.new.store.overlays)
-    (c.self.inside.next + c.in-Some.taken)
-    (subst (λ k. IsMovedBy graft counts k c.self.inside.groups (kept c.move_tree.new.mounts c.move_tree.new.store) c.move_tree.new.groups)
-    (kept_is (the_view c.self.inside) c.self.inside.store) c.in_ok-move_tree.ensures.ok) c.are_ascending.ensures c.are_counted.ensures
-    grows).becomes)
+    (ToMove (counted c.args.mount.count) (location_of c.args.place)) (after c)) c.self.view_is (done c).becomes
 
 pub returns-clause-counts : goal.returns-clause-counts
 returns-clause-counts c =

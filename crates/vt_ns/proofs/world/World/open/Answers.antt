@@ -1,11 +1,11 @@
-use Rattle.std.proofs.Common.{sym, subst, ap, ◌∙◌, map, refl, List}
+use Rattle.std.proofs.Common.{sym, subst, ap, ◌∙◌, map, refl}
 use Rattle.vt_location.specs.Locations.{location_of}
 use Rattle.vt_request.specs.Requests.{access_of}
 use Rattle.vt_spec.specs.Machine.Permits.Permit.{ToOpen}
 use Rattle.vt_ns.specs.contracts.world.World.{the_view}
 use Rattle.vt_detach.specs.Events.{Becomes, Permits}
 use Rattle.vt_detach.specs.Uses.{Kept, with_location}
-use Rattle.vt_ns.proofs.world.FilesOpened.{file_is_opened, may_open_more, nothing_copied}
+use Rattle.vt_ns.proofs.world.FilesOpened.{file_is_opened, may_open_more}
 use Rattle.vt_detach.proofs.Remaining.{remade}
 use Rattle.vt_world.specs.Held.{IsHeld}
 use Rattle.vt_world.specs.StoredWorld.{overlays_of_store}
@@ -31,7 +31,6 @@ invariant_of-self-2 c =
     c.self.invariant
     (subst (λ value. Permits value c.args.name.now (ToOpen (location_of c.args.file) (access_of c.args.access)))
     (sym c.self.view_is) c.requires)
-    (nothing_copied (the_view c.self.inside) c.self.invariant (location_of c.args.file) (access_of c.args.access))
     c.hold_once_more.ensures.slot
     c.in_ok-number.ensures.ok
     (c.hold_once_more.ensures.held
@@ -52,7 +51,6 @@ returns-clause-ok c =
     c.self.invariant
     (subst (λ value. Permits value c.args.name.now (ToOpen (location_of c.args.file) (access_of c.args.access)))
     (sym c.self.view_is) c.requires)
-    (nothing_copied (the_view c.self.inside) c.self.invariant (location_of c.args.file) (access_of c.args.access))
     c.hold_once_more.ensures.slot
     c.in_ok-number.ensures.ok
     (c.hold_once_more.ensures.held

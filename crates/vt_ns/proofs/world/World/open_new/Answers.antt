@@ -1,4 +1,4 @@
-use Rattle.std.proofs.Common.{◌≡◌, sym, subst, ap, ◌∙◌, arith, nat_eq, rules, ℕ, Result, Ok, Err, IfSome, OnOk, refl, map, List}
+use Rattle.std.proofs.Common.{◌≡◌, sym, subst, ap, ◌∙◌, arith, nat_eq, rules, ℕ, Result, Ok, Err, IfSome, OnOk, refl, map}
 use Rattle.std.specs.Prelude.{IsErr}
 use Rattle.vt_spec.specs.Language.Changes.Change.{Make}
 use Rattle.vt_permits.specs.GrantValue.{descriptor_permit}
@@ -15,14 +15,11 @@ use Rattle.vt_mount.proofs.KeptLemmas.{of-ok}
 use Rattle.vt_request.specs.Requests.{access_of}
 use Rattle.vt_ns.specs.contracts.world.World.{the_view}
 use Rattle.vt_detach.specs.Events.{Becomes, Permits}
-use Rattle.vt_detach.proofs.ChangedFiles.{with_filesystems}
 use Rattle.vt_ns.proofs.world.OpeningNew.{has_next, make_fits, may_open_one, new_in_directory, new_opens, next_is_numbered, used_once}
-use Rattle.vt_detach.proofs.Remaining.{remade}
 use Rattle.vt_detach.proofs.Shown.{pins}
-use Rattle.vt_world.specs.Held.{IsHeld}
-use Rattle.vt_world.specs.StoredWorld.{overlays_of_store}
+use Rattle.vt_world.specs.StoredWorld.{with_store}
 use Rattle.vt_detach.specs.Uses.{merged_seen}
-use Rattle.vt_ns.proofs.world.StoresKept.{held_stored, none_there}
+use Rattle.vt_ns.proofs.world.PlainStored.{done_plainly}
 use Rattle.vt_ns.proofs.world.World.open_new.Goals as goal
 
 -- a new inode has one use, and room for another
@@ -97,9 +94,9 @@ invariant_of-self-2 c =
     let room = c.mount_has_room.ensures (let room = c.if-not-mount_has_room.false in search rules) in
     let mounts = of-ok c.hold.result (c.hold.ensures.few room.0 room.1) c.hold.ensures.ok in
     let filesystems = new_pinned c.pin.result _ (rw c.plain_mut.ensures.value at c.pin.ensures.limit).0 once (rw c.plain_mut.ensures.value at c.pin.ensures.ok) in
-    held_stored IsHeld
-    (the_view c.self.inside) c.self.invariant _ (record c.self.inside.store { plain = c.pin.new.self }) refl
-    (none_there (the_view c.self.inside) c.self.inside.store c.self.invariant)
+    (done_plainly (the_view c.self.inside) c.self.inside.store c.self.invariant c.args.name.now
+    (descriptor_permit (OpenNew c.args.new)) permits c.pin.new.self
+    (record (the_view c.self.inside) { mounts = c.hold.new.self; tasks = c.open_next.new.tasks })
     (new_opens (the_view c.self.inside) c.self.invariant c.args.name.now c.args.new.directory c.args.new.name.items c.args.new.node
     (access_of c.args.new.access) (omega arith)
     permits c.open_next.new.filesystems c.unwrap-file.result (omega arith) own inside number made
@@ -111,7 +108,7 @@ invariant_of-self-2 c =
           (number_of c.unwrap-file.result) c.open_next.new.filesystems c.pin.new.self filesystems i;
       overlays = map merged_seen (the_view c.self.inside).overlays;
     })
-    c.open_next.new.tasks c.in_ok-number.ensures.ok).held
+    c.open_next.new.tasks c.in_ok-number.ensures.ok)).held
 
 pub returns-clause-ok : goal.returns-clause-ok
 returns-clause-ok c =
@@ -140,14 +137,11 @@ returns-clause-ok c =
     let filesystems = new_pinned c.pin.result _ (rw c.plain_mut.ensures.value at c.pin.ensures.limit).0 once (rw c.plain_mut.ensures.value at c.pin.ensures.ok) in
     subst (λ value. Becomes value c.args.name.now
     (descriptor_permit (OpenNew c.args.new))
-    (record (remade (with_filesystems (the_view c.self.inside) c.open_next.new.filesystems) c.hold.new.self c.pin.new.self
-    c.open_next.new.tasks) {
-      overlays = overlays_of_store (record c.self.inside.store { plain = c.pin.new.self });
-    })) c.self.view_is
-    (held_stored (λ new. Becomes (the_view c.self.inside) c.args.name.now (descriptor_permit (OpenNew c.args.new)) new)
-    (the_view c.self.inside) c.self.invariant (remade (with_filesystems (the_view c.self.inside) c.open_next.new.filesystems) c.hold.new.self c.pin.new.self
-    c.open_next.new.tasks) (record c.self.inside.store { plain = c.pin.new.self }) refl
-    (none_there (the_view c.self.inside) c.self.inside.store c.self.invariant)
+    (with_store (record c.self.inside.store { plain = c.pin.new.self })
+    (record (the_view c.self.inside) { mounts = c.hold.new.self; tasks = c.open_next.new.tasks }))) c.self.view_is
+    (done_plainly (the_view c.self.inside) c.self.inside.store c.self.invariant c.args.name.now
+    (descriptor_permit (OpenNew c.args.new)) permits c.pin.new.self
+    (record (the_view c.self.inside) { mounts = c.hold.new.self; tasks = c.open_next.new.tasks })
     (new_opens (the_view c.self.inside) c.self.invariant c.args.name.now c.args.new.directory c.args.new.name.items c.args.new.node
     (access_of c.args.new.access) (omega arith)
     permits c.open_next.new.filesystems c.unwrap-file.result (omega arith) own inside number made
@@ -159,4 +153,4 @@ returns-clause-ok c =
           (number_of c.unwrap-file.result) c.open_next.new.filesystems c.pin.new.self filesystems i;
       overlays = map merged_seen (the_view c.self.inside).overlays;
     })
-    c.open_next.new.tasks c.in_ok-number.ensures.ok).becomes)
+    c.open_next.new.tasks c.in_ok-number.ensures.ok)).becomes

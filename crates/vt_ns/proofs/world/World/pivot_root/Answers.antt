@@ -1,4 +1,4 @@
-use Rattle.std.proofs.Common.{IfSome, Ok, Err, OnOk, Result, ap, arith, is_some, nat_eq, option_copied, option_map, refl, rules, subst, sym, ℕ, ◌<◌, ◌≡◌, ◌∙◌, map, List}
+use Rattle.std.proofs.Common.{[], Err, IfSome, Ok, OnOk, Result, ap, arith, is_some, map, nat_eq, option_copied, option_map, refl, rules, subst, sym, ℕ, ◌<◌, ◌≡◌, ◌∙◌}
 use Rattle.std.specs.Prelude.{IsErr, ◌↔◌}
 use Rattle.vt_location.specs.declared.locations.Location.{Location}
 use Rattle.vt_location.specs.Locations.{location_of, number_of}
@@ -15,8 +15,8 @@ use Rattle.vt_detach.proofs.Shown.{is_some_mapped, pins, unpins}
 use Rattle.vt_detach.proofs.Staying.{IsDone}
 use Rattle.vt_ns.proofs.world.PivotedEvents.{new_is_placed, room_to_enter, root_is_found, root_is_pivoted}
 use Rattle.vt_world.specs.StoredWorld.{overlays_of_store}
-use Rattle.vt_detach.specs.Stored.{merged_of}
-use Rattle.vt_detach.specs.Uses.{Kept, kept_with}
+use Rattle.vt_detach.specs.Stored.{kept, merged_of}
+use Rattle.vt_detach.specs.Uses.{Kept, kept_with, merged_seen}
 use Rattle.vt_ns.specs.Pivoting.{with_uses, without_uses}
 use Rattle.vt_ns.proofs.world.StoresKept.{done_stored, kept_is, none_kept, none_with_uses, none_without_uses}
 use Rattle.vt_ns.proofs.world.World.pivot_root.Goals as goal
@@ -57,7 +57,8 @@ hold_each-requires c =
     subst (λ value. Permits value c.args.name.now (ToPivot (counted c.args.new.count) (location_of c.args.put)))
     (sym c.self.view_is) c.requires in
     let pinned_so = surely c.pin.result _ (rw c.plain_mut.ensures.value at c.pin.ensures.limit)
-    (λ full. absurd (omega (arith, c.if-uses.false, (rw c.plain.ensures at c.uses.ensures), full))) (rw c.plain_mut.ensures.value at c.pin.ensures.ok) in
+    (λ full. absurd (omega (arith, c.if-uses.false, (rw c.plain.ensures at c.uses.ensures), full)))
+    (rw c.plain_mut.ensures.value at c.pin.ensures.ok) in
     room_to_enter (the_view c.self.inside) c.self.invariant c.args.name.now (counted c.args.new.count) c.args.put
     permits c.unwrap-task.result.now
     (sym (ap (λ found. option_map task_of (option_copied found)) c.unwrap-task.ensures) ∙ c.get.ensures)
@@ -76,27 +77,44 @@ hold_each-requires c =
     (pins c.args.put.node.filesystem.count (number_of c.args.put.node) c.self.inside.store.plain c.pin.new.self
     pinned_so)
 
+-- what roots and working directories hold once they have moved
+held_so : (c : goal.After-pivot-2) → kept c.hold_each.new.mounts c.hold_each.new.store
+    ≡ with_uses c.places_at-moved.result c.root_location-entered.result
+    (kept_with c.pivot.new.self c.pin.new.self (map merged_seen (the_view c.self.inside).overlays))
+held_so c =
+    c.hold_each.ensures.held ∙ ap (with_uses c.places_at-moved.result c.root_location-entered.result)
+    (λ i. kept_with c.pivot.new.self c.pin.new.self (kept_is (the_view c.self.inside) c.self.inside.store i).overlays)
+
+-- no overlay comes
+none_come : (c : goal.After-pivot-2) → (kept c.release_each.new.mounts c.release_each.new.store).overlays ≡ []
+none_come c =
+    ap (λ (k : Kept). k.overlays) (c.release_each.ensures.left
+    ∙ ap (without_uses c.places_at-moved.result c.root_location-left.result) (held_so c))
+    ∙ none_without_uses c.places_at-moved.result c.root_location-left.result _
+    ∙ none_with_uses c.places_at-moved.result c.root_location-entered.result _
+    ∙ none_kept (the_view c.self.inside) c.self.invariant
+
+abbrev after : (c : goal.After-pivot-2) → WorldValue
+after c = record (remade (the_view c.self.inside) c.release_each.new.mounts c.unpin.new.self c.pivot-2.new.self) {
+  overlays = overlays_of_store (record c.release_each.new.store { plain = c.unpin.new.self });
+}
+
 -- the event is done
 done : (c : goal.After-pivot-2) → IsDone (the_view c.self.inside) c.args.name.now
-    (ToPivot (counted c.args.new.count) (location_of c.args.put))
-    (record (remade (the_view c.self.inside) c.release_each.new.mounts c.unpin.new.self c.pivot-2.new.self) {
-      overlays = overlays_of_store (record c.release_each.new.store { plain = c.unpin.new.self });
-    })
+    (ToPivot (counted c.args.new.count) (location_of c.args.put)) (after c)
 done c =
     let permits : Permits (the_view c.self.inside) c.args.name.now
     (ToPivot (counted c.args.new.count) (location_of c.args.put)) =
     subst (λ value. Permits value c.args.name.now (ToPivot (counted c.args.new.count) (location_of c.args.put)))
     (sym c.self.view_is) c.requires in
     let pinned_so = surely c.pin.result _ (rw c.plain_mut.ensures.value at c.pin.ensures.limit)
-    (λ full. absurd (omega (arith, c.if-uses.false, (rw c.plain.ensures at c.uses.ensures), full))) (rw c.plain_mut.ensures.value at c.pin.ensures.ok) in
+    (λ full. absurd (omega (arith, c.if-uses.false, (rw c.plain.ensures at c.uses.ensures), full)))
+    (rw c.plain_mut.ensures.value at c.pin.ensures.ok) in
     let point = c.unwrap-point.result in
-    done_stored (the_view c.self.inside) c.self.invariant c.args.name.now (ToPivot (counted c.args.new.count) (location_of c.args.put)) _
-    (record c.release_each.new.store { plain = c.unpin.new.self }) refl
-    (ap (λ (k : Kept). k.overlays) (c.release_each.ensures.left ∙ ap (without_uses c.places_at-moved.result c.root_location-left.result)
-    (c.hold_each.ensures.held ∙ ap (with_uses c.places_at-moved.result c.root_location-entered.result)
-    (λ i. kept_with c.pivot.new.self c.pin.new.self (kept_is (the_view c.self.inside) c.self.inside.store i).overlays)))
-    ∙ none_without_uses c.places_at-moved.result c.root_location-left.result _ ∙ none_with_uses c.places_at-moved.result c.root_location-entered.result _
-    ∙ (none_kept (the_view c.self.inside) c.self.invariant))
+    done_stored (the_view c.self.inside) c.self.invariant c.args.name.now
+    (ToPivot (counted c.args.new.count) (location_of c.args.put))
+    (remade (the_view c.self.inside) c.release_each.new.mounts c.unpin.new.self c.pivot-2.new.self)
+    (record c.release_each.new.store { plain = c.unpin.new.self }) refl (none_come c)
     (root_is_pivoted (the_view c.self.inside) c.self.invariant c.args.name.now (counted c.args.new.count) c.args.put
     permits c.unwrap-task.result.now
     (sym (ap (λ found. option_map task_of (option_copied found)) c.unwrap-task.ensures) ∙ c.get.ensures)
@@ -117,8 +135,7 @@ done c =
     c.in_ok-pivot.ensures.ok
     (pins c.args.put.node.filesystem.count (number_of c.args.put.node) c.self.inside.store.plain c.pin.new.self
     pinned_so)
-    (c.hold_each.ensures.held ∙ ap (with_uses c.places_at-moved.result c.root_location-entered.result)
-    (λ i. kept_with c.pivot.new.self c.pin.new.self (kept_is (the_view c.self.inside) c.self.inside.store i).overlays)) c.release_each.ensures.left
+    (held_so c) c.release_each.ensures.left
     (unpins point.node.filesystem.count (number_of point.node) c.release_each.new.store.plain c.unpin.new.self
     (rw c.plain_mut-2.ensures.value at c.unpin.ensures))
     c.pivot-2.ensures)
@@ -128,8 +145,5 @@ invariant_of-self-2 c = (done c).held
 
 pub returns-clause-ok : goal.returns-clause-ok
 returns-clause-ok c =
-    subst (λ value. Becomes value c.args.name.now (ToPivot (counted c.args.new.count) (location_of c.args.put))
-    (record (remade (the_view c.self.inside) c.release_each.new.mounts c.unpin.new.self c.pivot-2.new.self) {
-      overlays = overlays_of_store (record c.release_each.new.store { plain = c.unpin.new.self });
-    })) c.self.view_is
-    (done c).becomes
+    subst (λ value. Becomes value c.args.name.now (ToPivot (counted c.args.new.count) (location_of c.args.put)) (after c))
+    c.self.view_is (done c).becomes

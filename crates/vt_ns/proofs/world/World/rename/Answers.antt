@@ -1,20 +1,11 @@
-use Rattle.std.proofs.Common.{rules, ◌≡◌, ◌≢◌, ◌∙◌, sym, subst, arith, map, length, refl, List, ap}
-use Rattle.vt_location.specs.Numbers.{counted}
+use Rattle.std.proofs.Common.{rules, ◌≡◌, ◌≢◌, sym, subst, arith, length}
 use Rattle.vt_permits.specs.GrantValue.{remove_permit}
 use Rattle.vt_permits.specs.declared.grant.RemoveGrant.TheVariants.{Rename}
 use Rattle.vt_ns.specs.contracts.world.World.{the_view}
-use Rattle.vt_detach.specs.Detached.{LeaveTogether}
 use Rattle.vt_detach.specs.Events.{Becomes, Permits}
-use Rattle.vt_detach.specs.Stored.{kept, merged_of}
-use Rattle.vt_detach.specs.Uses.{kept_of, kept_with}
-use Rattle.vt_detach.proofs.ChangedFiles.{with_filesystems}
-use Rattle.vt_ns.proofs.world.MountsOn.{none_counted, some_counted}
-use Rattle.vt_ns.proofs.world.FileRenaming.{rename_fits, rename_alone_is_done, renamed_object, renamed_is_kept, renamed_to}
-use Rattle.vt_ns.proofs.world.RenamedOver.{nothing_on_replaced, rename_is_done, replaced_collected}
-use Rattle.vt_detach.proofs.Remaining.{remade}
-use Rattle.vt_world.specs.Held.{IsHeld}
-use Rattle.vt_world.specs.StoredWorld.{overlays_of_store, with_store}
-use Rattle.vt_ns.proofs.world.StoresKept.{held_stored, kept_is, none_kept, none_together, plain_changed}
+use Rattle.vt_ns.proofs.world.FileRenaming.{rename_fits, renamed_is_kept, renamed_object, renamed_to}
+use Rattle.vt_ns.proofs.world.RenamedOver.{rename_over, rename_stays}
+use Rattle.vt_world.specs.StoredWorld.{with_store}
 use Rattle.vt_ns.proofs.world.World.rename.Goals as goal
 use Rattle.vt_ns.proofs.world.World.rename.Goals.{then-not-is_empty, else-not-is_empty}
 
@@ -62,101 +53,59 @@ rename-requires-clause-outside c =
 
 pub invariant_of-self-then-not-is_empty : goal.invariant_of-self-then-not-is_empty
 invariant_of-self-then-not-is_empty c =
+    let permits = subst (λ value. Permits value c.args.name.now
+    (remove_permit (Rename c.args.renamed))) (sym c.self.view_is) c.requires in
     let some : length c.in_ok-gone.gone.items ≢ 0 = search rules in
-    (held_stored IsHeld (the_view c.self.inside) c.self.invariant _ c.detach_together.new.store refl
-    (none_together _ (kept_of (with_filesystems (the_view c.self.inside) c.rename.new.self)) c.self.inside.groups (kept c.detach_together.new.mounts c.detach_together.new.store)
-    c.detach_together.new.groups (none_kept (the_view c.self.inside) c.self.invariant) (subst (λ k. LeaveTogether _ k c.self.inside.groups (kept c.detach_together.new.mounts c.detach_together.new.store) c.detach_together.new.groups)
-    (λ i. kept_with c.self.inside.mounts c.rename.new.self (kept_is (the_view c.self.inside) c.self.inside.store i).overlays)
-    (subst (λ ids. LeaveTogether ids (kept c.self.inside.mounts (record c.self.inside.store { plain = c.rename.new.self })) c.self.inside.groups (kept c.detach_together.new.mounts c.detach_together.new.store) c.detach_together.new.groups) (replaced_collected (the_view c.self.inside) c.self.invariant c.args.name.now c.args.renamed.from c.args.renamed.old.items c.args.renamed.to c.args.renamed.new.items c.args.renamed.object c.args.renamed.replaced (omega arith) (omega arith) (omega arith) c.trees_replaced.ensures.slot
-    (subst (λ value. Permits value c.args.name.now
-    (remove_permit (Rename c.args.renamed))) (sym c.self.view_is) c.requires)
-    (map (λ id. counted id.count) c.in_ok-gone.gone.items) c.in_ok-gone.ensures.ok)
-    (subst (λ ids. LeaveTogether (map (λ id. counted id.count) ids) (kept c.self.inside.mounts (record c.self.inside.store { plain = c.rename.new.self })) c.self.inside.groups (kept c.detach_together.new.mounts c.detach_together.new.store) c.detach_together.new.groups) c.deref.ensures.value c.detach_together.ensures))))
-    (rename_is_done (the_view c.self.inside) c.self.invariant c.args.name.now c.args.renamed.from c.args.renamed.old.items c.args.renamed.to c.args.renamed.new.items c.args.renamed.object c.args.renamed.replaced (omega arith) (omega arith) (omega arith) c.trees_replaced.ensures.slot
-    (subst (λ value. Permits value c.args.name.now
-    (remove_permit (Rename c.args.renamed))) (sym c.self.view_is) c.requires)
-    c.rename.new.self c.detach_together.new.store.plain (map merged_of c.detach_together.new.store.overlays) c.detach_together.new.mounts c.detach_together.new.groups
-    (λ none. some_counted c.in_ok-gone.gone.items some ((replaced_collected (the_view c.self.inside) c.self.invariant c.args.name.now c.args.renamed.from c.args.renamed.old.items c.args.renamed.to c.args.renamed.new.items c.args.renamed.object c.args.renamed.replaced (omega arith) (omega arith) (omega arith) c.trees_replaced.ensures.slot
-    (subst (λ value. Permits value c.args.name.now
-    (remove_permit (Rename c.args.renamed))) (sym c.self.view_is) c.requires)
-    (map (λ id. counted id.count) c.in_ok-gone.gone.items) c.in_ok-gone.ensures.ok) ∙ none)) (rw c.plain_mut.ensures.value at (rw c.as_slice.ensures.value at c.in_ok-rename.ensures.ok))
-    (subst (λ k. LeaveTogether _ k c.self.inside.groups (kept c.detach_together.new.mounts c.detach_together.new.store) c.detach_together.new.groups)
-    (λ i. kept_with c.self.inside.mounts c.rename.new.self (kept_is (the_view c.self.inside) c.self.inside.store i).overlays)
-    (subst (λ ids. LeaveTogether ids (kept c.self.inside.mounts (record c.self.inside.store { plain = c.rename.new.self })) c.self.inside.groups (kept c.detach_together.new.mounts c.detach_together.new.store) c.detach_together.new.groups) (replaced_collected (the_view c.self.inside) c.self.invariant c.args.name.now c.args.renamed.from c.args.renamed.old.items c.args.renamed.to c.args.renamed.new.items c.args.renamed.object c.args.renamed.replaced (omega arith) (omega arith) (omega arith) c.trees_replaced.ensures.slot
-    (subst (λ value. Permits value c.args.name.now
-    (remove_permit (Rename c.args.renamed))) (sym c.self.view_is) c.requires)
-    (map (λ id. counted id.count) c.in_ok-gone.gone.items) c.in_ok-gone.ensures.ok)
-    (subst (λ ids. LeaveTogether (map (λ id. counted id.count) ids) (kept c.self.inside.mounts (record c.self.inside.store { plain = c.rename.new.self })) c.self.inside.groups (kept c.detach_together.new.mounts c.detach_together.new.store) c.detach_together.new.groups) c.deref.ensures.value c.detach_together.ensures)))).held)
+    (rename_over (the_view c.self.inside) c.self.inside.store c.self.invariant c.args.name.now
+    c.args.renamed.from c.args.renamed.old.items c.args.renamed.to c.args.renamed.new.items c.args.renamed.object
+    c.args.renamed.replaced (omega arith) (omega arith) (omega arith) c.trees_replaced.ensures.slot permits
+    c.in_ok-gone.gone.items c.in_ok-gone.ensures.ok some c.rename.new.self
+    (rw c.plain_mut.ensures.value at (rw c.as_slice.ensures.value at c.in_ok-rename.ensures.ok))
+    c.detach_together.new.mounts c.detach_together.new.groups c.detach_together.new.store
+    (rw c.deref.ensures.value at c.detach_together.ensures)).held
 
 pub invariant_of-self-else-not-is_empty : goal.invariant_of-self-else-not-is_empty
 invariant_of-self-else-not-is_empty c =
+    let permits = subst (λ value. Permits value c.args.name.now
+    (remove_permit (Rename c.args.renamed))) (sym c.self.view_is) c.requires in
     let none : length c.in_ok-gone.gone.items ≡ 0 = search rules in
-    (plain_changed IsHeld (the_view c.self.inside) c.self.inside.store c.self.invariant c.rename.new.self
-    (rename_alone_is_done (the_view c.self.inside) c.self.invariant c.args.name.now c.args.renamed.from c.args.renamed.old.items c.args.renamed.to c.args.renamed.new.items c.args.renamed.object c.args.renamed.replaced (omega arith) (omega arith) (omega arith)
-    (subst (λ value. Permits value c.args.name.now
-    (remove_permit (Rename c.args.renamed))) (sym c.self.view_is) c.requires)
-    (nothing_on_replaced (the_view c.self.inside) c.self.invariant c.args.name.now c.args.renamed.from c.args.renamed.old.items c.args.renamed.to c.args.renamed.new.items c.args.renamed.object c.args.renamed.replaced (omega arith) (omega arith) (omega arith) c.trees_replaced.ensures.slot
-    (subst (λ value. Permits value c.args.name.now
-    (remove_permit (Rename c.args.renamed))) (sym c.self.view_is) c.requires)
-    (sym (replaced_collected (the_view c.self.inside) c.self.invariant c.args.name.now c.args.renamed.from c.args.renamed.old.items c.args.renamed.to c.args.renamed.new.items c.args.renamed.object c.args.renamed.replaced (omega arith) (omega arith) (omega arith) c.trees_replaced.ensures.slot
-    (subst (λ value. Permits value c.args.name.now
-    (remove_permit (Rename c.args.renamed))) (sym c.self.view_is) c.requires)
-    (map (λ id. counted id.count) c.in_ok-gone.gone.items) c.in_ok-gone.ensures.ok)
-    ∙ none_counted c.in_ok-gone.gone.items none)) c.rename.new.self (rw c.plain_mut.ensures.value at (rw c.as_slice.ensures.value at c.in_ok-rename.ensures.ok))).held)
+    (rename_stays (the_view c.self.inside) c.self.inside.store c.self.invariant c.args.name.now
+    c.args.renamed.from c.args.renamed.old.items c.args.renamed.to c.args.renamed.new.items c.args.renamed.object
+    c.args.renamed.replaced (omega arith) (omega arith) (omega arith) c.trees_replaced.ensures.slot permits
+    c.in_ok-gone.gone.items c.in_ok-gone.ensures.ok none c.rename.new.self
+    (rw c.plain_mut.ensures.value at (rw c.as_slice.ensures.value at c.in_ok-rename.ensures.ok))).held
 
 pub returns-clause-ok : goal.returns-clause-ok
-returns-clause-ok c = elim c.if-not-is_empty.branch [
-  | then-not-is_empty w ↦
-      let some : length c.in_ok-gone.gone.items ≢ 0 = search rules in
-      subst (λ new. Becomes c.args.self.now c.args.name.now
-      (remove_permit (Rename c.args.renamed)) new) (sym w.self-is)
-      (subst (λ value. Becomes value c.args.name.now
-      (remove_permit (Rename c.args.renamed))
-      (record (remade (the_view c.self.inside) w.detach_together.new.mounts w.detach_together.new.store.plain (the_view c.self.inside).tasks) {
-        groups = w.detach_together.new.groups;
-        overlays = overlays_of_store w.detach_together.new.store;
-      })) c.self.view_is
-      (held_stored (λ new. Becomes (the_view c.self.inside) c.args.name.now (remove_permit (Rename c.args.renamed)) new) (the_view c.self.inside) c.self.invariant (record (remade (the_view c.self.inside) w.detach_together.new.mounts w.detach_together.new.store.plain (the_view c.self.inside).tasks) { groups = w.detach_together.new.groups }) w.detach_together.new.store refl
-      (none_together _ (kept_of (with_filesystems (the_view c.self.inside) c.rename.new.self)) c.self.inside.groups (kept w.detach_together.new.mounts w.detach_together.new.store)
-      w.detach_together.new.groups (none_kept (the_view c.self.inside) c.self.invariant) (subst (λ k. LeaveTogether _ k c.self.inside.groups (kept w.detach_together.new.mounts w.detach_together.new.store) w.detach_together.new.groups)
-      (λ i. kept_with c.self.inside.mounts c.rename.new.self (kept_is (the_view c.self.inside) c.self.inside.store i).overlays)
-      (subst (λ ids. LeaveTogether ids (kept c.self.inside.mounts (record c.self.inside.store { plain = c.rename.new.self })) c.self.inside.groups (kept w.detach_together.new.mounts w.detach_together.new.store) w.detach_together.new.groups) (replaced_collected (the_view c.self.inside) c.self.invariant c.args.name.now c.args.renamed.from c.args.renamed.old.items c.args.renamed.to c.args.renamed.new.items c.args.renamed.object c.args.renamed.replaced (omega arith) (omega arith) (omega arith) c.trees_replaced.ensures.slot
-      (subst (λ value. Permits value c.args.name.now
-      (remove_permit (Rename c.args.renamed))) (sym c.self.view_is) c.requires)
-      (map (λ id. counted id.count) c.in_ok-gone.gone.items) c.in_ok-gone.ensures.ok)
-      (subst (λ ids. LeaveTogether (map (λ id. counted id.count) ids) (kept c.self.inside.mounts (record c.self.inside.store { plain = c.rename.new.self })) c.self.inside.groups (kept w.detach_together.new.mounts w.detach_together.new.store) w.detach_together.new.groups) w.deref.ensures.value w.detach_together.ensures))))
-      (rename_is_done (the_view c.self.inside) c.self.invariant c.args.name.now c.args.renamed.from c.args.renamed.old.items c.args.renamed.to c.args.renamed.new.items c.args.renamed.object c.args.renamed.replaced (omega arith) (omega arith) (omega arith) c.trees_replaced.ensures.slot
-      (subst (λ value. Permits value c.args.name.now
-      (remove_permit (Rename c.args.renamed))) (sym c.self.view_is) c.requires)
-      c.rename.new.self w.detach_together.new.store.plain (map merged_of w.detach_together.new.store.overlays) w.detach_together.new.mounts w.detach_together.new.groups
-      (λ none. some_counted c.in_ok-gone.gone.items some ((replaced_collected (the_view c.self.inside) c.self.invariant c.args.name.now c.args.renamed.from c.args.renamed.old.items c.args.renamed.to c.args.renamed.new.items c.args.renamed.object c.args.renamed.replaced (omega arith) (omega arith) (omega arith) c.trees_replaced.ensures.slot
-      (subst (λ value. Permits value c.args.name.now
-      (remove_permit (Rename c.args.renamed))) (sym c.self.view_is) c.requires)
-      (map (λ id. counted id.count) c.in_ok-gone.gone.items) c.in_ok-gone.ensures.ok) ∙ none)) (rw c.plain_mut.ensures.value at (rw c.as_slice.ensures.value at c.in_ok-rename.ensures.ok))
-      (subst (λ k. LeaveTogether _ k c.self.inside.groups (kept w.detach_together.new.mounts w.detach_together.new.store) w.detach_together.new.groups)
-      (λ i. kept_with c.self.inside.mounts c.rename.new.self (kept_is (the_view c.self.inside) c.self.inside.store i).overlays)
-      (subst (λ ids. LeaveTogether ids (kept c.self.inside.mounts (record c.self.inside.store { plain = c.rename.new.self })) c.self.inside.groups (kept w.detach_together.new.mounts w.detach_together.new.store) w.detach_together.new.groups) (replaced_collected (the_view c.self.inside) c.self.invariant c.args.name.now c.args.renamed.from c.args.renamed.old.items c.args.renamed.to c.args.renamed.new.items c.args.renamed.object c.args.renamed.replaced (omega arith) (omega arith) (omega arith) c.trees_replaced.ensures.slot
-      (subst (λ value. Permits value c.args.name.now
-      (remove_permit (Rename c.args.renamed))) (sym c.self.view_is) c.requires)
-      (map (λ id. counted id.count) c.in_ok-gone.gone.items) c.in_ok-gone.ensures.ok)
-      (subst (λ ids. LeaveTogether (map (λ id. counted id.count) ids) (kept c.self.inside.mounts (record c.self.inside.store { plain = c.rename.new.self })) c.self.inside.groups (kept w.detach_together.new.mounts w.detach_together.new.store) w.detach_together.new.groups) w.deref.ensures.value w.detach_together.ensures)))).becomes))
-  | else-not-is_empty w ↦
-      let none : length c.in_ok-gone.gone.items ≡ 0 = search rules in
-      subst (λ new. Becomes c.args.self.now c.args.name.now
-      (remove_permit (Rename c.args.renamed)) new) (sym w.self-is)
-      (subst (λ value. Becomes value c.args.name.now
-      (remove_permit (Rename c.args.renamed))
-      (with_store (record c.self.inside.store { plain = c.rename.new.self }) (the_view c.self.inside))) c.self.view_is
-      (plain_changed (λ new. Becomes (the_view c.self.inside) c.args.name.now (remove_permit (Rename c.args.renamed)) new) (the_view c.self.inside) c.self.inside.store c.self.invariant c.rename.new.self
-      (rename_alone_is_done (the_view c.self.inside) c.self.invariant c.args.name.now c.args.renamed.from c.args.renamed.old.items c.args.renamed.to c.args.renamed.new.items c.args.renamed.object c.args.renamed.replaced (omega arith) (omega arith) (omega arith)
-      (subst (λ value. Permits value c.args.name.now
-      (remove_permit (Rename c.args.renamed))) (sym c.self.view_is) c.requires)
-      (nothing_on_replaced (the_view c.self.inside) c.self.invariant c.args.name.now c.args.renamed.from c.args.renamed.old.items c.args.renamed.to c.args.renamed.new.items c.args.renamed.object c.args.renamed.replaced (omega arith) (omega arith) (omega arith) c.trees_replaced.ensures.slot
-      (subst (λ value. Permits value c.args.name.now
-      (remove_permit (Rename c.args.renamed))) (sym c.self.view_is) c.requires)
-      (sym (replaced_collected (the_view c.self.inside) c.self.invariant c.args.name.now c.args.renamed.from c.args.renamed.old.items c.args.renamed.to c.args.renamed.new.items c.args.renamed.object c.args.renamed.replaced (omega arith) (omega arith) (omega arith) c.trees_replaced.ensures.slot
-      (subst (λ value. Permits value c.args.name.now
-      (remove_permit (Rename c.args.renamed))) (sym c.self.view_is) c.requires)
-      (map (λ id. counted id.count) c.in_ok-gone.gone.items) c.in_ok-gone.ensures.ok)
-      ∙ none_counted c.in_ok-gone.gone.items none)) c.rename.new.self (rw c.plain_mut.ensures.value at (rw c.as_slice.ensures.value at c.in_ok-rename.ensures.ok))).becomes))
-]
+returns-clause-ok c =
+    let permits = subst (λ value. Permits value c.args.name.now
+    (remove_permit (Rename c.args.renamed))) (sym c.self.view_is) c.requires in
+    elim c.if-not-is_empty.branch [
+      | then-not-is_empty w ↦
+          let some : length c.in_ok-gone.gone.items ≢ 0 = search rules in
+          subst (λ new. Becomes c.args.self.now c.args.name.now (remove_permit (Rename c.args.renamed)) new)
+          (sym w.self-is)
+          (subst (λ value. Becomes value c.args.name.now (remove_permit (Rename c.args.renamed))
+          (with_store w.detach_together.new.store (record (the_view c.self.inside) {
+            mounts = w.detach_together.new.mounts;
+            groups = w.detach_together.new.groups;
+          }))) c.self.view_is
+          (rename_over (the_view c.self.inside) c.self.inside.store c.self.invariant c.args.name.now
+          c.args.renamed.from c.args.renamed.old.items c.args.renamed.to c.args.renamed.new.items c.args.renamed.object
+          c.args.renamed.replaced (omega arith) (omega arith) (omega arith) c.trees_replaced.ensures.slot permits
+          c.in_ok-gone.gone.items c.in_ok-gone.ensures.ok some c.rename.new.self
+          (rw c.plain_mut.ensures.value at (rw c.as_slice.ensures.value at c.in_ok-rename.ensures.ok))
+          w.detach_together.new.mounts w.detach_together.new.groups w.detach_together.new.store
+          (rw w.deref.ensures.value at w.detach_together.ensures)).becomes)
+      | else-not-is_empty w ↦
+          let none : length c.in_ok-gone.gone.items ≡ 0 = search rules in
+          subst (λ new. Becomes c.args.self.now c.args.name.now (remove_permit (Rename c.args.renamed)) new)
+          (sym w.self-is)
+          (subst (λ value. Becomes value c.args.name.now (remove_permit (Rename c.args.renamed))
+          (with_store (record c.self.inside.store { plain = c.rename.new.self }) (the_view c.self.inside)))
+          c.self.view_is
+          (rename_stays (the_view c.self.inside) c.self.inside.store c.self.invariant c.args.name.now
+          c.args.renamed.from c.args.renamed.old.items c.args.renamed.to c.args.renamed.new.items c.args.renamed.object
+          c.args.renamed.replaced (omega arith) (omega arith) (omega arith) c.trees_replaced.ensures.slot permits
+          c.in_ok-gone.gone.items c.in_ok-gone.ensures.ok none c.rename.new.self
+          (rw c.plain_mut.ensures.value at (rw c.as_slice.ensures.value at c.in_ok-rename.ensures.ok))).becomes)
+    ]

@@ -1,51 +1,54 @@
-use Rattle.std.proofs.Common.{sym, subst, ap, ◌∙◌, option_map, false, map, refl, List}
+use Rattle.std.proofs.Common.{ap, false, map, option_map, subst, sym, ◌≡◌, ◌∙◌}
 use Rattle.vt_location.specs.Locations.{location_of}
 use Rattle.vt_spec.specs.Machine.Permits.Permit.{ToSetDirectory}
 use Rattle.vt_ns.specs.contracts.world.World.{the_view}
 use Rattle.vt_detach.specs.Events.{Becomes, Permits}
 use Rattle.vt_detach.specs.Uses.{Kept, kept_of, with_location, without_location}
 use Rattle.vt_detach.proofs.Places.{directory_is_set}
-use Rattle.vt_detach.proofs.Remaining.{remade}
-use Rattle.vt_world.specs.Held.{IsHeld}
+use Rattle.vt_detach.proofs.Remaining.{remade, remade_with}
+use Rattle.vt_detach.proofs.Staying.{IsDone}
+use Rattle.vt_world.specs.WorldValue.{WorldValue}
 use Rattle.vt_world.specs.StoredWorld.{overlays_of_store}
-use Rattle.vt_detach.specs.Stored.{merged_of}
-use Rattle.vt_ns.proofs.world.StoresKept.{held_stored, kept_is, none_kept, none_without}
+use Rattle.vt_detach.specs.Stored.{kept, merged_of}
+use Rattle.vt_ns.proofs.world.StoresKept.{done_stored, kept_is, kept_still, none_kept, none_without}
 use Rattle.vt_ns.proofs.world.World.set_directory.Goals as goal
 
-pub invariant_of-self-in-Some : goal.invariant_of-self-in-Some
-invariant_of-self-in-Some c =
-    held_stored IsHeld
-    (the_view c.self.inside) c.self.invariant _ c.leave.new.store refl
-    (ap (λ (k : Kept). k.overlays) (c.leave.ensures.left ∙ ap (without_location c.in-Some.left false)
-    (c.in_ok-hold.ensures.ok ∙ ap (with_location c.args.directory false) (kept_is (the_view c.self.inside) c.self.inside.store)))
-    ∙ none_without c.in-Some.left false (with_location c.args.directory false (kept_of (the_view c.self.inside))) (none_kept (the_view c.self.inside) c.self.invariant))
-    (directory_is_set (the_view c.self.inside) c.args.name.now c.args.directory c.in-Some.left c.leave.new.mounts c.leave.new.store.plain (map merged_of c.leave.new.store.overlays) c.set_directory.new.self
-    c.self.invariant
+abbrev after : (c : goal.After-leave) → WorldValue
+after c =
+    record (remade (the_view c.self.inside) c.leave.new.mounts c.leave.new.store.plain c.set_directory.new.self) {
+      overlays = overlays_of_store c.leave.new.store;
+    }
+
+-- what the task leaves, once its new place is held
+left_so : (c : goal.After-leave) → kept c.leave.new.mounts c.leave.new.store
+    ≡ without_location c.in-Some.left false (with_location c.args.directory false (kept_of (the_view c.self.inside)))
+left_so c =
+    c.leave.ensures.left ∙ ap (without_location c.in-Some.left false)
+    (c.in_ok-hold.ensures.ok ∙ ap (with_location c.args.directory false)
+    (kept_is (the_view c.self.inside) c.self.inside.store))
+
+done : (c : goal.After-leave) → IsDone (the_view c.self.inside) c.args.name.now
+    (ToSetDirectory (location_of c.args.directory)) (after c)
+done c =
+    let kept_now = map merged_of c.leave.new.store.overlays in
+    done_stored (the_view c.self.inside) c.self.invariant c.args.name.now (ToSetDirectory (location_of c.args.directory))
+    (remade_with (the_view c.self.inside) c.leave.new.mounts c.leave.new.store.plain kept_now c.set_directory.new.self)
+    c.leave.new.store (kept_still (the_view c.self.inside) c.self.invariant kept_now)
+    (ap (λ (k : Kept). k.overlays) (left_so c)
+    ∙ none_without c.in-Some.left false (with_location c.args.directory false (kept_of (the_view c.self.inside)))
+    (none_kept (the_view c.self.inside) c.self.invariant))
+    (directory_is_set (the_view c.self.inside) c.args.name.now c.args.directory c.in-Some.left c.leave.new.mounts
+    c.leave.new.store.plain kept_now c.set_directory.new.self c.self.invariant
     (subst (λ value. Permits value c.args.name.now (ToSetDirectory (location_of c.args.directory)))
     (sym c.self.view_is) c.requires)
     c.in_ok-hold.ensures.slot c.leave.ensures.slot
     (sym (ap (option_map location_of) c.in-Some.is) ∙ c.set_directory.ensures.left)
-    c.set_directory.ensures.rest
-    (c.leave.ensures.left ∙ ap (without_location c.in-Some.left false)
-    (c.in_ok-hold.ensures.ok ∙ ap (with_location c.args.directory false) (kept_is (the_view c.self.inside) c.self.inside.store)))).held
+    c.set_directory.ensures.rest (left_so c))
+
+pub invariant_of-self-in-Some : goal.invariant_of-self-in-Some
+invariant_of-self-in-Some c = (done c).held
 
 pub returns-in-Some-clause-ok : goal.returns-in-Some-clause-ok
 returns-in-Some-clause-ok c =
-    subst (λ value. Becomes value c.args.name.now (ToSetDirectory (location_of c.args.directory))
-    (record (remade (the_view c.self.inside) c.leave.new.mounts c.leave.new.store.plain c.set_directory.new.self) {
-      overlays = overlays_of_store c.leave.new.store;
-    })) c.self.view_is
-    (held_stored (λ new. Becomes (the_view c.self.inside) c.args.name.now (ToSetDirectory (location_of c.args.directory)) new)
-    (the_view c.self.inside) c.self.invariant (remade (the_view c.self.inside) c.leave.new.mounts c.leave.new.store.plain c.set_directory.new.self) c.leave.new.store refl
-    (ap (λ (k : Kept). k.overlays) (c.leave.ensures.left ∙ ap (without_location c.in-Some.left false)
-    (c.in_ok-hold.ensures.ok ∙ ap (with_location c.args.directory false) (kept_is (the_view c.self.inside) c.self.inside.store)))
-    ∙ none_without c.in-Some.left false (with_location c.args.directory false (kept_of (the_view c.self.inside))) (none_kept (the_view c.self.inside) c.self.invariant))
-    (directory_is_set (the_view c.self.inside) c.args.name.now c.args.directory c.in-Some.left c.leave.new.mounts c.leave.new.store.plain (map merged_of c.leave.new.store.overlays) c.set_directory.new.self
-    c.self.invariant
-    (subst (λ value. Permits value c.args.name.now (ToSetDirectory (location_of c.args.directory)))
-    (sym c.self.view_is) c.requires)
-    c.in_ok-hold.ensures.slot c.leave.ensures.slot
-    (sym (ap (option_map location_of) c.in-Some.is) ∙ c.set_directory.ensures.left)
-    c.set_directory.ensures.rest
-    (c.leave.ensures.left ∙ ap (without_location c.in-Some.left false)
-    (c.in_ok-hold.ensures.ok ∙ ap (with_location c.args.directory false) (kept_is (the_view c.self.inside) c.self.inside.store)))).becomes)
+    subst (λ value. Becomes value c.args.name.now (ToSetDirectory (location_of c.args.directory)) (after c))
+    c.self.view_is (done c).becomes

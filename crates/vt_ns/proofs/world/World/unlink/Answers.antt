@@ -7,9 +7,8 @@ use Rattle.vt_ns.specs.contracts.world.World.{the_view}
 use Rattle.vt_detach.specs.Events.{Becomes, Permits}
 use Rattle.vt_detach.proofs.FileEvents.{change_fits}
 use Rattle.vt_ns.proofs.world.FileAnswers.{unlinked_in, unlinked_is_kept, unlink_is_done}
-use Rattle.vt_world.specs.Held.{IsHeld}
 use Rattle.vt_world.specs.StoredWorld.{with_store}
-use Rattle.vt_ns.proofs.world.StoresKept.{plain_changed}
+use Rattle.vt_ns.proofs.world.PlainStored.{files_stored}
 use Rattle.vt_ns.proofs.world.World.unlink.Goals as goal
 
 pub unlink-requires-clause-one_filesystem : goal.unlink-requires-clause-one_filesystem
@@ -44,24 +43,24 @@ unlink-requires-clause-empty c =
 
 pub invariant_of-self : goal.invariant_of-self
 invariant_of-self c =
-    plain_changed IsHeld (the_view c.self.inside) c.self.inside.store c.self.invariant c.unlink.new.self
-    ((unlink_is_done (the_view c.self.inside) c.self.invariant c.args.name.now c.args.gone.directory c.args.gone.name.items c.args.gone.object (omega arith) (omega arith)
-    (subst (λ value. Permits value c.args.name.now
-    (remove_permit (Unlink c.args.gone)))
-    (sym c.self.view_is) c.requires)
-    c.unlink.new.self (rw c.plain_mut.ensures.value at (rw c.as_slice.ensures.value at c.unlink.ensures))).held)
+    let permits = subst (λ value. Permits value c.args.name.now
+    (remove_permit (Unlink c.args.gone))) (sym c.self.view_is) c.requires in
+    (files_stored (the_view c.self.inside) c.self.inside.store c.self.invariant c.args.name.now
+    (remove_permit (Unlink c.args.gone)) permits c.unlink.new.self
+    (unlink_is_done (the_view c.self.inside) c.self.invariant c.args.name.now c.args.gone.directory
+    c.args.gone.name.items c.args.gone.object (omega arith) (omega arith) permits c.unlink.new.self
+    (rw c.plain_mut.ensures.value at (rw c.as_slice.ensures.value at c.unlink.ensures)))).held
 
 pub returns : goal.returns
 returns c =
+    let permits = subst (λ value. Permits value c.args.name.now
+    (remove_permit (Unlink c.args.gone))) (sym c.self.view_is) c.requires in
     subst (λ value. Becomes value c.args.name.now
     (remove_permit (Unlink c.args.gone))
-    (with_store (record c.self.inside.store { plain = c.unlink.new.self }) (the_view c.self.inside))) c.self.view_is
-    (plain_changed (λ new. Becomes (the_view c.self.inside) c.args.name.now
-    (remove_permit (Unlink c.args.gone))
-    new)
-    (the_view c.self.inside) c.self.inside.store c.self.invariant c.unlink.new.self
-    ((unlink_is_done (the_view c.self.inside) c.self.invariant c.args.name.now c.args.gone.directory c.args.gone.name.items c.args.gone.object (omega arith) (omega arith)
-    (subst (λ value. Permits value c.args.name.now
-    (remove_permit (Unlink c.args.gone)))
-    (sym c.self.view_is) c.requires)
-    c.unlink.new.self (rw c.plain_mut.ensures.value at (rw c.as_slice.ensures.value at c.unlink.ensures))).becomes))
+    (with_store (record c.self.inside.store { plain = c.unlink.new.self }) (the_view c.self.inside)))
+    c.self.view_is
+    (files_stored (the_view c.self.inside) c.self.inside.store c.self.invariant c.args.name.now
+    (remove_permit (Unlink c.args.gone)) permits c.unlink.new.self
+    (unlink_is_done (the_view c.self.inside) c.self.invariant c.args.name.now c.args.gone.directory
+    c.args.gone.name.items c.args.gone.object (omega arith) (omega arith) permits c.unlink.new.self
+    (rw c.plain_mut.ensures.value at (rw c.as_slice.ensures.value at c.unlink.ensures)))).becomes

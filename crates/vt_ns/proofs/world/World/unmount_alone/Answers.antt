@@ -6,13 +6,13 @@ use Rattle.vt_spec.specs.Machine.Permits.Permit.{ToUnmount}
 use Rattle.vt_ns.specs.contracts.world.World.{the_view}
 use Rattle.vt_ns.specs.Unmounting.{unmounts_alone}
 use Rattle.vt_detach.specs.Events.{Becomes, Permits}
-use Rattle.vt_detach.proofs.Remaining.{remade}
+use Rattle.vt_detach.proofs.Remaining.{remade, remade_with}
 use Rattle.vt_detach.proofs.UnmountedAlone.{unmount_is_done}
 use Rattle.vt_world.specs.Held.{IsHeld}
 use Rattle.vt_world.specs.StoredWorld.{overlays_of_store}
 use Rattle.vt_detach.specs.Stored.{merged_of}
 use Rattle.vt_detach.specs.Uses.{Kept, kept_of, without_attachment}
-use Rattle.vt_ns.proofs.world.StoresKept.{held_stored, kept_is, none_detached, none_kept}
+use Rattle.vt_ns.proofs.world.StoresKept.{held_stored, kept_is, kept_still, none_detached, none_kept}
 use Rattle.vt_ns.proofs.world.World.unmount_alone.Goals as goal
 
 pub invariant_of-self : goal.invariant_of-self
@@ -21,7 +21,8 @@ invariant_of-self c =
     (λ value. unmounts_alone (mounts_in value.mounts) (counted c.args.mount.count) ≡ true)
     (sym c.self.view_is) c.requires.alone) in
     held_stored IsHeld
-    (the_view c.self.inside) c.self.invariant _ c.detach.new.store refl
+    (the_view c.self.inside) c.self.invariant _ c.detach.new.store
+    (kept_still (the_view c.self.inside) c.self.invariant (map merged_of c.detach.new.store.overlays))
     (ap (λ (k : Kept). k.overlays) (c.detach.ensures.left ∙ ap (without_attachment (counted c.args.mount.count) c.detach.result) (kept_is (the_view c.self.inside) c.self.inside.store))
     ∙ none_detached (counted c.args.mount.count) c.detach.result (kept_of (the_view c.self.inside)) (none_kept (the_view c.self.inside) c.self.invariant))
     (unmount_is_done (the_view c.self.inside) c.args.name.now
@@ -40,8 +41,10 @@ returns c =
     (record (remade (the_view c.self.inside) c.detach.new.mounts c.detach.new.store.plain
     (the_view c.self.inside).tasks) { overlays = overlays_of_store c.detach.new.store })) c.self.view_is
     (held_stored (λ new. Becomes (the_view c.self.inside) c.args.name.now (ToUnmount (counted c.args.mount.count)) new)
-    (the_view c.self.inside) c.self.invariant (remade (the_view c.self.inside) c.detach.new.mounts c.detach.new.store.plain
-    (the_view c.self.inside).tasks) c.detach.new.store refl
+    (the_view c.self.inside) c.self.invariant
+    (remade_with (the_view c.self.inside) c.detach.new.mounts c.detach.new.store.plain
+    (map merged_of c.detach.new.store.overlays) (the_view c.self.inside).tasks) c.detach.new.store
+    (kept_still (the_view c.self.inside) c.self.invariant (map merged_of c.detach.new.store.overlays))
     (ap (λ (k : Kept). k.overlays) (c.detach.ensures.left ∙ ap (without_attachment (counted c.args.mount.count) c.detach.result) (kept_is (the_view c.self.inside) c.self.inside.store))
     ∙ none_detached (counted c.args.mount.count) c.detach.result (kept_of (the_view c.self.inside)) (none_kept (the_view c.self.inside) c.self.invariant))
     (unmount_is_done (the_view c.self.inside) c.args.name.now

@@ -15,7 +15,7 @@ use Rattle.vt_attach.specs.Planned.{Point}
 use Rattle.vt_ns.specs.Unmounting.{GoTogether}
 use Rattle.vt_ns.proofs.world.UnmountedEverywhere.{unmounted_lazily}
 use Rattle.vt_world.specs.StoredWorld.{overlays_of_store}
-use Rattle.vt_ns.proofs.world.StoresKept.{done_stored, kept_is, none_kept, none_together}
+use Rattle.vt_ns.proofs.world.StoresKept.{done_stored, kept_is, kept_still, none_kept, none_together}
 use Rattle.vt_ns.proofs.world.World.unmount_lazily_everywhere.Goals as goal
 
 abbrev after : (c : goal.After-drop-plan-3) → WorldValue
@@ -44,7 +44,8 @@ done c =
     c.self.inside.groups (kept c.take_away.new.mounts c.take_away.new.store) c.take_away.new.groups)
     c.newest_first.ensures.points (subst (λ k. GoTogether gone c.newest_first.new.plan.points.items k c.self.inside.groups
     (kept c.take_away.new.mounts c.take_away.new.store) c.take_away.new.groups) (kept_is (the_view c.self.inside) c.self.inside.store) c.in_ok-take_away.ensures.ok)) in
-    done_stored value c.self.invariant c.args.name.now (ToUnmountLazily (counted c.args.mount.count)) _ c.take_away.new.store refl
+    done_stored value c.self.invariant c.args.name.now (ToUnmountLazily (counted c.args.mount.count)) _ c.take_away.new.store
+    (kept_still value c.self.invariant (map merged_of c.take_away.new.store.overlays))
     (none_together gone (kept_with go.between go.files go.merged) go.groups (kept c.take_away.new.mounts c.take_away.new.store)
     c.take_away.new.groups (ap (λ (k : Kept). k.overlays) go.moved ∙ none_kept value c.self.invariant) go.together)
     (unmounted_lazily value c.self.invariant c.args.name.now (counted c.args.mount.count)

@@ -8,13 +8,13 @@ use Rattle.vt_ns.specs.Unmounting.{are_ungrouped, stands_on_shared}
 use Rattle.vt_detach.specs.Detached.{LeaveInTurn, tree_numbers}
 use Rattle.vt_detach.specs.Events.{Becomes, Permits}
 use Rattle.vt_world.specs.WorldValue.{WorldValue}
-use Rattle.vt_detach.proofs.Remaining.{remade}
+use Rattle.vt_detach.proofs.Remaining.{remade, remade_with}
 use Rattle.vt_detach.proofs.UnmountedLazily.{lazy_unmount_is_done}
 use Rattle.vt_world.specs.Held.{IsHeld}
 use Rattle.vt_world.specs.StoredWorld.{overlays_of_store}
 use Rattle.vt_detach.specs.Stored.{kept, merged_of}
 use Rattle.vt_detach.specs.Uses.{kept_of}
-use Rattle.vt_ns.proofs.world.StoresKept.{held_stored, kept_is, none_in_turn, none_kept}
+use Rattle.vt_ns.proofs.world.StoresKept.{held_stored, kept_is, kept_still, none_in_turn, none_kept}
 use Rattle.vt_ns.proofs.world.World.unmount_tree_alone.Goals as goal
 
 pub invariant_of-self : goal.invariant_of-self
@@ -26,7 +26,8 @@ invariant_of-self c =
     && not (stands_on_shared (mounts_in value.mounts) number)) ≡ true)
     (sym c.self.view_is) c.requires.alone) in
     held_stored IsHeld
-    (the_view c.self.inside) c.self.invariant _ c.detach_each.new.store refl
+    (the_view c.self.inside) c.self.invariant _ c.detach_each.new.store
+    (kept_still (the_view c.self.inside) c.self.invariant (map merged_of c.detach_each.new.store.overlays))
     (none_in_turn tree (kept_of (the_view c.self.inside)) (kept c.detach_each.new.mounts c.detach_each.new.store) (none_kept (the_view c.self.inside) c.self.invariant)
     (subst (λ k. LeaveInTurn tree k (kept c.detach_each.new.mounts c.detach_each.new.store)) (kept_is (the_view c.self.inside) c.self.inside.store) c.detach_each.ensures))
     (lazy_unmount_is_done (the_view c.self.inside) c.args.name.now number tree c.detach_each.new.mounts
@@ -49,8 +50,10 @@ returns c =
     (record (remade (the_view c.self.inside) c.detach_each.new.mounts c.detach_each.new.store.plain
     (the_view c.self.inside).tasks) { overlays = overlays_of_store c.detach_each.new.store })) c.self.view_is
     (held_stored (λ new. Becomes (the_view c.self.inside) c.args.name.now (ToUnmountLazily number) new)
-    (the_view c.self.inside) c.self.invariant (remade (the_view c.self.inside) c.detach_each.new.mounts c.detach_each.new.store.plain
-    (the_view c.self.inside).tasks) c.detach_each.new.store refl
+    (the_view c.self.inside) c.self.invariant
+    (remade_with (the_view c.self.inside) c.detach_each.new.mounts c.detach_each.new.store.plain
+    (map merged_of c.detach_each.new.store.overlays) (the_view c.self.inside).tasks) c.detach_each.new.store
+    (kept_still (the_view c.self.inside) c.self.invariant (map merged_of c.detach_each.new.store.overlays))
     (none_in_turn tree (kept_of (the_view c.self.inside)) (kept c.detach_each.new.mounts c.detach_each.new.store) (none_kept (the_view c.self.inside) c.self.invariant)
     (subst (λ k. LeaveInTurn tree k (kept c.detach_each.new.mounts c.detach_each.new.store)) (kept_is (the_view c.self.inside) c.self.inside.store) c.detach_each.ensures))
     (lazy_unmount_is_done (the_view c.self.inside) c.args.name.now number tree c.detach_each.new.mounts

@@ -15,15 +15,16 @@ use Rattle.vt_ns.specs.contracts.world.World.{the_view}
 use Rattle.vt_mount.specs.Attached.{attached_in}
 use Rattle.vt_attach.specs.Copying.{CopiesAttached, with_use_moved}
 use Rattle.vt_detach.specs.Stored.{kept, merged_of}
-use Rattle.vt_detach.specs.Uses.{Kept, kept_of, with_attached}
+use Rattle.vt_detach.specs.Uses.{Kept, kept_of, overlays_kept, with_attached}
 use Rattle.vt_detach.specs.Events.{Becomes, Permits}
+use Rattle.vt_detach.specs.NamespacesLeft.{namespace_entry}
 use Rattle.vt_world.specs.WorldValue.{WorldValue, entries_of}
 use Rattle.vt_mount.proofs.AttachedLemmas.{as_many}
 use Rattle.vt_detach.proofs.Staying.{IsDone}
 use Rattle.vt_attach.proofs.TasksUnshared.{task_is_unshared}
 use Rattle.vt_attach.proofs.UnsharingLemmas.{namespace_added, numbers_before, uses_left, uses_left_then, writers_left, writers_left_then}
 use Rattle.vt_world.specs.StoredWorld.{overlays_of_store}
-use Rattle.vt_ns.proofs.world.StoresKept.{done_stored, kept_is, none_attached, none_kept, none_left}
+use Rattle.vt_ns.proofs.world.StoresKept.{done_stored, kept_is, kept_still, none_attached, none_kept, none_left}
 use Rattle.vt_ns.proofs.world.World.unshare.Goals as goal
 
 pub attach_copies-requires-clause-before : goal.attach_copies-requires-clause-before
@@ -35,7 +36,8 @@ move_use-requires-clause-uses c =
     let made = c.in_ok-attach_copies.ensures.ok in
     uses_left (the_view c.self.inside) c.self.invariant c.are_counted.ensures
     (attached_in (counted own.namespace.count) c.self.inside.mounts)
-    made.added c.attach_copies.new.mounts c.attach_copies.new.store.plain (map merged_of c.attach_copies.new.store.overlays)
+    made.added c.attach_copies.new.mounts c.attach_copies.new.store.plain
+    (map merged_of c.attach_copies.new.store.overlays)
     (made.attached ∙ ap (with_attached made.added) (kept_is (the_view c.self.inside) c.self.inside.store)) own.root
     c.moved-new_root.result c.moved-new_root.ensures
 
@@ -45,7 +47,8 @@ move_use-requires-clause-writers c =
     let made = c.in_ok-attach_copies.ensures.ok in
     writers_left (the_view c.self.inside) c.self.invariant c.are_counted.ensures
     (attached_in (counted own.namespace.count) c.self.inside.mounts)
-    made.added c.attach_copies.new.mounts c.attach_copies.new.store.plain (map merged_of c.attach_copies.new.store.overlays)
+    made.added c.attach_copies.new.mounts c.attach_copies.new.store.plain
+    (map merged_of c.attach_copies.new.store.overlays)
     (made.attached ∙ ap (with_attached made.added) (kept_is (the_view c.self.inside) c.self.inside.store)) own.root
     c.moved-new_root.result c.moved-new_root.ensures
 
@@ -55,7 +58,8 @@ move_use-requires-2-clause-uses c = λ other.
     let made = c.in_ok-attach_copies.ensures.ok in
     uses_left_then (the_view c.self.inside) c.self.invariant c.are_counted.ensures
     (attached_in (counted own.namespace.count) c.self.inside.mounts)
-    made.added c.attach_copies.new.mounts c.attach_copies.new.store.plain (map merged_of c.attach_copies.new.store.overlays)
+    made.added c.attach_copies.new.mounts c.attach_copies.new.store.plain
+    (map merged_of c.attach_copies.new.store.overlays)
     (made.attached ∙ ap (with_attached made.added) (kept_is (the_view c.self.inside) c.self.inside.store)) own.directory
     c.moved-new_directory.result c.moved-new_directory.ensures other
     (counted own.root.mount.count)
@@ -67,7 +71,8 @@ move_use-requires-2-clause-writers c = λ other.
     let made = c.in_ok-attach_copies.ensures.ok in
     writers_left_then (the_view c.self.inside) c.self.invariant c.are_counted.ensures
     (attached_in (counted own.namespace.count) c.self.inside.mounts)
-    made.added c.attach_copies.new.mounts c.attach_copies.new.store.plain (map merged_of c.attach_copies.new.store.overlays)
+    made.added c.attach_copies.new.mounts c.attach_copies.new.store.plain
+    (map merged_of c.attach_copies.new.store.overlays)
     (made.attached ∙ ap (with_attached made.added) (kept_is (the_view c.self.inside) c.self.inside.store)) own.directory
     c.moved-new_directory.result c.moved-new_directory.ensures other
     (counted own.root.mount.count)
@@ -87,41 +92,54 @@ entered c =
     (ap entries_of c.reserve.ensures.entries)
     c.new-new.result (ap (λ (id : NamespaceId). id.count) c.new-new.ensures) (record { tasks = 1 })
 
-abbrev before_stored : (c : goal.After-self-1) → WorldValue
-before_stored c = record {
+abbrev after : (c : goal.After-self-1) → WorldValue
+after c = record {
   mounts = c.leave_namespace.new.mounts;
   groups = c.leave_namespace.new.groups;
   filesystems = c.leave_namespace.new.store.plain;
-  overlays = overlays_of_store c.self.inside.store;
+  overlays = overlays_of_store c.leave_namespace.new.store;
   namespaces = entries_of c.leave_namespace.new.namespaces.entries;
   tasks = c.move_root_and_directory.new.self;
   next = c.self.inside.next + 2 * length c.attached_in.result.now;
 }
 
-abbrev after : (c : goal.After-self-1) → WorldValue
-after c = record (before_stored c) { overlays = overlays_of_store c.leave_namespace.new.store }
+-- the copies are attached
+made_so : (c : goal.After-self-1) → CopiesAttached c.self.inside.next (counted c.unwrap-task.result.now.namespace.count)
+    (kept_of (the_view c.self.inside)) c.self.inside.groups (kept c.attach_copies.new.mounts c.attach_copies.new.store)
+    c.attach_copies.new.groups
+made_so c =
+    subst (λ k. CopiesAttached c.self.inside.next (counted c.unwrap-task.result.now.namespace.count) k
+    c.self.inside.groups (kept c.attach_copies.new.mounts c.attach_copies.new.store) c.attach_copies.new.groups)
+    (kept_is (the_view c.self.inside) c.self.inside.store) c.in_ok-attach_copies.ensures.ok
+
+-- no overlay comes
+none_come : (c : goal.After-self-1) → (kept c.leave_namespace.new.mounts c.leave_namespace.new.store).overlays ≡ []
+none_come c =
+    let own = c.unwrap-task.result.now in
+    none_left (counted own.namespace.count) (namespace_entry own.namespace.count (entries_of c.insert.new.self.entries))
+    (kept c.move_use-2.new.mounts c.attach_copies.new.store) c.attach_copies.new.groups
+    (kept c.leave_namespace.new.mounts c.leave_namespace.new.store) c.leave_namespace.new.groups
+    (ap (λ (k : Kept). k.overlays) (made_so c).attached
+    ∙ none_attached (made_so c).added (kept_of (the_view c.self.inside)).overlays
+    (none_kept (the_view c.self.inside) c.self.invariant))
+    c.leave_namespace.ensures.mounts
 
 done : (c : goal.After-self-1) → IsDone (the_view c.self.inside) c.args.name.now ToUnshare (after c)
 done c =
     let own = c.unwrap-task.result.now in
     let root = c.moved-new_root.result in
     let directory = c.moved-new_directory.result in
-    let made : CopiesAttached c.self.inside.next (counted own.namespace.count) (kept_of (the_view c.self.inside)) c.self.inside.groups
-    (kept c.attach_copies.new.mounts c.attach_copies.new.store) c.attach_copies.new.groups =
-    subst (λ k. CopiesAttached c.self.inside.next (counted own.namespace.count) k c.self.inside.groups
-    (kept c.attach_copies.new.mounts c.attach_copies.new.store) c.attach_copies.new.groups) (kept_is (the_view c.self.inside) c.self.inside.store) c.in_ok-attach_copies.ensures.ok in
-    done_stored (the_view c.self.inside) c.self.invariant c.args.name.now ToUnshare (before_stored c) c.leave_namespace.new.store refl
-    (none_left (counted own.namespace.count) _ (kept c.move_use-2.new.mounts c.attach_copies.new.store) c.attach_copies.new.groups
-    (kept c.leave_namespace.new.mounts c.leave_namespace.new.store) c.leave_namespace.new.groups
-    (ap (λ (k : Kept). k.overlays) made.attached ∙ none_attached made.added (kept_of (the_view c.self.inside)).overlays (none_kept (the_view c.self.inside) c.self.invariant))
-    c.leave_namespace.ensures.mounts)
+    let kept_now = map merged_of c.leave_namespace.new.store.overlays in
+    let before_stored = record (after c) { overlays = overlays_kept kept_now (the_view c.self.inside).overlays } in
+    done_stored (the_view c.self.inside) c.self.invariant c.args.name.now ToUnshare before_stored
+    c.leave_namespace.new.store (kept_still (the_view c.self.inside) c.self.invariant kept_now) (none_come c)
     (task_is_unshared (the_view c.self.inside) c.self.invariant c.args.name.now (permitted c) own
     (sym (ap (λ found. option_map task_of (option_copied found)) c.unwrap-task.ensures) ∙ c.get.ensures)
-    root directory c.attach_copies.new.mounts c.attach_copies.new.groups c.attach_copies.new.store.plain (map merged_of c.attach_copies.new.store.overlays)
-    c.move_use-2.new.mounts (map merged_of c.leave_namespace.new.store.overlays) (entries_of c.insert.new.self.entries)
-    (before_stored c)
+    root directory c.attach_copies.new.mounts c.attach_copies.new.groups c.attach_copies.new.store.plain
+    (map merged_of c.attach_copies.new.store.overlays)
+    c.move_use-2.new.mounts kept_now (entries_of c.insert.new.self.entries) before_stored
     (record {
-      made = made;
+      made = made_so c;
       root_is = c.moved-new_root.ensures;
       directory_is = c.moved-new_directory.ensures;
       uses = c.move_use-2.ensures ∙ ap
@@ -132,7 +150,11 @@ done c =
       namespaces_left = c.leave_namespace.ensures.namespaces;
       tasks = c.move_root_and_directory.ensures.rest
           ∙ ap (λ n. changed_called c.args.name.now
-          (λ task. record task { namespace = counted n; root = location_of root; directory = location_of directory }) c.self.inside.tasks)
+          (λ task. record task {
+            namespace = counted n;
+            root = location_of root;
+            directory = location_of directory;
+          }) c.self.inside.tasks)
           (ap (λ (id : NamespaceId). id.count) c.new-new.ensures);
       next = ap (λ n. c.self.inside.next + 2 * n)
           (as_many c.attached_in.result.now

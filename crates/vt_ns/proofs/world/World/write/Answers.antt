@@ -6,9 +6,8 @@ use Rattle.vt_ns.specs.contracts.world.World.{the_view}
 use Rattle.vt_detach.specs.Events.{Becomes, Permits}
 use Rattle.vt_detach.proofs.FileEvents.{change_fits}
 use Rattle.vt_ns.proofs.world.FileAnswers.{write_is_done}
-use Rattle.vt_world.specs.Held.{IsHeld}
 use Rattle.vt_world.specs.StoredWorld.{with_store}
-use Rattle.vt_ns.proofs.world.StoresKept.{plain_changed}
+use Rattle.vt_ns.proofs.world.PlainStored.{files_stored}
 use Rattle.vt_ns.proofs.world.World.write.Goals as goal
 
 pub write-requires-clause-file : goal.write-requires-clause-file
@@ -29,26 +28,22 @@ write-requires-clause-size c =
 
 pub invariant_of-self : goal.invariant_of-self
 invariant_of-self c =
-    plain_changed IsHeld (the_view c.self.inside) c.self.inside.store c.self.invariant c.write.new.self
-    ((write_is_done (the_view c.self.inside) c.self.invariant c.args.name.now c.args.file c.args.bytes.items
-    (omega arith)
-    (subst (λ value. Permits value c.args.name.now
-    (ToChange (location_of c.args.file) (SetBytes (number_of c.args.file.node) c.args.bytes.items)))
-    (sym c.self.view_is) c.requires)
-    c.write.new.self (rw c.plain_mut.ensures.value at c.write.ensures)).held)
+    let permits = subst (λ value. Permits value c.args.name.now
+    (ToChange (location_of c.args.file) (SetBytes (number_of c.args.file.node) c.args.bytes.items))) (sym c.self.view_is) c.requires in
+    (files_stored (the_view c.self.inside) c.self.inside.store c.self.invariant c.args.name.now
+    (ToChange (location_of c.args.file) (SetBytes (number_of c.args.file.node) c.args.bytes.items)) permits c.write.new.self
+    (write_is_done (the_view c.self.inside) c.self.invariant c.args.name.now c.args.file c.args.bytes.items
+    (omega arith) permits c.write.new.self (rw c.plain_mut.ensures.value at c.write.ensures))).held
 
 pub returns : goal.returns
 returns c =
+    let permits = subst (λ value. Permits value c.args.name.now
+    (ToChange (location_of c.args.file) (SetBytes (number_of c.args.file.node) c.args.bytes.items))) (sym c.self.view_is) c.requires in
     subst (λ value. Becomes value c.args.name.now
     (ToChange (location_of c.args.file) (SetBytes (number_of c.args.file.node) c.args.bytes.items))
-    (with_store (record c.self.inside.store { plain = c.write.new.self }) (the_view c.self.inside))) c.self.view_is
-    (plain_changed (λ new. Becomes (the_view c.self.inside) c.args.name.now
-    (ToChange (location_of c.args.file) (SetBytes (number_of c.args.file.node) c.args.bytes.items))
-    new)
-    (the_view c.self.inside) c.self.inside.store c.self.invariant c.write.new.self
-    ((write_is_done (the_view c.self.inside) c.self.invariant c.args.name.now c.args.file c.args.bytes.items
-    (omega arith)
-    (subst (λ value. Permits value c.args.name.now
-    (ToChange (location_of c.args.file) (SetBytes (number_of c.args.file.node) c.args.bytes.items)))
-    (sym c.self.view_is) c.requires)
-    c.write.new.self (rw c.plain_mut.ensures.value at c.write.ensures)).becomes))
+    (with_store (record c.self.inside.store { plain = c.write.new.self }) (the_view c.self.inside)))
+    c.self.view_is
+    (files_stored (the_view c.self.inside) c.self.inside.store c.self.invariant c.args.name.now
+    (ToChange (location_of c.args.file) (SetBytes (number_of c.args.file.node) c.args.bytes.items)) permits c.write.new.self
+    (write_is_done (the_view c.self.inside) c.self.invariant c.args.name.now c.args.file c.args.bytes.items
+    (omega arith) permits c.write.new.self (rw c.plain_mut.ensures.value at c.write.ensures))).becomes

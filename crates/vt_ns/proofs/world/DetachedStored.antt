@@ -1,0 +1,59 @@
+-- The store that code has after a change of a tree with which mounts go: rmdir(2), rename(2).
+use Rattle.std.proofs.Common.{◌≡◌, ◌≢◌, ◌∙◌, sym, subst, ℕ, List, [], map, length}
+use Rattle.vt_spec.specs.Language.Calls.{TaskName}
+use Rattle.vt_spec.specs.Machine.Permits.{Permit}
+use Rattle.vt_fs.specs.FilesystemsValue.{Filesystems}
+use Rattle.vt_group.specs.Grouping.{Grouping}
+use Rattle.vt_location.specs.Numbers.{counted}
+use Rattle.vt_location.specs.declared.numbers.MountId.{MountId}
+use Rattle.vt_mount.specs.MountsValue.{MountEntry}
+use Rattle.vt_store.specs.StoreValue.{StoreValue}
+use Rattle.vt_detach.specs.Detached.{LeaveTogether}
+use Rattle.vt_detach.specs.Stored.{kept, merged_of}
+use Rattle.vt_detach.specs.Uses.{kept_of, kept_with}
+use Rattle.vt_world.specs.Held.{IsHeld}
+use Rattle.vt_world.specs.StoredWorld.{with_store}
+use Rattle.vt_world.specs.WorldValue.{WorldValue}
+use Rattle.vt_detach.proofs.ChangedFiles.{with_filesystems}
+use Rattle.vt_detach.proofs.Remaining.{remade_with}
+use Rattle.vt_detach.proofs.Staying.{IsDone}
+use Rattle.vt_ns.proofs.world.MountsOn.{none_counted, some_counted}
+use Rattle.vt_ns.proofs.world.StoresKept.{done_stored, kept_is, kept_still, none_kept, none_together}
+
+module _ (base : WorldValue) (store : StoreValue) (held : IsHeld (with_store store base)) (ids : List MountId)
+    (gone : List ℕ) (are : map (λ id. counted id.count) ids ≡ gone) where
+  abbrev value : WorldValue
+  value = with_store store base
+
+  -- where no mount is collected none goes
+  pub none_goes : length ids ≡ 0 → gone ≡ []
+  none_goes none = sym are ∙ none_counted ids none
+
+  -- and where some are some go
+  pub some_go : length ids ≢ 0 → gone ≢ []
+  some_go some none = some_counted ids some (are ∙ none)
+
+  module _ (plain : Filesystems) (mounts : List MountEntry) (groups : Grouping) (last : StoreValue)
+      (left : LeaveTogether (map (λ id. counted id.count) ids) (kept base.mounts (record store { plain = plain }))
+      base.groups (kept mounts last) groups) where
+    -- what is collected leaves what the world with the changed tree keeps
+    pub collected_leave : LeaveTogether gone (kept_of (with_filesystems value plain)) base.groups (kept mounts last)
+        groups
+    collected_leave =
+        subst (λ k. LeaveTogether gone k base.groups (kept mounts last) groups)
+        (λ i. kept_with base.mounts plain (kept_is base store i).overlays)
+        (subst (λ numbers. LeaveTogether numbers (kept base.mounts (record store { plain = plain })) base.groups
+        (kept mounts last) groups) are left)
+
+    -- and the world then has the store that is left
+    pub left_is_stored : (name : TaskName) (permit : Permit ℕ)
+        → IsDone value name permit
+        (record (remade_with value mounts last.plain (map merged_of last.overlays) base.tasks) { groups = groups })
+        → IsDone value name permit (with_store last (record base { mounts = mounts; groups = groups }))
+    left_is_stored name permit is =
+        done_stored value held name permit
+        (record (remade_with value mounts last.plain (map merged_of last.overlays) base.tasks) { groups = groups }) last
+        (kept_still value held (map merged_of last.overlays))
+        (none_together gone (kept_of (with_filesystems value plain)) base.groups (kept mounts last) groups
+        (none_kept value held) collected_leave)
+        is
