@@ -1,5 +1,5 @@
 -- What lies in a layer of an overlay of a store is what the world that holds it locks.
-use Rattle.std.proofs.Common.{◌≡◌, refl, sym, ap, subst, ◌∙◌, ⊎_elim, inl, inr, true≢false, ℕ, ◌<◌, nat_eq, eqb-true, Bool, true, false, cond, not, ◌&&◌, ◌||◌, List, [], ◌∷◌, ◌++◌, filter, flat_map, map, Option, Some, None, is_some, unwrap_or}
+use Rattle.std.proofs.Common.{◌≡◌, refl, sym, ap, subst, ◌∙◌, ⊎_elim, inl, inr, true≢false, ℕ, ◌<◌, nat_eq, eq-eqb, eqb-true, Bool, true, false, cond, not, ◌&&◌, ◌||◌, List, [], ◌∷◌, ◌++◌, filter, flat_map, map, Option, Some, None, is_some, unwrap_or}
 use Rattle.std.specs.List.{list_all, list_any}
 use Rattle.std.proofs.Math.Bool.{and-false, or-false}
 use Rattle.std.proofs.lemmas.Bool.{and_parts, ltb-true}
@@ -11,22 +11,25 @@ use Rattle.vt_spec.specs.FileTree.{FileTree, has_entry_to, is_directory_under, i
 use Rattle.vt_spec.specs.Inodes.{node_in}
 use Rattle.vt_spec.specs.Lists.{holds_of}
 use Rattle.vt_spec.specs.Machine.Invariants.{is_plain_layer}
-use Rattle.vt_spec.specs.Machine.Locked.{counts_in_layer, is_locked, is_object_of, lies_in_layer, lies_or_counts_under, live_layers, of_overlay, overlay_or, overlays}
-use Rattle.vt_spec.specs.Machine.World.{Filesystem, Layer, Overlay, World, filesystem_numbered, is_overlay, layers_of}
+use Rattle.vt_spec.specs.Machine.Locked.{counts_in_layer, is_locked, is_locked_at, is_object_of, lies_in_layer, lies_or_counts_under, live_layers, of_overlay, overlay_or, overlays}
+use Rattle.vt_spec.specs.Machine.World.{Filesystem, Layer, Overlay, World, filesystem_numbered, is_overlay, layers_of, mount_at}
 use Rattle.vt_spec.specs.Tree.{Node, is_directory_node}
-use Rattle.vt_spec.specs.TreeInvariant.{IsTree}
+use Rattle.vt_spec.specs.TreeInvariant.{HasOwnParents, IsTree}
 use Rattle.vt_laws_letting_go.proofs.Lists.{among-from_filter, among-map, among_from_all, passes}
 use Rattle.vt_laws_trees.proofs.trees.TreesOfWorlds.{numbered_all}
 use Rattle.vt_group.proofs.IndexLemmas.{any_flat}
 use Rattle.vt_location.specs.declared.births.Birth.{Birth}
 use Rattle.vt_location.specs.declared.births.Birth.TheVariants.{Below, Here}
 use Rattle.vt_location.specs.declared.locations.InodeRef.{InodeRef}
+use Rattle.vt_location.specs.declared.locations.Location.{Location}
 use Rattle.vt_location.specs.declared.locations.NodeRef.{NodeRef}
-use Rattle.vt_location.specs.Locations.{inode_of, is_small_node, number_of, plain_at}
+use Rattle.vt_location.specs.Locations.{inode_of, is_small_node, location_of, number_of, plain_at}
 use Rattle.vt_location.specs.Numbers.{counted, is_own_number}
 use Rattle.vt_location.proofs.NodeLemmas.{no_inodes, small_parts}
 use Rattle.vt_location.proofs.NumberLemmas.{counted_test, own_inode, slot_of}
-use Rattle.vt_fs.specs.FilesystemsValue.{FilesystemEntry, Filesystems, entry_of, files_at, files_seen, no_entry}
+use Rattle.vt_fs.specs.FilesystemsValue.{FilesystemEntry, Filesystems, entry_of, files_at, files_seen, filesystem_seen, no_entry}
+use Rattle.vt_fs.specs.Laws.{ParentsAreNamed}
+use Rattle.vt_fs.proofs.Parents.{parents_named}
 use Rattle.vt_merge.specs.declared.layers.LayerRef.{LayerRef}
 use Rattle.vt_overlay.specs.MergedTree.{layer_seen}
 use Rattle.vt_store.specs.Locks.{is_in_layer, lies_in, lies_in_overlay}
@@ -35,7 +38,9 @@ use Rattle.vt_store.specs.StoreValue.{StoreValue}
 use Rattle.vt_world.specs.Held.{HasOwnInodes, IsHeld}
 use Rattle.vt_world.specs.StoredWorld.{overlay_of_store, overlays_of_store, with_store}
 use Rattle.vt_world.specs.WorldValue.{WorldValue, overlay_seen, overlays_seen, world_of}
-use Rattle.vt_detach.proofs.Overlaid.{overlays_are}
+use Rattle.vt_detach.specs.Looking.{is_seen}
+use Rattle.vt_detach.proofs.LookLemmas.{unseen_node}
+use Rattle.vt_detach.proofs.Overlaid.{overlays_are, plain_one_among}
 use Rattle.vt_detach.proofs.PlainFound.{counted_where_plain, overlay_among}
 
 -- tests that agree on the elements of a list are passed by some alike
@@ -304,3 +309,52 @@ module _ (base : WorldValue) (store : StoreValue) (held : IsHeld (with_store sto
       none_from_among (λ layer. lies_in_layer nat_eq world filesystem (number_of node) (layer_seen layer))
       entry.overlay.lowers
       (λ layer n. not_plain filesystem node small below entry m layer n))
+
+  -- in the tree of each plain filesystem directories are named by their parents
+  pub plain_parents : (count : ℕ) → ParentsAreNamed (files_at store.plain count).tree
+  plain_parents count = by (entry_of store.plain count) refl
+    where
+      by : (o : Option FilesystemEntry) → entry_of store.plain count ≡ o
+          → ParentsAreNamed (files_seen (unwrap_or o (no_entry count))).tree
+      by None e = λ directory other. ap not (sym (eq-eqb directory directory refl))
+      by (Some entry) e =
+          let among = plain_one_among kept held.overlays.merged entry
+          (found_among (λ (one : FilesystemEntry). nat_eq count one.count) store.plain entry e) in
+          parents_named (files_seen entry).tree
+          (among_from_all (λ (f : Filesystem ℕ). IsTree f.files.tree) world.filesystems held.in_world.files.trees
+          (filesystem_seen entry) among)
+          (among_from_all (λ (f : Filesystem ℕ). HasOwnParents f.files.tree) world.filesystems
+          held.in_world.files.own_parents (filesystem_seen entry) among)
+
+  module _ (value : WorldValue) (is : with_store store base ≡ value) (at : Location)
+      (small : is_small_node at.node ≡ true) where
+    -- an inode that is seen is locked just where it lies in a layer
+    pub seen_locked : (inode : InodeRef) → plain_at at.node at.node.birth ≡ Some inode → is_seen value at ≡ true
+        → is_in_layer store inode.filesystem.count (inode_of inode)
+        ≡ is_locked_at nat_eq (world_of value) (location_of at)
+    seen_locked inode plain =
+        subst (λ (v : WorldValue). is_seen v at ≡ true
+        → is_in_layer store inode.filesystem.count (inode_of inode)
+        ≡ is_locked_at nat_eq (world_of v) (location_of at)) is
+        (λ seen.
+        let same = plain_number at.node inode plain in
+        locks_are inode.filesystem.count (inode_of inode)
+        ∙ (λ i. is_locked nat_eq (world_of kept) (counted (same.filesystem i)) (same.number i))
+        ∙ ap (λ n. is_locked nat_eq (world_of kept) n (number_of at.node))
+        (sym (eqb-true (mount_at nat_eq (world_of kept) (location_of at)).filesystem
+        (counted at.node.filesystem.count) seen)))
+
+    pub unseen_unlocked : is_seen value at ≡ false
+        → is_locked_at nat_eq (world_of value) (location_of at) ≡ false
+    unseen_unlocked =
+        subst (λ (v : WorldValue). is_seen v at ≡ false
+        → is_locked_at nat_eq (world_of v) (location_of at) ≡ false) is
+        (λ unseen. none_there (mount_at nat_eq (world_of kept) (location_of at)).filesystem (number_of at.node)
+        (unseen_node kept held at small unseen))
+
+    pub below_unlocked : plain_at at.node at.node.birth ≡ None
+        → is_locked_at nat_eq (world_of value) (location_of at) ≡ false
+    below_unlocked none =
+        subst (λ (v : WorldValue). is_locked_at nat_eq (world_of v) (location_of at) ≡ false) is
+        (none_below (mount_at nat_eq (world_of kept) (location_of at)).filesystem at.node small
+        (born_below at.node none))
