@@ -1,15 +1,16 @@
 //! What the attachment of mounts is made of beside their entries: room for their uses, and their uses.
-ghost use Rattle.std.specs.Prelude.{◌≡◌, ◌-◌, ◌*◌, length, map, true};
+ghost use Rattle.std.specs.Prelude.{◌≡◌, ◌-◌, ◌*◌, length, map, nat_le, true};
 ghost use Rattle.std.specs.List.{list_all};
 ghost use Rattle.vt_fs.specs.FilesystemsValue.{shown};
+ghost use Rattle.vt_location.specs.Locations.{is_small_node};
 ghost use Rattle.vt_spec.specs.Lists.{folded};
 ghost use Rattle.vt_attach.specs.Room as meant;
-ghost use Rattle.vt_attach.specs.Room.{has_small_nodes, merged_has_room, most_counted, point_is_small};
+ghost use Rattle.vt_attach.specs.Room.{has_small_nodes, merged_has_room, most_counted, point_is_small, uses_shown};
 ghost use Rattle.vt_detach.specs.Stored.{OverlaysStay, merged_of};
-ghost use Rattle.vt_detach.specs.Uses.{merged_by, pinned_at, shown_by};
+ghost use Rattle.vt_detach.specs.Uses.{inode_of, merged_by, pinned_at, shown_by};
 
 use vt_fs::Filesystems;
-use vt_location::{Location, Mount};
+use vt_location::{Location, Mount, NodeRef};
 use vt_store::Store;
 
 // Whether the roots, the mount points and the filesystems of mounts have no more uses than so many.
@@ -30,9 +31,17 @@ fn has_room(filesystems: &Filesystems, mount: Mount, most: u64) -> bool
     ensures room { result ≡ meant.has_room most (shown filesystems.now) mount }
     ensures slots { has_small_nodes mount ≡ true }
 {
-    filesystems.uses(mount.root) <= most
+    node_has_room(filesystems, mount.root, most)
         && point_has_room(filesystems, mount.mount_point, most)
         && filesystems.mounts(mount.root.filesystem) <= most
+}
+
+// Whether a node has no more uses than so many.
+fn node_has_room(filesystems: &Filesystems, node: NodeRef, most: u64) -> bool
+    ensures room { result ≡ nat_le (uses_shown (inode_of node) (shown filesystems.now)) most }
+    ensures slots { is_small_node node ≡ true }
+{
+    filesystems.uses(node) <= most
 }
 
 // Whether a mount point has no more uses than so many.
@@ -41,7 +50,7 @@ fn point_has_room(filesystems: &Filesystems, point: Option<Location>, most: u64)
     ensures slots { point_is_small point ≡ true }
 {
     match point {
-        Some(point) => filesystems.uses(point.node) <= most,
+        Some(point) => node_has_room(filesystems, point.node, most),
         None => true,
     }
 }
