@@ -96,9 +96,10 @@ impl Look for World {
 
     fn parent(&self, at: Location) -> NodeRef {
         if !self.is_seen(at) {
-            return at.node;
+            at.node
+        } else {
+            self.store.parent(at.node)
         }
-        self.store.parent(at.node)
     }
 
     #[inline(always)]

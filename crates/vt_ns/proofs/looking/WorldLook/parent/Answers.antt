@@ -16,8 +16,8 @@ returns-then-not-is_seen c =
     (sym (no_node (the_view c.self.inside) c.self.inside.store c.args.self.now c.self.view_is c.self.invariant c.args.at
     (search rules) (sym c.is_seen.ensures ∙ c.if-not-is_seen.true)))
 
-pub returns : goal.returns
-returns c =
+pub returns-else-not-is_seen : goal.returns-else-not-is_seen
+returns-else-not-is_seen c =
     c.parent.ensures
     ∙ ap (λ (node : Option (Node ℕ)). parent_in (number_of c.args.at.node) node)
     (node_is (the_view c.self.inside) c.self.inside.store c.args.self.now c.self.view_is c.self.invariant c.args.at

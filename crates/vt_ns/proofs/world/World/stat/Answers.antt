@@ -10,13 +10,16 @@ use Rattle.vt_ns.specs.Lent.{real_of_value}
 use Rattle.vt_ns.specs.Told.{told_by}
 use Rattle.vt_ns.specs.contracts.world.World.{the_view}
 use Rattle.vt_ns.proofs.looking.MarksTold.{none_lent, told_is}
+use Rattle.vt_ns.proofs.looking.OverlaysLooked.{overlay_is}
 use Rattle.vt_ns.proofs.world.World.stat.Goals as goal
 
 pub returns-in-Some : goal.returns-in-Some
 returns-in-Some c =
     let at = location_of c.args.object in
     c.told.ensures
-    ∙ (λ i. told_by (c.is_overlay.ensures i) ((sym (ap option_copied c.in-Some.is) ∙ c.node.ensures) i))
+    ∙ (λ i. told_by ((c.is_overlay.ensures
+    ∙ overlay_is (the_view c.self.inside) c.self.inside.store c.args.self.now c.self.view_is c.self.invariant at
+    c.shown.result.count c.shown.ensures) i) ((sym (ap option_copied c.in-Some.is) ∙ c.node.ensures) i))
     ∙ subst (λ (v : WorldValue). told_by (is_overlay_at (looks_of_value v) at) (real_of_value v at)
     ≡ stat_line (node_at nat_eq (world_of v) at)) c.self.view_is
     (told_is (the_view c.self.inside) c.self.inside.store c.self.invariant c.args.object)
