@@ -1,7 +1,7 @@
 -- Mounts of a list leave their namespaces one after the other.
 use Rattle.std.proofs.Common.{◌≡◌, refl, sym, ap, subst, ◌∙◌, ℕ, nat_eq, Bool, true, false, true≢false, cond, ◌+◌, ◌||◌, List, [], ◌∷◌, ◌++◌, map, Option, Some, None, option_map, is_some, unwrap_or}
 use Rattle.std.specs.Option.{option_and_then}
-use Rattle.std.specs.Prelude.{IfSome, option_to_list, ◌<◌}
+use Rattle.std.specs.Prelude.{IfSome, option_to_list}
 use Rattle.vt_spec.specs.Lists.{folded, is_among}
 use Rattle.vt_spec.specs.Machine.Mounts.{Mount, detached, mount_in, no_mount}
 use Rattle.vt_spec.specs.Machine.World.{World, mount_at}

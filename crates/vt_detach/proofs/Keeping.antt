@@ -1,7 +1,7 @@
 -- What code keeps of a world while mounts leave their namespaces, and what it keeps once one that nothing uses has
 -- gone.
 use Rattle.std.proofs.Common.{◌≡◌, refl, sym, ap, ◌∙◌, ℕ, ◌+◌, nat_eq, eqb-true, Bool, true, false, cond, not, List, [], ◌∷◌, ◌++◌, map, filter, find, Some, None, unwrap_or}
-use Rattle.std.specs.Prelude.{All, if◌then◌else◌, option_to_list, ◌<◌}
+use Rattle.std.specs.Prelude.{All, if◌then◌else◌, option_to_list}
 use Rattle.vt_spec.specs.Lists.{is_among}
 use Rattle.vt_spec.specs.Machine.Mounts.{Location as Place, Mount, detached, mount_in, no_mount}
 use Rattle.vt_spec.specs.Machine.Settled.{without_dead_filesystems}

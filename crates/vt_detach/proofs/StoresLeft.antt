@@ -1,5 +1,5 @@
 -- A store in which a filesystem has one mount less, as contracts of vt_store change it.
-use Rattle.std.proofs.Common.{◌≡◌, ◌≢◌, refl, sym, ap, subst, ◌∙◌, ℕ, nat_eq, ◌-◌, eq-eqb, ne_eqb, Bool, true, false, true≢false, cond, not, List, [], ◌∷◌, map, filter, find, Option, Some, None, is_some, option_map, unwrap_or}
+use Rattle.std.proofs.Common.{◌≡◌, ◌≢◌, refl, sym, ap, subst, ◌∙◌, ℕ, nat_eq, ◌-◌, eq-eqb, ne_eqb, Bool, true, false, true≢false, cond, not, List, [], ◌∷◌, map, find, Option, Some, None, is_some, option_map, unwrap_or}
 use Rattle.std.specs.Prelude.{IfSome}
 use Rattle.std.proofs.lemmas.Option.{same_Some}
 use Rattle.vt_spec.specs.Lists.{folded}
@@ -17,7 +17,7 @@ use Rattle.vt_store.specs.LayersHeld.{lowers_in, without_layers}
 use Rattle.vt_store.specs.OverlaysValue.{OverlayEntry, Overlays, entry_kept, overlay_of, with_overlay_changed, without_overlay}
 use Rattle.vt_store.specs.StoreValue.{StoreValue, entry_in}
 use Rattle.vt_detach.specs.Stored.{kept, layer_of, merged_of}
-use Rattle.vt_detach.specs.Uses.{leave_filesystem, let_go_filesystem, merged_at, merged_left_by, mounts_shown, released_in, released_merged, shown_left_by, unpinned_in, without_layer, without_merged}
+use Rattle.vt_detach.specs.Uses.{leave_filesystem, let_go_filesystem, merged_at, merged_left_by, mounts_shown, released_in, released_merged, shown_left_by, without_layer, without_merged}
 use Rattle.vt_detach.proofs.Shown.{is_some_mapped, unpinned_shown}
 
 -- Overlays by their numbers

@@ -1,12 +1,12 @@
 -- Descriptors that are open for writing are in no overlay, after an event, too.
-use Rattle.std.proofs.Common.{◌≡◌, sym, subst, ◌∙◌, ℕ, nat_eq, false, true, List}
+use Rattle.std.proofs.Common.{◌≡◌, sym, subst, ℕ, nat_eq, false, true, List}
 use Rattle.std.specs.List.{list_all}
 use Rattle.vt_spec.specs.Lists.{Fresh}
 use Rattle.vt_spec.specs.Machine.Looks.{looks_of}
 use Rattle.vt_spec.specs.Machine.Mounts.{Location}
 use Rattle.vt_spec.specs.Machine.Permits.{Permit}
 use Rattle.vt_spec.specs.Machine.Rules.Conditions.{has_no_upper}
-use Rattle.vt_spec.specs.Machine.World.{Descriptor, Task, World}
+use Rattle.vt_spec.specs.Machine.World.{Task, World}
 use Rattle.vt_laws_given.specs.LeftWorlds.{IsGivenToTask}
 use Rattle.vt_laws_letting_go.proofs.Lists.{all_pass, passes}
 use Rattle.vt_laws_overlays_read.specs.Writers.{WritersHaveLayers, writes_to_a_layer}

@@ -1,7 +1,7 @@
 -- What a task leaves with its namespace. With its last task a namespace ends, and its mounts are detached:
 -- mount_namespaces(7).
 use Rattle.std.specs.List.{list_any}
-use Rattle.std.specs.Prelude.{Bool, IfSome, List, None, Option, Some, [], false, filter, find, if◌then◌else◌, map, nat_eq, nat_le, nat_lt, not, option_map, true, ℕ, ◌<◌, ◌-◌, ◌∷◌, ◌≡◌, ◌^◌}
+use Rattle.std.specs.Prelude.{Bool, IfSome, List, None, Option, Some, [], false, filter, find, if◌then◌else◌, map, nat_eq, nat_le, not, option_map, true, ℕ, ◌-◌, ◌∷◌, ◌≡◌}
 use Rattle.vt_location.specs.declared.locations.Location.{Location}
 use Rattle.vt_location.specs.Locations.{is_small_node, location_of}
 use Rattle.vt_group.specs.Grouping.{Grouping}
