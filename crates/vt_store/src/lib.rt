@@ -5,6 +5,7 @@ mod counting;
 mod laws;
 mod layers;
 mod leaving;
+mod locks;
 mod looking;
 mod overlays;
 mod paths;
