@@ -10,3 +10,6 @@ pub mod OverlaysCome
 pub mod TreesStay
 pub mod Woven
 pub mod WovenLast
+pub mod Ranked
+pub mod Scanned
+pub mod Locked
