@@ -13,3 +13,4 @@ pub mod WovenLast
 pub mod Ranked
 pub mod Scanned
 pub mod Locked
+pub mod AnyOverlay

@@ -12,7 +12,9 @@ use Rattle.vt_spec.proofs.Options.{none_is_some}
 use Rattle.vt_spec.specs.FileTree.{has_entry_to}
 use Rattle.vt_spec.specs.Inodes.{Inode}
 use Rattle.vt_spec.specs.Lists.{is_among}
-use Rattle.vt_spec.specs.Tree.{Node, Tree, entries_in, entries_of}
+use Rattle.vt_spec.specs.Rights.{is_directory}
+use Rattle.vt_spec.specs.Tree.{Content, Node, Tree, entries_in, entries_of, is_directory_node, kind_of}
+use Rattle.vt_spec.specs.Tree.Content.{Directory, Regular, Symlink, Whiteout}
 use Rattle.vt_store.proofs.Ranked.{some_ranked}
 use Rattle.vt_store.proofs.Scanned.{Slots}
 use Rattle.vt_tree.specs.TreeValue.{TreeValue}
@@ -74,3 +76,16 @@ vacant_slot slots slot o there none =
     by : (found : Option (Inode ℕ)) → is_some found ≡ false → found ≡ None
     by None e = refl
     by (Some inode) e = absurd (true≢false e)
+
+-- a node keeps its kind, by slots and by numbers
+pub directory_seen : (count : ℕ) (node : Node ℕ)
+    → is_directory_node (Some (node_seen count node)) ≡ is_directory (kind_of node.content)
+directory_seen count node = by node.content
+  where
+    by : (content : Content ℕ)
+        → is_directory_node (Some (node_seen count (record { attr = node.attr; content = content })))
+        ≡ is_directory (kind_of content)
+    by (Directory parent entries opaque) = refl
+    by (Regular bytes) = refl
+    by (Symlink text) = refl
+    by Whiteout = refl
