@@ -1,5 +1,6 @@
 -- Whether some overlay passes a test, in whatever order they are kept.
-use Rattle.std.proofs.Common.{Bool, List, None, Some, [], ap, cond, drop, false, map, refl, suc, sym, true, zero, ℕ, ◌+◌, ◌||◌, ◌∙◌, ◌∷◌, ◌≡◌}
+use Rattle.std.proofs.Common.{Bool, List, None, Some, [], ap, cond, arith, drop, false, length, map, refl, slice_get, suc, sym, true, zero, ℕ, ◌+◌, ◌||◌, ◌∙◌, ◌∷◌, ◌≡◌, ◌≤◌}
+use Rattle.std.proofs.lemmas.Option.{same_Some}
 use Rattle.std.proofs.lemmas.Map.Keys.{IsDistinct-head, IsDistinct-tail}
 use Rattle.std.specs.FinMap.Entries.{by_order, find, put}
 use Rattle.std.specs.List.{AllByRecursion, IsDistinct, list_any}
@@ -12,6 +13,8 @@ use Rattle.vt_location.specs.InOrder.{cmp_by, in_order_by}
 use Rattle.vt_location.specs.declared.numbers.FilesystemId.{FilesystemId}
 use Rattle.vt_spec.proofs.Options.{none_is_some}
 use Rattle.vt_store.proofs.KeptOverlays.{count_of, key_eq}
+use Rattle.vt_fs.specs.FilesystemsValue.{Filesystems}
+use Rattle.vt_store.specs.Locks.{lies_in_overlay}
 use Rattle.vt_store.specs.OverlaysValue.{OverlayEntry, kept_overlay, kept_overlays}
 use Rattle.vt_store.specs.declared.overlays.KeptOverlay.{KeptOverlay}
 
@@ -60,3 +63,23 @@ any-kept test es distinct =
         → list_any test (map kept_overlay kept) ≡ list_any (λ e. test (kept_overlay e)) kept
     mapped [] = refl
     mapped (e ∷ kept) = ap (λ b. test (kept_overlay e) || b) (mapped kept)
+
+-- an inode lies in a layer of an overlay, as it is kept
+abbrev pub lies_in_kept : Filesystems → ℕ → ℕ → FilesystemId × KeptOverlay → Bool
+lies_in_kept plain count number kept = lies_in_overlay plain count number (kept_overlay kept)
+
+-- the next of some that are left
+pub next-kept : {A : Type 0} (k : ℕ) (list : List A) (a : A) → slice_get list k ≡ Some a
+    → drop k list ≡ a ∷ drop (k + 1) list
+next-kept k [] a e = none_is_some a e
+next-kept zero (first ∷ list) a e = ap (λ x. x ∷ list) (same_Some first a e)
+next-kept (suc k) (first ∷ list) a e =
+    next-kept k list a e
+    ∙ ap (λ n. a ∷ drop n (first ∷ list)) (let one : suc (k + 1) ≡ suc k + 1 = omega arith in one)
+
+-- none is left
+pub none-left : {A : Type 0} (k : ℕ) (list : List A) → length list ≤ k → drop k list ≡ []
+none-left zero [] most = refl
+none-left (suc k) [] most = refl
+none-left zero (first ∷ list) most = absurd (let no : ⊥ = omega (arith, most) in no)
+none-left (suc k) (first ∷ list) most = none-left k list (omega (arith, most))
