@@ -1,10 +1,10 @@
 //! Tasks end: _exit(2).
-ghost use Rattle.std.specs.Prelude.{◌≡◌, fold, nat_lt, true};
+ghost use Rattle.std.specs.Prelude.{◌≡◌, fold, true};
 ghost use Rattle.std.specs.List.{list_all};
 ghost use Rattle.vt_spec.specs.Machine.Permits.Permit.{ToExit};
 ghost use Rattle.vt_detach.specs.Events.{Becomes, Permits};
-ghost use Rattle.vt_detach.specs.NamespacesLeft.{has_slot, without_file};
-ghost use Rattle.vt_detach.specs.Stored.{kept};
+ghost use Rattle.vt_detach.specs.NamespacesLeft.{is_small_file, without_file};
+ghost use Rattle.vt_detach.specs.Stored.{OverlaysLeft, kept};
 
 use crate::world::World;
 use vt_detach::ending::leave_namespace;
@@ -37,7 +37,8 @@ impl World {
 // One use less for each of these open files.
 fn leave_files(mounts: &mut Mounts, store: &mut Store, files: &[OpenFile])
     ensures left { kept mounts.new store.new ≡ fold without_file (kept mounts.old store.old) files.now }
-    ensures slots { list_all has_slot files.now ≡ true }
+    ensures overlays { OverlaysLeft store.old.overlays store.new.overlays }
+    ensures slots { list_all is_small_file files.now ≡ true }
 {
     for file in files {
         leave(mounts, store, file.location, file.access.writes());

@@ -1,5 +1,6 @@
 //! A task that forks: fork(2).
-ghost use Rattle.std.specs.Prelude.{◌<◌, ◌↔◌, ◌≡◌, IfOk, IfSome, OnErr, OnOk, Some, false, find, nat_eq, option_map, true, unwrap_or, ◌^◌};
+ghost use Rattle.std.specs.Prelude.{◌<◌, ◌↔◌, ◌≡◌, IfOk, IfSome, OnErr, OnOk, Some, false, find, nat_eq, option_map, true, unwrap_or};
+ghost use Rattle.vt_location.specs.Locations.{is_small_node};
 ghost use Rattle.vt_spec.specs.Machine.Tasks.{child_name};
 ghost use Rattle.vt_spec.specs.Machine.Permits.Permit.{ToFork};
 ghost use Rattle.vt_spec.specs.Machine.World.{task_called};
@@ -61,7 +62,8 @@ pub(crate) fn has_room(more: u64, mounts: &Mounts, store: &Store, at: Location) 
 pub(crate) fn hold_once_more(mounts: &mut Mounts, store: &mut Store, at: Location, writes: bool)
     requires { HasRoom 1 at mounts.old store.old.plain }
     ensures held { kept mounts.new store.new ≡ with_location at writes (kept mounts.old store.old) }
-    ensures slot { at.node.slot < 2 ^ 64 }
+    ensures overlays { store.new.overlays ≡ store.old.overlays }
+    ensures slot { is_small_node at.node ≡ true }
 {
     // It cannot fail: there is room.
     let _ = hold(mounts, store, at, writes);

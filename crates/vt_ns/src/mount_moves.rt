@@ -1,6 +1,6 @@
 //! The event of a mount that gets another mount point: mount(2) with `MS_MOVE`.
 ghost use Rattle.std.specs.Prelude.{◌+◌, ◌<◌, ◌≤◌, ◌≡◌, IfOk, IfSome, OnErr, OnOk, false, is_some, map, nat_eq, option_map, true, ◌^◌};
-ghost use Rattle.vt_location.specs.Locations.{location_of};
+ghost use Rattle.vt_location.specs.Locations.{is_small_node, location_of};
 ghost use Rattle.vt_location.specs.MountValue.{mount_of};
 ghost use Rattle.vt_location.specs.Numbers.{counted, mount_number};
 ghost use Rattle.vt_mount.specs.MountsValue.{mounts_in};
@@ -140,7 +140,7 @@ impl World {
     pub(crate) fn mount_point(&self, mount: MountId) -> Option<Location>
         ensures point { option_map location_of result
             ≡ (mount_numbered nat_eq (world_of self.now) (mount_number mount)).mount_point }
-        ensures slot { IfSome result (λ point. point.node.slot < 2 ^ 64) }
+        ensures slot { IfSome result (λ point. is_small_node point.node ≡ true) }
     {
         self.mounts.get(mount)?.mount_point
     }

@@ -1,6 +1,6 @@
 //! The event of a mount that becomes the root mount: pivot_root(2).
-ghost use Rattle.std.specs.Prelude.{◌<◌, ◌≡◌, OnErr, OnOk, ◌^◌};
-ghost use Rattle.vt_location.specs.Locations.{location_of};
+ghost use Rattle.std.specs.Prelude.{◌≡◌, OnErr, OnOk, true};
+ghost use Rattle.vt_location.specs.Locations.{is_small_node, location_of};
 ghost use Rattle.vt_location.specs.Numbers.{mount_number};
 ghost use Rattle.vt_spec.specs.Machine.Permits.Permit.{ToPivot};
 ghost use Rattle.vt_detach.specs.Events.{Becomes, Permits};
@@ -63,7 +63,8 @@ impl World {
 fn hold_each(mounts: &mut Mounts, store: &mut Store, at: Location, uses: u64)
     requires { HasRoom uses at mounts.old store.old.plain }
     ensures held { kept mounts.new store.new ≡ with_uses uses at (kept mounts.old store.old) }
-    ensures slot { at.node.slot < 2 ^ 64 }
+    ensures overlays { store.new.overlays ≡ store.old.overlays }
+    ensures slot { is_small_node at.node ≡ true }
 {
     for _ in 0..uses {
         hold_once_more(mounts, store, at, false);
@@ -73,7 +74,8 @@ fn hold_each(mounts: &mut Mounts, store: &mut Store, at: Location, uses: u64)
 // So many uses less of a location that is in use by others too. It does not allocate.
 fn release_each(mounts: &mut Mounts, store: &mut Store, at: Location, uses: u64)
     ensures left { kept mounts.new store.new ≡ without_uses uses at (kept mounts.old store.old) }
-    ensures slot { at.node.slot < 2 ^ 64 }
+    ensures overlays { store.new.overlays ≡ store.old.overlays }
+    ensures slot { is_small_node at.node ≡ true }
 {
     for _ in 0..uses {
         mounts.release(at.mount, false);

@@ -81,9 +81,10 @@ impl World {
         ensures ok { IfOk result (λ bytes. bytes.items ≡ take part.size
             (drop part.offset (bytes_in (node_at nat_eq (world_of self.now) (location_of part.file))))) }
     {
-        self.store
-            .plain()
-            .read_part(part.file.node, part.offset, part.size)
+        match self.node(part.file) {
+            Some(node) => copied_bytes(self.alloc, node.bytes_part(part.offset, part.size)),
+            None => Ok(Vec::new(self.alloc)),
+        }
     }
 }
 

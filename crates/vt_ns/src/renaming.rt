@@ -1,5 +1,6 @@
 //! The event that renames: rename(2).
-ghost use Rattle.std.specs.Prelude.{◌<◌, ◌≡◌, IfOk, IfSome, OnErr, OnOk, map, ◌^◌};
+ghost use Rattle.std.specs.Prelude.{◌≡◌, IfOk, IfSome, OnErr, OnOk, map, true};
+ghost use Rattle.vt_location.specs.Locations.{is_small_node};
 ghost use Rattle.vt_location.specs.Numbers.{mount_number};
 ghost use Rattle.vt_mount.specs.MountsValue.{mounts_in};
 ghost use Rattle.vt_permits.specs.GrantValue.{remove_permit};
@@ -51,7 +52,7 @@ fn trees_replaced(
 ) -> Result<Vec<MountId>, AllocError>
     ensures ok { IfOk result (λ ids. map mount_number ids.items
         ≡ trees_of_replaced (mounts_in mounts.now) replaced) }
-    ensures slot { IfSome replaced (λ other. other.node.slot < 2 ^ 64) }
+    ensures small { IfSome replaced (λ other. is_small_node other.node ≡ true) }
 {
     match replaced {
         Some(other) => trees_on(mounts, other.node, alloc),

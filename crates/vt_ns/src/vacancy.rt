@@ -21,6 +21,7 @@ impl World {
     {
         self.mounts.are_counted();
         self.mounts.groups_are_counted();
+        let _next = self.next;
         let filesystem = self.shown(directory.mount);
         if let Some(next) = self.store.plain().next_number(filesystem) {
             let _slot = next.slot;
@@ -33,5 +34,6 @@ impl World {
     {
         self.mounts.are_counted();
         self.mounts.groups_are_counted();
+        let _next = self.next;
     }
 }

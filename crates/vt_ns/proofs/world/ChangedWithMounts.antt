@@ -1,5 +1,5 @@
 -- A tree is changed first, and then mounts are detached that stand on what is removed: rmdir(2), rename(2).
-use Rattle.std.proofs.Common.{◌≡◌, refl, sym, ap, subst, ◌∙◌, ℕ, nat_eq, eq-eqb, Bool, true, false, cond, not, ◌&&◌, List, [], ◌∷◌, ◌++◌, map, filter, flat_map, None, Some}
+use Rattle.std.proofs.Common.{◌≡◌, refl, sym, ap, subst, ◌∙◌, ℕ, nat_eq, eq-eqb, Bool, true, false, cond, not, ◌&&◌, List, [], ◌∷◌, ◌++◌, map, filter, flat_map, Option, None, Some, option_map, is_some}
 use Rattle.std.specs.Prelude.{filter_map}
 use Rattle.std.specs.List.{list_all, list_any}
 use Rattle.vt_spec.specs.Language.Calls.{TaskName}
@@ -16,7 +16,7 @@ use Rattle.vt_spec.specs.Machine.Receives.{inheriting, lost_a_group, regrouped, 
 use Rattle.vt_spec.specs.Machine.SameWorlds.{SameWorlds}
 use Rattle.vt_spec.specs.Machine.Settled.{layers_in, located_in, named_in, objects_of_overlay, settled}
 use Rattle.vt_spec.specs.Machine.Locked.{overlay_or}
-use Rattle.vt_spec.specs.Machine.World.{Filesystem, World, all_locations, filesystem_at, filesystem_numbered, is_overlay, mount_at, replaced_if_numbered, with_filesystem}
+use Rattle.vt_spec.specs.Machine.World.{Filesystem, Overlay, World, all_locations, filesystem_at, filesystem_numbered, is_overlay, mount_at, replaced_if_numbered, with_filesystem}
 use Rattle.vt_spec.specs.Machine.Invariants.{IsWorld, ListsNumbers, OverlayInvariants, TreeInvariants, is_within_limits}
 use Rattle.vt_spec.specs.TreeInvariant.{IsTree}
 use Rattle.vt_laws_counts.specs.Changing.{filesystem_of}
@@ -28,6 +28,10 @@ use Rattle.vt_laws_permits.proofs.named.PermitsKeepTo.{permits_keep_to_numbers}
 use Rattle.vt_laws_one_text.proofs.same.SameNumbers.{any_same_worlds_keep_to_numbers}
 use Rattle.vt_laws_one_text.proofs.same.SameWhole.{any_same_worlds_are_worlds}
 use Rattle.vt_laws_overlay_permits.proofs.kept.KeptOverlays.{overlays_in}
+use Rattle.vt_laws_overlay_permits.proofs.worlds.LowersGoOn.{Layers, changed_layers, layers, layers_at}
+use Rattle.vt_laws_overlays_read.specs.Writers.{WritersHaveLayers}
+use Rattle.vt_laws_overlays_read.proofs.writers.Swept.{same_worlds_have_layers_alike, sweeps_keep_writers, writers_alike}
+use Rattle.vt_detach.proofs.Writers.{left_writers}
 use Rattle.vt_laws_overlay_permits.proofs.worlds.SweptWorlds.{settling_leaves_every_world}
 use Rattle.vt_laws_overlays_stay.proofs.left.Given.{given_permits_are_under_way_without_upper, given_permits_give_no_upper}
 use Rattle.vt_laws_letting_go.proofs.Lists.{Among, all_from_among, among-append_right, among-filter, among-filter_map, among-map, among_from_all, is_among_left, is_among_numbers, is_among_right, map_same, or_second}
@@ -76,6 +80,22 @@ use Rattle.vt_detach.proofs.UnmountedLazily.{all_detached}
 use Rattle.vt_spec.proofs.Worlds.{shown-mapped}
 use Rattle.vt_laws_letting_go.specs.TreesOverlays.{in_use_of}
 
+-- whether an overlay has no upper layer is told by its layers
+
+abbrev lacking : Option Layers → Bool
+lacking None = false
+lacking (Some all) = not (is_some all.0)
+
+lacks_by_layers : (o : Option (Overlay ℕ))
+    → overlay_or false (λ overlay. not (is_some overlay.upper)) o ≡ lacking (option_map layers o)
+lacks_by_layers None = refl
+lacks_by_layers (Some overlay) = refl
+
+lacks_alike : (a b : Option (Overlay ℕ)) → option_map layers a ≡ option_map layers b
+    → overlay_or false (λ overlay. not (is_some overlay.upper)) a
+    ≡ overlay_or false (λ overlay. not (is_some overlay.upper)) b
+lacks_alike a b same = lacks_by_layers a ∙ ap lacking same ∙ sym (lacks_by_layers b)
+
 module _ (value : WorldValue) (held : IsHeld value) (location : Location ℕ) (change : Change ℕ)
     (filesystems : Filesystems)
     (made : ChangesFiles value location change filesystems) where
@@ -98,6 +118,18 @@ module _ (value : WorldValue) (held : IsHeld value) (location : Location ℕ) (c
   pub changed_is : (fresh : Fresh ℕ) → changed_first fresh ≡ with_filesystem nat_eq world changed_files
   changed_is fresh = ap (λ overlay.
       filesystem_changed nat_eq fresh world (filesystem_at nat_eq world location) overlay change) no_overlay
+
+  -- it leaves each overlay its layers, so no descriptor is open for writing in one
+  pub change_keeps_writers : (fresh : Fresh ℕ) → WritersHaveLayers (changed_first fresh)
+  change_keeps_writers fresh =
+      subst WritersHaveLayers (sym (changed_is fresh))
+      (writers_alike world (with_filesystem nat_eq world changed_files) (λ at.
+      lacks_alike (filesystem_at nat_eq (with_filesystem nat_eq world changed_files) at).overlay
+      (filesystem_at nat_eq world at).overlay
+      (subst (λ w. layers_at w (mount_at nat_eq world at).filesystem
+      ≡ layers_at world (mount_at nat_eq world at).filesystem) (changed_is fresh)
+      (changed_layers fresh world location change (mount_at nat_eq world at).filesystem)))
+      (λ test. refl) held.overlays.writers)
 
   -- mounts that are detached and a tree that is changed are apart
   pub changed_detached : (fresh : Fresh ℕ) (gone : List ℕ)
@@ -238,6 +270,11 @@ module _ (value : WorldValue) (held : IsHeld value) (location : Location ℕ) (c
         (change_is_swept value held location change filesystems made (λ k. 0))
         (permits_keep_to_numbers (is_counted_before value.next) (λ k. 0) world permits.task (ToChange location change)
         permits.given.called held.given (λ k. refl) named))
+        (same_worlds_have_layers_alike (settled nat_eq (changed_first fresh))
+        (world_of (with_filesystems value filesystems))
+        (change_is_swept value held location change filesystems made fresh)
+        (sweeps_keep_writers (changed_first fresh)
+        (change_keeps_writers fresh)))
 
     abbrev number : ℕ
     number = filesystem_of world location
@@ -421,6 +458,12 @@ module _ (value : WorldValue) (held : IsHeld value) (location : Location ℕ) (c
             any_same_worlds_are_worlds (settled nat_eq (regrouped nat_eq last)) (settled nat_eq typed) same_typed
             left_world
 
+        writers_after : WritersHaveLayers (settled nat_eq typed)
+        writers_after =
+            same_worlds_have_layers_alike (settled nat_eq (regrouped nat_eq last)) (settled nat_eq typed) same_typed
+            (subst (λ w. WritersHaveLayers (settled nat_eq w)) (leaves fresh)
+            (left_writers value held permits.task permit permits.given))
+
         has_typed : Has (settled nat_eq typed) groups
         has_typed =
             settled_typed_has after groups has_after
@@ -461,7 +504,8 @@ module _ (value : WorldValue) (held : IsHeld value) (location : Location ℕ) (c
                   (settled nat_eq (apply nat_eq (λ k. 0) world permits.task permit).world) (world_of new)
                   (subst (λ w. SameWorlds (settled nat_eq w) (world_of new)) (sym (leaves (λ k. 0))) same)
                   (permits_keep_to_numbers (is_counted_before value.next) (λ k. 0) world permits.task permit
-                  permits.given.called held.given (λ k. refl) is_named));
+                  permits.given.called held.given (λ k. refl) is_named))
+                  writers_after;
               becomes = becomes_so value name permit new permits.task permits.called
                   (subst (λ w. SameWorlds (settled nat_eq w) (world_of new)) (sym (leaves fresh)) same);
             }

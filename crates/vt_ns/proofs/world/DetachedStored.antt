@@ -9,16 +9,18 @@ use Rattle.vt_location.specs.declared.numbers.MountId.{MountId}
 use Rattle.vt_mount.specs.MountsValue.{MountEntry}
 use Rattle.vt_store.specs.StoreValue.{StoreValue}
 use Rattle.vt_detach.specs.Detached.{LeaveTogether}
-use Rattle.vt_detach.specs.Stored.{kept, merged_of}
+use Rattle.vt_detach.specs.Events.{Permits}
+use Rattle.vt_detach.specs.Stored.{OverlaysLeft, kept, merged_of}
 use Rattle.vt_detach.specs.Uses.{kept_of, kept_with}
 use Rattle.vt_world.specs.Held.{IsHeld}
 use Rattle.vt_world.specs.StoredWorld.{with_store}
 use Rattle.vt_world.specs.WorldValue.{WorldValue}
 use Rattle.vt_detach.proofs.ChangedFiles.{with_filesystems}
+use Rattle.vt_detach.proofs.OverlaysListed.{done_in_store}
 use Rattle.vt_detach.proofs.Remaining.{remade_with}
 use Rattle.vt_detach.proofs.Staying.{IsDone}
 use Rattle.vt_ns.proofs.world.MountsOn.{none_counted, some_counted}
-use Rattle.vt_ns.proofs.world.StoresKept.{done_stored, kept_is, kept_still, none_kept, none_together}
+use Rattle.vt_ns.proofs.world.StoresKept.{kept_is}
 
 module _ (base : WorldValue) (store : StoreValue) (held : IsHeld (with_store store base)) (ids : List MountId)
     (gone : List ℕ) (are : map (λ id. counted id.count) ids ≡ gone) where
@@ -46,14 +48,11 @@ module _ (base : WorldValue) (store : StoreValue) (held : IsHeld (with_store sto
         (kept mounts last) groups) are left)
 
     -- and the world then has the store that is left
-    pub left_is_stored : (name : TaskName) (permit : Permit ℕ)
+    pub left_is_stored : OverlaysLeft store.overlays last.overlays → (name : TaskName) (permit : Permit ℕ)
+        → Permits value name permit
         → IsDone value name permit
         (record (remade_with value mounts last.plain (map merged_of last.overlays) base.tasks) { groups = groups })
         → IsDone value name permit (with_store last (record base { mounts = mounts; groups = groups }))
-    left_is_stored name permit is =
-        done_stored value held name permit
-        (record (remade_with value mounts last.plain (map merged_of last.overlays) base.tasks) { groups = groups }) last
-        (kept_still value held (map merged_of last.overlays))
-        (none_together gone (kept_of (with_filesystems value plain)) base.groups (kept mounts last) groups
-        (none_kept value held) collected_leave)
-        is
+    left_is_stored overlays name permit permits is =
+        done_in_store base (record base { mounts = mounts; groups = groups }) store last held overlays name permit
+        permits is

@@ -18,7 +18,7 @@ use Rattle.vt_fs.specs.FilesystemsValue.{ChangesInodes, Filesystems, inodes_seen
 use Rattle.vt_group.specs.Grouping.{Grouping}
 use Rattle.vt_location.specs.declared.locations.Location.{Location}
 use Rattle.vt_location.specs.declared.numbers.MountId.{MountId}
-use Rattle.vt_location.specs.Locations.{location_of, number_of}
+use Rattle.vt_location.specs.Locations.{is_small_node, location_of, number_of}
 use Rattle.vt_location.specs.Numbers.{counted}
 use Rattle.vt_mount.specs.MountsValue.{MountEntry, mounts_in, stands_over}
 use Rattle.vt_store.specs.StoreValue.{StoreValue}
@@ -32,7 +32,7 @@ use Rattle.vt_detach.specs.Detached.{LeaveTogether, tree_numbers}
 use Rattle.vt_detach.specs.Events.{Permits, supply_of}
 use Rattle.vt_world.specs.Held.{IsHeld}
 use Rattle.vt_world.specs.StoredWorld.{with_store}
-use Rattle.vt_detach.specs.Stored.{kept, merged_of}
+use Rattle.vt_detach.specs.Stored.{OverlaysLeft, kept, merged_of}
 use Rattle.vt_detach.specs.Uses.{Merged, kept_of, kept_with}
 use Rattle.vt_world.specs.WorldValue.{WorldValue, world_of}
 use Rattle.vt_detach.proofs.ChangedFiles.{ChangesFiles, IsFilesEvent, with_filesystems}
@@ -40,8 +40,9 @@ use Rattle.vt_ns.proofs.world.ChangedWithMounts.{changed_then_detached, nothing_
 use Rattle.vt_detach.proofs.DetachingBegins.{HasChildrenOf, detached_world}
 use Rattle.vt_detach.proofs.DetachingEnds.{taken_regroups}
 use Rattle.vt_detach.proofs.FileEvents.{IsSmall, permit_fits}
-use Rattle.vt_ns.proofs.world.FileRemoving.{removal_is_done}
-use Rattle.vt_detach.proofs.FilesSeen.{IsLocated, nodes_named, located, located_filesystem}
+use Rattle.vt_ns.proofs.world.FileRemoving as Removing
+use Rattle.vt_location.proofs.NodeLemmas.{small_parts}
+use Rattle.vt_detach.proofs.FilesSeen.{IsLocated, nodes_named, located_filesystem}
 use Rattle.vt_detach.proofs.LazilyUnmounted.{trees_have_children, trees_numbers}
 use Rattle.vt_ns.proofs.world.DetachedStored.{collected_leave, left_is_stored, none_goes, some_go}
 use Rattle.vt_ns.proofs.world.MountsOn.{none_on, one_on, tops_on, trees_collected}
@@ -51,7 +52,7 @@ use Rattle.vt_detach.proofs.Staying.{IsDone}
 
 module _ (value : WorldValue) (held : IsHeld value) (name : TaskName) (parent : Location) (entry : List ℕ)
     (directory : Location)
-    (small : IsSmall parent) (small_directory : IsSmall directory)
+    (small : IsSmall parent) (small_directory : is_small_node directory.node ≡ true)
     (permits : Permits value name (ToRemoveDirectory (location_of parent) entry (location_of directory))) where
   abbrev world : World ℕ
   world = world_of value
@@ -71,12 +72,15 @@ module _ (value : WorldValue) (held : IsHeld value) (name : TaskName) (parent : 
   names : NamesWhatIsThere world permits.task permit
   names = (permit_fits value held name permit permits).names
 
+  abbrev small_slot : IsSmall directory
+  small_slot = (small_parts directory.node small_directory).slot
+
   -- the parent stands where the world has it
   parent_seen : IsLocated value parent
-  parent_seen = located value held parent small names.0.reached.there
+  parent_seen = Removing.parent_seen value held name parent entry directory small small_slot permits
 
   directory_seen : IsLocated value directory
-  directory_seen = located value held directory small_directory names.1.reached.there
+  directory_seen = Removing.directory_seen value held name parent entry directory small small_slot permits
 
   sees : SeesTo world permits.task permit
   sees = given_permits_are_seen_to world (supply_of value permit) permits.task permit held.in_world
@@ -111,7 +115,7 @@ module _ (value : WorldValue) (held : IsHeld value) (name : TaskName) (parent : 
       (λ inodes. changed nat_eq inodes change) value.filesystems filesystems
       → IsFilesEvent value name permit (with_filesystems value filesystems)
   alone_is_removed none filesystems changes =
-      removal_is_done value held name parent entry directory small small_directory permits
+      Removing.removal_is_done value held name parent entry directory small small_slot permits
       (none_on world tops none) filesystems changes
 
   -- a directory on which mounts stand is removed with them
@@ -154,7 +158,7 @@ module _ (value : WorldValue) (held : IsHeld value) (name : TaskName) (parent : 
 
 module _ (base : WorldValue) (store : StoreValue) (held : IsHeld (with_store store base)) (name : TaskName)
     (parent : Location) (entry : List ℕ) (directory : Location)
-    (small : IsSmall parent) (small_directory : IsSmall directory)
+    (small : IsSmall parent) (small_directory : is_small_node directory.node ≡ true)
     (permits : Permits (with_store store base) name
     (ToRemoveDirectory (location_of parent) entry (location_of directory)))
     (ids : List MountId)
@@ -179,10 +183,10 @@ module _ (base : WorldValue) (store : StoreValue) (held : IsHeld (with_store sto
       store.plain plain
       → (mounts : List MountEntry) (groups : Grouping) (last : StoreValue)
       → LeaveTogether (map (λ id. counted id.count) ids) (kept base.mounts (record store { plain = plain }))
-      base.groups (kept mounts last) groups
+      base.groups (kept mounts last) groups → OverlaysLeft store.overlays last.overlays
       → IsDone (with_store store base) name removed (with_store last (record base { mounts = mounts; groups = groups }))
-  directory_goes some plain changes mounts groups last left =
-      left_is_stored base store held ids trees are plain mounts groups last left name removed
+  directory_goes some plain changes mounts groups last left overlays =
+      left_is_stored base store held ids trees are plain mounts groups last left overlays name removed permits
       (directory_is_removed (with_store store base) held name parent entry directory small small_directory permits
       plain last.plain (map merged_of last.overlays) mounts groups (some_go base store held ids trees are some) changes
       (collected_leave base store held ids trees are plain mounts groups last left))

@@ -1,5 +1,5 @@
 -- The event that makes an inode: mkdir(2), symlink(2), mknod(2).
-use Rattle.std.proofs.Common.{◌≡◌, refl, sym, ap, subst, ◌∙◌, ⊎_elim, inl, inr, true≢false, ℕ, ◌<◌, ◌/◌, ◌&&◌, Bool, true, false, nat_eq, List, [], ◌∷◌, map, arith}
+use Rattle.std.proofs.Common.{◌≡◌, refl, sym, ap, subst, ◌∙◌, ⊎_elim, inl, inr, true≢false, ℕ, ◌<◌, ◌/◌, ◌&&◌, Bool, true, false, nat_eq, List, [], ◌∷◌, map, Some, option_map, unwrap_or, arith}
 use Rattle.vt_spec.specs.Language.Calls.{TaskName}
 use Rattle.vt_spec.specs.Language.Changes.{Change}
 use Rattle.vt_spec.specs.Language.Changes.Change.{Make}
@@ -7,6 +7,8 @@ use Rattle.vt_spec.specs.Laws.Trees.{IsNewIn}
 use Rattle.vt_spec.specs.Lists.{odds}
 use Rattle.vt_spec.specs.Machine.Filesystems.{with_change}
 use Rattle.vt_spec.specs.Machine.Permits.{Permit}
+use Rattle.vt_spec.specs.Machine.Mounts as meant
+use Rattle.vt_spec.specs.Machine.World.{mount_at}
 use Rattle.vt_spec.specs.Machine.Permits.Permit.{ToMake}
 use Rattle.vt_spec.specs.Machine.Renaming.{renamed_entry}
 use Rattle.vt_spec.specs.Fits.{Fits}
@@ -14,7 +16,7 @@ use Rattle.vt_spec.specs.Inodes.{Inodes, changed, tree_of}
 use Rattle.vt_spec.specs.Rights.{is_directory}
 use Rattle.vt_spec.specs.Tree.{Content, Entries, Node, kind_of}
 use Rattle.vt_spec.specs.Tree.Content.{Directory, Regular, Symlink, Whiteout}
-use Rattle.vt_fs.specs.FilesystemsValue.{ChangesInodes, Filesystems, entry_at, inodes_at, inodes_seen, next_seen, node_seen}
+use Rattle.vt_fs.specs.FilesystemsValue.{ChangesInodes, FilesystemEntry, Filesystems, entry_at, entry_of, inodes_at, inodes_seen, next_seen, no_entry, node_seen}
 use Rattle.vt_laws_rules.specs.Numbers.{content_named}
 use Rattle.vt_location.specs.declared.births.Birth.TheVariants.{Here}
 use Rattle.vt_location.specs.declared.locations.Location.{Location}
@@ -33,8 +35,8 @@ use Rattle.vt_detach.specs.Events.{Permits, next_inode, supply_of}
 use Rattle.vt_world.specs.Held.{IsHeld}
 use Rattle.vt_world.specs.WorldValue.{WorldValue, world_of}
 use Rattle.vt_detach.proofs.ChangedFiles.{IsFilesEvent, files_are_changed, with_filesystems}
-use Rattle.vt_detach.proofs.FileEvents.{IsSmall, permit_fits}
-use Rattle.vt_detach.proofs.FilesSeen.{IsLocated, nodes_named, located, located_filesystem, located_inodes}
+use Rattle.vt_detach.proofs.FileEvents.{IsSmall, changed_is_plain, permit_fits}
+use Rattle.vt_detach.proofs.FilesSeen.{IsLocated, IsPlainAt, nodes_named, located, located_filesystem, located_inodes}
 
 -- what is made in a directory of a tree has its slots
 pub made_in_tree : (directory : Location) → directory.node.birth ≡ Here → (node : Node ℕ)
@@ -80,14 +82,34 @@ new_is_named named directory node there new =
     by (Symlink text) e = refl
     by Whiteout e = refl
 
+-- the next inode of a filesystem that a location shows
+pub next_of_entry : (value : WorldValue) (at : meant.Location ℕ) (entry : FilesystemEntry) (count : ℕ)
+    → (mount_at nat_eq (world_of value) at).filesystem ≡ counted entry.count
+    → entry_of value.filesystems entry.count ≡ Some entry → entry.count ≡ count
+    → next_inode value at ≡ next_seen (entry_at value.filesystems count)
+next_of_entry value at entry count shows found is =
+    ap (λ n. unwrap_or (option_map next_seen (entry_of value.filesystems (n / 4))) (inode_number value.next 0)) shows
+    ∙ ap (λ n. unwrap_or (option_map next_seen (entry_of value.filesystems n)) (inode_number value.next 0)) quarter
+    ∙ ap (λ o. unwrap_or (option_map next_seen o) (inode_number value.next 0)) found
+    ∙ ap (λ o. next_seen (unwrap_or o (no_entry count))) (sym (ap (entry_of value.filesystems) (sym is) ∙ found))
+  where
+    quarter : counted entry.count / 4 ≡ entry.count
+    quarter = omega arith
+
 module _ (value : WorldValue) (held : IsHeld value) (name : TaskName) (directory : Location) (entry : List ℕ)
     (node : Node ℕ)
     (small : IsSmall directory)
     (asked : Permits value name (ToMake (location_of directory) entry (node_in directory node))) where
+  -- what is made is made in no overlay
+  directory_plain : IsPlainAt value directory
+  directory_plain =
+      changed_is_plain value held name (ToMake (location_of directory) entry (node_in directory node)) asked
+      (location_of directory) _ refl
+
   here : directory.node.birth ≡ Here
   here =
       let fits = permit_fits value held name (ToMake (location_of directory) entry (node_in directory node)) asked in
-      (located value held directory small fits.names.reached.there).born_here
+      (located value held directory small directory_plain fits.names.reached.there).born_here
 
   permits : Permits value name (ToMake (location_of directory) entry
       (node_seen directory.node.filesystem.count node))
@@ -99,7 +121,8 @@ module _ (value : WorldValue) (held : IsHeld value) (name : TaskName) (directory
 
   -- the directory stands where the world has it
   directory_seen : IsLocated value directory
-  directory_seen = located value held directory small (permit_fits value held name permit permits).names.reached.there
+  directory_seen =
+      located value held directory small directory_plain (permit_fits value held name permit permits).names.reached.there
 
   sees : MayBeMade (world_of value) (location_of directory) entry (node_seen directory.node.filesystem.count node)
   sees =
@@ -177,12 +200,8 @@ module _ (value : WorldValue) (held : IsHeld value) (name : TaskName) (directory
             ∙ ap (is_own_number directory_seen.entry.count) (sym same) ∙ other);
       }))
     where
-      quarter : (count : ℕ) → counted count / 4 ≡ count
-      quarter count = omega arith
-
       next_is : next_inode value (location_of directory) ≡ number_of made
       next_is =
-          ap (λ n. next_seen (entry_at value.filesystems (n / 4))) directory_seen.shows
-          ∙ ap (λ n. next_seen (entry_at value.filesystems n))
-          (quarter directory_seen.entry.count ∙ directory_seen.count_is)
+          next_of_entry value (location_of directory) directory_seen.entry directory.node.filesystem.count
+          directory_seen.shows directory_seen.found directory_seen.count_is
           ∙ sym number

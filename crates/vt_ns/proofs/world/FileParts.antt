@@ -31,7 +31,7 @@ use Rattle.vt_world.specs.Held.{IsHeld}
 use Rattle.vt_world.specs.WorldValue.{WorldValue, world_of}
 use Rattle.vt_detach.proofs.ChangedFiles.{files_are_changed, with_filesystems}
 use Rattle.vt_ns.proofs.world.FileAnswers.{IsAnswered, answered}
-use Rattle.vt_detach.proofs.FileEvents.{IsSmall}
+use Rattle.vt_detach.proofs.FileEvents.{IsSmall, changed_is_plain}
 use Rattle.vt_detach.proofs.FilesSeen.{IsLocated, located, located_filesystem, located_inodes}
 use Rattle.vt_spec.proofs.Options.{OnOk_then}
 
@@ -88,6 +88,7 @@ module _ (value : WorldValue) (held : IsHeld value) (name : TaskName) (file : Lo
   file_seen : IsLocated value file
   file_seen =
       located value held file small
+      (changed_is_plain value held name permit permits (location_of file) _ refl)
       (open_there value held name permit permits (location_of file) (λ descriptor. descriptor.writes) sees.0)
 
   abbrev change : Change ℕ

@@ -6,7 +6,7 @@ use Rattle.vt_spec.specs.Language.Changes.Change.{Remove}
 use Rattle.vt_spec.specs.Machine.Detach.{mounts_on, trees_taken_away, without_mounts_on}
 use Rattle.vt_spec.specs.Machine.Filesystems.{with_change}
 use Rattle.vt_spec.specs.Machine.Mounts as meant
-use Rattle.vt_spec.specs.Machine.World.{filesystem_at}
+use Rattle.vt_spec.specs.Machine.World.{filesystem_at, filesystem_numbered, is_overlay, mount_numbered}
 use Rattle.vt_spec.specs.Machine.Permits.{Permit}
 use Rattle.vt_spec.specs.Machine.Permits.Permit.{ToRemoveDirectory}
 use Rattle.vt_spec.specs.Fits.{Fits}
@@ -24,8 +24,8 @@ use Rattle.vt_detach.specs.Events.{Permits, supply_of}
 use Rattle.vt_world.specs.Held.{IsHeld}
 use Rattle.vt_world.specs.WorldValue.{WorldValue, world_of}
 use Rattle.vt_detach.proofs.ChangedFiles.{IsFilesEvent, files_are_changed, with_filesystems}
-use Rattle.vt_detach.proofs.FileEvents.{IsSmall, permit_fits}
-use Rattle.vt_detach.proofs.FilesSeen.{IsLocated, also_there, kept_there, located, located_filesystem, located_inodes, tree_of_entry}
+use Rattle.vt_detach.proofs.FileEvents.{IsSmall, changed_is_plain, permit_fits}
+use Rattle.vt_detach.proofs.FilesSeen.{IsLocated, IsPlainAt, also_there, kept_there, located, located_filesystem, located_inodes, tree_of_entry}
 
 -- Where no mount stands nothing is detached
 
@@ -45,18 +45,27 @@ module _ (value : WorldValue) (held : IsHeld value) (name : TaskName) (parent : 
   abbrev permit : Permit ℕ
   permit = ToRemoveDirectory (location_of parent) entry (location_of directory)
 
-  -- the parent stands where the world has it
-  parent_seen : IsLocated value parent
-  parent_seen = located value held parent small (permit_fits value held name permit permits).names.0.reached.there
+  -- what is removed is in no overlay
+  parent_plain : IsPlainAt value parent
+  parent_plain = changed_is_plain value held name permit permits (location_of parent) _ refl
 
-  directory_seen : IsLocated value directory
-  directory_seen = located value held directory small_directory
-      (permit_fits value held name permit permits).names.1.reached.there
+  -- the parent stands where the world has it
+  pub parent_seen : IsLocated value parent
+  parent_seen =
+      located value held parent small parent_plain (permit_fits value held name permit permits).names.0.reached.there
 
   sees : SeesTo (world_of value) permits.task permit
   sees =
       given_permits_are_seen_to (world_of value) (supply_of value permit) permits.task permit held.in_world
       permits.given
+
+  -- and so does the directory, which is on the same mount
+  pub directory_seen : IsLocated value directory
+  directory_seen =
+      located value held directory small_directory
+      (ap (λ mount. is_overlay (filesystem_numbered nat_eq (world_of value)
+      (mount_numbered nat_eq (world_of value) mount).filesystem)) sees.0 ∙ parent_plain)
+      (permit_fits value held name permit permits).names.1.reached.there
 
   abbrev change : Change ℕ
   change = Remove (number_of parent.node) entry (number_of directory.node)

@@ -11,7 +11,7 @@ use Rattle.vt_spec.specs.Machine.Filesystems.{with_change}
 use Rattle.vt_spec.specs.Machine.Mounts as meant
 use Rattle.vt_spec.specs.Machine.Permits.{Permit}
 use Rattle.vt_spec.specs.Machine.Permits.Permit.{ToRename}
-use Rattle.vt_spec.specs.Machine.World.{filesystem_at, filesystem_numbered, mount_at, mount_numbered}
+use Rattle.vt_spec.specs.Machine.World.{filesystem_at, filesystem_numbered, is_overlay, mount_at, mount_numbered}
 use Rattle.vt_spec.specs.Machine.Invariants.{is_located_well, is_there}
 use Rattle.vt_spec.specs.Fits.{Fits}
 use Rattle.vt_spec.specs.Inodes.{Inodes, changed, tree_of}
@@ -29,10 +29,10 @@ use Rattle.vt_detach.specs.Events.{Permits, supply_of}
 use Rattle.vt_world.specs.Held.{IsHeld}
 use Rattle.vt_world.specs.WorldValue.{WorldValue, world_of}
 use Rattle.vt_detach.proofs.ChangedFiles.{IsFilesEvent, files_are_changed, with_filesystems}
-use Rattle.vt_detach.proofs.FileEvents.{IsSmall, permit_fits}
+use Rattle.vt_detach.proofs.FileEvents.{IsSmall, changed_is_plain, permit_fits}
 use Rattle.vt_ns.proofs.world.FileRemoving.{nothing_detached}
 use Rattle.vt_detach.proofs.Places.{located_is_named}
-use Rattle.vt_detach.proofs.FilesSeen.{IsLocated, also_there, kept_there, located, located_filesystem, located_inodes}
+use Rattle.vt_detach.proofs.FilesSeen.{IsLocated, IsPlainAt, also_there, kept_there, located, located_filesystem, located_inodes}
 
 module _ (value : WorldValue) (held : IsHeld value) (name : TaskName) (from : Location) (old : List ℕ) (to : Location)
     (new : List ℕ)
@@ -50,22 +50,31 @@ module _ (value : WorldValue) (held : IsHeld value) (name : TaskName) (from : Lo
   pub names : NamesWhatIsThere (world_of value) permits.task permit
   names = (permit_fits value held name permit permits).names
 
-  -- the directory of the old name stands where the world has it
-  pub from_seen : IsLocated value from
-  from_seen = located value held from small names.0.reached.there
-
-  to_seen : IsLocated value to
-  to_seen = located value held to small_to names.1.reached.there
-
-  object_seen : IsLocated value object
-  object_seen = located value held object small_object names.2.there
-
   -- the rename may be made
   pub sees : MayBeRenamed (world_of value) (location_of from) old (location_of to) new (location_of object)
       (option_map location_of replaced)
   sees =
       given_permits_are_seen_to (world_of value) (supply_of value permit) permits.task permit held.in_world
       permits.given
+
+  -- nothing is renamed in an overlay
+  from_plain : IsPlainAt value from
+  from_plain = changed_is_plain value held name permit permits (location_of from) _ refl
+
+  plain_there : (at : Location) → (location_of at).mount ≡ (location_of from).mount → IsPlainAt value at
+  plain_there at same =
+      ap (λ mount. is_overlay (filesystem_numbered nat_eq (world_of value)
+      (mount_numbered nat_eq (world_of value) mount).filesystem)) same ∙ from_plain
+
+  -- the directory of the old name stands where the world has it
+  pub from_seen : IsLocated value from
+  from_seen = located value held from small from_plain names.0.reached.there
+
+  to_seen : IsLocated value to
+  to_seen = located value held to small_to (plain_there to sees.to_mount) names.1.reached.there
+
+  object_seen : IsLocated value object
+  object_seen = located value held object small_object (plain_there object sees.object_mount) names.2.there
 
   -- an inode that is seen through the same mount is in the same filesystem
   same_there : (at : Location) → (location_of at).mount ≡ (location_of from).mount

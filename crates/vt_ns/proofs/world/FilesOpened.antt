@@ -21,7 +21,7 @@ use Rattle.vt_laws_letting_go.specs.Counts.{times}
 use Rattle.vt_laws_letting_go.proofs.sweeps.OneByOne.{mounts_go_one_by_one}
 use Rattle.vt_laws_letting_go.proofs.sweeps.OfWorlds.{mounts_of_worlds_stand}
 use Rattle.vt_laws_letting_go.proofs.leaving.PlacesLeft.{mounts_but}
-use Rattle.vt_location.specs.Locations.{location_of, number_of}
+use Rattle.vt_location.specs.Locations.{is_small_node, location_of, number_of}
 use Rattle.vt_location.specs.Numbers.{counted}
 use Rattle.vt_mount.specs.MountsValue.{MountEntry}
 use Rattle.vt_request.specs.Requests.{access_of}
@@ -33,6 +33,7 @@ use Rattle.vt_detach.specs.Events.{Permits, supply_of}
 use Rattle.vt_world.specs.Held.{IsHeld, writes_of_task, writes_on}
 use Rattle.vt_detach.specs.Uses.{Merged, kept_of, kept_with, with_location, with_use}
 use Rattle.vt_world.specs.WorldValue.{WorldValue, world_of}
+use Rattle.vt_laws_overlays_read.proofs.writers.Changes.{opens_copy_nothing}
 use Rattle.vt_laws_permits.proofs.sees.SeesTasks.{given_permits_are_seen_to}
 use Rattle.vt_detach.proofs.FileEvents.{permit_fits}
 use Rattle.vt_detach.proofs.LocationsSeen.{seen_where_located}
@@ -116,63 +117,11 @@ module _ (value : WorldValue) (whole : IsHeld value) (name : TaskName) (task : T
       (λ one. nat_eq namespace one.namespace) in
       omega (arith, moved)
 
--- no overlay has an upper layer, so nothing is copied up
-
-no_upper_numbered : (number : ℕ) (all : List (Filesystem ℕ))
-    → ((f : Filesystem ℕ) → Among f all → of_overlay false (λ overlay. is_some overlay.upper) f ≡ false)
-    → of_overlay false (λ overlay. is_some overlay.upper)
-    (unwrap_or (find (λ (f : Filesystem ℕ). nat_eq number f.number) all) (no_filesystem number))
-    ≡ false
-no_upper_numbered number [] none = refl
-no_upper_numbered number (f ∷ rest) none =
-    by (nat_eq number f.number) (no_upper_numbered number rest (λ g m. none g (inr m)))
-  where
-    by : (b : Bool)
-        → of_overlay false (λ overlay. is_some overlay.upper)
-        (unwrap_or (find (λ (g : Filesystem ℕ). nat_eq number g.number) rest) (no_filesystem number))
-        ≡ false
-        → of_overlay false (λ overlay. is_some overlay.upper)
-        (unwrap_or (cond b (Some f) (find (λ (g : Filesystem ℕ). nat_eq number g.number) rest)) (no_filesystem number))
-        ≡ false
-    by true later = none f (inl refl)
-    by false later = later
-
-nothing_copied : (value : WorldValue) → IsHeld value → (file : meant.Location ℕ) (access : spoken.Access)
-    (fresh : Fresh ℕ)
-    → with_copy nat_eq (is_copied_up nat_eq (world_of value) file access) fresh (world_of value) file ≡ world_of value
-nothing_copied value whole file access fresh = in_overlay (filesystem_at nat_eq (world_of value) file).overlay refl
-  where
-    over : (overlay : Overlay ℕ) → (filesystem_at nat_eq (world_of value) file).overlay ≡ Some overlay
-        → (o : Option (Layer ℕ)) → overlay.upper ≡ o → (b : Bool)
-        → with_copy nat_eq b fresh (world_of value) file ≡ world_of value
-    over overlay e o u false = refl
-    over overlay e None u true =
-        ap (λ o. filesystem_changed nat_eq fresh (world_of value) (filesystem_at nat_eq (world_of value) file) o
-        (CopyUp file.node)) e
-        ∙ ap (λ o. overlay_changed nat_eq fresh (world_of value) (filesystem_at nat_eq (world_of value) file) overlay o
-        (CopyUp file.node)) u
-    over overlay e (Some upper) u true =
-        absurd (true≢false (sym (ap (overlay_or false (λ (v : Overlay ℕ). is_some v.upper)) e ∙ ap is_some u)
-        ∙ no_upper_numbered (mount_at nat_eq (world_of value) file).filesystem (world_of value).filesystems
-        (among_from_all (λ f. of_overlay false (λ overlay. is_some overlay.upper) f ≡ false)
-        (world_of value).filesystems whole.overlays.read_only)))
-
-    in_overlay : (o : Option (Overlay ℕ)) → (filesystem_at nat_eq (world_of value) file).overlay ≡ o
-        → with_copy nat_eq (is_copied_up nat_eq (world_of value) file access) fresh (world_of value) file
-        ≡ world_of value
-    in_overlay None e =
-        ap (λ b. with_copy nat_eq b fresh (world_of value) file)
-        (ap (λ (o : Option (Overlay ℕ)). opens_for_writing access
-        && overlay_or false (λ overlay. lies_only_in_lowers overlay file.node) o) e
-        ∙ and-false (opens_for_writing access))
-    in_overlay (Some overlay) e =
-        over overlay e overlay.upper refl (is_copied_up nat_eq (world_of value) file access)
-
 -- a file is opened
 pub file_is_opened : (value : WorldValue) (name : TaskName) (opened : OpenFile) (mounts : List MountEntry)
     (filesystems : Filesystems) (overlays : List Merged) (tasks : Tasks)
     → IsHeld value → Permits value name (ToOpen (location_of opened.location) (access_of opened.access))
-    → opened.location.node.slot < 18446744073709551616
+    → is_small_node opened.location.node ≡ true
     → tasks ≡ changed_called name (with_open opened) value.tasks
     → kept_with mounts filesystems overlays ≡ with_location opened.location (opens_for_writing (access_of opened.access))
     (kept_of value)
@@ -203,7 +152,9 @@ file_is_opened value name opened mounts filesystems overlays tasks whole permits
       called = permits.called;
       given = permits.given;
       named = located_is_named value whole file well;
-      applied = λ fresh. ap (λ world. with_task world opens) (nothing_copied value whole file access fresh);
+      applied = λ fresh. ap (λ b. with_task (with_copy nat_eq b fresh (world_of value) file) opens)
+          (opens_copy_nothing (world_of value) (supply_of value (ToOpen file access)) task file access
+          whole.overlays.read_only whole.overlays.writers permits.given);
     })
     (opened_tasks value whole name task permits.called descriptor well))
 

@@ -1,5 +1,5 @@
 -- A task forks: fork(2).
-use Rattle.std.proofs.Common.{◌≡◌, ◌<◌, refl, sym, ap, subst, ◌∙◌, inl, inr, ℕ, ◌+◌, nat_eq, Bool, true, false, cond, ◌&&◌, List, [], ◌∷◌, ◌++◌, Some, arith}
+use Rattle.std.proofs.Common.{◌≡◌, refl, sym, ap, subst, ◌∙◌, inl, inr, ℕ, ◌+◌, nat_eq, Bool, true, false, cond, ◌&&◌, List, [], ◌∷◌, ◌++◌, Some, arith}
 use Rattle.std.proofs.lemmas.Bool.{leb-false}
 use Rattle.std.proofs.lemmas.Grind.{flat_map-append}
 use Rattle.std.proofs.lemmas.List.{append-nil}
@@ -20,7 +20,7 @@ use Rattle.vt_laws_letting_go.proofs.sweeps.OneByOne.{mounts_go_one_by_one}
 use Rattle.vt_laws_letting_go.proofs.sweeps.OfWorlds.{mounts_of_worlds_stand}
 use Rattle.vt_laws_letting_go.proofs.leaving.PlacesLeft.{mounts_but}
 use Rattle.vt_location.specs.declared.locations.Location.{Location}
-use Rattle.vt_location.specs.Locations.{location_of, number_of}
+use Rattle.vt_location.specs.Locations.{is_small_node, location_of, number_of}
 use Rattle.vt_location.specs.Numbers.{counted}
 use Rattle.vt_mount.specs.MountsValue.{MountEntry}
 use Rattle.vt_laws_permits.specs.Left.{IsGiven}
@@ -159,7 +159,7 @@ module _ (value : WorldValue) (whole : IsHeld value) (name : TaskName) (task : T
   pub forked_done : (permit_given : Permits value name (ToFork credentials)) → permit_given.task ≡ task
       → (count : ℕ) → counted count ≡ task.namespace
       → (root directory : Location) → location_of root ≡ task.root → location_of directory ≡ task.directory
-      → root.node.slot < 18446744073709551616 → directory.node.slot < 18446744073709551616
+      → is_small_node root.node ≡ true → is_small_node directory.node ≡ true
       → (mounts : List MountEntry) (filesystems : Filesystems) (overlays : List Merged)
       → kept_with mounts filesystems overlays ≡ with_location directory false
       (with_location root false (kept_of value))
@@ -182,7 +182,7 @@ module _ (value : WorldValue) (whole : IsHeld value) (name : TaskName) (task : T
         applied = λ fresh. refl;
       })
     where
-      use_at : (place : meant.Location ℕ) (at : Location) → location_of at ≡ place → at.node.slot < 18446744073709551616
+      use_at : (place : meant.Location ℕ) (at : Location) → location_of at ≡ place → is_small_node at.node ≡ true
           → is_located_well nat_eq (world_of value) place ≡ true → (k : Kept)
           → with_location at false k ≡ with_use place.mount
           ((mount_at nat_eq (world_of value) place).filesystem, place.node) false k
@@ -220,7 +220,7 @@ may_fork value whole name credentials permits =
 -- the tasks after a fork, with its child counted in its namespace and where it is
 pub task_is_forked : (value : WorldValue) → IsHeld value → (name : TaskName) (credentials : Credentials)
     → Permits value name (ToFork credentials) → (own : Own) → Some (task_of own) ≡ called name value.tasks
-    → own.root.node.slot < 18446744073709551616 → own.directory.node.slot < 18446744073709551616
+    → is_small_node own.root.node ≡ true → is_small_node own.directory.node ≡ true
     → (mounts : List MountEntry) (filesystems : Filesystems) (overlays : List Merged)
     (namespaces : List NamespaceEntry) (tasks : Tasks)
     → namespaces ≡ with_task_more own.namespace.count value.namespaces → tasks ≡ forked name credentials value.tasks

@@ -13,13 +13,12 @@ use Rattle.vt_laws_letting_go.proofs.Lists.{Among, among-from_filter, filter_ali
 use Rattle.vt_laws_letting_go.proofs.leaving.PlacesLeft.{found_itself}
 use Rattle.vt_location.specs.declared.locations.Location.{Location}
 use Rattle.vt_location.specs.declared.numbers.MountId.{MountId}
-use Rattle.vt_location.specs.Locations.{location_of, number_of}
+use Rattle.vt_location.specs.Locations.{is_small_node, location_of, number_of}
 use Rattle.vt_location.specs.Numbers.{counted}
 use Rattle.vt_mount.specs.MountsValue.{mounts_in, stands_over}
 use Rattle.vt_detach.specs.Detached.{tree_numbers}
 use Rattle.vt_world.specs.Held.{IsHeld}
 use Rattle.vt_world.specs.WorldValue.{WorldValue, world_of}
-use Rattle.vt_detach.proofs.FileEvents.{IsSmall}
 use Rattle.vt_detach.proofs.LazilyUnmounted.{to_spec, trees_numbers}
 use Rattle.vt_detach.proofs.LocationsSeen.{seen_where_located}
 use Rattle.vt_detach.proofs.LookLemmas.{point_seen, points_are}
@@ -75,7 +74,7 @@ pub record IsOn (value : WorldValue) (at : Location) : Type 0 where
   pub shows : (mount_at nat_eq (world_of value) place).filesystem
       ≡ (mount_at nat_eq (world_of value) (location_of at)).filesystem
 
-module _ (value : WorldValue) (held : IsHeld value) (at : Location) (small : IsSmall at) where
+module _ (value : WorldValue) (held : IsHeld value) (at : Location) (small : is_small_node at.node ≡ true) where
   abbrev world : World ℕ
   world = world_of value
 

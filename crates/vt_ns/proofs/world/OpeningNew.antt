@@ -30,7 +30,7 @@ use Rattle.vt_spec.proofs.Lists.{among_from_list_all}
 use Rattle.vt_location.specs.declared.births.Birth.TheVariants.{Here}
 use Rattle.vt_location.specs.declared.locations.Location.{Location}
 use Rattle.vt_location.specs.declared.locations.NodeRef.{NodeRef}
-use Rattle.vt_location.specs.Locations.{location_of, number_of}
+use Rattle.vt_location.specs.Locations.{is_small_node, location_of, number_of}
 use Rattle.vt_location.specs.Numbers.{counted, is_own_number}
 use Rattle.vt_location.proofs.NodeLemmas.{here_number}
 use Rattle.vt_permits.specs.GrantValue.{node_in}
@@ -42,6 +42,10 @@ use Rattle.vt_laws_one_text.proofs.answered.AlikeAnswered.{any_same_worlds_are_s
 use Rattle.vt_laws_one_text.proofs.same.SameNumbers.{any_same_worlds_keep_to_numbers}
 use Rattle.vt_laws_one_text.proofs.same.SameWhole.{any_same_worlds_are_under_way, any_same_worlds_are_worlds}
 use Rattle.vt_laws_overlay_permits.proofs.kept.KeptOverlays.{overlays_in}
+use Rattle.vt_laws_overlays_read.specs.Writers.{WritersHaveLayers}
+use Rattle.vt_laws_overlays_read.proofs.writers.Swept.{same_worlds_have_layers_alike}
+use Rattle.vt_detach.proofs.Writers.{left_writers}
+use Rattle.vt_ns.proofs.world.ChangedWithMounts.{change_keeps_writers}
 use Rattle.vt_laws_overlay_permits.proofs.worlds.SweptWorlds.{settling_leaves_every_world}
 use Rattle.vt_laws_overlays_stay.proofs.left.Given.{given_permits_are_under_way_without_upper, given_permits_give_no_upper}
 use Rattle.vt_laws_permits.proofs.sees.SeesFit.{given_changes_fit}
@@ -64,10 +68,10 @@ use Rattle.vt_detach.proofs.Bridging.{IsSwept, swept_is_same}
 use Rattle.vt_detach.proofs.Grouped.{left_has}
 use Rattle.vt_group.specs.Grouping.{Has}
 use Rattle.vt_detach.proofs.ChangedFiles.{ChangesFiles, change_is_held, change_is_swept, inodes_after, is_change, partner, with_filesystems}
-use Rattle.vt_detach.proofs.FileEvents.{IsSmall, permit_fits}
-use Rattle.vt_ns.proofs.world.FileMaking.{made_in_tree, new_in_slot, new_is_named}
+use Rattle.vt_detach.proofs.FileEvents.{IsSmall, changed_is_plain, permit_fits}
+use Rattle.vt_ns.proofs.world.FileMaking.{made_in_tree, new_in_slot, new_is_named, next_of_entry}
 use Rattle.vt_ns.proofs.world.FilesOpened.{inserted_goes, opened_moves, opened_stays, opened_tasks}
-use Rattle.vt_detach.proofs.FilesSeen.{IsLocated, nodes_named, located, located_filesystem, located_inodes, one_entry}
+use Rattle.vt_detach.proofs.FilesSeen.{IsLocated, IsPlainAt, nodes_named, located, located_filesystem, located_inodes, one_entry}
 use Rattle.vt_detach.proofs.Overlaid.{plain_ones_apart}
 use Rattle.vt_detach.proofs.Finishing.{swept_held}
 use Rattle.vt_detach.proofs.LocationsSeen.{seen_where_located}
@@ -90,11 +94,17 @@ module _ (value : WorldValue) (held : IsHeld value) (name : TaskName) (directory
     (node : Node ℕ)
     (access : spoken.Access) (small : IsSmall directory)
     (asked : Permits value name (ToOpenNew (location_of directory) entry (node_in directory node) access)) where
+  -- what is made is made in no overlay
+  directory_plain : IsPlainAt value directory
+  directory_plain =
+      changed_is_plain value held name (ToOpenNew (location_of directory) entry (node_in directory node) access) asked
+      (location_of directory) _ refl
+
   here : directory.node.birth ≡ Here
   here =
       let fits = permit_fits value held name
       (ToOpenNew (location_of directory) entry (node_in directory node) access) asked in
-      (located value held directory small fits.names.0.reached.there).born_here
+      (located value held directory small directory_plain fits.names.0.reached.there).born_here
 
   permits : Permits value name (ToOpenNew (location_of directory) entry
       (node_seen directory.node.filesystem.count node) access)
@@ -122,7 +132,7 @@ module _ (value : WorldValue) (held : IsHeld value) (name : TaskName) (directory
 
   -- the directory stands where the world has it
   directory_seen : IsLocated value directory
-  directory_seen = located value held directory small permit_is_fit.names.0.reached.there
+  directory_seen = located value held directory small directory_plain permit_is_fit.names.0.reached.there
 
   sees : MayBeMade (world_of value) (location_of directory) entry (node_seen count node) × HasRoom permits.task
   sees =
@@ -194,7 +204,7 @@ module _ (value : WorldValue) (held : IsHeld value) (name : TaskName) (directory
   making_fits = record { names = permit_is_fit.names.0; few_mounts = permit_is_fit.few_mounts }
 
   -- the file is made
-  module _ (made_in : Filesystems) (made : NodeRef) (small_made : made.slot < 18446744073709551616)
+  module _ (made_in : Filesystems) (made : NodeRef) (small_made : is_small_node made ≡ true)
       (own_made : is_own_number made.filesystem.count (number_of made) ≡ true)
       (inside : made.filesystem ≡ directory.node.filesystem)
       (number : number_of made ≡ next_seen (entry_at value.filesystems count))
@@ -205,13 +215,9 @@ module _ (value : WorldValue) (held : IsHeld value) (name : TaskName) (directory
 
     next_is : next_number ≡ number_of made
     next_is =
-        ap (λ n. next_seen (entry_at value.filesystems (n / 4))) directory_seen.shows
-        ∙ ap (λ n. next_seen (entry_at value.filesystems n))
-        (quarter directory_seen.entry.count ∙ directory_seen.count_is)
+        next_of_entry value (location_of directory) directory_seen.entry count directory_seen.shows
+        directory_seen.found directory_seen.count_is
         ∙ sym number
-      where
-        quarter : (n : ℕ) → counted n / 4 ≡ n
-        quarter n = omega arith
 
     is_made : ChangesFiles value (location_of directory) (change (number_of made)) made_in
     is_made = record {
@@ -312,6 +318,9 @@ module _ (value : WorldValue) (held : IsHeld value) (name : TaskName) (directory
         (λ k. number_of made))
         (permits_keep_to_numbers (is_counted_before value.next) (λ k. number_of made) (world_of value) permits.task
         making permits.given.called held.given (λ k. nodes_named value.next made) named))
+        (same_worlds_have_layers_alike (with_made (odds handed)) (world_of mid) (made_same (odds handed))
+        (change_keeps_writers value held (location_of directory) (change (number_of made)) made_in is_made
+        (odds handed)))
 
     -- the new inode has one use
     pub used_once : uses_in ((inodes_at made_in count).inode (number_of made)) ≡ 1
@@ -409,6 +418,14 @@ module _ (value : WorldValue) (held : IsHeld value) (name : TaskName) (directory
         (given_permits_give_no_upper (world_of value) handed permits.task permit held.in_world
         held.overlays.read_only permits.given).0)
 
+    -- no descriptor is open for writing in an overlay
+    writers_after : WritersHaveLayers (settled nat_eq next)
+    writers_after =
+        same_worlds_have_layers_alike (settled nat_eq (opened_at (odds handed))) (settled nat_eq next)
+        (opened_alike (odds handed))
+        (subst (λ world. WritersHaveLayers (settled nat_eq world)) opened_applied
+        (left_writers value held permits.task permit permits.given))
+
     -- a use of its mount and of its inode
     module _ (mounts : List MountEntry) (filesystems : Filesystems) (overlays : List Merged)
         (is_kept : kept_with mounts filesystems overlays
@@ -450,7 +467,8 @@ module _ (value : WorldValue) (held : IsHeld value) (name : TaskName) (directory
             (settled nat_eq (apply nat_eq (λ k. number_of made) (world_of value) permits.task permit).world)
             (world_of new) (settled_same (λ k. number_of made))
             (permits_keep_to_numbers (is_counted_before value.next) (λ k. number_of made) (world_of value)
-            permits.task permit permits.given.called held.given (λ k. nodes_named value.next made) named));
+            permits.task permit permits.given.called held.given (λ k. nodes_named value.next made) named))
+            writers_after;
         becomes = becomes_so value name permit new permits.task permits.called
             (subst (λ world. SameWorlds (settled nat_eq world) (world_of new)) (sym opened_applied)
             (settled_same (odds handed)));

@@ -1,5 +1,5 @@
 -- A mount becomes the root mount, as code does it: pivot_root(2).
-use Rattle.std.proofs.Common.{◌≡◌, ◌<◌, refl, sym, ap, subst, ◌∙◌, ℕ, ◌+◌, zero, suc, nat_eq, true, true≢false, List, [], ◌∷◌, find, map, Option, Some, None, is_some, unwrap_or}
+use Rattle.std.proofs.Common.{◌≡◌, refl, sym, ap, subst, ◌∙◌, ℕ, ◌+◌, zero, suc, nat_eq, true, true≢false, List, [], ◌∷◌, find, map, Option, Some, None, is_some, unwrap_or}
 use Rattle.std.specs.List.{list_any}
 use Rattle.std.proofs.lemmas.Option.{same_Some}
 use Rattle.vt_spec.specs.Language.Calls.{TaskName}
@@ -13,7 +13,7 @@ use Rattle.vt_spec.specs.Machine.World.{Task, mount_at, mount_numbered}
 use Rattle.vt_fs.specs.FilesystemsValue.{Filesystems, shown}
 use Rattle.vt_location.specs.declared.locations.Location.{Location as At}
 use Rattle.vt_location.specs.declared.mounts.Mount.{Mount as Attached}
-use Rattle.vt_location.specs.Locations.{location_of}
+use Rattle.vt_location.specs.Locations.{is_small_node, location_of}
 use Rattle.vt_location.specs.MountValue.{mount_of}
 use Rattle.vt_location.specs.Numbers.{counted}
 use Rattle.vt_mount.specs.Moving.{pivoted_entry}
@@ -116,8 +116,8 @@ module _ (value : WorldValue) (whole : IsHeld value) (name : TaskName) (number :
         pub root_is_pivoted : (between held_mounts mounts : List MountEntry)
             (pinned_files held_files left_files filesystems : Filesystems)
             (held_overlays overlays : List Merged) (tasks : Tasks)
-            → put.node.slot < 18446744073709551616 → entered.node.slot < 18446744073709551616
-            → left.node.slot < 18446744073709551616 → point.node.slot < 18446744073709551616
+            → is_small_node put.node ≡ true → is_small_node entered.node ≡ true
+            → is_small_node left.node ≡ true → is_small_node point.node ≡ true
             → between ≡ map (pivoted_entry (mount_of root) (mount_of new) (location_of put)) value.mounts
             → shown pinned_files ≡ pinned_in (inode_of put.node) (shown value.filesystems)
             → kept_with held_mounts held_files held_overlays ≡ with_uses moved entered

@@ -1,5 +1,5 @@
 -- The root mount changes, and roots and working directories go along: pivot_root(2).
-use Rattle.std.proofs.Common.{◌≡◌, ◌<◌, refl, sym, ap, subst, ◌∙◌, ⊎_elim, ℕ, ◌+◌, ◌-◌, zero, suc, nat_eq, true, false, ◌||◌, ◌&&◌, List, [], ◌∷◌, ◌++◌, map, filter, Some, is_some, arith}
+use Rattle.std.proofs.Common.{◌≡◌, refl, sym, ap, subst, ◌∙◌, ⊎_elim, ℕ, ◌+◌, ◌-◌, zero, suc, nat_eq, true, false, ◌||◌, ◌&&◌, List, [], ◌∷◌, ◌++◌, map, filter, Some, is_some, arith}
 use Rattle.std.specs.Prelude.{option_to_list, replicate}
 use Rattle.std.specs.List.{list_any}
 use Rattle.std.proofs.lemmas.Bool.{and_parts}
@@ -30,7 +30,7 @@ use Rattle.vt_laws_worlds.specs.Worlds.Permits.{MayPivot}
 use Rattle.vt_laws_worlds.proofs.RaisedInUse.{worlds_are_in_use}
 use Rattle.vt_laws_worlds.proofs.worlds.Roots.{directory_there}
 use Rattle.vt_location.specs.declared.locations.Location.{Location as At}
-use Rattle.vt_location.specs.Locations.{location_of, number_of}
+use Rattle.vt_location.specs.Locations.{is_small_node, location_of, number_of}
 use Rattle.vt_location.specs.Numbers.{counted}
 use Rattle.vt_mount.specs.Moving.{pivoted_entry}
 use Rattle.vt_mount.specs.MountsValue.{MountEntry, mounts_in}
@@ -208,12 +208,12 @@ module _ (value : WorldValue) (whole : IsHeld value) (name : TaskName) (number :
       (entered_is : location_of entered ≡ root_of (mount_numbered nat_eq (world_of value) number))
       (left_is : location_of left ≡ root_of (mount_at nat_eq (world_of value) permits.task.root))
       (point_is : (mount_numbered nat_eq (world_of value) number).mount_point ≡ Some (location_of point))
-      (put_small : put.node.slot < 18446744073709551616) (entered_small : entered.node.slot < 18446744073709551616)
-      (left_small : left.node.slot < 18446744073709551616) (point_small : point.node.slot < 18446744073709551616) where
+      (put_small : is_small_node put.node ≡ true) (entered_small : is_small_node entered.node ≡ true)
+      (left_small : is_small_node left.node ≡ true) (point_small : is_small_node point.node ≡ true) where
     put_inode : inode_of put.node ≡ inode_at before place
     put_inode = λ i. (sym (seen_where_located value whole put put_small place_located) i, number_of put.node)
 
-    root_inode : (at : At) → at.node.slot < 18446744073709551616 → (mount : Mount ℕ)
+    root_inode : (at : At) → is_small_node at.node ≡ true → (mount : Mount ℕ)
         → Among mount (mounts_in value.mounts) → location_of at ≡ root_of mount
         → inode_of at.node ≡ inode_at before (root_of mount)
     root_inode at small mount m is =

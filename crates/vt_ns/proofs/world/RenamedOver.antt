@@ -24,7 +24,7 @@ use Rattle.vt_laws_letting_go.specs.FileChanges.{names_lost}
 use Rattle.vt_laws_letting_go.proofs.Lists.{Among}
 use Rattle.vt_location.specs.declared.locations.Location.{Location}
 use Rattle.vt_location.specs.declared.numbers.MountId.{MountId}
-use Rattle.vt_location.specs.Locations.{location_of, number_of}
+use Rattle.vt_location.specs.Locations.{is_small_node, location_of, number_of}
 use Rattle.vt_location.specs.Numbers.{counted}
 use Rattle.vt_mount.specs.MountsValue.{MountEntry, mounts_in}
 use Rattle.vt_store.specs.StoreValue.{StoreValue}
@@ -36,7 +36,7 @@ use Rattle.vt_detach.specs.Detached.{LeaveTogether, trees_of_replaced}
 use Rattle.vt_detach.specs.Events.{Permits}
 use Rattle.vt_world.specs.Held.{IsHeld}
 use Rattle.vt_world.specs.StoredWorld.{with_store}
-use Rattle.vt_detach.specs.Stored.{kept, merged_of}
+use Rattle.vt_detach.specs.Stored.{OverlaysLeft, kept, merged_of}
 use Rattle.vt_detach.specs.Uses.{Merged, kept_of, kept_with}
 use Rattle.vt_world.specs.WorldValue.{WorldValue, world_of}
 use Rattle.vt_detach.proofs.ChangedFiles.{ChangesFiles, IsFilesEvent, with_filesystems}
@@ -63,7 +63,7 @@ module _ (value : WorldValue) (held : IsHeld value) (name : TaskName) (from : Lo
     (new : List ℕ)
     (object : Location) (replaced : Option Location) (small : IsSmall from) (small_to : IsSmall to)
     (small_object : IsSmall object)
-    (small_replaced : IfSome replaced IsSmall)
+    (small_replaced : IfSome replaced (λ other. is_small_node other.node ≡ true))
     (permits : Permits value name (ToRename (location_of from) old (location_of to) new (location_of object)
     (option_map location_of replaced))) where
   abbrev world : World ℕ
@@ -90,7 +90,7 @@ module _ (value : WorldValue) (held : IsHeld value) (name : TaskName) (from : Lo
       → numbers ≡ gone
   replaced_collected numbers is = is ∙ by replaced small_replaced names.3
     where
-      by : (o : Option Location) → IfSome o IsSmall
+      by : (o : Option Location) → IfSome o (λ other. is_small_node other.node ≡ true)
           → ((other : meant.Location ℕ) → option_map location_of o ≡ Some other
           → IsReached (world_of value) permits.task other)
           → trees_of_replaced (mounts_in value.mounts) o ≡ trees_numbers (world_of value) (tops_on_replaced value o)
@@ -156,7 +156,7 @@ module _ (value : WorldValue) (held : IsHeld value) (name : TaskName) (from : Lo
             ap (λ (l : meant.Location ℕ). l.mount) same ∙ sees.to_mount,
           )
 
-  some_on : (o : Option Location) → replaced ≡ o → IfSome o IsSmall
+  some_on : (o : Option Location) → replaced ≡ o → IfSome o (λ other. is_small_node other.node ≡ true)
       → trees_numbers world (tops_on_replaced value o) ≢ [] → IsOnReplaced
   some_on None is few some = absurd (some refl)
   some_on (Some other) is few some =
@@ -211,7 +211,7 @@ module _ (value : WorldValue) (held : IsHeld value) (name : TaskName) (from : Lo
 module _ (base : WorldValue) (store : StoreValue) (held : IsHeld (with_store store base)) (name : TaskName)
     (from : Location) (old : List ℕ) (to : Location) (new : List ℕ) (object : Location) (replaced : Option Location)
     (small : IsSmall from) (small_to : IsSmall to) (small_object : IsSmall object)
-    (small_replaced : IfSome replaced IsSmall)
+    (small_replaced : IfSome replaced (λ other. is_small_node other.node ≡ true))
     (permits : Permits (with_store store base) name (ToRename (location_of from) old (location_of to) new
     (location_of object) (option_map location_of replaced)))
     (ids : List MountId)
@@ -235,10 +235,10 @@ module _ (base : WorldValue) (store : StoreValue) (held : IsHeld (with_store sto
       store.plain plain
       → (mounts : List MountEntry) (groups : Grouping) (last : StoreValue)
       → LeaveTogether (map (λ id. counted id.count) ids) (kept base.mounts (record store { plain = plain }))
-      base.groups (kept mounts last) groups
+      base.groups (kept mounts last) groups → OverlaysLeft store.overlays last.overlays
       → IsDone (with_store store base) name renamed (with_store last (record base { mounts = mounts; groups = groups }))
-  rename_over some plain changes mounts groups last left =
-      left_is_stored base store held ids trees are plain mounts groups last left name renamed
+  rename_over some plain changes mounts groups last left overlays =
+      left_is_stored base store held ids trees are plain mounts groups last left overlays name renamed permits
       (rename_is_done (with_store store base) held name from old to new object replaced small small_to small_object
       small_replaced permits plain last.plain (map merged_of last.overlays) mounts groups
       (some_go base store held ids trees are some) changes

@@ -1,30 +1,36 @@
 -- The number of an inode that its filesystem does not have is not in use.
-use Rattle.std.proofs.Common.{◌≡◌, refl, sym, ap, subst, ◌∙◌, inl, inr, true≢false, eq-eqb, ℕ, ◌+◌, ◌*◌, ◌<◌, ◌%◌, ◌/◌, ◌==◌, nat_eq, ne_eqb, eqb-true, Bool, true, false, ◌||◌, List, [], ◌∷◌, ◌++◌, map, flat_map, Option, Some, None, is_some, option_map, unwrap_or, option_to_list, arith}
+use Rattle.std.proofs.Common.{◌≡◌, refl, sym, ap, subst, ◌∙◌, inl, inr, ℕ, ◌+◌, ◌*◌, ◌<◌, ◌%◌, ◌/◌, ◌==◌, nat_eq, ne_eqb, eqb-true, lt-ltb, Bool, true, false, ◌&&◌, ◌||◌, List, [], ◌∷◌, ◌++◌, map, flat_map, Option, Some, None, is_some, option_map, unwrap_or, option_to_list, arith}
 use Rattle.std.specs.List.{list_all}
 use Rattle.std.proofs.lemmas.Bool.{and_parts}
 use Rattle.std.proofs.lemmas.List.Folds.{list_any-append}
 use Rattle.vt_spec.specs.Lists.{is_among}
+use Rattle.vt_spec.specs.Machine.Invariants.{ListsNumbers}
 use Rattle.vt_spec.specs.Machine.Mounts.{Propagation, source_of}
 use Rattle.vt_spec.specs.Machine.Mounts.Propagation.{Private, Shared, Slave, Unbindable}
 use Rattle.vt_spec.specs.Machine.Run.{used_by_filesystem, used_by_mount}
 use Rattle.vt_spec.specs.Machine.Mounts as meant
-use Rattle.vt_spec.specs.Machine.World.{Namespace, mount_at}
+use Rattle.vt_spec.specs.Machine.World.{Filesystem, Namespace, filesystem_numbered, mount_at}
 use Rattle.vt_spec.specs.Inodes.{node_in}
-use Rattle.vt_fs.specs.FilesystemsValue.{FilesystemEntry, Filesystems, entry_at, entry_of, filesystems_seen, inodes_at, inodes_seen, next_seen, no_entry, numbers_seen}
-use Rattle.vt_laws_letting_go.proofs.Lists.{Among, among_from_all}
-use Rattle.vt_location.proofs.NumberLemmas.{own_inode}
-use Rattle.vt_location.specs.Numbers.{counted, inode_number, is_own_number}
+use Rattle.vt_spec.specs.Tree.{Node}
+use Rattle.vt_spec.specs.TreeInvariant.{IsTree}
+use Rattle.vt_fs.specs.FilesystemsValue.{FilesystemEntry, entry_of, inodes_at, inodes_seen, next_seen, no_entry}
+use Rattle.vt_laws_letting_go.proofs.Lists.{Among, among_from_all, found_in}
+use Rattle.vt_laws_letting_go.proofs.sweeps.OfWorlds.{found_filesystem}
+use Rattle.vt_laws_worlds.proofs.worlds.Roots.{directory_there}
+use Rattle.vt_location.specs.declared.births.Birth.TheVariants.{Here}
+use Rattle.vt_location.specs.declared.locations.NodeRef.{NodeRef}
+use Rattle.vt_location.specs.Locations.{is_small_node}
+use Rattle.vt_location.specs.Numbers.{counted, inode_number}
 use Rattle.vt_mount.specs.MountsValue.{MountEntry, mounts_in}
 use Rattle.vt_mount.specs.Sources.{has_counted_source}
 use Rattle.vt_laws_permits.specs.InUse.{is_in_use}
 use Rattle.vt_detach.specs.Events.{filesystem_count, next_inode}
-use Rattle.vt_world.specs.Held.{HasOwnInodes, IsHeld}
+use Rattle.vt_world.specs.Held.{HasOwnNodes, IsHeld}
 use Rattle.vt_ns.specs.Vacancy.{IsVacant}
 use Rattle.vt_world.specs.WorldValue.{NamespaceEntry, WorldValue, namespace_of, world_of}
-use Rattle.vt_detach.proofs.FilesSeen.{one_entry}
-use Rattle.vt_detach.proofs.Overlaid.{only_plain_ones, plain_ones_apart}
-use Rattle.vt_fs.proofs.Numbers.{inode_of_one, numbers_listed}
-use Rattle.vt_attach.proofs.NewFilesystems.{next_is_free}
+use Rattle.vt_detach.proofs.NodesFound.{in_no_other, own_nodes}
+use Rattle.vt_detach.proofs.Overlaid.{found_plain_one}
+use Rattle.vt_attach.proofs.NewFilesystems.{filesystem_counted, found_below}
 
 module _ (count slot : ℕ) (small : slot < 18446744073709551616) where
   abbrev number : ℕ
@@ -64,41 +70,58 @@ module _ (count slot : ℕ) (small : slot < 18446744073709551616) where
       by Private e one none = λ i. not_odd entry.mount.number one i || none i
       by Unbindable e one none = λ i. not_odd entry.mount.number one i || none i
 
-  in_no_filesystem : (all : Filesystems)
-      → ((entry : FilesystemEntry) → Among entry all → is_among nat_eq number (numbers_seen entry) ≡ false)
-      → is_among nat_eq number (flat_map used_by_filesystem (filesystems_seen all)) ≡ false
+  in_no_filesystem : (all : List (Filesystem ℕ))
+      → ((f : Filesystem ℕ) → Among f all
+      → (nat_eq number f.number ≡ false) × (is_among nat_eq number f.files.numbers ≡ false))
+      → is_among nat_eq number (flat_map used_by_filesystem all) ≡ false
   in_no_filesystem [] none = refl
-  in_no_filesystem (entry ∷ rest) none =
-      (λ i. not_counted entry.count i
-      || (list_any-append (nat_eq number) (numbers_seen entry) (flat_map used_by_filesystem (filesystems_seen rest))
-      ∙ (λ j. none entry (inl refl) j || in_no_filesystem rest (λ other m. none other (inr m)) j)) i)
+  in_no_filesystem (f ∷ rest) none =
+      let first = none f (inl refl) in
+      (λ i. first.0 i
+      || (list_any-append (nat_eq number) f.files.numbers (flat_map used_by_filesystem rest)
+      ∙ (λ j. first.1 j || in_no_filesystem rest (λ other m. none other (inr m)) j)) i)
 
   in_no_namespace : (all : List NamespaceEntry)
       → is_among nat_eq number (map (λ (namespace : Namespace ℕ). namespace.number) (map namespace_of all)) ≡ false
   in_no_namespace [] = refl
   in_no_namespace (entry ∷ rest) = λ i. not_counted entry.count i || in_no_namespace rest i
 
-  module _ (value : WorldValue) (whole : IsHeld value)
+  module _ (value : WorldValue) (whole : IsHeld value) (small_count : count < 18446744073709551616)
       (odd : list_all (λ mount. mount.number % 4 == 1) (mounts_in value.mounts) ≡ true)
       (sources : list_all has_counted_source (mounts_in value.mounts) ≡ true)
-      (missing : (entry : FilesystemEntry) → entry_of value.filesystems count ≡ Some entry
-      → (inodes_seen entry).inode number ≡ None) where
-    in_no_entry : (entry : FilesystemEntry) → Among entry value.filesystems → (inodes_seen entry).inode number ≡ None
-    in_no_entry entry m = by (nat_eq entry.count count) refl
-      where
-        other : (own : Bool) → is_own_number entry.count number ≡ own → nat_eq entry.count count ≡ false
-            → (inodes_seen entry).inode number ≡ None
-        other true e apart =
-            absurd (true≢false (sym (eq-eqb entry.count count (inode_of_one entry.count count slot small (own_inode entry.count number e)))
-            ∙ apart))
-        other false e apart = among_from_all HasOwnInodes value.filesystems whole.own_inodes entry m number e
+      (missing : (filesystem_numbered nat_eq (world_of value) (counted count)).files.tree.node number ≡ None) where
+    abbrev node : NodeRef
+    node = record { filesystem = record { count = count }; slot = slot; birth = Here }
 
-        by : (same : Bool) → nat_eq entry.count count ≡ same → (inodes_seen entry).inode number ≡ None
+    small_node : is_small_node node ≡ true
+    small_node =
+        λ i. lt-ltb count 18446744073709551616 small_count i && (lt-ltb slot 18446744073709551616 small i && true)
+
+    found : (f : Filesystem ℕ) → Among f (world_of value).filesystems
+        → filesystem_numbered nat_eq (world_of value) f.number ≡ f
+    found f m = found_filesystem (world_of value).filesystems whole.in_world.files.one_filesystem f m
+
+    -- no filesystem has an inode of this number
+    in_none : (f : Filesystem ℕ) → Among f (world_of value).filesystems → f.files.tree.node number ≡ None
+    in_none f m =
+        ap (λ (g : Filesystem ℕ). g.files.tree.node number) (sym (found f m)) ∙ by (nat_eq f.number (counted count)) refl
+      where
+        by : (b : Bool) → nat_eq f.number (counted count) ≡ b
+            → (filesystem_numbered nat_eq (world_of value) f.number).files.tree.node number ≡ None
         by true e =
-            missing entry
-            (ap (entry_of value.filesystems) (sym (eqb-true entry.count count e))
-            ∙ one_entry value.filesystems (plain_ones_apart value whole) entry m)
-        by false e = other (is_own_number entry.count number) refl e
+            ap (λ n. (filesystem_numbered nat_eq (world_of value) n).files.tree.node number)
+            (eqb-true f.number (counted count) e) ∙ missing
+        by false e = in_no_other value whole f.number node small_node e
+
+    -- nor this number itself
+    numbered_otherwise : (f : Filesystem ℕ) → Among f (world_of value).filesystems → nat_eq number f.number ≡ false
+    numbered_otherwise f m =
+        let root = among_from_all HasOwnNodes (world_of value).filesystems (own_nodes value whole) f m
+        f.files.tree.root
+        (directory_there (f.files.tree.node f.files.tree.root)
+        (among_from_all (λ (g : Filesystem ℕ). IsTree g.files.tree) (world_of value).filesystems
+        whole.in_world.files.trees f m).root_directory) in
+        ap (nat_eq number) root.2 ∙ not_counted root.0.filesystem.count
 
     -- a number that is not counted yet is not in use
     pub is_unused : is_in_use (world_of value) number ≡ false
@@ -110,34 +133,40 @@ module _ (count slot : ℕ) (small : slot < 18446744073709551616) where
         (list_any-append (nat_eq number) (flat_map used_by_mount (world_of value).mounts)
         (flat_map used_by_filesystem (world_of value).filesystems)
         ∙ (λ j. in_no_mount value.mounts odd sources j
-        || (ap (λ list. is_among nat_eq number (flat_map used_by_filesystem list)) (only_plain_ones value whole)
-        ∙ in_no_filesystem value.filesystems (λ entry m.
-        numbers_listed entry number ∙ ap (λ inode. is_some (node_in inode)) (in_no_entry entry m))) j)) i
+        || in_no_filesystem (world_of value).filesystems (λ f m. (
+          numbered_otherwise f m,
+          among_from_all (λ (g : Filesystem ℕ). ListsNumbers nat_eq g.files) (world_of value).filesystems
+              whole.in_world.files.numbers f m number ∙ ap is_some (in_none f m),
+        )) j)) i
         || in_no_namespace value.namespaces i)
 
-module _ (value : WorldValue) (whole : IsHeld value)
+module _ (value : WorldValue) (whole : IsHeld value) (small_next : value.next < 18446744073709551616)
     (odd : list_all (λ mount. mount.number % 4 == 1) (mounts_in value.mounts) ≡ true)
     (sources : list_all has_counted_source (mounts_in value.mounts) ≡ true) where
-  is_vacant : (count slot : ℕ) → slot < 18446744073709551616
-      → ((entry : FilesystemEntry) → entry_of value.filesystems count ≡ Some entry
-      → (inodes_seen entry).inode (inode_number count slot) ≡ None)
-      → IsVacant value (inode_number count slot)
-  is_vacant count slot small missing =
-      record { even = is_even count slot small; unused = is_unused count slot small value whole odd sources missing }
-
   -- the root of the next filesystem
   pub root_is_vacant : IsVacant value (inode_number value.next 0)
-  root_is_vacant =
-      is_vacant value.next 0 (omega arith)
-      (λ entry found. absurd (let none : None ≡ Some entry = sym (next_is_free value whole) ∙ found in cc))
+  root_is_vacant = record {
+    even = is_even value.next 0 (omega arith);
+    unused = is_unused value.next 0 (omega arith) value whole small_next odd sources (not_yet _ refl);
+  }
+    where
+      not_yet : (o : Option (Node ℕ))
+          → (filesystem_numbered nat_eq (world_of value) (counted value.next)).files.tree.node
+          (inode_number value.next 0) ≡ o → o ≡ None
+      not_yet None e = refl
+      not_yet (Some node) e =
+          let below = found_below value whole (counted value.next) (inode_number value.next 0) (ap is_some e) in
+          absurd (omega (arith, below))
 
   module _ (location : meant.Location ℕ) (count : ℕ)
       (shows : counted count ≡ (mount_at nat_eq (world_of value) location).filesystem) where
     at_count : filesystem_count value location ≡ count
     at_count = ap (λ n. n / 4) (sym shows) ∙ (let quarter : (4 * count + 1) / 4 ≡ count = omega arith in quarter)
 
-    next_at : next_inode value location ≡ next_seen (unwrap_or (entry_of value.filesystems count) (no_entry count))
-    next_at = ap (λ n. next_seen (entry_at value.filesystems n)) at_count
+    next_at : next_inode value location
+        ≡ unwrap_or (option_map next_seen (entry_of value.filesystems count)) (inode_number value.next 0)
+    next_at =
+        ap (λ n. unwrap_or (option_map next_seen (entry_of value.filesystems n)) (inode_number value.next 0)) at_count
 
     -- the next inode of a filesystem
     pub next_is_vacant : (slot : ℕ) → slot < 18446744073709551616
@@ -145,26 +174,32 @@ module _ (value : WorldValue) (whole : IsHeld value)
         → (inodes_at value.filesystems count).inode (inode_number count slot) ≡ None
         → IsVacant value (next_inode value location)
     next_is_vacant slot small next none =
-        subst (IsVacant value) (sym (next_at ∙ by (entry_of value.filesystems count) next))
-        (is_vacant count slot small (λ entry found.
-        subst (λ one. (inodes_seen (unwrap_or one (no_entry count))).inode (inode_number count slot)
-        ≡ None) found none))
+        subst (IsVacant value)
+        (sym (next_at ∙ ap (λ o. unwrap_or o (inode_number value.next 0)) (sym next)))
+        (by (entry_of value.filesystems count) refl next)
       where
-        by : (found : Option FilesystemEntry) → Some (inode_number count slot) ≡ option_map next_seen found
-            → next_seen (unwrap_or found (no_entry count)) ≡ inode_number count slot
-        by None e = absurd cc
-        by (Some entry) e = let same : inode_number count slot ≡ next_seen entry = cc in sym same
+        by : (o : Option FilesystemEntry) → entry_of value.filesystems count ≡ o
+            → Some (inode_number count slot) ≡ option_map next_seen o → IsVacant value (inode_number count slot)
+        by None e is = absurd cc
+        by (Some entry) e is =
+            let there = found_in (λ (one : FilesystemEntry). nat_eq count one.count) value.filesystems entry e in
+            let low = filesystem_counted value whole entry there.0 in
+            let same = eqb-true count entry.count there.1 in
+            record {
+              even = is_even count slot small;
+              unused = is_unused count slot small value whole (omega (arith, low, same, small_next)) odd sources
+                  (ap (λ n. (filesystem_numbered nat_eq (world_of value) (counted n)).files.tree.node
+                  (inode_number count slot)) same
+                  ∙ ap (λ (f : Filesystem ℕ). f.files.tree.node (inode_number count slot))
+                  (found_plain_one value whole entry there.0)
+                  ∙ ap (λ o. node_in ((inodes_seen (unwrap_or o (no_entry count))).inode (inode_number count slot)))
+                  (sym e)
+                  ∙ ap node_in none);
+            }
 
-    -- in a filesystem that does not exist
+    -- in a filesystem that is no plain one
     pub none_is_vacant : None ≡ option_map next_seen (entry_of value.filesystems count)
         → IsVacant value (next_inode value location)
     none_is_vacant next =
-        subst (IsVacant value) (sym (next_at ∙ by (entry_of value.filesystems count) next))
-        (is_vacant count 0 (omega arith)
-        (λ entry found. absurd (let none : None ≡ Some (next_seen entry) = next
-        ∙ ap (option_map next_seen) found in cc)))
-      where
-        by : (found : Option FilesystemEntry) → None ≡ option_map next_seen found
-            → next_seen (unwrap_or found (no_entry count)) ≡ inode_number count 0
-        by None e = refl
-        by (Some entry) e = absurd cc
+        subst (IsVacant value) (sym (next_at ∙ ap (λ o. unwrap_or o (inode_number value.next 0)) (sym next)))
+        root_is_vacant

@@ -17,6 +17,7 @@ loop-preserved c =
     let one : c.args.uses - c.loop.counter ≡ left + 1 = omega (arith, c.loop-test.true) in record {
       held = c.hold_once_more.ensures.held ∙ ap (with_location c.args.at false) c.loop.invariant.held
           ∙ ap (λ n. with_uses n c.args.at (kept c.args.mounts.now c.args.store.now)) (sym (add-one c.loop.counter));
+      overlays = c.hold_once_more.ensures.overlays ∙ c.loop.invariant.overlays;
       room = room_still left c.args.at c.args.at c.loop.mounts c.hold_once_more.new.mounts c.loop.store
           c.hold_once_more.new.store
           (subst (λ n. HasRoom n c.args.at c.loop.mounts c.loop.store.plain) one c.loop.invariant.room)

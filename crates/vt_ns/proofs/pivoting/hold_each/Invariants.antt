@@ -8,5 +8,6 @@ use Rattle.vt_ns.proofs.pivoting.hold_each.Given as goal
 abbrev pub invariant-loop : goal.invariant-loop
 invariant-loop l = record {
   held : kept l.mounts l.store ≡ with_uses l.counter l.at (kept l.fn.mounts l.fn.store);
+  overlays : l.store.overlays ≡ l.fn.store.overlays;
   room : HasRoom (l.uses - l.counter) l.at l.mounts l.store.plain;
 }

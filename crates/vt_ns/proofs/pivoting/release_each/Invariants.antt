@@ -3,7 +3,8 @@ use Rattle.vt_detach.specs.Stored.{kept}
 use Rattle.vt_ns.specs.Pivoting.{without_uses}
 use Rattle.vt_ns.proofs.pivoting.release_each.Given as goal
 
--- some are gone
+-- some are gone, and no overlay
 abbrev pub invariant-loop : goal.invariant-loop
 invariant-loop l =
-    kept l.mounts l.store ≡ without_uses l.counter l.at (kept l.fn.mounts l.fn.store)
+    (kept l.mounts l.store ≡ without_uses l.counter l.at (kept l.fn.mounts l.fn.store))
+    × (l.store.overlays ≡ l.fn.store.overlays)

@@ -7,14 +7,15 @@ use Rattle.vt_tasks.specs.Open.{numbered}
 use Rattle.vt_tasks.specs.TasksValue.{has_files_in_order}
 use Rattle.vt_ns.specs.contracts.world.World.{the_view}
 use Rattle.vt_detach.specs.Events.{Becomes, Permits}
-use Rattle.vt_detach.specs.Uses.{Kept, kept_of, without_location}
+use Rattle.vt_detach.specs.Uses.{kept_of, without_location}
 use Rattle.vt_detach.proofs.Closing.{file_is_closed, nothing_is_closed}
-use Rattle.vt_detach.proofs.Remaining.{remade, remade_with}
+use Rattle.vt_detach.proofs.OverlaysListed.{done_in_store}
+use Rattle.vt_detach.proofs.Remaining.{remade}
 use Rattle.vt_detach.proofs.Staying.{IsDone, after}
 use Rattle.vt_world.specs.WorldValue.{WorldValue}
 use Rattle.vt_world.specs.StoredWorld.{overlays_of_store}
 use Rattle.vt_detach.specs.Stored.{kept, merged_of}
-use Rattle.vt_ns.proofs.world.StoresKept.{done_stored, kept_is, kept_still, none_kept, none_without}
+use Rattle.vt_ns.proofs.world.StoresKept.{kept_is}
 use Rattle.vt_ns.proofs.world.World.close.Goals as goal
 
 abbrev after_leaving : (c : goal.After-leave) → WorldValue
@@ -35,16 +36,12 @@ left_so c =
 done : (c : goal.After-leave) → IsDone (the_view c.self.inside) c.args.name.now (ToClose c.args.descriptor)
     (after_leaving c)
 done c =
-    let kept_now = map merged_of c.leave.new.store.overlays in
-    done_stored (the_view c.self.inside) c.self.invariant c.args.name.now (ToClose c.args.descriptor)
-    (remade_with (the_view c.self.inside) c.leave.new.mounts c.leave.new.store.plain kept_now c.close.new.self)
-    c.leave.new.store (kept_still (the_view c.self.inside) c.self.invariant kept_now)
-    (ap (λ (k : Kept). k.overlays) (left_so c)
-    ∙ none_without c.in-Some.closed.location _ (kept_of (the_view c.self.inside))
-    (none_kept (the_view c.self.inside) c.self.invariant))
+    let permits : Permits (the_view c.self.inside) c.args.name.now (ToClose c.args.descriptor) =
+    subst (λ value. Permits value c.args.name.now (ToClose c.args.descriptor)) (sym c.self.view_is) c.requires in
+    done_in_store (the_view c.self.inside) (after_leaving c) c.self.inside.store c.leave.new.store c.self.invariant
+    c.leave.ensures.overlays c.args.name.now (ToClose c.args.descriptor) permits
     (file_is_closed (the_view c.self.inside) c.args.name.now c.args.descriptor c.in-Some.closed c.leave.new.mounts
-    c.leave.new.store.plain kept_now c.close.new.self c.self.invariant
-    (subst (λ value. Permits value c.args.name.now (ToClose c.args.descriptor)) (sym c.self.view_is) c.requires)
+    c.leave.new.store.plain (map merged_of c.leave.new.store.overlays) c.close.new.self c.self.invariant permits
     c.leave.ensures.slot
     (passes has_files_in_order c.self.inside.tasks c.close.ensures.order)
     (sym (ap (option_map (numbered c.args.descriptor)) c.in-Some.is) ∙ c.close.ensures.value)

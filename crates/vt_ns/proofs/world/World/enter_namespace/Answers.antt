@@ -1,4 +1,4 @@
-use Rattle.std.proofs.Common.{[], ap, false, map, option_map, rules, subst, sym, true, ◌≡◌, ◌∙◌}
+use Rattle.std.proofs.Common.{ap, false, map, option_map, rules, subst, sym, true, ◌≡◌, ◌∙◌}
 use Rattle.vt_location.specs.Locations.{location_of}
 use Rattle.vt_location.specs.Numbers.{counted}
 use Rattle.vt_spec.specs.Machine.Permits.Permit.{ToEnterNamespace}
@@ -6,15 +6,16 @@ use Rattle.vt_tasks.specs.TasksValue.{left_of}
 use Rattle.vt_ns.specs.contracts.world.World.{the_view}
 use Rattle.vt_detach.specs.Events.{Becomes, Permits}
 use Rattle.vt_detach.specs.NamespacesLeft.{MountsAreLeft, namespace_entry, with_one_task_less}
-use Rattle.vt_detach.specs.Uses.{Kept, kept_of, overlays_kept, with_location, without_location}
+use Rattle.vt_detach.specs.Uses.{kept_of, with_location, without_location}
 use Rattle.vt_world.specs.WorldValue.{WorldValue, entries_of}
 use Rattle.vt_ns.proofs.CountingLemmas.{room_left}
 use Rattle.vt_detach.proofs.Entered.{namespace_has_a_root, task_enters}
 use Rattle.vt_ns.specs.Entering.{HasRoomToEnter}
+use Rattle.vt_detach.proofs.OverlaysListed.{done_in_store, left_itself, left_twice}
 use Rattle.vt_detach.proofs.Staying.{IsDone}
 use Rattle.vt_world.specs.StoredWorld.{overlays_of_store}
-use Rattle.vt_detach.specs.Stored.{kept, merged_of}
-use Rattle.vt_ns.proofs.world.StoresKept.{done_stored, kept_is, kept_still, none_kept, none_left, none_without}
+use Rattle.vt_detach.specs.Stored.{OverlaysLeft, kept, merged_of}
+use Rattle.vt_ns.proofs.world.StoresKept.{kept_is}
 use Rattle.vt_ns.proofs.world.World.enter_namespace.Goals as goal
 use Rattle.vt_ns.proofs.world.World.enter_namespace.Goals.{then-not-has_room-via-then-not-has_room, then-not-has_room-via-else-not-has_room+then-not-has_room_for_task}
 
@@ -55,38 +56,36 @@ left_so c =
     (c.hold_once_more.ensures.held ∙ ap (with_location c.unwrap-root.result false)
     (kept_is (the_view c.self.inside) c.self.inside.store))))
 
--- no overlay comes
-none_come : (c : goal.After-leave_namespace)
-    → (kept c.leave_namespace.new.mounts c.leave_namespace.new.store).overlays ≡ []
-none_come c =
-    let left = c.in-Some.left in
-    none_left (counted left.namespace.count)
-    (namespace_entry left.namespace.count (entries_of c.count_task.new.namespaces.entries))
-    (kept c.leave-in-Some.new.mounts c.leave-in-Some.new.store) c.self.inside.groups
-    (kept c.leave_namespace.new.mounts c.leave_namespace.new.store) c.leave_namespace.new.groups
-    (ap (λ (k : Kept). k.overlays) (left_so c)
-    ∙ none_without left.directory false _ (none_without left.root false
-    (with_location c.unwrap-root.result false
-    (with_location c.unwrap-root.result false (kept_of (the_view c.self.inside))))
-    (none_kept (the_view c.self.inside) c.self.invariant)))
-    c.leave_namespace.ensures.mounts
+-- overlays that are left were there
+overlays_so : (c : goal.After-leave_namespace) → OverlaysLeft c.self.inside.store.overlays
+    c.leave_namespace.new.store.overlays
+overlays_so c =
+    let old = c.self.inside.store.overlays in
+    let held = c.hold_once_more-2.new.store.overlays in
+    left_twice old c.leave-in-Some.new.store.overlays c.leave_namespace.new.store.overlays
+    (left_twice old c.leave.new.store.overlays c.leave-in-Some.new.store.overlays
+    (left_twice old held c.leave.new.store.overlays
+    (left_itself old held (c.hold_once_more-2.ensures.overlays ∙ c.hold_once_more.ensures.overlays))
+    c.leave.ensures.overlays)
+    c.leave-in-Some.ensures.overlays)
+    c.leave_namespace.ensures.overlays
 
 done : (c : goal.After-leave_namespace) → IsDone (the_view c.self.inside) c.args.name.now
     (ToEnterNamespace (counted c.args.namespace.count)) (after c)
 done c =
     let left = c.in-Some.left in
-    let kept_now = map merged_of c.leave_namespace.new.store.overlays in
-    done_stored (the_view c.self.inside) c.self.invariant c.args.name.now
-    (ToEnterNamespace (counted c.args.namespace.count))
-    (record (after c) { overlays = overlays_kept kept_now (the_view c.self.inside).overlays })
-    c.leave_namespace.new.store (kept_still (the_view c.self.inside) c.self.invariant kept_now) (none_come c)
+    let permits : Permits (the_view c.self.inside) c.args.name.now
+    (ToEnterNamespace (counted c.args.namespace.count)) =
+    subst (λ value. Permits value c.args.name.now (ToEnterNamespace (counted c.args.namespace.count)))
+    (sym c.self.view_is) c.requires in
+    done_in_store (the_view c.self.inside) (after c) c.self.inside.store c.leave_namespace.new.store c.self.invariant
+    (overlays_so c) c.args.name.now (ToEnterNamespace (counted c.args.namespace.count)) permits
     (task_enters (the_view c.self.inside) c.args.name.now c.args.namespace.count c.unwrap-root.result left
-    c.leave_namespace.new.mounts c.leave_namespace.new.groups c.leave_namespace.new.store.plain kept_now
+    c.leave_namespace.new.mounts c.leave_namespace.new.groups c.leave_namespace.new.store.plain
+    (map merged_of c.leave_namespace.new.store.overlays)
     (entries_of c.leave_namespace.new.namespaces.entries) c.enter.new.self
     (kept c.leave-in-Some.new.mounts c.leave-in-Some.new.store)
-    c.self.invariant
-    (subst (λ value. Permits value c.args.name.now (ToEnterNamespace (counted c.args.namespace.count)))
-    (sym c.self.view_is) c.requires)
+    c.self.invariant permits
     (sym (ap (option_map location_of) c.unwrap-root.ensures) ∙ c.namespace_root.ensures)
     c.hold_once_more.ensures.slot c.leave.ensures.slot c.leave-in-Some.ensures.slot
     (sym (ap (option_map left_of) c.in-Some.is) ∙ c.enter.ensures.left)

@@ -1,4 +1,4 @@
-use Rattle.std.proofs.Common.{ap, false, map, option_copied, option_map, refl, rules, subst, sym, ◌≡◌, ◌∙◌}
+use Rattle.std.proofs.Common.{ap, false, map, option_copied, option_map, rules, subst, sym, ◌≡◌, ◌∙◌}
 use Rattle.vt_spec.specs.Machine.Permits.Permit.{ToFork}
 use Rattle.vt_tasks.specs.TaskValue.{task_of}
 use Rattle.vt_ns.specs.contracts.world.World.{the_view}
@@ -10,8 +10,8 @@ use Rattle.vt_ns.proofs.world.RemainingTasks.{remade_in}
 use Rattle.vt_detach.proofs.Staying.{IsDone}
 use Rattle.vt_world.specs.StoredWorld.{overlays_of_store}
 use Rattle.vt_detach.specs.Stored.{kept, merged_of}
-use Rattle.vt_detach.specs.Uses.{Kept, kept_of, with_location}
-use Rattle.vt_ns.proofs.world.StoresKept.{done_stored, kept_is, none_kept}
+use Rattle.vt_detach.specs.Uses.{kept_of, with_location}
+use Rattle.vt_ns.proofs.world.StoresKept.{kept_is, same_in_store}
 use Rattle.vt_ns.proofs.world.World.fork.Goals as goal
 
 pub fork-requires : goal.fork-requires
@@ -48,11 +48,13 @@ held_so c =
 
 done : (c : goal.After-count_task) → IsDone (the_view c.self.inside) c.args.name.now (ToFork c.args.cred) (after c)
 done c =
-    done_stored (the_view c.self.inside) c.self.invariant c.args.name.now (ToFork c.args.cred) (forked c)
-    c.hold_once_more-2.new.store refl
-    (ap (λ (k : Kept). k.overlays) (held_so c) ∙ none_kept (the_view c.self.inside) c.self.invariant)
+    let permits : Permits (the_view c.self.inside) c.args.name.now (ToFork c.args.cred) =
+    subst (λ value. Permits value c.args.name.now (ToFork c.args.cred)) (sym c.self.view_is) c.requires in
+    same_in_store (the_view c.self.inside) (forked c) c.self.inside.store c.hold_once_more-2.new.store c.self.invariant
+    (c.hold_once_more-2.ensures.overlays ∙ c.hold_once_more.ensures.overlays) c.args.name.now (ToFork c.args.cred)
+    permits
     (task_is_forked (the_view c.self.inside) c.self.invariant c.args.name.now c.args.cred
-    (subst (λ value. Permits value c.args.name.now (ToFork c.args.cred)) (sym c.self.view_is) c.requires)
+    permits
     c.unwrap-parent.result.now
     (sym (ap (λ found. option_map task_of (option_copied found)) c.unwrap-parent.ensures) ∙ c.get.ensures)
     c.hold_once_more.ensures.slot c.hold_once_more-2.ensures.slot

@@ -1,4 +1,4 @@
-use Rattle.std.proofs.Common.{subst}
+use Rattle.std.proofs.Common.{subst, arith}
 use Rattle.vt_ns.specs.contracts.world.World.{the_view}
 use Rattle.vt_ns.specs.Vacancy.{NextRootIsVacant}
 use Rattle.vt_ns.proofs.world.VacantNumbers.{root_is_vacant}
@@ -6,4 +6,4 @@ use Rattle.vt_ns.proofs.world.World.next_root_is_vacant.Goals as goal
 
 pub returns : goal.returns
 returns c = subst NextRootIsVacant c.self.view_is
-    (root_is_vacant (the_view c.self.inside) c.self.invariant c.are_counted.ensures c.groups_are_counted.ensures)
+    (root_is_vacant (the_view c.self.inside) c.self.invariant (omega arith) c.are_counted.ensures c.groups_are_counted.ensures)

@@ -90,7 +90,7 @@ invariant_of-self-2 c =
     let once = ap (λ filesystem. uses_in ((inodes_at c.open_next.new.filesystems filesystem.count).inode
     (number_of c.unwrap-file.result))) inside
     ∙ used_once (the_view c.self.inside) c.self.invariant c.args.name.now c.args.new.directory c.args.new.name.items c.args.new.node (access_of c.args.new.access) (omega arith)
-    permits c.open_next.new.filesystems c.unwrap-file.result (omega arith) own inside number made in
+    permits c.open_next.new.filesystems c.unwrap-file.result (search rules) own inside number made in
     let room = c.mount_has_room.ensures (let room = c.if-not-mount_has_room.false in search rules) in
     let mounts = of-ok c.hold.result (c.hold.ensures.few room.0 room.1) c.hold.ensures.ok in
     let filesystems = new_pinned c.pin.result _ (rw c.plain_mut.ensures.value at c.pin.ensures.limit).0 once (rw c.plain_mut.ensures.value at c.pin.ensures.ok) in
@@ -99,7 +99,7 @@ invariant_of-self-2 c =
     (record (the_view c.self.inside) { mounts = c.hold.new.self; tasks = c.open_next.new.tasks })
     (new_opens (the_view c.self.inside) c.self.invariant c.args.name.now c.args.new.directory c.args.new.name.items c.args.new.node
     (access_of c.args.new.access) (omega arith)
-    permits c.open_next.new.filesystems c.unwrap-file.result (omega arith) own inside number made
+    permits c.open_next.new.filesystems c.unwrap-file.result (search rules) own inside number made
     c.hold.new.self c.pin.new.self (map merged_seen (the_view c.self.inside).overlays)
     (λ i. record {
       mounts = (mounts ∙ ap (λ writes. changed_mounts (counted c.args.new.directory.mount.count)
@@ -131,7 +131,7 @@ returns-clause-ok c =
     let once = ap (λ filesystem. uses_in ((inodes_at c.open_next.new.filesystems filesystem.count).inode
     (number_of c.unwrap-file.result))) inside
     ∙ used_once (the_view c.self.inside) c.self.invariant c.args.name.now c.args.new.directory c.args.new.name.items c.args.new.node (access_of c.args.new.access) (omega arith)
-    permits c.open_next.new.filesystems c.unwrap-file.result (omega arith) own inside number made in
+    permits c.open_next.new.filesystems c.unwrap-file.result (search rules) own inside number made in
     let room = c.mount_has_room.ensures (let room = c.if-not-mount_has_room.false in search rules) in
     let mounts = of-ok c.hold.result (c.hold.ensures.few room.0 room.1) c.hold.ensures.ok in
     let filesystems = new_pinned c.pin.result _ (rw c.plain_mut.ensures.value at c.pin.ensures.limit).0 once (rw c.plain_mut.ensures.value at c.pin.ensures.ok) in
@@ -144,7 +144,7 @@ returns-clause-ok c =
     (record (the_view c.self.inside) { mounts = c.hold.new.self; tasks = c.open_next.new.tasks })
     (new_opens (the_view c.self.inside) c.self.invariant c.args.name.now c.args.new.directory c.args.new.name.items c.args.new.node
     (access_of c.args.new.access) (omega arith)
-    permits c.open_next.new.filesystems c.unwrap-file.result (omega arith) own inside number made
+    permits c.open_next.new.filesystems c.unwrap-file.result (search rules) own inside number made
     c.hold.new.self c.pin.new.self (map merged_seen (the_view c.self.inside).overlays)
     (λ i. record {
       mounts = (mounts ∙ ap (λ writes. changed_mounts (counted c.args.new.directory.mount.count)

@@ -1,7 +1,7 @@
-use Rattle.std.proofs.Common.{[], Err, IfSome, Ok, OnOk, Result, ap, arith, is_some, map, nat_eq, option_copied, option_map, refl, rules, subst, sym, ℕ, ◌<◌, ◌≡◌, ◌∙◌}
+use Rattle.std.proofs.Common.{Err, IfSome, Ok, OnOk, Result, ap, arith, is_some, map, nat_eq, option_copied, option_map, refl, rules, subst, sym, true, ℕ, ◌≡◌, ◌∙◌}
 use Rattle.std.specs.Prelude.{IsErr, ◌↔◌}
 use Rattle.vt_location.specs.declared.locations.Location.{Location}
-use Rattle.vt_location.specs.Locations.{location_of, number_of}
+use Rattle.vt_location.specs.Locations.{is_small_node, location_of, number_of}
 use Rattle.vt_location.specs.MountValue.{mount_of}
 use Rattle.vt_location.specs.Numbers.{counted}
 use Rattle.vt_spec.specs.Machine.Permits.Permit.{ToPivot}
@@ -16,9 +16,9 @@ use Rattle.vt_detach.proofs.Staying.{IsDone}
 use Rattle.vt_ns.proofs.world.PivotedEvents.{new_is_placed, room_to_enter, root_is_found, root_is_pivoted}
 use Rattle.vt_world.specs.StoredWorld.{overlays_of_store}
 use Rattle.vt_detach.specs.Stored.{kept, merged_of}
-use Rattle.vt_detach.specs.Uses.{Kept, kept_with, merged_seen}
-use Rattle.vt_ns.specs.Pivoting.{with_uses, without_uses}
-use Rattle.vt_ns.proofs.world.StoresKept.{done_stored, kept_is, none_kept, none_with_uses, none_without_uses}
+use Rattle.vt_detach.specs.Uses.{kept_with, merged_seen}
+use Rattle.vt_ns.specs.Pivoting.{with_uses}
+use Rattle.vt_ns.proofs.world.StoresKept.{kept_is, same_in_store}
 use Rattle.vt_ns.proofs.world.World.pivot_root.Goals as goal
 
 -- one use more is counted, where there was room
@@ -85,15 +85,6 @@ held_so c =
     c.hold_each.ensures.held ∙ ap (with_uses c.places_at-moved.result c.root_location-entered.result)
     (λ i. kept_with c.pivot.new.self c.pin.new.self (kept_is (the_view c.self.inside) c.self.inside.store i).overlays)
 
--- no overlay comes
-none_come : (c : goal.After-pivot-2) → (kept c.release_each.new.mounts c.release_each.new.store).overlays ≡ []
-none_come c =
-    ap (λ (k : Kept). k.overlays) (c.release_each.ensures.left
-    ∙ ap (without_uses c.places_at-moved.result c.root_location-left.result) (held_so c))
-    ∙ none_without_uses c.places_at-moved.result c.root_location-left.result _
-    ∙ none_with_uses c.places_at-moved.result c.root_location-entered.result _
-    ∙ none_kept (the_view c.self.inside) c.self.invariant
-
 abbrev after : (c : goal.After-pivot-2) → WorldValue
 after c = record (remade (the_view c.self.inside) c.release_each.new.mounts c.unpin.new.self c.pivot-2.new.self) {
   overlays = overlays_of_store (record c.release_each.new.store { plain = c.unpin.new.self });
@@ -111,10 +102,11 @@ done c =
     (λ full. absurd (omega (arith, c.if-uses.false, (rw c.plain.ensures at c.uses.ensures), full)))
     (rw c.plain_mut.ensures.value at c.pin.ensures.ok) in
     let point = c.unwrap-point.result in
-    done_stored (the_view c.self.inside) c.self.invariant c.args.name.now
-    (ToPivot (counted c.args.new.count) (location_of c.args.put))
+    same_in_store (the_view c.self.inside)
     (remade (the_view c.self.inside) c.release_each.new.mounts c.unpin.new.self c.pivot-2.new.self)
-    (record c.release_each.new.store { plain = c.unpin.new.self }) refl (none_come c)
+    c.self.inside.store (record c.release_each.new.store { plain = c.unpin.new.self }) c.self.invariant
+    (c.release_each.ensures.overlays ∙ c.hold_each.ensures.overlays) c.args.name.now
+    (ToPivot (counted c.args.new.count) (location_of c.args.put)) permits
     (root_is_pivoted (the_view c.self.inside) c.self.invariant c.args.name.now (counted c.args.new.count) c.args.put
     permits c.unwrap-task.result.now
     (sym (ap (λ found. option_map task_of (option_copied found)) c.unwrap-task.ensures) ∙ c.get.ensures)
@@ -129,8 +121,8 @@ done c =
     c.pivot.new.self c.hold_each.new.mounts c.release_each.new.mounts c.pin.new.self c.hold_each.new.store.plain
     c.release_each.new.store.plain c.unpin.new.self (map merged_of c.hold_each.new.store.overlays)
     (map merged_of c.release_each.new.store.overlays) c.pivot-2.new.self
-    (omega arith) c.hold_each.ensures.slot c.release_each.ensures.slot
-    (subst (λ found. IfSome found (λ (at : Location). at.node.slot < 18446744073709551616)) c.unwrap-point.ensures
+    (search rules) c.hold_each.ensures.slot c.release_each.ensures.slot
+    (subst (λ found. IfSome found (λ (at : Location). is_small_node at.node ≡ true)) c.unwrap-point.ensures
     c.mount_point.ensures.slot)
     c.in_ok-pivot.ensures.ok
     (pins c.args.put.node.filesystem.count (number_of c.args.put.node) c.self.inside.store.plain c.pin.new.self

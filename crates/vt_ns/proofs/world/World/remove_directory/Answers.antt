@@ -45,11 +45,11 @@ invariant_of-self c =
     (remove_permit (Directory c.args.removed))) (sym c.self.view_is) c.requires in
     let some : length c.in_ok-gone.gone.items ≢ 0 = search rules in
     (directory_goes (the_view c.self.inside) c.self.inside.store c.self.invariant c.args.name.now
-    c.args.removed.parent c.args.removed.name.items c.args.removed.directory (omega arith) (omega arith) permits
+    c.args.removed.parent c.args.removed.name.items c.args.removed.directory (omega arith) (search rules) permits
     c.in_ok-gone.gone.items c.in_ok-gone.ensures.ok some c.unlink.new.self
     (rw c.plain_mut.ensures.value at (rw c.as_slice.ensures.value at c.unlink.ensures))
     c.detach_together.new.mounts c.detach_together.new.groups c.detach_together.new.store
-    (rw c.deref.ensures.value at c.detach_together.ensures)).held
+    (rw c.deref.ensures.value at c.detach_together.ensures.left) c.detach_together.ensures.overlays).held
 
 pub invariant_of-self-else-not-is_empty : goal.invariant_of-self-else-not-is_empty
 invariant_of-self-else-not-is_empty c =
@@ -57,7 +57,7 @@ invariant_of-self-else-not-is_empty c =
     (remove_permit (Directory c.args.removed))) (sym c.self.view_is) c.requires in
     let none : length c.in_ok-gone.gone.items ≡ 0 = search rules in
     (directory_goes_alone (the_view c.self.inside) c.self.inside.store c.self.invariant c.args.name.now
-    c.args.removed.parent c.args.removed.name.items c.args.removed.directory (omega arith) (omega arith) permits
+    c.args.removed.parent c.args.removed.name.items c.args.removed.directory (omega arith) (search rules) permits
     c.in_ok-gone.gone.items c.in_ok-gone.ensures.ok none c.unlink.new.self
     (rw c.plain_mut.ensures.value at (rw c.as_slice.ensures.value at c.unlink.ensures))).held
 
@@ -76,11 +76,11 @@ returns-clause-ok c =
             groups = w.detach_together.new.groups;
           }))) c.self.view_is
           (directory_goes (the_view c.self.inside) c.self.inside.store c.self.invariant c.args.name.now
-          c.args.removed.parent c.args.removed.name.items c.args.removed.directory (omega arith) (omega arith) permits
+          c.args.removed.parent c.args.removed.name.items c.args.removed.directory (omega arith) (search rules) permits
           c.in_ok-gone.gone.items c.in_ok-gone.ensures.ok some c.unlink.new.self
           (rw c.plain_mut.ensures.value at (rw c.as_slice.ensures.value at c.unlink.ensures))
           w.detach_together.new.mounts w.detach_together.new.groups w.detach_together.new.store
-          (rw w.deref.ensures.value at w.detach_together.ensures)).becomes)
+          (rw w.deref.ensures.value at w.detach_together.ensures.left) w.detach_together.ensures.overlays).becomes)
       | else-not-is_empty w ↦
           let none : length c.in_ok-gone.gone.items ≡ 0 = search rules in
           subst (λ new. Becomes c.args.self.now c.args.name.now (remove_permit (Directory c.args.removed)) new)
@@ -89,7 +89,7 @@ returns-clause-ok c =
           (with_store (record c.self.inside.store { plain = c.unlink.new.self }) (the_view c.self.inside)))
           c.self.view_is
           (directory_goes_alone (the_view c.self.inside) c.self.inside.store c.self.invariant c.args.name.now
-          c.args.removed.parent c.args.removed.name.items c.args.removed.directory (omega arith) (omega arith) permits
+          c.args.removed.parent c.args.removed.name.items c.args.removed.directory (omega arith) (search rules) permits
           c.in_ok-gone.gone.items c.in_ok-gone.ensures.ok none c.unlink.new.self
           (rw c.plain_mut.ensures.value at (rw c.as_slice.ensures.value at c.unlink.ensures))).becomes)
     ]

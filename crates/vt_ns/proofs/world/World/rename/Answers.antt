@@ -58,11 +58,11 @@ invariant_of-self-then-not-is_empty c =
     let some : length c.in_ok-gone.gone.items ≢ 0 = search rules in
     (rename_over (the_view c.self.inside) c.self.inside.store c.self.invariant c.args.name.now
     c.args.renamed.from c.args.renamed.old.items c.args.renamed.to c.args.renamed.new.items c.args.renamed.object
-    c.args.renamed.replaced (omega arith) (omega arith) (omega arith) c.trees_replaced.ensures.slot permits
+    c.args.renamed.replaced (omega arith) (omega arith) (omega arith) c.trees_replaced.ensures.small permits
     c.in_ok-gone.gone.items c.in_ok-gone.ensures.ok some c.rename.new.self
     (rw c.plain_mut.ensures.value at (rw c.as_slice.ensures.value at c.in_ok-rename.ensures.ok))
     c.detach_together.new.mounts c.detach_together.new.groups c.detach_together.new.store
-    (rw c.deref.ensures.value at c.detach_together.ensures)).held
+    (rw c.deref.ensures.value at c.detach_together.ensures.left) c.detach_together.ensures.overlays).held
 
 pub invariant_of-self-else-not-is_empty : goal.invariant_of-self-else-not-is_empty
 invariant_of-self-else-not-is_empty c =
@@ -71,7 +71,7 @@ invariant_of-self-else-not-is_empty c =
     let none : length c.in_ok-gone.gone.items ≡ 0 = search rules in
     (rename_stays (the_view c.self.inside) c.self.inside.store c.self.invariant c.args.name.now
     c.args.renamed.from c.args.renamed.old.items c.args.renamed.to c.args.renamed.new.items c.args.renamed.object
-    c.args.renamed.replaced (omega arith) (omega arith) (omega arith) c.trees_replaced.ensures.slot permits
+    c.args.renamed.replaced (omega arith) (omega arith) (omega arith) c.trees_replaced.ensures.small permits
     c.in_ok-gone.gone.items c.in_ok-gone.ensures.ok none c.rename.new.self
     (rw c.plain_mut.ensures.value at (rw c.as_slice.ensures.value at c.in_ok-rename.ensures.ok))).held
 
@@ -91,11 +91,11 @@ returns-clause-ok c =
           }))) c.self.view_is
           (rename_over (the_view c.self.inside) c.self.inside.store c.self.invariant c.args.name.now
           c.args.renamed.from c.args.renamed.old.items c.args.renamed.to c.args.renamed.new.items c.args.renamed.object
-          c.args.renamed.replaced (omega arith) (omega arith) (omega arith) c.trees_replaced.ensures.slot permits
+          c.args.renamed.replaced (omega arith) (omega arith) (omega arith) c.trees_replaced.ensures.small permits
           c.in_ok-gone.gone.items c.in_ok-gone.ensures.ok some c.rename.new.self
           (rw c.plain_mut.ensures.value at (rw c.as_slice.ensures.value at c.in_ok-rename.ensures.ok))
           w.detach_together.new.mounts w.detach_together.new.groups w.detach_together.new.store
-          (rw w.deref.ensures.value at w.detach_together.ensures)).becomes)
+          (rw w.deref.ensures.value at w.detach_together.ensures.left) w.detach_together.ensures.overlays).becomes)
       | else-not-is_empty w ↦
           let none : length c.in_ok-gone.gone.items ≡ 0 = search rules in
           subst (λ new. Becomes c.args.self.now c.args.name.now (remove_permit (Rename c.args.renamed)) new)
@@ -105,7 +105,7 @@ returns-clause-ok c =
           c.self.view_is
           (rename_stays (the_view c.self.inside) c.self.inside.store c.self.invariant c.args.name.now
           c.args.renamed.from c.args.renamed.old.items c.args.renamed.to c.args.renamed.new.items c.args.renamed.object
-          c.args.renamed.replaced (omega arith) (omega arith) (omega arith) c.trees_replaced.ensures.slot permits
+          c.args.renamed.replaced (omega arith) (omega arith) (omega arith) c.trees_replaced.ensures.small permits
           c.in_ok-gone.gone.items c.in_ok-gone.ensures.ok none c.rename.new.self
           (rw c.plain_mut.ensures.value at (rw c.as_slice.ensures.value at c.in_ok-rename.ensures.ok))).becomes)
     ]

@@ -3,14 +3,15 @@ use Rattle.vt_location.specs.Locations.{location_of}
 use Rattle.vt_spec.specs.Machine.Permits.Permit.{ToSetDirectory}
 use Rattle.vt_ns.specs.contracts.world.World.{the_view}
 use Rattle.vt_detach.specs.Events.{Becomes, Permits}
-use Rattle.vt_detach.specs.Uses.{Kept, kept_of, with_location, without_location}
+use Rattle.vt_detach.specs.Uses.{kept_of, with_location, without_location}
+use Rattle.vt_detach.proofs.OverlaysListed.{done_in_store, left_itself, left_twice}
 use Rattle.vt_detach.proofs.Places.{directory_is_set}
-use Rattle.vt_detach.proofs.Remaining.{remade, remade_with}
+use Rattle.vt_detach.proofs.Remaining.{remade}
 use Rattle.vt_detach.proofs.Staying.{IsDone}
 use Rattle.vt_world.specs.WorldValue.{WorldValue}
 use Rattle.vt_world.specs.StoredWorld.{overlays_of_store}
 use Rattle.vt_detach.specs.Stored.{kept, merged_of}
-use Rattle.vt_ns.proofs.world.StoresKept.{done_stored, kept_is, kept_still, none_kept, none_without}
+use Rattle.vt_ns.proofs.world.StoresKept.{kept_is}
 use Rattle.vt_ns.proofs.world.World.set_directory.Goals as goal
 
 abbrev after : (c : goal.After-leave) → WorldValue
@@ -30,17 +31,16 @@ left_so c =
 done : (c : goal.After-leave) → IsDone (the_view c.self.inside) c.args.name.now
     (ToSetDirectory (location_of c.args.directory)) (after c)
 done c =
-    let kept_now = map merged_of c.leave.new.store.overlays in
-    done_stored (the_view c.self.inside) c.self.invariant c.args.name.now (ToSetDirectory (location_of c.args.directory))
-    (remade_with (the_view c.self.inside) c.leave.new.mounts c.leave.new.store.plain kept_now c.set_directory.new.self)
-    c.leave.new.store (kept_still (the_view c.self.inside) c.self.invariant kept_now)
-    (ap (λ (k : Kept). k.overlays) (left_so c)
-    ∙ none_without c.in-Some.left false (with_location c.args.directory false (kept_of (the_view c.self.inside)))
-    (none_kept (the_view c.self.inside) c.self.invariant))
+    let old = c.self.inside.store in
+    let permits : Permits (the_view c.self.inside) c.args.name.now (ToSetDirectory (location_of c.args.directory)) =
+    subst (λ value. Permits value c.args.name.now (ToSetDirectory (location_of c.args.directory)))
+    (sym c.self.view_is) c.requires in
+    done_in_store (the_view c.self.inside) (after c) old c.leave.new.store c.self.invariant
+    (left_twice old.overlays c.hold.new.store.overlays c.leave.new.store.overlays
+    (left_itself old.overlays c.hold.new.store.overlays c.in_ok-hold.ensures.overlays) c.leave.ensures.overlays)
+    c.args.name.now (ToSetDirectory (location_of c.args.directory)) permits
     (directory_is_set (the_view c.self.inside) c.args.name.now c.args.directory c.in-Some.left c.leave.new.mounts
-    c.leave.new.store.plain kept_now c.set_directory.new.self c.self.invariant
-    (subst (λ value. Permits value c.args.name.now (ToSetDirectory (location_of c.args.directory)))
-    (sym c.self.view_is) c.requires)
+    c.leave.new.store.plain (map merged_of c.leave.new.store.overlays) c.set_directory.new.self c.self.invariant permits
     c.in_ok-hold.ensures.slot c.leave.ensures.slot
     (sym (ap (option_map location_of) c.in-Some.is) ∙ c.set_directory.ensures.left)
     c.set_directory.ensures.rest (left_so c))

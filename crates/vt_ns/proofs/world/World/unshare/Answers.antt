@@ -1,4 +1,4 @@
-use Rattle.std.proofs.Common.{Bool, ap, arith, length, nat_eq, not, option_copied, option_map, refl, subst, sym, ℕ, ◌*◌, ◌+◌, ◌≤◌, ◌∙◌, ◌≡◌, ◌++◌, ◌∷◌, [], map, List}
+use Rattle.std.proofs.Common.{Bool, ap, arith, length, nat_eq, not, option_copied, option_map, refl, subst, sym, ℕ, ◌*◌, ◌+◌, ◌≤◌, ◌∙◌, ◌≡◌, ◌++◌, ◌∷◌, [], map}
 use Rattle.std.proofs.lemmas.List.{length-map}
 use Rattle.std.proofs.lemmas.List.Filters.{length-filter_both}
 use Rattle.vt_spec.specs.Lists.{holds_of}
@@ -14,17 +14,17 @@ use Rattle.vt_tasks.specs.TasksValue.{changed_called}
 use Rattle.vt_ns.specs.contracts.world.World.{the_view}
 use Rattle.vt_mount.specs.Attached.{attached_in}
 use Rattle.vt_attach.specs.Copying.{CopiesAttached, with_use_moved}
-use Rattle.vt_detach.specs.Stored.{kept, merged_of}
-use Rattle.vt_detach.specs.Uses.{Kept, kept_of, overlays_kept, with_attached}
+use Rattle.vt_detach.specs.Stored.{OverlaysLeft, kept, merged_of}
+use Rattle.vt_detach.specs.Uses.{kept_of, overlays_kept, with_attached}
 use Rattle.vt_detach.specs.Events.{Becomes, Permits}
-use Rattle.vt_detach.specs.NamespacesLeft.{namespace_entry}
 use Rattle.vt_world.specs.WorldValue.{WorldValue, entries_of}
 use Rattle.vt_mount.proofs.AttachedLemmas.{as_many}
+use Rattle.vt_detach.proofs.OverlaysListed.{done_in_store, left_still, left_twice}
 use Rattle.vt_detach.proofs.Staying.{IsDone}
 use Rattle.vt_attach.proofs.TasksUnshared.{task_is_unshared}
 use Rattle.vt_attach.proofs.UnsharingLemmas.{namespace_added, numbers_before, uses_left, uses_left_then, writers_left, writers_left_then}
 use Rattle.vt_world.specs.StoredWorld.{overlays_of_store}
-use Rattle.vt_ns.proofs.world.StoresKept.{done_stored, kept_is, kept_still, none_attached, none_kept, none_left}
+use Rattle.vt_ns.proofs.world.StoresKept.{kept_is}
 use Rattle.vt_ns.proofs.world.World.unshare.Goals as goal
 
 pub attach_copies-requires-clause-before : goal.attach_copies-requires-clause-before
@@ -112,32 +112,29 @@ made_so c =
     c.self.inside.groups (kept c.attach_copies.new.mounts c.attach_copies.new.store) c.attach_copies.new.groups)
     (kept_is (the_view c.self.inside) c.self.inside.store) c.in_ok-attach_copies.ensures.ok
 
--- no overlay comes
-none_come : (c : goal.After-self-1) → (kept c.leave_namespace.new.mounts c.leave_namespace.new.store).overlays ≡ []
-none_come c =
-    let own = c.unwrap-task.result.now in
-    none_left (counted own.namespace.count) (namespace_entry own.namespace.count (entries_of c.insert.new.self.entries))
-    (kept c.move_use-2.new.mounts c.attach_copies.new.store) c.attach_copies.new.groups
-    (kept c.leave_namespace.new.mounts c.leave_namespace.new.store) c.leave_namespace.new.groups
-    (ap (λ (k : Kept). k.overlays) (made_so c).attached
-    ∙ none_attached (made_so c).added (kept_of (the_view c.self.inside)).overlays
-    (none_kept (the_view c.self.inside) c.self.invariant))
-    c.leave_namespace.ensures.mounts
+-- overlays that are left were there
+overlays_so : (c : goal.After-self-1) → OverlaysLeft c.self.inside.store.overlays c.leave_namespace.new.store.overlays
+overlays_so c =
+    let old = c.self.inside.store.overlays in
+    let copied = c.attach_copies.new.store.overlays in
+    left_twice old copied c.leave_namespace.new.store.overlays
+    (left_still old copied c.in_ok-attach_copies.ensures.overlays) c.leave_namespace.ensures.overlays
 
 done : (c : goal.After-self-1) → IsDone (the_view c.self.inside) c.args.name.now ToUnshare (after c)
 done c =
     let own = c.unwrap-task.result.now in
     let root = c.moved-new_root.result in
     let directory = c.moved-new_directory.result in
-    let kept_now = map merged_of c.leave_namespace.new.store.overlays in
-    let before_stored = record (after c) { overlays = overlays_kept kept_now (the_view c.self.inside).overlays } in
-    done_stored (the_view c.self.inside) c.self.invariant c.args.name.now ToUnshare before_stored
-    c.leave_namespace.new.store (kept_still (the_view c.self.inside) c.self.invariant kept_now) (none_come c)
+    done_in_store (the_view c.self.inside) (after c) c.self.inside.store c.leave_namespace.new.store c.self.invariant
+    (overlays_so c) c.args.name.now ToUnshare (permitted c)
     (task_is_unshared (the_view c.self.inside) c.self.invariant c.args.name.now (permitted c) own
     (sym (ap (λ found. option_map task_of (option_copied found)) c.unwrap-task.ensures) ∙ c.get.ensures)
     root directory c.attach_copies.new.mounts c.attach_copies.new.groups c.attach_copies.new.store.plain
     (map merged_of c.attach_copies.new.store.overlays)
-    c.move_use-2.new.mounts kept_now (entries_of c.insert.new.self.entries) before_stored
+    c.move_use-2.new.mounts (map merged_of c.leave_namespace.new.store.overlays) (entries_of c.insert.new.self.entries)
+    (record (after c) {
+      overlays = overlays_kept (map merged_of c.leave_namespace.new.store.overlays) (the_view c.self.inside).overlays;
+    })
     (record {
       made = made_so c;
       root_is = c.moved-new_root.ensures;
