@@ -42,3 +42,4 @@ pub mod MovedDone
 pub mod GraftedUses
 pub mod GraftedDone
 pub mod OverlaysNew
+pub mod OverlayNodes

@@ -99,15 +99,15 @@ module _ (layers : List Inode) (all : List Shown) (less most : ℕ) (fits : less
       → has_room most (folded with_layer all layers) mount ≡ true
   mount_fits mount room =
       let number = counted mount.root.filesystem.count in
-      let first = and_parts (nat_le (uses_shown (inode_of mount.root) all) less)
-      (point_has_room less all mount.mount_point && nat_le (mounts_shown number all) less) room in
-      let second = and_parts (point_has_room less all mount.mount_point) (nat_le (mounts_shown number all) less)
-      first.1 in
-      let was = leb-true (mounts_shown number all) less second.1 in
+      let both = and_parts (nat_le (uses_shown (inode_of mount.root) all) less
+      && point_has_room less all mount.mount_point) (nat_le (mounts_shown number all) less) room in
+      let uses = and_parts (nat_le (uses_shown (inode_of mount.root) all) less)
+      (point_has_room less all mount.mount_point) both.0 in
+      let was = leb-true (mounts_shown number all) less both.1 in
       let more = mounts_with layers number all in
       let shows : nat_le (mounts_shown number (folded with_layer all layers)) most ≡ true =
       le-leb (mounts_shown number (folded with_layer all layers)) most (omega (arith, was, more, fits)) in
-      λ i. uses_fit (inode_of mount.root) first.0 i && point_fits mount.mount_point second.0 i && shows i
+      λ i. uses_fit (inode_of mount.root) uses.0 i && point_fits mount.mount_point uses.1 i && shows i
 
   -- the copies have room with the layers,
   pub copies_fit : (copies : List Mount) → list_all (has_room less all) copies ≡ true
