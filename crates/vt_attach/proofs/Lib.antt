@@ -43,3 +43,5 @@ pub mod GraftedUses
 pub mod GraftedDone
 pub mod OverlaysNew
 pub mod OverlayNodes
+pub mod Beside
+pub mod NewOverlay
