@@ -45,3 +45,4 @@ pub mod OverlaysNew
 pub mod OverlayNodes
 pub mod Beside
 pub mod NewOverlay
+pub mod NewOverlayUses
