@@ -1,19 +1,22 @@
 -- The uses that the layers of a new overlay are, in the code's world with that overlay, whatever mounts show.
-use Rattle.std.proofs.Common.{◌≡◌, refl, sym, ap, subst, ◌∙◌, inl, inr, ⊎_elim, ℕ, ◌+◌, nat_eq, eqb-true, Bool, true, false, cond, not, ◌&&◌, ◌||◌, List, [], ◌∷◌, ◌++◌, map, filter, find, flat_map, Option, Some, None, is_some, unwrap_or, arith}
+use Rattle.std.proofs.Common.{◌≡◌, refl, sym, ap, subst, ◌∙◌, ⊎_elim, ℕ, suc, ◌+◌, nat_eq, eqb-true, Bool, true, false, cond, not, ◌&&◌, ◌||◌, List, [], ◌∷◌, ◌++◌, map, filter, flat_map, Option, Some, None, is_some, unwrap_or, arith}
 use Rattle.std.specs.Prelude.{All, slice_get}
 use Rattle.std.specs.List.{list_all}
 use Rattle.std.proofs.lemmas.Bool.{ne_eqb}
 use Rattle.std.proofs.lemmas.List.{append-nil, append_assoc, map-append}
 use Rattle.vt_laws_trees.proofs.trees.TreesOfWorlds.{number_numbered}
 use Rattle.std.proofs.lemmas.Option.{same_Some}
-use Rattle.vt_spec.proofs.Lists.{map_twice}
+use Rattle.vt_spec.proofs.Lists.{map_alike, map_twice}
+use Rattle.vt_spec.specs.Lists.{folded}
+use Rattle.vt_spec.specs.Tree.{is_directory_node}
+use Rattle.vt_laws_counts.specs.OverlaysStay.{layer_count}
 use Rattle.vt_spec.specs.Machine.Locked.{of_overlay}
 use Rattle.vt_spec.specs.Machine.Settled.{layers_in, located_in, named_in, objects_of_overlay, used_in}
 use Rattle.vt_spec.specs.Machine.World.{Filesystem, Layer, World, filesystem_numbered, layers_of, no_filesystem}
 use Rattle.vt_spec.specs.Inodes.{node_in}
 use Rattle.vt_laws_counts.specs.BesideOverlays.{OverlaysHaveNoUpper}
 use Rattle.vt_laws_counts.specs.Counted.{IsCounted}
-use Rattle.vt_laws_counts.specs.Using.{AreThere, Exchanges, exchanged, is_inode}
+use Rattle.vt_laws_counts.specs.Using.{AreThere, Exchanges, exchanged, is_inode, pinned_if}
 use Rattle.vt_laws_counts.proofs.overlays.FilesystemUses.{no_upper_is_in_any}
 use Rattle.vt_laws_counts.proofs.using.Exchanged.{uses_are_exchanged_beside_overlays}
 use Rattle.vt_laws_letting_go.specs.Counts.{inode_uses, times}
@@ -23,7 +26,7 @@ use Rattle.vt_laws_letting_go.proofs.sweeps.OfWorlds.{worlds_have_trees}
 use Rattle.vt_laws_letting_go.proofs.sweeps.UpperUses.{times_append}
 use Rattle.vt_laws_worlds.proofs.RaisedInUse.{worlds_are_in_use}
 use Rattle.vt_laws_worlds.proofs.worlds.Roots.{directory_there}
-use Rattle.vt_fs.specs.FilesystemsValue.{FilesystemEntry, Filesystems, entry_of, files_at, inodes_seen, no_entry}
+use Rattle.vt_fs.specs.FilesystemsValue.{FilesystemEntry, Filesystems, Shown, entry_of, inodes_seen, no_entry}
 use Rattle.vt_location.specs.Locations.{inode_of as inode_number_of}
 use Rattle.vt_location.specs.Numbers.{counted}
 use Rattle.vt_location.proofs.NumberLemmas.{counted_same}
@@ -34,9 +37,14 @@ use Rattle.vt_world.specs.Held.{CountsItsMounts, IsHeld}
 use Rattle.vt_world.specs.StoredWorld.{overlay_of_store}
 use Rattle.vt_world.specs.WorldValue.{WorldValue, overlay_seen, world_of}
 use Rattle.vt_detach.specs.Stored.{layer_of}
+use Rattle.vt_detach.specs.Uses.{mounted_if}
+use Rattle.vt_detach.proofs.Moving.{map_itself}
 use Rattle.vt_detach.proofs.FilesSeen.{one_entry}
 use Rattle.vt_detach.proofs.Overlaid.{found_plain_one, plain_ones_apart}
 use Rattle.vt_attach.proofs.AttachedWorlds.{inode_is_there}
+use Rattle.vt_attach.proofs.Beside.{IsReadOnly}
+use Rattle.vt_attach.proofs.NewOverlay.{all_last}
+use Rattle.vt_attach.proofs.OverlaysNew.{with_layer}
 use Rattle.vt_attach.proofs.NewBase.{flat_before, found_before}
 use Rattle.vt_attach.proofs.NewFilesystems.{filesystem_counted}
 
@@ -153,3 +161,136 @@ module _ (world : World ℕ) (added : Filesystem ℕ) (layers : List (Layer ℕ)
     where
       same : filesystem_numbered nat_eq with_added_last number ≡ filesystem_numbered nat_eq world number
       same = ap (λ found. unwrap_or found (no_filesystem number)) (found_before world.filesystems added number other)
+
+  -- and a filesystem as many layers more
+  pub layers_more_there : (number : ℕ)
+      → layer_count with_added_last number
+      ≡ layer_count world number + times (λ (layer : Layer ℕ). nat_eq number layer.filesystem) layers
+  layers_more_there number =
+      ap (times (λ (layer : Layer ℕ). nat_eq number layer.filesystem))
+      (flat_last (of_overlay [] layers_of) world.filesystems added
+      ∙ ap (λ list. flat_map (of_overlay [] layers_of) world.filesystems ++ list) layers_are)
+      ∙ times_append (λ (layer : Layer ℕ). nat_eq number layer.filesystem)
+      (flat_map (of_overlay [] layers_of) world.filesystems) layers
+
+among_place : (list : List LayerRef) (layer : LayerRef) → Among layer list
+    → (place : ℕ) × (slice_get list place ≡ Some layer)
+among_place [] layer m = absurd m
+among_place (first ∷ rest) layer m =
+    ⊎_elim (λ same. (0, ap Some (sym same)))
+    (λ later. let there = among_place rest layer later in (suc there.0, there.1)) m
+
+-- The code's world with a new overlay whose layers are kept there
+module _ (value : WorldValue) (whole : IsHeld value) (base : Filesystems) (entry : stored.OverlayEntry)
+    (are : AreLayers value.filesystems entry.overlay.lowers) (count_is : entry.count ≡ value.next) where
+  abbrev world : World ℕ
+  world = world_of value
+
+  abbrev over : Filesystem ℕ
+  over = overlay_seen (overlay_of_store base entry)
+
+  abbrev pub overlay_last : World ℕ
+  overlay_last = record (world_of value) {
+    filesystems = (world_of value).filesystems ++ overlay_seen (overlay_of_store base entry) ∷ [];
+  }
+
+  abbrev layers : List Inode
+  layers = map layer_of entry.overlay.lowers
+
+  gained_are : map directory_in (map layer_seen entry.overlay.lowers) ≡ layers
+  gained_are = map_twice directory_in layer_seen entry.overlay.lowers
+
+  pub no_upper_with_it : OverlaysHaveNoUpper overlay_last
+  no_upper_with_it = all_last IsReadOnly world.filesystems over whole.overlays.read_only refl
+
+  apart_from_it : (was : FilesystemEntry) → Among was value.filesystems
+      → nat_eq (counted was.count) (counted entry.count) ≡ false
+  apart_from_it was m =
+      let low = filesystem_counted value whole was m in
+      ne_eqb (counted was.count) (counted entry.count) (λ same. absurd (omega (arith, low, same, count_is)))
+
+  -- each layer is there
+  pub layers_there : (was : FilesystemEntry) → Among was value.filesystems
+      → AreThere (counted was.count) (inodes_seen was) (map layer_of entry.overlay.lowers)
+  layers_there was m =
+      all_pass test layers (λ inode n.
+      let from = among-from_map layer_of entry.overlay.lowers inode n in
+      ap test from.2 ∙ by from.0 from.1 (nat_eq (counted was.count) (counted from.0.directory.filesystem.count)) refl)
+    where
+      test : Inode → Bool
+      test inode = not (nat_eq (counted was.count) inode.0) || is_some ((inodes_seen was).inode inode.1)
+
+      by : (layer : LayerRef) → Among layer entry.overlay.lowers → (b : Bool)
+          → nat_eq (counted was.count) (counted layer.directory.filesystem.count) ≡ b
+          → (not b || is_some ((inodes_seen was).inode (inode_number_of layer.directory))) ≡ true
+      by layer n false e = refl
+      by layer n true e =
+          let at = among_place entry.overlay.lowers layer n in
+          let same : was.count ≡ layer.directory.filesystem.count =
+          counted_same was.count layer.directory.filesystem.count (eqb-true _ _ e) in
+          inode_is_there ((inodes_seen was).inode (inode_number_of layer.directory))
+          (directory_there (node_in ((inodes_seen was).inode (inode_number_of layer.directory)))
+          (ap (λ (o : Option FilesystemEntry). is_directory_node (node_in ((inodes_seen (unwrap_or o
+          (no_entry layer.directory.filesystem.count))).inode (inode_number_of layer.directory))))
+          (sym (ap (entry_of value.filesystems) (sym same)
+          ∙ one_entry value.filesystems (plain_ones_apart value whole) was m))
+          ∙ (are at.0 layer at.1).directory))
+
+  -- and counted as a use
+  pub counted_with_layers : (was : FilesystemEntry) → Among was value.filesystems
+      → IsCounted overlay_last (filesystem_numbered nat_eq overlay_last (counted was.count))
+      (exchanged (counted was.count) (map layer_of entry.overlay.lowers) [] (inodes_seen was))
+  counted_with_layers was m =
+      uses_are_exchanged_beside_overlays world overlay_last layers [] (counted was.count) (inodes_seen was)
+      (worlds_have_trees world whole.in_world)
+      (worlds_are_in_use world whole.in_world).inodes
+      (no_upper_is_in_any overlay_last (counted was.count) no_upper_with_it)
+      (subst (λ (list : List Inode). Exchanges list [] (counted was.count) world overlay_last) gained_are
+      (layers_are_gained world over (map layer_seen entry.overlay.lowers) refl (λ number. refl) (counted was.count)
+      (apart_from_it was m)))
+      (subst (λ f. IsCounted world f (inodes_seen was)) (sym (found_plain_one value whole was m))
+      (among_from_all (CountsItsMounts world) value.filesystems whole.filesystems was m).inodes)
+      (layers_there was m)
+
+-- What a store keeps of plain filesystems once the layers are held
+abbrev pub held_by : List Inode → Shown → Shown
+held_by layers one = record one {
+  inodes = folded (pinned_if (counted one.count)) one.inodes layers;
+  mounts = one.mounts + times (λ (inode : Inode). nat_eq inode.0 (counted one.count)) layers;
+}
+
+pub held_each : (layers : List Inode) (all : List Shown) → folded with_layer all layers ≡ map (held_by layers) all
+held_each [] all =
+    map_itself all
+    ∙ map_alike (λ (one : Shown). one) (held_by []) all (λ one m. λ i. record one { mounts = same one.mounts i })
+  where
+    same : (n : ℕ) → n ≡ n + 0
+    same n = omega arith
+held_each (inode ∷ rest) all =
+    held_each rest (with_layer all inode)
+    ∙ ap (map (held_by rest)) (map_twice (mounted_if inode.0) pin all)
+    ∙ map_twice (held_by rest) (λ (one : Shown). mounted_if inode.0 (pin one)) all
+    ∙ map_alike (λ (one : Shown). held_by rest (mounted_if inode.0 (pin one))) (held_by (inode ∷ rest)) all
+    (λ one m. by one (nat_eq inode.0 (counted one.count)))
+  where
+    pin : Shown → Shown
+    pin one = record one { inodes = pinned_if (counted one.count) one.inodes inode }
+
+    by : (one : Shown) (b : Bool)
+        → held_by rest (cond b (record (pin one) { mounts = one.mounts + 1 }) (pin one))
+        ≡ record one {
+          inodes = folded (pinned_if (counted one.count)) (pinned_if (counted one.count) one.inodes inode) rest;
+          mounts = one.mounts + (cond b 1 0 + times (λ (other : Inode). nat_eq other.0 (counted one.count)) rest);
+        }
+    by one true = λ i. record (held_by rest (pin one)) {
+      mounts = more one.mounts (times (λ (other : Inode). nat_eq other.0 (counted one.count)) rest) i;
+    }
+      where
+        more : (n k : ℕ) → n + 1 + k ≡ n + (1 + k)
+        more n k = omega arith
+    by one false = λ i. record (held_by rest (pin one)) {
+      mounts = none one.mounts (times (λ (other : Inode). nat_eq other.0 (counted one.count)) rest) i;
+    }
+      where
+        none : (n k : ℕ) → n + k ≡ n + (0 + k)
+        none n k = omega arith
