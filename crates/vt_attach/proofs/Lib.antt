@@ -46,3 +46,5 @@ pub mod OverlayNodes
 pub mod Beside
 pub mod NewOverlay
 pub mod NewOverlayUses
+pub mod NewOverlaySame
+pub mod NewOverlayBase

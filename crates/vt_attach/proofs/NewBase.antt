@@ -98,7 +98,7 @@ rising_last (first ∷ rest) added rising lower =
     && rising_last rest added parts.1 low.1 i
 
 -- and behind those that are woven it is woven
-put_before : (overlay added : Filesystem ℕ) → nat_lt added.number overlay.number ≡ false
+pub put_before : (overlay added : Filesystem ℕ) → nat_lt added.number overlay.number ≡ false
     → (filesystems : List (Filesystem ℕ))
     → put_in overlay (filesystems ++ added ∷ []) ≡ put_in overlay filesystems ++ added ∷ []
 put_before overlay added above [] = ap (λ b. cond b (added ∷ overlay ∷ []) (overlay ∷ added ∷ [])) above

@@ -180,7 +180,13 @@ among_place (first ∷ rest) layer m =
     ⊎_elim (λ same. (0, ap Some (sym same)))
     (λ later. let there = among_place rest layer later in (suc there.0, there.1)) m
 
--- The code's world with a new overlay whose layers are kept there
+-- The code's world with a new overlay behind all other filesystems
+abbrev pub overlay_last : WorldValue → Filesystems → stored.OverlayEntry → World ℕ
+overlay_last value base entry = record (world_of value) {
+  filesystems = (world_of value).filesystems ++ overlay_seen (overlay_of_store base entry) ∷ [];
+}
+
+-- whose layers are kept there
 module _ (value : WorldValue) (whole : IsHeld value) (base : Filesystems) (entry : stored.OverlayEntry)
     (are : AreLayers value.filesystems entry.overlay.lowers) (count_is : entry.count ≡ value.next) where
   abbrev world : World ℕ
@@ -189,18 +195,13 @@ module _ (value : WorldValue) (whole : IsHeld value) (base : Filesystems) (entry
   abbrev over : Filesystem ℕ
   over = overlay_seen (overlay_of_store base entry)
 
-  abbrev pub overlay_last : World ℕ
-  overlay_last = record (world_of value) {
-    filesystems = (world_of value).filesystems ++ overlay_seen (overlay_of_store base entry) ∷ [];
-  }
-
   abbrev layers : List Inode
   layers = map layer_of entry.overlay.lowers
 
   gained_are : map directory_in (map layer_seen entry.overlay.lowers) ≡ layers
   gained_are = map_twice directory_in layer_seen entry.overlay.lowers
 
-  pub no_upper_with_it : OverlaysHaveNoUpper overlay_last
+  pub no_upper_with_it : OverlaysHaveNoUpper (overlay_last value base entry)
   no_upper_with_it = all_last IsReadOnly world.filesystems over whole.overlays.read_only refl
 
   apart_from_it : (was : FilesystemEntry) → Among was value.filesystems
@@ -238,14 +239,14 @@ module _ (value : WorldValue) (whole : IsHeld value) (base : Filesystems) (entry
 
   -- and counted as a use
   pub counted_with_layers : (was : FilesystemEntry) → Among was value.filesystems
-      → IsCounted overlay_last (filesystem_numbered nat_eq overlay_last (counted was.count))
+      → IsCounted (overlay_last value base entry) (filesystem_numbered nat_eq (overlay_last value base entry) (counted was.count))
       (exchanged (counted was.count) (map layer_of entry.overlay.lowers) [] (inodes_seen was))
   counted_with_layers was m =
-      uses_are_exchanged_beside_overlays world overlay_last layers [] (counted was.count) (inodes_seen was)
+      uses_are_exchanged_beside_overlays world (overlay_last value base entry) layers [] (counted was.count) (inodes_seen was)
       (worlds_have_trees world whole.in_world)
       (worlds_are_in_use world whole.in_world).inodes
-      (no_upper_is_in_any overlay_last (counted was.count) no_upper_with_it)
-      (subst (λ (list : List Inode). Exchanges list [] (counted was.count) world overlay_last) gained_are
+      (no_upper_is_in_any (overlay_last value base entry) (counted was.count) no_upper_with_it)
+      (subst (λ (list : List Inode). Exchanges list [] (counted was.count) world (overlay_last value base entry)) gained_are
       (layers_are_gained world over (map layer_seen entry.overlay.lowers) refl (λ number. refl) (counted was.count)
       (apart_from_it was m)))
       (subst (λ f. IsCounted world f (inodes_seen was)) (sym (found_plain_one value whole was m))
