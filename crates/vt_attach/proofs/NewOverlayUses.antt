@@ -116,7 +116,7 @@ module _ (world : World ℕ) (added : Filesystem ℕ) (layers : List (Layer ℕ)
       (filter (λ (layer : Layer ℕ). nat_eq number layer.filesystem) layers)
 
   -- an inode has a use more for each of these layers that is there
-  uses_then : (f : Filesystem ℕ) (number : ℕ)
+  pub uses_then : (f : Filesystem ℕ) (number : ℕ)
       → inode_uses world f number + times (is_inode f.number number) (map directory_in layers)
       ≡ inode_uses with_added_last f number
   uses_then f number =
