@@ -41,3 +41,4 @@ pub mod MovedLives
 pub mod MovedDone
 pub mod GraftedUses
 pub mod GraftedDone
+pub mod OverlaysNew
