@@ -42,3 +42,6 @@ pub mod MovedDone
 pub mod GraftedUses
 pub mod GraftedDone
 pub mod OverlaysNew
+pub mod OverlayNodes
+pub mod Beside
+pub mod NewOverlay

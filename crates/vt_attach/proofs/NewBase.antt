@@ -86,7 +86,7 @@ overlays_before (first ∷ rest) added plain =
     ap (λ list. cond (is_overlay first) (first ∷ list) list) (overlays_before rest added plain)
 
 -- where it is the last, numbers still rise
-rising_last : (filesystems : List (Filesystem ℕ)) (added : Filesystem ℕ) → are_rising filesystems ≡ true
+pub rising_last : (filesystems : List (Filesystem ℕ)) (added : Filesystem ℕ) → are_rising filesystems ≡ true
     → list_all (λ (f : Filesystem ℕ). nat_lt f.number added.number) filesystems ≡ true
     → are_rising (filesystems ++ added ∷ []) ≡ true
 rising_last [] added rising lower = refl

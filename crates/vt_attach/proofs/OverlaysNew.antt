@@ -7,6 +7,7 @@ use Rattle.vt_spec.specs.Lists.{folded}
 use Rattle.vt_spec.proofs.Lists.{map_alike}
 use Rattle.vt_fs.specs.FilesystemsValue.{Shown, shown_with}
 use Rattle.vt_spec.specs.Inodes.{pinned}
+use Rattle.vt_laws_counts.specs.Using.{pinned_if}
 use Rattle.vt_laws_letting_go.specs.OneByOne.{Inode}
 use Rattle.vt_laws_letting_go.proofs.Lists.{all_pass, filter_here, filter_skip, passes}
 use Rattle.vt_location.specs.declared.locations.Location.{Location}
@@ -20,12 +21,23 @@ use Rattle.vt_store.specs.LayersHeld.{lowers_in, with_layers}
 use Rattle.vt_store.specs.OverlaysValue.{OverlayEntry, Overlays, entry_kept, without_overlay}
 use Rattle.vt_store.specs.StoreValue.{StoreValue}
 use Rattle.vt_detach.specs.Stored.{layer_of}
-use Rattle.vt_detach.specs.Uses.{Merged, inode_of, merged_at, mounted_in, mounts_shown, pinned_in, with_layer}
-use Rattle.vt_detach.proofs.Shown.{pinned_shown}
+use Rattle.vt_detach.specs.Uses.{Merged, inode_of, merged_at, mounted_in, mounts_shown, pinned_in}
+use Rattle.vt_detach.proofs.Shown.{changed_inodes, counted_eq_back}
 use Rattle.vt_attach.specs.Room.{has_room, merged_has_room, point_has_room, uses_shown}
 use Rattle.vt_attach.proofs.RoomLemmas.{mounted_mounts, mounted_uses, pinned_mounts, pinned_uses}
 
 -- Layers
+
+-- a layer more, by numbers: a use of its directory, and a mount of its filesystem
+abbrev pub with_layer : List Shown → Inode → List Shown
+with_layer all inode = mounted_in inode.0 (pinned_in inode all)
+
+pinned_shown : (count number : ℕ) (all : List Shown)
+    → shown_with count (λ inodes. pinned nat_eq inodes number) all ≡ pinned_in (counted count, number) all
+pinned_shown count number all =
+    changed_inodes count (λ inodes. pinned nat_eq inodes number)
+    (λ filesystem inodes. pinned_if filesystem inodes (counted count, number))
+    (λ other inodes. ap (λ b. cond b (pinned nat_eq inodes number) inodes) (counted_eq_back other count)) all
 
 layer_more : (all : List Shown) (layer : LayerRef) → Stored.with_layer all layer ≡ with_layer all (layer_of layer)
 layer_more all layer =
@@ -86,14 +98,16 @@ module _ (layers : List Inode) (all : List Shown) (less most : ℕ) (fits : less
   mount_fits : (mount : Mount) → has_room less all mount ≡ true
       → has_room most (folded with_layer all layers) mount ≡ true
   mount_fits mount room =
-      let first = and_parts (nat_le (uses_shown (inode_of mount.root) all) less) _ room in
-      let second = and_parts (point_has_room less all mount.mount_point) _ first.1 in
       let number = counted mount.root.filesystem.count in
-      let was = leb-true (mounts_shown number all) less second.1 in
+      let both = and_parts (nat_le (uses_shown (inode_of mount.root) all) less
+      && point_has_room less all mount.mount_point) (nat_le (mounts_shown number all) less) room in
+      let uses = and_parts (nat_le (uses_shown (inode_of mount.root) all) less)
+      (point_has_room less all mount.mount_point) both.0 in
+      let was = leb-true (mounts_shown number all) less both.1 in
       let more = mounts_with layers number all in
       let shows : nat_le (mounts_shown number (folded with_layer all layers)) most ≡ true =
       le-leb (mounts_shown number (folded with_layer all layers)) most (omega (arith, was, more, fits)) in
-      λ i. uses_fit (inode_of mount.root) first.0 i && point_fits mount.mount_point second.0 i && shows i
+      λ i. uses_fit (inode_of mount.root) uses.0 i && point_fits mount.mount_point uses.1 i && shows i
 
   -- the copies have room with the layers,
   pub copies_fit : (copies : List Mount) → list_all (has_room less all) copies ≡ true

@@ -8,11 +8,12 @@ ghost use Rattle.vt_location.specs.MountValue.{mount_of};
 ghost use Rattle.vt_mount.specs.MountsValue.{are_ascending, mounts_in};
 ghost use Rattle.vt_propagate.specs.Copying.{HasRoomFor};
 ghost use Rattle.vt_store.specs.LayersHeld.{new_overlay};
+ghost use Rattle.vt_store.specs.StoreValue.{StoreValue};
 ghost use Rattle.vt_attach.specs.Grafted.{IsGrafted, MayGraft};
 ghost use Rattle.vt_attach.specs.Planned.{is_small, points_left, points_taken, with_planned};
 ghost use Rattle.vt_attach.specs.Room.{has_small_nodes};
-ghost use Rattle.vt_detach.specs.Stored.{OverlaysStay, kept, merged_of};
-ghost use Rattle.vt_detach.specs.Uses.{with_overlay};
+ghost use Rattle.vt_attach.specs.Overlaid.{IsWithOverlay};
+ghost use Rattle.vt_detach.specs.Stored.{OverlaysStay, kept};
 
 use crate::attaching::hold_overlays;
 use crate::planned::{Planned, enter_planned, exchange_uses, plan_has_room};
@@ -44,9 +45,9 @@ pub fn attach_overlay(
     requires room { HasRoomFor graft.now counts }
     requires may { MayGraft mounts.old groups.old graft.now counts }
     requires above { list_all (λ entry. nat_lt entry.count filesystem.count) store.old.overlays ≡ true }
-    ensures ok { OnOk result (IsGrafted graft.now counts
-        (with_overlay (merged_of (new_overlay filesystem lowers.items mounter)) (kept mounts.old store.old)) groups.old
-        (kept mounts.new store.new) groups.new) }
+    ensures ok { OnOk result ((held : StoreValue)
+        × IsWithOverlay (new_overlay filesystem lowers.items mounter) store.old held
+        × IsGrafted graft.now counts (kept mounts.old held) groups.old (kept mounts.new store.new) groups.new) }
     ensures overlays { OnOk result (OverlaysStay
         (store.old.overlays ++ new_overlay filesystem lowers.items mounter ∷ []) store.new.overlays) }
     ensures err_mounts { OnErr result (mounts.new ≡ mounts.old) }
@@ -75,12 +76,13 @@ fn attach_with_overlay(
 ) -> Result<(), AllocError>
     requires ascending { are_ascending (mounts_in mounts.old ++ map mount_of plan.now.copies.now) ≡ true }
     requires above { list_all (λ entry. nat_lt entry.count filesystem.count) store.old.overlays ≡ true }
-    ensures ok { OnOk result ((left : List Location)
+    ensures ok { OnOk result ((held : StoreValue)
+        × IsWithOverlay (new_overlay filesystem lowers.items mounter) store.old held
+        × (left : List Location)
         × (map location_of left ≡ points_left plan.now.points.now mounts.old)
         × (list_all is_small left ≡ true)
         × (kept mounts.new store.new
-        ≡ with_planned plan.now.copies.now plan.now.points.now left
-        (with_overlay (merged_of (new_overlay filesystem lowers.items mounter)) (kept mounts.old store.old)))) }
+        ≡ with_planned plan.now.copies.now plan.now.points.now left (kept mounts.old held))) }
     ensures groups_ok { OnOk result
         (GrowsTo groups.old groups.new (map typed plan.now.copies.now) (map new_group plan.now.groups.now)) }
     ensures slots { OnOk result (list_all has_small_nodes plan.now.copies.now ≡ true) }

@@ -18,7 +18,7 @@ counted_eq_back a b = counted_test a b ∙ by (nat_eq a b) refl
     by false e = sym (ne_eqb b a (λ same. true≢false (sym (eq-eqb a b (sym same)) ∙ e)))
 
 -- uses of an inode that come and go
-changed_inodes : (count : ℕ) (change : Inodes ℕ → Inodes ℕ) (changed_so : ℕ → Inodes ℕ → Inodes ℕ)
+pub changed_inodes : (count : ℕ) (change : Inodes ℕ → Inodes ℕ) (changed_so : ℕ → Inodes ℕ → Inodes ℕ)
     → ((other : ℕ) (inodes : Inodes ℕ)
     → changed_so (counted other) inodes ≡ cond (nat_eq count other) (change inodes) inodes)
     → (all : List Shown) → shown_with count change all
@@ -34,17 +34,14 @@ changed_inodes count change changed_so same (one ∷ rest) =
     by false = refl
 
 -- a use more of an inode shows as one
-pub pinned_shown : (count number : ℕ) (all : List Shown)
-    → shown_with count (λ inodes. pinned nat_eq inodes number) all ≡ pinned_in (counted count, number) all
-pinned_shown count number all =
-    changed_inodes count (λ inodes. pinned nat_eq inodes number)
-    (λ filesystem inodes. pinned_if filesystem inodes (counted count, number))
-    (λ other inodes. ap (λ b. cond b (pinned nat_eq inodes number) inodes) (counted_eq_back other count)) all
-
 pub pins : (count number : ℕ) (old new : Filesystems)
     → ChangesInodes count (λ inodes. pinned nat_eq inodes number) old new
     → shown new ≡ pinned_in (counted count, number) (shown old)
-pins count number old new changes = changes.changed ∙ pinned_shown count number (shown old)
+pins count number old new changes =
+    changes.changed
+    ∙ changed_inodes count (λ inodes. pinned nat_eq inodes number)
+    (λ filesystem inodes. pinned_if filesystem inodes (counted count, number))
+    (λ other inodes. ap (λ b. cond b (pinned nat_eq inodes number) inodes) (counted_eq_back other count)) (shown old)
 
 -- and a use less
 pub unpinned_shown : (count number : ℕ) (all : List Shown)

@@ -1,6 +1,6 @@
 -- Mounts and filesystems with their counts, where a use of a location comes or goes: chdir(2), open(2), close(2).
 use Rattle.std.specs.Option.{option_and_then}
-use Rattle.std.specs.Prelude.{Bool, List, None, Option, Some, filter, filter_map, find, if◌then◌else◌, is_some, map, nat_eq, not, option_map, unwrap_or, [], ℕ, ◌&&◌, ◌+◌, ◌++◌, ◌-◌, ◌∷◌}
+use Rattle.std.specs.Prelude.{Bool, List, None, Option, Some, filter, filter_map, find, if◌then◌else◌, is_some, map, nat_eq, not, option_map, unwrap_or, ℕ, ◌&&◌, ◌+◌, ◌++◌, ◌-◌}
 use Rattle.vt_laws_counts.specs.Using.{pinned_if, unpinned_if}
 use Rattle.vt_fs.specs.FilesystemsValue.{Filesystems, Shown, shown}
 use Rattle.vt_laws_letting_go.specs.OneByOne.{Inode}
@@ -213,16 +213,3 @@ with_attached new k =
       filesystems = folded shown_by k.filesystems new;
       overlays = folded merged_by k.overlays new;
     }
-
--- Overlays that come
-
--- a layer more: a use of its directory, and a mount of its filesystem
-abbrev pub with_layer : List Shown → Inode → List Shown
-with_layer all inode = mounted_in inode.0 (pinned_in inode all)
-
--- a new overlay comes after all others, and its layers are in use
-abbrev pub with_overlay : Merged → Kept → Kept
-with_overlay one k = record k {
-  filesystems = folded with_layer k.filesystems one.layers;
-  overlays = k.overlays ++ one ∷ [];
-}
