@@ -3,6 +3,7 @@ pub mod Lent
 pub mod LookingAlone
 pub mod Entering
 pub mod Opening
+pub mod OverlayMounts
 pub mod Vacancy
 pub mod LyingUnder
 pub mod Retyped
