@@ -50,3 +50,5 @@ pub mod NewOverlaySame
 pub mod NewOverlayBase
 pub mod NewOverlayNumbers
 pub mod NewOverlayInUse
+pub mod OverlayLeft
+pub mod NewOverlayDone
