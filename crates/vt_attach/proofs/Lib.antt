@@ -49,3 +49,4 @@ pub mod NewOverlayUses
 pub mod NewOverlaySame
 pub mod NewOverlayBase
 pub mod NewOverlayNumbers
+pub mod OverlayLeft
