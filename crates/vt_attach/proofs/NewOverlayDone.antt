@@ -1,5 +1,5 @@
 -- The event that mounts an overlay: mount(2), and the kernel's overlayfs document, "upper and lower".
-use Rattle.std.proofs.Common.{◌≡◌, ◌≤◌, ◌<◌, refl, sym, ap, subst, ◌∙◌, inl, ⊎_elim, ℕ, ◌+◌, ◌*◌, ◌%◌, ◌==◌, nat_eq, true, false, true≢false, not, ◌&&◌, List, [], ◌∷◌, ◌++◌, map, filter, length, is_some, None, Option, arith}
+use Rattle.std.proofs.Common.{◌≡◌, ◌≤◌, ◌<◌, refl, sym, ap, subst, ◌∙◌, inl, ⊎_elim, ℕ, ◌+◌, ◌*◌, ◌%◌, ◌==◌, nat_eq, true, false, true≢false, not, ◌&&◌, List, [], ◌∷◌, ◌++◌, map, filter, length, is_some, None, arith}
 use Rattle.std.specs.Prelude.{All}
 use Rattle.std.specs.List.{list_all}
 use Rattle.std.proofs.lemmas.Bool.{and_parts}
@@ -77,7 +77,7 @@ use Rattle.vt_attach.proofs.AttachedCounts.{lower_numbers}
 use Rattle.vt_attach.proofs.Beside.{IsBeside}
 use Rattle.vt_attach.proofs.Binding.{is_seen}
 use Rattle.vt_attach.proofs.CopiesAscend.{planned_ascend}
-use Rattle.vt_attach.proofs.GraftedDone.{IsBase, base_overlays, graft_is_held, grafted_value, plan_attaches, with_base}
+use Rattle.vt_attach.proofs.GraftedDone.{IsBase, base_overlays, graft_is_held, grafted_value, plan_attaches}
 use Rattle.vt_attach.proofs.GraftedUses.{after}
 use Rattle.vt_attach.proofs.NewFilesystems.{number_named}
 use Rattle.vt_attach.proofs.NewOverlay.{all_last, new_is_beside}
