@@ -1,0 +1,30 @@
+-- The event that mounts an overlay: the mounter is the caller, so the permit is told by the task.
+use Rattle.std.specs.Prelude.{All, Some, ℕ, ◌≡◌}
+use Rattle.vt_spec.specs.Language.Calls.{TaskName}
+use Rattle.vt_spec.specs.Machine.Permits.{Permit}
+use Rattle.vt_spec.specs.Machine.SameWorlds.{SameWorlds}
+use Rattle.vt_spec.specs.Machine.World.{Task, task_called}
+use Rattle.vt_laws_given.specs.LeftWorlds.{IsGivenToTask}
+use Rattle.vt_location.specs.declared.births.Birth.TheVariants.{Here}
+use Rattle.vt_permits.specs.GrantValue.{overlay_permit}
+use Rattle.vt_permits.specs.declared.grant.LowerLayer.{LowerLayer}
+use Rattle.vt_permits.specs.declared.grant.ToMountOverlay.{ToMountOverlay}
+use Rattle.vt_detach.specs.Events.{left_by, supply_of}
+use Rattle.vt_world.specs.WorldValue.{WorldValue, world_of}
+
+-- the task of this name is given the permit of a call that mounts this overlay
+pub record PermitsOverlay (value : WorldValue) (name : TaskName) (new : ToMountOverlay) : Type 0 where
+  pub task : Task ℕ
+  pub called : task_called (world_of value) name ≡ Some task
+  pub given : IsGivenToTask (supply_of value (overlay_permit task new)) (world_of value) task (overlay_permit task new)
+
+-- the world becomes the one that the permit leaves
+abbrev pub MountsOverlay : WorldValue → TaskName → ToMountOverlay → WorldValue → Type 0
+MountsOverlay old name new later =
+    (task : Task ℕ) → task_called (world_of old) name ≡ Some task
+    → SameWorlds (left_by old task (overlay_permit task new)) (world_of later)
+
+-- a layer is a directory of the plain filesystem that its mount shows
+pub record IsPlainLayer (lower : LowerLayer) : Type 0 where
+  pub own : lower.directory.filesystem ≡ lower.filesystem
+  pub born : lower.directory.birth ≡ Here
