@@ -1,34 +1,32 @@
 //! What a mount of an overlay is granted, or the first rule that refuses it: mount(2).
-ghost use Rattle.std.specs.Prelude.{◌≡◌, nat_eq};
-ghost use Rattle.vt_spec.specs.Language.Script.{options_of};
+ghost use Rattle.std.specs.Prelude.{◌≡◌, IfOk, map, nat_eq};
+ghost use Rattle.vt_spec.specs.Language.Calls.Call.{MountOverlay};
 ghost use Rattle.vt_spec.specs.Machine.Judge.{mount_overlay_permit};
-ghost use Rattle.vt_spec.specs.Machine.Rules.Mounting.{destination_walk};
+ghost use Rattle.vt_spec.specs.Machine.Rules.Mounting.{destination_walk, layer_at};
 ghost use Rattle.vt_spec.specs.Machine.Walking.{walk_end};
 ghost use Rattle.vt_cred.specs.MountFlags.{flags_of};
+ghost use Rattle.vt_location.specs.Locations.{location_of};
+ghost use Rattle.vt_request.specs.Requests.{options_named};
+ghost use Rattle.vt_permits.specs.GrantValue.{layer_of};
+ghost use Rattle.vt_permits.specs.Memory.{JudgesByReceivers};
 ghost use Rattle.vt_tasks.specs.TaskValue.{task_of};
 ghost use Rattle.vt_walk.specs.WalkValue.{location_end, location_result};
 ghost use Rattle.vt_layers.specs.LayersValue.{layers_result};
-ghost use Rattle.vt_layers.specs.MountValue.{JudgesOverlay, layers_named};
+ghost use Rattle.vt_layers.specs.MountValue.{layers_named};
 
 use crate::looks::LookAtLayers;
 use crate::options::LayerOptions;
-use crate::rules::may_be_layers;
-use crate::walks::{LayerLocations, layers_walked};
+use crate::rules::{filesystem_at, may_be_layers};
+use crate::walks::{LayerLocations, Lower, layers_walked};
+use std::alloc::{AllocError, Global};
 use vt_cred::{Caps, MountFlags};
 use vt_location::Location;
 use vt_looks::Look;
+use vt_permits::{Grant, LowerLayer, ToMountOverlay};
 use vt_rules::{is_elsewhere, lacks};
 use vt_spec::errors::{Deny, Rule};
 use vt_tasks::Task;
 use vt_text::path::PathText;
-
-/// A mount of a new overlay, with the task that was judged as its mounter.
-#[derive(Debug, Drop)]
-pub struct ToMountOverlay {
-    pub destination: Location,
-    pub layers: LayerLocations,
-    pub flags: MountFlags,
-}
 
 // The destination of the mount.
 fn destination_at<L: Look>(world: &L, who: &Task, path: &[u8]) -> Result<Location, Deny>
@@ -40,7 +38,7 @@ fn destination_at<L: Look>(world: &L, who: &Task, path: &[u8]) -> Result<Locatio
 
 /// The layers that a text of options names, if an overlay may have them. It does not allocate.
 ///
-/// O2 (EINVAL): the text is no list of options. The other errors are those of `layers_walked`, and then of
+/// O2 (EINVAL): the text is no list of options, or names an upper directory. The other errors are those of `layers_walked`, and then of
 /// `may_be_layers`.
 pub fn layers_named<L: LookAtLayers>(
     world: &L,
@@ -48,9 +46,9 @@ pub fn layers_named<L: LookAtLayers>(
     options: &[u8],
 ) -> Result<LayerLocations, Deny>
     ensures { layers_result result
-        ≡ layers_named (L.looks world.now) (task_of who.now) (options_of options.now) }
+        ≡ layers_named (L.looks world.now) (task_of who.now) (options_named options.now) }
 {
-    let Some(options) = LayerOptions::parse(options) else {
+    let Some(options) = LayerOptions::known(options) else {
         return Err(Rule::O2.denial());
     };
     let layers = layers_walked(world, who, &options)?;
@@ -58,20 +56,40 @@ pub fn layers_named<L: LookAtLayers>(
     Ok(layers)
 }
 
+// Lower layers as they are granted.
+fn lowers_granted<L: Look>(
+    alloc: Global,
+    world: &L,
+    lowers: &[Lower],
+) -> Result<Vec<LowerLayer>, AllocError>
+    ensures { IfOk result (λ granted. map layer_of granted.items
+        ≡ map (λ lower. layer_at (L.looks world.now) (location_of lower.at)) lowers.now) }
+{
+    let mut granted = Vec::with_capacity(alloc, lowers.len())?;
+    for lower in lowers {
+        granted.push(LowerLayer {
+            filesystem: filesystem_at(world, lower.at),
+            directory: lower.at.node,
+        })?;
+    }
+    Ok(granted)
+}
+
 /// Judges a mount of an overlay: what it is granted, or the first rule that refuses it, in the policy's order.
 ///
 /// K1 (EPERM), and after the rules of the walk to the destination those of `layers_named`, then M2 (EINVAL), M9
-/// (ENOSPC). S5 (ENOMEM): an allocation failed as the receivers of the mount were gathered.
+/// (ENOSPC). S5 (ENOMEM): an allocation failed as the receivers of the mount were gathered, or of the list of layers.
 pub fn mount_overlay<L: LookAtLayers>(
+    alloc: Global,
     world: &L,
     who: &Task,
     path: &[u8],
     options: &[u8],
     flags: MountFlags,
-) -> Result<ToMountOverlay, Deny>
-    ensures { JudgesOverlay (L.looks world.now) (task_of who.now)
+) -> Result<Grant, Deny>
+    ensures { JudgesByReceivers (MountOverlay path.now (options_named options.now) (flags_of flags)) (task_of who.now)
         (mount_overlay_permit nat_eq (L.looks world.now) (L.overfills world.now) (task_of who.now) path.now
-        (options_of options.now) (flags_of flags)) result }
+        (options_named options.now) (flags_of flags)) result }
 {
     if lacks(who, Caps::CAP_SYS_ADMIN) {
         return Err(Rule::K1.denial());
@@ -84,9 +102,10 @@ pub fn mount_overlay<L: LookAtLayers>(
     if world.overfills_with_overlay(destination)? {
         return Err(Rule::M9.denial());
     }
-    Ok(ToMountOverlay {
+    let lowers = lowers_granted(alloc, world, layers.lowers.as_slice())?;
+    Ok(Grant::Overlay(ToMountOverlay {
         destination,
-        layers,
+        lowers,
         flags,
-    })
+    }))
 }

@@ -7,7 +7,7 @@ mod options;
 mod rules;
 mod walks;
 
-pub use judging::{ToMountOverlay, layers_named, mount_overlay};
+pub use judging::{layers_named, mount_overlay};
 pub use looks::LookAtLayers;
 pub use options::{LayerOptions, Parts};
 pub use rules::{MOST_LOWERS, may_be_layers};

@@ -25,7 +25,7 @@ use vt_tasks::Task;
 pub const MOST_LOWERS: usize = 128;
 
 // The filesystem that a location is in.
-fn filesystem_at<L: Look>(world: &L, at: Location) -> FilesystemId
+pub(crate) fn filesystem_at<L: Look>(world: &L, at: Location) -> FilesystemId
     ensures { filesystem_number result ≡ (mount_at (L.looks world.now) (location_of at)).filesystem }
 {
     world.ground(at.mount).filesystem
