@@ -1,10 +1,9 @@
 -- What requests ask for, in the policy's words, free of capacities.
 use Rattle.vt_spec.specs.Language.Calls as spec
-use Rattle.vt_spec.specs.Language.Script.{options_of}
-use Rattle.vt_spec.specs.Lists.{then_some, when}
+use Rattle.vt_spec.specs.Language.Script.{known_options, names_no_upper, options_of}
 use Rattle.vt_cred.specs.Caps.{capability_bits}
 use Rattle.vt_cred.specs.MountFlags.{flags_of}
-use Rattle.std.specs.Prelude.{List, Option, is_some, not, option_map, ℕ}
+use Rattle.std.specs.Prelude.{List, Option, option_map, ℕ}
 use Rattle.vt_request.specs.declared.request.CapsWord.{CapsWord}
 use Rattle.vt_request.specs.declared.request.CapsWord.TheVariants.{Held, Named}
 use Rattle.vt_request.specs.declared.request.Access.{Access}
@@ -118,7 +117,7 @@ task_call_of (task.Setns name) = spec.Call.Setns name
 -- The options that a text names, if it is a list of options. Code has no overlays with an upper layer: a text with
 -- `upperdir` is no list of options.
 abbrev pub options_named : List ℕ → Option spec.OverlayWords
-options_named text = then_some (options_of text) (λ words. when (not (is_some words.upper)) words)
+options_named text = known_options names_no_upper (options_of text)
 
 -- a call that changes mounts
 abbrev pub mount_call_of : MountCall → spec.Call
