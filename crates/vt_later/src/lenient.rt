@@ -7,7 +7,7 @@ ghost use Rattle.vt_later.specs.Lenience.{lenient_flags, lenient_mount};
 use crate::passed::Passed;
 use vt_cred::{MountFlags, Rights};
 use vt_location::{Location, Mount, MountId, NamespaceId, NodeRef};
-use vt_layers::{LayerLocations, LookAtLayers, Lower};
+use vt_layers::{LookAtLayers, Lower};
 use vt_looks::{Asked, Ground, Look, LookAtMounts};
 use vt_node::Node;
 use vt_permits::Attachment;
@@ -181,12 +181,8 @@ impl<'a, L: LookAtMounts> LookAtMounts for Lenient<'a, L> {
 }
 
 impl<'a, L: LookAtLayers> LookAtLayers for Lenient<'a, L> {
-    fn overlaps_one_of(&self, others: &[Lower], at: Location) -> bool {
-        self.world.overlaps_one_of(others, at)
-    }
-
-    fn is_in_use(&self, who: &Task, layers: &LayerLocations) -> bool {
-        self.world.is_in_use(who, layers)
+    fn are_in_use(&self, who: &Task, lowers: &[Lower]) -> bool {
+        self.world.are_in_use(who, lowers)
     }
 
     fn overfills_with_overlay(&self, destination: Location) -> Result<bool, Deny> {

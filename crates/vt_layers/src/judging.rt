@@ -1,5 +1,5 @@
 //! What a mount of an overlay is granted, or the first rule that refuses it: mount(2).
-ghost use Rattle.std.specs.Prelude.{◌≡◌, IfOk, map, nat_eq};
+ghost use Rattle.std.specs.Prelude.{◌≡◌, Err, IfErr, IfOk, Ok, map, nat_eq};
 ghost use Rattle.vt_spec.specs.Language.Calls.Call.{MountOverlay};
 ghost use Rattle.vt_spec.specs.Machine.Judge.{mount_overlay_permit};
 ghost use Rattle.vt_spec.specs.Machine.Rules.Mounting.{destination_walk, layer_at};
@@ -11,13 +11,13 @@ ghost use Rattle.vt_permits.specs.GrantValue.{layer_of};
 ghost use Rattle.vt_permits.specs.Memory.{JudgesByReceivers};
 ghost use Rattle.vt_tasks.specs.TaskValue.{task_of};
 ghost use Rattle.vt_walk.specs.WalkValue.{location_end, location_result};
-ghost use Rattle.vt_layers.specs.LayersValue.{layers_result};
+ghost use Rattle.vt_layers.specs.LayersValue.{lowers_alone, lowers_of};
 ghost use Rattle.vt_layers.specs.MountValue.{layers_named};
 
 use crate::looks::LookAtLayers;
 use crate::options::LayerOptions;
-use crate::rules::{filesystem_at, may_be_layers};
-use crate::walks::{LayerLocations, Lower, layers_walked};
+use crate::rules::{filesystem_at, may_be_lowers};
+use crate::walks::{Lower, Lowers, lowers_walked};
 use std::alloc::{AllocError, Global};
 use vt_cred::{Caps, MountFlags};
 use vt_location::Location;
@@ -36,24 +36,26 @@ fn destination_at<L: Look>(world: &L, who: &Task, path: &[u8]) -> Result<Locatio
     vt_walk::destination_walk(world, who, &PathText::parse(path)?)
 }
 
-/// The layers that a text of options names, if an overlay may have them. It does not allocate.
+/// The lower layers that a text of options names, if an overlay may have them. It does not allocate.
 ///
-/// O2 (EINVAL): the text is no list of options, or names an upper directory. The other errors are those of `layers_walked`, and then of
-/// `may_be_layers`.
-pub fn layers_named<L: LookAtLayers>(
+/// O2 (EINVAL): the text is no list of options, or names an upper directory. The other errors are those of the walks to
+/// the layers, and then of `may_be_lowers`.
+pub fn lowers_named<L: LookAtLayers>(
     world: &L,
     who: &Task,
     options: &[u8],
-) -> Result<LayerLocations, Deny>
-    ensures { layers_result result
-        ≡ layers_named (L.looks world.now) (task_of who.now) (options_named options.now) }
+) -> Result<Lowers, Deny>
+    ensures ok { IfOk result (λ lowers. Ok (lowers_alone (lowers_of lowers.items))
+        ≡ layers_named (L.looks world.now) (task_of who.now) (options_named options.now)) }
+    ensures err { IfErr result (λ deny. Err deny
+        ≡ layers_named (L.looks world.now) (task_of who.now) (options_named options.now)) }
 {
     let Some(options) = LayerOptions::known(options) else {
         return Err(Rule::O2.denial());
     };
-    let layers = layers_walked(world, who, &options)?;
-    may_be_layers(world, who, &layers)?;
-    Ok(layers)
+    let lowers = lowers_walked(world, who, options.lowers())?;
+    may_be_lowers(world, who, lowers.as_slice())?;
+    Ok(lowers)
 }
 
 // Lower layers as they are granted.
@@ -77,7 +79,7 @@ fn lowers_granted<L: Look>(
 
 /// Judges a mount of an overlay: what it is granted, or the first rule that refuses it, in the policy's order.
 ///
-/// K1 (EPERM), and after the rules of the walk to the destination those of `layers_named`, then M2 (EINVAL), M9
+/// K1 (EPERM), and after the rules of the walk to the destination those of `lowers_named`, then M2 (EINVAL), M9
 /// (ENOSPC). S5 (ENOMEM): an allocation failed as the receivers of the mount were gathered, or of the list of layers.
 pub fn mount_overlay<L: LookAtLayers>(
     alloc: Global,
@@ -95,14 +97,14 @@ pub fn mount_overlay<L: LookAtLayers>(
         return Err(Rule::K1.denial());
     }
     let destination = destination_at(world, who, path)?;
-    let layers = layers_named(world, who, options)?;
+    let layers = lowers_named(world, who, options)?;
     if is_elsewhere(world, who, destination) {
         return Err(Rule::M2.denial());
     }
     if world.overfills_with_overlay(destination)? {
         return Err(Rule::M9.denial());
     }
-    let lowers = lowers_granted(alloc, world, layers.lowers.as_slice())?;
+    let lowers = lowers_granted(alloc, world, layers.as_slice())?;
     Ok(Grant::Overlay(ToMountOverlay {
         destination,
         lowers,
