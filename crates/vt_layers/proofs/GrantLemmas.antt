@@ -1,6 +1,6 @@
 -- Layers without an upper one, as they are granted.
 use Rattle.std.proofs.Common.{◌≡◌, ℕ, true, false, [], ◌∷◌, List, Result, Ok, Err, Option, None, Some, map, nat_eq, refl, sym, take, ap, ◌∙◌}
-use Rattle.std.specs.Prelude.{is_some, not}
+use Rattle.std.specs.Prelude.{is_some, not, option_map}
 use Rattle.vt_spec.specs.declared.errors.Deny.{Deny}
 use Rattle.vt_spec.specs.Errors.{and_then}
 use Rattle.vt_spec.specs.Language.Calls.{OverlayWords}
@@ -17,6 +17,14 @@ use Rattle.vt_layers.specs.declared.walks.Lower.{Lower}
 use Rattle.vt_layers.specs.declared.walks.TheConstants.{KEPT_LOWERS}
 
 -- options that are read, without an upper layer
+pub is_some-map : {A B : Type 0} (f : A → B) (o : Option A) → is_some (option_map f o) ≡ is_some o
+is_some-map f None = refl
+is_some-map f (Some a) = refl
+
+pub none_there : {A : Type 0} (o : Option A) → is_some o ≡ false → o ≡ None
+none_there None e = refl
+none_there (Some a) e = absurd cc
+
 pub known_none : (text : List ℕ) → options_of text ≡ None → None ≡ options_named text
 known_none text none = sym (ap (λ options. then_some options (λ words. when (not (is_some words.upper)) words)) none)
 

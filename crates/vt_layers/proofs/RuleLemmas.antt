@@ -128,7 +128,7 @@ module _ (looks : Looks ℕ) (task : Task ℕ) where
       first_row (e1 || e2 || e4 || list_any (is_overlay_at looks) lowers) e9 e10 answer
       ∙ joined_lowers e1 e2 e4 (list_any (is_overlay_at looks) lowers) ends answer
       ∙ ap (λ all. unless ((e1, O2) ∷ (e2 && true, O2) ∷ (false, O2) ∷ (e4, O2) ∷ (list_any (is_overlay_at looks) all, O2)
-      ∷ (false, O2) ∷ (false, O2) ∷ (false, O2) ∷ ends) answer) (sym (append-nil lowers))
+      ∷ (false, O2) ∷ (false, O2) ∷ (false, O2) ∷ ends) answer) (sym (append-nil (lowers ++ []) ∙ append-nil lowers))
     where
       first_row : {A : Type 0} (front e9 e10 : Bool) (answer : Result A Deny)
           → unless ((front, O2) ∷ (e9, O3) ∷ (e10, O5) ∷ []) answer

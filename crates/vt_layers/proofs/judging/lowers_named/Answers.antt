@@ -31,7 +31,7 @@ returns-in_err-may_be_lowers-clause-err g c =
     (lowers_walked looks task options lowers c.in-Some.ensures.no_upper
     (c.in_ok-lowers.ensures.ok ∙ ap (λ paths. first_lowers (each_walked nat_eq looks task paths)) c.lowers.ensures))
     (c.in_err-may_be_lowers.ensures
-    ∙ ap (λ all. ruled looks task (lowers_alone (lowers_of all)) (Ok tt)) c.as_slice.ensures)
+    ∙ ap (λ all. ruled looks task (lowers_alone (lowers_of all)) (Ok tt)) c.as_slice.ensures.value)
     ∙ ap (layers_named looks task) c.in-Some.ensures.value)
 
 pub returns-clause-ok : goal.returns-clause-ok
@@ -44,5 +44,5 @@ returns-clause-ok g c =
     (lowers_walked looks task options lowers c.in-Some.ensures.no_upper
     (c.in_ok-lowers.ensures.ok ∙ ap (λ paths. first_lowers (each_walked nat_eq looks task paths)) c.lowers.ensures))
     (c.in_ok-may_be_lowers.ensures
-    ∙ ap (λ all. ruled looks task (lowers_alone (lowers_of all)) (Ok tt)) c.as_slice.ensures)
+    ∙ ap (λ all. ruled looks task (lowers_alone (lowers_of all)) (Ok tt)) c.as_slice.ensures.value)
     ∙ ap (layers_named looks task) c.in-Some.ensures.value

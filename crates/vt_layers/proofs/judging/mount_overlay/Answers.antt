@@ -138,4 +138,4 @@ returns g c =
     ∙ skipped _ M9 _ _ (sym (c.in_ok-overfills_with_overlay.ensures.ok overlay flags) ∙ c.if-branch.false)
     ∙ ap (λ overlay. Ok (MeansToMount place overlay flags))
     (granted_overlay looks task lowers _
-    (c.in_ok-lowers.ensures ∙ ap (map (λ (lower : Lower). layer_at looks (location_of lower.at))) c.as_slice.ensures))
+    (c.in_ok-lowers.ensures ∙ ap (map (λ (lower : Lower). layer_at looks (location_of lower.at))) c.as_slice.ensures.value))
