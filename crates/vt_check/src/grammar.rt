@@ -20,6 +20,7 @@ pub enum Kind {
     KeptIdentity,
     Mode,
     Offset,
+    Options,
     Path,
     Propagation,
     Task,
@@ -109,7 +110,7 @@ const OVERLAY: Argument = Argument {
 
 const OPTIONS: Argument = Argument {
     name: "OPTIONS",
-    kind: Kind::Bytes,
+    kind: Kind::Options,
 };
 
 const FLAGS: Argument = Argument {
@@ -597,6 +598,16 @@ static OFFSET_WORDS: KindWords = KindWords {
     synonyms: &[],
 };
 
+static OPTIONS_WORDS: KindWords = KindWords {
+    before: "t mount overlay / ",
+    after: "",
+    said: "OPTIONS stand between commas, as `lowerdir=/high:/low` does",
+    plain: "",
+    part: "",
+    choices: &[],
+    synonyms: &[],
+};
+
 static PATH_WORDS: KindWords = KindWords {
     before: "t ls ",
     after: "",
@@ -713,6 +724,7 @@ impl Kind {
             Kind::KeptIdentity => &KEPT_IDENTITY_WORDS,
             Kind::Mode => &MODE_WORDS,
             Kind::Offset => &OFFSET_WORDS,
+            Kind::Options => &OPTIONS_WORDS,
             Kind::Path => &PATH_WORDS,
             Kind::Propagation => &PROPAGATION_WORDS,
             Kind::Task => &TASK_WORDS,
