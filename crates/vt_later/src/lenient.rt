@@ -6,8 +6,8 @@ ghost use Rattle.vt_later.specs.Lenience.{lenient_flags, lenient_mount};
 
 use crate::passed::Passed;
 use vt_cred::{MountFlags, Rights};
-use vt_location::{Location, Mount, MountId, NamespaceId, NodeRef};
 use vt_layers::{LookAtLayers, Lower};
+use vt_location::{Location, Mount, MountId, NamespaceId, NodeRef};
 use vt_looks::{Asked, Ground, Look, LookAtMounts};
 use vt_node::Node;
 use vt_permits::Attachment;

@@ -40,11 +40,7 @@ fn destination_at<L: Look>(world: &L, who: &Task, path: &[u8]) -> Result<Locatio
 ///
 /// O2 (EINVAL): the text is no list of options, or names an upper directory. The other errors are those of the walks to
 /// the layers, and then of `may_be_lowers`.
-pub fn lowers_named<L: LookAtLayers>(
-    world: &L,
-    who: &Task,
-    options: &[u8],
-) -> Result<Lowers, Deny>
+pub fn lowers_named<L: LookAtLayers>(world: &L, who: &Task, options: &[u8]) -> Result<Lowers, Deny>
     ensures ok { IfOk result (λ lowers. Ok (lowers_alone (lowers_of lowers.items))
         ≡ layers_named (L.looks world.now) (task_of who.now) (options_named options.now)) }
     ensures err { IfErr result (λ deny. Err deny

@@ -198,11 +198,7 @@ fn checked_lowers<L: LookAtLayers>(world: &L, who: &Task, lowers: &[Lower]) -> R
 ///
 /// O2 (EINVAL): fewer than two layers, more than 128, a layer in an overlay. O3 (EBUSY): a layer overlaps the upper or
 /// the work directory of a live overlay. O5 (ELOOP): a layer is at or under another.
-pub fn may_be_lowers<L: LookAtLayers>(
-    world: &L,
-    who: &Task,
-    lowers: &[Lower],
-) -> Result<(), Deny>
+pub fn may_be_lowers<L: LookAtLayers>(world: &L, who: &Task, lowers: &[Lower]) -> Result<(), Deny>
     ensures { result ≡ unless (layer_rules nat_eq (L.looks world.now) (lowers_alone (lowers_of lowers.now))
         (overlay_at (L.looks world.now) (task_of who.now) (lowers_alone (lowers_of lowers.now)))) (Ok tt) }
 {
