@@ -60,25 +60,25 @@ second_true : (a b : Bool) → (a && b) ≡ true → b ≡ true
 second_true true b e = e
 second_true false b e = absurd cc
 
-nothing_written : (all : List (Filesystem ℕ))
-    → All (λ filesystem. of_overlay false (λ (overlay : Overlay ℕ). is_some overlay.upper) filesystem ≡ false) all
-    → list_all (of_overlay true has_fit_layers) all ≡ true
+abbrev HasNoUpper : Filesystem ℕ → Type 0
+HasNoUpper filesystem = of_overlay false (λ (overlay : Overlay ℕ). is_some overlay.upper) filesystem ≡ false
+
+nothing_written : (all : List (Filesystem ℕ)) → All HasNoUpper all → list_all (of_overlay true has_fit_layers) all ≡ true
     → flat_map (of_overlay [] upper_and_work) (filter is_overlay all) ≡ []
 nothing_written [] none fit = refl
 nothing_written (filesystem ∷ rest) none fit =
-    by filesystem.overlay (All-head filesystem rest none)
+    by (nothing_written rest (All-tail HasNoUpper filesystem rest none)
+    (second_true (of_overlay true has_fit_layers filesystem) (list_all (of_overlay true has_fit_layers) rest) fit))
+    filesystem.overlay (All-head HasNoUpper filesystem rest none)
     (first_true (of_overlay true has_fit_layers filesystem) (list_all (of_overlay true has_fit_layers) rest) fit)
   where
-    later : flat_map (of_overlay [] upper_and_work) (filter is_overlay rest) ≡ []
-    later =
-        nothing_written rest (All-tail filesystem rest none)
-        (second_true (of_overlay true has_fit_layers filesystem) (list_all (of_overlay true has_fit_layers) rest) fit)
-
-    by : (overlay : Option (Overlay ℕ)) → overlay_or false (λ (overlay : Overlay ℕ). is_some overlay.upper) overlay ≡ false
+    by : flat_map (of_overlay [] upper_and_work) (filter is_overlay rest) ≡ []
+        → (overlay : Option (Overlay ℕ))
+        → overlay_or false (λ (overlay : Overlay ℕ). is_some overlay.upper) overlay ≡ false
         → overlay_or true has_fit_layers overlay ≡ true
         → flat_map (of_overlay [] upper_and_work) (filter is_overlay (record filesystem { overlay = overlay } ∷ rest)) ≡ []
-    by None no_upper fits = later
-    by (Some overlay) no_upper fits =
+    by later None no_upper fits = later
+    by later (Some overlay) no_upper fits =
         ap (λ first. first ++ flat_map (of_overlay [] upper_and_work) (filter is_overlay rest))
         (no_work overlay no_upper fits)
         ∙ later
