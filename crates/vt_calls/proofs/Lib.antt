@@ -8,3 +8,5 @@ pub mod Judging
 pub mod Told
 pub mod Spending
 pub mod Numbered
+pub mod OverlaysJudged
+pub mod OverlayGrants
