@@ -25,13 +25,14 @@ use Rattle.vt_request.specs.declared.answer.Answer.{Answer}
 use Rattle.vt_request.specs.declared.answer.Answer.TheVariants.{Done}
 use Rattle.vt_laws_runs.proofs.answered.AlikeWorlds.{sameness_is_an_equivalence}
 use Rattle.vt_laws_runs.specs.Handed.{counts_from}
-use Rattle.vt_detach.specs.Events.{Becomes, Permits, PermitsToAny, left_by, supply_of}
+use Rattle.vt_detach.specs.Events.{Becomes, Permits, left_by, supply_of}
 use Rattle.vt_world.specs.Held.{IsHeld}
 use Rattle.vt_world.specs.WorldValue.{WorldValue, world_of}
+use Rattle.vt_ns.specs.OverlayMounts.{PermitsOverlay}
 use Rattle.vt_calls.proofs.Finishing.{answers, grants, leaves, refuses}
 use Rattle.vt_calls.proofs.Forms.{frees, is_free}
 use Rattle.vt_calls.proofs.NumbersLeft.{numbers_left}
-use Rattle.vt_calls.proofs.Supplies.{AreVacant, allotted, counts, judged_with, permits, permits_any}
+use Rattle.vt_calls.proofs.Supplies.{AreVacant, allotted, counts, given_any, judged_with, permits}
 use Rattle.vt_calls.specs.Answered.{answered}
 use Rattle.vt_answers.specs.Ends.{MayBeRefusedMemory}
 use Rattle.vt_calls.specs.Meets.{Ends, Meets}
@@ -165,14 +166,18 @@ module _ (old : WorldValue) (name : TaskName) (call : Call) (grant : Grant)
 
 -- what is permitted with a grant: to mount an overlay, or by a call that mounts none
 abbrev pub PermittedFor : Grant → WorldValue → TaskName → Permit ℕ → Type 0
-PermittedFor (granting.Overlay new) old name meant = PermitsToAny old name meant
+PermittedFor (granting.Overlay new) old name meant = PermitsOverlay old name new
 PermittedFor grant old name meant = Permits old name meant
 
 permits_for : (old : WorldValue) (name : TaskName) (call : Call) (grant : Grant)
     (given : IsGivenFor old name call grant) → AreVacant old (permit_of given.task grant)
     → PermittedFor grant old name (permit_of given.task grant)
 permits_for old name call (granting.Overlay new) given vacant =
-    permits_any old name call (granting.Overlay new) given vacant
+    record {
+      task = given.task;
+      called = given.called;
+      given = given_any old name call (granting.Overlay new) given vacant;
+    }
 permits_for old name call grant given vacant = permits old name call grant given refl vacant
 
 -- The grant, and the permit that the definitions see in it

@@ -10,3 +10,4 @@ pub mod Spending
 pub mod Numbered
 pub mod OverlaysJudged
 pub mod OverlayGrants
+pub mod OverlaysHanded

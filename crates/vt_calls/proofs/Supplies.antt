@@ -10,6 +10,7 @@ use Rattle.vt_spec.specs.Machine.World.{task_called}
 use Rattle.vt_laws_rules.specs.Numbers.{Allotment, IsSuppliedFrom}
 use Rattle.vt_laws_rules.proofs.numbers.Texts.{room_serves}
 use Rattle.vt_location.specs.Numbers.{inode_number}
+use Rattle.vt_laws_given.specs.LeftWorlds.{IsGivenToTask}
 use Rattle.vt_laws_overlays_stay.proofs.in_use.NamedBefore.{any_worlds_keep_to_named_before}
 use Rattle.vt_permits.specs.GrantValue.{permit_of}
 use Rattle.vt_permits.specs.declared.grant.Grant.{Grant}
@@ -17,7 +18,7 @@ use Rattle.vt_laws_runs.proofs.handed.Counts.{counts_serve}
 use Rattle.vt_laws_runs.proofs.handed.InodesAllotted.{allotted_numbers_serve}
 use Rattle.vt_laws_runs.specs.Handed.{counts_from, handed_from, may_be_given}
 use Rattle.vt_laws_runs.specs.Runs.{ServesInHand}
-use Rattle.vt_detach.specs.Events.{Permits, PermitsToAny, next_inode, supply_of}
+use Rattle.vt_detach.specs.Events.{Permits, next_inode, supply_of}
 use Rattle.vt_world.specs.Held.{IsHeld}
 use Rattle.vt_ns.specs.Vacancy.{IsVacant, NextInodeIsVacant, NextRootIsVacant}
 use Rattle.vt_world.specs.WorldValue.{WorldValue, world_of}
@@ -70,37 +71,33 @@ module _ (value : WorldValue) (name : TaskName) (call : Call) (grant : Grant)
       judged_with_any (world_of value) given.held.in_world given.task call fresh (counts_from value.next)
       ∙ given.judged
 
-  -- so it is permitted to the task,
-  pub permits_any : AreVacant value granted → PermitsToAny value name granted
-  permits_any vacant =
+  -- so it is given to the task,
+  pub given_any : AreVacant value granted → IsGivenToTask (supply_of value granted) (world_of value) given.task granted
+  given_any vacant =
       let supplied = allotted value given.held granted vacant in record {
+        serves =
+            subst (Serves nat_eq (world_of value)) supplied.1
+            (room_serves may_be_given (world_of value) supplied.0 supplied.2.serves);
+        called =
+            subst (λ called. task_called (world_of value) called ≡ Some given.task)
+            (name_found (world_of value) name given.task given.called) given.called;
+        call = call;
+        few_groups = given.few_groups;
+        judged = judged_with (supply_of value granted);
+      }
+
+  -- and permitted for a call that mounts no overlay, where the grant does not
+  pub permits : mounts_layers grant ≡ false → AreVacant value granted → Permits value name granted
+  permits plain vacant =
+      let any = given_any vacant in record {
         task = given.task;
         called = given.called;
         given = record {
-          serves =
-              subst (Serves nat_eq (world_of value)) supplied.1
-              (room_serves may_be_given (world_of value) supplied.0 supplied.2.serves);
-          called =
-              subst (λ called. task_called (world_of value) called ≡ Some given.task)
-              (name_found (world_of value) name given.task given.called) given.called;
-          call = call;
-          few_groups = given.few_groups;
-          judged = judged_with (supply_of value granted);
-        };
-      }
-
-  -- for a call that mounts no overlay, where the grant does not
-  pub permits : mounts_layers grant ≡ false → AreVacant value granted → Permits value name granted
-  permits plain vacant =
-      let any = permits_any vacant in record {
-        task = any.task;
-        called = any.called;
-        given = record {
-          serves = any.given.serves;
-          called = any.given.called;
+          serves = any.serves;
+          called = any.called;
           call = call;
           no_overlay = granted_plain (counts_from value.next) (world_of value) given.task call grant given.judged plain;
           few_groups = given.few_groups;
-          judged = any.given.judged;
+          judged = judged_with (supply_of value granted);
         };
       }
