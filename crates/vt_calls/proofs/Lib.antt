@@ -11,3 +11,4 @@ pub mod Numbered
 pub mod OverlaysJudged
 pub mod OverlayGrants
 pub mod OverlaysHanded
+pub mod OverlaysPermitted
