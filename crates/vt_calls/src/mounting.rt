@@ -57,6 +57,6 @@ pub(crate) fn mount_overlay(
     requires { IsGiven world.old name.now (Overlay new) }
     ensures { EndsGiven world.old name.now (Overlay new) result world.new }
 {
-    world.next_overlay_is_new();
+    world.next_filesystem_is_new();
     done(world.mount_overlay(name, new))
 }
