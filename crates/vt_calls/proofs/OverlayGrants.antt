@@ -12,6 +12,8 @@ use Rattle.vt_spec.specs.Machine.Looks.{Looks}
 use Rattle.vt_spec.specs.Machine.Mounts.{Location}
 use Rattle.vt_spec.specs.Machine.Permits.{Permit}
 use Rattle.vt_spec.specs.Machine.Permits.Permit.{ToMountOverlay}
+use Rattle.vt_spec.specs.Machine.Rules.Mounting.{LayerLocations, admin_rules, destination_walk, layer_rules, layers_walked, new_mount_rules, overlay_at}
+use Rattle.vt_spec.specs.Machine.Walking.{Here, walk_end}
 use Rattle.vt_spec.specs.Machine.World.{Task, World}
 use Rattle.vt_laws_trees.specs.Trees.Calls.{mounts_overlay}
 use Rattle.vt_cred.specs.MountFlags.{flags_of}
@@ -58,17 +60,36 @@ then_merging (Ok a) next merging = merging a
 then_merging (Err deny) next merging = tt
 
 module _ (looks : Looks ℕ) (overfills : Permit ℕ → Bool) (who : Task ℕ) where
+  -- the permit that is asked for once the layers are walked, and its judgement
+  abbrev asked_at : Location ℕ → MountFlags → LayerLocations ℕ → Permit ℕ
+  asked_at place flags layers = ToMountOverlay place (overlay_at looks who layers) flags
+
+  abbrev judged_at : Location ℕ → MountFlags → LayerLocations ℕ → Judgement ℕ
+  judged_at place flags layers =
+      unless (new_mount_rules nat_eq looks who place (overfills (asked_at place flags layers)))
+      (Ok (asked_at place flags layers))
+
   by_options : (place : Location ℕ) (options : Option OverlayWords) (flags : MountFlags)
       → Merging (overlay_permit_by nat_eq looks overfills who place options flags)
   by_options place None flags = tt
   by_options place (Some words) flags =
-      then_merging _ _ (λ layers. unless_merging _ _ (unless_merging _ _ refl))
+      then_merging {A = LayerLocations ℕ} (layers_walked nat_eq looks who words)
+      (λ layers. unless (layer_rules nat_eq looks layers (overlay_at looks who layers)) (judged_at place flags layers))
+      (λ layers. unless_merging (layer_rules nat_eq looks layers (overlay_at looks who layers))
+      (judged_at place flags layers)
+      (unless_merging (new_mount_rules nat_eq looks who place (overfills (asked_at place flags layers)))
+      (Ok (asked_at place flags layers)) refl))
 
   mounting_merges : (path : List ℕ) (options : Option OverlayWords) (flags : MountFlags)
       → Merging (mount_overlay_permit nat_eq looks overfills who path options flags)
   unfolding mount_overlay_permit
   mounting_merges path options flags =
-      unless_merging _ _ (then_merging _ _ (λ here. by_options here.location options flags))
+      unless_merging (admin_rules who)
+      (and_then (walk_end (destination_walk nat_eq looks who path)) (λ here.
+      overlay_permit_by nat_eq looks overfills who here.location options flags))
+      (then_merging {A = Here ℕ} (walk_end (destination_walk nat_eq looks who path))
+      (λ here. overlay_permit_by nat_eq looks overfills who here.location options flags)
+      (λ here. by_options here.location options flags))
 
   permit_merges : (asked : spec.Call) (permit : Permit ℕ) → judge nat_eq looks overfills who asked ≡ Ok permit
       → merges permit ≡ false → mounts_overlay asked ≡ false
