@@ -8,12 +8,13 @@ use Rattle.vt_spec.specs.Language.Calls.Call.{MountOverlay}
 use Rattle.vt_spec.specs.Language.Script.{known_options, names_no_upper, options_of}
 use Rattle.vt_spec.specs.Lists.{Fresh, when}
 use Rattle.vt_spec.specs.Machine.Judge.{Judgement, judge, judge_in, mount_overlay_permit, overlay_permit_by}
-use Rattle.vt_spec.specs.Machine.Looks.{Looks}
+use Rattle.vt_spec.specs.Machine.Apply.{overfills}
+use Rattle.vt_spec.specs.Machine.Looks.{Looks, looks_of}
 use Rattle.vt_spec.specs.Machine.Mounts.{Location}
 use Rattle.vt_spec.specs.Machine.Permits.{Permit}
 use Rattle.vt_spec.specs.Machine.Permits.Permit.{ToMountOverlay}
 use Rattle.vt_spec.specs.Machine.Rules.Mounting.{LayerLocations, admin_rules, destination_walk, layer_rules, layers_walked, new_mount_rules, overlay_at}
-use Rattle.vt_spec.specs.Machine.Walking.{Here, walk_end}
+use Rattle.vt_spec.specs.Machine.Walking.{walk_end}
 use Rattle.vt_spec.specs.Machine.World.{Task, World}
 use Rattle.vt_laws_trees.specs.Trees.Calls.{mounts_overlay}
 use Rattle.vt_cred.specs.MountFlags.{flags_of}
@@ -60,34 +61,29 @@ then_merging (Ok a) next merging = merging a
 then_merging (Err deny) next merging = tt
 
 module _ (looks : Looks ℕ) (overfills : Permit ℕ → Bool) (who : Task ℕ) where
-  -- the permit that is asked for once the layers are walked, and its judgement
-  abbrev asked_at : Location ℕ → MountFlags → LayerLocations ℕ → Permit ℕ
-  asked_at place flags layers = ToMountOverlay place (overlay_at looks who layers) flags
-
-  abbrev judged_at : Location ℕ → MountFlags → LayerLocations ℕ → Judgement ℕ
-  judged_at place flags layers =
-      unless (new_mount_rules nat_eq looks who place (overfills (asked_at place flags layers)))
-      (Ok (asked_at place flags layers))
-
   by_options : (place : Location ℕ) (options : Option OverlayWords) (flags : MountFlags)
       → Merging (overlay_permit_by nat_eq looks overfills who place options flags)
   by_options place None flags = tt
   by_options place (Some words) flags =
-      then_merging {A = LayerLocations ℕ} (layers_walked nat_eq looks who words)
-      (λ layers. unless (layer_rules nat_eq looks layers (overlay_at looks who layers)) (judged_at place flags layers))
-      (λ layers. unless_merging (layer_rules nat_eq looks layers (overlay_at looks who layers))
-      (judged_at place flags layers)
-      (unless_merging (new_mount_rules nat_eq looks who place (overfills (asked_at place flags layers)))
-      (Ok (asked_at place flags layers)) refl))
+      then_merging (layers_walked nat_eq looks who words)
+      (λ layers. unless (layer_rules nat_eq looks layers (overlay_at looks who layers)) (asked layers))
+      (λ layers. unless_merging (layer_rules nat_eq looks layers (overlay_at looks who layers)) (asked layers)
+      (unless_merging (new_mount_rules nat_eq looks who place (overfills (permit layers))) (Ok (permit layers)) refl))
+    where
+      permit : LayerLocations ℕ → Permit ℕ
+      permit layers = ToMountOverlay place (overlay_at looks who layers) flags
+
+      asked : LayerLocations ℕ → Judgement ℕ
+      asked layers = unless (new_mount_rules nat_eq looks who place (overfills (permit layers))) (Ok (permit layers))
 
   mounting_merges : (path : List ℕ) (options : Option OverlayWords) (flags : MountFlags)
       → Merging (mount_overlay_permit nat_eq looks overfills who path options flags)
   unfolding mount_overlay_permit
   mounting_merges path options flags =
       unless_merging (admin_rules who)
-      (and_then (walk_end (destination_walk nat_eq looks who path)) (λ here.
-      overlay_permit_by nat_eq looks overfills who here.location options flags))
-      (then_merging {A = Here ℕ} (walk_end (destination_walk nat_eq looks who path))
+      (and_then (walk_end (destination_walk nat_eq looks who path))
+      (λ here. overlay_permit_by nat_eq looks overfills who here.location options flags))
+      (then_merging (walk_end (destination_walk nat_eq looks who path))
       (λ here. overlay_permit_by nat_eq looks overfills who here.location options flags)
       (λ here. by_options here.location options flags))
 
@@ -118,7 +114,8 @@ pub granted_plain : (fresh : Fresh ℕ) (world : World ℕ) (who : Task ℕ) (as
     → judge_in nat_eq fresh world who asked ≡ Ok (permit_of who grant) → mounts_layers grant ≡ false
     → mounts_overlay asked ≡ false
 granted_plain fresh world who asked grant is plain =
-    permit_merges _ _ who asked (permit_of who grant) is (other_grant who grant plain)
+    permit_merges (looks_of nat_eq world) (overfills nat_eq fresh world who) who asked (permit_of who grant) is
+    (other_grant who grant plain)
 
 -- a call names no upper layer
 abbrev pub names_lowers_alone : spec.Call → Bool
