@@ -45,3 +45,6 @@ pub mod OverlaysNew
 pub mod OverlayNodes
 pub mod Beside
 pub mod NewOverlay
+pub mod NewOverlayUses
+pub mod NewOverlaySame
+pub mod NewOverlayBase
