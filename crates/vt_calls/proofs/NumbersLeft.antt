@@ -2,7 +2,7 @@
 use Rattle.std.proofs.Common.{◌≡◌, ap, ℕ, nat_eq, ◌==◌, ◌+◌, ◌*◌, ◌%◌, Bool, true, false, cond, not, arith, ne_eqb}
 use Rattle.vt_spec.specs.Language.Calls.{Call, TaskName}
 use Rattle.vt_spec.specs.Machine.Permits.{Permit}
-use Rattle.vt_spec.specs.Machine.Permits.Permit.{ToMake, ToMountPlain, ToOpenNew}
+use Rattle.vt_spec.specs.Machine.Permits.Permit.{ToMake, ToMountOverlay, ToMountPlain, ToOpenNew}
 use Rattle.vt_spec.specs.Machine.Policy.{policy}
 use Rattle.vt_spec.specs.Machine.SameWorlds.{SameWorlds}
 use Rattle.vt_laws_rules.specs.Numbers.{IsSuppliedFrom, KeepsTo}
@@ -36,6 +36,7 @@ supply_given value (ToMake directory name node) vacant =
 supply_given value (ToOpenNew directory name node access) vacant =
     handed_given value.next 0 (next_inode value directory) vacant.even
 supply_given value (ToMountPlain place flags) vacant = handed_given value.next 2 (inode_number value.next 0) vacant.even
+supply_given value (ToMountOverlay place overlay flags) vacant = vacant.1
 supply_given value permit vacant = counts_given value.next
 
 -- what the policy leaves keeps to numbers that may be given

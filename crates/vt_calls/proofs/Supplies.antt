@@ -4,10 +4,10 @@ use Rattle.std.specs.Prelude.{⊤}
 use Rattle.vt_spec.specs.Language.Calls.{Call, TaskName}
 use Rattle.vt_spec.specs.Machine.Judge.{judge_in}
 use Rattle.vt_spec.specs.Machine.Permits.{Permit}
-use Rattle.vt_spec.specs.Machine.Permits.Permit.{ToMake, ToMountPlain, ToOpenNew}
+use Rattle.vt_spec.specs.Machine.Permits.Permit.{ToMake, ToMountOverlay, ToMountPlain, ToOpenNew}
 use Rattle.vt_spec.specs.Machine.Run.{Serves}
 use Rattle.vt_spec.specs.Machine.World.{task_called}
-use Rattle.vt_laws_rules.specs.Numbers.{Allotment}
+use Rattle.vt_laws_rules.specs.Numbers.{Allotment, IsSuppliedFrom}
 use Rattle.vt_laws_rules.proofs.numbers.Texts.{room_serves}
 use Rattle.vt_location.specs.Numbers.{inode_number}
 use Rattle.vt_laws_overlays_stay.proofs.in_use.NamedBefore.{any_worlds_keep_to_named_before}
@@ -26,17 +26,20 @@ use Rattle.vt_laws_worlds.proofs.worlds.CallsKept.{name_found}
 use Rattle.vt_calls.specs.Permitted.{IsGivenFor}
 use Rattle.vt_laws_runs.proofs.runs.GrammarsPlain.{marks_mount_no_overlay}
 
--- what a permit is handed beside counts is not in use
-abbrev pub AreVacant : WorldValue → Permit ℕ → Type 0
-AreVacant value (ToMake directory name node) = NextInodeIsVacant value directory
-AreVacant value (ToOpenNew directory name node access) = NextInodeIsVacant value directory
-AreVacant value (ToMountPlain place flags) = NextRootIsVacant value
-AreVacant value permit = ⊤
-
 -- the numbers of a supply are an allotment
 abbrev pub IsAllotted : WorldValue → (ℕ → ℕ) → Type 0
 IsAllotted value fresh = (allotment : Allotment) × (allotment.new ≡ fresh)
     × ServesInHand may_be_given (world_of value) allotment
+
+-- what a permit is handed beside counts is not in use; all that the mount of an overlay is handed serves
+abbrev pub AreVacant : WorldValue → Permit ℕ → Type 0
+AreVacant value (ToMake directory name node) = NextInodeIsVacant value directory
+AreVacant value (ToOpenNew directory name node access) = NextInodeIsVacant value directory
+AreVacant value (ToMountPlain place flags) = NextRootIsVacant value
+AreVacant value (ToMountOverlay place overlay flags) =
+    IsAllotted value (supply_of value (ToMountOverlay place overlay flags))
+    × IsSuppliedFrom may_be_given (supply_of value (ToMountOverlay place overlay flags))
+AreVacant value permit = ⊤
 
 pub counts : (value : WorldValue) → IsHeld value → IsAllotted value (counts_from value.next)
 counts value held = counts_serve value.next (world_of value) held.given
@@ -53,6 +56,7 @@ allotted value held (ToMake directory name node) vacant = handed value held 0 (n
 allotted value held (ToOpenNew directory name node access) vacant = handed value held 0
     (next_inode value directory) vacant
 allotted value held (ToMountPlain place flags) vacant = handed value held 2 (inode_number value.next 0) vacant
+allotted value held (ToMountOverlay place overlay flags) vacant = vacant.0
 allotted value held permit vacant = counts value held
 
 module _ (value : WorldValue) (name : TaskName) (call : Call) (grant : Grant)

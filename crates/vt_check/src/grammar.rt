@@ -102,6 +102,16 @@ const PLAIN: Argument = Argument {
     kind: Kind::Filesystem,
 };
 
+const OVERLAY: Argument = Argument {
+    name: "`overlay`",
+    kind: Kind::Filesystem,
+};
+
+const OPTIONS: Argument = Argument {
+    name: "OPTIONS",
+    kind: Kind::Bytes,
+};
+
 const FLAGS: Argument = Argument {
     name: "FLAGS",
     kind: Kind::Flags,
@@ -378,6 +388,14 @@ static TASK_CALLS: [CallWords; 12] = [
     },
 ];
 
+/// The mount of an overlay: the first argument says that it is one.
+pub static MOUNT_OVERLAY: CallWords = CallWords {
+    name: "mount",
+    usage: "`mount overlay PATH OPTIONS [FLAGS]`",
+    needed: &[OVERLAY, PATH, OPTIONS],
+    optional: &[FLAGS],
+};
+
 // Calls about mounts.
 static MOUNT_CALLS: [CallWords; 10] = [
     CallWords {
@@ -520,12 +538,13 @@ static DESCRIPTOR_WORDS: KindWords = KindWords {
 
 static FILESYSTEM_WORDS: KindWords = KindWords {
     before: "t mount ",
-    after: " /",
-    said: "`mount plain PATH` mounts a new filesystem, `bind SOURCE PATH` a tree that exists",
+    after: " / rw",
+    said: "`mount plain PATH` mounts a new filesystem, `mount overlay PATH OPTIONS` layers, \
+           `bind SOURCE PATH` a tree that exists",
     plain: "plain",
     part: "",
-    choices: &["plain"],
-    synonyms: &[("tmpfs", "plain")],
+    choices: &["plain", "overlay"],
+    synonyms: &[("tmpfs", "plain"), ("overlayfs", "overlay")],
 };
 
 static GROUPS_WORDS: KindWords = KindWords {

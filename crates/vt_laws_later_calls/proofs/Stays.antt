@@ -1,7 +1,7 @@
 -- What tasks are on stays where what nothing uses goes.
 use Rattle.std.proofs.Common.{◌≡◌, sym, ap, subst, ◌∙◌, ℕ, nat_eq, true, false, List, Some}
 use Rattle.vt_spec.specs.Machine.Apply.{apply, filesystems_changed}
-use Rattle.vt_spec.specs.Language.Calls.{Call, TaskName, same_name}
+use Rattle.vt_spec.specs.Language.Calls.{Call, TaskName}
 use Rattle.vt_spec.specs.Machine.Filesystems.{raised}
 use Rattle.vt_spec.specs.Lists.{Fresh}
 use Rattle.vt_spec.specs.Machine.Mounts.{Location}
@@ -21,7 +21,6 @@ use Rattle.vt_laws_worlds.proofs.Raised.{FilesBy, same_files}
 use Rattle.vt_laws_worlds.proofs.RaisedInUse.{namespace_if, number_if, numbers_raised_are, task_if}
 use Rattle.vt_laws_worlds.proofs.settling.SettledTasks.{of_task, same_node}
 use Rattle.vt_laws_later_calls.proofs.Granted.{IsPermitted, called_raised}
-use Rattle.vt_spec.proofs.Found.{found_among}
 use Rattle.vt_laws_trees.proofs.trees.TreesTasks.{called_there}
 
 -- raised numbers hide no inode

@@ -239,11 +239,6 @@ module _ (looks later : Looks ℕ) (task reader : Task ℕ) (Refused : Deny → 
       by (word_too looks later task reader Refused Known leads here here word steps known pass refl
       (inr (deny, refused, lost)))
     where
-      -- a walk that ends is no refusal
-      no_end : (r : Result (Here ℕ) Deny) (some : List (List ℕ)) (end : Here ℕ) → stopped_by some r ≡ Ok end
-          → r ≡ Ok end
-      no_end r some end e = not_stopped some r end e
-
       by : EndsSo (word_walked nat_eq later reader (at here steps) word) here
           → Stops Refused (word_walked nat_eq later reader (at here steps) word)
       by (inr stops) = stops
@@ -313,11 +308,6 @@ module _ (looks later : Looks ℕ) (task reader : Task ℕ) (Refused : Deny → 
           (parent_known known)))))
           (λ stop refused. inr (stop, refused, refl)))
         where
-          goes_on : List (List ℕ) → Here ℕ → Result (Here ℕ) (Stop ℕ)
-          goes_on steps there =
-              if_symlink there (symlink_text (later.node there.location))
-              (followed nat_eq later reader parts.here.location there)
-
           by : (steps : List (List ℕ)) → EndsThere Refused (word_walked nat_eq later reader (at parts.here steps)
               (last_word parts.word)) next parts.here.left
               → EndsThere Refused (then_walk

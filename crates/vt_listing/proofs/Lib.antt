@@ -2,3 +2,4 @@ pub mod ShownWorlds
 pub mod MountLines
 pub mod ListedPeers
 pub mod MountPaths
+pub mod NumbersOwned

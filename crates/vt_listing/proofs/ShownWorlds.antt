@@ -1,29 +1,39 @@
 -- What a table of mounts shows of the worlds that have its mounts, groups and filesystems.
-use Rattle.std.proofs.Common.{◌≡◌, ap, nat_eq, ℕ}
-use Rattle.vt_fs.specs.FilesystemsValue.{filesystems_seen}
+use Rattle.std.proofs.Common.{◌≡◌, refl, sym, ap, ◌∙◌, nat_eq, ℕ, List, [], Option, map, reverse}
+use Rattle.vt_spec.specs.FileTree.{FileTree, ancestors, own_name, path_down}
+use Rattle.vt_spec.specs.Lists.{before_first, is_among, when}
+use Rattle.vt_spec.specs.Machine.World.{World, filesystem_numbered}
+use Rattle.vt_spec.specs.Tree.{Tree}
 use Rattle.vt_group.specs.Grouping.{master_in}
+use Rattle.vt_location.specs.Numbers.{counted}
 use Rattle.vt_mount.specs.MountsValue.{mounts_in}
-use Rattle.vt_spec.specs.Machine.Listing.{mount_lines}
-use Rattle.vt_spec.specs.Machine.World.{World}
+use Rattle.vt_store.specs.StoreValue.{files_in}
 use Rattle.vt_listing.specs.Shown.{IsShown, world_shown}
 use Rattle.vt_listing.specs.declared.table.MountTable.{MountTable}
 
+-- the names that lead down to a directory, by the directories above it
+abbrev names_down : Tree ℕ → ℕ → List ℕ → Option (List (List ℕ))
+names_down tree top above =
+    when (is_among nat_eq top above)
+    (reverse (map (own_name nat_eq (record { tree = tree; numbers = [] })) (before_first (nat_eq top) above)))
+
+pub same_path : (one other : FileTree ℕ) → one.tree ≡ other.tree → (top directory : ℕ)
+    → ancestors nat_eq one directory ≡ ancestors nat_eq other directory
+    → path_down nat_eq one top directory ≡ path_down nat_eq other top directory
+same_path one other tree top directory above = λ i. names_down (tree i) top (above i)
+
 module _ (table : MountTable) (world : World ℕ) (is : IsShown world table) where
-  -- with its own namespaces and tasks
+  -- with its own filesystems, namespaces and tasks
   abbrev pub beside : World ℕ
-  beside = record world {
-    mounts = mounts_in table.mounts.now;
-    master = master_in table.groups.now;
-    filesystems = filesystems_seen table.filesystems.now;
-  }
+  beside = record world { mounts = mounts_in table.mounts.now; master = master_in table.groups.now }
 
   pub same_world : beside ≡ world
-  same_world = λ i. record world {
-    mounts = is.mounts i;
-    master = λ group. is.masters group i;
-    filesystems = is.filesystems i;
-  }
+  same_world = λ i. record world { mounts = is.mounts i; master = λ group. is.masters group i }
 
-  pub mounts_shown : (namespace : ℕ) → mount_lines nat_eq (world_shown table) namespace
-      ≡ mount_lines nat_eq world namespace
-  mounts_shown namespace = ap (λ shown. mount_lines nat_eq shown namespace) same_world
+  -- it has the same ways down
+  pub path_shown : (count top directory : ℕ)
+      → path_down nat_eq (files_in table.store.now count) top directory
+      ≡ path_down nat_eq (filesystem_numbered nat_eq world (counted count)).files top directory
+  path_shown count top directory =
+      same_path (files_in table.store.now count) (filesystem_numbered nat_eq world (counted count)).files
+      (is.trees count) top directory (is.above count directory)

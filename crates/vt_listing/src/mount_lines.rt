@@ -9,6 +9,7 @@ ghost use Rattle.vt_spec.specs.Machine.Listing as listing;
 ghost use Rattle.vt_spec.specs.Machine.Mounts as meant;
 ghost use Rattle.vt_spec.specs.Machine.World.{World};
 ghost use Rattle.vt_mount.specs.Attached.{AreOf, are_rising, attached_in};
+ghost use Rattle.vt_store.specs.StoreValue.{StandOnLayers};
 ghost use Rattle.vt_listing.specs.GroupsListed.{SeesMore};
 ghost use Rattle.vt_listing.specs.Shown.{IsShown, NameDirectoriesOnce, world_shown};
 
@@ -24,7 +25,8 @@ impl MountTable<'_> {
     ///
     /// A directory must have one name at most, as in every tree of a world.
     pub fn mount_lines(&self, namespace: NamespaceId) -> Result<Vec<MountLine>, AllocError>
-        requires once { NameDirectoriesOnce self.now.filesystems.now }
+        requires standing { StandOnLayers self.now.store.now }
+        requires once { NameDirectoriesOnce self.now.store.now }
         ensures ok { IfOk result (λ lines. (world : World ℕ) → IsShown world self.now
             → map mount_line_of lines.items ≡ listing.mount_lines nat_eq world (namespace_number namespace)) }
     {
@@ -99,16 +101,18 @@ impl MountTable<'_> {
         filesystems: &IndexSet<FilesystemId>,
         groups: &IndexSet<GroupId>,
     ) -> Result<MountLine, AllocError>
-        requires once { NameDirectoriesOnce self.now.filesystems.now }
+        requires standing { StandOnLayers self.now.store.now }
+        requires once { NameDirectoriesOnce self.now.store.now }
         requires order { are_rising listed.now ≡ true }
-        ensures ok { IfOk result (λ line. (mounts : List (meant.Mount ℕ)) → AreOf listed.now mounts
+        ensures ok { IfOk result (λ line. (world : World ℕ) (mounts : List (meant.Mount ℕ)) → IsShown world self.now
+            → AreOf listed.now mounts
             → map filesystem_number filesystems.now.keys ≡ listing.filesystems_seen nat_eq mounts
             → map group_number groups.now.keys ≡ listing.groups_seen nat_eq (world_shown self.now) mounts
-            → mount_line_of line ≡ listing.mount_line nat_eq (world_shown self.now) mounts (mount_of mount.now)) }
+            → mount_line_of line ≡ listing.mount_line nat_eq world mounts (mount_of mount.now)) }
     {
         Ok(MountLine {
             mount_point: self.point_shown(mount.mount_point, listed)?,
-            overlay: false,
+            overlay: self.store.is_overlay(mount.root.filesystem),
             filesystem: filesystem_place(mount.root.filesystem, filesystems),
             root: self.root_spot(mount)?,
             flags: mount.flags,
@@ -152,13 +156,15 @@ impl MountTable<'_> {
         point: Option<Location>,
         listed: &[MountId],
     ) -> Result<Option<(usize, Spot)>, AllocError>
-        requires once { NameDirectoriesOnce self.now.filesystems.now }
+        requires standing { StandOnLayers self.now.store.now }
+        requires once { NameDirectoriesOnce self.now.store.now }
         requires order { are_rising listed.now ≡ true }
-        ensures ok { IfOk result (λ shown. (mounts : List (meant.Mount ℕ)) → AreOf listed.now mounts
+        ensures ok { IfOk result (λ shown. (world : World ℕ) (mounts : List (meant.Mount ℕ)) → IsShown world self.now
+            → AreOf listed.now mounts
             → option_map {U = ℕ × answers.Spot} (λ point. (point.0, spot_of point.1)) shown
             ≡ option_map (λ place. (
               listing.number_among nat_eq (map (λ other. other.number) mounts) place.mount,
-              listing.mount_point_spot nat_eq (world_shown self.now) place,
+              listing.mount_point_spot nat_eq world place,
             )) (option_map location_of point)) }
     {
         match point {

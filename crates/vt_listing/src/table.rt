@@ -1,9 +1,9 @@
 //! `MountTable`: what is listed.
 
 use std::alloc::Global;
-use vt_fs::Filesystems;
 use vt_group::Groups;
 use vt_mount::Mounts;
+use vt_store::Store;
 
 /// The mounts of all namespaces, with their peer groups and their filesystems, and where their lists are made.
 #[derive(Clone, Copy, Debug)]
@@ -11,5 +11,5 @@ pub struct MountTable<'a> {
     pub alloc: Global,
     pub mounts: &'a Mounts,
     pub groups: &'a Groups,
-    pub filesystems: &'a Filesystems,
+    pub store: &'a Store,
 }

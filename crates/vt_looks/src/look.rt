@@ -1,5 +1,5 @@
 //! The traits `Look` and `LookAtMounts`.
-ghost use Rattle.std.specs.Prelude.{◌≡◌, nat_eq, option_copied, option_map, Bool, IfErr, IfOk, Ok, Option, Some, ℕ};
+ghost use Rattle.std.specs.Prelude.{◌≡◌, false, nat_eq, option_copied, option_map, Bool, IfErr, IfOk, Ok, Option, Some, ℕ};
 ghost use Rattle.vt_spec.specs.declared.errors.Rule.TheVariants.{S5};
 ghost use Rattle.vt_spec.specs.Errors.{denial, unless};
 ghost use Rattle.vt_spec.specs.Language.Changes.{Change};
@@ -128,8 +128,10 @@ pub trait Look {
     fn is_locked(&self, at: Location) -> bool
         ensures { result ≡ (looks self.now).is_locked (location_of at) };
 
-    /// Whether a lower layer has a directory under this name of the directory at a location: EXDEV of rename(2).
+    /// Whether a lower layer has a directory under this name of the directory at a location: EXDEV of rename(2). It is
+    /// asked of what may be changed: of no overlay without an upper layer, which is read-only.
     fn has_lower_directory(&self, at: Location, name: &[u8]) -> bool
+        requires { has_no_upper (looks self.now) (location_of at) ≡ false }
         ensures { result ≡ (looks self.now).has_lower_directory (location_of at) name.now };
 
     /// Whether the object at a location is in lower layers of an overlay alone, so that it is copied up when it is
@@ -148,8 +150,10 @@ pub trait Look {
         ensures { result ≡ mounter_may (looks self.now) (location_of at) (right_bits wanted) };
 
     /// Whether the mounter of the overlay at a location may make a change there, with the copies that it needs: the
-    /// first of B1 (EACCES) and B2 (EPERM) that fails. Nobody is asked outside overlays.
+    /// first of B1 (EACCES) and B2 (EPERM) that fails. Nobody is asked outside overlays, nor of one without an upper
+    /// layer, which is read-only.
     fn mounter_may_change(&self, at: Location, asked: Asked) -> Result<(), Deny>
+        requires { has_no_upper (looks self.now) (location_of at) ≡ false }
         ensures { (change : Change ℕ) → asked_by change ≡ asked_at at asked
             → result ≡ unless ((looks self.now).mounter_rules (location_of at) change) (Ok tt) };
 

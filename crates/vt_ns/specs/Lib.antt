@@ -1,6 +1,7 @@
 pub mod Trees
 pub mod Lent
 pub mod LookingAlone
+pub mod Told
 pub mod Entering
 pub mod Opening
 pub mod OverlayMounts

@@ -6,6 +6,7 @@ ghost use Rattle.vt_spec.specs.Machine.Permits.Permit.{ToListMounts};
 ghost use Rattle.vt_spec.specs.Machine.World.{Task, task_called};
 ghost use Rattle.vt_detach.specs.Events.{Permits};
 ghost use Rattle.vt_world.specs.WorldValue.{world_of};
+ghost use Rattle.vt_store.specs.StoreValue.{StandOnLayers};
 ghost use Rattle.vt_listing.specs.Shown.{IsShown, NameDirectoriesOnce};
 
 use crate::world::World;
@@ -38,13 +39,14 @@ impl World {
     /// All mounts, as they are listed.
     pub(crate) fn table(&self) -> MountTable<'_>
         ensures shown { IsShown (world_of self.now) result }
-        ensures once { NameDirectoriesOnce result.filesystems.now }
+        ensures standing { StandOnLayers result.store.now }
+        ensures once { NameDirectoriesOnce result.store.now }
     {
         MountTable {
             alloc: self.alloc,
             mounts: &self.mounts,
             groups: &self.groups,
-            filesystems: self.store.plain(),
+            store: &self.store,
         }
     }
 }

@@ -1,5 +1,7 @@
 //! The world, as walks and rules look at it.
-ghost use Rattle.std.specs.Prelude.{◌≡◌, nat_eq};
+ghost use Rattle.std.specs.Prelude.{◌≡◌, nat_eq, option_copied};
+ghost use Rattle.vt_cred.specs.Rights.{right_bits};
+ghost use Rattle.vt_spec.specs.Machine.Rightful.{node_allows};
 ghost use Rattle.vt_spec.specs.Machine.World.{mount_numbered};
 ghost use Rattle.vt_location.specs.Locations.{location_of, number_of};
 ghost use Rattle.vt_location.specs.Numbers.{filesystem_number, mount_number};
@@ -7,10 +9,10 @@ ghost use Rattle.vt_detach.specs.Looking.{is_seen, looks_of_value};
 ghost use Rattle.vt_world.specs.WorldValue.{world_of};
 
 use crate::world::World;
-use vt_cred::Rights;
+use vt_cred::{Cred, Rights, allows};
 use vt_location::{FilesystemId, Location, Mount, MountId, NamespaceId, NodeRef};
 use vt_looks::{Asked, Ground, Look};
-use vt_node::{Node, NodeId};
+use vt_node::Node;
 use vt_request::TaskName;
 use vt_spec::errors::Deny;
 
@@ -37,13 +39,16 @@ impl World {
 }
 
 impl Look for World {
-    ghost use Rattle.vt_ns.specs.Lent.{filesystem_of, lent_alike, real_of_value};
+    ghost use Rattle.vt_ns.specs.Lent.{lent_alike, real_of_value};
+    ghost use Rattle.vt_spec.specs.Machine.World.{mount_at};
+    ghost use Rattle.vt_world.specs.Lent.{lent_of_world};
 
     ghost looks = { looks_of_value };
 
     ghost real = { real_of_value };
 
-    ghost alike = { λ here at. lent_alike (filesystem_of at.node) ((looks_of_value here).node at) };
+    ghost alike = { λ here at. lent_alike ((looks_of_value here).node at)
+        (lent_of_world (world_of here) (mount_at nat_eq (world_of here) at).filesystem at.node) };
 
     fn namespace_called(&self, name: &TaskName) -> Option<NamespaceId> {
         self.tasks.namespace_called(name)
@@ -74,7 +79,7 @@ impl Look for World {
     #[inline(always)]
     fn node(&self, at: Location) -> Option<&Node> {
         if self.is_seen(at) {
-            self.store.plain().node(at.node)
+            self.store.object(at.node)
         } else {
             None
         }
@@ -82,25 +87,19 @@ impl Look for World {
 
     #[inline(always)]
     fn entry(&self, at: Location, object: &Node, name: &[u8]) -> Option<NodeRef> {
-        self.is_held();
-        let entry = object.entry(name)?;
-        Some(NodeRef::new(at.node.filesystem, entry))
+        self.store.entry(at.node, object, name)
     }
 
     fn is_nonempty(&self, at: Location) -> bool {
-        match self.node(at) {
-            Some(directory) => directory.is_nonempty(),
-            None => false,
-        }
+        self.is_seen(at) && self.store.is_nonempty(at.node)
     }
 
     fn parent(&self, at: Location) -> NodeRef {
-        let Some(directory) = self.node(at) else {
-            return at.node;
-        };
-        self.is_held();
-        let parent = directory.parent(NodeId::new(at.node.slot));
-        NodeRef::new(at.node.filesystem, parent)
+        if !self.is_seen(at) {
+            at.node
+        } else {
+            self.store.parent(at.node)
+        }
     }
 
     #[inline(always)]
@@ -114,7 +113,7 @@ impl Look for World {
     #[inline(always)]
     fn node_on(&self, ground: Ground, at: Location) -> Option<&Node> {
         if ground.filesystem == at.node.filesystem {
-            self.store.plain().node(at.node)
+            self.store.object(at.node)
         } else {
             None
         }
@@ -122,12 +121,12 @@ impl Look for World {
 
     #[inline(always)]
     fn is_removed(&self, at: Location) -> bool {
-        !self.is_seen(at) || self.store.plain().is_removed(at.node)
+        !self.is_seen(at) || self.store.is_removed(at.node)
     }
 
     fn is_under(&self, top: Location, directory: NodeRef) -> bool {
         if self.is_seen(top) && directory.filesystem == top.node.filesystem {
-            self.store.plain().is_under(top.node, directory)
+            self.store.is_under(top.node, directory)
         } else {
             top.node.is_same(directory)
         }
@@ -136,7 +135,7 @@ impl Look for World {
     fn is_lost(&self, at: Location) -> bool {
         match self.mounts.get(at.mount) {
             Some(mount) if mount.root.filesystem == at.node.filesystem => {
-                self.store.plain().is_lost(mount.root, at.node)
+                self.store.is_lost(mount.root, at.node)
             }
             _ => true,
         }
@@ -146,52 +145,63 @@ impl Look for World {
         self.is_held();
     }
 
-    // No filesystem is an overlay, since no call mounts one: so nothing is locked, and no mounter is asked.
-
-    fn is_overlay(&self, _at: Location) -> bool {
-        self.is_held();
-        false
+    fn is_overlay(&self, at: Location) -> bool {
+        self.store.is_overlay(self.shown(at.mount))
     }
 
-    fn has_no_upper(&self, _at: Location) -> bool {
-        self.is_held();
-        false
+    // No overlay has an upper layer, since no call mounts such a one: each is read-only, and all its objects are in
+    // lower layers.
+
+    fn has_no_upper(&self, at: Location) -> bool {
+        self.store.is_overlay(self.shown(at.mount))
     }
 
-    fn is_locked(&self, _at: Location) -> bool {
-        self.is_held();
-        false
+    fn is_only_below(&self, at: Location) -> bool {
+        self.store.is_overlay(self.shown(at.mount))
     }
+
+    fn mounter_may(&self, at: Location, wanted: Rights) -> bool {
+        match self.store.overlay(self.shown(at.mount)) {
+            Some(overlay) => grants(overlay.mounter(), self.node(at), wanted),
+            None => true,
+        }
+    }
+
+    #[inline(always)]
+    fn mounter_may_on(&self, ground: Ground, _at: Location, object: &Node, wanted: Rights) -> bool {
+        match self.store.overlay(ground.filesystem) {
+            Some(overlay) => grants(overlay.mounter(), Some(object), wanted),
+            None => true,
+        }
+    }
+
+    fn is_locked(&self, at: Location) -> bool {
+        match at.node.plain() {
+            Some(inode) if self.is_seen(at) => self.store.is_in_layer(inode),
+            _ => false,
+        }
+    }
+
+    // These two are asked of what has an upper layer, if it is an overlay: so of plain trees.
 
     fn has_lower_directory(&self, _at: Location, _name: &[u8]) -> bool {
         self.is_held();
         false
     }
 
-    fn is_only_below(&self, _at: Location) -> bool {
-        self.is_held();
-        false
-    }
-
-    fn mounter_may(&self, _at: Location, _wanted: Rights) -> bool {
-        self.is_held();
-        true
-    }
-
-    #[inline(always)]
-    fn mounter_may_on(
-        &self,
-        _ground: Ground,
-        _at: Location,
-        _object: &Node,
-        _wanted: Rights,
-    ) -> bool {
-        self.is_held();
-        true
-    }
-
     fn mounter_may_change(&self, _at: Location, _asked: Asked) -> Result<(), Deny> {
         self.is_held();
         Ok(())
+    }
+}
+
+// Whether these credentials grant rights on an object, which nobody has on what is not there.
+#[inline(always)]
+fn grants(who: &Cred, object: Option<&Node>, wanted: Rights) -> bool
+    ensures { result ≡ node_allows who.now (right_bits wanted) (option_copied object.entry) }
+{
+    match object {
+        Some(node) => allows(who, &node.attr(), node.kind(), wanted),
+        None => false,
     }
 }

@@ -1,5 +1,5 @@
 //! The event of a mount that gets another mount point: mount(2) with `MS_MOVE`.
-ghost use Rattle.std.specs.Prelude.{◌+◌, ◌<◌, ◌≤◌, ◌≡◌, IfOk, IfSome, OnErr, OnOk, false, is_some, map, nat_eq, option_map, true, ◌^◌};
+ghost use Rattle.std.specs.Prelude.{◌+◌, ◌≤◌, ◌≡◌, IfOk, IfSome, OnErr, OnOk, false, is_some, map, nat_eq, option_map, true};
 ghost use Rattle.vt_location.specs.Locations.{is_small_node, location_of};
 ghost use Rattle.vt_location.specs.MountValue.{mount_of};
 ghost use Rattle.vt_location.specs.Numbers.{counted, mount_number};

@@ -12,7 +12,7 @@ ghost use Rattle.vt_spec.specs.Machine.Permits.Permit.{ToMountPlain};
 ghost use Rattle.vt_spec.specs.Machine.NewMounts.{new_mount};
 ghost use Rattle.vt_spec.specs.Machine.World as meant;
 ghost use Rattle.vt_detach.specs.Events.{Becomes, Permits};
-ghost use Rattle.vt_detach.specs.Stored.{kept};
+ghost use Rattle.vt_detach.specs.Stored.{OverlaysStay, kept};
 ghost use Rattle.vt_world.specs.WorldValue.{world_of};
 ghost use Rattle.vt_attach.specs.Grafted.{IsGrafted, MayGraft};
 
@@ -123,6 +123,7 @@ fn mount_new(
     ensures ok { OnOk result ((entry : FilesystemEntry) × IsNew filesystem.count meant.root_attr entry
         × IsGrafted graft.now counts (kept mounts.old (record store.old { plain = store.old.plain ++ entry ∷ [] })) groups.old
         (kept mounts.new store.new) groups.new) }
+    ensures overlays { OnOk result (OverlaysStay store.old.overlays store.new.overlays) }
     ensures err_mounts { OnErr result (mounts.new ≡ mounts.old) }
     ensures err_groups { OnErr result (groups.new ≡ groups.old) }
     ensures err_store { OnErr result (store.new ≡ store.old) }

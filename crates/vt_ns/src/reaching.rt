@@ -17,7 +17,7 @@ impl Reach for World {
     ghost under = { lies_under };
 
     fn is_under(&self, top: NodeRef, directory: NodeRef) -> bool {
-        directory.filesystem == top.filesystem && self.store.plain().is_under(top, directory)
+        directory.filesystem == top.filesystem && self.store.is_under(top, directory)
     }
 }
 

@@ -11,6 +11,7 @@ ghost use Rattle.vt_permits.specs.declared.grant.LookGrant.TheVariants.{ReadPart
 ghost use Rattle.vt_tasks.specs.TaskValue.{task_of};
 ghost use Rattle.vt_detach.specs.Events.{Permits};
 ghost use Rattle.vt_ns.specs.LookingAlone.{LookingChangesNothing};
+ghost use Rattle.vt_ns.specs.Told.{told_by};
 ghost use Rattle.vt_world.specs.Held.{IsHeld};
 ghost use Rattle.vt_world.specs.WorldValue.{world_of};
 
@@ -47,7 +48,7 @@ impl World {
         ensures { stat_line_of result ≡ stat_line (node_at nat_eq (world_of self.now) (location_of object)) }
     {
         match self.node(object) {
-            Some(node) => told(node),
+            Some(node) => told(node, self.store.is_overlay(self.shown(object.mount))),
             None => told_of_nothing(),
         }
     }
@@ -71,7 +72,7 @@ impl World {
         ensures ok { IfOk result (λ names. map (λ name. name.items) names.items
             ≡ names_in (node_at nat_eq (world_of self.now) (location_of directory))) }
     {
-        self.store.plain().list(directory.node)
+        self.store.names(self.alloc, directory.node)
     }
 
     /// At most `size` bytes of an open file from an offset on: pread(2). Past the end there are none.
@@ -88,15 +89,15 @@ impl World {
     }
 }
 
-// What stat(2) tells of an inode.
-fn told(node: &Node) -> StatLine
-    ensures { stat_line_of result ≡ stat_line (Some node.now) }
+// What stat(2) tells of an inode, by its real object. A merged directory has no mark.
+fn told(node: &Node, is_merged: bool) -> StatLine
+    ensures { stat_line_of result ≡ told_by is_merged (Some node.now) }
 {
     StatLine {
         kind: node.kind(),
         attr: node.attr(),
         size: node.bytes().len(),
-        opaque: node.is_opaque(),
+        opaque: !is_merged && node.is_opaque(),
     }
 }
 

@@ -7,7 +7,7 @@ ghost use Rattle.vt_mount.specs.MountsValue.{mounts_in};
 ghost use Rattle.vt_spec.specs.Machine.Mounts.{is_shared, mount_in};
 ghost use Rattle.vt_ns.specs.Unmounting.{GoTogether, are_ungrouped, stands_on_shared, unmounts_alone};
 ghost use Rattle.vt_detach.specs.Detached.{tree_numbers};
-ghost use Rattle.vt_detach.specs.Stored.{kept};
+ghost use Rattle.vt_detach.specs.Stored.{OverlaysLeft, kept};
 ghost use Rattle.vt_spec.specs.Machine.Permits.Permit.{ToUnmount, ToUnmountLazily};
 ghost use Rattle.vt_detach.specs.Events.{Becomes, Permits};
 ghost use Rattle.vt_laws_permits.specs.Taken.{is_ungrouped};
@@ -138,6 +138,7 @@ fn take_away(
 ) -> Result<(), AllocError>
     ensures ok { OnOk result (GoTogether (map mount_number plan.now.gone.items) plan.now.points.items
         (kept mounts.old store.old) groups.old (kept mounts.new store.new) groups.new) }
+    ensures overlays { OnOk result (OverlaysLeft store.old.overlays store.new.overlays) }
     ensures err_mounts { OnErr result (mounts.new ≡ mounts.old) }
     ensures err_groups { OnErr result (groups.new ≡ groups.old) }
     ensures err_store { OnErr result (store.new ≡ store.old) }

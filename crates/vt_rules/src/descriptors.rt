@@ -1,8 +1,10 @@
 //! What may be opened, and the files of descriptors: open(2), pread(2), pwrite(2).
-ghost use Rattle.std.specs.Prelude.{◌≡◌, nat_eq, Ok, ℕ};
+ghost use Rattle.std.specs.Prelude.{◌≡◌, false, nat_eq, true, Ok, ℕ};
 ghost use Rattle.vt_spec.specs.Errors.{unless};
+ghost use Rattle.vt_spec.specs.Language.Calls.{opens_for_writing};
 ghost use Rattle.vt_spec.specs.Machine.Judge.{create_file_permit, open_file_permit};
 ghost use Rattle.vt_spec.specs.Machine.Rules.Descriptors.{access_rights, copy_rules, descriptor_at, is_copied_up, open_rules};
+ghost use Rattle.vt_spec.specs.Machine.Rules.Conditions.{has_no_upper};
 ghost use Rattle.vt_spec.specs.Machine.Walking.{Place as PlaceMeant};
 ghost use Rattle.vt_cred.specs.Rights.{right_bits};
 ghost use Rattle.vt_location.specs.Locations.{location_of};
@@ -36,6 +38,7 @@ fn rights_of(access: Access) -> Rights
 
 // An object that lies only in lower layers may be copied up as it is opened for writing: B1, B2.
 fn may_copy_up<L: Look>(world: &L, file: Location, access: Access) -> Result<(), Deny>
+    requires { opens_for_writing (access_of access) ≡ true → has_no_upper (L.looks world.now) (location_of file) ≡ false }
     ensures { result ≡ unless
         (copy_rules (is_copied_up (L.looks world.now) (location_of file) (access_of access))
         (L.looks world.now) (location_of file)) (Ok tt) }

@@ -1,10 +1,10 @@
 //! What may lose its name, and what may have another: unlink(2), rmdir(2), rename(2).
 ghost use Rattle.std.specs.List.{list_any};
-ghost use Rattle.std.specs.Prelude.{◌≡◌, ◌∷◌, ◌||◌, nat_eq, option_map, option_to_list, List, Ok, ℕ};
+ghost use Rattle.std.specs.Prelude.{◌≡◌, ◌∷◌, ◌||◌, false, nat_eq, option_map, option_to_list, List, Ok, OnOk, ℕ};
 ghost use Rattle.vt_spec.specs.Errors.{unless};
 ghost use Rattle.vt_spec.specs.Language.Changes.Change.{Remove};
 ghost use Rattle.vt_spec.specs.Lists.{holds_of};
-ghost use Rattle.vt_spec.specs.Machine.Rules.Conditions.{is_kept, is_mount_point_anywhere, is_mount_point_in};
+ghost use Rattle.vt_spec.specs.Machine.Rules.Conditions.{has_no_upper, is_kept, is_mount_point_anywhere, is_mount_point_in};
 ghost use Rattle.vt_spec.specs.Machine.Rules.Removing.{changes_parent, is_one_object, rename_rules, rmdir_rules, same_object_rules, unlink_rules};
 ghost use Rattle.vt_spec.specs.Machine.Walking.{Place as PlaceMeant};
 ghost use Rattle.vt_location.specs.Locations.{location_of, number_of};
@@ -20,13 +20,15 @@ use vt_looks::{Asked, Look, OldPlace, Place};
 use vt_spec::errors::{Deny, Rule};
 use vt_tasks::Task;
 
-// The caller may take a name of an object from a directory, and in an overlay its mounter too: C1, C3, B1, B2.
+// The caller may take a name of an object from a directory, and in an overlay with an upper layer its mounter too: C1,
+// C3, B1, B2.
 fn may_remove<L: Look>(
     world: &L,
     who: &Task,
     directory: Location,
     object: Location,
 ) -> Result<(), Deny>
+    requires { has_no_upper (L.looks world.now) (location_of directory) ≡ false }
     ensures { (name : List ℕ) → result ≡ unless
         (remove_rules (L.looks world.now) (task_of who.now) (location_of directory) (location_of object)
         (Remove (number_of directory.node) name (number_of object.node))) (Ok tt) }
@@ -207,9 +209,10 @@ fn is_one_locked<L: Look>(world: &L, from: &OldPlace, to: &Place) -> bool
 
 // Nothing stands between the two names: F1 (EROFS), F2 (EROFS), L1 (EBUSY), P1 (EBUSY), P2 (EXDEV).
 fn may_cross<L: Look>(world: &L, who: &Task, from: &OldPlace, to: &Place) -> Result<(), Deny>
-    ensures { (old new : PlaceMeant ℕ) → IsPlaceOf (as_place from.now) old → IsPlaceOf to.now new
+    ensures rules { (old new : PlaceMeant ℕ) → IsPlaceOf (as_place from.now) old → IsPlaceOf to.now new
         → result ≡ unless
         (way_rules nat_eq (L.looks world.now) (task_of who.now) old new (location_of from.now.object)) (Ok tt) }
+    ensures upper { OnOk result (has_no_upper (L.looks world.now) (location_of from.now.parent) ≡ false) }
 {
     if is_read_only(world, from.parent) || is_read_only(world, to.parent) {
         return Err(Rule::F1.denial());
@@ -250,6 +253,7 @@ fn may_change_both<L: Look>(world: &L, who: &Task, from: &OldPlace, to: &Place) 
 // The layers of an overlay allow it: O1 (EXDEV) of a directory that a lower layer has too; and its mounter may change
 // both directories: B1 (EACCES), B2 (EPERM).
 fn may_layers_change<L: Look>(world: &L, from: &OldPlace, to: &Place) -> Result<(), Deny>
+    requires { has_no_upper (L.looks world.now) (location_of from.now.parent) ≡ false }
     ensures { (old new : PlaceMeant ℕ) → IsPlaceOf (as_place from.now) old → IsPlaceOf to.now new
         → result ≡ unless
         (layer_rules nat_eq (L.looks world.now) old new (location_of from.now.object)) (Ok tt) }

@@ -6,6 +6,7 @@ mod entering;
 mod laws;
 mod layers;
 mod leaving;
+mod locks;
 mod looking;
 mod overlays;
 mod paths;

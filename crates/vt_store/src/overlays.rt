@@ -1,13 +1,18 @@
 //! `Overlays`: the overlays by their numbers, and how many mounts show each.
 ghost use Rattle.std.specs.Prelude.{◌≡◌, ◌<◌, ◌+◌, ◌-◌, ◌++◌, ◌∷◌, [], IfSome, OnErr, OnOk, nat_lt, option_copied, option_map, true};
-ghost use Rattle.std.specs.List.{list_all};
+ghost use Rattle.std.specs.List.{list_all, list_any};
+ghost use Rattle.vt_location.specs.Locations.{inode_of};
+ghost use Rattle.vt_fs.specs.FilesystemsValue.{files_at};
+ghost use Rattle.vt_fs.specs.Laws.{ParentsAreNamed};
 ghost use Rattle.vt_tree.specs.Slots.{most_uses};
 
+use crate::locks::lies_in_one;
 use indexmap::IndexMap;
 use std::alloc::{AllocError, Global};
 use std::marker::Model;
 use vt_cred::Cred;
-use vt_location::FilesystemId;
+use vt_fs::Filesystems;
+use vt_location::{FilesystemId, InodeRef};
 use vt_merge::LayerRef;
 use vt_overlay::Overlay;
 
@@ -36,6 +41,7 @@ impl Model for Overlays {
 
 impl Overlays {
     ghost use Rattle.vt_store.specs.LayersHeld.{new_overlay};
+    ghost use Rattle.vt_store.specs.Locks.{lies_in_overlay};
     ghost use Rattle.vt_store.specs.OverlaysValue.{entry_kept, overlay_of, with_overlay_changed, without_overlay};
 
     /// No overlays. It does not allocate.
@@ -113,5 +119,19 @@ impl Overlays {
         if let Some(found) = self.by_number.get_mut(&id) {
             found.mounts = found.mounts.saturating_sub(1);
         }
+    }
+
+    /// Whether an inode of a plain tree lies in a layer of one of them.
+    pub fn have_layer_over(&self, plain: &Filesystems, inode: InodeRef) -> bool
+        requires { ParentsAreNamed (files_at plain.now inode.filesystem.count).tree }
+        ensures { result
+            ≡ list_any (lies_in_overlay plain.now inode.filesystem.count (inode_of inode)) self.now }
+    {
+        for kept in self.by_number.values() {
+            if lies_in_one(plain, kept.overlay.lowers(), inode) {
+                return true;
+            }
+        }
+        false
     }
 }

@@ -6,7 +6,7 @@ use Rattle.std.proofs.Math.Bool.{and-false}
 use Rattle.std.specs.Prelude.{Contains}
 use Rattle.vt_laws_rules.proofs.given.GivenPermits.{permits_are_for_their_calls}
 use Rattle.vt_laws_rules.proofs.judged.CallsJudged.{call_is_judged_then_applied}
-use Rattle.vt_laws_rules.specs.Given.{IsFor, makes_a_name}
+use Rattle.vt_laws_rules.specs.Given.{IsFor}
 use Rattle.vt_laws_layers.specs.Layers.Untouched.{changes_no_mount}
 use Rattle.vt_laws_letting_go.proofs.leaving.FilesChanged.{file_changes_let_go, none_left, opened_new_keeps_all}
 use Rattle.vt_laws_letting_go.proofs.leaving.LeftWithOverlays.{staying_keeps_overlays}
@@ -34,12 +34,11 @@ use Rattle.vt_laws_overlay_permits.proofs.asked.Unlocked.{permits_spare_what_is_
 use Rattle.vt_laws_overlay_permits.proofs.changed.ChangedOverlays.{permits_can_change}
 use Rattle.vt_laws_overlay_permits.specs.Asked.{change_asked}
 use Rattle.vt_laws_overlay_permits.specs.Changed.{numbers_left}
-use Rattle.vt_spec.proofs.Found.{found_among}
 use Rattle.vt_spec.proofs.Lists.{among_from_contains, contains_from_among}
 use Rattle.vt_spec.proofs.NodeChanges.{file_is_there}
 use Rattle.vt_spec.specs.FileTree.{FileTree}
-use Rattle.vt_spec.specs.Language.Calls.{Access, Call, MountFlags, OverlayWords, opens_for_writing, same_name}
-use Rattle.vt_spec.specs.Language.Calls.Call.{Chdir, Chroot, Close, Exit, Lazy, Mkdir, MakeWhiteout, MountOverlay, MoveMount, PivotRoot, Rename, Rmdir, SetType, Setns, SymlinkAt, Umount, Unlink, Unshare, Write}
+use Rattle.vt_spec.specs.Language.Calls.{Access, Call, MountFlags, OverlayWords, opens_for_writing}
+use Rattle.vt_spec.specs.Language.Calls.Call.{Chdir, Chroot, Close, Exit, Lazy, MountOverlay, MoveMount, PivotRoot, Rename, Rmdir, SetType, Setns, Umount, Unlink, Unshare}
 use Rattle.vt_spec.specs.Language.Changes.{Change, changed}
 use Rattle.vt_spec.specs.Language.Changes.Change.{AddName, CopyUp, Make, Move, Remove, SetAttr, SetBytes, SetMark}
 use Rattle.vt_spec.specs.Lists.{Fresh, evens, is_among, when}

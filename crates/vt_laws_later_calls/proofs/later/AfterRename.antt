@@ -31,7 +31,6 @@ use Rattle.vt_spec.proofs.Nodes.{directory_used}
 use Rattle.vt_laws_letting_go.proofs.leaving.PlacesLeft.{nowhere_parts}
 use Rattle.vt_laws_layers.specs.Layers.Untouched.{IsKept}
 use Rattle.vt_laws_layers.proofs.layers.LowersKept.{kept_both, kept_same, others_stay}
-use Rattle.vt_laws_layers.proofs.layers.LowersMounts.{same_mounted_without}
 use Rattle.vt_laws_layers.proofs.views.Entries.{is_entry, is_that_entry}
 use Rattle.vt_laws_layers.proofs.views.Moves.{move_told, no_way_up}
 use Rattle.vt_laws_mounts.specs.Mounts.Attaching.{numbers_of}
@@ -131,9 +130,6 @@ module _ (world : World ℕ) (fresh : Fresh ℕ) (name : TaskName) (call : Call)
 
   abbrev pub shown : ℕ
   shown = (mount_at nat_eq world from).filesystem
-
-  abbrev files : FileTree ℕ
-  files = files_at nat_eq world from
 
   pub is_left : IsWorld nat_eq left × IsPlain left
   is_left = later_is world fresh name call answer is plain serves other few did

@@ -4,7 +4,7 @@ use Rattle.std.specs.Prelude.{Contains}
 use Rattle.std.proofs.lemmas.Bool.{false_from_ne_true, or_parts}
 use Rattle.std.proofs.lemmas.Option.{same_Some}
 use Rattle.std.specs.List.{list_any}
-use Rattle.vt_spec.proofs.Lists.{chain_ends, none_among, pair-filter, among-filter, Among, among-append, among-append_left, among-from_filter, among-from_flat_map, among-from_map, among_from_contains, among_numbers, any_among, any_from_among, contains_from_among, is_among_numbers}
+use Rattle.vt_spec.proofs.Lists.{chain_ends, none_among, pair-filter, among-filter, Among, among-append, among-from_filter, among-from_flat_map, among-from_map, among_from_contains, any_among, any_from_among, contains_from_among}
 use Rattle.vt_spec.specs.Machine.Attach.{copies_from, graft_of, parts_of, pushed_onto, receiver_stood_on, receivers_of, takes_part}
 use Rattle.vt_spec.specs.Machine.Detach.{may_go, only_cover, unmounted, going}
 use Rattle.vt_spec.specs.Lists.{Fresh, any_pair, holds_of, is_among, last_or, rest_of}
@@ -13,7 +13,7 @@ use Rattle.vt_spec.specs.Machine.Mounts.{Location, Mount, Propagation, child_at,
 use Rattle.vt_spec.specs.Machine.Mounts.Propagation.{Private, Shared, Slave, Unbindable}
 use Rattle.vt_spec.specs.Machine.Receives.{groups_up, has_members, is_member_of, receivers, receives, lost_a_group}
 use Rattle.vt_spec.specs.Machine.World.{World, mount_at, mount_numbered}
-use Rattle.vt_laws_mounts.specs.Mounts.Attaching.{KeepsAllButMountPoint, OneNumberAMount, is_mount, numbers_of}
+use Rattle.vt_laws_mounts.specs.Mounts.Attaching.{KeepsAllButMountPoint, OneNumberAMount, is_mount}
 use Rattle.vt_laws_mounts.specs.Mounts.MountPoints.{OneMountAMountPoint}
 use Rattle.vt_laws_mounts.specs.Mounts.Propagation.{Attachment, CanAttach, IsPart, copy_of, number_at, world_after}
 use Rattle.vt_laws_mounts.specs.Mounts.Receivers.{GroupsLive}
@@ -21,11 +21,10 @@ use Rattle.vt_laws_mounts.specs.Mounts.Unmounting.{Goes, ChainsEnd, goes_with, h
 use Rattle.vt_laws_mounts.specs.Mounts.Unmounting.FallsTo.{falls, rests}
 use Rattle.vt_laws_mounts.specs.Mounts.Unmounting.Goes.{alone, at_receiver, from_nowhere}
 use Rattle.vt_laws_mounts.proofs.attached.AttachedMasters.{old_master}
-use Rattle.vt_laws_mounts.proofs.attached.Attaching.{taker_there}
 use Rattle.vt_laws_mounts.proofs.GroupsKept.{member_shared, shared_member}
 use Rattle.vt_laws_mounts.proofs.GroupsUp.{live_members, lives_in}
 use Rattle.vt_laws_mounts.proofs.GroupsUp.Up.{above, here}
-use Rattle.vt_laws_mounts.proofs.mounts.MountsAttached.{found_attached, new_mounts_follow, push_keeps}
+use Rattle.vt_laws_mounts.proofs.mounts.MountsAttached.{found_attached, push_keeps}
 use Rattle.vt_laws_mounts.proofs.mounts.MountsFound.{found_in, found_there, unfound}
 use Rattle.vt_laws_mounts.proofs.mounts.MountsNumbered.{attach_keeps_numbers, is_one_of}
 use Rattle.vt_laws_mounts.proofs.mounts.MountsPlaces.{found_at_its_place, one_place_of_two, stands_at_its_place, stands_there}
@@ -35,11 +34,10 @@ use Rattle.vt_laws_mounts.proofs.propagation.PropagationCopies.{copies, push}
 use Rattle.vt_laws_mounts.proofs.propagation.PropagationHeard.{copies_hear_as_their_origins, groups_after, only_part}
 use Rattle.vt_laws_mounts.proofs.propagation.PropagationHearing.{old_up, old_up_after}
 use Rattle.vt_laws_mounts.proofs.propagation.PropagationUp.{heard, hears, lives_up}
-use Rattle.vt_laws_mounts.proofs.mounts.Receivers.{receives_completely, receives_soundly, receives_from_source}
+use Rattle.vt_laws_mounts.proofs.mounts.Receivers.{receives_completely, receives_soundly}
 use Rattle.vt_laws_mounts.proofs.ends.Unmounting.{root_mounts_stay, unmount_keeps_the_order, what_covered_falls, what_goes_is_detached, what_stays_keeps, what_stays_keeps_its_place, what_stays_keeps_its_type, groups_keep_their_masters, middle}
 use Rattle.vt_laws_mounts.proofs.ends.UnmountingGoes.{what_goes_is_named}
 use Rattle.vt_spec.proofs.Worlds.{master-regrouped_by, number-mount_in}
-use Rattle.vt_laws_mounts.proofs.mounts.Receivers.{receiver_receives}
 use Rattle.vt_laws_mounts.proofs.propagation.OneAttached.{one_of, later_number, part_old, hears_group}
 
 -- a mount that does not stand on itself is the topmost one over its root, where it is alone

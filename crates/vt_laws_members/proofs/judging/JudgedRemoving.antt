@@ -81,7 +81,8 @@ module _ (one other : Looks ℕ) (task : Task ℕ) (own uses : ℕ → Bool) (al
       (λ place. unless (rmdir_word_rules place) (rmdir_by place (object_there place)
       (is_mount_point_in nat_eq other task.namespace (object_there place)) other))
       (old_agrees one other task On alike.walks alike.directory alike.rules.removed path)
-      (λ place at. ap (unless (rmdir_word_rules place)) (rmdir_same place (object_there place) at.0 (there_own one other task own uses alike place at)))
+      (λ place at. ap (unless (rmdir_word_rules place))
+      (rmdir_same place (object_there place) at.0 (there_own one other task own uses alike place at)))
 
   -- Renaming
 
@@ -129,8 +130,8 @@ module _ (one other : Looks ℕ) (task : Task ℕ) (own uses : ℕ → Bool) (al
   point_by looks old o =
       is_mount_point_anywhere looks old || holds_of (is_mount_point_in nat_eq looks task.namespace) o
 
-  module _ (renames : RenamesAlike one other own) (from to : Place ℕ) (old : Location ℕ) (on_from : On from.parent.mount) (on_to : On to.parent.mount)
-      (on_old : On old.mount) where
+  module _ (renames : RenamesAlike one other own) (from to : Place ℕ) (old : Location ℕ)
+      (on_from : On from.parent.mount) (on_to : On to.parent.mount) (on_old : On old.mount) where
     used_there : uses (other.mount old.mount).filesystem ≡ true
     used_there = ap (λ (m : Mount ℕ). uses m.filesystem) (sym (alike.rules.mount old.mount on_old)) ∙ alike.seen old.mount on_old
 

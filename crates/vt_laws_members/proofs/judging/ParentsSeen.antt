@@ -46,9 +46,6 @@ module _ (world : World ℕ) (names : List TaskName) (is : IsWorld nat_eq world)
   on here e = theirs_from world names is.mounts here.mount e
 
   -- the mount below
-  shared_by : Looks ℕ → Location ℕ → Bool
-  shared_by looks point = is_shared (Rattle.vt_spec.specs.Machine.Looks.mount_at looks point).propagation
-
   parent_alike : (here : Location ℕ) → OnTheirs world names is here → has_shared_parent one here ≡ has_shared_parent other here
   parent_alike here own =
       by (mount_at nat_eq world here).mount_point refl

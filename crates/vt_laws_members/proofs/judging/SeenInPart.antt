@@ -157,9 +157,6 @@ module _ (world : World ℕ) (names : List TaskName) (is : IsWorld nat_eq world)
         (among-flat_map (λ (t : Task ℕ). t.root ∷ t.directory ∷ []) theirs task task.directory member (inr (inl refl)))
 
     -- `..` from the root of a mount
-    hop_by : Location ℕ → Mount ℕ → Option (Location ℕ)
-    hop_by a mount = cond (same_location nat_eq a task.root) None (cond (nat_eq a.node mount.root) mount.mount_point None)
-
     hop_goes : (a b : Location ℕ) → hop nat_eq (looks_of nat_eq world) task a ≡ Some b
         → (mount_numbered nat_eq world a.mount).mount_point ≡ Some b
     hop_goes a b e = by (same_location nat_eq a task.root) (nat_eq a.node (mount_at nat_eq world a).root) e

@@ -294,10 +294,6 @@ module _ (one other : Looks ℕ) (task : Task ℕ) (Own : ℕ → Type 0) (alike
       (λ here own. unless_same HereAt here.steps _ _ here
       (ap (λ b. (b, W8) ∷ []) (removed here.location own)) own)
 
-  same_at_topmost : (here : Here ℕ) → HereAt here → at_topmost one here ≡ at_topmost other here
-  same_at_topmost here own =
-      ap (λ l. record here { location = l }) (same_topmost one other task Own alike here.location own)
-
   pub destination_agrees : (path : List ℕ)
       → Agree HereAt (destination_walk nat_eq one task path) (destination_walk nat_eq other task path)
   destination_agrees path =

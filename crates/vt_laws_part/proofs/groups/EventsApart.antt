@@ -53,12 +53,15 @@ module _ (world : World ℕ) (names : List TaskName) (is : MountInvariants nat_e
     where
       by : (namespace : Option ℕ) → member.namespace ≡ namespace
           → Among member (own_mounts nat_eq world names) ⊎ Among member (other_mounts nat_eq world names)
-      by None none = absurd (outside member.propagation refl none (among_from_list_all is_nowhere_or_attached world.mounts is.nowhere member m))
+      by None none =
+          absurd (outside member.propagation refl none
+          (among_from_list_all is_nowhere_or_attached world.mounts is.nowhere member m))
         where
           outside : (kind : Propagation ℕ) → member.propagation ≡ kind → member.namespace ≡ None
               → is_nowhere_or_attached member ≡ true → ⊥
           outside kind k n there = private_alone kind (sym (ap group_of k) ∙ e)
-              (sym (ap (λ x. is_some x || (not (is_some member.mount_point) && is_private member.propagation)) n ∙ ap (λ x. not (is_some member.mount_point) && is_private x) k) ∙ there)
+              (sym (ap (λ x. is_some x || (not (is_some member.mount_point) && is_private member.propagation)) n
+              ∙ ap (λ x. not (is_some member.mount_point) && is_private x) k) ∙ there)
             where
               private_alone : (kind : Propagation ℕ) → group_of kind ≡ Some group
                   → (not (is_some member.mount_point) && is_private kind) ≡ true → ⊥

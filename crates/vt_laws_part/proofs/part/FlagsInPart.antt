@@ -201,8 +201,12 @@ module _ (world : World ℕ) (names : List TaskName) (one : OneNumberEach world)
       ≡ with_mounts (part_of nat_eq world names) (with_mount nat_eq (part_of nat_eq world names).mounts new)
   part_with_flags =
       ap (λ m. record (part_of nat_eq later names) { mounts = m }) (mounts_set world.mounts all_there)
-      ∙ ap (λ m. record (part_of nat_eq later names) { mounts = map set (filter_map kept world.mounts); master = m }) same_masters
-      ∙ ap (λ f. record (part_of nat_eq world names) { mounts = map set (filter_map kept world.mounts); filesystems = filter_map f world.filesystems }) same_shown
+      ∙ ap (λ m. record (part_of nat_eq later names) { mounts = map set (filter_map kept world.mounts); master = m })
+      same_masters
+      ∙ ap (λ f. record (part_of nat_eq world names) {
+        mounts = map set (filter_map kept world.mounts);
+        filesystems = filter_map f world.filesystems;
+      }) same_shown
 
 pub only_their_flags_change_the_part : OnlyTheirFlagsChangeThePart
 only_their_flags_change_the_part world names mount flags is there own =

@@ -162,7 +162,8 @@ module _ (world : World ℕ) (names : List TaskName) (is : MountInvariants nat_e
       length-map part.mounts (λ (mount : Mount ℕ). suc mount.number) in
       let less : length part.mounts ≤ length world.mounts = length-filter_map kept world.mounts in
       sym (chains_alike (up world) (up part) key there by_key (length world.mounts) (length part.mounts) here
-      (way (length world.mounts) here own (ap (option_map root_of) (topmost_is_free world here is))) (omega (arith, size, less)) (omega (arith, size)))
+      (way (length world.mounts) here own (ap (option_map root_of) (topmost_is_free world here is)))
+      (omega (arith, size, less)) (omega (arith, size)))
 
 pub mounts_over_are_those_of_the_part : MountsOverAreThoseOfThePart
 mounts_over_are_those_of_the_part world names mount here is there on stands =

@@ -137,9 +137,6 @@ module _ (world : World ℕ) (is : IsWorld nat_eq world) (task : Task ℕ) (ther
   up_ground top next ground e =
       by (is_top nat_eq (looks_of nat_eq world) task top) (is_lost nat_eq (looks_of nat_eq world) top) e
     where
-      above : Location ℕ
-      above = topmost nat_eq world.mounts (parent_location nat_eq (looks_of nat_eq world) top)
-
       same : (a b : Location ℕ) → OnGround a → Path (Result (Location ℕ) Deny) (Ok a) (Ok b) → OnGround b
       same a b on h = let e : a ≡ b = cc in subst OnGround e on
 

@@ -1,44 +1,40 @@
 -- What code finds in what is kept of a world is what the definitions see of its value.
-use Rattle.std.proofs.Common.{◌≡◌, refl, sym, ap, subst, ◌∙◌, ℕ, ◌<◌, nat_eq, Bool, true, false, cond, is_some, not, ◌&&◌, ◌||◌, List, [], ◌∷◌, zero, suc, length, Option, Some, None, flat_map, map, option_map, unwrap_or}
-use Rattle.std.specs.Prelude.{find, option_to_list}
+use Rattle.std.proofs.Common.{◌≡◌, refl, sym, ap, subst, ◌∙◌, ℕ, nat_eq, eqb-true, true≢false, Bool, true, false, cond, is_some, not, ◌&&◌, ◌||◌, List, [], ◌∷◌, zero, suc, length, Option, Some, None, option_map, unwrap_or}
+use Rattle.std.specs.Prelude.{find}
 use Rattle.std.specs.List.{list_any}
-use Rattle.vt_spec.specs.Language.Changes.{Change}
 use Rattle.vt_spec.specs.FileTree.{is_directory_under, is_removed}
 use Rattle.vt_spec.specs.Machine.Detach.{mounts_on}
-use Rattle.vt_spec.specs.Machine.Filesystems.{has_lower_directory_at, lies_only_in_lowers, mounter_rules, overlay_rules, path_of_name}
-use Rattle.vt_spec.specs.Machine.Layers.{has_lower_directory}
-use Rattle.vt_spec.specs.Machine.Locked.{is_locked_at, lies_or_counts_under, of_overlay, overlay_or}
 use Rattle.vt_spec.specs.Machine.Mounts as meant
 use Rattle.vt_spec.specs.Lists.{chain, holds_of, last_or}
-use Rattle.vt_spec.specs.Machine.Looks.{mounter_may, topmost}
-use Rattle.vt_spec.specs.Machine.Rightful.{mounter_allows}
-use Rattle.vt_spec.specs.Machine.Rules.Conditions.{has_no_upper, is_overlay_at}
+use Rattle.vt_spec.specs.Machine.Looks.{topmost}
 use Rattle.vt_spec.specs.Machine.Walking.{is_lost}
 use Rattle.vt_spec.specs.Machine.Mounts.{child_at, no_mount, root_of, same_location, stands_on}
-use Rattle.vt_spec.specs.Machine.World.{Filesystem, filesystem_at, filesystem_numbered, is_removed_at, layers_of, mount_at, mount_numbered, node_at, open_layer}
+use Rattle.vt_spec.specs.Machine.World.{filesystem_at, filesystem_numbered, is_removed_at, mount_at, mount_numbered, node_at}
 use Rattle.vt_location.specs.declared.locations.Location.{Location}
-use Rattle.vt_location.specs.declared.births.Birth.TheVariants.{Here}
 use Rattle.vt_location.specs.declared.locations.NodeRef.{NodeRef}
 use Rattle.vt_location.specs.declared.mounts.Mount.{Mount}
-use Rattle.vt_location.specs.Locations.{location_of, number_of}
+use Rattle.vt_location.specs.Locations.{is_small_node, location_of, number_of}
 use Rattle.vt_location.specs.MountValue.{mount_of}
 use Rattle.vt_location.specs.Numbers.{counted}
 use Rattle.vt_location.proofs.NumberLemmas.{counted_test}
 use Rattle.vt_looks.specs.declared.look.Ground.{Ground}
-use Rattle.vt_looks.specs.Looking.{IsGround, is_only_below}
+use Rattle.vt_looks.specs.Looking.{IsGround}
 use Rattle.vt_fs.proofs.Entries.{or_first, or_second}
-use Rattle.vt_fs.specs.FilesystemsValue.{files_at}
 use Rattle.vt_fs.specs.Laws.{is_lost_under}
-use Rattle.vt_fs.proofs.Numbers.{found_by_number}
 use Rattle.vt_mount.specs.MountsValue.{mounts_in, stands_over}
 use Rattle.vt_world.specs.Held.{IsHeld}
 use Rattle.std.proofs.Math.Bool.{or-true}
 use Rattle.vt_detach.specs.Looking.{is_seen, looks_of_value}
-use Rattle.vt_world.specs.WorldValue.{WorldValue, overlays_seen, world_of}
-use Rattle.vt_detach.proofs.FilesystemsFound.{found_plain}
-use Rattle.vt_detach.proofs.FilesSeen.{seen_here}
-use Rattle.vt_detach.proofs.Overlaid.{found_as_kept, overlays_are}
-use Rattle.vt_detach.proofs.LookLemmas.{any_point, missing_root, seen_filesystem, under_another, unseen_node, unseen_removed, unseen_root}
+use Rattle.vt_world.specs.Lent.{lent_of_world}
+use Rattle.vt_world.specs.StoredWorld.{with_store}
+use Rattle.vt_world.specs.WorldValue.{WorldValue, world_of}
+use Rattle.vt_store.specs.StoreValue.{StoreValue, files_in, lent_in}
+use Rattle.vt_spec.specs.Tree.{Node, Tree}
+use Rattle.vt_spec.proofs.Options.{none_is_some}
+use Rattle.vt_detach.proofs.LookLemmas.{any_point, missing_root, under_another, unseen_node, unseen_removed, unseen_root}
+use Rattle.vt_detach.proofs.StoreShown.{files_shown}
+use Rattle.vt_ns.proofs.looking.StoreLooked.{lent_shown, under_shown}
+use Rattle.vt_ns.specs.Lent.{as_lent, real_of_value}
 
 -- the mount that is found, or what stands for one that is not there
 module _ (value : WorldValue) (number : ℕ) (got : Option Mount)
@@ -52,25 +48,44 @@ module _ (value : WorldValue) (number : ℕ) (got : Option Mount)
   pub mount_missing : got ≡ None → mount_numbered nat_eq (world_of value) number ≡ no_mount number
   mount_missing is = ap (λ o. unwrap_or o (no_mount number)) (sym is_found ∙ ap (option_map mount_of) is)
 
-module _ (kept value : WorldValue) (is : kept ≡ value) (held : IsHeld kept) (at : Location)
-    (small : at.node.slot < 18446744073709551616) where
-  -- the inode at a location that is seen is that of the world
+-- what is shown at a location of a world that holds a store
+module _ (base : WorldValue) (store : StoreValue) (value : WorldValue) (is : with_store store base ≡ value)
+    (held : IsHeld (with_store store base)) (at : Location) (small : is_small_node at.node ≡ true) where
+  abbrev kept : WorldValue
+  kept = with_store store base
+
+  abbrev count : ℕ
+  count = at.node.filesystem.count
+
+  abbrev number : ℕ
+  number = number_of at.node
+
+  -- of one that is seen the mount shows its filesystem
+  in_filesystem : is_seen kept at ≡ true
+      → (mount_at nat_eq (world_of kept) (location_of at)).filesystem ≡ counted at.node.filesystem.count
+  in_filesystem seen =
+      eqb-true (mount_at nat_eq (world_of kept) (location_of at)).filesystem (counted at.node.filesystem.count) seen
+
+  -- the object at a location that is seen is lent
+  pub object_is : is_seen value at ≡ true
+      → lent_in store at.node.filesystem.count (number_of at.node) ≡ real_of_value value (location_of at)
+  object_is =
+      subst (λ (v : WorldValue). is_seen v at ≡ true
+      → lent_in store at.node.filesystem.count (number_of at.node) ≡ real_of_value v (location_of at)) is
+      (λ seen. lent_shown base store held count number
+      ∙ ap (λ n. as_lent ((filesystem_numbered nat_eq (world_of kept) n).files.tree.node number)
+      (lent_of_world (world_of kept) n number)) (sym (in_filesystem seen)))
+
+  -- and the inode is that of the world
   pub node_is : is_seen value at ≡ true
-      → (files_at kept.filesystems at.node.filesystem.count).tree.node (number_of at.node)
+      → (files_in store at.node.filesystem.count).tree.node (number_of at.node)
       ≡ node_at nat_eq (world_of value) (location_of at)
   node_is =
       subst (λ (v : WorldValue). is_seen v at ≡ true
-      → (files_at kept.filesystems at.node.filesystem.count).tree.node (number_of at.node)
+      → (files_in store at.node.filesystem.count).tree.node (number_of at.node)
       ≡ node_at nat_eq (world_of v) (location_of at)) is
-      (λ seen. ap (λ (filesystem : Filesystem ℕ). filesystem.files.tree.node (number_of at.node))
-      (sym (seen_filesystem kept held at small seen)))
-
-  -- what is there was born here
-  pub born_at : is_some (node_at nat_eq (world_of value) (location_of at)) ≡ true → at.node.birth ≡ Here
-  born_at =
-      subst (λ (v : WorldValue). is_some (node_at nat_eq (world_of v) (location_of at)) ≡ true
-      → at.node.birth ≡ Here) is
-      (seen_here kept held at small)
+      (λ seen. ap (λ (tree : Tree ℕ). tree.node number) (files_shown base store held count)
+      ∙ ap (λ n. (filesystem_numbered nat_eq (world_of kept) n).files.tree.node number) (sym (in_filesystem seen)))
 
   -- at one that is not seen the world has none
   pub no_node : is_seen value at ≡ false → node_at nat_eq (world_of value) (location_of at) ≡ None
@@ -78,16 +93,38 @@ module _ (kept value : WorldValue) (is : kept ≡ value) (held : IsHeld kept) (a
       subst (λ (v : WorldValue). is_seen v at ≡ false → node_at nat_eq (world_of v) (location_of at) ≡ None) is
       (unseen_node kept held at small)
 
+  pub no_object : is_seen value at ≡ false → real_of_value value (location_of at) ≡ None
+  no_object unseen =
+      ap (λ o. as_lent o (lent_of_world (world_of value) (mount_at nat_eq (world_of value) (location_of at)).filesystem
+      (number_of at.node))) (no_node unseen)
+
+  -- so what is there is seen
+  pub seen_if_there : is_some (node_at nat_eq (world_of value) (location_of at)) ≡ true → is_seen value at ≡ true
+  seen_if_there there = by (is_seen value at) refl
+    where
+      by : (b : Bool) → is_seen value at ≡ b → b ≡ true
+      by true e = refl
+      by false e = absurd (true≢false (sym there ∙ ap is_some (no_node e)))
+
+  -- and what is lent
+  pub seen_if_lent : (object : Node ℕ) → real_of_value value (location_of at) ≡ Some object → is_seen value at ≡ true
+  seen_if_lent object lent = by (is_seen value at) refl
+    where
+      by : (b : Bool) → is_seen value at ≡ b → b ≡ true
+      by true e = refl
+      by false e = none_is_some object (sym (no_object e) ∙ lent)
+
   -- a directory that is seen is removed just where that of the world is
   pub removed_is : is_seen value at ≡ true
-      → is_removed nat_eq (files_at kept.filesystems at.node.filesystem.count).tree (number_of at.node)
+      → is_removed nat_eq (files_in store at.node.filesystem.count).tree (number_of at.node)
       ≡ is_removed_at nat_eq (world_of value) (location_of at)
   removed_is =
       subst (λ (v : WorldValue). is_seen v at ≡ true
-      → is_removed nat_eq (files_at kept.filesystems at.node.filesystem.count).tree (number_of at.node)
+      → is_removed nat_eq (files_in store at.node.filesystem.count).tree (number_of at.node)
       ≡ is_removed_at nat_eq (world_of v) (location_of at)) is
-      (λ seen. ap (λ (filesystem : Filesystem ℕ). is_removed nat_eq filesystem.files.tree (number_of at.node))
-      (sym (seen_filesystem kept held at small seen)))
+      (λ seen. ap (λ (tree : Tree ℕ). is_removed nat_eq tree number) (files_shown base store held count)
+      ∙ ap (λ n. is_removed nat_eq (filesystem_numbered nat_eq (world_of kept) n).files.tree number)
+      (sym (in_filesystem seen)))
 
   -- one that is not seen is removed
   pub removed_unseen : is_seen value at ≡ false → is_removed_at nat_eq (world_of value) (location_of at) ≡ true
@@ -97,22 +134,20 @@ module _ (kept value : WorldValue) (is : kept ≡ value) (held : IsHeld kept) (a
 
   -- a directory lies under another just where the world has it so
   pub under_is : (directory : NodeRef) → is_seen value at ≡ true
-      → is_directory_under nat_eq (files_at kept.filesystems at.node.filesystem.count) (number_of at.node)
-      (number_of directory)
+      → is_directory_under nat_eq (files_in store at.node.filesystem.count) (number_of at.node) (number_of directory)
       ≡ is_directory_under nat_eq (filesystem_at nat_eq (world_of value) (location_of at)).files (number_of at.node)
       (number_of directory)
   under_is directory =
       subst (λ (v : WorldValue). is_seen v at ≡ true
-      → is_directory_under nat_eq (files_at kept.filesystems at.node.filesystem.count) (number_of at.node)
-      (number_of directory)
+      → is_directory_under nat_eq (files_in store at.node.filesystem.count) (number_of at.node) (number_of directory)
       ≡ is_directory_under nat_eq (filesystem_at nat_eq (world_of v) (location_of at)).files (number_of at.node)
       (number_of directory)) is
-      (λ seen. ap (λ (filesystem : Filesystem ℕ). is_directory_under nat_eq filesystem.files (number_of at.node)
-      (number_of directory))
-      (sym (seen_filesystem kept held at small seen)))
+      (λ seen. under_shown base store held count number (number_of directory)
+      ∙ ap (λ n. is_directory_under nat_eq (filesystem_numbered nat_eq (world_of kept) n).files number
+      (number_of directory)) (sym (in_filesystem seen)))
 
   -- none lies under one of another filesystem
-  pub under_apart : (directory : NodeRef) → directory.slot < 18446744073709551616
+  pub under_apart : (directory : NodeRef) → is_small_node directory ≡ true
       → (is_seen value at && nat_eq directory.filesystem.count at.node.filesystem.count) ≡ false
       → nat_eq (number_of at.node) (number_of directory)
       ≡ is_directory_under nat_eq (filesystem_at nat_eq (world_of value) (location_of at)).files (number_of at.node)
@@ -126,15 +161,15 @@ module _ (kept value : WorldValue) (is : kept ≡ value) (held : IsHeld kept) (a
 
   -- a mount that passes stands on an inode that is seen just where one does in the world
   pub points_seen : (test : meant.Mount ℕ → Bool) → is_seen value at ≡ true
-      → list_any (λ mount. stands_over (number_of at.node) mount && test mount) (mounts_in kept.mounts)
+      → list_any (λ mount. stands_over (number_of at.node) mount && test mount) (mounts_in base.mounts)
       ≡ list_any test (mounts_on nat_eq (world_of value) (location_of at))
   points_seen test =
       subst (λ (v : WorldValue). is_seen v at ≡ true
-      → list_any (λ mount. stands_over (number_of at.node) mount && test mount) (mounts_in kept.mounts)
+      → list_any (λ mount. stands_over (number_of at.node) mount && test mount) (mounts_in base.mounts)
       ≡ list_any test (mounts_on nat_eq (world_of v) (location_of at))) is
       (λ seen. sym (any_point kept held at small test
       ∙ ap (λ b. b && list_any (λ mount. stands_over (number_of at.node) mount && test mount)
-      (mounts_in kept.mounts)) seen))
+      (mounts_in base.mounts)) seen))
 
   -- none stands on one that is not seen
   pub no_points : (test : meant.Mount ℕ → Bool) → is_seen value at ≡ false
@@ -144,29 +179,27 @@ module _ (kept value : WorldValue) (is : kept ≡ value) (held : IsHeld kept) (a
       → list_any test (mounts_on nat_eq (world_of v) (location_of at)) ≡ false) is
       (λ unseen. any_point kept held at small test
       ∙ ap (λ b. b && list_any (λ mount. stands_over (number_of at.node) mount && test mount)
-      (mounts_in kept.mounts)) unseen)
+      (mounts_in base.mounts)) unseen)
 
   -- lost on the mount, as it is found
   module _ (got : Option Mount)
       (is_found : option_map mount_of got
-      ≡ find (λ (mount : meant.Mount ℕ). nat_eq (counted at.mount.count) mount.number) (mounts_in kept.mounts)) where
+      ≡ find (λ (mount : meant.Mount ℕ). nat_eq (counted at.mount.count) mount.number) (mounts_in base.mounts)) where
     abbrev IsLost : Bool → WorldValue → Type 0
     IsLost answer v = answer ≡ is_lost nat_eq (looks_of_value v) (location_of at)
 
     -- a location is lost on its mount just where its tree has it so
     pub lost_is : (mount : Mount) → got ≡ Some mount
-        → IsLost (is_lost_under (files_at kept.filesystems mount.root.filesystem.count) (number_of mount.root)
+        → IsLost (is_lost_under (files_in store mount.root.filesystem.count) (number_of mount.root)
         (number_of at.node)) value
     lost_is mount some =
-        subst (IsLost (is_lost_under (files_at kept.filesystems mount.root.filesystem.count) (number_of mount.root)
+        subst (IsLost (is_lost_under (files_in store mount.root.filesystem.count) (number_of mount.root)
         (number_of at.node))) is
-        (sym (ap (λ (m : meant.Mount ℕ). is_lost_under
+        ((λ i. is_removed nat_eq (files_shown base store held mount.root.filesystem.count i) number
+        || not (under_shown base store held mount.root.filesystem.count (number_of mount.root) number i))
+        ∙ sym (ap (λ (m : meant.Mount ℕ). is_lost_under
         (filesystem_numbered nat_eq (world_of kept) m.filesystem).files m.root (number_of at.node))
-        (mount_found kept (counted at.mount.count) got is_found mount some)
-        ∙ ap (λ (filesystem : Filesystem ℕ). is_lost_under filesystem.files (number_of mount.root)
-        (number_of at.node))
-        (found_as_kept kept held (counted mount.root.filesystem.count)
-        ∙ found_by_number kept.filesystems mount.root.filesystem.count)))
+        (mount_found kept (counted at.mount.count) got is_found mount some)))
 
     not_under : (v : WorldValue)
         → is_directory_under nat_eq (filesystem_at nat_eq (world_of v) (location_of at)).files
@@ -227,41 +260,3 @@ pub seen_on : (value : WorldValue) (at : Location) (ground : Ground) (b : Bool)
 seen_on value at ground b is same =
     ap (λ n. nat_eq n (counted at.node.filesystem.count)) (sym is.filesystem)
     ∙ counted_test ground.filesystem.count at.node.filesystem.count ∙ same
-
--- Nothing makes an overlay yet. So no location is in one: nothing is locked, no lower layer has a directory, and no
--- mounter is asked.
-module _ (value : WorldValue) (held : IsHeld value) (at : meant.Location ℕ) where
-  plain : (filesystem_at nat_eq (world_of value) at).overlay ≡ None
-  plain =
-      ap (λ (filesystem : Filesystem ℕ). filesystem.overlay)
-      (found_as_kept value held (mount_at nat_eq (world_of value) at).filesystem)
-      ∙ found_plain value.filesystems (mount_at nat_eq (world_of value) at).filesystem
-
-  pub no_overlay : is_overlay_at (looks_of_value value) at ≡ false
-  no_overlay = ap is_some plain
-
-  pub no_missing_upper : has_no_upper (looks_of_value value) at ≡ false
-  no_missing_upper = ap (overlay_or false (λ overlay. not (is_some overlay.upper))) plain
-
-  pub unlocked : is_locked_at nat_eq (world_of value) at ≡ false
-  unlocked = ap (λ all.
-      list_any (lies_or_counts_under nat_eq (world_of value)
-      (mount_at nat_eq (world_of value) at).filesystem at.node)
-      (flat_map (of_overlay [] layers_of) all))
-      (overlays_are value held.overlays ∙ ap overlays_seen held.overlays.none_yet)
-
-  pub no_lower_directory : (name : List ℕ) → has_lower_directory_at nat_eq (world_of value) at name ≡ false
-  no_lower_directory name = ap (overlay_or false (λ overlay. has_lower_directory
-      (map (open_layer nat_eq (world_of value)) (option_to_list overlay.upper))
-      (map (open_layer nat_eq (world_of value)) overlay.lowers)
-      (path_of_name nat_eq (world_of value) at name))) plain
-
-  pub none_below : is_only_below (looks_of_value value) at ≡ false
-  none_below = ap (overlay_or false (λ overlay. lies_only_in_lowers overlay at.node)) plain
-
-  pub unmounted : (wanted : ℕ) → mounter_may (looks_of_value value) at wanted ≡ true
-  unmounted wanted = ap (λ overlay. mounter_allows overlay wanted (node_at nat_eq (world_of value) at)) plain
-
-  pub unasked : (change : Change ℕ) → mounter_rules nat_eq (world_of value) at change ≡ []
-  unasked change =
-      ap (overlay_or [] (overlay_rules nat_eq (filesystem_at nat_eq (world_of value) at) change)) plain

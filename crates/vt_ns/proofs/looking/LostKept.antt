@@ -20,15 +20,12 @@ use Rattle.vt_laws_trees.specs.Trees.{IsFileTree}
 use Rattle.vt_laws_trees.proofs.trees.TreesAbove.{parent_named, under_seen}
 use Rattle.vt_laws_trees.proofs.trees.TreesReached.{filled_reached, not_removed_reached}
 use Rattle.vt_laws_trees.proofs.trees.TreesOfWorlds.{numbered_anyhow}
-use Rattle.vt_fs.specs.FilesystemsValue.{files_at, filesystem_seen, filesystems_seen, no_entry}
 use Rattle.vt_fs.specs.Laws.{LieUnderRoot, is_lost_under}
 use Rattle.vt_fs.proofs.TreesLookedAt.{nowhere_under}
 use Rattle.vt_looks.specs.Looking.{WaysStayFound}
 use Rattle.vt_detach.specs.Looking.{looks_of_value}
 use Rattle.vt_world.specs.Held.{IsHeld}
 use Rattle.vt_world.specs.WorldValue.{WorldValue, world_of}
-use Rattle.vt_detach.proofs.FilesystemsFound.{holds_at}
-use Rattle.vt_detach.proofs.Overlaid.{seen_one_among}
 
 -- what is no directory is its own parent, and has no entries
 no_directory : (number : ℕ) (o : Option (Node ℕ)) → is_directory_node o ≡ false
@@ -79,11 +76,11 @@ lie_under_root files conditions directory stays =
     under_seen files conditions directory is reached files.tree.root reached.0 reached.1
 
 -- where no inode is there, none but the root is not removed
-lie_nowhere : (count : ℕ) → LieUnderRoot (filesystem_seen (no_entry count)).files
-lie_nowhere count directory stays = by (nat_eq directory (filesystem_seen (no_entry count)).files.tree.root) refl stays
+pub lie_nowhere : (number : ℕ) → LieUnderRoot (no_filesystem number).files
+lie_nowhere number directory stays = by (nat_eq directory (no_filesystem number).files.tree.root) refl stays
   where
     files : FileTree ℕ
-    files = (filesystem_seen (no_entry count)).files
+    files = (no_filesystem number).files
 
     by : (b : Bool) → nat_eq directory files.tree.root ≡ b
         → not (b || is_some (cond b None (when false (parent_in directory (files.tree.node directory))))) ≡ false
@@ -93,7 +90,7 @@ lie_nowhere count directory stays = by (nat_eq directory (filesystem_seen (no_en
     by false e stays = absurd (true≢false stays)
 
 module _ (value : WorldValue) (held : IsHeld value) where
-  file_tree : (filesystem : Filesystem ℕ) → Among filesystem (world_of value).filesystems → IsFileTree filesystem.files
+  pub file_tree : (filesystem : Filesystem ℕ) → Among filesystem (world_of value).filesystems → IsFileTree filesystem.files
   file_tree filesystem m = record {
     tree = among_from_all (λ (x : Filesystem ℕ). IsTree x.files.tree)
         (world_of value).filesystems held.in_world.files.trees filesystem m;
@@ -102,16 +99,6 @@ module _ (value : WorldValue) (held : IsHeld value) where
     own_parents = among_from_all (λ (x : Filesystem ℕ). HasOwnParents x.files.tree)
         (world_of value).filesystems held.in_world.files.own_parents filesystem m;
   }
-
-  -- in each tree what is not removed lies under the root
-  pub lie_under_root_at : (count : ℕ) → LieUnderRoot (files_at value.filesystems count)
-  lie_under_root_at count =
-      holds_at (λ filesystem. LieUnderRoot filesystem.files) value.filesystems
-      (all_from_among (λ (filesystem : Filesystem ℕ). LieUnderRoot filesystem.files)
-      (filesystems_seen value.filesystems)
-      (λ filesystem m. lie_under_root filesystem.files
-      (file_tree filesystem (seen_one_among value held.overlays.merged filesystem m))))
-      count (lie_nowhere count)
 
 -- Up from a directory by parents
 
@@ -149,7 +136,7 @@ module _ (up : ℕ → Option ℕ) where
       by (Some above) met rest = either (nat_eq top directory) _ _ (rest above) met
 
   -- where the way up has come to an end, one more step meets nothing more
-  ended : (end most directory : ℕ) → up end ≡ None → is_among nat_eq end (chain most up directory) ≡ true
+  pub ended : (end most directory : ℕ) → up end ≡ None → is_among nat_eq end (chain most up directory) ≡ true
       → chain (suc most) up directory ≡ chain most up directory
   ended end zero directory none met = chain_ends up zero directory (at (nat_eq end directory) refl met)
     where
@@ -182,7 +169,7 @@ module _ (files : FileTree ℕ) (conditions : IsFileTree files) where
   abbrev most : ℕ
   most = length files.numbers
 
-  root_has_none : up files.tree.root ≡ None
+  pub root_has_none : up files.tree.root ≡ None
   root_has_none =
       ap (λ b. cond b None (when (has_entry_to nat_eq files.tree
       (parent_in files.tree.root (files.tree.node files.tree.root)) files.tree.root)

@@ -1,32 +1,44 @@
 -- What lists of mounts and of peer groups find in a world.
-use Rattle.std.proofs.Common.{◌≡◌, refl, sym, ap, true≢false, ℕ, List, [], ◌∷◌, is_some, map}
+use Rattle.std.proofs.Common.{◌≡◌, refl, sym, ap, subst, true, true≢false, ⊎_elim, ℕ, nat_eq, List, [], ◌∷◌, is_some, map}
 use Rattle.std.specs.Map.{keys_of}
-use Rattle.vt_spec.specs.Machine.World.{Filesystem, Namespace}
+use Rattle.vt_spec.specs.Language.Calls.{TaskName}
+use Rattle.vt_spec.specs.Machine.Mounts as meant
+use Rattle.vt_spec.specs.Machine.Permits.Permit.{ToList}
+use Rattle.vt_spec.specs.Machine.World.{Filesystem, Namespace, filesystem_numbered, node_at}
+use Rattle.vt_spec.specs.Tree.{Tree}
 use Rattle.vt_spec.specs.TreeInvariant.{IsTree}
-use Rattle.vt_laws_letting_go.proofs.Lists.{all_from_among, among_from_all}
+use Rattle.vt_laws_permits.proofs.sees.SeesTasks.{given_permits_are_seen_to}
+use Rattle.vt_laws_trees.proofs.trees.TreesOfWorlds.{numbered_all}
+use Rattle.vt_laws_worlds.proofs.worlds.Roots.{directory_there}
 use Rattle.vt_location.specs.declared.numbers.NamespaceId.{NamespaceId}
 use Rattle.vt_location.specs.Numbers.{counted}
 use Rattle.vt_tree.specs.Paths.{NamesDirectoriesOnce}
-use Rattle.vt_fs.specs.FilesystemsValue.{filesystems_seen}
+use Rattle.vt_store.specs.StoreValue.{StoreValue}
 use Rattle.vt_world.specs.declared.namespaces.Namespace.{Namespace as Kept}
 use Rattle.vt_world.specs.Held.{IsHeld}
+use Rattle.vt_world.specs.StoredWorld.{with_store}
 use Rattle.vt_world.specs.WorldValue.{WorldValue, entries_of, namespace_of, world_of}
-use Rattle.vt_detach.proofs.FilesystemsFound.{holds_at}
-use Rattle.vt_detach.proofs.Overlaid.{seen_one_among}
+use Rattle.vt_detach.specs.Events.{Permits, supply_of}
+use Rattle.vt_detach.proofs.StoreShown.{files_shown}
 use Rattle.vt_listing.specs.Shown.{NameDirectoriesOnce}
 
 -- in each tree a directory has one name
-pub named_once : (value : WorldValue) → IsHeld value → NameDirectoriesOnce value.filesystems
-named_once value held count =
-    holds_at (λ filesystem. NamesDirectoriesOnce filesystem.files.tree) value.filesystems
-    (all_from_among (λ (filesystem : Filesystem ℕ). NamesDirectoriesOnce filesystem.files.tree)
-    (filesystems_seen value.filesystems)
-    (λ filesystem m.
-    (among_from_all (λ (x : Filesystem ℕ). IsTree x.files.tree)
-    (world_of value).filesystems held.in_world.files.trees filesystem
-    (seen_one_among value held.overlays.merged filesystem m)).one_name))
-    count
-    (λ directory name other object first second is. absurd (true≢false (sym (ap is_some first))))
+pub named_once : (base : WorldValue) (store : StoreValue) → IsHeld (with_store store base) → NameDirectoriesOnce store
+named_once base store held count =
+    subst (λ (tree : Tree ℕ). NamesDirectoriesOnce tree) (sym (files_shown base store held count))
+    (⊎_elim (λ tree. tree.one_name)
+    (λ none. subst (λ (f : Filesystem ℕ). NamesDirectoriesOnce f.files.tree) (sym none.0)
+    (λ directory name other object first second is. absurd (true≢false (sym (ap is_some first)))))
+    (numbered_all (λ (f : Filesystem ℕ). IsTree f.files.tree) (counted count)
+    (world_of (with_store store base)).filesystems held.in_world.files.trees))
+
+-- a directory that may be listed is there
+pub listed_there : (value : WorldValue) → IsHeld value → (name : TaskName) (directory : meant.Location ℕ)
+    → Permits value name (ToList directory) → is_some (node_at nat_eq (world_of value) directory) ≡ true
+listed_there value held name directory permits =
+    directory_there (node_at nat_eq (world_of value) directory)
+    (given_permits_are_seen_to (world_of value) (supply_of value (ToList directory)) permits.task (ToList directory)
+    held.in_world permits.given)
 
 -- namespaces as they are kept
 pub namespaces_kept : (kept : List (NamespaceId × Kept))

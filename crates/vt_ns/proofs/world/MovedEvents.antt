@@ -1,19 +1,20 @@
 -- What the event that moves mounts finds: its place, and the tree that moves.
-use Rattle.std.proofs.Common.{◌≡◌, refl, sym, ap, ◌∙◌, ℕ, nat_eq, eqb-true, Bool, true, false, cond, List, find, Some, is_some, unwrap_or}
+use Rattle.std.proofs.Common.{◌≡◌, refl, sym, ap, subst, ◌∙◌, ℕ, nat_eq, eqb-true, Bool, true, false, cond, List, find, Option, Some, is_some, option_map, unwrap_or}
+use Rattle.vt_fs.specs.FilesystemsValue.{Filesystems, shown}
 use Rattle.vt_laws_letting_go.proofs.mounting.AttachedSwept.{of_tree}
 use Rattle.vt_laws_letting_go.proofs.Lists.{Among, map_same}
 use Rattle.vt_laws_letting_go.proofs.leaving.PlacesLeft.{found_is_there}
 use Rattle.vt_location.specs.declared.locations.Location.{Location}
 use Rattle.vt_location.specs.declared.mounts.Mount.{Mount as Code}
 use Rattle.vt_location.specs.declared.numbers.MountId.{MountId}
-use Rattle.vt_location.specs.Locations.{location_of, number_of}
+use Rattle.vt_location.specs.Locations.{is_small_node, location_of, number_of}
 use Rattle.vt_location.specs.MountValue.{mount_of}
 use Rattle.vt_location.specs.Numbers.{counted}
-use Rattle.vt_mount.specs.MountsValue.{are_ascending, mounts_in}
+use Rattle.vt_mount.specs.MountsValue.{MountEntry, are_ascending, changed, mounts_in}
 use Rattle.vt_spec.specs.Language.Calls.{TaskName}
-use Rattle.vt_spec.specs.Machine.Mounts.{Mount, mount_tree, no_mount}
+use Rattle.vt_spec.specs.Machine.Mounts.{Mount, is_shared, mount_tree, no_mount}
 use Rattle.vt_spec.specs.Machine.Permits.Permit.{ToMove}
-use Rattle.vt_spec.specs.Machine.World.{mount_numbered}
+use Rattle.vt_spec.specs.Machine.World.{mount_at, mount_numbered}
 use Rattle.vt_spec.specs.Machine.Invariants.{is_located_well}
 use Rattle.vt_attach.specs.BoundMounts.{bound_mounts, rooted_at}
 use Rattle.vt_mount.specs.Attached.{AreOf}
@@ -23,7 +24,14 @@ use Rattle.vt_attach.proofs.TypedMounts.{same_numbered}
 use Rattle.vt_detach.specs.Events.{Permits}
 use Rattle.vt_world.specs.Held.{IsHeld}
 use Rattle.vt_world.specs.WorldValue.{WorldValue, world_of}
+use Rattle.vt_detach.specs.Uses.{inode_of, pinned_in, unpinned_at}
 use Rattle.vt_detach.proofs.FileEvents.{permit_fits}
+use Rattle.vt_detach.proofs.MountsMoved.{mount_is_moved}
+use Rattle.vt_detach.proofs.Remaining.{remade}
+use Rattle.vt_detach.proofs.Staying.{IsDone}
+use Rattle.vt_store.specs.StoreValue.{StoreValue}
+use Rattle.vt_world.specs.StoredWorld.{with_store}
+use Rattle.vt_ns.proofs.world.StoresKept.{same_in_store}
 
 module _ (value : WorldValue) (whole : IsHeld value) (name : TaskName) (number : ℕ) (place : Location)
     (permits : Permits value name (ToMove number (location_of place))) where
@@ -83,3 +91,26 @@ module _ (value : WorldValue) (number : ℕ)
       picked (rooted_at source) (mounts_in value.mounts) tree ids are
       (λ mount m. ascending_found (mounts_in value.mounts) ascending mount (tree_among mount m))
       ∙ map_same (rooted_at source) tree same_rooted
+
+-- A mount that moves alone: its new mount point has one use more and its old one has one less, and overlays stay.
+pub moved_in_store : (base : WorldValue) (store : StoreValue) → IsHeld (with_store store base)
+    → (name : TaskName) (number : ℕ) (place : Location) (left : Option Location) (mounts : List MountEntry)
+    (plain : Filesystems) → Permits (with_store store base) name (ToMove number (location_of place))
+    → is_shared (mount_at nat_eq (world_of (with_store store base)) (location_of place)).propagation ≡ false
+    → is_small_node place.node ≡ true
+    → ((point : Location) → left ≡ Some point → is_small_node point.node ≡ true)
+    → option_map location_of left ≡ (mount_numbered nat_eq (world_of (with_store store base)) number).mount_point
+    → shown plain ≡ unpinned_at left (pinned_in (inode_of place.node) (shown store.plain))
+    → mounts ≡ changed number (λ entry. record entry {
+      mount = record entry.mount { mount_point = Some (location_of place) };
+    }) base.mounts
+    → IsDone (with_store store base) name (ToMove number (location_of place))
+    (with_store (record store { plain = plain }) (record base { mounts = mounts }))
+moved_in_store base store held name number place left mounts plain permits alone small small_left left_is shown_is
+    moved =
+    same_in_store base (record base { mounts = mounts }) store (record store { plain = plain }) held refl name
+    (ToMove number (location_of place)) permits
+    (subst (λ entries. IsDone (with_store store base) name (ToMove number (location_of place))
+    (remade (with_store store base) entries plain base.tasks)) (sym moved)
+    (mount_is_moved (with_store store base) held name number place left plain permits alone small small_left left_is
+    shown_is))

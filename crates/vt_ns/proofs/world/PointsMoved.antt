@@ -25,7 +25,6 @@ use Rattle.vt_laws_letting_go.specs.Leaving.{MountsStand, stands_on_attached}
 use Rattle.vt_laws_letting_go.specs.Mounting.{inode_at}
 use Rattle.vt_laws_letting_go.specs.OneByOne.{Inode, MountsInUseBut}
 use Rattle.vt_laws_letting_go.proofs.Lists.{Among, all_from_among, all_pass, among-append, among-from_map, among-map, among_from_all, any-map, filter_alike, passes}
-use Rattle.vt_location.proofs.NodeLemmas.{small_parts}
 use Rattle.vt_location.specs.declared.locations.Location.{Location as At}
 use Rattle.vt_location.specs.Locations.{location_of, number_of}
 use Rattle.vt_location.specs.Numbers.{counted}
@@ -141,8 +140,7 @@ module _ (value : WorldValue) (whole : IsHeld value) where
   inodes_are (at ∷ rest) there small =
       let parts = and_parts (is_small at) (list_all is_small rest) small in
       λ i. (
-        sym (seen_where_located value whole at (small_parts at.node parts.0).slot
-            (there at (inl refl))) i,
+        sym (seen_where_located value whole at parts.0 (there at (inl refl))) i,
         number_of at.node,
       )
       ∷ inodes_are rest (λ one m. there one (inr m)) parts.1 i

@@ -147,7 +147,8 @@ pub gone_together : (value : WorldValue) → IsHeld value → (name : TaskName) 
 gone_together value whole name permit task policy is gone points alike regroups falls mounts groups filesystems overlays go =
     let world = world_of value in
     let start = with_mounts world (map (left_by gone (map point_seen points)) world.mounts) in
-    let together : LeaveTogether gone (kept_with go.between go.files go.merged) value.groups (kept_with mounts filesystems overlays) groups =
+    let together : LeaveTogether gone (kept_with go.between go.files go.merged) value.groups
+    (kept_with mounts filesystems overlays) groups =
     subst (λ before. LeaveTogether gone (kept_with go.between go.files go.merged) before (kept_with mounts filesystems overlays) groups)
     (nothing_grows world value.groups go.groups whole.groups go.grown) go.together in
     let moved_typed : AreTyped value.groups go.between =

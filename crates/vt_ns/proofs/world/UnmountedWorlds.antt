@@ -181,7 +181,8 @@ module _ (value : WorldValue) (whole : IsHeld value) (name : TaskName) (permit :
       → is_some (mount_at nat_eq policy place).namespace ≡ true
   parent_attached mount m place at =
       ap is_some (sym (parent_inside policy under_way.mounts.one_number
-      (λ x n. among_from_all (λ (y : Mount ℕ). Stands nat_eq policy y.number) policy.mounts under_way.mounts.standing x n) mount m place at))
+      (λ x n. among_from_all (λ (y : Mount ℕ). Stands nat_eq policy y.number) policy.mounts under_way.mounts.standing
+      x n) mount m place at))
       ∙ placed_is_attached mount (passes is_nowhere_or_attached policy.mounts under_way.mounts.nowhere mount m)
       (ap is_some at)
 
@@ -345,7 +346,8 @@ module _ (value : WorldValue) (whole : IsHeld value) (name : TaskName) (permit :
         let detaching = all_detached value come (in_use_of start) gone (kept_with between between_files between_merged)
         (kept_with mounts filesystems overlays)
         (detaching_begins value come go (moved_world value points) (kept_with between between_files between_merged)
-        (moved_is_kept value whole points may left left_are left_small taken_small between between_files between_merged is_kept) gone closed) turn in
+        (moved_is_kept value whole points may left left_are left_small taken_small between between_files
+        between_merged is_kept) gone closed) turn in
         let kept_last = subst (λ one. IsKeptBut value [] [] come detaching.lost one
         (kept_with mounts filesystems overlays)) detaching.ends detaching.is in
         finished_as value whole name permit task policy is typed alike come detaching.lost (typed_value groups untyped)

@@ -15,3 +15,6 @@ returns-in-Err-clause-err_store c =
           ∙ removed_again c.args.store.now.plain made.0 c.args.filesystem.count made.2.counts c.requires.above) i;
       overlays = (c.in-Err.ensures.err_store i).overlays;
     }
+
+pub returns-clause-overlays : goal.returns-clause-overlays
+returns-clause-overlays c = c.attach_graft.ensures.overlays

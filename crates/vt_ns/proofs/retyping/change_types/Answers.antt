@@ -22,7 +22,8 @@ returns-in-Shared-clause-ok c =
 pub returns-in-Slave-clause-ok : goal.returns-in-Slave-clause-ok
 returns-in-Slave-clause-ok c =
     let numbers = map (λ id. counted id.count) c.args.ids.now in
-    subst (λ word. IsRetyped (type_word_of word) c.args.next c.args.next numbers c.args.groups.now c.make_slaves.new.groups c.args.mounts.now c.make_slaves.new.mounts)
+    subst (λ word. IsRetyped (type_word_of word) c.args.next c.args.next numbers c.args.groups.now
+    c.make_slaves.new.groups c.args.mounts.now c.make_slaves.new.mounts)
     (sym c.in-Slave.is)
     (slaves_retyped c.args.next numbers c.args.groups.now c.make_slaves.new.groups c.args.mounts.now c.make_slaves.new.mounts
     c.make_slaves.ensures.groups c.make_slaves.ensures.types)
@@ -30,7 +31,8 @@ returns-in-Slave-clause-ok c =
 pub returns-in-Private-clause-ok : goal.returns-in-Private-clause-ok
 returns-in-Private-clause-ok c =
     let numbers = map (λ id. counted id.count) c.args.ids.now in
-    subst (λ word. IsRetyped (type_word_of word) c.args.next c.args.next numbers c.args.groups.now c.leave_all.new.groups c.args.mounts.now c.leave_all.new.mounts)
+    subst (λ word. IsRetyped (type_word_of word) c.args.next c.args.next numbers c.args.groups.now
+    c.leave_all.new.groups c.args.mounts.now c.leave_all.new.mounts)
     (sym c.in-Private.is)
     (set_retyped ToPrivate Private
     (λ new old. refl) c.args.next numbers refl c.args.groups.now c.leave_all.new.groups c.args.mounts.now c.set_all.new.mounts
@@ -39,7 +41,8 @@ returns-in-Private-clause-ok c =
 pub returns-in-Unbindable-clause-ok : goal.returns-in-Unbindable-clause-ok
 returns-in-Unbindable-clause-ok c =
     let numbers = map (λ id. counted id.count) c.args.ids.now in
-    subst (λ word. IsRetyped (type_word_of word) c.args.next c.args.next numbers c.args.groups.now c.leave_all-in-Unbindable.new.groups c.args.mounts.now c.leave_all-in-Unbindable.new.mounts)
+    subst (λ word. IsRetyped (type_word_of word) c.args.next c.args.next numbers c.args.groups.now
+    c.leave_all-in-Unbindable.new.groups c.args.mounts.now c.leave_all-in-Unbindable.new.mounts)
     (sym c.in-Unbindable.is)
     (set_retyped ToUnbindable Unbindable
     (λ new old. refl) c.args.next numbers refl c.args.groups.now c.leave_all-in-Unbindable.new.groups c.args.mounts.now

@@ -8,6 +8,7 @@ use Rattle.vt_mount.specs.MountsValue.{are_ascending, mounts_in}
 use Rattle.vt_attach.specs.Planned.{Point, is_small, points_left, points_taken, with_planned}
 use Rattle.vt_detach.specs.Detached.{LeaveTogether}
 use Rattle.vt_detach.specs.Stored.{kept, merged_of}
+use Rattle.vt_detach.proofs.OverlaysListed.{left_still, left_twice}
 use Rattle.vt_ns.proofs.unmounting.take_away.Goals as goal
 
 pub attach_planned-requires : goal.attach_planned-requires
@@ -37,5 +38,11 @@ returns-clause-ok c =
       together = subst (λ ids. LeaveTogether (map (λ id. counted id.count) ids)
           (kept c.attach_planned.new.mounts c.attach_planned.new.store) c.attach_planned.new.groups
           (kept c.detach_together.new.mounts c.detach_together.new.store) c.detach_together.new.groups)
-          c.deref-2.ensures.value c.detach_together.ensures;
+          c.deref-2.ensures.value c.detach_together.ensures.left;
     }
+
+pub returns-clause-overlays : goal.returns-clause-overlays
+returns-clause-overlays c =
+    left_twice c.args.store.now.overlays c.attach_planned.new.store.overlays c.detach_together.new.store.overlays
+    (left_still c.args.store.now.overlays c.attach_planned.new.store.overlays c.attach_planned.ensures.overlays)
+    c.detach_together.ensures.overlays

@@ -16,7 +16,7 @@ returns-in_err-may_cross g c old new from to =
     let p = err_from_is_err_and c.from_residual-in_err-may_cross.result c.from_residual-in_err-may_cross.ensures.1 in
     rw (p.1, p.2) (sym (way_refused (g.L.Look.looks c.args.world.now) (task_of c.args.who.now)
     old new (location_of c.args.from.now.object) _
-    (c.in_ok-may_replace.ensures new to) (c.in_err-may_cross.ensures old new from to)))
+    (c.in_ok-may_replace.ensures new to) (c.in_err-may_cross.ensures.rules old new from to)))
 
 pub returns-in_err-may_change_both : goal.returns-in_err-may_change_both
 returns-in_err-may_change_both g c old new from to =
@@ -24,7 +24,7 @@ returns-in_err-may_change_both g c old new from to =
     c.from_residual-in_err-may_change_both.ensures.1 in
     rw (p.1, p.2) (sym (rights_refused (g.L.Look.looks c.args.world.now) (task_of c.args.who.now)
     old new (location_of c.args.from.now.object) _
-    (c.in_ok-may_replace.ensures new to) (c.in_ok-may_cross.ensures old new from to)
+    (c.in_ok-may_replace.ensures new to) (c.in_ok-may_cross.ensures.rules old new from to)
     (c.in_err-may_change_both.ensures old new from to)))
 
 pub returns : goal.returns
@@ -32,5 +32,5 @@ returns g c old new from to =
     c.may_layers_change.ensures old new from to
     ∙ sym (layers_left (g.L.Look.looks c.args.world.now) (task_of c.args.who.now)
     old new (location_of c.args.from.now.object)
-    (c.in_ok-may_replace.ensures new to) (c.in_ok-may_cross.ensures old new from to)
+    (c.in_ok-may_replace.ensures new to) (c.in_ok-may_cross.ensures.rules old new from to)
     (c.in_ok-may_change_both.ensures old new from to))

@@ -10,7 +10,6 @@ use Rattle.vt_laws_letting_go.specs.InUse.{HasTrees, UppersArePlain}
 use Rattle.vt_laws_letting_go.specs.Leaving.{comes_nowhere, is_location_among, with_sweeps}
 use Rattle.vt_laws_letting_go.specs.LeavingOverlays.{IsSettled}
 use Rattle.vt_laws_letting_go.specs.Overlays.{RealsAreThere}
-use Rattle.vt_spec.proofs.Found.{found_among}
 use Rattle.vt_spec.proofs.Worlds.{same_name_itself}
 use Rattle.vt_spec.specs.Language.Calls.{TaskName, same_name}
 use Rattle.vt_spec.specs.Lists.{Fresh}

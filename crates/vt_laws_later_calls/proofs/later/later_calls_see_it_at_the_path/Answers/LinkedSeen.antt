@@ -120,9 +120,6 @@ module _ (world : World ℕ) (fresh : Fresh ℕ) (name : TaskName) (old new : Li
       (name_of place.last) object.node in_directory seen_to.1.name_is_free.free
 
   -- the object, through the mount of the new name
-  named_object : Location ℕ
-  named_object = record { mount = place.parent.mount; node = object.node }
-
   same_object : object ≡ record { mount = place.parent.mount; node = object.node }
   same_object = λ i. record { mount = eqb-true object.mount place.parent.mount parts.one_mount i; node = object.node }
 

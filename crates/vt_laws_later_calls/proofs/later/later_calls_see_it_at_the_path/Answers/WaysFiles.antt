@@ -231,9 +231,6 @@ module _ (looks later : Looks ℕ) (task reader : Task ℕ) (Refused : Deny → 
       (λ stop refused. inr (stop, refused, refl)))
       (λ stop refused. inr (stop, refused, refl))
     where
-      now : List (List ℕ) → Here ℕ
-      now steps_link = symlink_start nat_eq later reader here.location (at link steps_link) inner
-
       inside : Result (Here ℕ) (Stop ℕ)
           → Result (Here ℕ) (Stop ℕ)
       inside r = then_walk r (λ reached.

@@ -5,6 +5,7 @@ use Rattle.vt_listing.proofs.table.MountTable.spot_under.Goals as goal
 
 pub path_down-requires : goal.path_down-requires
 path_down-requires c = record {
+  standing = c.requires.standing;
   once = c.requires.once c.args.top.filesystem.count;
   one_filesystem = λ i. record {
     count = sym (eqb-true c.args.top.filesystem.count c.args.directory.filesystem.count
@@ -19,6 +20,6 @@ returns-then-eq c = record {
 
 pub returns : goal.returns
 returns c = record {
-  ok = spot_apart c.args.self.now.filesystems.now c.args.top c.args.directory (search rules) (search rules)
-      (sym c.eq.ensures ∙ c.if-eq.false) c.has_own_numbers.ensures;
+  ok = spot_apart c.args.self.now.store.now c.args.top c.args.directory (search rules) (search rules)
+      (sym c.eq.ensures ∙ c.if-eq.false) c.has_own_nodes.ensures;
 }

@@ -1,7 +1,8 @@
 use Rattle.std.proofs.Common.{sym}
 use Rattle.vt_location.specs.Locations.{location_of}
-use Rattle.vt_ns.proofs.looking.LooksKept.{no_lower_directory}
+use Rattle.vt_ns.proofs.looking.UppersAsked.{no_lower_directory}
 use Rattle.vt_ns.proofs.looking.WorldLook.has_lower_directory.Goals as goal
 
 pub returns : goal.returns
-returns c = sym (no_lower_directory c.args.self.now c.is_held.ensures (location_of c.args._at) c.args._name.now)
+returns c =
+    sym (no_lower_directory c.args.self.now c.is_held.ensures (location_of c.args._at) c.requires c.args._name.now)

@@ -1,4 +1,4 @@
-use Rattle.std.proofs.Common.{◌∙◌, arith, nat_eq, sym}
+use Rattle.std.proofs.Common.{◌∙◌, rules, nat_eq, sym}
 use Rattle.vt_spec.specs.Lists.{holds_of}
 use Rattle.vt_location.specs.Numbers.{counted}
 use Rattle.vt_ns.proofs.looking.LooksKept.{no_points, points_seen}
@@ -8,13 +8,13 @@ use Rattle.vt_ns.specs.contracts.world.World.{the_view}
 pub returns-then-is_seen : goal.returns-then-is_seen
 returns-then-is_seen c =
     c.is_mount_point_in.ensures
-    ∙ points_seen (the_view c.self.inside) c.args.self.now c.self.view_is c.self.invariant c.args.at (omega arith)
-    (λ mount. holds_of (nat_eq (counted c.args.namespace.count)) mount.namespace)
+    ∙ points_seen (the_view c.self.inside) c.self.inside.store c.args.self.now c.self.view_is c.self.invariant
+    c.args.at (search rules) (λ mount. holds_of (nat_eq (counted c.args.namespace.count)) mount.namespace)
     (sym c.is_seen.ensures ∙ c.if-is_seen.true)
 
 pub returns-else-is_seen : goal.returns-else-is_seen
 returns-else-is_seen c =
     c.if-is_seen.false
-    ∙ sym (no_points (the_view c.self.inside) c.args.self.now c.self.view_is c.self.invariant c.args.at (omega arith)
-    (λ mount. holds_of (nat_eq (counted c.args.namespace.count)) mount.namespace)
+    ∙ sym (no_points (the_view c.self.inside) c.self.inside.store c.args.self.now c.self.view_is c.self.invariant
+    c.args.at (search rules) (λ mount. holds_of (nat_eq (counted c.args.namespace.count)) mount.namespace)
     (sym c.is_seen.ensures ∙ c.if-is_seen.false))

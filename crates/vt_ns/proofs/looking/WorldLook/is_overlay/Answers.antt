@@ -1,7 +1,11 @@
-use Rattle.std.proofs.Common.{sym}
+use Rattle.std.proofs.Common.{◌∙◌}
 use Rattle.vt_location.specs.Locations.{location_of}
-use Rattle.vt_ns.proofs.looking.LooksKept.{no_overlay}
+use Rattle.vt_ns.proofs.looking.OverlaysLooked.{overlay_is}
 use Rattle.vt_ns.proofs.looking.WorldLook.is_overlay.Goals as goal
+use Rattle.vt_ns.specs.contracts.world.World.{the_view}
 
 pub returns : goal.returns
-returns c = sym (no_overlay c.args.self.now c.is_held.ensures (location_of c.args._at))
+returns c =
+    c.is_overlay.ensures
+    ∙ overlay_is (the_view c.self.inside) c.self.inside.store c.args.self.now c.self.view_is c.self.invariant
+    (location_of c.args.at) c.shown.result.count c.shown.ensures

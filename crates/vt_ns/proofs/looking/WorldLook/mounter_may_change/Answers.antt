@@ -1,9 +1,10 @@
 use Rattle.std.proofs.Common.{Ok, ap, sym}
 use Rattle.vt_spec.specs.Errors.{unless}
 use Rattle.vt_location.specs.Locations.{location_of}
-use Rattle.vt_ns.proofs.looking.LooksKept.{unasked}
+use Rattle.vt_ns.proofs.looking.UppersAsked.{unasked}
 use Rattle.vt_ns.proofs.looking.WorldLook.mounter_may_change.Goals as goal
 
 pub returns : goal.returns
 returns c change asked =
-    ap (λ rules. unless rules (Ok tt)) (sym (unasked c.args.self.now c.is_held.ensures (location_of c.args._at) change))
+    ap (λ rules. unless rules (Ok tt))
+    (sym (unasked c.args.self.now c.is_held.ensures (location_of c.args._at) c.requires change))

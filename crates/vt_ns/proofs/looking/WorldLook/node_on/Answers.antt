@@ -1,26 +1,19 @@
-use Rattle.std.proofs.Common.{false, true, nat_eq, option_copied, ◌∙◌, ap, sym, arith}
-use Rattle.vt_spec.specs.Machine.World.{node_at}
-use Rattle.vt_location.proofs.NodeLemmas.{here_number}
-use Rattle.vt_location.specs.Locations.{location_of, number_of}
-use Rattle.vt_world.specs.WorldValue.{world_of}
-use Rattle.vt_ns.specs.Lent.{filesystem_of, lent}
-use Rattle.vt_ns.proofs.looking.Lending.{lends}
-use Rattle.vt_ns.proofs.looking.LooksKept.{born_at, no_node, node_is, seen_on}
+use Rattle.std.proofs.Common.{rules, false, sym, true, ◌∙◌}
+use Rattle.vt_detach.proofs.StoreShown.{store_stands}
+use Rattle.vt_ns.proofs.looking.LooksKept.{no_object, object_is, seen_on}
 use Rattle.vt_ns.proofs.looking.WorldLook.node_on.Goals as goal
 use Rattle.vt_ns.specs.contracts.world.World.{the_view}
 
+pub object-requires : goal.object-requires
+object-requires c = store_stands (the_view c.self.inside) c.self.inside.store c.self.invariant
+
 pub returns-then-eq : goal.returns-then-eq
 returns-then-eq c =
-    lends c.args.at.node.filesystem.count (number_of c.args.at.node) c.args.at.node.slot (option_copied c.node.result)
-    (node_at nat_eq (world_of c.args.self.now) (location_of c.args.at)) (omega arith)
-    (λ there. here_number c.args.at.node (born_at (the_view c.self.inside) c.args.self.now c.self.view_is
-    c.self.invariant c.args.at (omega arith) there))
-    ((rw c.plain.ensures at c.node.ensures)
-    ∙ node_is (the_view c.self.inside) c.args.self.now c.self.view_is c.self.invariant c.args.at (omega arith)
-    (seen_on c.args.self.now c.args.at c.args.ground true c.requires (sym c.eq.ensures ∙ c.if-eq.true)))
+    c.object.ensures
+    ∙ object_is (the_view c.self.inside) c.self.inside.store c.args.self.now c.self.view_is c.self.invariant c.args.at
+    (search rules) (seen_on c.args.self.now c.args.at c.args.ground true c.requires (sym c.eq.ensures ∙ c.if-eq.true))
 
 pub returns-else-eq : goal.returns-else-eq
 returns-else-eq c =
-    ap (lent (filesystem_of (number_of c.args.at.node)))
-    (sym (no_node (the_view c.self.inside) c.args.self.now c.self.view_is c.self.invariant c.args.at (omega arith)
-    (seen_on c.args.self.now c.args.at c.args.ground false c.requires (sym c.eq.ensures ∙ c.if-eq.false))))
+    sym (no_object (the_view c.self.inside) c.self.inside.store c.args.self.now c.self.view_is c.self.invariant c.args.at
+    (search rules) (seen_on c.args.self.now c.args.at c.args.ground false c.requires (sym c.eq.ensures ∙ c.if-eq.false)))

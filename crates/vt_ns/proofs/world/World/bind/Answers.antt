@@ -9,17 +9,18 @@ use Rattle.vt_permits.specs.GrantValue.{attachment_permit}
 use Rattle.vt_permits.specs.declared.grant.Attachment.TheVariants.{Bind}
 use Rattle.vt_ns.specs.contracts.world.World.{the_view}
 use Rattle.vt_detach.specs.Events.{Becomes, Permits}
-use Rattle.vt_world.specs.WorldValue.{WorldValue, entries_of, world_of}
+use Rattle.vt_world.specs.WorldValue.{WorldValue, world_of}
+use Rattle.vt_detach.proofs.OverlaysListed.{done_in_store, left_still}
 use Rattle.vt_detach.proofs.Staying.{IsDone}
 use Rattle.vt_attach.proofs.Binding.{bind_is_done, may_bind, source_there}
 use Rattle.vt_attach.specs.Grafted.{IsGrafted}
 use Rattle.vt_ns.specs.Counting.{counted_for}
 use Rattle.vt_ns.proofs.world.Counted.{counted_so}
 use Rattle.vt_ns.proofs.world.BoundEvents.{bind_place_there, parts_found, place_mounted}
-use Rattle.vt_world.specs.StoredWorld.{overlays_of_store}
+use Rattle.vt_world.specs.StoredWorld.{with_store}
 use Rattle.vt_detach.specs.Stored.{kept, merged_of}
-use Rattle.vt_detach.specs.Uses.{Kept, kept_of}
-use Rattle.vt_ns.proofs.world.StoresKept.{done_stored, kept_is, kept_still, none_attached, none_kept}
+use Rattle.vt_detach.specs.Uses.{kept_of}
+use Rattle.vt_ns.proofs.world.StoresKept.{kept_is}
 use Rattle.vt_ns.proofs.world.World.bind.Goals as goal
 
 pub mounts_bound-requires : goal.mounts_bound-requires
@@ -30,7 +31,8 @@ mounts_bound-requires c =
     (attachment_permit (Bind c.args.bind)))
     (sym c.self.view_is) c.requires in
     subst (λ (v : WorldValue). is_located_well nat_eq (world_of v) (location_of c.args.bind.source) ≡ true) c.self.view_is
-    (source_there (the_view c.self.inside) c.self.invariant c.args.name.now c.args.bind.source c.args.bind.destination c.args.bind.recursive permits)
+    (source_there (the_view c.self.inside) c.self.invariant c.args.name.now c.args.bind.source
+    c.args.bind.destination c.args.bind.recursive permits)
 
 pub parts-requires : goal.parts-requires
 parts-requires c =
@@ -40,7 +42,8 @@ parts-requires c =
     (attachment_permit (Bind c.args.bind)))
     (sym c.self.view_is) c.requires in
     place_mounted (the_view c.self.inside) c.args.bind.destination
-    (bind_place_there (the_view c.self.inside) c.self.invariant c.args.name.now c.args.bind.source c.args.bind.destination c.args.bind.recursive permits)
+    (bind_place_there (the_view c.self.inside) c.self.invariant c.args.name.now c.args.bind.source
+    c.args.bind.destination c.args.bind.recursive permits)
 
 pub attach_graft-requires-clause-may : goal.attach_graft-requires-clause-may
 attach_graft-requires-clause-may c =
@@ -58,20 +61,20 @@ attach_graft-requires-clause-may c =
     ∙ ap (λ (v : WorldValue). bind_tree nat_eq (world_of v) (location_of c.args.bind.source) c.args.bind.recursive)
     (sym c.self.view_is) in
     let parts_are : map mount_of c.deref.result.now ≡ parts_of nat_eq (world_of value) (location_of c.args.bind.destination) =
-    parts_found value c.args.self.now c.self.view_is c.self.invariant c.args.bind.destination c.in_ok-parts.parts.items c.deref.result.now c.deref.ensures.value c.in_ok-parts.ensures.ok in
-    may_bind value c.self.invariant c.args.name.now c.args.bind.source c.args.bind.recursive graft counts permits tree_is refl parts_are refl refl
+    parts_found value c.args.self.now c.self.view_is c.self.invariant c.args.bind.destination
+    c.in_ok-parts.parts.items c.deref.result.now c.deref.ensures.value c.in_ok-parts.ensures.ok in
+    may_bind value c.self.invariant c.args.name.now c.args.bind.source c.args.bind.recursive graft counts permits
+    tree_is refl parts_are refl refl
     c.are_ascending.ensures c.are_counted.ensures
 
 abbrev after : (c : goal.After-drop-tree-2) → WorldValue
-after c = record {
-  mounts = c.attach_graft.new.mounts;
-  groups = c.attach_graft.new.groups;
-  filesystems = c.attach_graft.new.store.plain;
-  overlays = overlays_of_store c.attach_graft.new.store;
-  namespaces = entries_of c.self.inside.namespaces.entries;
-  tasks = c.self.inside.tasks;
-  next = c.self.inside.next + c.in-Some.taken;
-}
+after c =
+    with_store c.attach_graft.new.store
+    (record (the_view c.self.inside) {
+      mounts = c.attach_graft.new.mounts;
+      groups = c.attach_graft.new.groups;
+      next = c.self.inside.next + c.in-Some.taken;
+    })
 
 -- the world then is the one that the permit leaves
 done : (c : goal.After-drop-tree-2) → IsDone (the_view c.self.inside) c.args.name.now
@@ -113,10 +116,15 @@ done c =
     subst (λ k. IsGrafted graft counts k c.self.inside.groups
     (kept c.attach_graft.new.mounts c.attach_graft.new.store) c.attach_graft.new.groups)
     (kept_is value c.self.inside.store) c.in_ok-attach_graft.ensures.ok in
-    done_stored value c.self.invariant c.args.name.now (attachment_permit (Bind c.args.bind)) _
-    c.attach_graft.new.store (kept_still value c.self.invariant (map merged_of c.attach_graft.new.store.overlays))
-    (ap (λ (k : Kept). k.overlays) grafted.done
-    ∙ none_attached grafted.copies (kept_of value).overlays (none_kept value c.self.invariant))
+    done_in_store value
+    (record value {
+      mounts = c.attach_graft.new.mounts;
+      groups = c.attach_graft.new.groups;
+      next = c.self.inside.next + c.in-Some.taken;
+    })
+    c.self.inside.store c.attach_graft.new.store c.self.invariant
+    (left_still c.self.inside.store.overlays c.attach_graft.new.store.overlays c.attach_graft.ensures.overlays)
+    c.args.name.now (attachment_permit (Bind c.args.bind)) permits
     (bind_is_done value c.self.invariant c.args.name.now c.args.bind.source c.args.bind.recursive graft counts
     permits tree_is refl parts_are refl refl c.attach_graft.new.mounts c.attach_graft.new.groups
     c.attach_graft.new.store.plain (map merged_of c.attach_graft.new.store.overlays)
@@ -139,9 +147,14 @@ returns-clause-counts c =
     ∙ ap (λ (v : WorldValue). bind_tree nat_eq (world_of v) (location_of c.args.bind.source) c.args.bind.recursive)
     (sym c.self.view_is) in
     let parts_are : map mount_of c.deref.result.now ≡ parts_of nat_eq (world_of value) (location_of c.args.bind.destination) =
-    parts_found value c.args.self.now c.self.view_is c.self.invariant c.args.bind.destination c.in_ok-parts.parts.items c.deref.result.now c.deref.ensures.value c.in_ok-parts.ensures.ok in
-    let one : c.len.result ≡ length c.deref.result.now = let many = c.len.ensures in let alike = c.deref.ensures.len in omega (arith, many, alike) in
-    let two : c.len-2.result ≡ length c.deref-2.result.now = let many = c.len-2.ensures in let alike = c.deref-2.ensures.len in omega (arith, many, alike) in
+    parts_found value c.args.self.now c.self.view_is c.self.invariant c.args.bind.destination
+    c.in_ok-parts.parts.items c.deref.result.now c.deref.ensures.value c.in_ok-parts.ensures.ok in
+    let one : c.len.result
+    ≡ length c.deref.result.now = let many = c.len.ensures in let alike = c.deref.ensures.len in omega
+    (arith, many, alike) in
+    let two : c.len-2.result
+    ≡ length c.deref-2.result.now = let many = c.len-2.ensures in let alike = c.deref-2.ensures.len in omega
+    (arith, many, alike) in
     let grows : c.self.inside.next + c.in-Some.taken
     ≡ value.next + 2 * (length c.deref.result.now * length c.deref-2.result.now) =
     ap (λ n. c.self.inside.next + n) (c.in-Some.ensures.count ∙ (λ i. 2 * (one i * two i))) in

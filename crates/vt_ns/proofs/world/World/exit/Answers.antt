@@ -4,7 +4,6 @@ use Rattle.vt_tasks.specs.TaskValue.{task_of}
 use Rattle.vt_ns.specs.contracts.world.World.{the_view}
 use Rattle.vt_detach.specs.Events.{Becomes, Permits}
 use Rattle.vt_detach.specs.NamespacesLeft.{without_file}
-use Rattle.vt_location.specs.Numbers.{counted}
 use Rattle.vt_detach.specs.Stored.{OverlaysLeft, kept, merged_of}
 use Rattle.vt_detach.specs.Uses.{kept_of, without_location}
 use Rattle.vt_world.specs.WorldValue.{WorldValue, entries_of}

@@ -11,18 +11,19 @@ use Rattle.vt_spec.specs.Machine.NewMounts.{new_mount}
 use Rattle.vt_spec.specs.Machine.Permits.Permit.{ToMountPlain}
 use Rattle.vt_ns.specs.contracts.world.World.{the_view}
 use Rattle.vt_detach.specs.Events.{Becomes, Permits}
-use Rattle.vt_world.specs.WorldValue.{WorldValue, entries_of, world_of}
+use Rattle.vt_world.specs.WorldValue.{WorldValue, world_of}
+use Rattle.vt_detach.proofs.OverlaysListed.{done_in_store, left_still}
 use Rattle.vt_detach.proofs.Staying.{IsDone}
 use Rattle.vt_attach.proofs.NewBase.{destination_there}
 use Rattle.vt_attach.proofs.NewFilesystems.{next_is_above}
 use Rattle.vt_attach.proofs.NewMounts.{may_mount, new_mount_is_done}
 use Rattle.vt_ns.proofs.world.Counted.{as_many_mounts}
 use Rattle.vt_ns.proofs.world.BoundEvents.{parts_found, place_mounted}
-use Rattle.vt_world.specs.StoredWorld.{overlays_of_store}
+use Rattle.vt_world.specs.StoredWorld.{with_store}
 use Rattle.vt_attach.specs.Grafted.{IsGrafted}
 use Rattle.vt_detach.specs.Stored.{kept, merged_of}
-use Rattle.vt_detach.specs.Uses.{Kept, kept_of, kept_with}
-use Rattle.vt_ns.proofs.world.StoresKept.{done_stored, kept_is, kept_still, none_attached, none_kept}
+use Rattle.vt_detach.specs.Uses.{kept_of, kept_with}
+use Rattle.vt_ns.proofs.world.StoresKept.{kept_is}
 use Rattle.vt_ns.proofs.world.World.mount_plain.Goals as goal
 
 pub parts-requires : goal.parts-requires
@@ -60,21 +61,20 @@ mount_new-requires-clause-may c =
     ≡ new_mount (counted c.self.inside.next) (inode_number c.self.inside.next 0) (flags_of c.args.flags) ∷ [] =
     ap (λ (mount : meant.Mount ℕ). mount ∷ []) c.mount_of_new.ensures in
     let parts_are : map mount_of c.deref.result.now ≡ parts_of nat_eq (world_of value) (location_of c.args.place) =
-    parts_found value c.args.self.now c.self.view_is c.self.invariant c.args.place c.in_ok-parts.parts.items c.deref.result.now c.deref.ensures.value c.in_ok-parts.ensures.ok in
+    parts_found value c.args.self.now c.self.view_is c.self.invariant c.args.place c.in_ok-parts.parts.items
+    c.deref.result.now c.deref.ensures.value c.in_ok-parts.ensures.ok in
     may_mount value c.self.invariant c.args.name.now graft counts
     (flags_of c.args.flags) permits refl tree_is parts_are refl refl
     c.are_ascending.ensures c.are_counted.ensures
 
 abbrev after : (c : goal.After-drop-parts-2) → WorldValue
-after c = record {
-  mounts = c.mount_new.new.mounts;
-  groups = c.mount_new.new.groups;
-  filesystems = c.mount_new.new.store.plain;
-  overlays = overlays_of_store c.mount_new.new.store;
-  namespaces = entries_of c.self.inside.namespaces.entries;
-  tasks = c.self.inside.tasks;
-  next = c.self.inside.next + c.in-Some.taken;
-}
+after c =
+    with_store c.mount_new.new.store
+    (record (the_view c.self.inside) {
+      mounts = c.mount_new.new.mounts;
+      groups = c.mount_new.new.groups;
+      next = c.self.inside.next + c.in-Some.taken;
+    })
 
 -- the world then is the one that the permit leaves
 done : (c : goal.After-drop-parts-2) → IsDone (the_view c.self.inside) c.args.name.now
@@ -114,11 +114,15 @@ done c =
     c.mount_new.new.groups)
     (λ i. kept_with c.self.inside.mounts (c.self.inside.store.plain ++ made.0 ∷ [])
     (kept_is value c.self.inside.store i).overlays) made.2 in
-    done_stored value c.self.invariant c.args.name.now
-    (ToMountPlain (location_of c.args.place) (flags_of c.args.flags)) _ c.mount_new.new.store
-    (kept_still value c.self.invariant (map merged_of c.mount_new.new.store.overlays))
-    (ap (λ (k : Kept). k.overlays) grafted.done
-    ∙ none_attached grafted.copies (kept_of value).overlays (none_kept value c.self.invariant))
+    done_in_store value
+    (record value {
+      mounts = c.mount_new.new.mounts;
+      groups = c.mount_new.new.groups;
+      next = c.self.inside.next + c.in-Some.taken;
+    })
+    c.self.inside.store c.mount_new.new.store c.self.invariant
+    (left_still c.self.inside.store.overlays c.mount_new.new.store.overlays c.in_ok-mount_new.ensures.overlays)
+    c.args.name.now (ToMountPlain (location_of c.args.place) (flags_of c.args.flags)) permits
     (new_mount_is_done value c.self.invariant c.args.name.now graft counts
     (flags_of c.args.flags) permits refl tree_is parts_are refl refl
     c.are_ascending.ensures c.are_counted.ensures made.0 made.1 (omega arith)
@@ -137,8 +141,11 @@ pub returns-clause-counts : goal.returns-clause-counts
 returns-clause-counts c =
     let value = the_view c.self.inside in
     let parts_are : map mount_of c.deref.result.now ≡ parts_of nat_eq (world_of value) (location_of c.args.place) =
-    parts_found value c.args.self.now c.self.view_is c.self.invariant c.args.place c.in_ok-parts.parts.items c.deref.result.now c.deref.ensures.value c.in_ok-parts.ensures.ok in
-    let one : c.len.result ≡ length c.deref.result.now = let many = c.len.ensures in let alike = c.deref.ensures.len in omega (arith, many, alike) in
+    parts_found value c.args.self.now c.self.view_is c.self.invariant c.args.place c.in_ok-parts.parts.items
+    c.deref.result.now c.deref.ensures.value c.in_ok-parts.ensures.ok in
+    let one : c.len.result
+    ≡ length c.deref.result.now = let many = c.len.ensures in let alike = c.deref.ensures.len in omega
+    (arith, many, alike) in
     let grows : c.self.inside.next + c.in-Some.taken ≡ value.next + 2 * (length c.deref.result.now * 2) =
     ap (λ n. c.self.inside.next + n) (c.in-Some.ensures.count ∙ (λ i. 2 * (one i * 2))) in
     let parts = as_many_mounts c.deref.result.now (parts_of nat_eq (world_of value) (location_of c.args.place))

@@ -9,7 +9,7 @@ use Rattle.vt_world.specs.WorldValue.{WorldValue, world_of}
 use Rattle.vt_ns.proofs.world.World.mounts.Goals as goal
 
 pub mount_lines-requires : goal.mount_lines-requires
-mount_lines-requires c = record { once = c.table.ensures.once }
+mount_lines-requires c = record { standing = c.table.ensures.standing; once = c.table.ensures.once }
 
 pub returns-in-Some : goal.returns-in-Some
 returns-in-Some c = record {

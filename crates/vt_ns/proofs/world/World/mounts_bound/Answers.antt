@@ -1,6 +1,6 @@
-use Rattle.std.proofs.Common.{ap, arith, map, nat_eq, subst, sym, true, ◌≡◌, ◌∙◌}
+use Rattle.std.proofs.Common.{ap, map, nat_eq, rules, subst, sym, true, ◌≡◌, ◌∙◌}
 use Rattle.std.proofs.lemmas.Result.{IfOk-weaker}
-use Rattle.vt_location.specs.Locations.{location_of}
+use Rattle.vt_location.specs.Locations.{is_small_node, location_of}
 use Rattle.vt_location.specs.Numbers.{counted}
 use Rattle.vt_spec.specs.Machine.Attach.{bind_tree}
 use Rattle.vt_spec.specs.Machine.Invariants.{is_located_well}
@@ -13,6 +13,7 @@ use Rattle.vt_ns.proofs.world.World.mounts_bound.Goals as goal
 pub returns : goal.returns
 returns c = record {
   ok = let value = the_view c.self.inside in
+      let small : is_small_node c.args.source.node ≡ true = search rules in
       let there : is_located_well nat_eq (world_of value) (location_of c.args.source) ≡ true =
       subst (λ (v : WorldValue). is_located_well nat_eq (world_of v) (location_of c.args.source) ≡ true)
       (sym c.self.view_is) c.requires in
@@ -23,7 +24,8 @@ returns c = record {
       (bind_tree nat_eq (world_of v) (location_of c.args.source) c.args.recursive)) (sym c.self.view_is) in
       IfOk-weaker c.bound_mounts.result _ _ (λ tree is. is
       ∙ tree_bound value c.self.invariant c.args.source c.args.recursive
-      (omega arith) there c.are_ascending.ensures c.deref.result.now are
-      ∙ ap (λ (v : WorldValue). bind_tree nat_eq (world_of v) (location_of c.args.source) c.args.recursive) c.self.view_is)
+      small there c.are_ascending.ensures c.deref.result.now are
+      ∙ ap (λ (v : WorldValue). bind_tree nat_eq (world_of v) (location_of c.args.source) c.args.recursive)
+      c.self.view_is)
       c.bound_mounts.ensures;
 }

@@ -1,5 +1,4 @@
 use Rattle.std.proofs.Common.{ap, arith, is_some, length, map, nat_eq, refl, subst, sym, true, ◌≡◌, ◌+◌, ◌*◌, ◌∙◌, List}
-use Rattle.std.specs.Prelude.{drop}
 use Rattle.vt_location.specs.Locations.{location_of}
 use Rattle.vt_location.specs.MountValue.{mount_of}
 use Rattle.vt_location.specs.Numbers.{counted}
@@ -12,7 +11,8 @@ use Rattle.vt_spec.specs.Machine.World.{mount_at, mount_numbered}
 use Rattle.vt_spec.specs.Machine.Permits.Permit.{ToMove}
 use Rattle.vt_ns.specs.contracts.world.World.{the_view}
 use Rattle.vt_detach.specs.Events.{Becomes, Permits}
-use Rattle.vt_world.specs.WorldValue.{WorldValue, entries_of, world_of}
+use Rattle.vt_world.specs.WorldValue.{WorldValue, world_of}
+use Rattle.vt_detach.proofs.OverlaysListed.{done_in_store, left_still}
 use Rattle.vt_detach.proofs.Staying.{IsDone}
 use Rattle.vt_attach.proofs.MovedDone.{may_move, move_is_done}
 use Rattle.vt_attach.specs.Moved.{IsMovedBy}
@@ -20,10 +20,10 @@ use Rattle.vt_ns.specs.Counting.{counted_for}
 use Rattle.vt_ns.proofs.world.Counted.{counted_so}
 use Rattle.vt_ns.proofs.world.BoundEvents.{parts_found, place_mounted}
 use Rattle.vt_ns.proofs.world.MovedEvents.{move_place_there, moved_there}
-use Rattle.vt_world.specs.StoredWorld.{overlays_of_store}
+use Rattle.vt_world.specs.StoredWorld.{with_store}
 use Rattle.vt_detach.specs.Stored.{kept, merged_of}
-use Rattle.vt_detach.specs.Uses.{Kept, kept_of}
-use Rattle.vt_ns.proofs.world.StoresKept.{done_stored, kept_is, kept_still, none_attached, none_kept}
+use Rattle.vt_detach.specs.Uses.{kept_of}
+use Rattle.vt_ns.proofs.world.StoresKept.{kept_is}
 use Rattle.vt_ns.proofs.world.World.move_everywhere.Goals as goal
 
 pub mounts_below-requires : goal.mounts_below-requires
@@ -68,21 +68,20 @@ move_tree-requires-clause-may c =
     (mount_numbered nat_eq (world_of v) (counted c.args.mount.count)))
     (sym c.self.view_is) in
     let parts_are : map mount_of c.deref.result.now ≡ parts_of nat_eq (world_of value) (location_of c.args.place) =
-    parts_found value c.args.self.now c.self.view_is c.self.invariant c.args.place c.in_ok-parts.parts.items c.deref.result.now c.deref.ensures.value c.in_ok-parts.ensures.ok in
+    parts_found value c.args.self.now c.self.view_is c.self.invariant c.args.place c.in_ok-parts.parts.items
+    c.deref.result.now c.deref.ensures.value c.in_ok-parts.ensures.ok in
     may_move value c.self.invariant c.args.name.now
     (counted c.args.mount.count) graft counts permits tree_is refl parts_are refl refl
     c.are_ascending.ensures c.are_counted.ensures
 
 abbrev after : (c : goal.After-drop-tree-2) → WorldValue
-after c = record {
-  mounts = c.move_tree.new.mounts;
-  groups = c.move_tree.new.groups;
-  filesystems = c.move_tree.new.store.plain;
-  overlays = overlays_of_store c.move_tree.new.store;
-  namespaces = entries_of c.self.inside.namespaces.entries;
-  tasks = c.self.inside.tasks;
-  next = c.self.inside.next + c.in-Some.taken;
-}
+after c =
+    with_store c.move_tree.new.store
+    (record (the_view c.self.inside) {
+      mounts = c.move_tree.new.mounts;
+      groups = c.move_tree.new.groups;
+      next = c.self.inside.next + c.in-Some.taken;
+    })
 
 -- the world then is the one that the permit leaves
 done : (c : goal.After-drop-tree-2) → IsDone (the_view c.self.inside) c.args.name.now
@@ -129,12 +128,15 @@ done c =
     subst (λ k. IsMovedBy graft counts k c.self.inside.groups
     (kept c.move_tree.new.mounts c.move_tree.new.store) c.move_tree.new.groups)
     (kept_is value c.self.inside.store) c.in_ok-move_tree.ensures.ok in
-    done_stored value c.self.invariant c.args.name.now
-    (ToMove (counted c.args.mount.count) (location_of c.args.place)) _ c.move_tree.new.store
-    (kept_still value c.self.invariant (map merged_of c.move_tree.new.store.overlays))
-    (ap (λ (k : Kept). k.overlays) moved.done
-    ∙ none_attached (drop (length c.deref-2.result.now) moved.copies) (kept_of value).overlays
-    (none_kept value c.self.invariant))
+    done_in_store value
+    (record value {
+      mounts = c.move_tree.new.mounts;
+      groups = c.move_tree.new.groups;
+      next = c.self.inside.next + c.in-Some.taken;
+    })
+    c.self.inside.store c.move_tree.new.store c.self.invariant
+    (left_still c.self.inside.store.overlays c.move_tree.new.store.overlays c.move_tree.ensures.overlays)
+    c.args.name.now (ToMove (counted c.args.mount.count) (location_of c.args.place)) permits
     (move_is_done value c.self.invariant c.args.name.now (counted c.args.mount.count) graft counts permits tree_is
     refl parts_are refl refl shared c.move_tree.new.mounts c.move_tree.new.groups c.move_tree.new.store.plain
     (map merged_of c.move_tree.new.store.overlays) (c.self.inside.next + c.in-Some.taken) moved
@@ -159,7 +161,8 @@ returns-clause-counts c =
     (mount_numbered nat_eq (world_of v) (counted c.args.mount.count)))
     (sym c.self.view_is) in
     let parts_are : map mount_of c.deref.result.now ≡ parts_of nat_eq (world_of value) (location_of c.args.place) =
-    parts_found value c.args.self.now c.self.view_is c.self.invariant c.args.place c.in_ok-parts.parts.items c.deref.result.now c.deref.ensures.value c.in_ok-parts.ensures.ok in
+    parts_found value c.args.self.now c.self.view_is c.self.invariant c.args.place c.in_ok-parts.parts.items
+    c.deref.result.now c.deref.ensures.value c.in_ok-parts.ensures.ok in
     let one : c.len.result
     ≡ length c.deref.result.now = let many = c.len.ensures in let alike = c.deref.ensures.len in omega
     (arith, many, alike) in

@@ -26,7 +26,8 @@ invariant_of-self-then-recursive c =
     (subst (λ one. Permits one c.args.name.now (ToSetType number (type_word_of c.args.change.word) c.args.change.recursive))
     (sym c.self.view_is) c.requires)
     c.change_types.new.mounts c.change_types.new.groups c.in_ok-self-inside.field-0
-    (subst (λ some. IsRetyped (type_word_of c.args.change.word) c.self.inside.next c.in_ok-self-inside.field-0 some c.self.inside.groups c.change_types.new.groups c.self.inside.mounts c.change_types.new.mounts)
+    (subst (λ some. IsRetyped (type_word_of c.args.change.word) c.self.inside.next c.in_ok-self-inside.field-0 some
+    c.self.inside.groups c.change_types.new.groups c.self.inside.mounts c.change_types.new.mounts)
     numbers c.in_ok-self-inside.ensures.ok)).held
 
 pub returns-then-recursive-clause-ok : goal.returns-then-recursive-clause-ok
@@ -47,7 +48,8 @@ returns-then-recursive-clause-ok c =
     (subst (λ one. Permits one c.args.name.now (ToSetType number (type_word_of c.args.change.word) c.args.change.recursive))
     (sym c.self.view_is) c.requires)
     c.change_types.new.mounts c.change_types.new.groups c.in_ok-self-inside.field-0
-    (subst (λ some. IsRetyped (type_word_of c.args.change.word) c.self.inside.next c.in_ok-self-inside.field-0 some c.self.inside.groups c.change_types.new.groups c.self.inside.mounts c.change_types.new.mounts)
+    (subst (λ some. IsRetyped (type_word_of c.args.change.word) c.self.inside.next c.in_ok-self-inside.field-0 some
+    c.self.inside.groups c.change_types.new.groups c.self.inside.mounts c.change_types.new.mounts)
     numbers c.in_ok-self-inside.ensures.ok)).becomes
 
 pub invariant_of-self-2 : goal.invariant_of-self-2
@@ -61,7 +63,8 @@ invariant_of-self-2 c =
     (subst (λ one. Permits one c.args.name.now (ToSetType number (type_word_of c.args.change.word) c.args.change.recursive))
     (sym c.self.view_is) c.requires)
     c.change_types-2.new.mounts c.change_types-2.new.groups c.in_ok-self-inside-2.field-0
-    (subst (λ some. IsRetyped (type_word_of c.args.change.word) c.self.inside.next c.in_ok-self-inside-2.field-0 some c.self.inside.groups c.change_types-2.new.groups c.self.inside.mounts c.change_types-2.new.mounts)
+    (subst (λ some. IsRetyped (type_word_of c.args.change.word) c.self.inside.next c.in_ok-self-inside-2.field-0 some
+    c.self.inside.groups c.change_types-2.new.groups c.self.inside.mounts c.change_types-2.new.mounts)
     numbers c.in_ok-self-inside-2.ensures.ok)).held
 
 pub returns-clause-ok : goal.returns-clause-ok
@@ -81,7 +84,8 @@ returns-clause-ok c =
     (subst (λ one. Permits one c.args.name.now (ToSetType number (type_word_of c.args.change.word) c.args.change.recursive))
     (sym c.self.view_is) c.requires)
     c.change_types-2.new.mounts c.change_types-2.new.groups c.in_ok-self-inside-2.field-0
-    (subst (λ some. IsRetyped (type_word_of c.args.change.word) c.self.inside.next c.in_ok-self-inside-2.field-0 some c.self.inside.groups c.change_types-2.new.groups c.self.inside.mounts c.change_types-2.new.mounts)
+    (subst (λ some. IsRetyped (type_word_of c.args.change.word) c.self.inside.next c.in_ok-self-inside-2.field-0 some
+    c.self.inside.groups c.change_types-2.new.groups c.self.inside.mounts c.change_types-2.new.mounts)
     numbers c.in_ok-self-inside-2.ensures.ok)).becomes
 
 pub returns-then-recursive-clause-counts : goal.returns-then-recursive-clause-counts

@@ -1,22 +1,37 @@
-use Rattle.std.proofs.Common.{ap, subst, sym, ◌∙◌}
+use Rattle.std.proofs.Common.{ap, nat_eq, subst, ◌∙◌}
+use Rattle.vt_spec.specs.FileTree.{ancestors}
+use Rattle.vt_spec.specs.Machine.World.{filesystem_numbered, is_overlay}
+use Rattle.vt_location.specs.Numbers.{counted}
 use Rattle.vt_world.specs.WorldValue.{WorldValue, world_of}
-use Rattle.vt_fs.specs.FilesystemsValue.{filesystems_seen}
-use Rattle.vt_listing.specs.Shown.{NameDirectoriesOnce}
 use Rattle.vt_group.specs.Grouping.{master_in}
 use Rattle.vt_mount.specs.MountsValue.{mounts_in}
 use Rattle.vt_ns.specs.contracts.world.World.{the_view}
-use Rattle.vt_detach.proofs.Overlaid.{only_plain_ones}
+use Rattle.vt_detach.proofs.StoreShown.{files_shown, store_stands}
+use Rattle.vt_ns.proofs.looking.StoreLooked.{above_shown, overlay_shown}
 use Rattle.vt_ns.proofs.world.ListedWorlds.{named_once}
 use Rattle.vt_ns.proofs.world.World.table.Goals as goal
 
 pub returns-clause-shown : goal.returns-clause-shown
-returns-clause-shown c = record {
-  mounts = ap (λ (value : WorldValue). mounts_in value.mounts) c.self.view_is;
-  masters = λ group. ap (λ (value : WorldValue). master_in value.groups group) c.self.view_is;
-  filesystems = ap filesystems_seen c.plain.ensures ∙ sym (only_plain_ones (the_view c.self.inside) c.self.invariant)
-      ∙ ap (λ (value : WorldValue). (world_of value).filesystems) c.self.view_is;
-}
+returns-clause-shown c =
+    let base = the_view c.self.inside in
+    let store = c.self.inside.store in
+    record {
+      mounts = ap (λ (value : WorldValue). mounts_in value.mounts) c.self.view_is;
+      masters = λ group. ap (λ (value : WorldValue). master_in value.groups group) c.self.view_is;
+      overlays = λ count. overlay_shown base store c.self.invariant count
+          ∙ ap (λ (value : WorldValue). is_overlay (filesystem_numbered nat_eq (world_of value) (counted count)))
+          c.self.view_is;
+      trees = λ count. files_shown base store c.self.invariant count
+          ∙ ap (λ (value : WorldValue). (filesystem_numbered nat_eq (world_of value) (counted count)).files.tree)
+          c.self.view_is;
+      above = λ count directory. above_shown base store c.self.invariant count directory
+          ∙ ap (λ (value : WorldValue). ancestors nat_eq
+          (filesystem_numbered nat_eq (world_of value) (counted count)).files directory)
+          c.self.view_is;
+    }
+
+pub returns-clause-standing : goal.returns-clause-standing
+returns-clause-standing c = store_stands (the_view c.self.inside) c.self.inside.store c.self.invariant
 
 pub returns-clause-once : goal.returns-clause-once
-returns-clause-once c =
-    subst NameDirectoriesOnce (sym c.plain.ensures) (named_once (the_view c.self.inside) c.self.invariant)
+returns-clause-once c = named_once (the_view c.self.inside) c.self.inside.store c.self.invariant

@@ -1,4 +1,4 @@
-use Rattle.std.proofs.Common.{map, refl, subst, sym, List, ℕ, ap, ◌∙◌}
+use Rattle.std.proofs.Common.{map, refl, subst, sym, List, ℕ}
 use Rattle.std.proofs.lemmas.List.Sorted.{IsPermutation-map}
 use Rattle.vt_location.specs.declared.numbers.MountId.{MountId as MountNumber}
 use Rattle.vt_location.specs.Numbers.{counted}
@@ -7,28 +7,24 @@ use Rattle.vt_spec.specs.Machine.Permits.Permit.{ToUnmountLazily}
 use Rattle.vt_spec.specs.Machine.World.{World}
 use Rattle.vt_ns.specs.contracts.world.World.{the_view}
 use Rattle.vt_detach.specs.Events.{Becomes, Permits}
-use Rattle.vt_world.specs.WorldValue.{WorldValue, entries_of, world_of}
+use Rattle.vt_world.specs.WorldValue.{WorldValue, world_of}
+use Rattle.vt_detach.proofs.OverlaysListed.{done_in_store}
 use Rattle.vt_detach.proofs.Staying.{IsDone}
 use Rattle.vt_detach.specs.Stored.{kept, merged_of}
-use Rattle.vt_detach.specs.Uses.{Kept, kept_of, kept_with}
+use Rattle.vt_detach.specs.Uses.{kept_of}
 use Rattle.vt_attach.specs.Planned.{Point}
 use Rattle.vt_ns.specs.Unmounting.{GoTogether}
 use Rattle.vt_ns.proofs.world.UnmountedEverywhere.{unmounted_lazily}
-use Rattle.vt_world.specs.StoredWorld.{overlays_of_store}
-use Rattle.vt_ns.proofs.world.StoresKept.{done_stored, kept_is, kept_still, none_kept, none_together}
+use Rattle.vt_world.specs.StoredWorld.{with_store}
+use Rattle.vt_ns.proofs.world.StoresKept.{kept_is}
 use Rattle.vt_ns.proofs.world.World.unmount_lazily_everywhere.Goals as goal
 
 abbrev after : (c : goal.After-drop-plan-3) → WorldValue
-after c = record {
-  mounts = c.take_away.new.mounts;
-  groups = c.take_away.new.groups;
-  filesystems = c.take_away.new.store.plain;
-  overlays = overlays_of_store c.take_away.new.store;
-  namespaces = entries_of c.self.inside.namespaces.entries;
-  tasks = c.self.inside.tasks;
-  next = c.self.inside.next;
-}
+after c =
+    with_store c.take_away.new.store
+    (record (the_view c.self.inside) { mounts = c.take_away.new.mounts; groups = c.take_away.new.groups })
 
+-- the world then is the one that the permit leaves
 done : (c : goal.After-drop-plan-3)
     → IsDone (the_view c.self.inside) c.args.name.now (ToUnmountLazily (counted c.args.mount.count)) (after c)
 done c =
@@ -38,26 +34,27 @@ done c =
     record { mounts = refl; groups = c.self.invariant.groups; living = c.self.invariant.in_world.mounts.groups } in
     let planned : List ℕ = map (λ id. counted id.count) c.in_ok-plan.plan.gone.items in
     let gone : List ℕ = map (λ id. counted id.count) c.newest_first.new.plan.gone.items in
+    let permits = subst (λ one. Permits one c.args.name.now (ToUnmountLazily (counted c.args.mount.count)))
+    (sym c.self.view_is) c.requires in
     let go : GoTogether gone c.in_ok-plan.plan.points.items (kept_of value) c.self.inside.groups
     (kept c.take_away.new.mounts c.take_away.new.store) c.take_away.new.groups =
-    (subst (λ (points : List Point). GoTogether gone points (kept_of value)
+    subst (λ (points : List Point). GoTogether gone points (kept_of value)
     c.self.inside.groups (kept c.take_away.new.mounts c.take_away.new.store) c.take_away.new.groups)
-    c.newest_first.ensures.points (subst (λ k. GoTogether gone c.newest_first.new.plan.points.items k c.self.inside.groups
-    (kept c.take_away.new.mounts c.take_away.new.store) c.take_away.new.groups) (kept_is (the_view c.self.inside) c.self.inside.store) c.in_ok-take_away.ensures.ok)) in
-    done_stored value c.self.invariant c.args.name.now (ToUnmountLazily (counted c.args.mount.count)) _ c.take_away.new.store
-    (kept_still value c.self.invariant (map merged_of c.take_away.new.store.overlays))
-    (none_together gone (kept_with go.between go.files go.merged) go.groups (kept c.take_away.new.mounts c.take_away.new.store)
-    c.take_away.new.groups (ap (λ (k : Kept). k.overlays) go.moved ∙ none_kept value c.self.invariant) go.together)
-    (unmounted_lazily value c.self.invariant c.args.name.now (counted c.args.mount.count)
-    (subst (λ one. Permits one c.args.name.now (ToUnmountLazily (counted c.args.mount.count)))
-    (sym c.self.view_is) c.requires)
+    c.newest_first.ensures.points
+    (subst (λ k. GoTogether gone c.newest_first.new.plan.points.items k c.self.inside.groups
+    (kept c.take_away.new.mounts c.take_away.new.store) c.take_away.new.groups)
+    (kept_is value c.self.inside.store) c.in_ok-take_away.ensures.ok) in
+    done_in_store value (record value { mounts = c.take_away.new.mounts; groups = c.take_away.new.groups })
+    c.self.inside.store c.take_away.new.store c.self.invariant c.in_ok-take_away.ensures.overlays
+    c.args.name.now (ToUnmountLazily (counted c.args.mount.count)) permits
+    (unmounted_lazily value c.self.invariant c.args.name.now (counted c.args.mount.count) permits
     planned gone c.in_ok-plan.plan.points.items
     (IsPermutation-map (λ (id : MountNumber). counted id.count)
     c.in_ok-plan.plan.gone.items c.newest_first.new.plan.gone.items c.newest_first.ensures.gone)
     (c.in_ok-plan.ensures.gone world seen c.self.invariant.in_world.mounts) (c.in_ok-plan.ensures.left world refl)
     (c.in_ok-plan.ensures.each world refl)
-    c.take_away.new.mounts c.take_away.new.groups c.take_away.new.store.plain (map merged_of c.take_away.new.store.overlays)
-    go)
+    c.take_away.new.mounts c.take_away.new.groups c.take_away.new.store.plain
+    (map merged_of c.take_away.new.store.overlays) go)
 
 pub invariant_of-self-2 : goal.invariant_of-self-2
 invariant_of-self-2 c = (done c).held

@@ -1,0 +1,360 @@
+-- What lies in a layer of an overlay of a store is what the world that holds it locks.
+use Rattle.std.proofs.Common.{◌≡◌, refl, sym, ap, subst, ◌∙◌, ⊎_elim, inl, inr, true≢false, ℕ, ◌<◌, nat_eq, eq-eqb, eqb-true, Bool, true, false, cond, not, ◌&&◌, ◌||◌, List, [], ◌∷◌, ◌++◌, filter, flat_map, map, Option, Some, None, is_some, unwrap_or}
+use Rattle.std.specs.List.{list_all, list_any}
+use Rattle.std.proofs.Math.Bool.{and-false, or-false}
+use Rattle.std.proofs.lemmas.Bool.{and_parts, ltb-true}
+use Rattle.vt_spec.proofs.Found.{found_among}
+use Rattle.vt_spec.proofs.Lists.{Among, any_from_among, none_from_among}
+use Rattle.vt_spec.proofs.NodeChanges.{entry_from}
+use Rattle.vt_spec.proofs.Truths.{and_true_left}
+use Rattle.vt_spec.specs.FileTree.{FileTree, has_entry_to, is_directory_under, is_file_under, is_under}
+use Rattle.vt_spec.specs.Inodes.{node_in}
+use Rattle.vt_spec.specs.Lists.{holds_of}
+use Rattle.vt_spec.specs.Machine.Invariants.{is_plain_layer}
+use Rattle.vt_spec.specs.Machine.Locked.{counts_in_layer, is_locked, is_locked_at, is_object_of, lies_in_layer, lies_or_counts_under, live_layers, of_overlay, overlay_or, overlays}
+use Rattle.vt_spec.specs.Machine.World.{Filesystem, Layer, Overlay, World, filesystem_numbered, is_overlay, layers_of, mount_at}
+use Rattle.vt_spec.specs.Tree.{Node, is_directory_node}
+use Rattle.vt_spec.specs.TreeInvariant.{HasOwnParents, IsTree}
+use Rattle.vt_laws_letting_go.proofs.Lists.{among-from_filter, among-map, among_from_all, passes}
+use Rattle.vt_laws_trees.proofs.trees.TreesOfWorlds.{numbered_all}
+use Rattle.vt_group.proofs.IndexLemmas.{any_flat}
+use Rattle.vt_location.specs.declared.births.Birth.{Birth}
+use Rattle.vt_location.specs.declared.births.Birth.TheVariants.{Below, Here}
+use Rattle.vt_location.specs.declared.locations.InodeRef.{InodeRef}
+use Rattle.vt_location.specs.declared.locations.Location.{Location}
+use Rattle.vt_location.specs.declared.locations.NodeRef.{NodeRef}
+use Rattle.vt_location.specs.Locations.{inode_of, is_small_node, location_of, number_of, plain_at}
+use Rattle.vt_location.specs.Numbers.{counted, is_own_number}
+use Rattle.vt_location.proofs.NodeLemmas.{no_inodes, small_parts}
+use Rattle.vt_location.proofs.NumberLemmas.{counted_test, own_inode, slot_of}
+use Rattle.vt_fs.specs.FilesystemsValue.{FilesystemEntry, Filesystems, entry_of, files_at, files_seen, filesystem_seen, no_entry}
+use Rattle.vt_fs.specs.Laws.{ParentsAreNamed}
+use Rattle.vt_fs.proofs.Parents.{parents_named}
+use Rattle.vt_merge.specs.declared.layers.LayerRef.{LayerRef}
+use Rattle.vt_overlay.specs.MergedTree.{layer_seen}
+use Rattle.vt_store.specs.Locks.{is_in_layer, lies_in, lies_in_overlay}
+use Rattle.vt_store.specs.OverlaysValue as stored
+use Rattle.vt_store.specs.StoreValue.{StoreValue}
+use Rattle.vt_world.specs.Held.{HasOwnInodes, IsHeld}
+use Rattle.vt_world.specs.StoredWorld.{overlay_of_store, overlays_of_store, with_store}
+use Rattle.vt_world.specs.WorldValue.{WorldValue, overlay_seen, overlays_seen, world_of}
+use Rattle.vt_detach.specs.Looking.{is_seen}
+use Rattle.vt_detach.proofs.LookLemmas.{unseen_node}
+use Rattle.vt_detach.proofs.Overlaid.{overlays_are, plain_one_among}
+use Rattle.vt_detach.proofs.PlainFound.{counted_where_plain, overlay_among}
+
+-- tests that agree on the elements of a list are passed by some alike
+any_alike : {A : Type 0} (one other : A → Bool) (list : List A) → ((a : A) → Among a list → one a ≡ other a)
+    → list_any one list ≡ list_any other list
+any_alike one other [] same = refl
+any_alike one other (a ∷ rest) same =
+    λ i. same a (inl refl) i || any_alike one other rest (λ b m. same b (inr m)) i
+
+any_mapped : {A B : Type 0} (test : B → Bool) (change : A → B) (list : List A)
+    → list_any test (map change list) ≡ list_any (λ a. test (change a)) list
+any_mapped test change [] = refl
+any_mapped test change (a ∷ rest) = ap (λ b. test (change a) || b) (any_mapped test change rest)
+
+not_so : (b : Bool) → not b ≡ true → b ≡ false
+not_so true e = absurd (true≢false (sym e))
+not_so false e = refl
+
+-- an inode of a plain filesystem was born there
+born_plain : (plain : Filesystems) → ((entry : FilesystemEntry) → Among entry plain → HasOwnInodes entry) → (count : ℕ)
+    (node : NodeRef) → is_small_node node ≡ true
+    → is_some ((files_at plain count).tree.node (number_of node)) ≡ true → node.birth ≡ Here
+born_plain plain own count node small there = by (entry_of plain count) refl there
+  where
+    by : (o : Option FilesystemEntry) → entry_of plain count ≡ o
+        → is_some ((files_seen (unwrap_or o (no_entry count))).tree.node (number_of node)) ≡ true → node.birth ≡ Here
+    by None e there = absurd (true≢false (sym there))
+    by (Some entry) e there = of_number (is_own_number entry.count (number_of node)) refl
+      where
+        of_number : (b : Bool) → is_own_number entry.count (number_of node) ≡ b → node.birth ≡ Here
+        of_number false other =
+            absurd (true≢false (sym there ∙ ap (λ o. is_some (node_in o))
+            (own entry (found_among (λ (one : FilesystemEntry). nat_eq count one.count) plain entry e)
+            (number_of node) other)))
+        of_number true is =
+            let slot = slot_of entry.count (number_of node) (own_inode entry.count (number_of node) is) in
+            no_inodes node entry.count slot.0 (small_parts node small)
+            (ltb-true entry.count 18446744073709551616 (and_true_left _ _ is)) slot.1 slot.2
+
+-- the inode that a node is, if it was born in its filesystem
+pub record IsPlainNode (node : NodeRef) (inode : InodeRef) : Type 0 where
+  pub filesystem : inode.filesystem.count ≡ node.filesystem.count
+  pub number : inode_of inode ≡ number_of node
+
+pub plain_number : (node : NodeRef) (inode : InodeRef) → plain_at node node.birth ≡ Some inode → IsPlainNode node inode
+plain_number node inode e = by node.birth refl e
+  where
+    by : (birth : Birth) → node.birth ≡ birth → plain_at node birth ≡ Some inode → IsPlainNode node inode
+    by Here here e =
+        let same : inode ≡ record { filesystem = node.filesystem; slot = node.slot } = cc in
+        record {
+          filesystem = ap (λ (one : InodeRef). one.filesystem.count) same;
+          number = ap inode_of same
+              ∙ ap (λ (birth : Birth). number_of (record node { birth = birth })) (sym here);
+        }
+    by (Below layer directory rank) below e = absurd cc
+
+pub born_below : (node : NodeRef) → plain_at node node.birth ≡ None → node.birth ≡ Here → ⊥
+born_below node none here =
+    let wrong : plain_at node Here ≡ None = ap (plain_at node) (sym here) ∙ none in
+    absurd cc
+
+module _ (base : WorldValue) (store : StoreValue) (held : IsHeld (with_store store base)) where
+  abbrev kept : WorldValue
+  kept = with_store store base
+
+  abbrev world : World ℕ
+  world = world_of (with_store store base)
+
+  -- no upper inode counts as under a layer
+  uncounted : (filesystem number : ℕ) (layer : Layer ℕ)
+      → list_any (counts_in_layer nat_eq world filesystem number layer) (overlays world) ≡ false
+  uncounted filesystem number layer =
+      none_from_among (counts_in_layer nat_eq world filesystem number layer) (overlays world) (λ merged m.
+      by merged merged.overlay refl (among_from_all (λ (f : Filesystem ℕ).
+      of_overlay false (λ overlay. is_some overlay.upper) f ≡ false) world.filesystems held.overlays.read_only merged
+      (among-from_filter is_overlay world.filesystems merged m).0))
+    where
+      without : (merged : Filesystem ℕ) (overlay : Overlay ℕ) (o : Option (Layer ℕ)) → is_some o ≡ false
+          → (holds_of (λ upper. lies_in_layer nat_eq world upper.filesystem upper.directory layer) o
+          && is_object_of nat_eq filesystem number merged overlay) ≡ false
+      without merged overlay None e = refl
+      without merged overlay (Some upper) e = absurd (true≢false e)
+
+      by : (merged : Filesystem ℕ) (o : Option (Overlay ℕ)) → merged.overlay ≡ o
+          → of_overlay false (λ overlay. is_some overlay.upper) merged ≡ false
+          → counts_in_layer nat_eq world filesystem number layer merged ≡ false
+      by merged None e none =
+          ap (overlay_or false (λ overlay.
+          holds_of (λ upper. lies_in_layer nat_eq world upper.filesystem upper.directory layer) overlay.upper
+          && is_object_of nat_eq filesystem number merged overlay)) e
+      by merged (Some overlay) e none =
+          ap (overlay_or false (λ overlay.
+          holds_of (λ upper. lies_in_layer nat_eq world upper.filesystem upper.directory layer) overlay.upper
+          && is_object_of nat_eq filesystem number merged overlay)) e
+          ∙ without merged overlay overlay.upper
+          (sym (ap (overlay_or false (λ overlay. is_some overlay.upper)) e) ∙ none)
+
+  -- the layers of its overlays
+  live_are : (entries : List stored.OverlayEntry)
+      → flat_map (of_overlay [] layers_of) (overlays_seen (map (overlay_of_store store.plain) entries))
+      ≡ flat_map (λ (entry : stored.OverlayEntry). map layer_seen entry.overlay.lowers) entries
+  live_are [] = refl
+  live_are (entry ∷ entries) = ap (λ rest. map layer_seen entry.overlay.lowers ++ rest) (live_are entries)
+
+  abbrev in_entry : ℕ → ℕ → stored.OverlayEntry → Bool
+  in_entry filesystem number entry =
+      list_any (λ layer. lies_in_layer nat_eq world filesystem number (layer_seen layer)) entry.overlay.lowers
+
+  locked_by : (filesystem number : ℕ)
+      → is_locked nat_eq world filesystem number ≡ list_any (in_entry filesystem number) store.overlays
+  locked_by filesystem number =
+      any_alike (lies_or_counts_under nat_eq world filesystem number) (lies_in_layer nat_eq world filesystem number)
+      (live_layers world)
+      (λ layer m. ap (λ b. lies_in_layer nat_eq world filesystem number layer || b)
+      (uncounted filesystem number layer) ∙ or-false _)
+      ∙ ap (λ all. list_any (lies_in_layer nat_eq world filesystem number) (flat_map (of_overlay [] layers_of) all))
+      (overlays_are kept held.overlays)
+      ∙ ap (list_any (lies_in_layer nat_eq world filesystem number)) (live_are store.overlays)
+      ∙ any_flat (lies_in_layer nat_eq world filesystem number)
+      (λ (entry : stored.OverlayEntry). map layer_seen entry.overlay.lowers) store.overlays
+      ∙ any_alike _ (in_entry filesystem number) store.overlays
+      (λ entry m. any_mapped (lies_in_layer nat_eq world filesystem number) layer_seen entry.overlay.lowers)
+
+  module _ (entry : stored.OverlayEntry) (m : Among entry store.overlays) (layer : LayerRef)
+      (n : Among layer entry.overlay.lowers) where
+    abbrev own : ℕ
+    own = layer.directory.filesystem.count
+
+    -- a layer is in a plain filesystem
+    no_overlay : is_overlay (filesystem_numbered nat_eq (world_of (with_store store base))
+        (counted layer.directory.filesystem.count)) ≡ false
+    no_overlay =
+        let seen = overlay_seen (overlay_of_store store.plain entry) in
+        let among = (overlay_among kept held.overlays seen
+        (among-map overlay_seen (overlays_of_store store) (overlay_of_store store.plain entry)
+        (among-map (overlay_of_store store.plain) store.overlays entry m))).0 in
+        let all : list_all (is_plain_layer nat_eq world) (map layer_seen entry.overlay.lowers) ≡ true =
+        passes (of_overlay true (λ overlay. list_all (is_plain_layer nat_eq world) (layers_of overlay)))
+        world.filesystems held.in_world.overlays.plain_layers seen among in
+        not_so _ (and_parts (not (is_overlay (filesystem_numbered nat_eq world (counted own)))) _
+        (passes (is_plain_layer nat_eq world) (map layer_seen entry.overlay.lowers) all (layer_seen layer)
+        (among-map layer_seen entry.overlay.lowers layer n))).0
+
+    same_files : (filesystem_numbered nat_eq (world_of (with_store store base))
+        (counted layer.directory.filesystem.count)).files
+        ≡ files_at store.plain layer.directory.filesystem.count
+    same_files = ap (λ (f : Filesystem ℕ). f.files) (counted_where_plain kept held own no_overlay)
+
+    -- what lies in it lies there in the store
+    lies_so : (count number : ℕ) → lies_in_layer nat_eq world (counted count) number (layer_seen layer)
+        ≡ lies_in store.plain count number layer
+    lies_so count number = by (nat_eq count own) refl
+      where
+        by : (b : Bool) → nat_eq count own ≡ b
+            → lies_in_layer nat_eq world (counted count) number (layer_seen layer)
+            ≡ lies_in store.plain count number layer
+        by false e =
+            ap (λ b. b && is_under nat_eq (filesystem_numbered nat_eq world (counted count)).files
+            (inode_of layer.directory) number) (counted_test count own ∙ e)
+            ∙ sym (ap (λ b. b && is_under nat_eq (files_at store.plain count) (inode_of layer.directory) number) e)
+        by true e =
+            let files = subst (λ k. (filesystem_numbered nat_eq world (counted k)).files ≡ files_at store.plain k)
+            (sym (eqb-true count own e)) same_files in
+            λ i. counted_test count own i && is_under nat_eq (files i) (inode_of layer.directory) number
+
+  -- an entry leads to what is there
+  no_entry_to : (filesystem number directory : ℕ)
+      → (filesystem_numbered nat_eq (world_of (with_store store base)) filesystem).files.tree.node number ≡ None
+      → has_entry_to nat_eq (filesystem_numbered nat_eq (world_of (with_store store base)) filesystem).files.tree
+      directory number ≡ false
+  no_entry_to filesystem number directory none =
+      ⊎_elim
+      (λ tree. by tree (has_entry_to nat_eq found.files.tree directory number) refl)
+      (λ missing. ap (λ (f : Filesystem ℕ). has_entry_to nat_eq f.files.tree directory number) missing.0)
+      (numbered_all (λ (f : Filesystem ℕ). IsTree f.files.tree) filesystem world.filesystems
+      held.in_world.files.trees)
+    where
+      found : Filesystem ℕ
+      found = filesystem_numbered nat_eq (world_of (with_store store base)) filesystem
+
+      by : IsTree found.files.tree → (b : Bool) → has_entry_to nat_eq found.files.tree directory number ≡ b
+          → b ≡ false
+      by tree true e =
+          let entry = entry_from found.files.tree tree directory number e in
+          absurd (true≢false (sym (tree.alive directory entry.0 number entry.1) ∙ ap is_some none))
+      by tree false e = refl
+
+  -- so what is not there lies in no layer
+  nothing_under : (filesystem number top : ℕ)
+      → (filesystem_numbered nat_eq (world_of (with_store store base)) filesystem).files.tree.node number ≡ None
+      → is_under nat_eq (filesystem_numbered nat_eq (world_of (with_store store base)) filesystem).files top number
+      ≡ false
+  nothing_under filesystem number top none =
+      let files = (filesystem_numbered nat_eq world filesystem).files in
+      ap (λ o. cond (is_directory_node o) (is_directory_under nat_eq files top number)
+      (is_file_under nat_eq files top number)) none
+      ∙ none_from_among (λ directory. has_entry_to nat_eq files.tree directory number
+      && is_directory_under nat_eq files top directory) files.numbers
+      (λ directory m. ap (λ b. b && is_directory_under nat_eq files top directory)
+      (no_entry_to filesystem number directory none))
+
+  not_there : (filesystem number : ℕ)
+      → (filesystem_numbered nat_eq (world_of (with_store store base)) filesystem).files.tree.node number ≡ None
+      → (layer : Layer ℕ) → lies_in_layer nat_eq (world_of (with_store store base)) filesystem number layer ≡ false
+  not_there filesystem number none layer =
+      ap (λ b. nat_eq filesystem layer.filesystem && b) (nothing_under filesystem number layer.directory none)
+      ∙ and-false _
+
+  -- nor does what was born below a layer
+  not_plain : (filesystem : ℕ) (node : NodeRef) → is_small_node node ≡ true → (node.birth ≡ Here → ⊥)
+      → (entry : stored.OverlayEntry) → Among entry store.overlays → (layer : LayerRef)
+      → Among layer entry.overlay.lowers
+      → lies_in_layer nat_eq (world_of (with_store store base)) filesystem (number_of node) (layer_seen layer) ≡ false
+  not_plain filesystem node small below entry m layer n = by (nat_eq filesystem (counted own_count)) refl
+    where
+      own_count : ℕ
+      own_count = layer.directory.filesystem.count
+
+      no_node : (o : Option (Node ℕ)) → (files_at store.plain own_count).tree.node (number_of node) ≡ o → o ≡ None
+      no_node None e = refl
+      no_node (Some inode) e =
+          absurd (below (born_plain store.plain
+          (λ one among. among_from_all HasOwnInodes store.plain held.own_inodes one among) own_count node small
+          (ap is_some e)))
+
+      by : (b : Bool) → nat_eq filesystem (counted own_count) ≡ b
+          → lies_in_layer nat_eq (world_of (with_store store base)) filesystem (number_of node) (layer_seen layer)
+          ≡ false
+      by false e =
+          ap (λ b. b && is_under nat_eq (filesystem_numbered nat_eq world filesystem).files
+          (inode_of layer.directory) (number_of node)) e
+      by true e =
+          not_there filesystem (number_of node)
+          (ap (λ k. (filesystem_numbered nat_eq world k).files.tree.node (number_of node))
+          (eqb-true filesystem (counted own_count) e)
+          ∙ ap (λ (files : FileTree ℕ). files.tree.node (number_of node)) (same_files entry m layer n)
+          ∙ no_node ((files_at store.plain own_count).tree.node (number_of node)) refl) (layer_seen layer)
+
+  -- The locks of the store are those of the world: on an inode of a plain filesystem,
+  pub locks_are : (count number : ℕ) → is_in_layer store count number
+      ≡ is_locked nat_eq (world_of (with_store store base)) (counted count) number
+  locks_are count number =
+      any_alike (lies_in_overlay store.plain count number) (in_entry (counted count) number) store.overlays
+      (λ entry m. any_alike (lies_in store.plain count number)
+      (λ layer. lies_in_layer nat_eq world (counted count) number (layer_seen layer)) entry.overlay.lowers
+      (λ layer n. sym (lies_so entry m layer n count number)))
+      ∙ sym (locked_by (counted count) number)
+
+  -- on what is not there,
+  pub none_there : (filesystem number : ℕ)
+      → (filesystem_numbered nat_eq (world_of (with_store store base)) filesystem).files.tree.node number ≡ None
+      → is_locked nat_eq (world_of (with_store store base)) filesystem number ≡ false
+  none_there filesystem number none =
+      locked_by filesystem number
+      ∙ none_from_among (in_entry filesystem number) store.overlays (λ entry m.
+      none_from_among (λ layer. lies_in_layer nat_eq world filesystem number (layer_seen layer)) entry.overlay.lowers
+      (λ layer n. not_there filesystem number none (layer_seen layer)))
+
+  -- and on a node that was born below a layer
+  pub none_below : (filesystem : ℕ) (node : NodeRef) → is_small_node node ≡ true → (node.birth ≡ Here → ⊥)
+      → is_locked nat_eq (world_of (with_store store base)) filesystem (number_of node) ≡ false
+  none_below filesystem node small below =
+      locked_by filesystem (number_of node)
+      ∙ none_from_among (in_entry filesystem (number_of node)) store.overlays (λ entry m.
+      none_from_among (λ layer. lies_in_layer nat_eq world filesystem (number_of node) (layer_seen layer))
+      entry.overlay.lowers
+      (λ layer n. not_plain filesystem node small below entry m layer n))
+
+  -- in the tree of each plain filesystem directories are named by their parents
+  pub plain_parents : (count : ℕ) → ParentsAreNamed (files_at store.plain count).tree
+  plain_parents count = by (entry_of store.plain count) refl
+    where
+      by : (o : Option FilesystemEntry) → entry_of store.plain count ≡ o
+          → ParentsAreNamed (files_seen (unwrap_or o (no_entry count))).tree
+      by None e = λ directory other. ap not (sym (eq-eqb directory directory refl))
+      by (Some entry) e =
+          let among = plain_one_among kept held.overlays.merged entry
+          (found_among (λ (one : FilesystemEntry). nat_eq count one.count) store.plain entry e) in
+          parents_named (files_seen entry).tree
+          (among_from_all (λ (f : Filesystem ℕ). IsTree f.files.tree) world.filesystems held.in_world.files.trees
+          (filesystem_seen entry) among)
+          (among_from_all (λ (f : Filesystem ℕ). HasOwnParents f.files.tree) world.filesystems
+          held.in_world.files.own_parents (filesystem_seen entry) among)
+
+  module _ (value : WorldValue) (is : with_store store base ≡ value) (at : Location)
+      (small : is_small_node at.node ≡ true) where
+    -- an inode that is seen is locked just where it lies in a layer
+    pub seen_locked : (inode : InodeRef) → plain_at at.node at.node.birth ≡ Some inode → is_seen value at ≡ true
+        → is_in_layer store inode.filesystem.count (inode_of inode)
+        ≡ is_locked_at nat_eq (world_of value) (location_of at)
+    seen_locked inode plain =
+        subst (λ (v : WorldValue). is_seen v at ≡ true
+        → is_in_layer store inode.filesystem.count (inode_of inode)
+        ≡ is_locked_at nat_eq (world_of v) (location_of at)) is
+        (λ seen.
+        let same = plain_number at.node inode plain in
+        locks_are inode.filesystem.count (inode_of inode)
+        ∙ (λ i. is_locked nat_eq (world_of kept) (counted (same.filesystem i)) (same.number i))
+        ∙ ap (λ n. is_locked nat_eq (world_of kept) n (number_of at.node))
+        (sym (eqb-true (mount_at nat_eq (world_of kept) (location_of at)).filesystem
+        (counted at.node.filesystem.count) seen)))
+
+    pub unseen_unlocked : is_seen value at ≡ false
+        → is_locked_at nat_eq (world_of value) (location_of at) ≡ false
+    unseen_unlocked =
+        subst (λ (v : WorldValue). is_seen v at ≡ false
+        → is_locked_at nat_eq (world_of v) (location_of at) ≡ false) is
+        (λ unseen. none_there (mount_at nat_eq (world_of kept) (location_of at)).filesystem (number_of at.node)
+        (unseen_node kept held at small unseen))
+
+    pub below_unlocked : plain_at at.node at.node.birth ≡ None
+        → is_locked_at nat_eq (world_of value) (location_of at) ≡ false
+    below_unlocked none =
+        subst (λ (v : WorldValue). is_locked_at nat_eq (world_of v) (location_of at) ≡ false) is
+        (none_below (mount_at nat_eq (world_of kept) (location_of at)).filesystem at.node small
+        (born_below at.node none))

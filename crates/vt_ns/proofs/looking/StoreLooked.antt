@@ -1,0 +1,114 @@
+-- What a store shows is what the world that holds it shows.
+use Rattle.std.proofs.Common.{◌≡◌, refl, sym, ap, subst, ◌∙◌, ⊎_elim, inl, inr, ◌⊎◌, ℕ, nat_eq, true≢false, true, false, List, Option, Some, None, is_some, unwrap_or}
+use Rattle.vt_spec.specs.FileTree.{FileTree, ancestors, is_directory_under}
+use Rattle.vt_spec.specs.Lists.{is_among}
+use Rattle.vt_spec.specs.Machine.World.{Filesystem, World, filesystem_numbered, is_overlay, no_filesystem}
+use Rattle.vt_spec.specs.Tree.{Node, Tree, is_directory_node}
+use Rattle.vt_laws_letting_go.proofs.Lists.{all_from_among}
+use Rattle.vt_laws_trees.proofs.trees.TreesOfWorlds.{number_numbered, numbered_all}
+use Rattle.vt_laws_trees.specs.Trees.{IsFileTree}
+use Rattle.vt_location.specs.Numbers.{counted}
+use Rattle.vt_fs.specs.FilesystemsValue.{filesystem_seen, entry_at}
+use Rattle.vt_fs.specs.Laws.{LieUnderRoot}
+use Rattle.vt_overlay.specs.Alike.{front}
+use Rattle.vt_overlay.specs.MergedTree.{OverlayValue}
+use Rattle.vt_store.proofs.NodesAlike.{nodes_are_like_objects}
+use Rattle.vt_store.proofs.Woven.{is_over, is_plain}
+use Rattle.vt_store.specs.StoreValue.{StoreValue, files_in, filesystem_in, filesystems_of, lent_in, overlay_in}
+use Rattle.vt_world.specs.Held.{IsHeld}
+use Rattle.vt_world.specs.Lent.{lent_of_world}
+use Rattle.vt_world.specs.StoredWorld.{overlay_of_store, with_store}
+use Rattle.vt_world.specs.WorldValue.{WorldValue, overlay_seen, world_of}
+use Rattle.vt_detach.proofs.StoreLends.{store_lends}
+use Rattle.vt_detach.proofs.StoreShown.{files_shown, overlay_found, plain_found, store_stands}
+use Rattle.vt_detach.proofs.StoreTrees.{store_tree}
+use Rattle.vt_ns.proofs.looking.Lending.{lent_as_it_is}
+use Rattle.vt_ns.proofs.looking.LostKept.{file_tree, lie_nowhere, lie_under_root}
+use Rattle.vt_ns.proofs.looking.WaysUp.{same_above}
+use Rattle.vt_ns.specs.Lent.{as_lent}
+
+-- a tree has its root
+no_tree : (files : FileTree ℕ) (number : ℕ) → IsFileTree files → files.tree ≡ (no_filesystem number).files.tree → ⊥
+no_tree files number is none =
+    true≢false (sym is.tree.root_directory
+    ∙ ap (λ (tree : Tree ℕ). is_directory_node (tree.node tree.root)) none)
+
+module _ (base : WorldValue) (store : StoreValue) (held : IsHeld (with_store store base)) (count : ℕ) where
+  abbrev shown : Filesystem ℕ
+  shown = filesystem_numbered nat_eq (world_of (with_store store base)) (counted count)
+
+  abbrev kept : FileTree ℕ
+  kept = files_in store count
+
+  abbrev nothing : Filesystem ℕ
+  nothing = no_filesystem (counted count)
+
+  shown_tree : IsFileTree shown.files ⊎ (shown ≡ nothing)
+  shown_tree =
+      ⊎_elim (λ tree. inl tree) (λ missing. inr missing.0)
+      (numbered_all (λ (f : Filesystem ℕ). IsFileTree f.files) (counted count)
+      (world_of (with_store store base)).filesystems
+      (all_from_among (λ (f : Filesystem ℕ). IsFileTree f.files) (world_of (with_store store base)).filesystems
+      (file_tree (with_store store base) held)))
+
+  -- the same directories are above each
+  pub above_shown : (directory : ℕ)
+      → ancestors nat_eq (files_in store count) directory
+      ≡ ancestors nat_eq (filesystem_numbered nat_eq (world_of (with_store store base)) (counted count)).files directory
+  above_shown directory =
+      ⊎_elim
+      (λ tree. ⊎_elim
+      (λ other. same_above kept shown.files tree other (files_shown base store held count) directory)
+      (λ none. absurd (no_tree kept (counted count) tree
+      (files_shown base store held count ∙ ap (λ (f : Filesystem ℕ). f.files.tree) none)))
+      shown_tree)
+      (λ none. ⊎_elim
+      (λ other. absurd (no_tree shown.files (counted count) other
+      (sym (files_shown base store held count) ∙ ap (λ (files : FileTree ℕ). files.tree) none)))
+      (λ missing. ap (λ (files : FileTree ℕ). ancestors nat_eq files directory)
+      (none ∙ sym (ap (λ (f : Filesystem ℕ). f.files) missing)))
+      shown_tree)
+      (store_tree base store held count)
+
+  -- so the same lie under each
+  pub under_shown : (top directory : ℕ)
+      → is_directory_under nat_eq (files_in store count) top directory
+      ≡ is_directory_under nat_eq (filesystem_numbered nat_eq (world_of (with_store store base)) (counted count)).files
+      top directory
+  under_shown top directory = ap (is_among nat_eq top) (above_shown directory)
+
+  -- and what is not removed lies under the root
+  pub store_rooted : LieUnderRoot (files_in store count)
+  store_rooted =
+      ⊎_elim (λ tree. lie_under_root kept tree)
+      (λ none. subst (λ (files : FileTree ℕ). LieUnderRoot files) (sym none) (lie_nowhere (counted count)))
+      (store_tree base store held count)
+
+  -- it is an overlay there and here
+  pub overlay_shown : is_overlay (filesystem_in store count)
+      ≡ is_overlay (filesystem_numbered nat_eq (world_of (with_store store base)) (counted count))
+  overlay_shown = by (overlay_in store count) refl
+    where
+      by : (o : Option OverlayValue) → overlay_in store count ≡ o
+          → is_overlay (filesystem_in store count)
+          ≡ is_overlay (filesystem_numbered nat_eq (world_of (with_store store base)) (counted count))
+      by None e = ap is_overlay (is_plain store count e ∙ sym (plain_found base store held count e))
+      by (Some overlay) e =
+          let over = is_over store count overlay e in
+          let number : counted count ≡ counted over.entry.count =
+          sym (number_numbered (counted count) (filesystems_of store))
+          ∙ ap (λ (f : Filesystem ℕ). f.number) over.is in
+          ap is_overlay over.is
+          ∙ sym (ap is_overlay
+          (ap (filesystem_numbered nat_eq (world_of (with_store store base))) number
+          ∙ overlay_found base store held over.entry over.among))
+
+  -- and what is lent is lent as it is
+  pub lent_shown : (number : ℕ)
+      → lent_in store count number
+      ≡ as_lent ((filesystem_numbered nat_eq (world_of (with_store store base)) (counted count)).files.tree.node number)
+      (lent_of_world (world_of (with_store store base)) (counted count) number)
+  lent_shown number =
+      sym (lent_as_it_is (kept.tree.node number) (lent_in store count number)
+      (nodes_are_like_objects store count number (store_stands base store held)))
+      ∙ (λ i. as_lent ((files_shown base store held count i).node number) (store_lends base store held count number i))
