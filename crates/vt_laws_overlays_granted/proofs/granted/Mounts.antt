@@ -1,7 +1,6 @@
 -- The mount of an overlay that is granted.
 use Rattle.std.proofs.Common.{Some, nat_eq, refl, ℕ, ◌≡◌}
 use Rattle.std.specs.Prelude.{⊤}
-use Rattle.vt_laws_given.specs.LeftWorlds.{IsGivenToTask}
 use Rattle.vt_laws_layers.proofs.mounting.Walked.{all_plain, are_walked, fit_layers, has_layers, shown_plain}
 use Rattle.vt_laws_overlays_granted.specs.Granted.{GivenOverlaysMayBeMounted, MayBeMounted}
 use Rattle.vt_laws_rules.proofs.given.Inversion.{calls_are_granted}
