@@ -1,5 +1,5 @@
 -- The filesystems that calls under way hold are seen by their tasks (profile).
-use Rattle.std.specs.Prelude.{Contains, List, Option, Some, [], false, is_some, nat_eq, true, Bool, ℕ, ⊤, ◌||◌, ◌∷◌, ◌≡◌, ◌≤◌, ◌⊎◌}
+use Rattle.std.specs.Prelude.{Contains, List, Some, [], false, is_some, nat_eq, true, Bool, ℕ, ⊤, ◌||◌, ◌∷◌, ◌≡◌, ◌≤◌, ◌⊎◌}
 use Rattle.std.specs.List.{list_any}
 use Rattle.vt_spec.specs.Language.Calls.{Call}
 use Rattle.vt_spec.specs.Language.Script.{Version, lines_of, whole}

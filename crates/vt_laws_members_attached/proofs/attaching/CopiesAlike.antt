@@ -246,9 +246,6 @@ module _ (world : World ℕ) (names : List TaskName) (is : IsWorld nat_eq world)
     mounts_by up first rest =
         map up (with_moved_mounts nat_eq moves part.mounts first) ++ added_mounts moves first ++ rest
 
-    attached_here : attached_by nat_eq base new place moves origins ≡ attached_as world
-    attached_here = refl
-
     pub attached_there : attached_by nat_eq base_part new place moves origins ≡ attached_as part
     attached_there =
         ap (λ (m : Mount ℕ). attached_at nat_eq base_part new (record {

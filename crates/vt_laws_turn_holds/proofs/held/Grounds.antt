@@ -1,5 +1,5 @@
 -- Where a task gets: to mounts of its namespace, or where it stands. These show what it sees.
-use Rattle.std.proofs.Common.{◌≡◌, refl, sym, ap, subst, ◌∙◌, ◌⊎◌, inl, inr, ⊎_elim, ℕ, zero, suc, nat_eq, Bool, true, false, cond, List, [], ◌∷◌, ◌++◌, ◌||◌, Option, Some, None, Ok, Err, Result, flat_map, length, eqb-true, eq-eqb}
+use Rattle.std.proofs.Common.{◌≡◌, refl, sym, ap, subst, ◌∙◌, ◌⊎◌, inl, inr, ⊎_elim, ℕ, zero, suc, nat_eq, Bool, true, false, cond, List, [], ◌∷◌, ◌++◌, ◌||◌, Option, Some, None, Ok, Err, Result, flat_map, length, eqb-true}
 use Rattle.std.specs.Prelude.{ok_or, option_map, option_to_list}
 use Rattle.std.specs.List.{list_all, list_any}
 use Rattle.std.proofs.lemmas.Bool.{and_parts}
@@ -10,7 +10,7 @@ use Rattle.vt_spec.specs.Errors.{and_then, denial, unless}
 use Rattle.vt_spec.specs.Lists.{chain, holds_of, last_or}
 use Rattle.vt_spec.specs.Machine.Invariants.{IsWorld, Stands, is_directory_seen_in, stands_on_directories}
 use Rattle.vt_spec.specs.Machine.Looks.{Looks, looks_of, topmost}
-use Rattle.vt_spec.specs.Machine.Mounts.{Location, Mount, child_at, mounts_over, root_of, same_location, stands_at}
+use Rattle.vt_spec.specs.Machine.Mounts.{Location, Mount, child_at, root_of, same_location, stands_at}
 use Rattle.vt_spec.specs.Machine.Walking.{LastWord, entered_upward, entry_location, filesystems_of, hop, hops, is_lost, is_top, met_at, met_by, object_named, parent_location, start_of, stepped, up_from}
 use Rattle.vt_spec.specs.Machine.Walking.LastWord.{Dot, DotDot, Named, NoWord}
 use Rattle.vt_spec.specs.Machine.World.{Task, World, is_directory_at, mount_at, mount_numbered, mounts_of, task_called}

@@ -1,29 +1,23 @@
 -- Turns keep it that calls under way hold what their tasks see.
-use Rattle.std.proofs.Common.{◌≡◌, ◌≢◌, refl, sym, ap, subst, ◌∙◌, ◌⊎◌, inl, inr, ⊎_elim, ℕ, suc, nat_eq, Bool, true, false, true≢false, cond, not, List, [], ◌∷◌, ◌++◌, ◌≤◌, ◌<◌, ◌+◌, ◌*◌, ◌||◌, Option, Some, None, Ok, map, flat_map, length, reverse, is_some, eq-eqb, eqb-true, arith}
+use Rattle.std.proofs.Common.{◌≡◌, ◌≢◌, refl, sym, ap, subst, ◌∙◌, ◌⊎◌, inl, inr, ⊎_elim, ℕ, nat_eq, Bool, true, false, true≢false, cond, not, List, [], ◌∷◌, ◌++◌, ◌+◌, ◌*◌, ◌||◌, Some, map, reverse, is_some, eq-eqb, eqb-true, arith}
 use Rattle.std.specs.Prelude.{Contains, slice_get, ◌==◌}
 use Rattle.std.specs.List.{list_any}
 use Rattle.std.proofs.lemmas.Grind.{reverse_onto}
 use Rattle.std.proofs.lemmas.Option.{get_or_from_slice_get, slice_get_within}
 use Rattle.vt_spec.specs.Language.Calls.{Call, TaskName, same_name}
-use Rattle.vt_spec.specs.Language.Script.{Who}
-use Rattle.vt_spec.specs.Language.Script.Who.{Someone}
-use Rattle.vt_spec.specs.Lists.{Fresh, first_of_list, folded, is_among}
+use Rattle.vt_spec.specs.Lists.{Fresh, folded, is_among}
 use Rattle.vt_spec.specs.Machine.Apply.{apply}
-use Rattle.vt_spec.specs.Machine.Filesystems.{raised}
 use Rattle.vt_spec.specs.Machine.Invariants.{IsWorld, is_listed}
-use Rattle.vt_spec.specs.Machine.Judge.{judge_in}
 use Rattle.vt_spec.specs.Machine.Looks.{looks_of}
 use Rattle.vt_spec.specs.Machine.Mounts.{Location, Mount}
 use Rattle.vt_spec.specs.Machine.Outcomes.{Outcome, after}
-use Rattle.vt_spec.specs.Machine.Permits.{Permit}
 use Rattle.vt_spec.specs.Machine.Policy.{call_outcome, finished_by, policy}
 use Rattle.vt_spec.specs.Machine.Run.{Serves}
-use Rattle.vt_spec.specs.Machine.Turns.{Progress, Queue, Route, Sched, Turned, filesystem_change_of, first_progress, hold_one, is_overtaken, is_stale, last_number, namespace_change_of, one_further, queue_of, routes, turn, without_progress, words_of}
-use Rattle.vt_spec.specs.Machine.Turns.Item.{Calls}
+use Rattle.vt_spec.specs.Machine.Turns.{Progress, Route, Sched, Turned, filesystem_change_of, first_progress, hold_one, is_stale, last_number, namespace_change_of, one_further, routes, turn, without_progress, words_of}
 use Rattle.vt_spec.specs.Machine.World.{Namespace, Task, World, mount_at, mount_numbered, mounts_of, task_called}
 use Rattle.vt_spec.proofs.Found.{found_among}
 use Rattle.vt_spec.proofs.Lists.{Among, among-append, among-append_right, among-flat_map, among-from_filter, among-from_map, among-map, among_from_contains, among_from_list_all, among_numbers, contains_from_among}
-use Rattle.vt_spec.proofs.Options.{none_is_some, some_from_is_some}
+use Rattle.vt_spec.proofs.Options.{some_from_is_some}
 use Rattle.vt_spec.proofs.Worlds.{number-mount_in, same_name_itself}
 use Rattle.vt_laws_rules.proofs.judged.CallsJudged.{call_is_judged_then_applied}
 use Rattle.vt_laws_calls.proofs.tasks.TasksLaws.{other_tasks_stay}
@@ -36,7 +30,7 @@ use Rattle.vt_laws_worlds.proofs.worlds.SeenTrees.{unused_number}
 use Rattle.vt_laws_overlay_permits.proofs.worlds.EveryCall.{every_call_keeps_worlds}
 use Rattle.vt_laws_overlay_permits.proofs.worlds.PolicyLeads.{policy_leads}
 use Rattle.vt_laws_trees.specs.Trees.Limits.{names_few_groups}
-use Rattle.vt_laws_turns.specs.Commits.{Turn, left_by}
+use Rattle.vt_laws_turns.specs.Commits.{Turn}
 use Rattle.vt_laws_turns.specs.Restarts.{under_way_of}
 use Rattle.vt_laws_turns.proofs.TurnShapes.{Before, Shape, turn_shape}
 use Rattle.vt_laws_turns.proofs.TurnShapes.Before.{Again, AtStart, OnWay}
@@ -54,7 +48,7 @@ use Rattle.vt_laws_turn_frames.proofs.in_turn.NumbersRise.{Rises, namespace_rise
 use Rattle.vt_laws_turn_walks.specs.ByWords.{steps_of, whole_walk}
 use Rattle.vt_laws_turn_walks.specs.Routes.{Way, ways}
 use Rattle.vt_laws_turn_walks.proofs.by_words.Routed.{routes_are_walks}
-use Rattle.vt_laws_turn_holds.specs.Held.{AreFitTurns, FilesystemsHeldAreSeen, HoldsItsTask, HoldsWhatIsSeen, IsFitTurn, IsNoMore, IsUnderWayOf, SchedulersBeginSo, SchedulesHoldWhatIsSeen, TurnsHoldWhatIsSeen, is_seen_by}
+use Rattle.vt_laws_turn_holds.specs.Held.{HoldsItsTask, HoldsWhatIsSeen, IsFitTurn, IsNoMore, IsUnderWayOf, SchedulersBeginSo, SchedulesHoldWhatIsSeen, TurnsHoldWhatIsSeen, is_seen_by}
 use Rattle.vt_laws_turn_holds.proofs.held.Meeting.{walk_met}
 
 -- What is walked

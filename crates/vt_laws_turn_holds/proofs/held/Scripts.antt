@@ -1,5 +1,5 @@
 -- In the schedules of a script the numbers handed in are unused, and forks name few groups.
-use Rattle.std.proofs.Common.{◌≡◌, ◌≢◌, refl, sym, ap, subst, ◌∙◌, inl, inr, ⊎_elim, ℕ, suc, nat_eq, Bool, true, false, true≢false, cond, List, [], ◌∷◌, ◌++◌, ◌+◌, ◌||◌, Option, Some, None, find, map, eqb-true, add-one, arith, ◌<◌}
+use Rattle.std.proofs.Common.{◌≡◌, refl, sym, ap, subst, ◌∙◌, inl, inr, ⊎_elim, ℕ, suc, nat_eq, Bool, true, false, true≢false, cond, List, [], ◌∷◌, ◌++◌, ◌+◌, ◌||◌, Option, Some, None, find, map, eqb-true, add-one, arith, ◌<◌}
 use Rattle.std.specs.Prelude.{length, nat_le, nat_lt, option_map, unwrap_or}
 use Rattle.std.specs.List.{cons_option, filter_map}
 use Rattle.std.proofs.lemmas.Bool.{false_from_ne_true}
@@ -7,9 +7,8 @@ use Rattle.vt_spec.specs.declared.errors.Rule.TheVariants.{S1}
 use Rattle.vt_spec.specs.Errors.{denial}
 use Rattle.vt_spec.specs.Language.Calls.{Call}
 use Rattle.vt_spec.specs.Language.Limits.{longest_line}
-use Rattle.vt_spec.specs.Language.Script.{Grammar, Request, Version, Who, each_of, is_silent, lines_of, request_of, token_text, whole}
+use Rattle.vt_spec.specs.Language.Script.{Grammar, Request, Who, each_of, is_silent, lines_of, request_of, token_text, whole}
 use Rattle.vt_spec.specs.Language.Script.Request.{Asking, Calling}
-use Rattle.vt_spec.specs.Language.Script.Who.{Someone}
 use Rattle.vt_spec.specs.Lists.{Fresh, counted_from, first_of_list, folded, is_among, rest_of}
 use Rattle.vt_spec.specs.Machine.Invariants.{IsWorld}
 use Rattle.vt_spec.specs.Machine.Run.{Serves, first_world, handed, later, numbers_for, numbers_in_use}

@@ -361,15 +361,6 @@ module _ (world later : World ℕ) (isw : IsWorld nat_eq world) (isl : IsWorld n
       by (Ok l) fine = some_fine l (fine l refl)
       by (Err deny) fine = tt
 
-  place_at : Here ℕ → LastWord → Bool → List (List ℕ) → Option (Location ℕ) → Place ℕ
-  place_at here word slash steps object = record {
-    parent = here.location;
-    last = word;
-    object = object;
-    slash = slash;
-    steps = steps;
-  }
-
   abbrev placed_to : Here ℕ → LastWord → Bool → List (List ℕ) → Rules → Result (Option (Location ℕ)) Deny
       → Result (Place ℕ) (Stop ℕ)
   placed_to here word slash steps rules found =
