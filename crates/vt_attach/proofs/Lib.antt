@@ -48,3 +48,4 @@ pub mod NewOverlay
 pub mod NewOverlayUses
 pub mod NewOverlaySame
 pub mod NewOverlayBase
+pub mod NewOverlayNumbers
