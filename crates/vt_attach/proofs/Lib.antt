@@ -49,3 +49,5 @@ pub mod NewOverlayUses
 pub mod NewOverlaySame
 pub mod NewOverlayBase
 pub mod NewOverlayNumbers
+pub mod OverlayStored
+pub mod NewOverlayDoneStub
