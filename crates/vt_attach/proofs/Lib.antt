@@ -51,3 +51,4 @@ pub mod NewOverlayBase
 pub mod NewOverlayNumbers
 pub mod OverlayStored
 pub mod NewOverlayDoneStub
+pub mod OverlayMounted

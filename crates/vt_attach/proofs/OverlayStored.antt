@@ -45,18 +45,16 @@ use Rattle.vt_attach.proofs.NewOverlayUses.{held_by}
 
 same_layer : (old new : Filesystems) → SameFilesystems (filesystems_seen old) (filesystems_seen new)
     → (layer : LayerRef) → IsSameLayer old new layer
-same_layer old new same layer = record {
-  tree = ap (λ (f : Filesystem ℕ). f.files.tree) (sym (found_by_number new count))
-      ∙ sym alike.files.tree ∙ ap (λ (f : Filesystem ℕ). f.files.tree) (found_by_number old count);
-  numbers = ap (λ (f : Filesystem ℕ). length f.files.numbers) (sym (found_by_number new count))
-      ∙ length_permutation _ _ alike.files.numbers
-      ∙ ap (λ (f : Filesystem ℕ). length f.files.numbers) (found_by_number old count);
-}
-  where
-    count : ℕ
-    count = layer.directory.filesystem.count
-
-    alike = found_same (counted count) (filesystems_seen old) (filesystems_seen new) same
+same_layer old new same layer =
+    let count = layer.directory.filesystem.count in
+    let alike = found_same (counted count) (filesystems_seen old) (filesystems_seen new) same in
+    record {
+      tree = ap (λ (f : Filesystem ℕ). f.files.tree) (sym (found_by_number new count))
+          ∙ sym alike.files.tree ∙ ap (λ (f : Filesystem ℕ). f.files.tree) (found_by_number old count);
+      numbers = ap (λ (f : Filesystem ℕ). length f.files.numbers) (sym (found_by_number new count))
+          ∙ length_permutation _ _ alike.files.numbers
+          ∙ ap (λ (f : Filesystem ℕ). length f.files.numbers) (found_by_number old count);
+    }
 
 -- one after the other
 same_layer_twice : (old middle new : Filesystems) (layer : LayerRef) → IsSameLayer old middle layer
@@ -93,14 +91,15 @@ plain_same [] (other ∷ others) same = absurd same
 plain_same (one ∷ ones) [] same = absurd same
 plain_same (one ∷ ones) (other ∷ others) same =
     by (is_plain_one one) (is_plain_one other) (ap (λ o. not (is_some o)) same.0.overlay)
+    (plain_same ones others same.1)
   where
-    by : (b c : Bool) → b ≡ c
+    by : (b c : Bool) → b ≡ c → SameFilesystems (filter is_plain_one ones) (filter is_plain_one others)
         → SameFilesystems (cond b (one ∷ filter is_plain_one ones) (filter is_plain_one ones))
         (cond c (other ∷ filter is_plain_one others) (filter is_plain_one others))
-    by true true e = (same.0, plain_same ones others same.1)
-    by true false e = absurd (true≢false e)
-    by false true e = absurd (true≢false (sym e))
-    by false false e = plain_same ones others same.1
+    by true true e later = (same.0, later)
+    by true false e later = absurd (true≢false e)
+    by false true e later = absurd (true≢false (sym e))
+    by false false e later = later
 
 -- Filesystems in the order of their numbers have numbers of their own.
 
