@@ -50,5 +50,4 @@ pub mod NewOverlaySame
 pub mod NewOverlayBase
 pub mod NewOverlayNumbers
 pub mod OverlayStored
-pub mod NewOverlayDoneStub
 pub mod OverlayMounted

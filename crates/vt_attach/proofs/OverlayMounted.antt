@@ -1,5 +1,5 @@
 -- The event that mounts an overlay, as a store is left by it: mount(2), and the kernel's overlayfs document.
-use Rattle.std.proofs.Common.{◌≡◌, ◌<◌, ◌*◌, ◌+◌, ◌∙◌, sym, ap, subst, ℕ, nat_eq, true, List, [], ◌∷◌, ◌++◌, ◌%◌, ◌==◌, map, length, Some, false}
+use Rattle.std.proofs.Common.{◌≡◌, ◌<◌, ◌*◌, ◌+◌, ◌∙◌, sym, ap, subst, ℕ, nat_eq, true, List, [], ◌∷◌, ◌++◌, ◌%◌, ◌==◌, map, length, None, false}
 use Rattle.std.specs.List.{list_all}
 use Rattle.std.proofs.lemmas.List.{map-append}
 use Rattle.vt_spec.specs.Language.Calls.{MountFlags}
@@ -7,12 +7,11 @@ use Rattle.vt_spec.specs.Machine.Attach.{parts_of}
 use Rattle.vt_spec.specs.Machine.NewMounts.{new_mount}
 use Rattle.vt_spec.specs.Machine.Permits.Permit.{ToMountOverlay}
 use Rattle.vt_spec.specs.Machine.SameWorlds.{SameWorlds}
-use Rattle.vt_spec.specs.Machine.World.{Layer, Overlay, Task, task_called}
+use Rattle.vt_spec.specs.Machine.World.{Layer, Overlay, Task}
 use Rattle.vt_spec.proofs.Lists.{map_alike, map_twice}
 use Rattle.vt_fs.specs.FilesystemsValue.{Filesystems, shown}
 use Rattle.vt_group.specs.Grouping.{Grouping}
 use Rattle.vt_laws_given.specs.LeftWorlds.{IsGivenToTask}
-use Rattle.vt_laws_overlays_made.specs.Made.{IsNew}
 use Rattle.vt_location.specs.Locations.{location_of}
 use Rattle.vt_location.specs.MountValue.{mount_of}
 use Rattle.vt_location.specs.Numbers.{counted}
@@ -31,7 +30,7 @@ use Rattle.vt_detach.specs.Stored.{OverlaysStay, kept, layer_of, merged_of}
 use Rattle.vt_detach.specs.Uses.{kept_with, merged_seen}
 use Rattle.vt_attach.specs.Grafted.{IsGrafted}
 use Rattle.vt_attach.specs.Overlaid.{IsWithOverlay}
-use Rattle.vt_attach.proofs.NewOverlayDoneStub.{new_overlay_is_done}
+use Rattle.vt_attach.proofs.NewOverlayDone.{new_overlay_is_done}
 use Rattle.vt_attach.proofs.NewOverlayUses.{held_by, held_each}
 use Rattle.vt_attach.proofs.OverlayStored.{overlay_stored}
 use Rattle.vt_attach.proofs.OverlaysNew.{layers_more}
@@ -46,14 +45,15 @@ merged_are plain overlays =
     ∙ sym (map_twice merged_seen (overlay_of_store plain) overlays)
 
 module _ (base : WorldValue) (old held new : StoreValue) (whole : IsHeld (with_store old base)) (task : Task ℕ)
-    (called : task_called (world_of (with_store old base)) task.name ≡ Some task) (graft : Graft) (counts : Counts)
+    (graft : Graft) (counts : Counts)
     (overlay : Overlay ℕ) (flags : MountFlags)
     (given : IsGivenToTask (supply_of (with_store old base) (ToMountOverlay (location_of graft.place) overlay flags))
     (world_of (with_store old base)) task (ToMountOverlay (location_of graft.place) overlay flags))
+    (lower : overlay.upper ≡ None) (workless : overlay.work ≡ None) (unmade : overlay.real ≡ (λ number. None))
     (entry : stored.OverlayEntry) (overlay_is : entry.overlay ≡ overlay_kept base.next overlay)
     (count_is : entry.count ≡ base.next) (none : entry.mounts ≡ 0)
     (are : AreLayers old.plain entry.overlay.lowers)
-    (is_new : IsNew (world_of (with_store old base)) (record { count = base.next }))
+    (small : base.next < 18446744073709551616)
     (binds : graft.moves ≡ false)
     (tree_is : map mount_of graft.tree.now
     ≡ new_mount (counted base.next) (overlay_of_store old.plain entry).root flags ∷ [])
@@ -90,8 +90,8 @@ module _ (base : WorldValue) (old held new : StoreValue) (whole : IsHeld (with_s
   overlay_is_mounted mounts groups next is grows =
       let grafted = subst (λ overlays. IsGrafted graft counts (kept_with base.mounts held.plain overlays) base.groups
       (kept mounts new) groups) merged_held is in
-      let done = new_overlay_is_done value whole task called graft counts overlay flags given entry overlay_is count_is none
-      binds tree_is parts_are first step ascending odd is_new held.plain with_overlay.layers is_new.small mounts groups
+      let done = new_overlay_is_done value whole task graft counts overlay flags given lower workless unmade entry overlay_is
+      count_is none binds tree_is parts_are first step ascending odd held.plain with_overlay.layers small mounts groups
       new.plain (map merged_of new.overlays) next grafted grows in
       let then = record base { mounts = mounts; groups = groups; next = next } in
       let stored_so = overlay_stored base then old new entry held.plain whole are count_is layers_held stay done.0 done.2 in (

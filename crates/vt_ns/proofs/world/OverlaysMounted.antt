@@ -14,7 +14,6 @@ use Rattle.vt_spec.specs.Rights.{Credentials}
 use Rattle.vt_cred.specs.MountFlags.{flags_of}
 use Rattle.vt_group.specs.Grouping.{Grouping}
 use Rattle.vt_laws_given.specs.LeftWorlds.{IsGivenToTask}
-use Rattle.vt_laws_overlays_made.specs.Made.{IsNew}
 use Rattle.vt_location.specs.declared.locations.Location.{Location}
 use Rattle.vt_location.specs.declared.mounts.Mount.{Mount}
 use Rattle.vt_location.specs.Locations.{location_of}
@@ -36,7 +35,7 @@ use Rattle.vt_detach.specs.Events.{layer_kept, left_by, supply_of}
 use Rattle.vt_detach.specs.Stored.{OverlaysStay, kept}
 use Rattle.vt_attach.specs.Grafted.{IsGrafted, MayGraft}
 use Rattle.vt_attach.specs.Overlaid.{IsWithOverlay}
-use Rattle.vt_attach.proofs.NewOverlayDoneStub.{may_mount}
+use Rattle.vt_attach.proofs.NewOverlayDone.{may_mount_overlay as may_graft}
 use Rattle.vt_attach.proofs.OverlayMounted.{overlay_is_mounted}
 use Rattle.vt_ns.specs.OverlayMounts.{MountsOverlay, PermitsOverlay}
 use Rattle.vt_ns.proofs.world.OverlayEvents.{kept_is_overlay, layers_are_kept, root_is_top}
@@ -83,13 +82,13 @@ module _ (base : WorldValue) (store : StoreValue) (whole : IsHeld (with_store st
 
   pub may_mount_overlay : MayGraft base.mounts base.groups graft counts
   may_mount_overlay =
-      may_mount value whole permits.task permits.given.called graft counts (overlay_of permits.task new)
-      (flags_of new.flags) given_there entry
+      may_graft value whole permits.task graft counts (overlay_of permits.task new) (flags_of new.flags) given_there refl
+      refl refl entry
       (kept_is_overlay value whole name new permits lowers lowers_are mounter mounter_is) refl refl binds tree_seen
       parts_are first step ascending odd
 
   -- what is attached and held leaves the world that the permit leaves
-  pub overlay_mounted : IsNew (world_of (with_store store base)) (record { count = base.next })
+  pub overlay_mounted : base.next < 18446744073709551616
       → (held later : StoreValue) → IsWithOverlay (new_overlay (record { count = base.next }) lowers mounter) store held
       → OverlaysStay (store.overlays ++ new_overlay (record { count = base.next }) lowers mounter ∷ []) later.overlays
       → (mounts : List MountEntry) (groups : Grouping) (next : ℕ)
@@ -98,11 +97,11 @@ module _ (base : WorldValue) (store : StoreValue) (whole : IsHeld (with_store st
       → IsHeld (with_store later (record base { mounts = mounts; groups = groups; next = next }))
       × MountsOverlay (with_store store base) name new
       (with_store later (record base { mounts = mounts; groups = groups; next = next }))
-  overlay_mounted is_new held later with_overlay stay mounts groups next is grows =
-      let done = overlay_is_mounted base store held later whole permits.task permits.given.called graft counts
-      (overlay_of permits.task new) (flags_of new.flags) given_there entry
+  overlay_mounted small_next held later with_overlay stay mounts groups next is grows =
+      let done = overlay_is_mounted base store held later whole permits.task graft counts
+      (overlay_of permits.task new) (flags_of new.flags) given_there refl refl refl entry
       (kept_is_overlay value whole name new permits lowers lowers_are mounter mounter_is) refl refl
-      (layers_are_kept value whole name new permits lowers lowers_are mounter mounter_is) is_new binds tree_seen
+      (layers_are_kept value whole name new permits lowers lowers_are mounter mounter_is) small_next binds tree_seen
       parts_are first step ascending odd with_overlay stay mounts groups next is grows in
       let then = with_store later (record base { mounts = mounts; groups = groups; next = next }) in
       let same : SameWorlds (left_by value permits.task (overlay_permit permits.task new)) (world_of then) =
