@@ -1,13 +1,13 @@
 -- What an attachment asks of the world to which it attaches, beside its plain filesystems: an overlay of it may have no
 -- mount yet.
-use Rattle.std.proofs.Common.{◌≡◌, subst, sym, ℕ, nat_eq, false, true, is_some, filter}
+use Rattle.std.proofs.Common.{◌≡◌, ℕ, false, true, is_some}
 use Rattle.std.specs.Prelude.{All}
 use Rattle.vt_spec.specs.Machine.Locked.{of_overlay}
 use Rattle.vt_spec.specs.Machine.World.{Filesystem, is_overlay}
 use Rattle.vt_laws_counts.proofs.using.MountRoots as Roots
 use Rattle.vt_laws_letting_go.specs.Keeping.{LocationsStand}
 use Rattle.vt_laws_letting_go.specs.Leaving.{MountsStand}
-use Rattle.vt_laws_letting_go.proofs.Lists.{Among, all_from_among, among_from_all}
+use Rattle.vt_laws_letting_go.proofs.Lists.{all_from_among, among_from_all}
 use Rattle.vt_laws_letting_go.proofs.sweeps.OfWorlds.{mounts_of_worlds_stand}
 use Rattle.vt_laws_overlays_stay.specs.Woven.{are_rising}
 use Rattle.vt_group.specs.Grouping.{Has}

@@ -514,3 +514,12 @@ module _ (value : WorldValue) (whole : IsBeside value) (base : Filesystems) (is_
   graft_is_done held =
       entered_is_done value whole base is_base is.copies is.points [] is.left (map new_group is.groups) mounts groups
       filesystems overlays next entered ascending held groups_then
+
+  -- where what is attached is a world, and the numbers in it were counted, the code's world is that one
+  pub graft_is_held : IsWorld nat_eq attached_world → OverlaysAreNamed attached_world → WritersHaveLayers attached_world
+      → KeepsTo (is_counted_before next) attached_world
+      → IsHeld (grafted_value value mounts groups filesystems overlays next)
+      × SameWorlds attached_world (world_of (grafted_value value mounts groups filesystems overlays next))
+  graft_is_held =
+      entered_held value whole base is_base is.copies is.points [] is.left (map new_group is.groups) mounts groups
+      filesystems overlays next entered ascending groups_then

@@ -7,7 +7,6 @@ use Rattle.std.proofs.lemmas.Bool.{and_parts, ne_eqb}
 use Rattle.std.proofs.lemmas.List.{map-append}
 use Rattle.std.proofs.lemmas.List.Folds.{list_all-append}
 use Rattle.vt_laws_counts.specs.Using.{AreThere, Exchanges, is_inode, is_on, places_of}
-use Rattle.vt_laws_counts.proofs.using.MountRoots as Roots
 use Rattle.vt_laws_counts.proofs.using.MountRoots.{places_stand}
 use Rattle.vt_laws_counts.proofs.using.Places.{exchanges_follow}
 use Rattle.vt_fs.specs.FilesystemsValue.{FilesystemEntry, Filesystems, filesystem_seen, filesystems_seen, inodes_seen}
@@ -16,7 +15,7 @@ use Rattle.vt_laws_letting_go.specs.Mounting.{inode_at}
 use Rattle.vt_laws_letting_go.specs.OneByOne.{Inode, let_go_inode_of, let_go_inodes, without_inode}
 use Rattle.vt_laws_letting_go.specs.InUse.{is_inode_used}
 use Rattle.vt_laws_letting_go.proofs.Lists.{Among, all_pass, among-append_left, among-append_right, among-filter_map, among-from_map, among-map, among_from_all, among_numbers, map_same, none_passes, passes}
-use Rattle.vt_laws_letting_go.proofs.sweeps.OfWorlds.{found_filesystem, mounts_of_worlds_stand}
+use Rattle.vt_laws_letting_go.proofs.sweeps.OfWorlds.{found_filesystem}
 use Rattle.vt_laws_letting_go.proofs.sweeps.UpperUses.{times_append}
 use Rattle.vt_laws_overlays_stay.specs.Woven.{woven}
 use Rattle.vt_location.specs.declared.locations.Location.{Location}
@@ -37,7 +36,7 @@ use Rattle.vt_spec.specs.Tree.{is_directory_node}
 use Rattle.vt_laws_worlds.specs.Worlds.Kept.{IsUnderWay}
 use Rattle.vt_laws_worlds.proofs.RaisedInUse.{worlds_are_in_use}
 use Rattle.vt_laws_worlds.proofs.worlds.Roots.{directory_there}
-use Rattle.vt_world.specs.Held.{HasOwnInodes, HasOwnNodes, IsHeld}
+use Rattle.vt_world.specs.Held.{HasOwnInodes, HasOwnNodes}
 use Rattle.vt_detach.specs.Uses.{inode_of, unused_entry}
 use Rattle.vt_world.specs.WorldValue.{WorldValue, overlays_seen, world_of}
 use Rattle.vt_detach.proofs.NodesFound.{node_at_home, own_together}

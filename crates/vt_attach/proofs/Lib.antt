@@ -49,5 +49,8 @@ pub mod NewOverlayUses
 pub mod NewOverlaySame
 pub mod NewOverlayBase
 pub mod NewOverlayNumbers
+pub mod NewOverlayInUse
+pub mod OverlayLeft
+pub mod NewOverlayDone
 pub mod OverlayStored
 pub mod OverlayMounted

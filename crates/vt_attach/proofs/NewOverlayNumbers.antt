@@ -1,6 +1,6 @@
 -- The numbers of the world in which an overlay and its mounts have come: those of before, even ones, and the counts that
 -- were taken.
-use Rattle.std.proofs.Common.{◌≡◌, refl, sym, ap, subst, ◌∙◌, inl, inr, ⊎_elim, ℕ, ◌+◌, ◌*◌, ◌<◌, nat_eq, true, false, List, [], ◌∷◌, ◌++◌, length, map, flat_map, is_some, arith}
+use Rattle.std.proofs.Common.{◌≡◌, sym, subst, ◌∙◌, ⊎_elim, ℕ, ◌+◌, ◌*◌, ◌<◌, nat_eq, true, false, List, [], ◌∷◌, ◌++◌, length, map, flat_map, arith}
 use Rattle.std.specs.Prelude.{All}
 use Rattle.vt_spec.specs.Language.Calls.{MountFlags}
 use Rattle.vt_spec.specs.Lists.{Fresh}

@@ -1,12 +1,12 @@
 -- The code's world with a new overlay, and the one with the plain filesystems that are kept once its layers are held:
 -- the same but for the order of the numbers beside trees.
-use Rattle.std.proofs.Common.{◌≡◌, refl, sym, ap, subst, ◌∙◌, inl, inr, ⊎_elim, ℕ, nat_eq, nat_lt, eqb-true, lt-ltb, Bool, true, false, cond, List, [], ◌∷◌, ◌++◌, map, Option, Some, None, is_some, arith}
-use Rattle.std.proofs.lemmas.Bool.{and_parts, le-ltb}
+use Rattle.std.proofs.Common.{◌≡◌, refl, sym, ap, subst, ◌∙◌, inl, inr, ℕ, nat_eq, nat_lt, eqb-true, lt-ltb, Bool, true, false, cond, List, [], ◌∷◌, ◌++◌, map, Option, Some, None, is_some, arith}
+use Rattle.std.proofs.lemmas.Bool.{le-ltb}
 use Rattle.std.proofs.lemmas.List.{map-append}
 use Rattle.vt_spec.specs.Inodes.{Inode as Counted, Inodes, node_in, pinned, tree_of, used_once_more}
 use Rattle.vt_spec.specs.Lists.{folded}
 use Rattle.vt_spec.specs.Machine.SameWorlds.{SameFiles, SameFilesystem, SameFilesystems, SameWorlds}
-use Rattle.vt_spec.specs.Machine.World.{Filesystem, World}
+use Rattle.vt_spec.specs.Machine.World.{Filesystem}
 use Rattle.vt_laws_counts.proofs.Listed.{same_numbers_are_permuted}
 use Rattle.vt_laws_counts.specs.Using.{pinned_if}
 use Rattle.vt_laws_letting_go.specs.OneByOne.{Inode}

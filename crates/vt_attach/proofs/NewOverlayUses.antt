@@ -1,17 +1,15 @@
 -- The uses that the layers of a new overlay are, in the code's world with that overlay, whatever mounts show.
-use Rattle.std.proofs.Common.{◌≡◌, refl, sym, ap, subst, ◌∙◌, ⊎_elim, ℕ, suc, ◌+◌, nat_eq, eqb-true, Bool, true, false, cond, not, ◌&&◌, ◌||◌, List, [], ◌∷◌, ◌++◌, map, filter, flat_map, Option, Some, None, is_some, unwrap_or, arith}
-use Rattle.std.specs.Prelude.{All, slice_get}
-use Rattle.std.specs.List.{list_all}
+use Rattle.std.proofs.Common.{◌≡◌, refl, sym, ap, subst, ◌∙◌, ⊎_elim, ℕ, suc, ◌+◌, nat_eq, eqb-true, Bool, true, false, cond, not, ◌&&◌, ◌||◌, List, [], ◌∷◌, ◌++◌, map, filter, flat_map, Option, Some, is_some, unwrap_or, arith}
+use Rattle.std.specs.Prelude.{slice_get}
 use Rattle.std.proofs.lemmas.Bool.{ne_eqb}
 use Rattle.std.proofs.lemmas.List.{append-nil, append_assoc, map-append}
 use Rattle.vt_laws_trees.proofs.trees.TreesOfWorlds.{number_numbered}
-use Rattle.std.proofs.lemmas.Option.{same_Some}
 use Rattle.vt_spec.proofs.Lists.{map_alike, map_twice}
 use Rattle.vt_spec.specs.Lists.{folded}
 use Rattle.vt_spec.specs.Tree.{is_directory_node}
 use Rattle.vt_laws_counts.specs.OverlaysStay.{layer_count}
 use Rattle.vt_spec.specs.Machine.Locked.{of_overlay}
-use Rattle.vt_spec.specs.Machine.Settled.{layers_in, located_in, named_in, objects_of_overlay, used_in}
+use Rattle.vt_spec.specs.Machine.Settled.{layers_in, located_in, named_in, objects_of_overlay}
 use Rattle.vt_spec.specs.Machine.World.{Filesystem, Layer, World, filesystem_numbered, layers_of, no_filesystem}
 use Rattle.vt_spec.specs.Inodes.{node_in}
 use Rattle.vt_laws_counts.specs.BesideOverlays.{OverlaysHaveNoUpper}
@@ -21,7 +19,7 @@ use Rattle.vt_laws_counts.proofs.overlays.FilesystemUses.{no_upper_is_in_any}
 use Rattle.vt_laws_counts.proofs.using.Exchanged.{uses_are_exchanged_beside_overlays}
 use Rattle.vt_laws_letting_go.specs.Counts.{inode_uses, times}
 use Rattle.vt_laws_letting_go.specs.OneByOne.{Inode}
-use Rattle.vt_laws_letting_go.proofs.Lists.{Among, all_from_among, all_pass, among-from_map, among_from_all}
+use Rattle.vt_laws_letting_go.proofs.Lists.{Among, all_pass, among-from_map, among_from_all}
 use Rattle.vt_laws_letting_go.proofs.sweeps.OfWorlds.{worlds_have_trees}
 use Rattle.vt_laws_letting_go.proofs.sweeps.UpperUses.{times_append}
 use Rattle.vt_laws_worlds.proofs.RaisedInUse.{worlds_are_in_use}
@@ -116,7 +114,7 @@ module _ (world : World ℕ) (added : Filesystem ℕ) (layers : List (Layer ℕ)
       (filter (λ (layer : Layer ℕ). nat_eq number layer.filesystem) layers)
 
   -- an inode has a use more for each of these layers that is there
-  uses_then : (f : Filesystem ℕ) (number : ℕ)
+  pub uses_then : (f : Filesystem ℕ) (number : ℕ)
       → inode_uses world f number + times (is_inode f.number number) (map directory_in layers)
       ≡ inode_uses with_added_last f number
   uses_then f number =

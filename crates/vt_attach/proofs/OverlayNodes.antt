@@ -1,8 +1,7 @@
 -- The inodes of an overlay that a store keeps have the numbers of its nodes.
-use Rattle.std.proofs.Common.{◌≡◌, ◌≤◌, ◌<◌, refl, sym, ap, subst, ◌∙◌, ℕ, nat_eq, Bool, true, false, true≢false, ◌&&◌, List, length, Option, Some, None, is_some, arith}
+use Rattle.std.proofs.Common.{◌≡◌, ◌≤◌, ◌<◌, refl, sym, ap, subst, ◌∙◌, ℕ, true, true≢false, ◌&&◌, List, length, Option, Some, None, is_some, arith}
 use Rattle.std.proofs.lemmas.Bool.{lt-ltb}
 use Rattle.std.proofs.lemmas.Option.{slice_get_within}
-use Rattle.vt_spec.specs.Machine.World.{Filesystem}
 use Rattle.vt_spec.specs.Tree.{Tree}
 use Rattle.vt_fs.specs.FilesystemsValue.{Filesystems}
 use Rattle.vt_laws_overlays_kept.proofs.inodes.InodesInOrder.{inodes_are_the_tree}

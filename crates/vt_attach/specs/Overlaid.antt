@@ -1,5 +1,5 @@
 -- A new overlay, which no mount shows yet: its layers are in use, and it comes after all others.
-use Rattle.std.specs.Prelude.{List, [], ◌++◌, ◌∷◌, ◌≡◌}
+use Rattle.std.specs.Prelude.{[], ◌++◌, ◌∷◌, ◌≡◌}
 use Rattle.vt_fs.specs.FilesystemsValue.{shown}
 use Rattle.vt_store.specs.LayersHeld.{with_layers}
 use Rattle.vt_store.specs.OverlaysValue.{OverlayEntry}

@@ -60,6 +60,10 @@ pub turn_goes_on : (ids : List MountId) (i : ℕ) (d : MountId) → i < length i
 turn_goes_on ids i d less k middle last point at small left turn =
     let next : suc i ≡ i + 1 = omega arith in
     subst (λ (rest : List MountId). LeaveInTurn (map (λ (id : MountId). counted id.count) rest) k last)
-    (sym (drop-cons ids i d less ∙ ap (λ n. get_or ids i d ∷ drop n ids) next))
-    (point, at, small, subst (λ (one : Kept). LeaveInTurn (map (λ (id : MountId). counted id.count) (drop (i + 1) ids))
-    one last) left turn)
+    (sym (drop-cons ids i d less ∙ ap (λ n. get_or ids i d ∷ drop n ids) next)) (
+      point,
+      at,
+      small,
+      subst (λ (one : Kept). LeaveInTurn (map (λ (id : MountId). counted id.count) (drop (i + 1) ids))
+          one last) left turn,
+    )

@@ -146,7 +146,7 @@ module _ (value : WorldValue) (held : IsHeld value) (overlay : Overlay ℕ) (low
             ∙ ap (inode_number layer_in.entry.count) (exchanged_back layer_in.entry.count slot.0)
             ∙ sym slot.2
 
-  lowers_seen : map layer_seen (map layer_kept overlay.lowers) ≡ overlay.lowers
+  pub lowers_seen : map layer_seen (map layer_kept overlay.lowers) ≡ overlay.lowers
   lowers_seen =
       map_twice layer_seen layer_kept overlay.lowers
       ∙ map_alike (λ layer. layer_seen (layer_kept layer)) (λ layer. layer) overlay.lowers kept_again

@@ -33,7 +33,7 @@ impl Store {
     ) -> Result<(), AllocError>
         requires { list_all (λ entry. nat_lt entry.count filesystem.count) self.old.overlays ≡ true }
         ensures ok { OnOk result (self.new ≡ record self.old {
-            overlays = self.old.overlays ++ new_overlay filesystem lowers.items mounter ∷ []
+          overlays = self.old.overlays ++ new_overlay filesystem lowers.items mounter ∷ [];
         }) }
         ensures err { OnErr result (self.new ≡ self.old) }
     {
