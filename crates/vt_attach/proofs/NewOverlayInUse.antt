@@ -1,6 +1,6 @@
 -- Once the layers of a new overlay are held, plain filesystems count them as their own, all mounts show directories
 -- that are there, and all inodes are in use.
-use Rattle.std.proofs.Common.{◌≡◌, refl, sym, ap, subst, ◌∙◌, ⊎_elim, ℕ, ◌+◌, nat_eq, lt-ltb, true, cond, ◌||◌, List, [], ◌∷◌, ◌++◌, map, flat_map, Option, Some, None, is_some, unwrap_or, arith}
+use Rattle.std.proofs.Common.{◌≡◌, refl, sym, ap, ◌∙◌, ⊎_elim, ℕ, ◌+◌, nat_eq, lt-ltb, true, cond, ◌||◌, List, [], ◌∷◌, ◌++◌, map, flat_map, Option, Some, None, unwrap_or, arith}
 use Rattle.std.specs.Prelude.{option_to_list}
 use Rattle.std.specs.List.{list_all}
 use Rattle.std.proofs.lemmas.Bool.{and_from, and_parts, ltb-true, ne_eqb, or_cases}
@@ -11,19 +11,16 @@ use Rattle.vt_spec.specs.Lists.{is_among}
 use Rattle.vt_spec.specs.Machine.Invariants.{has_its_root}
 use Rattle.vt_spec.specs.Machine.Locked.{of_overlay, overlay_or}
 use Rattle.vt_spec.specs.Machine.Mounts.{Location}
-use Rattle.vt_spec.specs.Machine.SameWorlds.{SameFiles, SameFilesystem, SameWorlds}
+use Rattle.vt_spec.specs.Machine.SameWorlds.{SameFilesystem, SameWorlds}
 use Rattle.vt_spec.specs.Machine.Settled.{layers_in, located_in, named_in, objects_of_overlay, used_in}
 use Rattle.vt_spec.specs.Machine.World.{Filesystem, Layer, World, filesystem_numbered, is_directory_at, layers_of, mount_at, no_filesystem}
-use Rattle.vt_spec.specs.FileTree.{FileTree}
 use Rattle.vt_spec.specs.Tree.{is_directory_node}
-use Rattle.vt_spec.specs.TreeInvariant.{IsTree}
 use Rattle.vt_laws_counts.specs.OverlaysStay.{layer_count}
 use Rattle.vt_laws_letting_go.specs.Counts.{inode_uses, mounts_showing, times}
-use Rattle.vt_laws_letting_go.specs.InUse.{HasTrees, InodesInUse, IsListedTree, is_inode_used}
+use Rattle.vt_laws_letting_go.specs.InUse.{InodesInUse, is_inode_used}
 use Rattle.vt_laws_letting_go.specs.Keeping.{has_only_named}
 use Rattle.vt_laws_letting_go.specs.OneByOne.{Inode}
 use Rattle.vt_laws_letting_go.proofs.Lists.{Among, all_pass, among_from_all, is_among_left, or_first, or_second, passes}
-use Rattle.vt_laws_letting_go.proofs.sweeps.OfWorlds.{worlds_have_trees}
 use Rattle.vt_laws_letting_go.proofs.sweeps.UsesCounted.{used_while_counted}
 use Rattle.vt_laws_one_text.proofs.answered.AlikeSettled.{used_permuted}
 use Rattle.vt_laws_one_text.proofs.answered.AlikeWorlds.{alike_from_same}
@@ -62,24 +59,8 @@ module _ (one other : World ℕ) (same : SameWorlds one other) where
       (λ first second known. ap (overlay_or [] layers_of) known.overlay)
       one.filesystems other.filesystems (alike_from_same one other same).filesystems)
 
-  -- where all filesystems of one have listed trees, so have those of the other
-  pub same_worlds_have_trees_alike : HasTrees one → HasTrees other
-  same_worlds_have_trees_alike =
-      each_holds SameFilesystem (λ f. IsListedTree f.files) (λ f. IsListedTree f.files)
-      (λ a b alike is. by a.files b.files alike.files is) one.filesystems other.filesystems
-      (alike_from_same one other same).filesystems
-    where
-      by : (first second : FileTree ℕ) → SameFiles first second → IsListedTree first → IsListedTree second
-      by first second alike is = record {
-        tree = subst IsTree alike.tree is.tree;
-        numbers = λ number.
-            sym (list_any-IsPermutation (nat_eq number) first.numbers second.numbers alike.numbers)
-            ∙ is.numbers number
-            ∙ (λ i. is_some ((alike.tree i).node number));
-      }
-
   -- where all inodes of one are in use, so are those of the other
-  pub same_worlds_use_inodes_alike : InodesInUse one → InodesInUse other
+  same_worlds_use_inodes_alike : InodesInUse one → InodesInUse other
   same_worlds_use_inodes_alike =
       each_holds SameFilesystem (λ f. list_all (is_inode_used one f) f.files.numbers ≡ true)
       (λ f. list_all (is_inode_used other f) f.files.numbers ≡ true)
@@ -232,13 +213,3 @@ module _ (value : WorldValue) (whole : IsHeld value) (base : Filesystems) (entry
         filesystems = woven (filesystems_seen base) (overlays_seen (value.overlays ++ overlay_of_store base entry ∷ []));
       })
   in_use_when_held named = same_worlds_use_inodes_alike last over_base same_when_held (in_use_last named)
-
-  -- and all have trees
-  pub trees_when_held : IsListedTree (overlay_seen (overlay_of_store base entry)).files
-      → HasTrees (record (world_of value) {
-        filesystems = woven (filesystems_seen base) (overlays_seen (value.overlays ++ overlay_of_store base entry ∷ []));
-      })
-  trees_when_held tree =
-      same_worlds_have_trees_alike last over_base same_when_held
-      (all_last (λ (f : Filesystem ℕ). IsListedTree f.files) world.filesystems over
-      (worlds_have_trees world whole.in_world) tree)

@@ -35,9 +35,8 @@ use Rattle.vt_laws_worlds.proofs.worlds.FitPermits.{destination}
 use Rattle.vt_laws_worlds.proofs.worlds.ReachedPlaces.{IsTopmost, destination_walk_end}
 use Rattle.vt_laws_worlds.proofs.worlds.Roots.{directory_there}
 use Rattle.vt_laws_worlds.specs.Worlds.Permits.{IsDestination}
-use Rattle.vt_location.specs.Numbers.{counted, exchanged, inode_number, is_own_number}
+use Rattle.vt_location.specs.Numbers.{counted, exchanged, inode_number}
 use Rattle.vt_location.proofs.NumberLemmas.{exchanged_back, exchanged_slot, own_inode, slot_of}
-use Rattle.vt_merge.specs.declared.layers.LayerRef.{LayerRef}
 use Rattle.vt_overlay.specs.MergedTree as Kept
 use Rattle.vt_overlay.specs.MergedTree.{layer_seen}
 use Rattle.vt_detach.specs.Events.{layer_kept}

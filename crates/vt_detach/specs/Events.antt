@@ -14,7 +14,6 @@ use Rattle.vt_location.specs.Numbers.{exchanged, inode_number}
 use Rattle.vt_merge.specs.declared.layers.LayerRef.{LayerRef}
 use Rattle.vt_overlay.specs.MergedTree.{OverlayValue}
 use Rattle.vt_laws_overlays_made.specs.Made.{handed_in}
-use Rattle.vt_laws_given.specs.LeftWorlds.{IsGivenToTask}
 use Rattle.vt_laws_permits.specs.Left.{IsGiven, left_by as left}
 use Rattle.vt_laws_runs.specs.Handed.{counts_from, handed_from}
 use Rattle.vt_world.specs.WorldValue.{WorldValue, world_of}
@@ -61,12 +60,6 @@ pub record Permits (value : WorldValue) (name : TaskName) (permit : Permit ℕ) 
   pub task : Task ℕ
   pub called : task_called (world_of value) name ≡ Some task
   pub given : IsGiven (supply_of value permit) (world_of value) task permit
-
--- so it is for any call, the mount of an overlay among them
-pub record PermitsToAny (value : WorldValue) (name : TaskName) (permit : Permit ℕ) : Type 0 where
-  pub task : Task ℕ
-  pub called : task_called (world_of value) name ≡ Some task
-  pub given : IsGivenToTask (supply_of value permit) (world_of value) task permit
 
 -- the credentials of the task with this name
 abbrev pub credentials_called : WorldValue → TaskName → Credentials

@@ -11,7 +11,6 @@ pub mod FileParts
 pub mod FileRemoving
 pub mod FileRenaming
 pub mod FilesOpened
-pub mod FilesRead
 pub mod ForkedTasks
 pub mod ListedWorlds
 pub mod LookingAlone

@@ -10,3 +10,7 @@ pub mod OverlaysCome
 pub mod TreesStay
 pub mod Woven
 pub mod WovenLast
+pub mod Ranked
+pub mod Scanned
+pub mod Locked
+pub mod AnyOverlay

@@ -1,12 +1,17 @@
 -- What lies in layers of overlays, and is locked: the kernel's overlayfs document, "changes to underlying filesystems".
 use Rattle.std.specs.Prelude.{Bool, nat_eq, ℕ, ◌&&◌}
 use Rattle.std.specs.List.{list_any}
-use Rattle.vt_spec.specs.FileTree.{is_under}
+use Rattle.vt_spec.specs.FileTree.{FileTree, has_entry_to, is_directory_under, is_under}
 use Rattle.vt_location.specs.Locations.{inode_of}
 use Rattle.vt_fs.specs.FilesystemsValue.{Filesystems, files_at}
 use Rattle.vt_merge.specs.declared.layers.LayerRef.{LayerRef}
 use Rattle.vt_store.specs.OverlaysValue.{OverlayEntry}
 use Rattle.vt_store.specs.StoreValue.{StoreValue}
+
+-- a directory has a name for an inode, and is at or under another
+abbrev pub names_under : FileTree ℕ → ℕ → ℕ → ℕ → Bool
+names_under files top file directory =
+    has_entry_to nat_eq files.tree directory file && is_directory_under nat_eq files top directory
 
 -- an inode of a plain filesystem is the directory of a layer, lies under it, or has a name there
 abbrev pub lies_in : Filesystems → ℕ → ℕ → LayerRef → Bool

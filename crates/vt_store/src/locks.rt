@@ -5,7 +5,7 @@ ghost use Rattle.vt_spec.specs.FileTree.{is_file_under, is_under};
 ghost use Rattle.vt_location.specs.Locations.{inode_of};
 ghost use Rattle.vt_fs.specs.FilesystemsValue.{files_at};
 ghost use Rattle.vt_fs.specs.Laws.{ParentsAreNamed};
-ghost use Rattle.vt_store.specs.Locks.{is_in_layer, lies_in};
+ghost use Rattle.vt_store.specs.Locks.{is_in_layer, lies_in, names_under};
 
 use crate::store::Store;
 use vt_fs::Filesystems;
@@ -54,7 +54,7 @@ fn lies_under(plain: &Filesystems, top: InodeRef, inode: InodeRef) -> bool
     }
 }
 
-// Whether an inode has a name in a directory at or under another.
+// Whether an inode has a name in a directory at or under another. It looks at each slot of the tree.
 fn has_name_under(plain: &Filesystems, top: InodeRef, file: InodeRef) -> bool
     requires named { ParentsAreNamed (files_at plain.now file.filesystem.count).tree }
     requires one_filesystem { top.filesystem ≡ file.filesystem }
@@ -64,19 +64,37 @@ fn has_name_under(plain: &Filesystems, top: InodeRef, file: InodeRef) -> bool
     let Some(tree) = plain.get(file.filesystem) else {
         return false;
     };
+    tree.numbers_fit();
     let mut left = tree.len();
     let mut slot = 0;
     while left > 0 {
         let directory = NodeId::new(slot);
-        if let Some(node) = tree.node(directory) {
-            left -= 1;
-            if node.name_ranked(file.node(), 0).is_some()
-                && plain.is_under(top.node_ref(), NodeRef::new(file.filesystem, directory))
-            {
+        if tree.node(directory).is_some() {
+            if names_under(plain, top, file, InodeRef::new(file.filesystem, directory)) {
                 return true;
+            }
+            left -= 1;
+            if left == 0 {
+                return false;
             }
         }
         slot += 1;
     }
     false
+}
+
+// Whether a directory has a name for an inode, and is at or under another.
+fn names_under(plain: &Filesystems, top: InodeRef, file: InodeRef, directory: InodeRef) -> bool
+    requires named { ParentsAreNamed (files_at plain.now file.filesystem.count).tree }
+    requires one_filesystem { (top.filesystem ≡ file.filesystem) × (directory.filesystem ≡ file.filesystem) }
+    ensures { result ≡ names_under (files_at plain.now file.filesystem.count) (inode_of top) (inode_of file)
+        (inode_of directory) }
+{
+    match plain.node(directory.node_ref()) {
+        Some(node) => {
+            node.name_ranked(file.node(), 0).is_some()
+                && plain.is_under(top.node_ref(), directory.node_ref())
+        }
+        None => false,
+    }
 }

@@ -127,9 +127,11 @@ impl Overlays {
         ensures { result
             ≡ list_any (lies_in_overlay plain.now inode.filesystem.count (inode_of inode)) self.now }
     {
-        for kept in self.by_number.values() {
-            if lies_in_one(plain, kept.overlay.lowers(), inode) {
-                return true;
+        for index in 0..self.by_number.len() {
+            if let Some((_, kept)) = self.by_number.get_index(index) {
+                if lies_in_one(plain, kept.overlay.lowers(), inode) {
+                    return true;
+                }
             }
         }
         false
