@@ -38,9 +38,11 @@ use Rattle.vt_ns.specs.OverlayMounts.{IsPlainLayer, PermitsOverlay}
 use Rattle.vt_ns.proofs.world.BoundEvents.{place_mounted}
 
 -- a layer of a plain filesystem is kept by its slot
+abbrev pub kept_by_slot : LowerLayer → LayerRef
+kept_by_slot lower = record { directory = record { filesystem = lower.filesystem; slot = lower.directory.slot } }
+
 pub kept_as_it_is : (lower : LowerLayer) → lower.directory.slot < 18446744073709551616 → IsPlainLayer lower
-    → record { directory = record { filesystem = lower.filesystem; slot = lower.directory.slot } }
-    ≡ layer_kept (layer_of lower)
+    → kept_by_slot lower ≡ layer_kept (layer_of lower)
 kept_as_it_is lower small plain =
     λ i. record { directory = record { filesystem = record { count = sym count i }; slot = sym slot i } }
   where
