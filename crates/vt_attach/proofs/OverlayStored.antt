@@ -24,7 +24,6 @@ use Rattle.vt_overlay.specs.MergedTree.{AreLayers, OverlayValue}
 use Rattle.vt_store.specs.Laws.{IsSameLayer}
 use Rattle.vt_store.proofs.OverlaysAlike.{overlays_stay_with_layers}
 use Rattle.vt_store.specs.OverlaysValue as stored
-use Rattle.vt_store.specs.OverlaysValue.{Overlays}
 use Rattle.vt_store.specs.StoreValue.{StoreValue, overlay_filesystem}
 use Rattle.vt_world.specs.Held.{IsHeld}
 use Rattle.vt_world.specs.StoredWorld.{overlay_of_store, overlays_of_store, with_store}

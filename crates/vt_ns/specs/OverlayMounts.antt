@@ -1,7 +1,6 @@
 -- The event that mounts an overlay: the mounter is the caller, so the permit is told by the task.
 use Rattle.std.specs.Prelude.{Some, true, ℕ, ◌≡◌}
 use Rattle.vt_spec.specs.Language.Calls.{TaskName}
-use Rattle.vt_spec.specs.Machine.Permits.{Permit}
 use Rattle.vt_spec.specs.Machine.SameWorlds.{SameWorlds}
 use Rattle.vt_spec.specs.Machine.World.{Task, task_called}
 use Rattle.vt_laws_given.specs.LeftWorlds.{IsGivenToTask}
