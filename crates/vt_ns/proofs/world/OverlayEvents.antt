@@ -1,5 +1,5 @@
 -- The event that mounts an overlay: what its permit names, and what is kept of it.
-use Rattle.std.proofs.Common.{◌≡◌, ◌<◌, ◌∙◌, refl, sym, ap, subst, true, true≢false, false, not, nat_lt, lt-ltb, ◌&&◌, ◌/◌, List, [], ◌∷◌, length, map, Some, arith}
+use Rattle.std.proofs.Common.{◌≡◌, ◌<◌, ◌∙◌, refl, sym, ap, subst, true, true≢false, not, nat_lt, lt-ltb, ◌&&◌, ◌/◌, List, [], ◌∷◌, length, map, Some, arith}
 use Rattle.std.specs.Prelude.{All, nat_le, slice_get}
 use Rattle.std.specs.List.{list_all}
 use Rattle.std.proofs.lemmas.Bool.{and_parts}
