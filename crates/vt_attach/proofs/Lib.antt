@@ -52,3 +52,5 @@ pub mod NewOverlayNumbers
 pub mod NewOverlayInUse
 pub mod OverlayLeft
 pub mod NewOverlayDone
+pub mod OverlayStored
+pub mod OverlayMounted

@@ -1,11 +1,11 @@
 -- The event that mounts an overlay: the mounter is the caller, so the permit is told by the task.
-use Rattle.std.specs.Prelude.{All, Some, ℕ, ◌≡◌}
+use Rattle.std.specs.Prelude.{Some, true, ℕ, ◌≡◌}
 use Rattle.vt_spec.specs.Language.Calls.{TaskName}
-use Rattle.vt_spec.specs.Machine.Permits.{Permit}
 use Rattle.vt_spec.specs.Machine.SameWorlds.{SameWorlds}
 use Rattle.vt_spec.specs.Machine.World.{Task, task_called}
 use Rattle.vt_laws_given.specs.LeftWorlds.{IsGivenToTask}
-use Rattle.vt_location.specs.declared.births.Birth.TheVariants.{Here}
+use Rattle.vt_location.specs.Locations.{number_of}
+use Rattle.vt_location.specs.Numbers.{is_own_number}
 use Rattle.vt_permits.specs.GrantValue.{overlay_permit}
 use Rattle.vt_permits.specs.declared.grant.LowerLayer.{LowerLayer}
 use Rattle.vt_permits.specs.declared.grant.ToMountOverlay.{ToMountOverlay}
@@ -24,7 +24,6 @@ MountsOverlay old name new later =
     (task : Task ℕ) → task_called (world_of old) name ≡ Some task
     → SameWorlds (left_by old task (overlay_permit task new)) (world_of later)
 
--- a layer is a directory of the plain filesystem that its mount shows
-pub record IsPlainLayer (lower : LowerLayer) : Type 0 where
-  pub own : lower.directory.filesystem ≡ lower.filesystem
-  pub born : lower.directory.birth ≡ Here
+-- a layer is an inode of the plain filesystem that its mount shows
+abbrev pub IsPlainLayer : LowerLayer → Type 0
+IsPlainLayer lower = is_own_number lower.filesystem.count (number_of lower.directory) ≡ true
