@@ -2,7 +2,7 @@ use Rattle.std.proofs.Common.{◌≡◌, ◌⊎◌, ◌-◌, ◌≤◌, ℕ, Som
 use Rattle.vt_location.specs.Numbers.{counted}
 use Rattle.vt_group.specs.Grouping.{master_in}
 use Rattle.vt_group.specs.Receiving.{Reaches, is_in, is_noted, receives_from}
-use Rattle.vt_group.proofs.groups.Groups.receiving.Given as goal
+use Rattle.vt_group.proofs.groups.Groups.receiving_below.Given as goal
 
 abbrev pub invariant-loop-next : goal.invariant-loop-next
 invariant-loop-next l = record {

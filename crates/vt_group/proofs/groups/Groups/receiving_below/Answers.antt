@@ -7,7 +7,7 @@ use Rattle.vt_group.specs.Grouping.{propagation_in}
 use Rattle.vt_group.specs.Receiving.{is_in, receivers_from, receives_from}
 use Rattle.vt_group.proofs.groups.Found.{each_more, few_found, in_at, in_longer, known_more, lower_more, reaches_more, taken_more}
 use Rattle.vt_group.proofs.groups.Relatives.{receivers_noted}
-use Rattle.vt_group.proofs.groups.Groups.receiving.Goals as goal
+use Rattle.vt_group.proofs.groups.Groups.receiving_below.Goals as goal
 
 pub loop-next-smaller : goal.loop-next-smaller
 loop-next-smaller c =
