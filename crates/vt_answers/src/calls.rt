@@ -1,8 +1,7 @@
 //! The trait `Calls`.
-ghost use Rattle.std.specs.Prelude.{◌≡◌, IfErr, IfOk, Ok, OnOk, nat_eq, true, ℕ};
+ghost use Rattle.std.specs.Prelude.{◌≡◌, IfErr, IfOk, Ok, OnOk, nat_eq, ℕ};
 ghost use Rattle.vt_spec.specs.declared.errors.Rule.TheVariants.{S5};
 ghost use Rattle.vt_spec.specs.Errors.{denial};
-ghost use Rattle.vt_spec.specs.Language.Script.{needs_no_layers};
 ghost use Rattle.vt_spec.specs.Machine.Sealed.{directed};
 ghost use Rattle.vt_spec.specs.Machine.World.{World};
 ghost use Rattle.vt_request.specs.Answers.{answer_of};
@@ -31,7 +30,6 @@ pub trait Calls {
     /// S2 (ESRCH): there is no such task. S5 (ENOMEM): an allocation failed, or a count of uses is full. The other
     /// rules are those of the call, in its order.
     fn call(&mut self, name: &TaskName, call: Call) -> Result<Answer, Deny>
-        requires { needs_no_layers (call_of call) ≡ true }
         ensures ends { Ends world self.old name.now (call_of call) result self.new }
         ensures change { OnOk result
             ((world self.new).change ≡ change_after (call_of call) (world self.old).change) };

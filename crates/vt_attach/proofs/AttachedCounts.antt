@@ -5,7 +5,6 @@ use Rattle.std.proofs.lemmas.Bool.{ltb-true, ne_eqb}
 use Rattle.vt_spec.specs.Lists.{is_among}
 use Rattle.vt_spec.specs.Machine.Mounts as meant
 use Rattle.vt_spec.specs.Machine.World.{Descriptor, Task, all_locations, locations_of}
-use Rattle.vt_laws_counts.proofs.using.MountRoots as Roots
 use Rattle.vt_laws_letting_go.specs.Counts.{times}
 use Rattle.vt_laws_letting_go.proofs.Lists.{Among, among-append_left, among-append_right, among-from_map, among-map, among_numbers, is_among_numbers, passes}
 use Rattle.vt_location.specs.declared.mounts.Mount.{Mount}
@@ -16,6 +15,7 @@ use Rattle.vt_laws_runs.specs.Handed.{is_counted_before}
 use Rattle.vt_world.specs.Held.{CountsItsUses, IsHeld, writes_of, writes_on}
 use Rattle.vt_detach.specs.Uses.{unused_entry}
 use Rattle.vt_world.specs.WorldValue.{WorldValue, world_of}
+use Rattle.vt_attach.proofs.Beside.{IsBeside}
 use Rattle.vt_attach.proofs.EnteringLemmas.{apart}
 use Rattle.vt_detach.proofs.FilesSeen.{mount_named}
 
@@ -52,7 +52,7 @@ writes_none number (task ∷ tasks) none =
         by false = refl
 
 -- Mounts that come after all others: nothing is on them
-module _ (value : WorldValue) (whole : IsHeld value) (new : List Mount)
+module _ (value : WorldValue) (whole : IsBeside value) (new : List Mount)
     (ascending : are_ascending (mounts_in value.mounts ++ map mount_of new) ≡ true) where
   -- no location is on one of them
   not_on_new : (mount : Mount) → Among mount new → (location : meant.Location ℕ)
@@ -62,7 +62,7 @@ module _ (value : WorldValue) (whole : IsHeld value) (new : List Mount)
       let on = among_numbers location.mount (map (λ (x : meant.Mount ℕ). x.number) (mounts_in value.mounts))
       (passes (λ location. is_among nat_eq location.mount
       (map (λ (x : meant.Mount ℕ). x.number) (mounts_in value.mounts))) (all_locations (world_of value))
-      (Roots.locations_of_worlds_stand (world_of value) whole.in_world) location n) in
+      whole.locations_stand location n) in
       let from = among-from_map (λ (x : meant.Mount ℕ). x.number) (mounts_in value.mounts) location.mount on in
       let less = apart (mounts_in value.mounts) (map mount_of new) ascending from.0 (mount_of mount) from.1
       (among-map mount_of new mount m) in

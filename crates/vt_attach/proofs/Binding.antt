@@ -53,6 +53,7 @@ use Rattle.vt_attach.specs.Grafted.{IsGrafted, MayGraft}
 use Rattle.vt_attach.specs.PlannedUses.{point_seen}
 use Rattle.vt_attach.proofs.AttachedCounts.{lower_numbers}
 use Rattle.vt_attach.proofs.CopiesAscend.{planned_ascend}
+use Rattle.vt_attach.proofs.Beside.{beside}
 use Rattle.vt_attach.proofs.GraftedDone.{IsBase, graft_is_done, grafted_value, plan_attaches}
 use Rattle.vt_attach.proofs.NumbersByParts.{binds_keep_to_numbers}
 use Rattle.vt_attach.proofs.TakingNumbers.{TakesNumbers}
@@ -199,9 +200,9 @@ module _ (value : WorldValue) (whole : IsHeld value) (name : TaskName) (source :
       ≡ 2 * (length graft.parts.now * length graft.tree.now) =
       (λ i. 2 * (length (sym parts_are i) * length (sym tree_is i)))
       ∙ (λ i. 2 * (length-map graft.parts.now mount_of i * length-map graft.tree.now mount_of i)) in
-      graft_is_done value whole value.filesystems
+      graft_is_done value (beside value whole) value.filesystems
       (same_base value whole) graft counts mounts groups filesystems overlays next is attaches tree_groups_there rising
-      name permit permits takes left_is
+      whole name permit permits takes left_is
       (subst (λ n. KeepsTo (is_counted_before n) (left_by value permits.task permit))
       (ap (λ n. value.next + n) sizes ∙ sym grows) named)
 

@@ -1,6 +1,6 @@
 -- Attachments with copies at all receivers are done: the code's world is what the policy leaves, and counts what is in
 -- it.
-use Rattle.std.proofs.Common.{◌≡◌, refl, sym, ap, subst, ◌∙◌, ⊎_elim, inl, inr, ℕ, ◌+◌, nat_eq, Bool, true, false, cond, List, [], ◌∷◌, ◌++◌, map, filter, Option, is_some, arith}
+use Rattle.std.proofs.Common.{◌≡◌, refl, sym, ap, subst, ◌∙◌, ⊎_elim, inl, inr, ℕ, ◌+◌, nat_eq, Bool, true, false, true≢false, cond, List, [], ◌∷◌, ◌++◌, map, filter, Option, is_some, arith}
 use Rattle.std.specs.Prelude.{All}
 use Rattle.std.specs.List.{list_all}
 use Rattle.vt_laws_counts.specs.Counted.{IsCounted}
@@ -45,17 +45,29 @@ use Rattle.vt_spec.specs.Machine.World.{Filesystem, World, filesystem_numbered, 
 use Rattle.vt_spec.specs.Machine.Invariants.{IsWorld, has_its_root}
 use Rattle.vt_laws_worlds.specs.Worlds.Kept.{IsUnderWay}
 use Rattle.vt_detach.specs.Events.{Permits, left_by}
-use Rattle.vt_world.specs.Held.{CountsItsUses, CountsWhatIsInIt, HasOwnInodes, IsHeld, IsMountedSoOften}
+use Rattle.vt_world.specs.Held.{CountsItsMounts, CountsItsUses, CountsWhatIsInIt, HasOwnInodes, HasOwnNodes, IsHeld, IsMountedSoOften}
 use Rattle.vt_detach.specs.Uses.{unused_entry, Merged, kept_with, merged_seen, overlays_kept, merged_by}
 use Rattle.vt_world.specs.WorldValue.{WorldValue, overlays_seen, world_of}
 use Rattle.vt_detach.proofs.BesideOverlays.{layers_alike}
 use Rattle.vt_detach.proofs.Finishing.{CountsBeside, own_exchanged}
 use Rattle.vt_detach.proofs.MountsChanged.{times_map}
-use Rattle.vt_detach.proofs.Overlaid.{KeepsOverlays, files_are_plain, is_plain_one, no_upper_midway, layers_kept, overlays_are}
+use Rattle.vt_detach.proofs.NodesFound.{woven_all}
+use Rattle.vt_detach.proofs.Overlaid.{files_are_plain, is_plain_one, same_files_rise}
 use Rattle.vt_detach.proofs.OwnInodesKept.{IsOwn}
-use Rattle.vt_detach.proofs.Showing.{ShowsAs}
+use Rattle.vt_detach.proofs.Showing.{ShowsAs, shown_has, shown_is_counted, shown_is_same}
 use Rattle.vt_detach.proofs.Staying.{IsDone}
-use Rattle.vt_attach.proofs.OverlaysMore.{counted_more, grown, merged_by_all, seen_more}
+use Rattle.vt_attach.proofs.OverlaysMore.{counted_more, merged_by_all, seen_more}
+use Rattle.vt_laws_counts.specs.BesideOverlays.{OverlaysHaveNoUpper}
+use Rattle.vt_laws_counts.specs.OverlaysStay.{OverlaysAreNamed}
+use Rattle.vt_laws_letting_go.specs.Keeping.{has_only_named}
+use Rattle.vt_laws_one_text.proofs.same.SameNumbers.{any_same_worlds_keep_to_numbers}
+use Rattle.vt_laws_one_text.proofs.same.SameWhole.{any_same_worlds_are_worlds}
+use Rattle.vt_laws_overlays_read.specs.Writers.{WritersHaveLayers}
+use Rattle.vt_laws_overlays_read.proofs.writers.Swept.{same_worlds_have_layers_alike}
+use Rattle.vt_laws_overlays_stay.proofs.kept.OverlaysLeft.{by_overlays, no_upper_of_plain}
+use Rattle.vt_laws_overlays_stay.proofs.kept.OverlaysSwept.{same_worlds_have_no_upper_alike}
+use Rattle.vt_spec.specs.Machine.SameWorlds.{SameWorlds}
+use Rattle.vt_attach.proofs.Beside.{IsBeside, IsReadOnly}
 use Rattle.vt_attach.specs.AttachedGroups.{HasGroupsOf, all_copies, groups_formed, type_of}
 use Rattle.vt_attach.specs.Grafted.{IsGrafted}
 use Rattle.vt_attach.specs.Moved.{typed_all, with_types}
@@ -104,25 +116,25 @@ grafted_value value mounts groups filesystems overlays next = record value {
 }
 
 -- its overlays are those of before, but for how often they are mounted
-pub overlays_same : (value : WorldValue) → IsHeld value → (copies : List Mount) (overlays : List Merged)
+pub overlays_same : (value : WorldValue) → IsBeside value → (copies : List Mount) (overlays : List Merged)
     → overlays ≡ folded merged_by (map merged_seen value.overlays) copies
     → overlays_seen (overlays_kept overlays value.overlays) ≡ overlays_seen value.overlays
 overlays_same value whole copies overlays are =
-    seen_more value whole (map mount_of copies) overlays (are ∙ merged_by_all copies (map merged_seen value.overlays))
+    seen_more value whole.overlays_rise (map mount_of copies) overlays (are ∙ merged_by_all copies (map merged_seen value.overlays))
 
 -- Beside the overlays of the code's world
 
-base_parted : (value : WorldValue) → IsHeld value → (base : Filesystems)
+base_parted : (value : WorldValue) → IsBeside value → (base : Filesystems)
     → ArePartedBy is_overlay (filesystems_seen base) (overlays_seen value.overlays)
-base_parted value whole base = record { fail = files_are_plain base; pass = whole.overlays.merged }
+base_parted value whole base = record { fail = files_are_plain base; pass = whole.merged }
 
-pub base_overlays : (value : WorldValue) → IsHeld value → (base : Filesystems)
+pub base_overlays : (value : WorldValue) → IsBeside value → (base : Filesystems)
     → filter is_overlay (beside_overlays value base) ≡ overlays_seen value.overlays
 base_overlays value whole base =
     woven_lists_are_passing is_overlay (filesystems_seen base) (overlays_seen value.overlays)
-    (base_parted value whole base) whole.overlays.overlays_rise
+    (base_parted value whole base) whole.overlays_rise
 
-pub base_plain_ones : (value : WorldValue) → IsHeld value → (base : Filesystems)
+pub base_plain_ones : (value : WorldValue) → IsBeside value → (base : Filesystems)
     → filter is_plain_one (beside_overlays value base) ≡ filesystems_seen base
 base_plain_ones value whole base =
     woven_lists_are_failing is_overlay (filesystems_seen base) (overlays_seen value.overlays)
@@ -186,7 +198,7 @@ typed_counts world (new ∷ types) entries counts entry m =
     by was true counted_so = record { uses = counted_so.uses; writers = counted_so.writers }
     by was false counted_so = counted_so
 
-module _ (value : WorldValue) (whole : IsHeld value) (base : Filesystems) (is_base : IsBase value base)
+module _ (value : WorldValue) (whole : IsBeside value) (base : Filesystems) (is_base : IsBase value base)
     (copies : List Mount) (points : List Point) (kinds : List (ℕ × Propagation ℕ)) (left : List Location)
     (formed : List (ℕ × Option ℕ)) (mounts : List MountEntry) (groups : Grouping) (filesystems : Filesystems)
     (overlays : List Merged)
@@ -255,9 +267,13 @@ module _ (value : WorldValue) (whole : IsHeld value) (base : Filesystems) (is_ba
   same_overlays : overlays_seen new.overlays ≡ overlays_seen value.overlays
   same_overlays = overlays_same value whole copies overlays merged_are
 
-  -- overlays stay as they are
-  pub keeps_overlays : KeepsOverlays value entered_world
-  keeps_overlays = record { overlays = base_overlays value whole base; rise = is_base.rise }
+  -- no overlay has an upper layer
+  no_upper_then : OverlaysHaveNoUpper entered_world
+  no_upper_then =
+      woven_all IsReadOnly (filesystems_seen base) (overlays_seen value.overlays)
+      (all_from_among IsReadOnly (filesystems_seen base) (λ f m. no_upper_of_plain f
+      (among_from_all (λ (g : Filesystem ℕ). is_overlay g ≡ false) (filesystems_seen base) (files_are_plain base) f m)))
+      whole.read_only
 
   counted_then : IsWorld nat_eq entered_world → (entry : FilesystemEntry) → Among entry filesystems
       → IsCounted entered_world (filesystem_numbered nat_eq entered_world (counted entry.count)) (inodes_seen entry)
@@ -275,7 +291,7 @@ module _ (value : WorldValue) (whole : IsHeld value) (base : Filesystems) (is_ba
       (uses_are_exchanged_beside_overlays (with_base value base) entered_world gains losses (counted from.0.count)
       (inodes_seen from.0) is_base.trees is_base.in_use
       (no_upper_is_in_any entered_world (counted from.0.count)
-      (no_upper_midway value whole.overlays entered_world keeps_overlays))
+      no_upper_then)
       (exchanged_then value base master copies points kinds whole is_base.own
       (under is_world) is_base.roots is.once left is.left_are is.left_small is.taken_small is.slots ascending
       (counted from.0.count))
@@ -319,12 +335,22 @@ module _ (value : WorldValue) (whole : IsHeld value) (base : Filesystems) (is_ba
   counted_so entry m =
       ⊎_elim
       (λ old. let was = among_from_all (CountsItsUses (world_of value)) (with_points points value.mounts)
-      (points_count (world_of value) points value.mounts whole.mounts) entry old in
+      (points_count (world_of value) points value.mounts whole.uses) entry old in
       record { uses = was.uses; writers = was.writers })
       (λ added. let from = among-from_map unused_entry copies entry added in
       let was = unused_counts value whole copies ascending from.0 from.1 in
       subst (CountsItsUses (world_of new)) (sym from.2) (record { uses = was.uses; writers = was.writers }))
       (among-append (with_points points value.mounts) (map unused_entry copies) entry m)
+
+  overlays_then : filter is_overlay (world_of new).filesystems ≡ filter is_overlay (with_base value base).filesystems
+  overlays_then =
+      woven_lists_are_passing is_overlay (filesystems_seen filesystems) (overlays_seen new.overlays)
+      (record {
+        fail = files_are_plain filesystems;
+        pass = subst (All (λ filesystem. is_overlay filesystem ≡ true)) (sym same_overlays) whole.merged;
+      })
+      (ap are_rising same_overlays ∙ whole.overlays_rise)
+      ∙ same_overlays ∙ sym (base_overlays value whole base)
 
   pub counts_then : CountsBeside new
   counts_then = record {
@@ -335,20 +361,19 @@ module _ (value : WorldValue) (whole : IsHeld value) (base : Filesystems) (is_ba
         let from = from_base entry m in
         let was = is_base.mounts from.0 from.1 in
         let more = showing_then from.0.count in
-        let layers_now = layers_kept value new whole.overlays same_overlays
-        (counted from.0.count) in
-        let layers = layers_alike (world_of value) (with_base value base)
-        (base_overlays value whole base ∙ sym (overlays_are value whole.overlays)) (counted from.0.count) in
+        let layers = layers_alike (with_base value base) (world_of new) overlays_then (counted from.0.count) in
         let sum : from.0.mounts + showing from.0.count copies
         ≡ mounts_showing (world_of new) (counted from.0.count) + layer_count (world_of new) (counted from.0.count) =
-        omega (arith, was, more, layers, layers_now) in
+        omega (arith, was, more, layers) in
         ap (λ (one : Shown). one.mounts) from.2 ∙ sum
         ∙ ap (λ count. mounts_showing (world_of new) (counted count) + layer_count (world_of new) (counted count))
         (sym (ap (λ (one : Shown). one.count) from.2));
     overlays = all_from_among (IsMountedSoOften (world_of new)) new.overlays (λ entry m.
-        among_from_all (IsMountedSoOften (grown value whole (map mount_of copies))) new.overlays
-        (counted_more value whole (map mount_of copies) overlays
-        (merged_are ∙ merged_by_all copies (map merged_seen value.overlays))) entry m
+        among_from_all (IsMountedSoOften (record (world_of value) {
+          mounts = mounts_in value.mounts ++ map mount_of copies;
+        })) new.overlays
+        (counted_more value whole.overlays_rise (map mount_of copies) overlays
+        (merged_are ∙ merged_by_all copies (map merged_seen value.overlays)) whole.overlays) entry m
         ∙ times_append (λ (mount : meant.Mount ℕ). nat_eq entry.number mount.filesystem) (mounts_in value.mounts)
         (map mount_of copies)
         ∙ sym (showing_at entry.number));
@@ -357,20 +382,56 @@ module _ (value : WorldValue) (whole : IsHeld value) (base : Filesystems) (is_ba
         record { tasks = was.tasks });
   }
 
+  -- the world that is entered has its invariants
+  pub entered_held : Has entered_world groups → IsWorld nat_eq entered_world → OverlaysAreNamed entered_world
+      → WritersHaveLayers entered_world → KeepsTo (is_counted_before next) entered_world
+      → IsHeld new × SameWorlds entered_world (world_of new)
+  entered_held has is_world named writers keeps = (
+    record {
+      in_world = any_same_worlds_are_worlds entered_world (world_of new) same is_world;
+      groups = shown_has entered_world new (shows has is_world) is_world;
+      given = any_same_worlds_keep_to_numbers (is_counted_before next) entered_world (world_of new) same keeps;
+      mounts = counts_then.uses;
+      filesystems = all_from_among (CountsItsMounts (world_of new)) filesystems (λ entry m. record {
+        mounts = counts_then.mounts entry m;
+        inodes = shown_is_counted entered_world new (shows has is_world) is_world entry m
+            (any_same_worlds_are_worlds entered_world (world_of new) same is_world);
+      });
+      own_inodes = all_from_among HasOwnInodes filesystems own_then;
+      overlays = record {
+        merged = subst (All (λ filesystem. is_overlay filesystem ≡ true)) (sym same_overlays) whole.merged;
+        read_only = same_worlds_have_no_upper_alike entered_world (world_of new) same no_upper_then;
+        writers = same_worlds_have_layers_alike entered_world (world_of new) same writers;
+        named = by_overlays (λ f. is_overlay f ≡ true → has_only_named f ≡ true)
+            (λ f plain over. absurd (true≢false (sym over ∙ plain)))
+            entered_world.filesystems (world_of new).filesystems overlays_then named;
+        overlays_rise = ap are_rising same_overlays ∙ whole.overlays_rise;
+        all_rise = same_files_rise entered_world.filesystems (world_of new).filesystems same.filesystems is_base.rise;
+        mounts = counts_then.overlays;
+        own_nodes = subst (All HasOwnNodes) (sym same_overlays) whole.own_nodes;
+      };
+      namespaces = counts_then.namespaces;
+    },
+    same,
+  )
+    where
+      same : SameWorlds entered_world (world_of new)
+      same = shown_is_same entered_world new (shows has is_world) is_world
+
   -- so the event is done, where nothing goes
-  pub entered_is_done : Has entered_world groups → (name : TaskName) (permit : Permit ℕ)
+  pub entered_is_done : IsHeld value → Has entered_world groups → (name : TaskName) (permit : Permit ℕ)
       (permits : Permits value name permit)
       → TakesNumbers value name permit permits.task
       → left_by value permits.task permit ≡ entered_world
       → KeepsTo (is_counted_before next) (left_by value permits.task permit)
       → IsDone value name permit new
-  entered_is_done has name permit permits takes left_is keeps =
-      let is_world = subst (IsWorld nat_eq) left_is (left_is_world value whole name permit permits.task takes).0 in
-      numbers_are_kept value whole name permit permits.task takes new same_overlays
+  entered_is_done held has name permit permits takes left_is keeps =
+      let is_world = subst (IsWorld nat_eq) left_is (left_is_world value held name permit permits.task takes).0 in
+      numbers_are_kept value held name permit permits.task takes new same_overlays
       (subst (λ (left : World ℕ). ShowsAs left new) (sym left_is) (shows has is_world)) counts_then own_then keeps
 
 -- Copies that were attached
-module _ (value : WorldValue) (whole : IsHeld value) (base : Filesystems) (is_base : IsBase value base)
+module _ (value : WorldValue) (whole : IsBeside value) (base : Filesystems) (is_base : IsBase value base)
     (graft : Graft) (counts : Counts) (mounts : List MountEntry) (groups : Grouping) (filesystems : Filesystems)
     (overlays : List Merged)
     (next : ℕ)
@@ -445,11 +506,20 @@ module _ (value : WorldValue) (whole : IsHeld value) (base : Filesystems) (is_ba
     taken_small = is.taken_small;
   }
 
-  pub graft_is_done : (name : TaskName) (permit : Permit ℕ) (permits : Permits value name permit)
+  pub graft_is_done : IsHeld value → (name : TaskName) (permit : Permit ℕ) (permits : Permits value name permit)
       → TakesNumbers value name permit permits.task
       → left_by value permits.task permit ≡ attached_world
       → KeepsTo (is_counted_before next) (left_by value permits.task permit)
       → IsDone value name permit (grafted_value value mounts groups filesystems overlays next)
-  graft_is_done =
+  graft_is_done held =
       entered_is_done value whole base is_base is.copies is.points [] is.left (map new_group is.groups) mounts groups
+      filesystems overlays next entered ascending held groups_then
+
+  -- where what is attached is a world, and the numbers in it were counted, the code's world is that one
+  pub graft_is_held : IsWorld nat_eq attached_world → OverlaysAreNamed attached_world → WritersHaveLayers attached_world
+      → KeepsTo (is_counted_before next) attached_world
+      → IsHeld (grafted_value value mounts groups filesystems overlays next)
+      × SameWorlds attached_world (world_of (grafted_value value mounts groups filesystems overlays next))
+  graft_is_held =
+      entered_held value whole base is_base is.copies is.points [] is.left (map new_group is.groups) mounts groups
       filesystems overlays next entered ascending groups_then

@@ -7,7 +7,6 @@ use Rattle.std.proofs.lemmas.Bool.{and_parts, ne_eqb}
 use Rattle.std.proofs.lemmas.List.{map-append}
 use Rattle.std.proofs.lemmas.List.Folds.{list_all-append}
 use Rattle.vt_laws_counts.specs.Using.{AreThere, Exchanges, is_inode, is_on, places_of}
-use Rattle.vt_laws_counts.proofs.using.MountRoots as Roots
 use Rattle.vt_laws_counts.proofs.using.MountRoots.{places_stand}
 use Rattle.vt_laws_counts.proofs.using.Places.{exchanges_follow}
 use Rattle.vt_fs.specs.FilesystemsValue.{FilesystemEntry, Filesystems, filesystem_seen, filesystems_seen, inodes_seen}
@@ -16,7 +15,7 @@ use Rattle.vt_laws_letting_go.specs.Mounting.{inode_at}
 use Rattle.vt_laws_letting_go.specs.OneByOne.{Inode, let_go_inode_of, let_go_inodes, without_inode}
 use Rattle.vt_laws_letting_go.specs.InUse.{is_inode_used}
 use Rattle.vt_laws_letting_go.proofs.Lists.{Among, all_pass, among-append_left, among-append_right, among-filter_map, among-from_map, among-map, among_from_all, among_numbers, map_same, none_passes, passes}
-use Rattle.vt_laws_letting_go.proofs.sweeps.OfWorlds.{found_filesystem, mounts_of_worlds_stand}
+use Rattle.vt_laws_letting_go.proofs.sweeps.OfWorlds.{found_filesystem}
 use Rattle.vt_laws_letting_go.proofs.sweeps.UpperUses.{times_append}
 use Rattle.vt_laws_overlays_stay.specs.Woven.{woven}
 use Rattle.vt_location.specs.declared.locations.Location.{Location}
@@ -37,11 +36,12 @@ use Rattle.vt_spec.specs.Tree.{is_directory_node}
 use Rattle.vt_laws_worlds.specs.Worlds.Kept.{IsUnderWay}
 use Rattle.vt_laws_worlds.proofs.RaisedInUse.{worlds_are_in_use}
 use Rattle.vt_laws_worlds.proofs.worlds.Roots.{directory_there}
-use Rattle.vt_world.specs.Held.{HasOwnInodes, HasOwnNodes, IsHeld}
+use Rattle.vt_world.specs.Held.{HasOwnInodes, HasOwnNodes}
 use Rattle.vt_detach.specs.Uses.{inode_of, unused_entry}
 use Rattle.vt_world.specs.WorldValue.{WorldValue, overlays_seen, world_of}
 use Rattle.vt_detach.proofs.NodesFound.{node_at_home, own_together}
 use Rattle.vt_detach.proofs.Overlaid.{plain_one_among}
+use Rattle.vt_attach.proofs.Beside.{IsBeside}
 use Rattle.vt_attach.specs.Planned.{Point, is_small, points_left, points_taken, with_points}
 use Rattle.vt_attach.specs.PlannedUses.{point_seen}
 use Rattle.vt_attach.specs.Room.{has_small_nodes}
@@ -109,16 +109,16 @@ abbrev pub beside_overlays : WorldValue → Filesystems → List (Filesystem ℕ
 beside_overlays value base = woven (filesystems_seen base) (overlays_seen value.overlays)
 
 -- their inodes are their own
-pub own_beside : (value : WorldValue) → IsHeld value → (base : Filesystems) → All HasOwnInodes base
+pub own_beside : (value : WorldValue) → IsBeside value → (base : Filesystems) → All HasOwnInodes base
     → All HasOwnNodes (beside_overlays value base)
 own_beside value whole base own =
-    own_together base own (overlays_seen value.overlays) whole.overlays.own_nodes
+    own_together base own (overlays_seen value.overlays) whole.own_nodes
 
 -- and each of them is among both
-base_among : (value : WorldValue) → IsHeld value → (base : Filesystems) (entry : FilesystemEntry) → Among entry base
+base_among : (value : WorldValue) → IsBeside value → (base : Filesystems) (entry : FilesystemEntry) → Among entry base
     → Among (filesystem_seen entry) (beside_overlays value base)
 base_among value whole base entry m =
-    plain_one_among (record value { filesystems = base }) whole.overlays.merged entry m
+    plain_one_among (record value { filesystems = base }) whole.merged entry m
 
 -- Mounts that come behind others, which get other mount points
 
@@ -213,7 +213,7 @@ module _ (value : WorldValue) (base : Filesystems) (master : ℕ → Option ℕ)
     master = master;
   }
 
-  module _ (whole : IsHeld value) (own : All HasOwnInodes base) (is_world : IsUnderWay after)
+  module _ (whole : IsBeside value) (own : All HasOwnInodes base) (is_world : IsUnderWay after)
       (roots : list_all (has_its_root nat_eq middle) (mounts_in value.mounts) ≡ true)
       (once : MovesOnce (mounts_in value.mounts) (map point_seen points)) (left : List Location)
       (left_are : map location_of left ≡ points_left points value.mounts) (left_small : list_all is_small left ≡ true)
@@ -229,8 +229,7 @@ module _ (value : WorldValue) (base : Filesystems) (master : ℕ → Option ℕ)
     all_stand : list_all (is_on (mounts_in value.mounts))
         (all_locations (world_of value) ++ places_of (mounts_in value.mounts)) ≡ true
     all_stand =
-        places_stand (world_of value) (mounts_of_worlds_stand (world_of value) whole.in_world)
-        (Roots.locations_of_worlds_stand (world_of value) whole.in_world)
+        places_stand (world_of value) whole.mounts_stand whole.locations_stand
 
     come_as_after : inode_at come ≡ inode_at after
     come_as_after = λ i. λ location. (

@@ -41,3 +41,16 @@ pub mod MovedLives
 pub mod MovedDone
 pub mod GraftedUses
 pub mod GraftedDone
+pub mod OverlaysNew
+pub mod OverlayNodes
+pub mod Beside
+pub mod NewOverlay
+pub mod NewOverlayUses
+pub mod NewOverlaySame
+pub mod NewOverlayBase
+pub mod NewOverlayNumbers
+pub mod NewOverlayInUse
+pub mod OverlayLeft
+pub mod NewOverlayDone
+pub mod OverlayStored
+pub mod OverlayMounted

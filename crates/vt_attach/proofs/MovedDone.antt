@@ -73,6 +73,7 @@ use Rattle.vt_attach.proofs.Binding.{group_there, is_seen, same_base}
 use Rattle.vt_mount.proofs.EnteringLemmas.{mounts_entered}
 use Rattle.vt_attach.proofs.EnteringLemmas.{apart}
 use Rattle.vt_attach.proofs.FormedGroups.{formed_groups_begin, groups_of_copies_are_named}
+use Rattle.vt_attach.proofs.Beside.{beside as is_beside}
 use Rattle.vt_attach.proofs.GraftedDone.{IsEntered, counts_then, from_base, grafted_value, overlays_same, own_then, same_numbers}
 use Rattle.vt_attach.proofs.GraftedUses.{after, changed_at, exchanged_then, gained_there}
 use Rattle.vt_attach.proofs.GrownGroups.{ascending_rises}
@@ -618,28 +619,28 @@ module _ (value : WorldValue) (whole : IsHeld value) (name : TaskName) (number :
         (inodes_of_points (points_taken points value.mounts) ++ gained_by come) (inodes_of_points is.left) new
     swept = record {
       midway = record { overlays = overlays_are value whole.overlays; rise = whole.overlays.all_rise };
-      overlays = overlays_same value whole come overlays (ap (λ k. k.overlays) entered.done)
+      overlays = overlays_same value (is_beside value whole) come overlays (ap (λ k. k.overlays) entered.done)
           ∙ all_shown value (in_use_of then_world) (subst (AreStillMounted value) (sym living_is) overlays_mounted);
       mounts = ap (λ (w : World ℕ). w.mounts) living_is ∙ sym mounts_seen;
       numbers = ap (λ (w : World ℕ). map (λ (f : Filesystem ℕ). f.number) (filter is_plain_one w.filesystems))
           living_is
           ∙ ap (map (λ (f : Filesystem ℕ). f.number)) (plain_ones_are value whole.overlays)
-          ∙ same_numbers value whole value.filesystems (same_base value whole) come points kinds is.left formed mounts
+          ∙ same_numbers value (is_beside value whole) value.filesystems (same_base value whole) come points kinds is.left formed mounts
           groups filesystems overlays next entered rising;
       entries = λ entry m.
-          let from = from_base value whole value.filesystems (same_base value whole) come points kinds is.left formed
+          let from = from_base value (is_beside value whole) value.filesystems (same_base value whole) come points kinds is.left formed
           mounts groups filesystems overlays next entered rising entry m in
           record {
             was = from.0;
             among = from.1;
             count = ap (λ (one : Shown). one.count) from.2;
-            there = gained_there value value.filesystems master come points kinds whole whole.own_inodes under
+            there = gained_there value value.filesystems master come points kinds (is_beside value whole) whole.own_inodes under
                 whole.in_world.roots once is.left is.left_are is.left_small is.taken_small is.slots rising from.0 from.1;
             inodes = ap (λ (one : Shown). one.inodes) from.2;
             exchanges = subst (λ (w : World ℕ). Exchanges
                 (inodes_of_points (points_taken points value.mounts) ++ gained_by come) (inodes_of_points is.left)
                 (counted from.0.count) world w) (sym living_is)
-                (exchanged_then value value.filesystems master come points kinds whole whole.own_inodes under
+                (exchanged_then value value.filesystems master come points kinds (is_beside value whole) whole.own_inodes under
                 whole.in_world.roots once is.left is.left_are is.left_small is.taken_small is.slots rising
                 (counted from.0.count));
           };
@@ -676,11 +677,11 @@ module _ (value : WorldValue) (whole : IsHeld value) (name : TaskName) (number :
         ≡ 2 * (length graft.parts.now * length graft.tree.now) =
         (λ i. 2 * (length (sym parts_are i) * length (sym tree_is i)))
         ∙ (λ i. 2 * (length-map graft.parts.now mount_of i * length-map graft.tree.now mount_of i)) in
-        numbers_are_kept value whole name permit permits.task takes new (overlays_same value whole come overlays (ap (λ k. k.overlays) entered.done))
+        numbers_are_kept value whole name permit permits.task takes new (overlays_same value (is_beside value whole) come overlays (ap (λ k. k.overlays) entered.done))
         (subst (λ (w : World ℕ). ShowsAs (settled nat_eq w) new) (sym moved_is) shows_then)
-        (counts_then value whole value.filesystems (same_base value whole) come points kinds is.left formed mounts
+        (counts_then value (is_beside value whole) value.filesystems (same_base value whole) come points kinds is.left formed mounts
         groups filesystems overlays next entered rising)
-        (own_then value whole value.filesystems (same_base value whole) come points kinds is.left formed mounts
+        (own_then value (is_beside value whole) value.filesystems (same_base value whole) come points kinds is.left formed mounts
         groups filesystems overlays next entered rising)
         (subst (λ n. KeepsTo (is_counted_before n) (left_by value permits.task permit))
         (ap (λ n. value.next + n) sizes ∙ sym grows) named)

@@ -65,7 +65,7 @@ destination_there value whole name place flags permits =
 
 -- One more filesystem, which is not looked at
 
-found_before : (filesystems : List (Filesystem ℕ)) (added : Filesystem ℕ) (number : ℕ)
+pub found_before : (filesystems : List (Filesystem ℕ)) (added : Filesystem ℕ) (number : ℕ)
     → nat_eq number added.number ≡ false
     → find (λ (f : Filesystem ℕ). nat_eq number f.number) (filesystems ++ added ∷ [])
     ≡ find (λ (f : Filesystem ℕ). nat_eq number f.number) filesystems
@@ -73,20 +73,20 @@ found_before [] added number other = ap (λ b. cond b (Some added) None) other
 found_before (first ∷ rest) added number other = ap (λ o. cond (nat_eq number first.number) (Some first) o)
     (found_before rest added number other)
 
-flat_before : {B : Type 0} (g : Filesystem ℕ → List B) (filesystems : List (Filesystem ℕ)) (added : Filesystem ℕ)
+pub flat_before : {B : Type 0} (g : Filesystem ℕ → List B) (filesystems : List (Filesystem ℕ)) (added : Filesystem ℕ)
     → g added ≡ []
     → flat_map g (filesystems ++ added ∷ []) ≡ flat_map g filesystems
 flat_before g [] added none = λ i. none i ++ []
 flat_before g (first ∷ rest) added none = ap (λ list. g first ++ list) (flat_before g rest added none)
 
-overlays_before : (filesystems : List (Filesystem ℕ)) (added : Filesystem ℕ) → is_overlay added ≡ false
+pub overlays_before : (filesystems : List (Filesystem ℕ)) (added : Filesystem ℕ) → is_overlay added ≡ false
     → filter is_overlay (filesystems ++ added ∷ []) ≡ filter is_overlay filesystems
 overlays_before [] added plain = ap (λ b. cond b (added ∷ []) []) plain
 overlays_before (first ∷ rest) added plain =
     ap (λ list. cond (is_overlay first) (first ∷ list) list) (overlays_before rest added plain)
 
 -- where it is the last, numbers still rise
-rising_last : (filesystems : List (Filesystem ℕ)) (added : Filesystem ℕ) → are_rising filesystems ≡ true
+pub rising_last : (filesystems : List (Filesystem ℕ)) (added : Filesystem ℕ) → are_rising filesystems ≡ true
     → list_all (λ (f : Filesystem ℕ). nat_lt f.number added.number) filesystems ≡ true
     → are_rising (filesystems ++ added ∷ []) ≡ true
 rising_last [] added rising lower = refl
@@ -98,7 +98,7 @@ rising_last (first ∷ rest) added rising lower =
     && rising_last rest added parts.1 low.1 i
 
 -- and behind those that are woven it is woven
-put_before : (overlay added : Filesystem ℕ) → nat_lt added.number overlay.number ≡ false
+pub put_before : (overlay added : Filesystem ℕ) → nat_lt added.number overlay.number ≡ false
     → (filesystems : List (Filesystem ℕ))
     → put_in overlay (filesystems ++ added ∷ []) ≡ put_in overlay filesystems ++ added ∷ []
 put_before overlay added above [] = ap (λ b. cond b (added ∷ overlay ∷ []) (overlay ∷ added ∷ [])) above

@@ -38,7 +38,7 @@ counted_before next count is = by (counted count % 2 == 0) refl (counted count %
     by false e false less f g = absurd (true≢false (sym g))
 
 -- the number of each filesystem was counted
-number_named : (value : WorldValue) → IsHeld value → (filesystem : Filesystem ℕ)
+pub number_named : (value : WorldValue) → IsHeld value → (filesystem : Filesystem ℕ)
     → Among filesystem (world_of value).filesystems → is_counted_before value.next filesystem.number ≡ true
 number_named value whole filesystem m =
     used_numbers_are_named (is_counted_before value.next) (world_of value) whole.given (leaves_two value.next)

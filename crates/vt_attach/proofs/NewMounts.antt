@@ -43,6 +43,7 @@ use Rattle.vt_attach.specs.PlannedUses.{point_seen}
 use Rattle.vt_attach.proofs.AttachedCounts.{lower_numbers}
 use Rattle.vt_attach.proofs.Binding.{is_seen}
 use Rattle.vt_attach.proofs.CopiesAscend.{planned_ascend}
+use Rattle.vt_attach.proofs.Beside.{beside}
 use Rattle.vt_attach.proofs.GraftedDone.{graft_is_done, grafted_value, plan_attaches, with_base}
 use Rattle.vt_attach.proofs.NewBase.{base_is, destination_there, left_attached, new_base, plain_is, same_parts, takes}
 use Rattle.vt_attach.proofs.NumbersByParts.{new_mounts_keep_to_numbers}
@@ -166,9 +167,9 @@ module _ (value : WorldValue) (whole : IsHeld value) (name : TaskName) (graft : 
           (base_is value whole name place flags permits entry is_new)
           ∙ ap (λ list. attach nat_eq (with_base value base) (odds fresh) place false list) (sym tree_is)
           ∙ attach_is in
-          graft_is_done value whole base (new_base value whole name place flags permits entry is_new small) graft counts
+          graft_is_done value (beside value whole) base (new_base value whole name place flags permits entry is_new small) graft counts
           mounts groups filesystems overlays next is attaches groups_there
-          rising name permit permits (takes value whole name place flags permits) left_is
+          rising whole name permit permits (takes value whole name place flags permits) left_is
           (subst (λ n. KeepsTo (is_counted_before n) (left_by value permits.task permit))
           (ap (λ n. value.next + n) sizes ∙ sym grows)
           (new_mounts_keep_to_numbers value.next (inode_number value.next 0)

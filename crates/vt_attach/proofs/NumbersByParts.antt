@@ -68,7 +68,7 @@ module _ (parts tree : List (Mount ℕ)) (some_parts : 0 < length parts) (some :
   copies_same : copies_from nat_eq fresh parts tree ≡ copies_from nat_eq again parts tree
   copies_same = λ i. record { copy = λ part origin. copy_same part origin i; image = λ group origin. image_same group origin i }
 
-attach_same : (world : World ℕ) (place : Location ℕ) (moves : Bool) (tree : List (Mount ℕ)) → 0 < length tree
+pub attach_same : (world : World ℕ) (place : Location ℕ) (moves : Bool) (tree : List (Mount ℕ)) → 0 < length tree
     → (fresh again : Fresh ℕ)
     → ((k : ℕ) → k < numbers_of_parts world place tree → fresh k ≡ again k)
     → attach nat_eq world fresh place moves tree ≡ attach nat_eq world again place moves tree

@@ -1,27 +1,30 @@
 -- Overlays where mounts come: each mount is one more of its overlay, and all overlays stay.
-use Rattle.std.proofs.Common.{◌≡◌, sym, ap, ◌∙◌, ℕ, ◌+◌, nat_eq, nat_lt, Bool, true, false, cond, ◌||◌, List, [], ◌∷◌, ◌++◌, map, filter, arith}
+use Rattle.std.proofs.Common.{◌≡◌, refl, sym, ap, subst, ◌∙◌, inl, inr, ⊎_elim, ℕ, ◌+◌, nat_eq, eq-eqb, nat_lt, Bool, true, false, cond, ◌||◌, List, [], ◌∷◌, ◌++◌, map, filter, Option, Some, option_map, arith}
 use Rattle.std.specs.Prelude.{All}
+use Rattle.std.specs.List.{cons_option, list_all}
+use Rattle.std.proofs.Math.Seq.{append_snoc}
+use Rattle.std.proofs.lemmas.Bool.{and_parts, ltb-true, ne_eqb}
 use Rattle.vt_spec.specs.Lists.{folded}
 use Rattle.vt_spec.specs.Machine.Mounts.{Mount}
 use Rattle.vt_spec.specs.Machine.Settled.{is_mounted}
 use Rattle.vt_spec.specs.Machine.World.{Filesystem, World, is_overlay}
 use Rattle.vt_spec.proofs.Lists.{map_alike, map_twice}
 use Rattle.vt_laws_letting_go.specs.Counts.{mounts_showing, times}
-use Rattle.vt_laws_letting_go.proofs.Lists.{all_from_among, among_from_all}
+use Rattle.vt_laws_letting_go.proofs.Lists.{Among, all_from_among, among-append, among-from_map, among-map, among_from_all, passes}
 use Rattle.vt_laws_letting_go.proofs.sweeps.UpperUses.{times_append}
 use Rattle.vt_laws_letting_go.proofs.sweeps.UsesCounted.{mounted_while_counted}
+use Rattle.vt_laws_overlays_stay.specs.Woven.{are_rising}
 use Rattle.vt_location.specs.declared.mounts.Mount.{Mount as Attached}
 use Rattle.vt_location.specs.MountValue.{mount_of}
 use Rattle.vt_location.specs.Numbers.{counted}
 use Rattle.vt_world.specs.Held.{IsHeld, IsMountedSoOften}
-use Rattle.vt_world.specs.WorldValue.{WorldValue, overlays_seen, world_of}
-use Rattle.vt_detach.specs.Uses.{Merged, merged_by, merged_seen, overlays_kept}
+use Rattle.vt_world.specs.WorldValue.{OverlayEntry, WorldValue, overlay_seen, overlays_seen, world_of}
+use Rattle.vt_detach.specs.Uses.{Merged, merged_at, merged_by, merged_seen, overlays_kept}
 use Rattle.vt_detach.proofs.BesideOverlays.{mounted_at_first, some_of_both}
 use Rattle.vt_detach.proofs.MountsLeave.{LeavesOverlays, merged_at_first}
 use Rattle.vt_detach.proofs.Moving.{map_itself, swap_eq}
 use Rattle.vt_detach.proofs.Overlaid.{AreStillMounted, all_shown, overlays_are}
 use Rattle.vt_detach.proofs.OverlaysGone.{layers_used, merged_in}
-use Rattle.vt_detach.proofs.OverlaysRemade.{counted_kept, seen_kept}
 
 -- an overlay with as many mounts more as are added
 abbrev pub mounted_more : List (Mount ℕ) → Merged → Merged
@@ -119,13 +122,84 @@ module _ (value : WorldValue) (whole : IsHeld value) (added : List (Mount ℕ)) 
         layers = layers_used overlay;
       })
 
-  module _ (overlays : List Merged) (are : overlays ≡ map (mounted_more added) (map merged_seen value.overlays)) where
-    -- the overlays of before are kept,
-    pub seen_more : overlays_seen (overlays_kept overlays value.overlays) ≡ overlays_seen value.overlays
-    seen_more =
-        seen_kept value whole grown leaves_grown overlays (are ∙ merged_grown)
-        ∙ sym (all_shown value grown still_shown)
+-- Whatever mounts show them
 
-    -- as often as they are mounted then
-    pub counted_more : All (IsMountedSoOften grown) (overlays_kept overlays value.overlays)
-    counted_more = counted_kept value whole grown leaves_grown overlays (are ∙ merged_grown)
+abbrev again : OverlayEntry → Option Merged → Option OverlayEntry
+again entry found = option_map (λ (one : Merged). record entry { mounts = one.mounts }) found
+
+abbrev more : List (Mount ℕ) → OverlayEntry → OverlayEntry
+more added entry = record entry {
+  mounts = entry.mounts + times (λ (mount : Mount ℕ). nat_eq entry.number mount.filesystem) added;
+}
+
+-- each is found again, with the mounts that came
+kept_more : (added : List (Mount ℕ)) (front back : List OverlayEntry)
+    → ((entry : OverlayEntry) → Among entry back → (other : OverlayEntry) → Among other front
+    → nat_eq entry.number other.number ≡ false)
+    → are_rising (overlays_seen back) ≡ true
+    → overlays_kept (map (mounted_more added) (map merged_seen (front ++ back))) back ≡ map (more added) back
+kept_more added front [] apart rising = refl
+kept_more added front (entry ∷ rest) apart rising =
+    ap (λ o. cons_option (again entry o) (overlays_kept (map (mounted_more added)
+    (map merged_seen (front ++ entry ∷ rest))) rest)) (found front (apart entry (inl refl)))
+    ∙ ap (λ list. more added entry ∷ list)
+    (ap (λ list. overlays_kept (map (mounted_more added) (map merged_seen list)) rest) (sym (append_snoc front entry rest))
+    ∙ kept_more added (front ++ entry ∷ []) rest (λ other m one n.
+    ⊎_elim (apart other (inr m) one)
+    (λ last. ⊎_elim (λ same. ap (λ (o : OverlayEntry). nat_eq other.number o.number) same
+    ∙ (let less = ltb-true entry.number other.number (passes (λ (f : Filesystem ℕ). nat_lt entry.number f.number)
+    (overlays_seen rest) parts.0 (overlay_seen other) (among-map overlay_seen rest other m)) in
+    ne_eqb other.number entry.number (λ e. absurd (omega (arith, less, e))))) (λ none. absurd none) last)
+    (among-append front (entry ∷ []) one n))
+    parts.1)
+  where
+    parts : (list_all (λ (f : Filesystem ℕ). nat_lt entry.number f.number) (overlays_seen rest) ≡ true)
+        × (are_rising (overlays_seen rest) ≡ true)
+    parts = and_parts (list_all (λ (f : Filesystem ℕ). nat_lt entry.number f.number) (overlays_seen rest))
+        (are_rising (overlays_seen rest)) rising
+
+    found : (list : List OverlayEntry)
+        → ((other : OverlayEntry) → Among other list → nat_eq entry.number other.number ≡ false)
+        → merged_at entry.number (map (mounted_more added) (map merged_seen (list ++ entry ∷ rest)))
+        ≡ Some (mounted_more added (merged_seen entry))
+    found [] apart =
+        ap (λ b. cond b (Some (mounted_more added (merged_seen entry)))
+        (merged_at entry.number (map (mounted_more added) (map merged_seen rest))))
+        (eq-eqb entry.number entry.number refl)
+    found (first ∷ list) apart =
+        ap (λ b. cond b (Some (mounted_more added (merged_seen first)))
+        (merged_at entry.number (map (mounted_more added) (map merged_seen (list ++ entry ∷ rest)))))
+        (apart first (inl refl))
+        ∙ found list (λ other m. apart other (inr m))
+
+more_seen : (added : List (Mount ℕ)) (list : List OverlayEntry)
+    → overlays_seen (map (more added) list) ≡ overlays_seen list
+more_seen added [] = refl
+more_seen added (entry ∷ rest) = ap (λ all. overlay_seen entry ∷ all) (more_seen added rest)
+
+module _ (value : WorldValue) (rise : are_rising (overlays_seen value.overlays) ≡ true) (added : List (Mount ℕ))
+    (overlays : List Merged) (are : overlays ≡ map (mounted_more added) (map merged_seen value.overlays)) where
+  all_more : overlays_kept overlays value.overlays ≡ map (more added) value.overlays
+  all_more =
+      ap (λ list. overlays_kept list value.overlays) are
+      ∙ kept_more added [] value.overlays (λ entry m other none. absurd none) rise
+
+  -- the overlays of before are kept,
+  pub seen_more : overlays_seen (overlays_kept overlays value.overlays) ≡ overlays_seen value.overlays
+  seen_more = ap overlays_seen all_more ∙ more_seen added value.overlays
+
+  -- as often as they are mounted then
+  pub counted_more : All (IsMountedSoOften (world_of value)) value.overlays
+      → All (IsMountedSoOften (record (world_of value) { mounts = (world_of value).mounts ++ added }))
+      (overlays_kept overlays value.overlays)
+  counted_more counts =
+      subst (All (IsMountedSoOften after)) (sym all_more)
+      (all_from_among (IsMountedSoOften after) (map (more added) value.overlays) (λ entry m.
+      let from = among-from_map (more added) value.overlays entry m in
+      subst (IsMountedSoOften after) (sym from.2)
+      (ap (λ n. n + times (λ (mount : Mount ℕ). nat_eq from.0.number mount.filesystem) added)
+      (among_from_all (IsMountedSoOften (world_of value)) value.overlays counts from.0 from.1)
+      ∙ sym (times_append (λ (mount : Mount ℕ). nat_eq from.0.number mount.filesystem) (world_of value).mounts added))))
+    where
+      after : World ℕ
+      after = record (world_of value) { mounts = (world_of value).mounts ++ added }

@@ -8,3 +8,4 @@ pub mod Moved
 pub mod AttachedGroups
 pub mod AttachedNumbers
 pub mod PlannedUses
+pub mod Overlaid

@@ -38,6 +38,6 @@ abbrev pub point_is_small : Option Location → Bool
 point_is_small None = true
 point_is_small (Some point) = is_small_node point.node
 
--- its root and its mount point have numbers below 2^64
+-- the nodes of its root and its mount point are made of numbers below 2^64, as code has them
 abbrev pub has_small_nodes : Mount → Bool
 has_small_nodes mount = is_small_node mount.root && point_is_small mount.mount_point

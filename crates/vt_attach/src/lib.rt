@@ -8,4 +8,5 @@ pub mod copying;
 pub mod grafted;
 pub mod laws;
 pub mod moved;
+pub mod overlaid;
 pub mod planned;

@@ -86,7 +86,7 @@ pub(crate) fn attach_grouped(
     ensures err_groups { OnErr result (groups.new ≡ groups.old) }
     ensures err_store { OnErr result (store.new ≡ store.old) }
 {
-    if !plan_has_room(store, plan) {
+    if !plan_has_room(store, plan, 0) {
         return Err(AllocError);
     }
     let moved = enter_planned(mounts, groups, plan, types)?;
@@ -97,7 +97,7 @@ pub(crate) fn attach_grouped(
 
 // The inodes at new mount points are used once more, those that mounts come with too, and those at the mount points that
 // were left once less.
-fn exchange_uses(filesystems: &mut Filesystems, moved: &[Moved], copies: &[Mount])
+pub(crate) fn exchange_uses(filesystems: &mut Filesystems, moved: &[Moved], copies: &[Mount])
     requires points { list_all (λ point. point_has_room (most_counted - length moved.now) (shown filesystems.old)
         (Some point)) (taken_of moved.now) ≡ true }
     requires copies { list_all (has_room (most_counted - 2 * length copies.now)
@@ -112,28 +112,32 @@ fn exchange_uses(filesystems: &mut Filesystems, moved: &[Moved], copies: &[Mount
 }
 
 // Whether all uses that come can be counted: two of an inode for each copy, and one for each mount that moves, at the
-// most.
-fn plan_has_room(store: &Store, plan: &Planned) -> bool
-    ensures fits { result ≡ true → 2 * length plan.now.copies.now + length plan.now.points.now ≤ most_counted }
+// most, and so many beside.
+pub(crate) fn plan_has_room(store: &Store, plan: &Planned, beside: u64) -> bool
+    ensures fits { result ≡ true
+        → 2 * length plan.now.copies.now + length plan.now.points.now + beside ≤ most_counted }
     ensures copies { result ≡ true → list_all
-        (has_room (most_counted - (2 * length plan.now.copies.now + length plan.now.points.now))
+        (has_room (most_counted - (2 * length plan.now.copies.now + length plan.now.points.now + beside))
         (shown store.now.plain))
         plan.now.copies.now ≡ true }
     ensures overlays { result ≡ true → list_all
-        (merged_has_room (most_counted - (2 * length plan.now.copies.now + length plan.now.points.now))
+        (merged_has_room (most_counted - (2 * length plan.now.copies.now + length plan.now.points.now + beside))
         (map merged_of store.now.overlays))
         plan.now.copies.now ≡ true }
     ensures points { result ≡ true → list_all
-        (λ point. point_has_room (most_counted - (2 * length plan.now.copies.now + length plan.now.points.now))
+        (λ point. point_has_room (most_counted - (2 * length plan.now.copies.now + length plan.now.points.now + beside))
         (shown store.now.plain) (Some point.place)) plan.now.points.now ≡ true }
     ensures slots { result ≡ true → list_all has_small_nodes plan.now.copies.now ≡ true }
 {
     let most = u64::MAX - 2 * plan.copies.len() as u64;
     let moves = plan.points.len() as u64;
-    moves <= most
-        && have_room(store.plain(), plan.copies, most - moves)
-        && overlays_have_room(store, plan.copies, most - moves)
-        && places_have_room(store.plain(), plan.points, most - moves)
+    if moves > most || beside > most - moves {
+        return false;
+    }
+    let left = most - moves - beside;
+    have_room(store.plain(), plan.copies, left)
+        && overlays_have_room(store, plan.copies, left)
+        && places_have_room(store.plain(), plan.points, left)
 }
 
 // Whether the inodes at new mount points have no more uses than so many.
@@ -150,7 +154,7 @@ fn places_have_room(filesystems: &Filesystems, points: &[NewPoint], most: u64) -
 }
 
 // Mounts come and move with their groups, all or none. What moved is returned.
-fn enter_planned(
+pub(crate) fn enter_planned(
     mounts: &mut Mounts,
     groups: &mut Groups,
     plan: &Planned,

@@ -19,6 +19,7 @@ use Rattle.vt_permits.specs.Allocating.{TakesMemory}
 use Rattle.vt_permits.specs.Memory.{JudgesAlike, JudgesByReceivers}
 use Rattle.vt_permits.specs.GrantValue.{permit_of}
 use Rattle.vt_permits.specs.declared.grant.Grant.{Grant}
+use Rattle.vt_permits.specs.declared.grant.Grant.TheVariants as granting
 use Rattle.vt_request.specs.Answers.{answer_of}
 use Rattle.vt_request.specs.declared.answer.Answer.{Answer}
 use Rattle.vt_request.specs.declared.answer.Answer.TheVariants.{Done}
@@ -27,10 +28,11 @@ use Rattle.vt_laws_runs.specs.Handed.{counts_from}
 use Rattle.vt_detach.specs.Events.{Becomes, Permits, left_by, supply_of}
 use Rattle.vt_world.specs.Held.{IsHeld}
 use Rattle.vt_world.specs.WorldValue.{WorldValue, world_of}
+use Rattle.vt_ns.specs.OverlayMounts.{PermitsOverlay}
 use Rattle.vt_calls.proofs.Finishing.{answers, grants, leaves, refuses}
 use Rattle.vt_calls.proofs.Forms.{frees, is_free}
 use Rattle.vt_calls.proofs.NumbersLeft.{numbers_left}
-use Rattle.vt_calls.proofs.Supplies.{AreVacant, allotted, counts, judged_with, permits}
+use Rattle.vt_calls.proofs.Supplies.{AreVacant, allotted, counts, given_any, judged_with, permits}
 use Rattle.vt_calls.specs.Answered.{answered}
 use Rattle.vt_answers.specs.Ends.{MayBeRefusedMemory}
 use Rattle.vt_calls.specs.Meets.{Ends, Meets}
@@ -162,6 +164,22 @@ module _ (old : WorldValue) (name : TaskName) (call : Call) (grant : Grant)
       (overfills nat_eq fresh (world_of old) given.task) given.task call granted given.judged
       taken))
 
+-- what is permitted with a grant: to mount an overlay, or by a call that mounts none
+abbrev pub PermittedFor : Grant → WorldValue → TaskName → Permit ℕ → Type 0
+PermittedFor (granting.Overlay new) old name meant = PermitsOverlay old name new
+PermittedFor grant old name meant = Permits old name meant
+
+permits_for : (old : WorldValue) (name : TaskName) (call : Call) (grant : Grant)
+    (given : IsGivenFor old name call grant) → AreVacant old (permit_of given.task grant)
+    → PermittedFor grant old name (permit_of given.task grant)
+permits_for old name call (granting.Overlay new) given vacant =
+    record {
+      task = given.task;
+      called = given.called;
+      given = given_any old name call (granting.Overlay new) given vacant;
+    }
+permits_for old name call grant given vacant = permits old name call grant given refl vacant
+
 -- The grant, and the permit that the definitions see in it
 
 module _ (old : WorldValue) (name : TaskName) (grant : Grant) (meant : Permit ℕ)
@@ -169,10 +187,11 @@ module _ (old : WorldValue) (name : TaskName) (grant : Grant) (meant : Permit �
   granted_is : (call : Call) (given : IsGivenFor old name call grant) → permit_of given.task grant ≡ meant
   granted_is call given = seen given.task given.called
 
-  pub permitted : AreVacant old meant → IsGiven old name grant → Permits old name meant
+  pub permitted : AreVacant old meant → IsGiven old name grant → PermittedFor grant old name meant
   permitted vacant given =
       let same = granted_is given.0 given.1 in
-      subst (Permits old name) same (permits old name given.0 grant given.1 (subst (AreVacant old) (sym same) vacant))
+      subst (PermittedFor grant old name) same
+      (permits_for old name given.0 grant given.1 (subst (AreVacant old) (sym same) vacant))
 
   pub made : (new : WorldValue) (answer : Answer) → AreVacant old meant
       → ((task : Task ℕ) → task_called (world_of old) name ≡ Some task

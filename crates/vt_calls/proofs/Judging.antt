@@ -2,13 +2,12 @@
 use Rattle.std.proofs.Common.{◌≡◌, refl, sym, subst, ◌∙◌, ℕ, true, nat_eq, Some, Result, Ok, Err, arith}
 use Rattle.std.specs.Prelude.{IfErr, IfOk}
 use Rattle.std.proofs.lemmas.Grind.{common_steps}
-use Rattle.vt_spec.specs.Language.Script.{needs_no_layers}
 use Rattle.vt_spec.specs.declared.errors.Deny.{Deny}
 use Rattle.vt_spec.specs.Machine.Judge.{Judgement, judge, judge_in}
 use Rattle.vt_spec.specs.Machine.World.{Task, task_called}
 use Rattle.vt_spec.specs.Language.Calls as spec
 use Rattle.vt_spec.specs.Language.Calls.{TaskName}
-use Rattle.vt_spec.specs.Language.Calls.Call.{Bind, Fork, LinkTo, MakeWhiteout, Mkdir, MountPlain, MoveMount, OpenFile, Rename, Rmdir, SymlinkAt, Umount, Unlink, Write}
+use Rattle.vt_spec.specs.Language.Calls.Call.{Bind, Fork, LinkTo, MakeWhiteout, Mkdir, MountOverlay, MountPlain, MoveMount, OpenFile, Rename, Rmdir, SymlinkAt, Umount, Unlink, Write}
 use Rattle.vt_permits.specs.Allocating.{TakesMemory}
 use Rattle.vt_permits.specs.Memory.{JudgesAlike, JudgesByReceivers}
 use Rattle.vt_policy.specs.Allocating.{IsJudgedWithMemory}
@@ -30,10 +29,9 @@ use Rattle.vt_world.specs.Held.{IsHeld}
 use Rattle.vt_detach.specs.Looking.{looks_of_value, overfills_of}
 use Rattle.vt_world.specs.WorldValue.{WorldValue, world_of}
 use Rattle.vt_calls.proofs.Endings.{refused}
-use Rattle.vt_calls.proofs.Tied.{judged_alike}
+use Rattle.vt_calls.proofs.OverlaysJudged.{judged_as_meant}
 use Rattle.vt_calls.specs.Meets.{Ends}
 use Rattle.vt_calls.specs.Permitted.{IsPermitted}
-use Rattle.vt_laws_runs.proofs.runs.GrammarsPlain.{marks_mount_no_overlay}
 
 -- a fork is given at most 32 groups
 few : (asked : Call) → names_few_groups (call_of asked) ≡ true
@@ -59,16 +57,17 @@ takes_judged (Rename old new) judging = tt
 takes_judged (OpenFile path access how) judging = tt
 takes_judged (Fork words) judging = tt
 takes_judged (MountPlain path flags) judging = tt
+takes_judged (MountOverlay path options flags) judging = tt
 takes_judged (Bind source path recursive) judging = tt
 takes_judged (MoveMount source path) judging = tt
 takes_judged (Umount path) judging = tt
 takes_judged call judging = absurd judging
 
 module _ (value : WorldValue) (name : TaskName) (asked : Call) (held : IsHeld value) (task : Task ℕ)
-    (called : task_called (world_of value) name ≡ Some task) (has : needs_no_layers (call_of asked) ≡ true) where
+    (called : task_called (world_of value) name ≡ Some task) where
   tied : judge nat_eq (looks_of_value value) (overfills_of value) task (call_of asked)
       ≡ judge_in nat_eq (counts_from value.next) (world_of value) task (call_of asked)
-  tied = judged_alike value task (call_of asked) (marks_mount_no_overlay (call_of asked) has)
+  tied = judged_as_meant value task (call_of asked)
 
   abbrev by_code : Judgement ℕ
   by_code = judge nat_eq (looks_of_value value) (overfills_of value) task (call_of asked)
@@ -83,7 +82,6 @@ module _ (value : WorldValue) (name : TaskName) (asked : Call) (held : IsHeld va
       held = held;
       task = task;
       called = called;
-      has = has;
       few_groups = few asked;
       judged = sym tied ∙ judged;
     };

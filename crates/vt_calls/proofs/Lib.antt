@@ -8,3 +8,7 @@ pub mod Judging
 pub mod Told
 pub mod Spending
 pub mod Numbered
+pub mod OverlaysJudged
+pub mod OverlayGrants
+pub mod OverlaysHanded
+pub mod OverlaysPermitted

@@ -18,7 +18,7 @@ use Rattle.vt_answers.proofs.SpareNumbers.{numbers_kept}
 use Rattle.vt_calls.proofs.Supplies.{AreVacant, counts}
 
 -- counts may be given, and even numbers
-counts_given : (next : ℕ) → IsSuppliedFrom may_be_given (counts_from next)
+pub counts_given : (next : ℕ) → IsSuppliedFrom may_be_given (counts_from next)
 counts_given next k = ap not (ne_eqb ((4 * (next + k) + 1) % 4) 3 (λ e. absurd (omega arith)))
 
 handed_given : (next place inode : ℕ) → inode % 2 ≡ 0 → IsSuppliedFrom may_be_given (handed_from next place inode)

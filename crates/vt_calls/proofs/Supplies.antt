@@ -1,5 +1,5 @@
 -- The numbers that a permit is handed: they serve the world, so the permit is given with them.
-use Rattle.std.proofs.Common.{◌≡◌, subst, ◌∙◌, ℕ, nat_eq, Some, Ok}
+use Rattle.std.proofs.Common.{◌≡◌, subst, ◌∙◌, ℕ, false, nat_eq, Some, Ok}
 use Rattle.std.specs.Prelude.{⊤}
 use Rattle.vt_spec.specs.Language.Calls.{Call, TaskName}
 use Rattle.vt_spec.specs.Machine.Judge.{judge_in}
@@ -10,8 +10,8 @@ use Rattle.vt_spec.specs.Machine.World.{task_called}
 use Rattle.vt_laws_rules.specs.Numbers.{Allotment, IsSuppliedFrom}
 use Rattle.vt_laws_rules.proofs.numbers.Texts.{room_serves}
 use Rattle.vt_location.specs.Numbers.{inode_number}
+use Rattle.vt_laws_given.specs.LeftWorlds.{IsGivenToTask}
 use Rattle.vt_laws_overlays_stay.proofs.in_use.NamedBefore.{any_worlds_keep_to_named_before}
-use Rattle.vt_laws_permits.proofs.taken.TakenJudged.{judgements_do_not_see_supplies}
 use Rattle.vt_permits.specs.GrantValue.{permit_of}
 use Rattle.vt_permits.specs.declared.grant.Grant.{Grant}
 use Rattle.vt_laws_runs.proofs.handed.Counts.{counts_serve}
@@ -24,7 +24,8 @@ use Rattle.vt_ns.specs.Vacancy.{IsVacant, NextInodeIsVacant, NextRootIsVacant}
 use Rattle.vt_world.specs.WorldValue.{WorldValue, world_of}
 use Rattle.vt_laws_worlds.proofs.worlds.CallsKept.{name_found}
 use Rattle.vt_calls.specs.Permitted.{IsGivenFor}
-use Rattle.vt_laws_runs.proofs.runs.GrammarsPlain.{marks_mount_no_overlay}
+use Rattle.vt_calls.proofs.OverlayGrants.{granted_plain, mounts_layers}
+use Rattle.vt_calls.proofs.OverlaysJudged.{judged_with_any}
 
 -- the numbers of a supply are an allotment
 abbrev pub IsAllotted : WorldValue → (ℕ → ℕ) → Type 0
@@ -67,25 +68,35 @@ module _ (value : WorldValue) (name : TaskName) (call : Call) (grant : Grant)
   -- whatever is handed in, the call is given that permit
   pub judged_with : (fresh : ℕ → ℕ) → judge_in nat_eq fresh (world_of value) given.task call ≡ Ok granted
   judged_with fresh =
-      judgements_do_not_see_supplies (world_of value) given.task call fresh (counts_from value.next)
-      given.held.in_world (marks_mount_no_overlay call given.has)
+      judged_with_any (world_of value) given.held.in_world given.task call fresh (counts_from value.next)
       ∙ given.judged
 
-  -- so it is permitted to the task
-  pub permits : AreVacant value granted → Permits value name granted
-  permits vacant =
+  -- so it is given to the task,
+  pub given_any : AreVacant value granted → IsGivenToTask (supply_of value granted) (world_of value) given.task granted
+  given_any vacant =
       let supplied = allotted value given.held granted vacant in record {
+        serves =
+            subst (Serves nat_eq (world_of value)) supplied.1
+            (room_serves may_be_given (world_of value) supplied.0 supplied.2.serves);
+        called =
+            subst (λ called. task_called (world_of value) called ≡ Some given.task)
+            (name_found (world_of value) name given.task given.called) given.called;
+        call = call;
+        few_groups = given.few_groups;
+        judged = judged_with (supply_of value granted);
+      }
+
+  -- and permitted for a call that mounts no overlay, where the grant does not
+  pub permits : mounts_layers grant ≡ false → AreVacant value granted → Permits value name granted
+  permits plain vacant =
+      let any = given_any vacant in record {
         task = given.task;
         called = given.called;
         given = record {
-          serves =
-              subst (Serves nat_eq (world_of value)) supplied.1
-              (room_serves may_be_given (world_of value) supplied.0 supplied.2.serves);
-          called =
-              subst (λ called. task_called (world_of value) called ≡ Some given.task)
-              (name_found (world_of value) name given.task given.called) given.called;
+          serves = any.serves;
+          called = any.called;
           call = call;
-          no_overlay = marks_mount_no_overlay call given.has;
+          no_overlay = granted_plain (counts_from value.next) (world_of value) given.task call grant given.judged plain;
           few_groups = given.few_groups;
           judged = judged_with (supply_of value granted);
         };

@@ -2,7 +2,6 @@
 use Rattle.std.specs.Prelude.{Ok, Result, Some, nat_eq, true, ℕ, ◌≡◌}
 use Rattle.vt_spec.specs.declared.errors.Deny.{Deny}
 use Rattle.vt_spec.specs.Language.Calls.{Call, TaskName}
-use Rattle.vt_spec.specs.Language.Script.{needs_no_layers}
 use Rattle.vt_spec.specs.Machine.Judge.{judge_in}
 use Rattle.vt_spec.specs.Machine.World.{Task, task_called}
 use Rattle.vt_laws_runs.specs.Handed.{counts_from}
@@ -21,7 +20,6 @@ pub record IsGivenFor (value : WorldValue) (name : TaskName) (call : Call) (gran
   pub held : IsHeld value
   pub task : Task ℕ
   pub called : task_called (world_of value) name ≡ Some task
-  pub has : needs_no_layers call ≡ true
   pub few_groups : names_few_groups call ≡ true
   pub judged : judge_in nat_eq (counts_from value.next) (world_of value) task call ≡ Ok (permit_of task grant)
 

@@ -5,7 +5,7 @@ use crate::descriptors::change_descriptors;
 use crate::files::change_file;
 use crate::looking::look;
 use crate::making::make;
-use crate::mounting::change_mounts;
+use crate::mounting::{change_mounts, mount_overlay};
 use crate::removing::remove;
 use crate::tasks::change_tasks;
 use vt_ns::World;
@@ -34,5 +34,6 @@ pub(crate) fn apply(
         Grant::Descriptor(grant) => change_descriptors(world, name, grant),
         Grant::Task(grant) => change_tasks(world, name, grant),
         Grant::Mount(grant) => change_mounts(world, name, grant),
+        Grant::Overlay(new) => mount_overlay(world, name, new),
     }
 }

@@ -1,6 +1,5 @@
 //! The calls of tasks.
-ghost use Rattle.std.specs.Prelude.{◌≡◌, Err, IfErr, IfOk, true};
-ghost use Rattle.vt_spec.specs.Language.Script.{needs_no_layers};
+ghost use Rattle.std.specs.Prelude.{◌≡◌, Err, IfErr, IfOk};
 ghost use Rattle.vt_request.specs.Requests.{call_of};
 ghost use Rattle.vt_answers.specs.Ends.{change_after};
 ghost use Rattle.vt_calls.specs.KernelValue.{kernel_world};
@@ -78,7 +77,6 @@ fn change_after(call: &Call, change: u64) -> u64
 // Judges a call in the world of this change number, and spends its permit.
 #[inline(always)]
 fn judged_call(world: &mut World, change: u64, name: &TaskName, call: Call) -> Result<Answer, Deny>
-    requires { needs_no_layers (call_of call) ≡ true }
     ensures { Ends world.old name.now (call_of call) result world.new }
 {
     match permit_of(world, change, name, call) {
@@ -91,7 +89,6 @@ fn judged_call(world: &mut World, change: u64, name: &TaskName, call: Call) -> R
 // of the call.
 #[inline(always)]
 fn permit_of(world: &World, change: u64, name: &TaskName, call: Call) -> Result<Permit, Deny>
-    requires { needs_no_layers (call_of call) ≡ true }
     ensures ok { IfOk result (λ permit. IsPermitted world.now change name.now (call_of call) permit) }
     ensures err { IfErr result (λ deny. Ends world.now name.now (call_of call) (Err deny) world.now) }
 {

@@ -1,11 +1,11 @@
 //! Grants to change mounts: mount(2), umount(2), pivot_root(2).
-ghost use Rattle.vt_permits.specs.declared.grant.Grant.TheVariants.{Mount};
+ghost use Rattle.vt_permits.specs.declared.grant.Grant.TheVariants.{Mount, Overlay};
 ghost use Rattle.vt_permits.specs.declared.grant.MountGrant.TheVariants.{Attach};
 ghost use Rattle.vt_calls.specs.Permitted.{EndsGiven, IsGiven};
 
 use crate::answers::done;
 use vt_ns::World;
-use vt_permits::{Attachment, MountGrant};
+use vt_permits::{Attachment, MountGrant, ToMountOverlay};
 use vt_request::{Answer, TaskName};
 use vt_spec::errors::Deny;
 
@@ -45,4 +45,18 @@ fn attach(world: &mut World, name: &TaskName, attachment: Attachment) -> Result<
         Attachment::Bind(bind) => done(world.bind(name, bind)),
         Attachment::Move { mount, destination } => done(world.move_mount(name, mount, destination)),
     }
+}
+
+// Mounts a new overlay as is granted. S5 (ENOMEM): an allocation failed, or a count of uses is full; nothing has
+// changed.
+pub(crate) fn mount_overlay(
+    world: &mut World,
+    name: &TaskName,
+    new: ToMountOverlay,
+) -> Result<Answer, Deny>
+    requires { IsGiven world.old name.now (Overlay new) }
+    ensures { EndsGiven world.old name.now (Overlay new) result world.new }
+{
+    world.next_filesystem_is_new();
+    done(world.mount_overlay(name, new))
 }

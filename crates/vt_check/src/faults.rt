@@ -1,6 +1,6 @@
 //! What is wrong with the words of a refused line: the first of them that no line could have there.
 use crate::draft::Draft;
-use crate::grammar::{Argument, CallWords, Kind, call_named};
+use crate::grammar::{Argument, CallWords, Kind, MOUNT_OVERLAY, call_named};
 use crate::unmodelled::unmodelled_in;
 use crate::words::{Given, Word};
 use std::alloc::{AllocError, Global};
@@ -276,7 +276,7 @@ impl<'a> Search<'a> {
     // What is wrong with the words of a task's line, whose call is of this version.
     fn of_words(&mut self, name: Word<'a>) -> Fault<'a> {
         let version = self.line.version;
-        let fault = match call_named(version, name.text) {
+        let fault = match call_of(version, name, self.line.arguments()) {
             Some(call) => self.of_call(call),
             None => Fault::of(Wrong::NoCall, name),
         };
@@ -297,10 +297,7 @@ impl<'a> Search<'a> {
         if is_second_call(self.line.version, name.text) {
             return Fault::of(Wrong::OfSecond("call"), name);
         }
-        match overlay_of(name, self.line.arguments()) {
-            Some(word) => Fault::of(Wrong::Later("no filesystem type"), word),
-            None => self.of_words(name),
-        }
+        self.of_words(name)
     }
 
     // The first fault of the line.
@@ -320,10 +317,20 @@ impl<'a> Search<'a> {
     }
 }
 
-// The word that asks for an overlay.
-fn overlay_of<'a>(name: Word<'a>, words: &[Word<'a>]) -> Option<Word<'a>> {
-    let word = words.first()?;
-    (name.text == "mount" && word.text == "overlay").then_some(*word)
+// Whether these are the words of the mount of an overlay.
+fn is_overlay(name: Word<'_>, words: &[Word<'_>]) -> bool {
+    match words.first() {
+        Some(word) => name.text == "mount" && word.text == "overlay",
+        None => false,
+    }
+}
+
+// The call of this name, in a version of the language, as its first word says which it is.
+fn call_of(version: Version, name: Word<'_>, words: &[Word<'_>]) -> Option<&'static CallWords> {
+    if is_overlay(name, words) {
+        return Some(&MOUNT_OVERLAY);
+    }
+    call_named(version, name.text)
 }
 
 // The flag among the flags of a line of version 1 that only version 2 knows.

@@ -20,6 +20,7 @@ pub enum Kind {
     KeptIdentity,
     Mode,
     Offset,
+    Options,
     Path,
     Propagation,
     Task,
@@ -100,6 +101,16 @@ const FD: Argument = Argument {
 const PLAIN: Argument = Argument {
     name: "`plain`",
     kind: Kind::Filesystem,
+};
+
+const OVERLAY: Argument = Argument {
+    name: "`overlay`",
+    kind: Kind::Filesystem,
+};
+
+const OPTIONS: Argument = Argument {
+    name: "OPTIONS",
+    kind: Kind::Options,
 };
 
 const FLAGS: Argument = Argument {
@@ -378,6 +389,14 @@ static TASK_CALLS: [CallWords; 12] = [
     },
 ];
 
+/// The mount of an overlay: the first argument says that it is one.
+pub static MOUNT_OVERLAY: CallWords = CallWords {
+    name: "mount",
+    usage: "`mount overlay PATH OPTIONS [FLAGS]`",
+    needed: &[OVERLAY, PATH, OPTIONS],
+    optional: &[FLAGS],
+};
+
 // Calls about mounts.
 static MOUNT_CALLS: [CallWords; 10] = [
     CallWords {
@@ -520,12 +539,13 @@ static DESCRIPTOR_WORDS: KindWords = KindWords {
 
 static FILESYSTEM_WORDS: KindWords = KindWords {
     before: "t mount ",
-    after: " /",
-    said: "`mount plain PATH` mounts a new filesystem, `bind SOURCE PATH` a tree that exists",
+    after: " / rw",
+    said: "`mount plain PATH` mounts a new filesystem, `mount overlay PATH OPTIONS` layers, \
+           `bind SOURCE PATH` a tree that exists",
     plain: "plain",
     part: "",
-    choices: &["plain"],
-    synonyms: &[("tmpfs", "plain")],
+    choices: &["plain", "overlay"],
+    synonyms: &[("tmpfs", "plain"), ("overlayfs", "overlay")],
 };
 
 static GROUPS_WORDS: KindWords = KindWords {
@@ -572,6 +592,16 @@ static OFFSET_WORDS: KindWords = KindWords {
     before: "t pread 0 ",
     after: " 0",
     said: "OFFSET and SIZE are numbers, at most 4294967295",
+    plain: "",
+    part: "",
+    choices: &[],
+    synonyms: &[],
+};
+
+static OPTIONS_WORDS: KindWords = KindWords {
+    before: "t mount overlay / ",
+    after: "",
+    said: "OPTIONS stand between commas, as `lowerdir=/high:/low` does",
     plain: "",
     part: "",
     choices: &[],
@@ -694,6 +724,7 @@ impl Kind {
             Kind::KeptIdentity => &KEPT_IDENTITY_WORDS,
             Kind::Mode => &MODE_WORDS,
             Kind::Offset => &OFFSET_WORDS,
+            Kind::Options => &OPTIONS_WORDS,
             Kind::Path => &PATH_WORDS,
             Kind::Propagation => &PROPAGATION_WORDS,
             Kind::Task => &TASK_WORDS,

@@ -12,6 +12,7 @@ mod mounts;
 mod namespaces;
 mod objects;
 mod opening;
+mod overlays;
 mod privacy;
 mod propagation;
 mod tasks;
@@ -25,13 +26,14 @@ use crate::words::{Given, Word};
 type Row = (&'static str, &'static str, &'static str);
 
 // All rows, by what they are about. A long table costs its proof more than two short ones.
-fn tables() -> [&'static [Row]; 12] {
+fn tables() -> [&'static [Row]; 13] {
     [
         files::rows(),
         objects::rows(),
         links::rows(),
         opening::rows(),
         modes::rows(),
+        overlays::rows(),
         mounts::rows(),
         binds::rows(),
         unmounts::rows(),

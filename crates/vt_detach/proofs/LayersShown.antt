@@ -60,22 +60,9 @@ among_slice [] place layer e = absurd (none_is_some layer e)
 among_slice (first ∷ list) zero layer e = inl (sym (same_Some first layer e))
 among_slice (first ∷ list) (suc place) layer e = inr (among_slice list place layer e)
 
--- an overlay of the value, whose layers are these
-module _ (value : WorldValue) (held : IsHeld value) (entry : OverlayEntry) (m : Among entry value.overlays)
-    (lowers : List LayerRef) (same : entry.lowers ≡ map layer_seen lowers) where
-  abbrev world : World ℕ
-  world = world_of value
-
-  among : Among (overlay_seen entry) (world_of value).filesystems
-  among =
-      (overlay_among value held.overlays (overlay_seen entry) (among-map overlay_seen value.overlays entry m)).0
-
-  all_plain : list_all (is_plain_layer nat_eq (world_of value)) (map layer_seen lowers) ≡ true
-  all_plain =
-      subst (λ layers. list_all (is_plain_layer nat_eq (world_of value)) layers ≡ true) same
-      (passes (of_overlay true (λ overlay. list_all (is_plain_layer nat_eq (world_of value)) (layers_of overlay)))
-      (world_of value).filesystems held.in_world.overlays.plain_layers (overlay_seen entry) among)
-
+-- layers that are directories of plain trees of the world
+module _ (value : WorldValue) (held : IsHeld value) (lowers : List LayerRef)
+    (all_plain : list_all (is_plain_layer nat_eq (world_of value)) (map layer_seen lowers) ≡ true) where
   module _ (layer : LayerRef) (n : Among layer lowers) where
     abbrev count : ℕ
     count = layer.directory.filesystem.count
@@ -114,12 +101,33 @@ module _ (value : WorldValue) (held : IsHeld value) (entry : OverlayEntry) (m : 
       own_numbers = own_at value held count;
     }
 
-  -- they are layers, which the world shows
-  pub layers_shown_well : AreLayers value.filesystems lowers × All (ShowsLayer (world_of value) value.filesystems) lowers
-  layers_shown_well = (
+  -- they are layers of what is kept, which the world shows
+  pub plain_layers_shown : AreLayers value.filesystems lowers
+      × All (ShowsLayer (world_of value) value.filesystems) lowers
+  plain_layers_shown = (
     λ place layer at. is_layer layer (among_slice lowers place layer at),
     all_from_among (ShowsLayer (world_of value) value.filesystems) lowers shows_it,
   )
+
+-- an overlay of the value, whose layers are these
+module _ (value : WorldValue) (held : IsHeld value) (entry : OverlayEntry) (m : Among entry value.overlays)
+    (lowers : List LayerRef) (same : entry.lowers ≡ map layer_seen lowers) where
+  abbrev world : World ℕ
+  world = world_of value
+
+  among : Among (overlay_seen entry) (world_of value).filesystems
+  among =
+      (overlay_among value held.overlays (overlay_seen entry) (among-map overlay_seen value.overlays entry m)).0
+
+  all_plain : list_all (is_plain_layer nat_eq (world_of value)) (map layer_seen lowers) ≡ true
+  all_plain =
+      subst (λ layers. list_all (is_plain_layer nat_eq (world_of value)) layers ≡ true) same
+      (passes (of_overlay true (λ overlay. list_all (is_plain_layer nat_eq (world_of value)) (layers_of overlay)))
+      (world_of value).filesystems held.in_world.overlays.plain_layers (overlay_seen entry) among)
+
+  -- they are layers, which the world shows
+  pub layers_shown_well : AreLayers value.filesystems lowers × All (ShowsLayer (world_of value) value.filesystems) lowers
+  layers_shown_well = plain_layers_shown value held lowers all_plain
 
   fits : (not (is_empty_list entry.lowers) ≡ true) × (nat_le (length entry.lowers) most_lowers ≡ true)
   fits =

@@ -1,5 +1,6 @@
 pub mod FilesystemsFound
 pub mod Overlaid
+pub mod OverlayGranted
 pub mod PlainFound
 pub mod NodesFound
 pub mod Writers

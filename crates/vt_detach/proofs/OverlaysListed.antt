@@ -131,12 +131,14 @@ none_at number (first ∷ rest) apart =
     ap (λ b. cond b (Some (merged_of first)) (merged_at number (map merged_of rest))) (apart first (inl refl))
     ∙ none_at number rest (λ entry m. apart entry (inr m))
 
-abbrev AreApart : Filesystems → Overlays → Type 0
+-- overlays with numbers of their own
+abbrev pub AreApart : Filesystems → Overlays → Type 0
 AreApart plain overlays =
     any_pair (λ (a b : Filesystem ℕ). nat_eq a.number b.number)
     (overlays_seen (map (overlay_of_store plain) overlays)) ≡ false
 
-kept_by : (plain : Filesystems) (stays : ℕ × OverlayValue → Bool) (old new : Overlays)
+-- those that are left are what the store keeps, where each has a number of its own
+pub kept_by : (plain : Filesystems) (stays : ℕ × OverlayValue → Bool) (old new : Overlays)
     → under_counts new ≡ filter stays (under_counts old) → AreApart plain old
     → overlays_kept (map merged_of new) (map (overlay_of_store plain) old) ≡ map (overlay_of_store plain) new
 kept_by plain stays [] [] left apart = refl

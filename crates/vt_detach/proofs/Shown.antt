@@ -18,7 +18,7 @@ counted_eq_back a b = counted_test a b ∙ by (nat_eq a b) refl
     by false e = sym (ne_eqb b a (λ same. true≢false (sym (eq-eqb a b (sym same)) ∙ e)))
 
 -- uses of an inode that come and go
-changed_inodes : (count : ℕ) (change : Inodes ℕ → Inodes ℕ) (changed_so : ℕ → Inodes ℕ → Inodes ℕ)
+pub changed_inodes : (count : ℕ) (change : Inodes ℕ → Inodes ℕ) (changed_so : ℕ → Inodes ℕ → Inodes ℕ)
     → ((other : ℕ) (inodes : Inodes ℕ)
     → changed_so (counted other) inodes ≡ cond (nat_eq count other) (change inodes) inodes)
     → (all : List Shown) → shown_with count change all

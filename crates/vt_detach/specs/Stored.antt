@@ -10,13 +10,16 @@ use Rattle.vt_store.specs.OverlaysValue.{OverlayEntry, Overlays}
 use Rattle.vt_store.specs.StoreValue.{StoreValue}
 use Rattle.vt_detach.specs.Uses.{Kept, Merged, kept_with}
 
+-- a layer by the inode of its directory
 abbrev pub layer_of : LayerRef → Inode
 layer_of layer = (counted layer.directory.filesystem.count, inode_of layer.directory)
 
+-- an overlay of a store as it is counted
 abbrev pub merged_of : OverlayEntry → Merged
 merged_of entry =
     record { number = counted entry.count; mounts = entry.mounts; layers = map layer_of entry.overlay.lowers }
 
+-- mounts with a store
 abbrev pub kept : List MountEntry → StoreValue → Kept
 kept mounts store = kept_with mounts store.plain (map merged_of store.overlays)
 

@@ -14,7 +14,8 @@ use vt_location::{FilesystemId, Location, MountId};
 use vt_mount::Mounts;
 use vt_store::Store;
 
-/// One use more of a location. It does not allocate: an error says that the mount or the inode has 2^64 - 1 uses.
+/// One use more of a location: of its mount and its inode, or of its mount alone in an overlay, whose nodes count no
+/// uses. It does not allocate: an error says that the mount or the inode has 2^64 - 1 uses.
 pub fn hold(
     mounts: &mut Mounts,
     store: &mut Store,
@@ -37,7 +38,8 @@ pub fn hold(
     Ok(())
 }
 
-/// One use less of a location: what nothing uses any more goes. It does not allocate.
+/// One use less of a location: what nothing uses any more goes, an overlay with the uses of its layers. It does not
+/// allocate.
 pub fn leave(mounts: &mut Mounts, store: &mut Store, at: Location, writes: bool)
     ensures left { kept mounts.new store.new ≡ without_location at writes (kept mounts.old store.old) }
     ensures overlays { OverlaysLeft store.old.overlays store.new.overlays }

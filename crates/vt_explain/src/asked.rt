@@ -32,7 +32,8 @@ pub struct PathAsked<'a> {
     pub last: Last,
 }
 
-/// The paths of a call in the order in which they are walked: none, one or two.
+/// The paths of a call in the order in which they are walked: none, one or two. Those in the options of an overlay are
+/// not among them.
 #[derive(Clone, Copy)]
 pub struct Paths<'a> {
     pub first: Option<PathAsked<'a>>,
@@ -127,7 +128,9 @@ fn of_task(call: &TaskCall) -> Paths<'_> {
 
 fn of_mount(call: &MountCall) -> Paths<'_> {
     match call {
-        MountCall::Plain { path, .. } => one(path, Last::Destination),
+        MountCall::Plain { path, .. } | MountCall::Overlay { path, .. } => {
+            one(path, Last::Destination)
+        }
         MountCall::Bind { source, path, .. } | MountCall::Move { source, path } => {
             two(source, Last::Object, path, Last::Destination)
         }

@@ -1,7 +1,6 @@
 //! A line of a script explained, and answered.
-ghost use Rattle.std.specs.Prelude.{◌≡◌, true, OnOk, Result};
+ghost use Rattle.std.specs.Prelude.{OnOk, Result};
 ghost use Rattle.vt_spec.specs.declared.errors.Deny.{Deny};
-ghost use Rattle.vt_spec.specs.Language.Script.{needs_no_layers};
 ghost use Rattle.vt_request.specs.declared.answer.Answer.{Answer};
 ghost use Rattle.vt_request.specs.Requests.{call_of};
 ghost use Rattle.vt_line.specs.Versions.{version_of};
@@ -356,7 +355,6 @@ fn explain_call(
     name: &TaskName,
     call: Call,
 ) -> Result<String, AllocError>
-    requires { needs_no_layers (call_of call) ≡ true }
     ensures { OnOk result ((outcome : Result Answer Deny)
         × Ends kernel_world kernel.old name.now (call_of call) outcome kernel.new) }
 {

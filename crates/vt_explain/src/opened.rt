@@ -1,8 +1,4 @@
 //! The lines that opened files.
-ghost use Rattle.std.specs.Prelude.{◌≡◌, true};
-ghost use Rattle.vt_spec.specs.Language.Script.{needs_no_layers};
-ghost use Rattle.vt_request.specs.Requests.{call_of};
-
 use std::alloc::{AllocError, Global};
 use vt_calls::Kernel;
 use vt_line::line::Line;
@@ -42,9 +38,12 @@ impl Openings {
     }
 
     // Makes a call, and records what it opens.
-    fn record(&mut self, kernel: &mut Kernel, task: TaskName, call: Call) -> Result<(), AllocError>
-        requires { needs_no_layers (call_of call) ≡ true }
-    {
+    fn record(
+        &mut self,
+        kernel: &mut Kernel,
+        task: TaskName,
+        call: Call,
+    ) -> Result<(), AllocError> {
         if let Ok(Answer::Opened(descriptor)) = kernel.call(&task, call) {
             let before = self.lines;
             self.all.push(Opening {

@@ -1,5 +1,5 @@
 //! Peer groups.
-ghost use Rattle.std.specs.Prelude.{◌≡◌, Bool, ◌⊎◌, ◌&&◌, ◌||◌, not, [], ⊤, ℕ, None, Some, false, true, if◌then◌else◌, length, nat_eq, map, IfOk, IfSome, OnOk, OnErr, option_map};
+ghost use Rattle.std.specs.Prelude.{◌≢◌, ◌≡◌, Bool, ◌⊎◌, ◌&&◌, ◌||◌, not, [], ⊤, ℕ, None, Some, false, true, if◌then◌else◌, length, nat_eq, map, IfOk, IfSome, OnOk, OnErr, option_map};
 ghost use Rattle.vt_spec.specs.Lists.{chain, holds_of, is_among};
 ghost use Rattle.vt_spec.specs.Machine.Mounts.Propagation.{Private, Shared as SharedIn, Slave as SlaveOf};
 ghost use Rattle.vt_spec.specs.Machine.Receives.{receivers};
@@ -149,9 +149,41 @@ impl Groups {
         self.receiving(alloc, group)
     }
 
-    // The mounts that receive the events of a group: those of the group and of the groups below it, which are looked for
-    // level by level.
+    // The mounts that receive the events of a group: those of the group and of the groups below it.
     fn receiving(&self, alloc: Global, group: GroupId) -> Result<Vec<MountId>, AllocError>
+        ensures { IfOk result (λ mounts. (found : ℕ → Bool)
+            × FindsBelow self.now (group_number group) found
+            × (map mount_number mounts.items ≡ receivers_from found self.now.peers)) }
+    {
+        if self.is_lowest(group) {
+            return self.receiving_alone(alloc, group);
+        }
+        self.receiving_below(alloc, group)
+    }
+
+    // Whether there is surely no group below this one.
+    fn is_lowest(&self, group: GroupId) -> bool
+        ensures { result ≡ true → (one : ℕ) → master_in self.now one ≢ Some (group_number group) }
+    {
+        self.lowers(group).next().is_none()
+    }
+
+    // The mounts that receive the events of a group with no group below it.
+    fn receiving_alone(&self, alloc: Global, group: GroupId) -> Result<Vec<MountId>, AllocError>
+        requires { (one : ℕ) → master_in self.now one ≢ Some (group_number group) }
+        ensures { IfOk result (λ mounts. (found : ℕ → Bool)
+            × FindsBelow self.now (group_number group) found
+            × (map mount_number mounts.items ≡ receivers_from found self.now.peers)) }
+    {
+        let _ = &self.mounts;
+        let mut mounts = Vec::new(alloc);
+        self.add_relatives(&mut mounts, group)?;
+        put_in_order(&mut mounts);
+        Ok(mounts)
+    }
+
+    // The mounts that receive the events of a group. The groups below it are looked for level by level.
+    fn receiving_below(&self, alloc: Global, group: GroupId) -> Result<Vec<MountId>, AllocError>
         ensures { IfOk result (λ mounts. (found : ℕ → Bool)
             × FindsBelow self.now (group_number group) found
             × (map mount_number mounts.items ≡ receivers_from found self.now.peers)) }

@@ -6,12 +6,14 @@ ghost use Rattle.vt_later.specs.Lenience.{lenient_flags, lenient_mount};
 
 use crate::passed::Passed;
 use vt_cred::{MountFlags, Rights};
+use vt_layers::{LookAtLayers, Lower};
 use vt_location::{Location, Mount, MountId, NamespaceId, NodeRef};
 use vt_looks::{Asked, Ground, Look, LookAtMounts};
 use vt_node::Node;
 use vt_permits::Attachment;
 use vt_request::TaskName;
 use vt_spec::errors::Deny;
+use vt_tasks::Task;
 
 /// A world, and the rules that it is to let pass.
 #[derive(Drop)]
@@ -175,5 +177,15 @@ impl<'a, L: LookAtMounts> LookAtMounts for Lenient<'a, L> {
 
     fn overfills(&self, attachment: Attachment) -> Result<bool, Deny> {
         Ok(!self.passed.numbers && self.world.overfills(attachment)?)
+    }
+}
+
+impl<'a, L: LookAtLayers> LookAtLayers for Lenient<'a, L> {
+    fn are_in_use(&self, who: &Task, lowers: &[Lower]) -> bool {
+        self.world.are_in_use(who, lowers)
+    }
+
+    fn overfills_with_overlay(&self, destination: Location) -> Result<bool, Deny> {
+        Ok(!self.passed.numbers && self.world.overfills_with_overlay(destination)?)
     }
 }

@@ -10,7 +10,7 @@ use crate::passed::Passed;
 use bitflags::Flags;
 use std::alloc::{AllocError, Global};
 use vt_cred::Cred;
-use vt_looks::LookAtMounts;
+use vt_layers::LookAtLayers;
 use vt_policy::judge;
 use vt_request::Call;
 use vt_spec::errors::Rule;
@@ -41,7 +41,7 @@ fn lenient_task(alloc: Global, who: &Task, passed: Passed) -> Result<Task, Alloc
 }
 
 /// The rule that refuses a call of a task where these rules are let pass, if one does. It fails if an allocation fails.
-pub fn refusal<L: LookAtMounts>(
+pub fn refusal<L: LookAtLayers>(
     alloc: Global,
     world: &L,
     who: &Task,

@@ -1,12 +1,12 @@
 -- Layers that options name, and mounts of overlays judged by them.
-use Rattle.std.proofs.Common.{◌≡◌, ◌≤◌, inl, inr, ℕ, Bool, true, false, [], ◌∷◌, Result, Ok, Err, Option, None, Some, length, take, nat_eq, refl, sym, ap, ◌∙◌, arith, length-take-le}
+use Rattle.std.proofs.Common.{◌≡◌, ◌≤◌, ℕ, Bool, true, false, [], ◌∷◌, Result, Ok, Err, Option, None, Some, length, take, nat_eq, refl, sym, ap, ◌∙◌, arith, length-take-le}
 use Rattle.std.specs.Prelude.{List, is_some, nat_lt, not, ◌&&◌}
 use Rattle.std.proofs.lemmas.Bool.Decides.{nat_tests}
 use Rattle.std.proofs.lemmas.List.{take_all}
 use Rattle.vt_spec.specs.declared.errors.Deny.{Deny}
-use Rattle.vt_spec.specs.declared.errors.Rule.TheVariants.{K1, M9, O2, S5}
+use Rattle.vt_spec.specs.declared.errors.Rule.TheVariants.{K1, O2, S5}
 use Rattle.vt_spec.specs.Errors.{Rules, and_then, denial, unless}
-use Rattle.vt_spec.specs.Language.Calls.{MountFlags, OverlayWords}
+use Rattle.vt_spec.specs.Language.Calls.{Call, MountFlags, OverlayWords}
 use Rattle.vt_spec.specs.Language.Limits.{most_lowers}
 use Rattle.vt_spec.specs.Lists.{is_empty_list, rest_of}
 use Rattle.vt_spec.specs.Machine.Judge.{Judgement, mount_overlay_permit, overlay_permit_by}
@@ -20,10 +20,11 @@ use Rattle.vt_spec.specs.Machine.Walking.{Here, walk_end}
 use Rattle.vt_spec.specs.Machine.World.{Task}
 use Rattle.vt_spec.specs.Rights.{cap_sys_admin}
 use Rattle.vt_spec.proofs.Refusals.{unless-let_through, unless-refused}
+use Rattle.vt_permits.specs.Memory.{JudgesByReceivers}
 use Rattle.vt_rules.proofs.Rows.{skipped, stopped}
 use Rattle.vt_walk.specs.WalkValue.{location_end}
 use Rattle.vt_layers.specs.LayersValue.{first_layers, with_first_lowers}
-use Rattle.vt_layers.specs.MountValue.{JudgesOverlay, layers_named}
+use Rattle.vt_layers.specs.MountValue.{layers_named}
 use Rattle.vt_layers.specs.declared.walks.TheConstants.{KEPT_LOWERS}
 
 -- O2 by the fourth row
@@ -187,15 +188,8 @@ module _ (looks : Looks ℕ) (task : Task ℕ) where
     left place layers e there named =
         placed place e there ∙ ap (λ named. and_then named (asked place)) (sym named)
 
--- answers of code
-pub denied : (looks : Looks ℕ) (task : Task ℕ) (judged : Judgement ℕ) (deny : Deny) → judged ≡ Err deny
-    → JudgesOverlay looks task judged (Err deny)
-denied looks task (Ok permit) deny e = absurd cc
-denied looks task (Err refusal) deny e = inl cc
-
-pub no_receivers : (looks : Looks ℕ) (task : Task ℕ) (judged : Judgement ℕ) (overfull : Bool) (permit : Permit ℕ)
-    (deny : Deny) → judged ≡ unless ((overfull, M9) ∷ []) (Ok permit) → deny ≡ denial S5
-    → JudgesOverlay looks task judged (Err deny)
-no_receivers looks task (Ok other) overfull permit deny e memory = memory
-no_receivers looks task (Err refusal) true permit deny e memory = inr (memory, cc)
-no_receivers looks task (Err refusal) false permit deny e memory = absurd cc
+-- want of memory for the list of layers
+pub no_list : (call : Call) (task : Task ℕ) (judged : Judgement ℕ) (permit : Permit ℕ) (deny : Deny)
+    → judged ≡ Ok permit → deny ≡ denial S5 → JudgesByReceivers call task judged (Err deny)
+no_list call task (Ok other) permit deny e memory = memory
+no_list call task (Err refusal) permit deny e memory = absurd cc

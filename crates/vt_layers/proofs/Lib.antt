@@ -1,3 +1,4 @@
+pub mod GrantLemmas
 pub mod JudgeLemmas
 pub mod OptionLemmas
 pub mod RuleLemmas

@@ -2,7 +2,7 @@
 use Rattle.std.proofs.Common.{◌≡◌, ◌<◌, ◌≤◌, ◌+◌, ◌-◌, ℕ, Bool, true, false, not, ◌&&◌, ◌||◌, List, [], ◌∷◌, ◌++◌, Result, is_some, length, take, drop, get_or, map, nat_eq, option_map, refl, sym, ap, ◌∙◌}
 use Rattle.std.specs.List.{list_any}
 use Rattle.std.specs.Prelude.{nat_lt, option_to_list}
-use Rattle.std.proofs.lemmas.List.{at_drop_all, at_drop_more, take_rest}
+use Rattle.std.proofs.lemmas.List.{append-nil, at_drop_all, at_drop_more, take_rest}
 use Rattle.std.proofs.lemmas.List.Folds.{list_any-append}
 use Rattle.vt_spec.specs.declared.errors.Deny.{Deny}
 use Rattle.vt_spec.specs.declared.errors.Rule.TheVariants.{O2, O3, O5}
@@ -10,12 +10,13 @@ use Rattle.vt_spec.specs.Errors.{Rules, unless}
 use Rattle.vt_spec.specs.Language.Limits.{most_lowers}
 use Rattle.vt_spec.specs.Lists.{any_pair, is_empty_list}
 use Rattle.vt_spec.specs.Machine.Looks.{Looks}
+use Rattle.vt_spec.specs.Machine.Mounts.{Location}
 use Rattle.vt_spec.specs.Machine.Rules.Conditions.{is_overlay_at, is_read_only}
 use Rattle.vt_spec.specs.Machine.Rules.Mounting.{LayerLocations, has_single_lower, layer_at, layer_locations, layer_rules, lie_apart, one_under_another, overlay_at, upper_and_work_locations, upper_overlaps_work}
 use Rattle.vt_spec.specs.Machine.World.{Layer, Task}
 use Rattle.vt_location.specs.Locations.{location_of}
-use Rattle.vt_layers.specs.LayerConditions.{checked_rules}
-use Rattle.vt_layers.specs.LayersValue.{lowers_of}
+use Rattle.vt_layers.specs.LayerConditions.{checked_rules, lowers_rules}
+use Rattle.vt_layers.specs.LayersValue.{lowers_alone, lowers_of}
 use Rattle.vt_layers.specs.declared.walks.Lower.{Lower}
 
 -- a test of what a list is mapped to
@@ -95,6 +96,45 @@ module _ (looks : Looks ℕ) (task : Task ℕ) where
           ≡ unless ((front, O2) ∷ (e9, O3) ∷ (e10, O5) ∷ (f1 || f2, O5) ∷ []) answer
       first_row true e9 e10 f1 f2 answer = refl
       first_row false e9 e10 f1 f2 answer = joined_ends e9 e10 f1 f2 answer
+
+-- rows of lower layers alone
+joined_lowers : {A : Type 0} (e1 e2 e4 e5 : Bool) (rows : Rules) (answer : Result A Deny)
+    → unless ((e1 || e2 || e4 || e5, O2) ∷ rows) answer
+    ≡ unless ((e1, O2) ∷ (e2 && true, O2) ∷ (false, O2) ∷ (e4, O2) ∷ (e5, O2) ∷ (false, O2) ∷ (false, O2) ∷ (false, O2) ∷ rows)
+    answer
+joined_lowers true e2 e4 e5 rows answer = refl
+joined_lowers false true e4 e5 rows answer = refl
+joined_lowers false false true e5 rows answer = refl
+joined_lowers false false false true rows answer = refl
+joined_lowers false false false false rows answer = refl
+
+lowers_end : {A : Type 0} (e9 e10 : Bool) (answer : Result A Deny)
+    → unless ((e9, O3) ∷ (e10, O5) ∷ []) answer ≡ unless ((e9, O3) ∷ (e10, O5) ∷ (false, O5) ∷ []) answer
+lowers_end true e10 answer = refl
+lowers_end false true answer = refl
+lowers_end false false answer = refl
+
+module _ (looks : Looks ℕ) (task : Task ℕ) where
+  pub lowers-rules : {A : Type 0} (lowers : List (Location ℕ)) (answer : Result A Deny)
+      → unless (lowers_rules looks task lowers) answer
+      ≡ unless (layer_rules nat_eq looks (lowers_alone lowers) (overlay_at looks task (lowers_alone lowers))) answer
+  lowers-rules lowers answer =
+      let e1 = is_empty_list lowers in
+      let e2 = has_single_lower lowers in
+      let e4 = nat_lt most_lowers (length lowers) in
+      let e9 = looks.is_in_use (overlay_at looks task (lowers_alone lowers)) in
+      let e10 = any_pair (one_under_another nat_eq looks) (map (layer_at looks) lowers) in
+      let ends : Rules = (e9, O3) ∷ (e10, O5) ∷ (false, O5) ∷ [] in
+      first_row (e1 || e2 || e4 || list_any (is_overlay_at looks) lowers) e9 e10 answer
+      ∙ joined_lowers e1 e2 e4 (list_any (is_overlay_at looks) lowers) ends answer
+      ∙ ap (λ all. unless ((e1, O2) ∷ (e2 && true, O2) ∷ (false, O2) ∷ (e4, O2) ∷ (list_any (is_overlay_at looks) all, O2)
+      ∷ (false, O2) ∷ (false, O2) ∷ (false, O2) ∷ ends) answer) (sym (append-nil (lowers ++ []) ∙ append-nil lowers))
+    where
+      first_row : {A : Type 0} (front e9 e10 : Bool) (answer : Result A Deny)
+          → unless ((front, O2) ∷ (e9, O3) ∷ (e10, O5) ∷ []) answer
+          ≡ unless ((front, O2) ∷ (e9, O3) ∷ (e10, O5) ∷ (false, O5) ∷ []) answer
+      first_row true e9 e10 answer = refl
+      first_row false e9 e10 answer = lowers_end e9 e10 answer
 
 -- layers by their locations
 abbrev pub layers_at : Looks ℕ → List Lower → List (Layer ℕ)

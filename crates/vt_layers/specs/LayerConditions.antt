@@ -1,14 +1,16 @@
 -- Conditions of the rules of layers, as code checks them together.
 use Rattle.std.specs.List.{list_any}
-use Rattle.std.specs.Prelude.{Bool, [], is_some, length, map, nat_eq, nat_lt, not, option_map, option_to_list, ℕ, ◌&&◌, ◌++◌, ◌||◌, ◌∷◌}
+use Rattle.std.specs.Prelude.{Bool, List, [], is_some, length, map, nat_eq, nat_lt, not, option_map, option_to_list, ℕ, ◌&&◌, ◌++◌, ◌||◌, ◌∷◌}
 use Rattle.vt_spec.specs.Errors.{Rules}
 use Rattle.vt_spec.specs.Language.Limits.{most_lowers}
 use Rattle.vt_spec.specs.Lists.{any_pair, is_empty_list}
 use Rattle.vt_spec.specs.Machine.Looks.{Looks}
+use Rattle.vt_spec.specs.Machine.Mounts.{Location}
 use Rattle.vt_spec.specs.Machine.Rules.Conditions.{is_overlay_at, is_read_only}
 use Rattle.vt_spec.specs.Machine.Rules.Mounting.{LayerLocations, has_single_lower, layer_at, one_under_another, overlay_at, upper_and_work_locations}
 use Rattle.vt_spec.specs.Machine.World.{Task}
 use Rattle.vt_spec.specs.declared.errors.Rule.TheVariants.{O2, O3, O5}
+use Rattle.vt_layers.specs.LayersValue.{lowers_alone}
 
 -- O2: no lower layer, a single one without an upper directory, an upper directory without a work directory, too many
 -- lower ones
@@ -46,4 +48,15 @@ module _ (looks : Looks ℕ) where
             (option_to_list (option_map (layer_at looks) layers.work)),
         O5,
       )
+      ∷ []
+
+  -- the rules of lower layers alone, those together that answer alike
+  abbrev pub lowers_rules : Task ℕ → List (Location ℕ) → Rules
+  lowers_rules task lowers = (
+    is_empty_list lowers || has_single_lower lowers || nat_lt most_lowers (length lowers)
+        || list_any (is_overlay_at looks) lowers,
+    O2,
+  )
+      ∷ (looks.is_in_use (overlay_at looks task (lowers_alone lowers)), O3)
+      ∷ (any_pair (one_under_another nat_eq looks) (map (layer_at looks) lowers), O5)
       ∷ []

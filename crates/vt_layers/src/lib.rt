@@ -7,8 +7,8 @@ mod options;
 mod rules;
 mod walks;
 
-pub use judging::{ToMountOverlay, layers_named, mount_overlay};
-pub use looks::LookAtLayers;
+pub use judging::{lowers_named, mount_overlay};
+pub use looks::{LookAtLayers, LookAtUpper};
 pub use options::{LayerOptions, Parts};
-pub use rules::{MOST_LOWERS, may_be_layers};
+pub use rules::{MOST_LOWERS, may_be_layers, may_be_lowers};
 pub use walks::{KEPT_LOWERS, LayerLocations, Lower, Lowers, layers_walked};

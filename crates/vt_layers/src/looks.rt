@@ -8,7 +8,7 @@ ghost use Rattle.vt_spec.specs.Machine.Rules.Mounting.{layer_at, overlay_at};
 ghost use Rattle.vt_spec.specs.Machine.World.{Overlay};
 ghost use Rattle.vt_location.specs.Locations.{location_of};
 ghost use Rattle.vt_tasks.specs.TaskValue.{task_of};
-ghost use Rattle.vt_layers.specs.LayersValue.{layers_of, lowers_of};
+ghost use Rattle.vt_layers.specs.LayersValue.{layers_of, lowers_alone, lowers_of};
 
 use crate::walks::{LayerLocations, Lower};
 use vt_location::Location;
@@ -16,8 +16,26 @@ use vt_looks::LookAtMounts;
 use vt_spec::errors::Deny;
 use vt_tasks::Task;
 
-/// What the rules of a mount of an overlay look at besides.
+/// What the rules of a mount of an overlay without an upper layer look at besides.
 pub trait LookAtLayers: LookAtMounts {
+    /// Whether one of these layers overlaps the upper or the work directory of a live overlay, if the task mounts an
+    /// overlay of them alone: EBUSY of mount(2).
+    fn are_in_use(&self, who: &Task, lowers: &[Lower]) -> bool
+        ensures { result ≡ (Self.looks self.now).is_in_use
+            (overlay_at (Self.looks self.now) (task_of who.now) (lowers_alone (lowers_of lowers.now))) };
+
+    /// Whether a namespace has more than 4,096 mounts once an overlay is mounted here, of whatever layers and with
+    /// whatever flags: ENOSPC of mount(2).
+    ///
+    /// S5 (ENOMEM): the allocation of a list of receivers failed.
+    fn overfills_with_overlay(&self, destination: Location) -> Result<bool, Deny>
+        ensures ok { (overlay : Overlay ℕ) (flags : MountFlags) → IfOk result (λ too_many. too_many
+            ≡ Self.overfills self.now (ToMountOverlay (location_of destination) overlay flags)) }
+        ensures memory { IfErr result (λ deny. deny ≡ denial S5) };
+}
+
+/// What the rules of a mount of an overlay with an upper layer look at besides.
+pub trait LookAtUpper: LookAtLayers {
     /// Whether the directory at a location overlaps one of these layers: some inode lies or counts under both. ELOOP
     /// and EINVAL of mount(2).
     fn overlaps_one_of(&self, others: &[Lower], at: Location) -> bool
@@ -30,13 +48,4 @@ pub trait LookAtLayers: LookAtMounts {
     fn is_in_use(&self, who: &Task, layers: &LayerLocations) -> bool
         ensures { result ≡ (Self.looks self.now).is_in_use
             (overlay_at (Self.looks self.now) (task_of who.now) (layers_of layers.now)) };
-
-    /// Whether a namespace has more than 4,096 mounts once an overlay is mounted here, of whatever layers and with
-    /// whatever flags: ENOSPC of mount(2).
-    ///
-    /// S5 (ENOMEM): the allocation of a list of receivers failed.
-    fn overfills_with_overlay(&self, destination: Location) -> Result<bool, Deny>
-        ensures ok { (overlay : Overlay ℕ) (flags : MountFlags) → IfOk result (λ too_many. too_many
-            ≡ Self.overfills self.now (ToMountOverlay (location_of destination) overlay flags)) }
-        ensures memory { IfErr result (λ deny. deny ≡ denial S5) };
 }

@@ -1,8 +1,9 @@
 //! The options of an overlay: the kernel's overlayfs document, "upper and lower", "multiple lower layers".
-ghost use Rattle.std.specs.Prelude.{◌≡◌, ◌∷◌, [], None, option_map};
+ghost use Rattle.std.specs.Prelude.{◌≡◌, ◌∷◌, [], IfSome, None, option_map};
 ghost use Rattle.vt_spec.specs.Language.Script.{behind, lower_item, off_item, option_item, options_of, path_word, single_path, upper_item, work_item, with_item};
 ghost use Rattle.vt_spec.specs.Machine.Rules.Mounting.{work_walked};
 ghost use Rattle.vt_spec.specs.PathText.{parts};
+ghost use Rattle.vt_request.specs.Requests.{options_named};
 ghost use Rattle.vt_layers.specs.OptionValue.{item_of, parts_in};
 
 use std::iter::FusedIterator;
@@ -216,6 +217,19 @@ impl<'a> LayerOptions<'a> {
         let mut items = Parts::of(b',', Some(text));
         while let Some(item) = items.next() {
             options = options.with(option_item(item)?);
+        }
+        Some(options)
+    }
+
+    /// The options that a text is, as `parse` reads it, if the product has all of them: it has no overlays with an
+    /// upper layer, and does not know `upperdir`. It does not allocate.
+    pub fn known(text: &'a [u8]) -> Option<Self>
+        ensures value { result ≡ options_named text.now }
+        ensures no_upper { IfSome result (λ options. options.upper ≡ None) }
+    {
+        let options = LayerOptions::parse(text)?;
+        if options.upper.is_some() {
+            return None;
         }
         Some(options)
     }

@@ -10,10 +10,10 @@ ghost use Rattle.vt_spec.specs.Machine.Rules.Mounting.{layer_at, layer_rules, on
 ghost use Rattle.vt_location.specs.Locations.{location_of};
 ghost use Rattle.vt_location.specs.Numbers.{filesystem_number};
 ghost use Rattle.vt_tasks.specs.TaskValue.{task_of};
-ghost use Rattle.vt_layers.specs.LayerConditions.{are_miscounted, checked_rules, is_upper_unfit};
-ghost use Rattle.vt_layers.specs.LayersValue.{layers_of, lowers_of};
+ghost use Rattle.vt_layers.specs.LayerConditions.{are_miscounted, checked_rules, is_upper_unfit, lowers_rules};
+ghost use Rattle.vt_layers.specs.LayersValue.{layers_of, lowers_alone, lowers_of};
 
-use crate::looks::LookAtLayers;
+use crate::looks::{LookAtLayers, LookAtUpper};
 use crate::walks::{LayerLocations, Lower};
 use vt_location::{FilesystemId, Location};
 use vt_looks::Look;
@@ -25,7 +25,7 @@ use vt_tasks::Task;
 pub const MOST_LOWERS: usize = 128;
 
 // The filesystem that a location is in.
-fn filesystem_at<L: Look>(world: &L, at: Location) -> FilesystemId
+pub(crate) fn filesystem_at<L: Look>(world: &L, at: Location) -> FilesystemId
     ensures { filesystem_number result ≡ (mount_at (L.looks world.now) (location_of at)).filesystem }
 {
     world.ground(at.mount).filesystem
@@ -102,7 +102,7 @@ fn is_on_overlay<L: Look>(world: &L, at: Option<Location>) -> bool
 
 // Whether the upper directory has no work directory, or the two do not fit: they are in two filesystems, overlap, or
 // may not be changed.
-fn is_upper_unfit<L: LookAtLayers>(world: &L, layers: &LayerLocations) -> bool
+fn is_upper_unfit<L: LookAtUpper>(world: &L, layers: &LayerLocations) -> bool
     ensures { result ≡ is_upper_unfit (L.looks world.now) (layers_of layers.now) }
 {
     match (layers.upper, layers.work) {
@@ -119,7 +119,7 @@ fn is_upper_unfit<L: LookAtLayers>(world: &L, layers: &LayerLocations) -> bool
 }
 
 // Whether the upper or the work directory overlaps a lower layer, if it is given.
-fn overlaps_lower<L: LookAtLayers>(world: &L, lowers: &[Lower], at: Option<Location>) -> bool
+fn overlaps_lower<L: LookAtUpper>(world: &L, lowers: &[Lower], at: Option<Location>) -> bool
     ensures { result ≡ list_any ((L.looks world.now).overlaps_one_of
         (map (layer_at (L.looks world.now)) (lowers_of lowers.now)))
         (option_to_list (option_map (layer_at (L.looks world.now)) (option_map location_of at))) }
@@ -131,7 +131,7 @@ fn overlaps_lower<L: LookAtLayers>(world: &L, lowers: &[Lower], at: Option<Locat
 }
 
 // The rules of layers, those together that answer alike.
-fn checked<L: LookAtLayers>(world: &L, who: &Task, layers: &LayerLocations) -> Result<(), Deny>
+fn checked<L: LookAtUpper>(world: &L, who: &Task, layers: &LayerLocations) -> Result<(), Deny>
     ensures { result
         ≡ unless (checked_rules (L.looks world.now) (task_of who.now) (layers_of layers.now)) (Ok tt) }
 {
@@ -162,7 +162,7 @@ fn checked<L: LookAtLayers>(world: &L, who: &Task, layers: &LayerLocations) -> R
 /// more than 128 lower layers, a layer in an overlay; or an upper and a work directory that are in two filesystems,
 /// overlap, or may not be changed. O3 (EBUSY): a layer overlaps one of a live overlay. O5 (ELOOP): a lower layer is at
 /// or under another, or the upper or work directory overlaps one.
-pub fn may_be_layers<L: LookAtLayers>(
+pub fn may_be_layers<L: LookAtUpper>(
     world: &L,
     who: &Task,
     layers: &LayerLocations,
@@ -171,4 +171,36 @@ pub fn may_be_layers<L: LookAtLayers>(
         (overlay_at (L.looks world.now) (task_of who.now) (layers_of layers.now))) (Ok tt) }
 {
     checked(world, who, layers)
+}
+
+// The rules of lower layers alone, those together that answer alike.
+fn checked_lowers<L: LookAtLayers>(world: &L, who: &Task, lowers: &[Lower]) -> Result<(), Deny>
+    ensures { result
+        ≡ unless (lowers_rules (L.looks world.now) (task_of who.now) (lowers_of lowers.now)) (Ok tt) }
+{
+    if lowers.is_empty()
+        || lowers.len() == 1
+        || lowers.len() > MOST_LOWERS
+        || have_overlay(world, lowers)
+    {
+        return Err(Rule::O2.denial());
+    }
+    if world.are_in_use(who, lowers) {
+        return Err(Rule::O3.denial());
+    }
+    if some_under_another(world, lowers) {
+        return Err(Rule::O5.denial());
+    }
+    Ok(())
+}
+
+/// The rules of layers, of an overlay of lower layers alone that the task is to mount. They do not allocate.
+///
+/// O2 (EINVAL): fewer than two layers, more than 128, a layer in an overlay. O3 (EBUSY): a layer overlaps the upper or
+/// the work directory of a live overlay. O5 (ELOOP): a layer is at or under another.
+pub fn may_be_lowers<L: LookAtLayers>(world: &L, who: &Task, lowers: &[Lower]) -> Result<(), Deny>
+    ensures { result ≡ unless (layer_rules nat_eq (L.looks world.now) (lowers_alone (lowers_of lowers.now))
+        (overlay_at (L.looks world.now) (task_of who.now) (lowers_alone (lowers_of lowers.now)))) (Ok tt) }
+{
+    checked_lowers(world, who, lowers)
 }

@@ -55,8 +55,15 @@ fn layer_at<L: Look>(world: &L, who: &Task, path: &[u8]) -> Result<Location, Den
     vt_walk::source_walk(world, who, &PathText::parse(path)?)
 }
 
-// The lower layers, of which the first 129 are kept.
-fn lowers_walked<L: Look>(world: &L, who: &Task, mut paths: Parts<'_>) -> Result<Lowers, Deny>
+/// The lower layers at these paths, from the top, of which the first 129 are kept: each is walked as the source of a mount
+/// is. It does not allocate.
+///
+/// W1 (ENOENT): an empty path. The other errors are those of `source_walk`.
+pub(crate) fn lowers_walked<L: Look>(
+    world: &L,
+    who: &Task,
+    mut paths: Parts<'_>,
+) -> Result<Lowers, Deny>
     ensures ok { IfOk result (λ lowers. Ok (lowers_of lowers.items)
         ≡ first_lowers (each_walked nat_eq (L.looks world.now) (task_of who.now) paths.entry)) }
     ensures err { IfErr result (λ deny. Err deny

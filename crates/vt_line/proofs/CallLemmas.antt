@@ -3,8 +3,8 @@ use Rattle.std.specs.Global.{Vec}
 use Rattle.std.proofs.Common.{List, None, Option, Some, Result, Err, option_map, refl, false, true, subst, sym, ap, ◌≡◌, ◌∙◌, ◌∷◌, [], ℕ, IsSome, IsSomeAnd}
 use Rattle.vt_spec.specs.Language.Calls.{Call}
 use Rattle.vt_spec.specs.Language.Calls as spec
-use Rattle.vt_spec.specs.Lists.{then_some, when}
-use Rattle.vt_spec.specs.Language.Script.{Version, needs_no_layers, no_more, path_alone, path_word, two_paths, word_then}
+use Rattle.vt_spec.specs.Lists.{then_some}
+use Rattle.vt_spec.specs.Language.Script.{Version, call_read, names_no_upper, no_more, path_alone, path_word, two_paths, word_then}
 use Rattle.vt_spec.specs.Language.Script.Version.{One, Two}
 use Rattle.vt_request.specs.declared.request.Call.{Call as KeptCall}
 use Rattle.vt_line.specs.declared.names.CallName.{CallName}
@@ -15,7 +15,7 @@ use Rattle.vt_line.specs.declared.names.PathCall.{PathCall}
 use Rattle.vt_line.specs.declared.names.PathCall.TheVariants as path
 use Rattle.vt_line.specs.declared.calls.ReadError.{ReadError}
 use Rattle.vt_line.specs.declared.calls.ReadError.TheVariants.{Grammar, Memory}
-use Rattle.vt_line.specs.Calls.{ArePathsRead, IsCallRead, KeepsWords, call_named, lone_path, path_pair, with_pair}
+use Rattle.vt_line.specs.Calls.{ArePathsRead, IsCallRead, KeepsWords, as_read, call_named, lone_path, path_pair, with_pair}
 use Rattle.vt_line.specs.Names.{pair_call, path_call}
 
 -- Words that are read alone, and then made a call
@@ -60,25 +60,22 @@ some_keeps : {A : Type 0} (call : A → Call) (paths : Option A) → ((x : A) �
 some_keeps call None keeps some = cc
 some_keeps call (Some x) keeps some = keeps x
 
--- what the grammar has of calls that it all has
-had : {A : Type 0} (call : A → Call) (words : Option A) → ((x : A) → needs_no_layers (call x) ≡ true) →
-    then_some (option_map call words) (λ call. when (needs_no_layers call) call) ≡ option_map call words
-had call None has = refl
-had call (Some x) has = ap (λ there. when there (call x)) (has x)
+-- calls that have no options are read as they are
+had : {A : Type 0} (call : A → Call) (words : Option A) → ((x : A) → call_read names_no_upper (call x) ≡ call x)
+    → as_read (option_map call words) ≡ option_map call words
+had call None same = refl
+had call (Some x) same = ap Some (same x)
 
-path_had : (call : List ℕ → Call) (words : List (List ℕ)) → ((path : List ℕ) → needs_no_layers (call path) ≡ true) →
-    then_some (path_alone call words) (λ call. when (needs_no_layers call) call) ≡ option_map call (lone_path words)
-path_had call words has =
-    ap (λ asked. then_some asked (λ call. when (needs_no_layers call) call)) (path_alone-lone call words)
-    ∙ had call (lone_path words) has
+path_had : (call : List ℕ → Call) (words : List (List ℕ))
+    → ((path : List ℕ) → call_read names_no_upper (call path) ≡ call path)
+    → as_read (path_alone call words) ≡ option_map call (lone_path words)
+path_had call words same = ap as_read (path_alone-lone call words) ∙ had call (lone_path words) same
 
 pair_had : (call : List ℕ → List ℕ → Call) (words : List (List ℕ))
-    → ((a b : List ℕ) → needs_no_layers (call a b) ≡ true) →
-    then_some (two_paths call words) (λ call. when (needs_no_layers call) call)
-    ≡ option_map (with_pair call) (path_pair words)
-pair_had call words has =
-    ap (λ asked. then_some asked (λ call. when (needs_no_layers call) call)) (two_paths-pair call words)
-    ∙ had (with_pair call) (path_pair words) (λ pair. has pair.0 pair.1)
+    → ((a b : List ℕ) → call_read names_no_upper (call a b) ≡ call a b)
+    → as_read (two_paths call words) ≡ option_map (with_pair call) (path_pair words)
+pair_had call words same =
+    ap as_read (two_paths-pair call words) ∙ had (with_pair call) (path_pair words) (λ pair. same pair.0 pair.1)
 
 path_named : (version : Version) (name : PathCall) (words : List (List ℕ))
     → call_named version (Path name) words ≡ option_map (path_call name) (lone_path words)

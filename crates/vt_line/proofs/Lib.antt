@@ -1,6 +1,5 @@
 pub mod CallLemmas
 pub mod ListingLemmas
-pub mod MountLemmas
 pub mod NumberLemmas
 pub mod PeerLemmas
 pub mod PrintLemmas

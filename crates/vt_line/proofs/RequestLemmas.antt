@@ -5,8 +5,8 @@ use Rattle.std.proofs.lemmas.Bool.Decides.{nat_tests}
 use Rattle.vt_spec.specs.Language.Calls.{Call, Directive, plain_flags}
 use Rattle.vt_spec.specs.Language.Calls as asked
 use Rattle.vt_spec.specs.Language.Calls.Call.{MountOverlay, MountPlain}
-use Rattle.vt_spec.specs.Lists.{then_some, when}
-use Rattle.vt_spec.specs.Language.Script.{Request, Version, access_word, asked_by, attribute_words, bytes_word, call_asked, call_words, capabilities_word, chown_call, creation_words, descriptor_word, descriptor_words, directive_asked, each_of, flags_or_plain, flags_word, fork_words, groups_word, identity_word, kept_or_identity, marks, may_have, mode_word, mount_words, mounting_words, naming_words, needs_no_layers, no_more, offset_word, options_of, path_alone, path_word, raw_tokens, request_of, request_of_texts, second_words, some_tasks, task_word, task_words, token_text, two_paths, type_word, word_then, yes_or_no_word}
+use Rattle.vt_spec.specs.Lists.{then_some}
+use Rattle.vt_spec.specs.Language.Script.{Request, Version, access_word, asked_by, attribute_words, bytes_word, call_asked, call_words, capabilities_word, chown_call, creation_words, descriptor_word, descriptor_words, directive_asked, each_of, flags_or_plain, flags_word, fork_words, groups_word, identity_word, kept_or_identity, may_have, mode_word, mount_words, mounting_words, naming_words, no_more, offset_word, options_of, overlays, path_alone, path_word, raw_tokens, request_of, request_of_texts, second_words, some_tasks, task_word, task_words, token_text, two_paths, type_word, word_then, yes_or_no_word}
 use Rattle.vt_spec.specs.Language.Script.Request.{Asking, Calling}
 use Rattle.vt_spec.specs.Language.Script.Version.{One, Two}
 use Rattle.vt_spec.specs.Language.Script.Who.{Nobody, Someone}
@@ -18,7 +18,7 @@ use Rattle.vt_line.specs.declared.names.PairCall.{PairCall}
 use Rattle.vt_line.specs.declared.names.PairCall.TheVariants as pair
 use Rattle.vt_line.specs.declared.names.PathCall.{PathCall}
 use Rattle.vt_line.specs.declared.names.PathCall.TheVariants as path
-use Rattle.vt_line.specs.Calls.{IsCallRead, IsRequestRead, KeepsWords, TakesMemory, call_named}
+use Rattle.vt_line.specs.Calls.{IsCallRead, IsRequestRead, KeepsWords, TakesMemory, as_read, call_named}
 use Rattle.vt_line.specs.Names.{name_text, pair_text, path_text}
 use Rattle.vt_line.specs.Tokens.{few_texts}
 use Rattle.vt_line.proofs.Splits.{each_of-length}
@@ -189,22 +189,22 @@ module _ (version : Version) (words : List (List ℕ)) (many : 4 < length words)
 module _ (version : Version) where
   -- Whose line it is
   someone-asked : (task : Option (List ℕ)) (words : List (List ℕ)) →
-      asked_by (marks version) (option_map Someone task) words ≡ then_some task (λ task. call_asked (marks version) task words)
+      asked_by (overlays version) (option_map Someone task) words ≡ then_some task (λ task. call_asked (overlays version) task words)
   someone-asked None words = refl
   someone-asked (Some task) words = refl
 
   texts-someones : (text : List ℕ) (words : List (List ℕ)) → bytes_eq text (codes "!") ≡ false
-      → request_of_texts (marks version) (text ∷ words) ≡ asked_by (marks version) (option_map Someone (task_word text)) words
+      → request_of_texts (overlays version) (text ∷ words) ≡ asked_by (overlays version) (option_map Someone (task_word text)) words
   texts-someones text words other =
-      ap (λ test. asked_by (marks version) (cond test (Some Nobody) (option_map Someone (task_word text))) words) other
+      ap (λ test. asked_by (overlays version) (cond test (Some Nobody) (option_map Someone (task_word text))) words) other
 
   texts-nobodys : (text : List ℕ) (words : List (List ℕ)) → bytes_eq text (codes "!") ≡ true
-      → request_of_texts (marks version) (text ∷ words) ≡ directive_asked (marks version) words
+      → request_of_texts (overlays version) (text ∷ words) ≡ directive_asked (overlays version) words
   texts-nobodys text words same =
-      ap (λ test. asked_by (marks version) (cond test (Some Nobody) (option_map Someone (task_word text))) words) same
+      ap (λ test. asked_by (overlays version) (cond test (Some Nobody) (option_map Someone (task_word text))) words) same
 
   -- the names of the product's calls are known
-  path-known : (name : PathCall) → (marks version).knows (path_text name) ≡ true
+  path-known : (name : PathCall) → (overlays version).knows (path_text name) ≡ true
   path-known path.Ls = refl
   path-known path.Stat = refl
   path-known path.Lstat = refl
@@ -219,7 +219,7 @@ module _ (version : Version) where
   path-known path.Lazy = refl
   path-known path.Whiteout = refl
 
-  pair-known : (name : PairCall) → (marks version).knows (pair_text name) ≡ true
+  pair-known : (name : PairCall) → (overlays version).knows (pair_text name) ≡ true
   pair-known pair.Symlink = refl
   pair-known pair.Link = refl
   pair-known pair.Rename = refl
@@ -227,7 +227,7 @@ module _ (version : Version) where
   pair-known pair.Rbind = refl
   pair-known pair.Move = refl
 
-  name-known : (name : CallName) → (marks version).knows (name_text name) ≡ true
+  name-known : (name : CallName) → (overlays version).knows (name_text name) ≡ true
   name-known (Path name) = path-known name
   name-known (Pair name) = pair-known name
   name-known Write = refl
@@ -253,28 +253,27 @@ module _ (version : Version) where
   name-known PivotRoot = refl
 
   call-asked : (task : List ℕ) (name : CallName) (words : List (List ℕ)) →
-      call_asked (marks version) task (name_text name ∷ words) ≡ option_map (Calling task) (call_named version name words)
+      call_asked (overlays version) task (name_text name ∷ words) ≡ option_map (Calling task) (call_named version name words)
   call-asked task name words = ap (λ known. cond known (option_map (Calling task) (call_named version name words)) None)
       (name-known name)
 
   -- what a task asks for, once it and its call are known
   pub task-named : (first second : List ℕ) (words : List (List ℕ)) (task : List ℕ) (name : CallName)
       → task_word first ≡ Some task → second ≡ name_text name
-      → asked_by (marks version) (option_map Someone (task_word first)) (second ∷ words)
+      → asked_by (overlays version) (option_map Someone (task_word first)) (second ∷ words)
       ≡ option_map (Calling task) (call_named version name words)
   task-named first second words task name e f =
       someone-asked (task_word first) (second ∷ words)
-      ∙ ap (λ task. then_some task (λ task. call_asked (marks version) task (second ∷ words))) e
-      ∙ ap (λ second. call_asked (marks version) task (second ∷ words)) f ∙ call-asked task name words
+      ∙ ap (λ task. then_some task (λ task. call_asked (overlays version) task (second ∷ words))) e
+      ∙ ap (λ second. call_asked (overlays version) task (second ∷ words)) f ∙ call-asked task name words
 
   asked-none : (test : Bool) (task : List ℕ) (call : Option Call) → call ≡ None
-      → cond test (option_map (Calling task) (then_some call (λ call. when (needs_no_layers call) call))) None ≡ None
-  asked-none true task call e = ap
-      (λ call. option_map (Calling task) (then_some call (λ call. when (needs_no_layers call) call))) e
+      → cond test (option_map (Calling task) (as_read call)) None ≡ None
+  asked-none true task call e = ap (λ call. option_map (Calling task) (as_read call)) e
   asked-none false task call e = refl
 
   -- the directive has no words
-  directive-many : (name word : List ℕ) (words : List (List ℕ)) → directive_asked (marks version) (name ∷ word ∷ words) ≡ None
+  directive-many : (name word : List ℕ) (words : List (List ℕ)) → directive_asked (overlays version) (name ∷ word ∷ words) ≡ None
   directive-many name word words = by (bytes_eq name (codes "peers")) where
     others : Option Directive
     others = cond (bytes_eq name (codes "sealed")) (some_tasks (word ∷ words)) None
@@ -283,33 +282,33 @@ module _ (version : Version) where
     by true = refl
     by false = refl
 
-  request-many : (texts : List (List ℕ)) → 6 < length texts → request_of_texts (marks version) texts ≡ None
+  request-many : (texts : List (List ℕ)) → 6 < length texts → request_of_texts (overlays version) texts ≡ None
   request-many [] h = absurd (omega arith)
   request-many (first ∷ []) h = absurd (omega arith)
   request-many (first ∷ name ∷ []) h = absurd (omega arith)
   request-many (first ∷ name ∷ word ∷ words) h = by_test (bytes_eq first (codes "!")) refl where
     by_test : (test : Bool) → bytes_eq first (codes "!") ≡ test
-        → request_of_texts (marks version) (first ∷ name ∷ word ∷ words) ≡ None
+        → request_of_texts (overlays version) (first ∷ name ∷ word ∷ words) ≡ None
     by_test true e = texts-nobodys first (name ∷ word ∷ words) e ∙ directive-many name word words
     by_test false e =
         texts-someones first (name ∷ word ∷ words) e ∙ someone-asked (task_word first) (name ∷ word ∷ words)
-        ∙ none_then (task_word first) (λ task. call_asked (marks version) task (name ∷ word ∷ words))
-        (λ task. asked-none ((marks version).knows name) task
+        ∙ none_then (task_word first) (λ task. call_asked (overlays version) task (name ∷ word ∷ words))
+        (λ task. asked-none ((overlays version).knows name) task
         (call_words version name (word ∷ words)) (call-none version (word ∷ words) (omega arith) name))
 
   -- the texts are as many as the tokens
   many_texts : (texts : Option (List (List ℕ))) → ((all : List (List ℕ)) → texts ≡ Some all → 6 < length all)
-      → then_some texts (request_of_texts (marks version)) ≡ None
+      → then_some texts (request_of_texts (overlays version)) ≡ None
   many_texts None many = refl
   many_texts (Some all) many = request-many all (many all refl)
 
   pub request-few : (line : List ℕ)
-      → request_of (marks version) line ≡ then_some (few_texts line) (request_of_texts (marks version))
+      → request_of (overlays version) line ≡ then_some (few_texts line) (request_of_texts (overlays version))
   unfolding request_of
   request-few line = by_test (leb (length (raw_tokens line)) 6) refl where
     by_test : (test : Bool) → leb (length (raw_tokens line)) 6 ≡ test →
-        then_some (each_of token_text (raw_tokens line)) (request_of_texts (marks version))
-        ≡ then_some (cond test (each_of token_text (raw_tokens line)) None) (request_of_texts (marks version))
+        then_some (each_of token_text (raw_tokens line)) (request_of_texts (overlays version))
+        ≡ then_some (cond test (each_of token_text (raw_tokens line)) None) (request_of_texts (overlays version))
     by_test true e = refl
     by_test false e =
         let many : 6 < length (raw_tokens line) = grind (arith, nat_tests) in

@@ -1,8 +1,8 @@
 -- Calls as their words are read, and what becomes of a line that asks for one.
-use Rattle.std.specs.Prelude.{List, None, Option, Some, length, ℕ, ◌<◌, ◌≡◌, ◌⊎◌, IsSome, IsSomeAnd, Result, Ok, Err}
+use Rattle.std.specs.Prelude.{List, None, Option, Some, length, true, ℕ, ◌<◌, ◌≡◌, ◌⊎◌, IsSome, IsSomeAnd, Result, Ok, Err}
 use Rattle.vt_spec.specs.Language.Calls as spec
 use Rattle.vt_spec.specs.Language.Calls.Call.{Close, Drop, Exit, Fork, ListMounts, Pread, Setns, Umask, Unshare}
-use Rattle.vt_spec.specs.Language.Script.{Request, Version, call_words, needs_no_layers, no_more, path_word, word_then}
+use Rattle.vt_spec.specs.Language.Script.{Request, Version, call_read, call_words, mount_words, names_no_upper, no_more, path_word, word_then}
 use Rattle.vt_spec.specs.Language.Script.Request.{Asking, Calling}
 use Rattle.vt_spec.specs.Lists.{then_some, when}
 use Rattle.vt_request.specs.declared.request.Call.{Call}
@@ -35,12 +35,20 @@ abbrev pub TakesMemory : Request → Type 0
 TakesMemory (Calling task call) = KeepsWords call ⊎ (INLINE_NUMBERS < length task)
 TakesMemory (Asking directive) = ⊥
 
--- the call that a version of the language has for a name and words, and the same if the grammar has it
+-- a call as the grammar reads it, which knows no options of an upper layer
+abbrev pub as_read : Option spec.Call → Option spec.Call
+as_read asked = then_some asked (λ call. when true (call_read names_no_upper call))
+
+-- the call that a version of the language has for a name and words, and the same as the grammar reads it
 abbrev pub call_worded : Version → CallName → List (List ℕ) → Option spec.Call
 call_worded version name words = call_words version (name_text name) words
 
 abbrev pub call_named : Version → CallName → List (List ℕ) → Option spec.Call
-call_named version name words = then_some (call_worded version name words) (λ call. when (needs_no_layers call) call)
+call_named version name words = as_read (call_worded version name words)
+
+-- the mount of a filesystem of this kind with the words behind it
+abbrev pub mount_named : Version → List ℕ → List (List ℕ) → Option spec.Call
+mount_named version kind words = as_read (mount_words version kind words)
 
 -- a call was read, or why none was
 abbrev pub IsCallRead : Option spec.Call → Result Call ReadError → Type 0

@@ -1,6 +1,6 @@
 -- What a line of a script says.
 use Rattle.std.specs.Prelude.{◌≡◌, ◌≤◌, ℕ, true, false, List, length, Some}
-use Rattle.vt_spec.specs.Language.Script.{Version, is_silent, marks, request_of}
+use Rattle.vt_spec.specs.Language.Script.{Version, is_silent, overlays, request_of}
 use Rattle.vt_spec.specs.Language.Limits.{longest_line}
 use Rattle.vt_spec.specs.Language.Script.Request.{Asking, Calling}
 use Rattle.vt_line.specs.declared.line.Line.{Line}
@@ -20,6 +20,6 @@ IsSpoken text = (length text ≤ longest_line) × (is_silent text ≡ false)
 abbrev pub IsReadingOf : Version → List ℕ → Line → Type 0
 IsReadingOf version text Silent = IsSilent text
 IsReadingOf version text (Call task call) =
-    IsSpoken text × (request_of (marks version) text ≡ Some (Calling task (call_of call)))
+    IsSpoken text × (request_of (overlays version) text ≡ Some (Calling task (call_of call)))
 IsReadingOf version text (Ask directive) =
-    IsSpoken text × (request_of (marks version) text ≡ Some (Asking (directive_of directive)))
+    IsSpoken text × (request_of (overlays version) text ≡ Some (Asking (directive_of directive)))

@@ -1,7 +1,7 @@
 //! The lines of a script.
 ghost use Rattle.std.specs.Prelude.{◌≡◌, ◌<◌, ◌≤◌, ◌↔◌, ◌⊎◌, ◌∷◌, None, length, option_map, IfOk, IfErr, IsSomeAnd};
 ghost use Rattle.vt_spec.specs.Errors.{denial};
-ghost use Rattle.vt_spec.specs.Language.Script.{asked_by, directive_asked, marks};
+ghost use Rattle.vt_spec.specs.Language.Script.{asked_by, directive_asked, overlays};
 ghost use Rattle.vt_spec.specs.Language.Script.{request_of, request_of_texts, task_word};
 ghost use Rattle.vt_spec.specs.Language.Script.Request.{Asking};
 ghost use Rattle.vt_spec.specs.Language.Script.Version.{One};
@@ -44,7 +44,7 @@ fn task_call(
     words: Words<'_>,
 ) -> Result<Line, ReadError>
     ensures { let task = option_map Someone (task_word task.now) in
-        IsRequestRead (asked_by (marks (version_of version)) task (name.now ∷ words.entry)) result }
+        IsRequestRead (asked_by (overlays (version_of version)) task (name.now ∷ words.entry)) result }
 {
     let Some(name) = CallName::from_text(name) else {
         return Err(ReadError::Grammar);
@@ -60,7 +60,7 @@ fn task_call(
 /// The directive of this name, with these words. Both versions of the language read it alike.
 fn directive(name: &[u8], words: Words<'_>) -> Option<Directive>
     ensures { option_map (λ directive. Asking (directive_of directive)) result
-        ≡ directive_asked (marks One) (name.now ∷ words.entry) }
+        ≡ directive_asked (overlays One) (name.now ∷ words.entry) }
 {
     if name != b"peers".as_slice() {
         return None;
@@ -71,7 +71,7 @@ fn directive(name: &[u8], words: Words<'_>) -> Option<Directive>
 
 /// What a line asks for, by its texts.
 fn texts_request(version: Version, alloc: Global, texts: Texts<'_>) -> Result<Line, ReadError>
-    ensures { IsRequestRead (request_of_texts (marks (version_of version)) (texts_of texts.entry.items)) result }
+    ensures { IsRequestRead (request_of_texts (overlays (version_of version)) (texts_of texts.entry.items)) result }
 {
     let mut words = Words::new(texts);
     let (Some(who), Some(name)) = (words.next(), words.next()) else {
@@ -89,7 +89,7 @@ fn texts_request(version: Version, alloc: Global, texts: Texts<'_>) -> Result<Li
 /// What a line asks for that has escapes, or bytes that no token has.
 fn escaped_request(version: Version, alloc: Global, line: &[u8]) -> Result<Line, ReadError>
     requires { length line.now ≤ longest_line }
-    ensures { IsRequestRead (request_of (marks (version_of version)) line.now) result }
+    ensures { IsRequestRead (request_of (overlays (version_of version)) line.now) result }
 {
     let Some(unescaped) = Unescaped::from_line(line) else {
         return Err(ReadError::Grammar);
@@ -100,7 +100,7 @@ fn escaped_request(version: Version, alloc: Global, line: &[u8]) -> Result<Line,
 /// What a line asks for, if it is of the grammar.
 fn request(version: Version, alloc: Global, line: &[u8]) -> Result<Line, ReadError>
     requires { length line.now ≤ longest_line }
-    ensures { IsRequestRead (request_of (marks (version_of version)) line.now) result }
+    ensures { IsRequestRead (request_of (overlays (version_of version)) line.now) result }
 {
     if !is_unescaped(line) {
         return escaped_request(version, alloc, line);
@@ -120,9 +120,9 @@ impl Line {
         // The two refusals, and what each says of the line.
         ensures refused { IfErr result (λ deny. (deny ≡ denial S1) ⊎ (deny ≡ denial S5)) }
         ensures no_request { (result ≡ Err (denial S1))
-            ↔ ((longest_line < length line.now) ⊎ (IsSpoken line.now × (request_of (marks One) line.now ≡ None))) }
+            ↔ ((longest_line < length line.now) ⊎ (IsSpoken line.now × (request_of (overlays One) line.now ≡ None))) }
         ensures no_memory { result ≡ Err (denial S5)
-            → IsSpoken line.now × IsSomeAnd (request_of (marks One) line.now) TakesMemory }
+            → IsSpoken line.now × IsSomeAnd (request_of (overlays One) line.now) TakesMemory }
     {
         Line::parse_as(Version::One, alloc, line)
     }
@@ -137,10 +137,10 @@ impl Line {
 
         // The two refusals, and what each says of the line.
         ensures refused { IfErr result (λ deny. (deny ≡ denial S1) ⊎ (deny ≡ denial S5)) }
-        ensures no_request { let asked = request_of (marks (version_of version)) line.now in
+        ensures no_request { let asked = request_of (overlays (version_of version)) line.now in
             (result ≡ Err (denial S1))
             ↔ ((longest_line < length line.now) ⊎ (IsSpoken line.now × (asked ≡ None))) }
-        ensures no_memory { let asked = request_of (marks (version_of version)) line.now in
+        ensures no_memory { let asked = request_of (overlays (version_of version)) line.now in
             result ≡ Err (denial S5) → IsSpoken line.now × IsSomeAnd asked TakesMemory }
     {
         if line.len() > LONGEST_LINE {

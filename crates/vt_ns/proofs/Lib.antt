@@ -1,3 +1,4 @@
+pub mod LayersInUse
 pub mod MountLooks
 pub mod Overfilling
 pub mod WorldSeen

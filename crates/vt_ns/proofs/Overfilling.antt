@@ -3,13 +3,13 @@ use Rattle.std.proofs.Common.{◌≡◌, refl, sym, ap, subst, ◌∙◌, ⊎_el
 use Rattle.std.proofs.lemmas.List.{length-map, take_all as all_taken}
 use Rattle.std.specs.Prelude.{Contains, drop}
 use Rattle.vt_spec.specs.Language.Calls.{MountFlags}
-use Rattle.vt_spec.specs.Lists.{odds, rest_of}
+use Rattle.vt_spec.specs.Lists.{evens, odds, rest_of}
 use Rattle.vt_spec.specs.Machine.Attach.{Copies, attached_by, bind_tree, copies_from, has_too_many, parts_of, receivers_of, takes_part}
 use Rattle.vt_spec.specs.Machine.Invariants.{NamespaceInvariants}
 use Rattle.vt_spec.specs.Machine.Mounts.{Location, Mount, mount_tree, no_mount}
-use Rattle.vt_spec.specs.Machine.NewMounts.{new_mount, plain_filesystem, with_new_filesystem}
-use Rattle.vt_spec.specs.Machine.Permits.Permit.{ToBind, ToMountPlain, ToMove}
-use Rattle.vt_spec.specs.Machine.World.{World, mount_at, mount_numbered}
+use Rattle.vt_spec.specs.Machine.NewMounts.{new_mount, overlay_filesystem, plain_filesystem, with_new_filesystem}
+use Rattle.vt_spec.specs.Machine.Permits.Permit.{ToBind, ToMountOverlay, ToMountPlain, ToMove}
+use Rattle.vt_spec.specs.Machine.World.{Overlay, World, mount_at, mount_numbered}
 use Rattle.vt_spec.proofs.Lists.{Among, all_from_among, contains_from_among}
 use Rattle.vt_location.specs.declared.mounts.Mount.{Mount as Kept}
 use Rattle.vt_location.specs.declared.numbers.MountId.{MountId}
@@ -201,6 +201,26 @@ module _ (value : WorldValue) (held : IsHeld value) (place : Location ℕ) (too_
   plain_overfills flags tells =
       let fresh = counts_from value.next in
       let filesystem = plain_filesystem nat_eq fresh in
+      let larger = with_new_filesystem (world_of value) filesystem in
+      let added = new_mount filesystem.number filesystem.files.tree.root flags ∷ [] in
+      let is = held.in_world.namespaces in
+      tells larger (copies_from nat_eq (odds fresh) (parts_of nat_eq larger place) added) added refl
+      (record {
+        one_namespace = is.one_namespace;
+        mounts_listed = is.mounts_listed;
+        tasks_listed = is.tasks_listed;
+        root_mounts = is.root_mounts;
+        namespaces_live = is.namespaces_live;
+        few_mounts = is.few_mounts;
+      })
+      (same_parts (world_of value) held.in_world filesystem place) refl
+
+  -- whether a new overlay does
+  pub overlay_overfills : (overlay : Overlay ℕ) (flags : MountFlags) → TellsAdded value place 1 too_many
+      → too_many ≡ overfills_of value (ToMountOverlay place overlay flags)
+  overlay_overfills overlay flags tells =
+      let fresh = counts_from value.next in
+      let filesystem = overlay_filesystem nat_eq (evens fresh) (world_of value) overlay in
       let larger = with_new_filesystem (world_of value) filesystem in
       let added = new_mount filesystem.number filesystem.files.tree.root flags ∷ [] in
       let is = held.in_world.namespaces in

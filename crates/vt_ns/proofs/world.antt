@@ -17,6 +17,8 @@ pub mod LookingAlone
 pub mod MountsOn
 pub mod MovedEvents
 pub mod OpeningNew
+pub mod OverlayEvents
+pub mod OverlaysMounted
 pub mod PivotedEvents
 pub mod PivotedUses
 pub mod PivotedWorlds

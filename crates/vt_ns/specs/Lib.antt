@@ -4,6 +4,7 @@ pub mod LookingAlone
 pub mod Told
 pub mod Entering
 pub mod Opening
+pub mod OverlayMounts
 pub mod Vacancy
 pub mod LyingUnder
 pub mod Retyped

@@ -1,6 +1,7 @@
 -- That the numbers of new inodes are not in use.
 use Rattle.std.specs.Prelude.{false, ℕ, ◌%◌, ◌≡◌}
 use Rattle.vt_location.specs.Numbers.{inode_number}
+use Rattle.vt_laws_overlays_made.specs.Made.{IsNew}
 use Rattle.vt_laws_permits.specs.InUse.{is_in_use}
 use Rattle.vt_spec.specs.Machine.Mounts.{Location}
 use Rattle.vt_detach.specs.Events.{next_inode}
@@ -18,3 +19,7 @@ NextInodeIsVacant value directory = IsVacant value (next_inode value directory)
 -- the root of the next filesystem
 abbrev pub NextRootIsVacant : WorldValue → Type 0
 NextRootIsVacant value = IsVacant value (inode_number value.next 0)
+
+-- the next filesystem, with the numbers of all its nodes
+abbrev pub NextFilesystemIsNew : WorldValue → Type 0
+NextFilesystemIsNew value = IsNew (world_of value) (record { count = value.next })

@@ -12,6 +12,7 @@ mod mount_binds;
 mod mount_looks;
 mod mount_moves;
 mod mounting;
+mod mounting_overlays;
 mod opening;
 mod opening_files;
 mod pivoting;

@@ -7,18 +7,24 @@ ghost use Rattle.vt_permits.specs.GrantValue.{attachment_permit};
 ghost use Rattle.vt_spec.specs.Machine.Attach.{Copies, attached_by, has_too_many, parts_of};
 ghost use Rattle.vt_spec.specs.Machine.Invariants.{NamespaceInvariants};
 ghost use Rattle.vt_spec.specs.Machine.Mounts as meant;
-ghost use Rattle.vt_spec.specs.Machine.Permits.Permit.{ToMove};
-ghost use Rattle.vt_spec.specs.Machine.World.{World as Meant, mount_numbered};
+ghost use Rattle.vt_spec.specs.Language.Calls.{MountFlags};
+ghost use Rattle.vt_spec.specs.Machine.Permits.Permit.{ToMountOverlay, ToMove};
+ghost use Rattle.vt_spec.specs.Machine.Rules.Mounting.{overlay_at};
+ghost use Rattle.vt_spec.specs.Machine.World.{Overlay, World as Meant, mount_numbered};
+ghost use Rattle.vt_tasks.specs.TaskValue.{task_of};
+ghost use Rattle.vt_layers.specs.LayersValue.{lowers_alone, lowers_of};
 ghost use Rattle.vt_detach.specs.Looking.{looks_of_value, overfills_of};
 ghost use Rattle.vt_world.specs.WorldValue.{world_of};
 
 use crate::world::World;
 use std::alloc::AllocError;
+use vt_layers::{LookAtLayers, Lower};
 use vt_location::{Location, MountId};
 use vt_looks::LookAtMounts;
 use vt_permits::Attachment;
 use vt_propagate::{Load, is_busy, overfills};
 use vt_spec::errors::Deny;
+use vt_tasks::Task;
 
 impl World {
     /// Whether a file is open for writing through a mount: EBUSY of mount(2) with `MS_REMOUNT`.
@@ -63,7 +69,35 @@ impl LookAtMounts for World {
     }
 }
 
+impl LookAtLayers for World {
+    fn are_in_use(&self, who: &Task, lowers: &[Lower]) -> bool {
+        self.are_written_to(who, lowers)
+    }
+
+    fn overfills_with_overlay(&self, destination: Location) -> Result<bool, Deny> {
+        Ok(self.has_too_many_with_overlay(destination)?)
+    }
+}
+
 impl World {
+    // Whether one of these layers overlaps the upper or the work directory of an overlay: no overlay has one.
+    fn are_written_to(&self, _who: &Task, _lowers: &[Lower]) -> bool
+        ensures { result ≡ (looks_of_value self.now).is_in_use
+            (overlay_at (looks_of_value self.now) (task_of _who.now) (lowers_alone (lowers_of _lowers.now))) }
+    {
+        self.is_held();
+        false
+    }
+
+    // Whether a namespace has too many mounts once an overlay is mounted here.
+    fn has_too_many_with_overlay(&self, destination: Location) -> Result<bool, AllocError>
+        ensures ok { (overlay : Overlay ℕ) (flags : MountFlags) → IfOk result (λ too_many.
+            too_many ≡ overfills_of self.now (ToMountOverlay (location_of destination) overlay flags)) }
+    {
+        self.is_held();
+        self.has_too_many_with(destination, 1)
+    }
+
     // Whether a namespace has too many mounts once this is attached.
     fn has_too_many(&self, attachment: Attachment) -> Result<bool, AllocError>
         ensures ok { IfOk result (λ too_many.

@@ -1,6 +1,6 @@
 //! The numbers of new inodes, which nothing has yet.
 ghost use Rattle.vt_location.specs.Locations.{location_of};
-ghost use Rattle.vt_ns.specs.Vacancy.{NextInodeIsVacant, NextRootIsVacant};
+ghost use Rattle.vt_ns.specs.Vacancy.{NextFilesystemIsNew, NextInodeIsVacant, NextRootIsVacant};
 
 use crate::world::World;
 use std::alloc::Global;
@@ -31,6 +31,16 @@ impl World {
     /// A theorem, which changes nothing: the number of the root of the next filesystem is not in use.
     pub fn next_root_is_vacant(&self)
         ensures { NextRootIsVacant self.now }
+    {
+        self.mounts.are_counted();
+        self.mounts.groups_are_counted();
+        let _next = self.next;
+    }
+
+    /// A theorem, which changes nothing: no number of a node of the next filesystem is in use, and all numbers that are
+    /// counted were counted before its own.
+    pub fn next_filesystem_is_new(&self)
+        ensures { NextFilesystemIsNew self.now }
     {
         self.mounts.are_counted();
         self.mounts.groups_are_counted();

@@ -1,16 +1,16 @@
 -- What the definitions see of the code's grants: each is one of their permits.
-use Rattle.std.specs.Prelude.{option_map, ℕ}
+use Rattle.std.specs.Prelude.{None, map, option_map, ℕ}
 use Rattle.vt_spec.specs.Language.Changes.Change.{AddName, Remove, SetAttr, SetBytes, SetMark}
 use Rattle.vt_spec.specs.Machine.Tasks.{with_dropped}
 use Rattle.vt_spec.specs.Machine.Permits.{Permit}
-use Rattle.vt_spec.specs.Machine.Permits.Permit.{Allowed, ToBind, ToChange, ToClose, ToEnterNamespace, ToExit, ToFork, ToList, ToListMounts, ToMake, ToMountPlain, ToMove, ToOpen, ToOpenNew, ToPivot, ToRead, ToReadPart, ToRemoveDirectory, ToRename, ToSetCredentials, ToSetDirectory, ToSetFlags, ToSetRoot, ToSetType, ToSetUmask, ToStat, ToUnmount, ToUnmountLazily, ToUnshare, ToWritePart}
+use Rattle.vt_spec.specs.Machine.Permits.Permit.{Allowed, ToBind, ToChange, ToClose, ToEnterNamespace, ToExit, ToFork, ToList, ToListMounts, ToMake, ToMountOverlay as MeansToMerge, ToMountPlain, ToMove, ToOpen, ToOpenNew, ToPivot, ToRead, ToReadPart, ToRemoveDirectory, ToRename, ToSetCredentials, ToSetDirectory, ToSetFlags, ToSetRoot, ToSetType, ToSetUmask, ToStat, ToUnmount, ToUnmountLazily, ToUnshare, ToWritePart}
 use Rattle.vt_spec.specs.Machine.Renaming.{renamed_node}
-use Rattle.vt_spec.specs.Machine.World.{Task}
+use Rattle.vt_spec.specs.Machine.World.{Layer, Overlay, Task}
 use Rattle.vt_spec.specs.Tree.{Node}
 use Rattle.vt_cred.specs.Caps.{capability_bits}
 use Rattle.vt_cred.specs.MountFlags.{flags_of}
 use Rattle.vt_location.specs.Locations.{location_of, number_of}
-use Rattle.vt_location.specs.Numbers.{counted, exchanged}
+use Rattle.vt_location.specs.Numbers.{counted, exchanged, filesystem_number}
 use Rattle.vt_location.specs.declared.births.Birth.{Birth}
 use Rattle.vt_location.specs.declared.births.Birth.TheVariants.{Below, Here}
 use Rattle.vt_location.specs.declared.locations.Location.{Location}
@@ -24,6 +24,7 @@ use Rattle.vt_permits.specs.declared.grant.Grant.{Grant}
 use Rattle.vt_permits.specs.declared.grant.Grant.TheVariants as granted
 use Rattle.vt_permits.specs.declared.grant.LookGrant.{LookGrant}
 use Rattle.vt_permits.specs.declared.grant.LookGrant.TheVariants as look
+use Rattle.vt_permits.specs.declared.grant.LowerLayer.{LowerLayer}
 use Rattle.vt_permits.specs.declared.grant.MakeGrant.{MakeGrant}
 use Rattle.vt_permits.specs.declared.grant.MakeGrant.TheVariants as make
 use Rattle.vt_permits.specs.declared.grant.MountGrant.{MountGrant}
@@ -32,6 +33,7 @@ use Rattle.vt_permits.specs.declared.grant.RemoveGrant.{RemoveGrant}
 use Rattle.vt_permits.specs.declared.grant.RemoveGrant.TheVariants as remove
 use Rattle.vt_permits.specs.declared.grant.TaskGrant.{TaskGrant}
 use Rattle.vt_permits.specs.declared.grant.TaskGrant.TheVariants as task
+use Rattle.vt_permits.specs.declared.grant.ToMountOverlay.{ToMountOverlay}
 use Rattle.vt_permits.specs.declared.grant.WriteGrant.{WriteGrant}
 use Rattle.vt_permits.specs.declared.grant.WriteGrant.TheVariants as write
 
@@ -105,6 +107,24 @@ attachment_permit (attachment.Bind bind) =
     ToBind (location_of bind.source) (location_of bind.destination) bind.recursive
 attachment_permit (attachment.Move mount destination) = ToMove (counted mount.count) (location_of destination)
 
+-- a lower layer of a new overlay
+abbrev pub layer_of : LowerLayer → Layer ℕ
+layer_of lower = record { filesystem = filesystem_number lower.filesystem; directory = number_of lower.directory }
+
+-- a new overlay that a task mounts, before any inode has a real object
+abbrev pub overlay_of : Task ℕ → ToMountOverlay → Overlay ℕ
+overlay_of who new = record {
+  upper = None;
+  work = None;
+  lowers = map layer_of new.lowers.items;
+  mounter = who.credentials;
+  real = λ number. None;
+}
+
+-- to mount an overlay
+abbrev pub overlay_permit : Task ℕ → ToMountOverlay → Permit ℕ
+overlay_permit who new = MeansToMerge (location_of new.destination) (overlay_of who new) (flags_of new.flags)
+
 -- to change mounts
 abbrev pub mount_permit : MountGrant → Permit ℕ
 mount_permit (mount.Attach attached) = attachment_permit attached
@@ -124,3 +144,4 @@ permit_of who (granted.Write grant) = write_permit grant
 permit_of who (granted.Descriptor grant) = descriptor_permit grant
 permit_of who (granted.Task grant) = task_permit who grant
 permit_of who (granted.Mount grant) = mount_permit grant
+permit_of who (granted.Overlay new) = overlay_permit who new

@@ -1,11 +1,11 @@
 -- How code judges a call, and where an allocation may fail (ENOMEM): for permits that have a copy of a name or
--- credentials, and for mount calls whose receivers are gathered. The other calls do not allocate.
+-- credentials or a list of layers, and for mount calls whose receivers are gathered. The other calls do not allocate.
 use Rattle.std.specs.Prelude.{Err, Ok, Result, ◌≡◌, ◌⊎◌, ℕ}
 use Rattle.vt_spec.specs.declared.errors.Deny.{Deny}
 use Rattle.vt_spec.specs.declared.errors.Rule.TheVariants.{M10, M8, M9, S5}
 use Rattle.vt_spec.specs.Errors.{denial}
 use Rattle.vt_spec.specs.Language.Calls.{Call}
-use Rattle.vt_spec.specs.Language.Calls.Call.{Bind, MountPlain, MoveMount, Umount}
+use Rattle.vt_spec.specs.Language.Calls.Call.{Bind, MountOverlay, MountPlain, MoveMount, Umount}
 use Rattle.vt_spec.specs.Machine.Judge.{Judgement}
 use Rattle.vt_spec.specs.Machine.World.{Task}
 use Rattle.vt_permits.specs.declared.grant.Grant.{Grant}
@@ -27,6 +27,7 @@ Judges task (Err refusal) (Err deny) = deny ≡ refusal
 abbrev pub IsAfterReceivers : Call → Deny → Type 0
 IsAfterReceivers (Umount path) refusal = (refusal ≡ denial M8) ⊎ (refusal ≡ denial M10)
 IsAfterReceivers (MountPlain path flags) refusal = refusal ≡ denial M9
+IsAfterReceivers (MountOverlay path options flags) refusal = refusal ≡ denial M9
 IsAfterReceivers (Bind source path recursive) refusal = refusal ≡ denial M9
 IsAfterReceivers (MoveMount source path) refusal = (refusal ≡ denial M9) ⊎ (refusal ≡ denial M10)
 IsAfterReceivers call refusal = ⊥

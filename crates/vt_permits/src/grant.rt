@@ -1,7 +1,7 @@
 //! Grants: each names all that the call acts on.
 
 use vt_cred::{Caps, Cred, Mode, MountFlags};
-use vt_location::{Location, MountId, NamespaceId, NodeRef};
+use vt_location::{FilesystemId, Location, MountId, NamespaceId, NodeRef};
 use vt_node::{Attr, Node};
 use vt_request::{Access, TypeWord};
 
@@ -15,6 +15,8 @@ pub enum Grant {
     Descriptor(DescriptorGrant),
     Task(TaskGrant),
     Mount(MountGrant),
+    /// A new overlay is mounted: mount(2).
+    Overlay(ToMountOverlay),
 }
 
 /// Something is read, and nothing changes.
@@ -214,4 +216,20 @@ pub struct ToSetType {
     pub mount: MountId,
     pub word: TypeWord,
     pub recursive: bool,
+}
+
+/// The mount of a new overlay without an upper layer: mount(2). The caller is its mounter.
+#[derive(Debug, Drop)]
+pub struct ToMountOverlay {
+    pub destination: Location,
+    /// The highest first.
+    pub lowers: Vec<LowerLayer>,
+    pub flags: MountFlags,
+}
+
+/// A lower layer of a new overlay: a directory, and the filesystem of the mount on which it was found.
+#[derive(Clone, Copy, Debug, PartialEq, Eq)]
+pub struct LowerLayer {
+    pub filesystem: FilesystemId,
+    pub directory: NodeRef,
 }

@@ -14,7 +14,7 @@ use crate::mounting::{bind, lazy, mount_plain, move_mount, pivot_root, remount, 
 use crate::removing::{rename, rmdir, unlink};
 use crate::tasks::{chdir, chroot, fork, permission_bits, setns, unshare};
 use std::alloc::Global;
-use vt_looks::LookAtMounts;
+use vt_layers::{LookAtLayers, mount_overlay};
 use vt_permits::{Grant, LookGrant, TaskGrant};
 use vt_request::{
     Call, DescriptorCall, LookCall, MakeCall, MountCall, RemoveCall, TaskCall, WriteCall,
@@ -26,7 +26,7 @@ use vt_tasks::Task;
 /// What a call of a task is granted, or the first rule that refuses it, in the policy's order. It changes nothing.
 ///
 /// S5 (ENOMEM): an allocation failed, of a call whose judgement allocates. The other rules are those of the call.
-pub(crate) fn granted<L: LookAtMounts>(
+pub(crate) fn granted<L: LookAtLayers>(
     alloc: Global,
     world: &L,
     who: &Task,
@@ -44,13 +44,13 @@ pub(crate) fn granted<L: LookAtMounts>(
         Call::Write(call) => judge_write(alloc, world, who, call),
         Call::Descriptor(call) => judge_descriptor(alloc, world, who, call),
         Call::Task(call) => judge_task(world, who, call),
-        Call::Mount(call) => judge_mount(world, who, call),
+        Call::Mount(call) => judge_mount(alloc, world, who, call),
     }
 }
 
 // A call that only looks.
 #[inline(always)]
-fn judge_look<L: LookAtMounts>(world: &L, who: &Task, call: LookCall) -> Result<Grant, Deny>
+fn judge_look<L: LookAtLayers>(world: &L, who: &Task, call: LookCall) -> Result<Grant, Deny>
     ensures judged { JudgesByReceivers (look_call_of call) (task_of who.now)
         (judge nat_eq (L.looks world.now) (L.overfills world.now) (task_of who.now) (look_call_of call)) result }
     ensures memory { ¬ IsJudgedWithMemory (look_call_of call) → JudgesAlike (task_of who.now)
@@ -74,7 +74,7 @@ fn judge_look<L: LookAtMounts>(world: &L, who: &Task, call: LookCall) -> Result<
 
 // A call that makes a name.
 #[inline(always)]
-fn judge_make<L: LookAtMounts>(
+fn judge_make<L: LookAtLayers>(
     alloc: Global,
     world: &L,
     who: &Task,
@@ -95,7 +95,7 @@ fn judge_make<L: LookAtMounts>(
 
 // A call that takes a name away.
 #[inline(always)]
-fn judge_remove<L: LookAtMounts>(
+fn judge_remove<L: LookAtLayers>(
     alloc: Global,
     world: &L,
     who: &Task,
@@ -115,7 +115,7 @@ fn judge_remove<L: LookAtMounts>(
 
 // A call that sets the content, the owner or the mode of an object, or the mark of a directory.
 #[inline(always)]
-fn judge_write<L: LookAtMounts>(
+fn judge_write<L: LookAtLayers>(
     alloc: Global,
     world: &L,
     who: &Task,
@@ -141,7 +141,7 @@ fn judge_write<L: LookAtMounts>(
 
 // A call that opens or closes a file.
 #[inline(always)]
-fn judge_descriptor<L: LookAtMounts>(
+fn judge_descriptor<L: LookAtLayers>(
     alloc: Global,
     world: &L,
     who: &Task,
@@ -164,7 +164,7 @@ fn judge_descriptor<L: LookAtMounts>(
 
 // A call that changes the caller, or makes a task.
 #[inline(always)]
-fn judge_task<L: LookAtMounts>(world: &L, who: &Task, call: TaskCall) -> Result<Grant, Deny>
+fn judge_task<L: LookAtLayers>(world: &L, who: &Task, call: TaskCall) -> Result<Grant, Deny>
     ensures judged { JudgesByReceivers (task_call_of call) (task_of who.now)
         (judge nat_eq (L.looks world.now) (L.overfills world.now) (task_of who.now) (task_call_of call)) result }
     ensures memory { ¬ IsJudgedWithMemory (task_call_of call) → JudgesAlike (task_of who.now)
@@ -188,7 +188,12 @@ fn judge_task<L: LookAtMounts>(world: &L, who: &Task, call: TaskCall) -> Result<
 
 // A call that changes mounts.
 #[inline(always)]
-fn judge_mount<L: LookAtMounts>(world: &L, who: &Task, call: MountCall) -> Result<Grant, Deny>
+fn judge_mount<L: LookAtLayers>(
+    alloc: Global,
+    world: &L,
+    who: &Task,
+    call: MountCall,
+) -> Result<Grant, Deny>
     ensures judged { JudgesByReceivers (mount_call_of call) (task_of who.now)
         (judge nat_eq (L.looks world.now) (L.overfills world.now) (task_of who.now) (mount_call_of call)) result }
     ensures memory { ¬ IsJudgedWithMemory (mount_call_of call) → JudgesAlike (task_of who.now)
@@ -196,6 +201,11 @@ fn judge_mount<L: LookAtMounts>(world: &L, who: &Task, call: MountCall) -> Resul
 {
     match call {
         MountCall::Plain { path, flags } => mount_plain(world, who, &path, flags),
+        MountCall::Overlay {
+            path,
+            options,
+            flags,
+        } => mount_overlay(alloc, world, who, &path, &options, flags),
         MountCall::Bind {
             source,
             path,

@@ -1,5 +1,5 @@
 //! Permits: what `judge` hands to a caller to be spent.
-ghost use Rattle.std.specs.Prelude.{◌≡◌, nat_eq, IfOk, Some};
+ghost use Rattle.std.specs.Prelude.{◌≡◌, nat_eq, IfOk};
 ghost use Rattle.vt_spec.specs.Machine.Judge.{judge};
 ghost use Rattle.vt_permits.specs.Memory.{JudgesAlike, JudgesByReceivers};
 ghost use Rattle.vt_request.specs.Kinds.{kind_of};
@@ -11,7 +11,7 @@ ghost use Rattle.vt_policy.specs.PermitValue.{grant_in};
 use crate::judging::granted;
 use std::alloc::Global;
 use std::marker::Model;
-use vt_looks::LookAtMounts;
+use vt_layers::LookAtLayers;
 use vt_permits::Grant;
 use vt_request::{Call, CallKind};
 use vt_spec::errors::Deny;
@@ -54,7 +54,7 @@ impl Permit {
 /// that refuses it, in the policy's order. It changes nothing.
 ///
 /// S5 (ENOMEM): an allocation failed, of a call whose judgement allocates. The other rules are those of the call.
-pub fn judge<L: LookAtMounts>(
+pub fn judge<L: LookAtLayers>(
     alloc: Global,
     world: &L,
     change: u64,
@@ -67,7 +67,7 @@ pub fn judge<L: LookAtMounts>(
     ensures memory { ¬ IsJudgedWithMemory (call_of call) → JudgesAlike (task_of who.now)
         (judge nat_eq (L.looks world.now) (L.overfills world.now) (task_of who.now) (call_of call))
         (grant_in result) }
-    ensures named { IfOk result (λ permit. kind_of (call_of call) ≡ Some permit.call) }
+    ensures named { IfOk result (λ permit. kind_of (call_of call) ≡ permit.call) }
     ensures change { IfOk result (λ permit. permit.change ≡ change) }
 {
     let kind = call.kind();

@@ -1,5 +1,5 @@
 //! Which call it is, without its words.
-ghost use Rattle.std.specs.Prelude.{◌≡◌, Some};
+ghost use Rattle.std.specs.Prelude.{◌≡◌};
 ghost use Rattle.vt_request.specs.Kinds.{kind_of};
 ghost use Rattle.vt_request.specs.Requests.{call_of, descriptor_call_of, look_call_of, make_call_of, mount_call_of, remove_call_of, task_call_of, write_call_of};
 ghost use Rattle.vt_spec.specs.Machine.Policy.{only_looks};
@@ -42,6 +42,7 @@ pub enum CallKind {
     Unshare,
     Setns,
     MountPlain,
+    MountOverlay,
     Bind,
     MoveMount,
     Umount,
@@ -54,7 +55,7 @@ pub enum CallKind {
 impl Call {
     /// Which call it is.
     pub fn kind(&self) -> CallKind
-        ensures { kind_of (call_of self.now) ≡ Some result }
+        ensures { kind_of (call_of self.now) ≡ result }
     {
         match self {
             Call::Look(call) => call.kind(),
@@ -77,7 +78,7 @@ impl Call {
 
 impl LookCall {
     fn kind(&self) -> CallKind
-        ensures { kind_of (look_call_of self.now) ≡ Some result }
+        ensures { kind_of (look_call_of self.now) ≡ result }
     {
         match self {
             LookCall::Ls { .. } => CallKind::Ls,
@@ -94,7 +95,7 @@ impl LookCall {
 
 impl MakeCall {
     fn kind(&self) -> CallKind
-        ensures { kind_of (make_call_of self.now) ≡ Some result }
+        ensures { kind_of (make_call_of self.now) ≡ result }
     {
         match self {
             MakeCall::Mkdir { .. } => CallKind::Mkdir,
@@ -107,7 +108,7 @@ impl MakeCall {
 
 impl RemoveCall {
     fn kind(&self) -> CallKind
-        ensures { kind_of (remove_call_of self.now) ≡ Some result }
+        ensures { kind_of (remove_call_of self.now) ≡ result }
     {
         match self {
             RemoveCall::Unlink { .. } => CallKind::Unlink,
@@ -119,7 +120,7 @@ impl RemoveCall {
 
 impl WriteCall {
     fn kind(&self) -> CallKind
-        ensures { kind_of (write_call_of self.now) ≡ Some result }
+        ensures { kind_of (write_call_of self.now) ≡ result }
     {
         match self {
             WriteCall::Write { .. } => CallKind::Write,
@@ -133,7 +134,7 @@ impl WriteCall {
 
 impl DescriptorCall {
     fn kind(&self) -> CallKind
-        ensures { kind_of (descriptor_call_of self.now) ≡ Some result }
+        ensures { kind_of (descriptor_call_of self.now) ≡ result }
     {
         match self {
             DescriptorCall::Open { .. } => CallKind::Open,
@@ -144,7 +145,7 @@ impl DescriptorCall {
 
 impl TaskCall {
     fn kind(&self) -> CallKind
-        ensures { kind_of (task_call_of self.now) ≡ Some result }
+        ensures { kind_of (task_call_of self.now) ≡ result }
     {
         match self {
             TaskCall::Chdir { .. } => CallKind::Chdir,
@@ -161,10 +162,11 @@ impl TaskCall {
 
 impl MountCall {
     fn kind(&self) -> CallKind
-        ensures { kind_of (mount_call_of self.now) ≡ Some result }
+        ensures { kind_of (mount_call_of self.now) ≡ result }
     {
         match self {
             MountCall::Plain { .. } => CallKind::MountPlain,
+            MountCall::Overlay { .. } => CallKind::MountOverlay,
             MountCall::Bind { .. } => CallKind::Bind,
             MountCall::Move { .. } => CallKind::MoveMount,
             MountCall::Umount { .. } => CallKind::Umount,

@@ -223,6 +223,12 @@ pub enum MountCall {
         path: Vec<u8>,
         flags: MountFlags,
     },
+    /// mount(2) of an overlay with these options, a text as mount(8) takes it
+    Overlay {
+        path: Vec<u8>,
+        options: Vec<u8>,
+        flags: MountFlags,
+    },
     /// mount(2) with `MS_BIND`, and `MS_REC`
     Bind {
         source: Vec<u8>,

@@ -243,9 +243,9 @@ const W4: RulePage = RulePage {
 
 const W5: RulePage = RulePage {
     meaning: "the mounter of an overlay may not search a directory on the way",
-    calls: &[],
+    calls: &PATHS,
     manual: "the kernel: Documentation/filesystems/overlayfs.rst",
-    script: "",
+    script: "t mkdir /l\nt mkdir /l/d 700\nt mkdir /k\nt mkdir /m\nt fork 1 1 - CAP_SYS_ADMIN => ok t.1\nt.1 mount overlay /m lowerdir=/l:/k\nt stat /m/d/f => deny 13 EACCES W5\n",
 };
 
 const W6: RulePage = RulePage {
@@ -351,9 +351,12 @@ const F1: RulePage = RulePage {
 
 const F2: RulePage = RulePage {
     meaning: "the overlay has no upper layer",
-    calls: &[],
+    calls: &[
+        "write", "mkdir", "symlink", "whiteout", "link", "unlink", "rmdir", "rename", "chmod",
+        "chown", "opaque", "open",
+    ],
     manual: "the kernel: Documentation/filesystems/overlayfs.rst",
-    script: "",
+    script: "t mkdir /l\nt mkdir /k\nt mkdir /m\nt mount overlay /m lowerdir=/l:/k\nt mkdir /m/d => deny 30 EROFS F2\n",
 };
 
 const F3: RulePage = RulePage {
@@ -365,9 +368,12 @@ const F3: RulePage = RulePage {
 
 const L1: RulePage = RulePage {
     meaning: "the object is in a layer of an overlay in use",
-    calls: &[],
+    calls: &[
+        "write", "mkdir", "symlink", "whiteout", "link", "unlink", "rmdir", "rename", "chmod",
+        "chown", "opaque", "open", "pwrite",
+    ],
     manual: "a choice of this machine",
-    script: "",
+    script: "t mkdir /l\nt mkdir /k\nt mkdir /m\nt mount overlay /m lowerdir=/l:/k\nt mkdir /l/d => deny 16 EBUSY L1\n",
 };
 
 const P1: RulePage = RulePage {
@@ -417,9 +423,9 @@ const O1: RulePage = RulePage {
 
 const O2: RulePage = RulePage {
     meaning: "the options are none of an overlay",
-    calls: &[],
+    calls: &["mount"],
     manual: "the kernel: Documentation/filesystems/overlayfs.rst",
-    script: "",
+    script: "t mkdir /l\nt mkdir /m\nt mount overlay /m lowerdir=/l => deny 22 EINVAL O2\n",
 };
 
 const O3: RulePage = RulePage {
@@ -438,16 +444,16 @@ const O4: RulePage = RulePage {
 
 const O5: RulePage = RulePage {
     meaning: "layers that contain one another",
-    calls: &[],
+    calls: &["mount"],
     manual: "the kernel: Documentation/filesystems/overlayfs.rst",
-    script: "",
+    script: "t mkdir /l\nt mkdir /m\nt mount overlay /m lowerdir=/l:/l => deny 40 ELOOP O5\n",
 };
 
 const B1: RulePage = RulePage {
     meaning: "the bits of an object in a layer refuse it to the mounter",
-    calls: &[],
+    calls: &["ls", "read", "exec", "open", "chdir", "chroot"],
     manual: "the kernel: Documentation/filesystems/overlayfs.rst",
-    script: "",
+    script: "t mkdir /l\nt write /l/f x\nt chmod /l/f 600\nt mkdir /k\nt mkdir /m\nt fork 1 1 - CAP_SYS_ADMIN => ok t.1\nt.1 mount overlay /m lowerdir=/l:/k\nt read /m/f => deny 13 EACCES B1\n",
 };
 
 const B2: RulePage = RulePage {

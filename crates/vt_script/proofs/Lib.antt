@@ -1,4 +1,3 @@
-pub mod GrammarLemmas
 pub mod ReplyLemmas
 pub mod RunLemmas
 pub mod SessionLemmas

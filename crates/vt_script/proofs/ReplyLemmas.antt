@@ -9,7 +9,7 @@ use Rattle.vt_spec.specs.Language.Calls.{Call, Directive, TaskName}
 use Rattle.vt_spec.specs.Language.Calls.Call.{Chmod, Chown, Close, Drop, Exec, Exit, Lstat, Opaque, Remount, SetType, Stat, Umask}
 use Rattle.vt_spec.specs.Language.Calls.TypeWord.{ToPrivate, ToShared, ToSlave, ToUnbindable}
 use Rattle.vt_spec.specs.Language.Printed.{reply_line}
-use Rattle.vt_spec.specs.Language.Script.{Request, Version, is_silent, marks, request_of}
+use Rattle.vt_spec.specs.Language.Script.{Request, Version, is_silent, overlays, request_of}
 use Rattle.vt_spec.specs.Language.Limits.{longest_line}
 use Rattle.vt_spec.specs.Language.Script.Request.{Asking, Calling}
 use Rattle.vt_spec.specs.Lists.{Fresh}
@@ -51,28 +51,28 @@ not_long line fits = grind (arith, nat_tests)
 module _ (version : Version) where
   -- the step of a line by its length, and by whether it has an answer
   step_too_long : (world : World ℕ) (line : List ℕ) (handed : Option (Fresh ℕ)) → nat_lt longest_line (length line) ≡ true
-      → line_step nat_eq (marks version) world line handed ≡ Answered (denied world (denial S1))
+      → line_step nat_eq (overlays version) world line handed ≡ Answered (denied world (denial S1))
   step_too_long world line handed long = ap
-      (λ b. line_step_by nat_eq b (is_silent line) (marks version) world line handed) long
+      (λ b. line_step_by nat_eq b (is_silent line) (overlays version) world line handed) long
 
   step_silent : (world : World ℕ) (line : List ℕ) (handed : Option (Fresh ℕ)) → IsSilent line
-      → line_step nat_eq (marks version) world line handed ≡ Silent
+      → line_step nat_eq (overlays version) world line handed ≡ Silent
   step_silent world line handed silent =
-      ap (λ b. line_step_by nat_eq b (is_silent line) (marks version) world line handed) (not_long line silent.0)
-      ∙ ap (λ b. line_step_by nat_eq false b (marks version) world line handed) silent.1
+      ap (λ b. line_step_by nat_eq b (is_silent line) (overlays version) world line handed) (not_long line silent.0)
+      ∙ ap (λ b. line_step_by nat_eq false b (overlays version) world line handed) silent.1
 
   step_refused : (world : World ℕ) (line : List ℕ) → IsSpoken line
-      → line_step nat_eq (marks version) world line None ≡ Answered (denied world (denial S5))
+      → line_step nat_eq (overlays version) world line None ≡ Answered (denied world (denial S5))
   step_refused world line spoken =
-      ap (λ b. line_step_by nat_eq b (is_silent line) (marks version) world line None) (not_long line spoken.0)
-      ∙ ap (λ b. line_step_by nat_eq false b (marks version) world line None) spoken.1
+      ap (λ b. line_step_by nat_eq b (is_silent line) (overlays version) world line None) (not_long line spoken.0)
+      ∙ ap (λ b. line_step_by nat_eq false b (overlays version) world line None) spoken.1
 
   step_spoken : (world : World ℕ) (line : List ℕ) (fresh : Fresh ℕ) (request : Option Request) → IsSpoken line
-      → request_of (marks version) line ≡ request
-      → line_step nat_eq (marks version) world line (Some fresh) ≡ Answered (requested nat_eq world request fresh)
+      → request_of (overlays version) line ≡ request
+      → line_step nat_eq (overlays version) world line (Some fresh) ≡ Answered (requested nat_eq world request fresh)
   step_spoken world line fresh request spoken asks =
-      ap (λ b. line_step_by nat_eq b (is_silent line) (marks version) world line (Some fresh)) (not_long line spoken.0)
-      ∙ ap (λ b. line_step_by nat_eq false b (marks version) world line (Some fresh)) spoken.1
+      ap (λ b. line_step_by nat_eq b (is_silent line) (overlays version) world line (Some fresh)) (not_long line spoken.0)
+      ∙ ap (λ b. line_step_by nat_eq false b (overlays version) world line (Some fresh)) spoken.1
       ∙ ap (λ r. Answered (requested nat_eq world r fresh)) asks
 
 -- what is kept of a line's words is something of it
@@ -154,8 +154,8 @@ module _ {W : Type 0} (version : Version) (sink : Ghosts W) where
   pub replies_unread : {T E : Type 0} (r : Result T E) (world : World ℕ) (line : List ℕ) (number : ℕ) (deny : Deny)
       (x y : W) → HasNumbers world →
       (deny ≡ denial S1) ⊎ (deny ≡ denial S5) →
-      (deny ≡ denial S1 → (longest_line < length line) ⊎ (IsSpoken line × (request_of (marks version) line ≡ None)))
-      → (deny ≡ denial S5 → IsSpoken line × IsSomeAnd (request_of (marks version) line) words.TakesMemory) →
+      (deny ≡ denial S1 → (longest_line < length line) ⊎ (IsSpoken line × (request_of (overlays version) line ≡ None)))
+      → (deny ≡ denial S5 → IsSpoken line × IsSomeAnd (request_of (overlays version) line) words.TakesMemory) →
       Prints sink (reply_line number (Err deny)) r x y → Replies sink version world line number r world x y
   replies_unread r world line number deny x y some refused bad memory wrote =
       elim refused [
@@ -167,7 +167,7 @@ module _ {W : Type 0} (version : Version) (sink : Ghosts W) where
               (step_spoken version world line some.0.new None none.0 none.1
               ∙ ap (λ d. Answered (denied world d)) (sym is)) wrote
         ]
-        | inr is ↦ replies_denied r world line number None deny x y some (words_take (request_of (marks version) line) (memory is).1)
+        | inr is ↦ replies_denied r world line number None deny x y some (words_take (request_of (overlays version) line) (memory is).1)
             (step_refused version world line (memory is).0 ∙ ap (λ d. Answered (denied world d)) (sym is)) wrote
       ]
 
@@ -176,7 +176,7 @@ module _ {W : Type 0} (version : Version) (sink : Ghosts W) where
     replies_met : {T E : Type 0} (r : Result T E) (old new : V) (line : List ℕ) (number : ℕ) (allotment : Allotment)
         (task : TaskName) (call : Call) (answer : Result Answer Deny) (x y : W) →
         ServesInHand may_be_given (seen old) allotment → IsSpoken line
-        → request_of (marks version) line ≡ Some (Calling task call) →
+        → request_of (overlays version) line ≡ Some (Calling task call) →
         Meets seen call (policy nat_eq allotment.new (seen old) task call) answer old new →
         (¬ calls.TakesMemory call → result_of answer ≡ (policy nat_eq allotment.new (seen old) task call).answer) →
         HasNumbers (seen new) →
@@ -214,7 +214,7 @@ module _ {W : Type 0} (version : Version) (sink : Ghosts W) where
     -- the reply to a call
     pub replies_call : {T E : Type 0} (r : Result T E) (old new : V) (line : List ℕ) (number : ℕ) (task : TaskName)
         (call : Call) (answer : Result Answer Deny) (x y : W) →
-        IsSpoken line → request_of (marks version) line ≡ Some (Calling task call) → Ends seen old task call answer new →
+        IsSpoken line → request_of (overlays version) line ≡ Some (Calling task call) → Ends seen old task call answer new →
         Prints sink (reply_line number (result_of answer)) r x y → Replies sink version (seen old) line number r (seen new) x y
     replies_call r old new line number task call answer x y spoken asks ends wrote =
         replies_met r old new line number ends.allotment task call answer x y ends.serves spoken asks ends.outcome
@@ -223,7 +223,7 @@ module _ {W : Type 0} (version : Version) (sink : Ghosts W) where
   -- the reply to a directive, which changes nothing
   pub replies_direct : {T E : Type 0} (r : Result T E) (world : World ℕ) (line : List ℕ) (number : ℕ)
       (directive : Directive) (answer : Result Answer Deny) (x y : W) → HasNumbers world →
-      IsSpoken line → request_of (marks version) line ≡ Some (Asking directive) →
+      IsSpoken line → request_of (overlays version) line ≡ Some (Asking directive) →
       IfOk answer (λ answer. (directed nat_eq world directive).answer ≡ Ok (answer_of answer)) →
       IfErr answer (λ deny. deny ≡ denial S5) →
       Prints sink (reply_line number (result_of answer)) r x y → Replies sink version world line number r world x y
@@ -264,8 +264,8 @@ module _ (version : Version) where
   -- a line that is no request, or was refused memory
   pub unread_leaves : (world : World ℕ) (line : List ℕ) (deny : Deny) → HasNumbers world
       → (deny ≡ denial S1) ⊎ (deny ≡ denial S5)
-      → (deny ≡ denial S1 → (longest_line < length line) ⊎ (IsSpoken line × (request_of (marks version) line ≡ None)))
-      → (deny ≡ denial S5 → IsSpoken line × IsSomeAnd (request_of (marks version) line) words.TakesMemory)
+      → (deny ≡ denial S1 → (longest_line < length line) ⊎ (IsSpoken line × (request_of (overlays version) line ≡ None)))
+      → (deny ≡ denial S5 → IsSpoken line × IsSomeAnd (request_of (overlays version) line) words.TakesMemory)
       → IsLeftBy version world line world
   unread_leaves world line deny some refused bad memory =
       left_by world world line (replies_unread version nowhere done world line 0 deny tt tt some refused bad
@@ -273,7 +273,7 @@ module _ (version : Version) where
 
   -- a directive
   pub direct_leaves : (world : World ℕ) (line : List ℕ) (directive : Directive) (answer : Result Answer Deny)
-      → HasNumbers world → IsSpoken line → request_of (marks version) line ≡ Some (Asking directive)
+      → HasNumbers world → IsSpoken line → request_of (overlays version) line ≡ Some (Asking directive)
       → IfOk answer (λ answer. (directed nat_eq world directive).answer ≡ Ok (answer_of answer))
       → IfErr answer (λ deny. deny ≡ denial S5) → IsLeftBy version world line world
   direct_leaves world line directive answer some spoken asks told memory =
@@ -282,7 +282,7 @@ module _ (version : Version) where
 
   -- a call
   pub call_leaves : {V : Type 0} (seen : V → World ℕ) (old new : V) (line : List ℕ) (task : TaskName) (call : Call)
-      (answer : Result Answer Deny) → IsSpoken line → request_of (marks version) line ≡ Some (Calling task call)
+      (answer : Result Answer Deny) → IsSpoken line → request_of (overlays version) line ≡ Some (Calling task call)
       → Ends seen old task call answer new → IsLeftBy version (seen old) line (seen new)
   call_leaves seen old new line task call answer spoken asks ends =
       left_by (seen old) (seen new) line (replies_call version nowhere seen done old new line 0 task call

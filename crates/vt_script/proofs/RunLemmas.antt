@@ -2,7 +2,7 @@
 use Rattle.std.proofs.Common.{◌≡◌, ◌≢◌, ◌<◌, ◌-◌, ℕ, suc, ◌+◌, ◌==◌, arith, drop, get_or, length, length-take, map, take, Bool, true, false, List, [], ◌∷◌, ◌++◌, Some, None, refl, sym, ap, ◌∙◌, subst, append_assoc, nat_eq}
 use Rattle.std.proofs.lemmas.Bool.Decides.{nat_tests}
 use Rattle.std.proofs.lemmas.List.{append-nil, drop_more, get_or-take, take-append-drop, take_rest}
-use Rattle.vt_spec.specs.Language.Script.{Version, lines_of, marks, with_line_byte}
+use Rattle.vt_spec.specs.Language.Script.{Version, lines_of, overlays, with_line_byte}
 use Rattle.vt_spec.specs.Machine.Run.{handed, later, line_step, numbers_for, step_text, step_world, text_from}
 use Rattle.vt_spec.specs.Machine.SameWorlds.{SameWorlds}
 use Rattle.vt_spec.specs.Machine.World.{World}
@@ -203,7 +203,7 @@ runs_refused moment world none takes same = record {
   refused = true ∷ [];
   may_be = subst (λ lines. MayBeRefusedIn moment.version lines (true ∷ [])) (sym (lines_of-newline moment.line [] none)) (takes, tt);
   goes_on = λ more later rest told.
-      subst (λ lines. TellsAlike (marks moment.version) may_be_given moment.world (moment.answered + 1) lines (true ∷ later)
+      subst (λ lines. TellsAlike (overlays moment.version) may_be_given moment.world (moment.answered + 1) lines (true ∷ later)
       (step_text (moment.answered + 1) (step_of moment.version moment.world moment.line None) ++ rest))
       (sym (line_then moment.line more none))
       (world, same, rest, refl, told);
@@ -223,7 +223,7 @@ runs_spoken moment allotment world serves none same = record {
   refused = false ∷ [];
   may_be = subst (λ lines. MayBeRefusedIn moment.version lines (false ∷ [])) (sym (lines_of-newline moment.line [] none)) tt;
   goes_on = λ more later rest told.
-      subst (λ lines. TellsAlike (marks moment.version) may_be_given moment.world (moment.answered + 1) lines (false ∷ later)
+      subst (λ lines. TellsAlike (overlays moment.version) may_be_given moment.world (moment.answered + 1) lines (false ∷ later)
       (step_text (moment.answered + 1) (step_of moment.version moment.world moment.line (Some allotment)) ++ rest))
       (sym (line_then moment.line more none))
       (allotment, serves, world, same, rest, refl, told);
@@ -231,34 +231,34 @@ runs_spoken moment allotment world serves none same = record {
 
 -- the text of the lines that ended
 pub told_whole : (old : Moment) (bytes text : List ℕ) (new : Moment) (runs : Runs old bytes text new)
-    → TellsAlike (marks old.version) may_be_given old.world (old.answered + 1) (lines_of runs.ended) runs.refused text
+    → TellsAlike (overlays old.version) may_be_given old.world (old.answered + 1) (lines_of runs.ended) runs.refused text
 told_whole old bytes text new runs =
-    let told : TellsAlike (marks old.version) may_be_given old.world (old.answered + 1) (lines_of (runs.ended ++ []))
+    let told : TellsAlike (overlays old.version) may_be_given old.world (old.answered + 1) (lines_of (runs.ended ++ []))
     (runs.refused ++ []) (text ++ []) = runs.goes_on [] [] [] refl in
     rw (append-nil runs.ended, append-nil runs.refused, append-nil text) at told
 
 module _ (version : Version) where
   -- the text of lines that are not all is a beginning of the text of all
   pub text_from-front : (world : World ℕ) (number : ℕ) (front back : List (List ℕ)) (refused : List Bool) →
-      (more : List ℕ) × (text_from (marks version) world number (front ++ back) refused
-      ≡ text_from (marks version) world number front refused ++ more)
-  text_from-front world number [] back refused = (text_from (marks version) world number back refused, refl)
+      (more : List ℕ) × (text_from (overlays version) world number (front ++ back) refused
+      ≡ text_from (overlays version) world number front refused ++ more)
+  text_from-front world number [] back refused = (text_from (overlays version) world number back refused, refl)
   text_from-front world number (line ∷ front) back refused =
-      let step = line_step nat_eq (marks version) world line (handed number refused) in
+      let step = line_step nat_eq (overlays version) world line (handed number refused) in
       let rest = text_from-front (step_world world step) (number + 1) front back (later refused) in
       (rest.0, ap (λ xs. step_text number step ++ xs) rest.1 ∙ sym (append_assoc (step_text number step) _ rest.0))
 
   -- what is said of lines that are not there changes no text
   pub text_from-padded : (world : World ℕ) (number : ℕ) (lines : List (List ℕ)) (refused pad : List Bool)
       → length refused ≡ length lines →
-      text_from (marks version) world number lines (refused ++ pad) ≡ text_from (marks version) world number lines refused
+      text_from (overlays version) world number lines (refused ++ pad) ≡ text_from (overlays version) world number lines refused
   text_from-padded world number [] refused pad e = refl
   text_from-padded world number (line ∷ lines) [] pad e = absurd (omega (arith, e))
   text_from-padded world number (line ∷ lines) (true ∷ refused) pad e =
-      let step = line_step nat_eq (marks version) world line None in
+      let step = line_step nat_eq (overlays version) world line None in
       ap (λ rest. step_text number step ++ rest)
       (text_from-padded (step_world world step) (number + 1) lines refused pad (omega (arith, e)))
   text_from-padded world number (line ∷ lines) (false ∷ refused) pad e =
-      let step = line_step nat_eq (marks version) world line (Some (numbers_for number)) in
+      let step = line_step nat_eq (overlays version) world line (Some (numbers_for number)) in
       ap (λ rest. step_text number step ++ rest)
       (text_from-padded (step_world world step) (number + 1) lines refused pad (omega (arith, e)))

@@ -4,7 +4,7 @@ use Rattle.std.proofs.lemmas.List.{append-nil}
 use Rattle.vt_io.specs.declared.output.Sink.{Ghosts}
 use Rattle.vt_io.specs.LineBuffer.{Holds}
 use Rattle.vt_io.proofs.Printing.{Wrote-nothing, Wrote-append, WroteFront-append}
-use Rattle.vt_spec.specs.Language.Script.{lines_of, marks}
+use Rattle.vt_spec.specs.Language.Script.{lines_of, overlays}
 use Rattle.vt_spec.specs.Machine.Run.{step_text, step_world}
 use Rattle.vt_spec.specs.Machine.SameWorlds.{SameWorlds}
 use Rattle.vt_spec.specs.Machine.World.{World}
@@ -154,7 +154,7 @@ told_last moment None byte bytes some whole handed =
       refused = true ∷ [];
       may_be = subst (λ lines. MayBeRefusedIn moment.version lines (true ∷ [])) (sym (last_line moment.line byte bytes some whole))
           (handed, tt);
-      tells = subst (λ lines. TellsAlike (marks moment.version) may_be_given moment.world (moment.answered + 1) lines (true ∷ [])
+      tells = subst (λ lines. TellsAlike (overlays moment.version) may_be_given moment.world (moment.answered + 1) lines (true ∷ [])
           (step_text (moment.answered + 1) (step_of moment.version moment.world moment.line None)))
           (sym (last_line moment.line byte bytes some whole))
           (left, sameness_is_an_equivalence.itself left, [], sym (append-nil _), refl);
@@ -164,7 +164,7 @@ told_last moment (Some allotment) byte bytes some whole handed =
     record {
       refused = false ∷ [];
       may_be = subst (λ lines. MayBeRefusedIn moment.version lines (false ∷ [])) (sym (last_line moment.line byte bytes some whole)) tt;
-      tells = subst (λ lines. TellsAlike (marks moment.version) may_be_given moment.world (moment.answered + 1) lines (false ∷ [])
+      tells = subst (λ lines. TellsAlike (overlays moment.version) may_be_given moment.world (moment.answered + 1) lines (false ∷ [])
           (step_text (moment.answered + 1) (step_of moment.version moment.world moment.line (Some allotment))))
           (sym (last_line moment.line byte bytes some whole))
           (allotment, handed, left, sameness_is_an_equivalence.itself left, [], sym (append-nil _), refl);
@@ -179,7 +179,7 @@ module _ {W : Type 0} (sink : Ghosts W) where
       refused = [];
       may_be = subst (λ l. MayBeRefusedIn state.version (lines_of l) []) (sym none) tt;
       tells = subst
-          (λ l. TellsAlike (marks state.version) may_be_given state.world (state.answered + 1) (lines_of l) [] [])
+          (λ l. TellsAlike (overlays state.version) may_be_given state.world (state.answered + 1) (lines_of l) [] [])
           (sym none) refl;
     };
     wrote = Wrote-nothing sink x;

@@ -3,12 +3,11 @@ use Rattle.std.proofs.Common.{◌≡◌, ℕ, ◌+◌, ◌-◌, ◌≤◌, Bool,
 use Rattle.std.proofs.Math.Seq.{take-append-add}
 use Rattle.std.proofs.lemmas.List.{take-append-drop}
 use Rattle.std.specs.Io.{StartsWith}
-use Rattle.vt_spec.specs.Language.Script.{Version, lines_of, marks}
+use Rattle.vt_spec.specs.Language.Script.{Version, lines_of, overlays}
 use Rattle.vt_spec.specs.Machine.Run.{first_world, script_text_as, text_from}
 use Rattle.vt_laws_runs.specs.Handed.{may_be_given}
 use Rattle.vt_laws_runs.specs.Runs.{TellsAlike}
-use Rattle.vt_laws_runs.proofs.handed.Counts.{programs_have_one_text}
-use Rattle.vt_laws_runs.proofs.runs.GrammarsPlain.{grammars_keep_overlays_out, marks_mount_no_overlay}
+use Rattle.vt_laws_one_text.proofs.runs.RunsTold.{every_program_has_one_text}
 use Rattle.std.specs.Prelude.{OnOk, IsErrOf}
 use Rattle.vt_io.specs.declared.output.Sink.{Ghosts}
 use Rattle.vt_io.specs.Sink.{WroteFront}
@@ -39,13 +38,12 @@ module _ {version : Version} {first : Moment} (opens : IsOpening version first) 
 
   -- what a run tells from the opening on is the text of its script
   one_text : (script : List ℕ) (refused : List Bool) (text : List ℕ) →
-      TellsAlike (marks first.version) may_be_given first.world (first.answered + 1) (lines_of script) refused text
+      TellsAlike (overlays first.version) may_be_given first.world (first.answered + 1) (lines_of script) refused text
       → text ≡ script_text_as version refused script
   unfolding script_text_as
   one_text script refused text told =
-      programs_have_one_text (marks version) refused script text opens.0 opens.1
-      (grammars_keep_overlays_out (marks version) marks_mount_no_overlay (lines_of script))
-      (subst (λ (moment : Moment). TellsAlike (marks moment.version) may_be_given moment.world (moment.answered + 1)
+      every_program_has_one_text (overlays version) refused script text opens.0 opens.1
+      (subst (λ (moment : Moment). TellsAlike (overlays moment.version) may_be_given moment.world (moment.answered + 1)
       (lines_of script) refused text) opens.2 told)
 
   -- what was read is what ended, and what follows it
@@ -73,12 +71,12 @@ module _ {version : Version} {first : Moment} (opens : IsOpening version first) 
   -- the text of all lines is the policy's text
   pub all_told : (script text : List ℕ) (new : Moment) (runs : Runs first script text new) (refused : List Bool)
       (last : List ℕ) →
-      TellsAlike (marks new.version) may_be_given new.world (new.answered + 1) (lines_of new.line) refused last
+      TellsAlike (overlays new.version) may_be_given new.world (new.answered + 1) (lines_of new.line) refused last
       → MayBeRefusedIn new.version (lines_of new.line) refused →
       (all : List Bool) × MayBeRefusedIn version (lines_of script) all × (text ++ last ≡ script_text_as version all script)
   all_told script text new runs refused last told may_be =
       let lines = ap lines_of (parts script text new runs) ∙ lines_of-whole runs.ended new.line runs.whole in
-      let all : TellsAlike (marks first.version) may_be_given first.world (first.answered + 1) (lines_of (runs.ended ++ new.line))
+      let all : TellsAlike (overlays first.version) may_be_given first.world (first.answered + 1) (lines_of (runs.ended ++ new.line))
       (runs.refused ++ refused) (text ++ last) = runs.goes_on new.line refused last told in (
         runs.refused ++ refused,
         rw lines (MayBeRefused-append version (lines_of runs.ended) (lines_of new.line) runs.refused refused
@@ -106,7 +104,7 @@ module _ {version : Version} {first : Moment} (opens : IsOpening version first) 
         rw lines (MayBeRefused-append version (lines_of runs.ended) others runs.refused pad
             (may_be_in (lines_of runs.ended) runs.refused runs.may_be) (MayBeRefused-none version others)),
         front.0,
-        ap (λ xs. text_from (marks version) first_world 1 xs (runs.refused ++ pad)) lines ∙ front.1
+        ap (λ xs. text_from (overlays version) first_world 1 xs (runs.refused ++ pad)) lines ∙ front.1
             ∙ ap (λ xs. xs ++ front.0) (text_from-padded version first_world 1
             (lines_of runs.ended) runs.refused pad (MayBeRefused-length version (lines_of runs.ended) runs.refused
             (may_be_in (lines_of runs.ended) runs.refused runs.may_be)))

@@ -1,6 +1,6 @@
 -- How far a run has come: what was read and written between two moments of it.
 use Rattle.std.specs.Prelude.{◌≡◌, ℕ, ◌+◌, ◌==◌, nat_eq, Bool, true, false, List, [], ◌∷◌, ◌++◌}
-use Rattle.vt_spec.specs.Language.Script.{Version, lines_of, marks}
+use Rattle.vt_spec.specs.Language.Script.{Version, lines_of, overlays}
 use Rattle.vt_spec.specs.Lists.{Fresh}
 use Rattle.vt_spec.specs.Machine.World.{World, opening}
 use Rattle.vt_laws_runs.specs.Handed.{may_be_given}
@@ -44,8 +44,8 @@ pub record Runs (old : Moment) (bytes text : List ℕ) (new : Moment) : Type 0 w
   pub refused : List Bool
   pub may_be : MayBeRefusedIn old.version (lines_of ended) refused
   pub goes_on : (more : List ℕ) (later : List Bool) (rest : List ℕ) →
-      TellsAlike (marks new.version) may_be_given new.world (new.answered + 1) (lines_of more) later rest →
-      TellsAlike (marks old.version) may_be_given old.world (old.answered + 1) (lines_of (ended ++ more)) (refused ++ later)
+      TellsAlike (overlays new.version) may_be_given new.world (new.answered + 1) (lines_of more) later rest →
+      TellsAlike (overlays old.version) may_be_given old.world (old.answered + 1) (lines_of (ended ++ more)) (refused ++ later)
       (text ++ rest)
 
 -- no byte of the line is a newline

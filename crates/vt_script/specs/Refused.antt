@@ -2,7 +2,7 @@
 use Rattle.std.specs.Prelude.{Bool, IsSomeAnd, List, [], false, true, ℕ, ⊤, ◌∷◌, ◌⊎◌}
 use Rattle.vt_line.specs.Calls as words
 use Rattle.vt_permits.specs.Allocating as calls
-use Rattle.vt_spec.specs.Language.Script.{Request, Version, marks, request_of}
+use Rattle.vt_spec.specs.Language.Script.{Request, Version, overlays, request_of}
 use Rattle.vt_spec.specs.Language.Script.Request.{Asking, Calling}
 use Rattle.vt_spec.specs.Language.Script.Version.{One}
 
@@ -13,7 +13,7 @@ TakesMemory (Asking directive) = ⊤
 
 -- a line is of the grammar, in a version of the language, and its request takes memory
 abbrev pub LineTakesMemory : Version → List ℕ → Type 0
-LineTakesMemory version line = IsSomeAnd (request_of (marks version) line) TakesMemory
+LineTakesMemory version line = IsSomeAnd (request_of (overlays version) line) TakesMemory
 
 -- One truth value for each line: whether an allocation failed in it. Only a line that takes memory may say so.
 abbrev pub MayBeRefusedIn : Version → List (List ℕ) → List Bool → Type 0

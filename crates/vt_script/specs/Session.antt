@@ -3,7 +3,7 @@ use Rattle.std.specs.Prelude.{◌≡◌, ℕ, ◌+◌, nat_eq, Bool, List, [], �
 use Rattle.vt_io.specs.declared.output.Sink.{Ghosts}
 use Rattle.vt_io.specs.Sink.{Wrote, WroteFront}
 use Rattle.vt_io.specs.LineBuffer.{LineSoFar, Holds}
-use Rattle.vt_spec.specs.Language.Script.{Version, lines_of, marks}
+use Rattle.vt_spec.specs.Language.Script.{Version, lines_of, overlays}
 use Rattle.vt_spec.specs.Language.Script.Version.{One}
 use Rattle.vt_spec.specs.Machine.Run.{Step, line_step, script_text_as, step_text, step_world}
 use Rattle.vt_spec.specs.Machine.SameWorlds.{SameWorlds}
@@ -51,7 +51,7 @@ IsHanded version world line (Some allotment) = ServesInHand may_be_given world a
 -- the step of a line to which these numbers are handed
 abbrev pub step_of : Version → World ℕ → List ℕ → Option Allotment → Step ℕ
 step_of version world line handed =
-    line_step nat_eq (marks version) world line (option_map (λ allotment. allotment.new) handed)
+    line_step nat_eq (overlays version) world line (option_map (λ allotment. allotment.new) handed)
 
 -- the step of a line leaves this world, but for change numbers and the order of numbers beside trees
 abbrev pub IsLeftBy : Version → World ℕ → List ℕ → World ℕ → Type 0
@@ -63,7 +63,7 @@ IsLeftBy version old line new =
 pub record IsLast (old : Moment) (text : List ℕ) : Type 0 where
   pub refused : List Bool
   pub may_be : MayBeRefusedIn old.version (lines_of old.line) refused
-  pub tells : TellsAlike (marks old.version) may_be_given old.world (old.answered + 1) (lines_of old.line) refused text
+  pub tells : TellsAlike (overlays old.version) may_be_given old.world (old.answered + 1) (lines_of old.line) refused text
 
 module _ {W : Type 0} (sink : Ghosts W) where
   -- bytes were read, and the lines that ended were answered

@@ -1,5 +1,5 @@
 -- What a change needs of a tree whose inodes count their uses: the rules of its call have seen to it.
-use Rattle.std.specs.Prelude.{None, Option, Some, false, length, nat_eq, true, ℕ, ⊤, ◌≡◌, ◌≢◌, ◌≤◌, []}
+use Rattle.std.specs.Prelude.{None, Option, Some, false, length, nat_eq, ℕ, ⊤, ◌≡◌, ◌≢◌, ◌≤◌, []}
 use Rattle.vt_spec.specs.Inodes.{Inodes, is_directory_under, tree_of}
 use Rattle.vt_spec.specs.Language.Changes.{Change}
 use Rattle.vt_spec.specs.Language.Changes.Change.{AddName, CopyUp, Make, Move, Remove, SetAttr, SetBytes, SetMark}

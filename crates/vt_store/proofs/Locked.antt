@@ -30,11 +30,6 @@ has_name count tree directory node slot small there =
     ∙ (λ i. is_among nat_eq (exchanged_slot count slot small i) (map (λ (entry : List ℕ × ℕ). entry.1)
     (entries_in (there i))))
 
-pub none_has_name : (tree : Tree ℕ) (directory object : ℕ) → None ≡ tree.node directory
-    → has_entry_to nat_eq tree directory object ≡ false
-none_has_name tree directory object none =
-    λ i. is_among nat_eq object (map (λ (entry : List ℕ × ℕ). entry.1) (entries_in (sym none i)))
-
 -- the numbers of a filesystem that is there are those of the filled slots of its tree
 pub numbers_found : (trees : Filesystems) (count : ℕ) (tree : TreeValue)
     → Some tree ≡ option_map (λ (entry : FilesystemEntry). entry.tree) (entry_of trees count)

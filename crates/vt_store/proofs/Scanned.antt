@@ -1,5 +1,5 @@
 -- The slots of a tree, looked through from the first one on.
-use Rattle.std.proofs.Common.{Bool, List, None, Option, Some, [], ap, arith, cond, drop, false, is_some, length, ltb-false, ltb-true, map, nat_lt, refl, subst, suc, sym, true, true≢false, zero, ℕ, ◌+◌, ◌<◌, ◌||◌, ◌∙◌, ◌∷◌, ◌≡◌, ◌≤◌}
+use Rattle.std.proofs.Common.{Bool, List, None, Option, Some, [], ap, arith, cond, drop, false, is_some, length, ltb-false, ltb-true, map, nat_lt, refl, suc, sym, true, true≢false, zero, ℕ, ◌+◌, ◌<◌, ◌||◌, ◌∙◌, ◌∷◌, ◌≡◌, ◌≤◌}
 use Rattle.std.proofs.lemmas.List.Sums.{sum_by-cons}
 use Rattle.std.specs.List.{list_any}
 use Rattle.std.specs.Prelude.{count_by, slice_index_or}
@@ -28,7 +28,8 @@ next_slot (suc slot) (first ∷ slots) some =
 none_beyond : (least : ℕ) (slots : Slots)
     → ((id : ℕ) → least ≤ id → slice_index_or slots id None ≡ None) → (slot : ℕ) → least ≤ slot
     → count_by is_some (drop slot slots) ≡ 0
-none_beyond least slots none slot beyond = all_none (drop slot slots) (λ k. dropped slot slots k ∙ none (slot + k) (omega (arith, beyond)))
+none_beyond least slots none slot beyond = all_none (drop slot slots)
+    (λ k. dropped slot slots k ∙ none (slot + k) (omega (arith, beyond)))
   where
     dropped : (slot : ℕ) (slots : Slots) (k : ℕ) → slice_index_or (drop slot slots) k None
         ≡ slice_index_or slots (slot + k) None

@@ -73,7 +73,7 @@ impl Store {
 }
 
 // Whether a use more of each layer's directory, and a mount more of its filesystem, may be counted for each layer.
-fn has_room_for(plain: &Filesystems, layers: &[LayerRef]) -> bool
+pub(crate) fn has_room_for(plain: &Filesystems, layers: &[LayerRef]) -> bool
     ensures { (result ≡ true) ↔ HaveRoomFor (length layers.now) (shown plain.now) layers.now }
 {
     let more = layers.len() as u64;
@@ -94,7 +94,7 @@ fn has_room(plain: &Filesystems, layer: LayerRef, more: u64) -> bool
 }
 
 // Layers more, for which there is room. It does not allocate.
-fn hold_layers(plain: &mut Filesystems, layers: &[LayerRef])
+pub(crate) fn hold_layers(plain: &mut Filesystems, layers: &[LayerRef])
     requires { HaveRoomFor (length layers.now) (shown plain.old) layers.now }
     ensures { shown plain.new ≡ with_layers layers.now (shown plain.old) }
 {

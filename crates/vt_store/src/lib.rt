@@ -2,6 +2,7 @@
 #![tactic(auto)]
 
 mod counting;
+mod entering;
 mod laws;
 mod layers;
 mod leaving;

@@ -1,7 +1,7 @@
 //! New mounts, as mount(8) and findmnt(8) have them.
 use super::Row;
 
-static ROWS: [Row; 15] = [
+static ROWS: [Row; 14] = [
     ("mount", "mounts", ""),
     ("findmnt ...", "mounts", ""),
     ("mounts ...", "mounts", ""),
@@ -13,11 +13,6 @@ static ROWS: [Row; 15] = [
     ("mount -t tmpfs -o * * *", "mount plain $6 $4", ""),
     ("mount -t tmpfs * * -o *", "mount plain $4 $6", ""),
     ("mount -o * -t tmpfs * *", "mount plain $6 $2", ""),
-    (
-        "mount -t overlay ...",
-        "",
-        "overlays are not in this version",
-    ),
     (
         "mount -t proc ...",
         "",

@@ -1,24 +1,30 @@
 -- A grammar without the mount of an overlay asks for none.
-use Rattle.std.proofs.Common.{◌≡◌, refl, ℕ, Bool, true, false, cond, List, [], ◌∷◌, Option, Some, None, option_map, arith}
+use Rattle.std.proofs.Common.{◌≡◌, ◌∙◌, refl, ℕ, Bool, true, false, cond, List, [], ◌∷◌, Option, Some, None, option_map, arith}
 use Rattle.std.proofs.lemmas.List.Elements.{All-cons}
 use Rattle.vt_laws_runs.specs.Runs.{GrammarsKeepOverlaysOut}
 use Rattle.vt_spec.specs.Language.Calls.Call.{MountOverlay}
-use Rattle.vt_spec.specs.Language.Calls.{Call, Directive, TaskName}
-use Rattle.vt_spec.specs.Language.Script.{Grammar, Who, asked_by, call_asked, call_words, directive_asked, directive_words, each_of, needs_no_layers, raw_tokens, request_of, request_of_texts, token_text, who_of}
+use Rattle.vt_spec.specs.Language.Calls.{Call, Directive, OverlayWords, TaskName}
+use Rattle.vt_spec.specs.Language.Script.{Grammar, Who, asked_by, call_asked, call_read, call_words, directive_asked, directive_words, each_of, raw_tokens, request_of, request_of_texts, token_text, who_of}
 use Rattle.vt_spec.specs.Language.Script.Request.{Asking, Calling}
 use Rattle.vt_spec.specs.Language.Script.Who.{Nobody, Someone}
 use Rattle.vt_spec.specs.Lists.{then_some, when}
 use Rattle.vt_laws_trees.specs.Trees.Calls.{HasNoOverlays, asks_for_overlay, mounts_overlay}
 
+-- what is read of a call's options makes no mount of an overlay of it
+read_plain : (known : OverlayWords → Bool) (call : Call) → mounts_overlay (call_read known call) ≡ mounts_overlay call
+read_plain known (MountOverlay path options flags) = refl
+read_plain known call = refl
+
 module _ (grammar : Grammar) (out : (call : Call) → grammar.has call ≡ true → mounts_overlay call ≡ false) where
   call_plain : (task : TaskName) (words : Option Call)
-      → asks_for_overlay (option_map (Calling task) (then_some words (λ call. when (grammar.has call) call))) ≡ false
+      → asks_for_overlay (option_map (Calling task) (then_some words
+      (λ call. when (grammar.has call) (call_read grammar.options call)))) ≡ false
   call_plain task None = refl
   call_plain task (Some call) = by (grammar.has call) refl
     where
       by : (there : Bool) → grammar.has call ≡ there
-          → asks_for_overlay (option_map (Calling task) (when there call)) ≡ false
-      by true is = out call is
+          → asks_for_overlay (option_map (Calling task) (when there (call_read grammar.options call))) ≡ false
+      by true is = read_plain grammar.options call ∙ out call is
       by false is = refl
 
   calls_plain : (task : TaskName) (words : List (List ℕ)) → asks_for_overlay (call_asked grammar task words) ≡ false
@@ -27,7 +33,8 @@ module _ (grammar : Grammar) (out : (call : Call) → grammar.has call ≡ true 
     where
       by : (known : Bool)
           → asks_for_overlay (cond known (option_map (Calling task)
-          (then_some (call_words grammar.version name words) (λ call. when (grammar.has call) call))) None) ≡ false
+          (then_some (call_words grammar.version name words)
+          (λ call. when (grammar.has call) (call_read grammar.options call)))) None) ≡ false
       by true = call_plain task (call_words grammar.version name words)
       by false = refl
 
@@ -63,8 +70,3 @@ module _ (grammar : Grammar) (out : (call : Call) → grammar.has call ≡ true 
 
 pub grammars_keep_overlays_out : GrammarsKeepOverlaysOut
 grammars_keep_overlays_out grammar out lines = lines_plain grammar out lines
-
--- the grammar of the program has no mount of an overlay
-pub marks_mount_no_overlay : (call : Call) → needs_no_layers call ≡ true → mounts_overlay call ≡ false
-marks_mount_no_overlay (MountOverlay path options flags) has = absurd cc
-marks_mount_no_overlay call has = refl

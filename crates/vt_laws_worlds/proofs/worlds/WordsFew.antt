@@ -8,7 +8,7 @@ use Rattle.vt_spec.specs.PathText.{parts}
 use Rattle.vt_spec.specs.Language.Calls.{Access, Call, CapabilityWord, Creation, Directive, plain_flags}
 use Rattle.vt_spec.specs.Language.Calls.Call.{Fork, Mkdir, MountOverlay, MountPlain, OpenFile}
 use Rattle.vt_spec.specs.Lists.{then_some, when}
-use Rattle.vt_spec.specs.Language.Script.{access_word, bytes_word, descriptor_word, flags_word, kept_or_identity, mode_word, offset_word, options_of, path_word, task_word, type_word, yes_or_no_word, Grammar, Request, Version, Who, asked_by, attribute_words, capabilities_word, call_words, chown_call, creation_words, descriptor_words, directive_words, each_of, fork_words, groups_word, identity_word, may_have, mount_words, mounting_words, naming_words, no_more, request_of, request_of_texts, second_words, task_words, token_text, raw_tokens, who_of, with_first, word_then}
+use Rattle.vt_spec.specs.Language.Script.{access_word, bytes_word, descriptor_word, flags_word, kept_or_identity, mode_word, offset_word, options_of, path_word, task_word, type_word, yes_or_no_word, Grammar, Request, Version, Who, asked_by, attribute_words, call_read, capabilities_word, call_words, chown_call, creation_words, descriptor_words, directive_words, each_of, fork_words, groups_word, identity_word, may_have, mount_words, mounting_words, naming_words, no_more, request_of, request_of_texts, second_words, task_words, token_text, raw_tokens, who_of, with_first, word_then}
 use Rattle.vt_spec.specs.Language.Script.Request.{Asking, Calling}
 use Rattle.vt_spec.specs.Language.Script.Version.{One, Two}
 use Rattle.vt_spec.specs.Language.Script.Who.{Nobody, Someone}
@@ -239,14 +239,18 @@ few_asked grammar (Some (Someone task)) [] = refl
 few_asked grammar (Some (Someone task)) (name ∷ words) =
     by (grammar.knows name) (call_words grammar.version name words) (few_call grammar.version name words)
   where
+    read_few : (call : Call) → names_few_groups (call_read grammar.options call) ≡ names_few_groups call
+    read_few (MountOverlay path options given) = refl
+    read_few call = refl
+
     when_there : (b : Bool) (call : Call) → names_few_groups call ≡ true
-        → request_names_few (option_map (Calling task) (when b call)) ≡ true
-    when_there true call h = h
+        → request_names_few (option_map (Calling task) (when b (call_read grammar.options call))) ≡ true
+    when_there true call h = read_few call ∙ h
     when_there false call h = refl
 
     by : (b : Bool) (o : Option Call) → Few o
-        → request_names_few (cond b (option_map (Calling task) (then_some o (λ call. when (grammar.has call) call)))
-        None) ≡ true
+        → request_names_few (cond b (option_map (Calling task) (then_some o
+        (λ call. when (grammar.has call) (call_read grammar.options call)))) None) ≡ true
     by true None h = refl
     by true (Some call) h = when_there (grammar.has call) call h.passes
     by false o h = refl

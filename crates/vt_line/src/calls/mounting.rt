@@ -1,10 +1,10 @@
 //! The calls on mounts that are given more than paths, or that one version has.
-ghost use Rattle.std.specs.Prelude.{◌≡◌, option_map, false, true};
-ghost use Rattle.vt_spec.specs.Language.Calls.Call.{MountPlain, Remount, SetType};
+ghost use Rattle.std.specs.Prelude.{◌≡◌, codes, option_map, false, true};
+ghost use Rattle.vt_spec.specs.Language.Calls.Call.{MountOverlay, MountPlain, Remount, SetType};
 ghost use Rattle.vt_spec.specs.Language.Script.Version.{One};
 ghost use Rattle.vt_cred.specs.MountFlags.{flags_of};
-ghost use Rattle.vt_request.specs.Requests.{type_word_of};
-ghost use Rattle.vt_line.specs.Calls.{call_named, call_worded, IsCallRead};
+ghost use Rattle.vt_request.specs.Requests.{options_named, type_word_of};
+ghost use Rattle.vt_line.specs.Calls.{call_named, call_worded, mount_named, IsCallRead};
 ghost use Rattle.vt_line.specs.Versions.{version_of};
 
 use crate::calls::{ReadError, paths};
@@ -15,14 +15,11 @@ use std::alloc::Global;
 use vt_cred::MountFlags;
 use vt_request::{Call, MountCall, TypeWord};
 
-/// The words of `mount plain PATH [FLAGS]`. The product has no overlays.
-fn mount_words(version: Version, mut words: Words<'_>) -> Option<(&[u8], MountFlags)>
+/// The words of `mount plain PATH [FLAGS]` behind the kind.
+fn plain_words(version: Version, mut words: Words<'_>) -> Option<(&[u8], MountFlags)>
     ensures { option_map (λ w. MountPlain w.0.now (flags_of w.1)) result
-        ≡ call_named (version_of version) CallName.Mount words.entry }
+        ≡ mount_named (version_of version) (codes "plain") words.entry }
 {
-    if words.next()? != b"plain".as_slice() {
-        return None;
-    }
     let path = path_word(words.next()?)?;
     let Some(flags) = words.next() else {
         return Some((path, MountFlags::plain()));
@@ -30,6 +27,21 @@ fn mount_words(version: Version, mut words: Words<'_>) -> Option<(&[u8], MountFl
     let flags = flags_word(version, flags)?;
     words.end()?;
     Some((path, flags))
+}
+
+/// The words of `mount overlay PATH OPTIONS [FLAGS]` behind the kind.
+fn overlay_words(version: Version, mut words: Words<'_>) -> Option<(&[u8], &[u8], MountFlags)>
+    ensures { option_map (λ w. MountOverlay w.0.now (options_named w.1.now) (flags_of w.2)) result
+        ≡ mount_named (version_of version) (codes "overlay") words.entry }
+{
+    let path = path_word(words.next()?)?;
+    let options = words.next()?;
+    let Some(flags) = words.next() else {
+        return Some((path, options, MountFlags::plain()));
+    };
+    let flags = flags_word(version, flags)?;
+    words.end()?;
+    Some((path, options, flags))
 }
 
 /// The words of `remount PATH FLAGS`.
@@ -56,15 +68,47 @@ fn type_words(mut words: Words<'_>) -> Option<(&[u8], TypeWord)>
     Some((path, word))
 }
 
-/// `mount plain PATH [FLAGS]`.
-pub fn mount(version: Version, alloc: Global, words: Words<'_>) -> Result<Call, ReadError>
-    ensures { IsCallRead (call_named (version_of version) CallName.Mount words.entry) result }
+/// `mount plain PATH [FLAGS]` behind the kind.
+fn mount_plain(version: Version, alloc: Global, words: Words<'_>) -> Result<Call, ReadError>
+    ensures { IsCallRead (mount_named (version_of version) (codes "plain") words.entry) result }
 {
-    let Some((path, flags)) = mount_words(version, words) else {
+    let Some((path, flags)) = plain_words(version, words) else {
         return Err(ReadError::Grammar);
     };
     let path = path.to_vec(alloc)?;
     Ok(Call::Mount(MountCall::Plain { path, flags }))
+}
+
+/// `mount overlay PATH OPTIONS [FLAGS]` behind the kind.
+fn mount_overlay(version: Version, alloc: Global, words: Words<'_>) -> Result<Call, ReadError>
+    ensures { IsCallRead (mount_named (version_of version) (codes "overlay") words.entry) result }
+{
+    let Some((path, options, flags)) = overlay_words(version, words) else {
+        return Err(ReadError::Grammar);
+    };
+    let path = path.to_vec(alloc)?;
+    let options = options.to_vec(alloc)?;
+    Ok(Call::Mount(MountCall::Overlay {
+        path,
+        options,
+        flags,
+    }))
+}
+
+/// `mount plain PATH [FLAGS]`, and `mount overlay PATH OPTIONS [FLAGS]`.
+pub fn mount(version: Version, alloc: Global, mut words: Words<'_>) -> Result<Call, ReadError>
+    ensures { IsCallRead (call_named (version_of version) CallName.Mount words.entry) result }
+{
+    let Some(kind) = words.next() else {
+        return Err(ReadError::Grammar);
+    };
+    if kind == b"plain".as_slice() {
+        return mount_plain(version, alloc, words);
+    }
+    if kind == b"overlay".as_slice() {
+        return mount_overlay(version, alloc, words);
+    }
+    Err(ReadError::Grammar)
 }
 
 /// `remount PATH FLAGS`.

@@ -1,5 +1,5 @@
 -- The number of an inode that its filesystem does not have is not in use.
-use Rattle.std.proofs.Common.{◌≡◌, refl, sym, ap, subst, ◌∙◌, inl, inr, ℕ, ◌+◌, ◌*◌, ◌<◌, ◌%◌, ◌/◌, ◌==◌, nat_eq, ne_eqb, eqb-true, lt-ltb, Bool, true, false, ◌&&◌, ◌||◌, List, [], ◌∷◌, ◌++◌, map, flat_map, Option, Some, None, is_some, option_map, unwrap_or, option_to_list, arith}
+use Rattle.std.proofs.Common.{◌≡◌, refl, sym, ap, subst, ◌∙◌, inl, inr, ℕ, ◌+◌, ◌*◌, ◌<◌, ◌≤◌, ◌%◌, ◌/◌, ◌==◌, nat_eq, ne_eqb, eqb-true, lt-ltb, Bool, true, false, ◌&&◌, ◌||◌, List, [], ◌∷◌, ◌++◌, map, flat_map, Option, Some, None, is_some, option_map, unwrap_or, option_to_list, arith}
 use Rattle.std.specs.List.{list_all}
 use Rattle.std.proofs.lemmas.Bool.{and_parts}
 use Rattle.std.proofs.lemmas.List.Folds.{list_any-append}
@@ -17,13 +17,21 @@ use Rattle.vt_fs.specs.FilesystemsValue.{FilesystemEntry, entry_of, inodes_at, i
 use Rattle.vt_laws_letting_go.proofs.Lists.{Among, among_from_all, found_in}
 use Rattle.vt_laws_letting_go.proofs.sweeps.OfWorlds.{found_filesystem}
 use Rattle.vt_laws_worlds.proofs.worlds.Roots.{directory_there}
-use Rattle.vt_location.specs.declared.births.Birth.TheVariants.{Here}
+use Rattle.vt_location.specs.declared.births.Birth.{Birth}
+use Rattle.vt_location.specs.declared.births.Birth.TheVariants.{Below, Here}
 use Rattle.vt_location.specs.declared.locations.NodeRef.{NodeRef}
-use Rattle.vt_location.specs.Locations.{is_small_node}
+use Rattle.vt_location.specs.Births.{IsSmallBirth, born_in, is_small_birth}
+use Rattle.vt_location.specs.Locations.{is_small_node, number_of}
+use Rattle.vt_location.specs.NodeNumbers.{IsSmall}
+use Rattle.vt_location.proofs.NodeLemmas.{small_parts}
 use Rattle.vt_location.specs.Numbers.{counted, inode_number}
 use Rattle.vt_mount.specs.MountsValue.{MountEntry, mounts_in}
 use Rattle.vt_mount.specs.Sources.{has_counted_source}
+use Rattle.vt_laws_overlays_made.specs.Made.{IsNew}
+use Rattle.vt_laws_permits.proofs.in_use.InUseServes.{leaves_two}
 use Rattle.vt_laws_permits.specs.InUse.{is_in_use}
+use Rattle.vt_laws_rules.proofs.numbers.Supports.{used_numbers_are_named}
+use Rattle.vt_laws_runs.specs.Handed.{is_counted_before}
 use Rattle.vt_detach.specs.Events.{filesystem_count, next_inode}
 use Rattle.vt_world.specs.Held.{HasOwnNodes, IsHeld}
 use Rattle.vt_ns.specs.Vacancy.{IsVacant}
@@ -86,59 +94,88 @@ module _ (count slot : ℕ) (small : slot < 18446744073709551616) where
   in_no_namespace [] = refl
   in_no_namespace (entry ∷ rest) = λ i. not_counted entry.count i || in_no_namespace rest i
 
-  module _ (value : WorldValue) (whole : IsHeld value) (small_count : count < 18446744073709551616)
-      (odd : list_all (λ mount. mount.number % 4 == 1) (mounts_in value.mounts) ≡ true)
-      (sources : list_all has_counted_source (mounts_in value.mounts) ≡ true)
-      (missing : (filesystem_numbered nat_eq (world_of value) (counted count)).files.tree.node number ≡ None) where
-    abbrev node : NodeRef
-    node = record { filesystem = record { count = count }; slot = slot; birth = Here }
+-- a node that its filesystem does not have
+module _ (value : WorldValue) (whole : IsHeld value)
+    (odd : list_all (λ mount. mount.number % 4 == 1) (mounts_in value.mounts) ≡ true)
+    (sources : list_all has_counted_source (mounts_in value.mounts) ≡ true)
+    (node : NodeRef) (small_node : is_small_node node ≡ true)
+    (missing : (filesystem_numbered nat_eq (world_of value) (counted node.filesystem.count)).files.tree.node
+    (number_of node) ≡ None) where
+  abbrev born : ℕ
+  born = born_in node.filesystem.count node.birth
 
-    small_node : is_small_node node ≡ true
-    small_node =
-        λ i. lt-ltb count 18446744073709551616 small_count i && (lt-ltb slot 18446744073709551616 small i && true)
+  small_slot : node.slot < 18446744073709551616
+  small_slot = (small_parts node small_node).slot
 
-    found : (f : Filesystem ℕ) → Among f (world_of value).filesystems
-        → filesystem_numbered nat_eq (world_of value) f.number ≡ f
-    found f m = found_filesystem (world_of value).filesystems whole.in_world.files.one_filesystem f m
+  found : (f : Filesystem ℕ) → Among f (world_of value).filesystems
+      → filesystem_numbered nat_eq (world_of value) f.number ≡ f
+  found f m = found_filesystem (world_of value).filesystems whole.in_world.files.one_filesystem f m
 
-    -- no filesystem has an inode of this number
-    in_none : (f : Filesystem ℕ) → Among f (world_of value).filesystems → f.files.tree.node number ≡ None
-    in_none f m =
-        ap (λ (g : Filesystem ℕ). g.files.tree.node number) (sym (found f m)) ∙ by (nat_eq f.number (counted count)) refl
-      where
-        by : (b : Bool) → nat_eq f.number (counted count) ≡ b
-            → (filesystem_numbered nat_eq (world_of value) f.number).files.tree.node number ≡ None
-        by true e =
-            ap (λ n. (filesystem_numbered nat_eq (world_of value) n).files.tree.node number)
-            (eqb-true f.number (counted count) e) ∙ missing
-        by false e = in_no_other value whole f.number node small_node e
+  -- no filesystem has an inode of this number
+  in_none : (f : Filesystem ℕ) → Among f (world_of value).filesystems → f.files.tree.node (number_of node) ≡ None
+  in_none f m =
+      ap (λ (g : Filesystem ℕ). g.files.tree.node (number_of node)) (sym (found f m)) ∙ by (nat_eq f.number (counted node.filesystem.count)) refl
+    where
+      by : (b : Bool) → nat_eq f.number (counted node.filesystem.count) ≡ b
+          → (filesystem_numbered nat_eq (world_of value) f.number).files.tree.node (number_of node) ≡ None
+      by true e =
+          ap (λ n. (filesystem_numbered nat_eq (world_of value) n).files.tree.node (number_of node))
+          (eqb-true f.number (counted node.filesystem.count) e) ∙ missing
+      by false e = in_no_other value whole f.number node small_node e
 
-    -- nor this number itself
-    numbered_otherwise : (f : Filesystem ℕ) → Among f (world_of value).filesystems → nat_eq number f.number ≡ false
-    numbered_otherwise f m =
-        let root = among_from_all HasOwnNodes (world_of value).filesystems (own_nodes value whole) f m
-        f.files.tree.root
-        (directory_there (f.files.tree.node f.files.tree.root)
-        (among_from_all (λ (g : Filesystem ℕ). IsTree g.files.tree) (world_of value).filesystems
-        whole.in_world.files.trees f m).root_directory) in
-        ap (nat_eq number) root.2 ∙ not_counted root.0.filesystem.count
+  -- nor this number itself
+  numbered_otherwise : (f : Filesystem ℕ) → Among f (world_of value).filesystems → nat_eq (number_of node) f.number ≡ false
+  numbered_otherwise f m =
+      let root = among_from_all HasOwnNodes (world_of value).filesystems (own_nodes value whole) f m
+      f.files.tree.root
+      (directory_there (f.files.tree.node f.files.tree.root)
+      (among_from_all (λ (g : Filesystem ℕ). IsTree g.files.tree) (world_of value).filesystems
+      whole.in_world.files.trees f m).root_directory) in
+      ap (nat_eq (number_of node)) root.2 ∙ not_counted born node.slot small_slot root.0.filesystem.count
 
-    -- a number that is not counted yet is not in use
-    pub is_unused : is_in_use (world_of value) number ≡ false
-    is_unused =
-        list_any-append (nat_eq number)
-        (flat_map used_by_mount (world_of value).mounts ++ flat_map used_by_filesystem (world_of value).filesystems)
-        (map (λ (namespace : Namespace ℕ). namespace.number) (world_of value).namespaces)
-        ∙ (λ i.
-        (list_any-append (nat_eq number) (flat_map used_by_mount (world_of value).mounts)
-        (flat_map used_by_filesystem (world_of value).filesystems)
-        ∙ (λ j. in_no_mount value.mounts odd sources j
-        || in_no_filesystem (world_of value).filesystems (λ f m. (
-          numbered_otherwise f m,
-          among_from_all (λ (g : Filesystem ℕ). ListsNumbers nat_eq g.files) (world_of value).filesystems
-              whole.in_world.files.numbers f m number ∙ ap is_some (in_none f m),
-        )) j)) i
-        || in_no_namespace value.namespaces i)
+  -- a number that is not counted yet is not in use
+  pub is_unused : is_in_use (world_of value) (number_of node) ≡ false
+  is_unused =
+      list_any-append (nat_eq (number_of node))
+      (flat_map used_by_mount (world_of value).mounts ++ flat_map used_by_filesystem (world_of value).filesystems)
+      (map (λ (namespace : Namespace ℕ). namespace.number) (world_of value).namespaces)
+      ∙ (λ i.
+      (list_any-append (nat_eq (number_of node)) (flat_map used_by_mount (world_of value).mounts)
+      (flat_map used_by_filesystem (world_of value).filesystems)
+      ∙ (λ j. in_no_mount born node.slot small_slot value.mounts odd sources j
+      || in_no_filesystem born node.slot small_slot (world_of value).filesystems (λ f m. (
+        numbered_otherwise f m,
+        among_from_all (λ (g : Filesystem ℕ). ListsNumbers nat_eq g.files) (world_of value).filesystems
+            whole.in_world.files.numbers f m (number_of node) ∙ ap is_some (in_none f m),
+      )) j)) i
+      || in_no_namespace born node.slot small_slot value.namespaces i)
+
+-- nothing is found in a filesystem that is not counted yet
+none_there : (value : WorldValue) → IsHeld value → (node : NodeRef) → value.next ≤ node.filesystem.count
+    → (filesystem_numbered nat_eq (world_of value) (counted node.filesystem.count)).files.tree.node (number_of node)
+    ≡ None
+none_there value whole node above =
+    by ((filesystem_numbered nat_eq (world_of value) (counted node.filesystem.count)).files.tree.node (number_of node))
+    refl
+  where
+    by : (o : Option (Node ℕ))
+        → (filesystem_numbered nat_eq (world_of value) (counted node.filesystem.count)).files.tree.node (number_of node)
+        ≡ o → o ≡ None
+    by None e = refl
+    by (Some found) e =
+        let below = found_below value whole (counted node.filesystem.count) (number_of node) (ap is_some e) in
+        absurd (omega (arith, below, above))
+
+-- what is small is so by test
+small_again : (node : NodeRef) → IsSmall node → is_small_node node ≡ true
+small_again node small =
+    λ i. lt-ltb node.filesystem.count 18446744073709551616 small.filesystem i
+    && (lt-ltb node.slot 18446744073709551616 small.slot i && by node.birth small.birth i)
+  where
+    by : (birth : Birth) → IsSmallBirth birth → is_small_birth birth ≡ true
+    by Here is = refl
+    by (Below layer directory rank) is =
+        λ i. lt-ltb directory 18446744073709551616 is.0 i && lt-ltb layer 18446744073709551616 is.1 i
 
 module _ (value : WorldValue) (whole : IsHeld value) (small_next : value.next < 18446744073709551616)
     (odd : list_all (λ mount. mount.number % 4 == 1) (mounts_in value.mounts) ≡ true)
@@ -147,16 +184,28 @@ module _ (value : WorldValue) (whole : IsHeld value) (small_next : value.next < 
   pub root_is_vacant : IsVacant value (inode_number value.next 0)
   root_is_vacant = record {
     even = is_even value.next 0 (omega arith);
-    unused = is_unused value.next 0 (omega arith) value whole small_next odd sources (not_yet _ refl);
+    unused = is_unused value whole odd sources root small_root (none_there value whole root (omega arith));
   }
     where
-      not_yet : (o : Option (Node ℕ))
-          → (filesystem_numbered nat_eq (world_of value) (counted value.next)).files.tree.node
-          (inode_number value.next 0) ≡ o → o ≡ None
-      not_yet None e = refl
-      not_yet (Some node) e =
-          let below = found_below value whole (counted value.next) (inode_number value.next 0) (ap is_some e) in
-          absurd (omega (arith, below))
+      root : NodeRef
+      root = record { filesystem = record { count = value.next }; slot = 0; birth = Here }
+
+      small_root : is_small_node root ≡ true
+      small_root =
+          λ i. lt-ltb value.next 18446744073709551616 small_next i
+          && (lt-ltb 0 18446744073709551616 (omega arith) i && true)
+
+  -- so no number of a node of the next filesystem is in use
+  pub next_is_new : IsNew (world_of value) (record { count = value.next })
+  next_is_new = record {
+    small = small_next;
+    counted_before = λ other used.
+        used_numbers_are_named (is_counted_before value.next) (world_of value) whole.given (leaves_two value.next) other
+        used;
+    nodes = λ node small same.
+        is_unused value whole odd sources node (small_again node small)
+        (none_there value whole node (let count = ap (λ id. id.count) same in omega (arith, count)));
+  }
 
   module _ (location : meant.Location ℕ) (count : ℕ)
       (shows : counted count ≡ (mount_at nat_eq (world_of value) location).filesystem) where
@@ -187,7 +236,11 @@ module _ (value : WorldValue) (whole : IsHeld value) (small_next : value.next < 
             let same = eqb-true count entry.count there.1 in
             record {
               even = is_even count slot small;
-              unused = is_unused count slot small value whole (omega (arith, low, same, small_next)) odd sources
+              unused =
+                  is_unused value whole odd sources
+                  (record { filesystem = record { count = count }; slot = slot; birth = Here })
+                  (λ i. lt-ltb count 18446744073709551616 (omega (arith, low, same, small_next)) i
+                  && (lt-ltb slot 18446744073709551616 small i && true))
                   (ap (λ n. (filesystem_numbered nat_eq (world_of value) (counted n)).files.tree.node
                   (inode_number count slot)) same
                   ∙ ap (λ (f : Filesystem ℕ). f.files.tree.node (inode_number count slot))

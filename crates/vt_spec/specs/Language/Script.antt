@@ -1,5 +1,5 @@
 -- The text of a script: its lines, tokens and grammar (profile).
-use Rattle.std.specs.Prelude.{Bool, List, None, Option, Some, [], codes, drop, false, if◌then◌else◌, length, nat_le, nat_lt, not, option_map, slice_index, take, true, unwrap_or, ℕ, ◌&&◌, ◌*◌, ◌++◌, ◌+◌, ◌-◌, ◌==◌, ◌∷◌}
+use Rattle.std.specs.Prelude.{Bool, List, None, Option, Some, [], codes, drop, false, if◌then◌else◌, is_some, length, nat_le, nat_lt, not, option_map, slice_index, take, true, unwrap_or, ℕ, ◌&&◌, ◌*◌, ◌++◌, ◌+◌, ◌-◌, ◌==◌, ◌∷◌}
 use Rattle.std.specs.Int.RustNames.{bit_or}
 use Rattle.std.specs.List.{list_all, list_any}
 use Rattle.std.specs.Str.{bytes_eq}
@@ -483,11 +483,13 @@ directive_words name words =
     else None
 
 -- Which calls and directives a grammar has: a call by its name and its words, since of the calls by one name it may
--- have some and not others, a directive by its name. A line with anything else is not of the grammar.
+-- have some and not others, a directive by its name. A line with anything else is not of the grammar. Of the options of
+-- overlays it may know some and not others: with any other a text is no list of options.
 pub record Grammar : Type 0 where
   pub version : Version
   pub knows : List ℕ → Bool
   pub has : Call → Bool
+  pub options : OverlayWords → Bool
   pub directs : List ℕ → Bool
 
 -- the names of the calls on files and tasks, in one tree
@@ -504,6 +506,7 @@ files = record {
   version = One;
   knows = λ name. list_any (bytes_eq name) file_call_names;
   has = λ call. true;
+  options = λ words. true;
   directs = λ name. false;
 }
 
@@ -514,10 +517,9 @@ mounting_call_names =
     ∷ codes "type" ∷ codes "rtype" ∷ codes "mounts" ∷ codes "chdir" ∷ codes "chroot" ∷ codes "unshare"
     ∷ codes "setns" ∷ []
 
--- without overlays
-abbrev pub needs_no_layers : Call → Bool
-needs_no_layers (MountOverlay path options given) = false
-needs_no_layers call = true
+-- options without `upperdir`
+abbrev pub names_no_upper : OverlayWords → Bool
+names_no_upper words = not (is_some words.upper)
 
 -- the names of the calls that make what hides lower layers: overlayfs, the kernel's document, "whiteouts and opaque
 -- directories"
@@ -528,21 +530,28 @@ marking_call_names = codes "whiteout" ∷ codes "opaque" ∷ []
 abbrev pub pivoting_call_names : List (List ℕ)
 pivoting_call_names = codes "pivot_root" ∷ []
 
--- the calls on files, tasks, mounts and namespaces, those that make whiteouts and opaque directories, and the list of
--- peer groups, which the product has today, in a version of the language: the second has the flag nosymfollow and
--- pivot_root too
-abbrev pub marks : Version → Grammar
-marks version = record {
+-- the calls on files, tasks, mounts and namespaces, those that make whiteouts and opaque directories, overlays without
+-- an upper layer, and the list of peer groups, which the product has today, in a version of the language: the second has
+-- the flag nosymfollow and pivot_root too
+abbrev pub overlays : Version → Grammar
+overlays version = record {
   version = version;
   knows = λ name. list_any (bytes_eq name)
       (file_call_names ++ mounting_call_names ++ marking_call_names ++ pivoting_call_names);
-  has = needs_no_layers;
+  has = λ call. true;
+  options = names_no_upper;
   directs = λ name. bytes_eq name (codes "peers");
 }
 
 -- the whole language
 abbrev pub whole : Version → Grammar
-whole version = record { version = version; knows = λ name. true; has = λ call. true; directs = λ name. true }
+whole version = record {
+  version = version;
+  knows = λ name. true;
+  has = λ call. true;
+  options = λ words. true;
+  directs = λ name. true;
+}
 
 -- whose line it is: a task's, or nobody's
 pub data Who : Type 0 where
@@ -558,12 +567,22 @@ pub data Request : Type 0 where
 abbrev pub who_of : List ℕ → Option Who
 who_of token = if bytes_eq token (codes "!") then Some Nobody else option_map Someone (task_word token)
 
+-- the options of an overlay, if a grammar knows them
+abbrev pub known_options : (OverlayWords → Bool) → Option OverlayWords → Option OverlayWords
+known_options known options = then_some options (λ words. when (known words) words)
+
+-- a call as a grammar reads it that knows these options of overlays
+abbrev pub call_read : (OverlayWords → Bool) → Call → Call
+call_read known (MountOverlay path options given) = MountOverlay path (known_options known options) given
+call_read known call = call
+
 -- the call that the words after a task's name ask for
 abbrev pub call_asked : Grammar → TaskName → List (List ℕ) → Option Request
 call_asked grammar task [] = None
 call_asked grammar task (name ∷ words) =
     if grammar.knows name then
-    option_map (Calling task) (then_some (call_words grammar.version name words) (λ call. when (grammar.has call) call))
+    option_map (Calling task) (then_some (call_words grammar.version name words)
+    (λ call. when (grammar.has call) (call_read grammar.options call)))
     else None
 
 -- the directive that the words after `!` ask for

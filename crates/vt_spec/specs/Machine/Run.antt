@@ -9,7 +9,7 @@ use Rattle.vt_spec.specs.Machine.Mounts.{Mount, source_of}
 use Rattle.vt_spec.specs.Machine.Outcomes.{Outcome, denied}
 use Rattle.vt_spec.specs.Machine.Policy.{policy}
 use Rattle.vt_spec.specs.Language.Printed.{reply_line}
-use Rattle.vt_spec.specs.Language.Script.{Grammar, Request, Version, is_silent, lines_of, marks, request_of, whole}
+use Rattle.vt_spec.specs.Language.Script.{Grammar, Request, Version, is_silent, lines_of, overlays, request_of, whole}
 use Rattle.vt_spec.specs.Language.Limits.{longest_line}
 use Rattle.vt_spec.specs.Language.Script.Request.{Asking, Calling}
 use Rattle.vt_spec.specs.Language.Script.Version.{One}
@@ -130,7 +130,7 @@ text_of grammar refused script = text_from grammar first_world 1 (lines_of scrip
 
 -- the answers of the product as it is today, in a version of the script's language
 unfoldable pub script_text_as : Version → List Bool → List ℕ → List ℕ
-script_text_as version refused script = text_of (marks version) refused script
+script_text_as version refused script = text_of (overlays version) refused script
 
 -- and those to a script of the first version
 abbrev pub script_text : List Bool → List ℕ → List ℕ

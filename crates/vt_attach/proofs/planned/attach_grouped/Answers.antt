@@ -19,7 +19,7 @@ exchange_uses-requires-clause-points c =
     let all = shown c.args.store.now.plain in
     let moved = c.deref.result.now in
     let taken = points_taken plan.points.now c.args.mounts.now in
-    let less = most_counted - (2 * length plan.copies.now + length plan.points.now) in
+    let less = most_counted - (2 * length plan.copies.now + length plan.points.now + 0) in
     let few = taken_few plan.points.now c.args.mounts.now in
     let are : taken_of moved ≡ taken = ap taken_of c.deref.ensures.value ∙ c.in_ok-moved.ensures.moves.taken_are in
     let many : length moved ≡ length taken = sym (length-map moved (λ (one : Moved). one.to)) ∙ ap length are in
@@ -38,7 +38,7 @@ exchange_uses-requires-clause-copies c =
     let plan = c.args.plan.now in
     let all = shown c.args.store.now.plain in
     let taken = points_taken plan.points.now c.args.mounts.now in
-    let less = most_counted - (2 * length plan.copies.now + length plan.points.now) in
+    let less = most_counted - (2 * length plan.copies.now + length plan.points.now + 0) in
     let few = taken_few plan.points.now c.args.mounts.now in
     let fits = c.if-not-plan_has_room.ensures.fits refl in
     let pinned_so : folded pinned_by (shown c.plain_mut.result.now) (taken_of c.deref.result.now)
@@ -54,7 +54,7 @@ pub hold_overlays-requires : goal.hold_overlays-requires
 hold_overlays-requires c =
     let plan = c.args.plan.now in
     merged_room_stays (most_counted - length plan.copies.now)
-    (most_counted - (2 * length plan.copies.now + length plan.points.now)) (map merged_of c.args.store.now.overlays)
+    (most_counted - (2 * length plan.copies.now + length plan.points.now + 0)) (map merged_of c.args.store.now.overlays)
     (omega arith) plan.copies.now (c.if-not-plan_has_room.ensures.overlays refl)
 
 pub returns-clause-ok : goal.returns-clause-ok

@@ -71,3 +71,13 @@ pub returns-in-Mount : goal.returns-in-Mount
 returns-in-Mount c =
     ends c.args.world.now c.args.change c.args.name.now c.args.permit c.spend.result (granted.Mount c.in-Mount.grant)
     c.spend.ensures c.in-Mount.is c.change_mounts.new.world c.change_mounts.result c.change_mounts.ensures
+
+pub mount_overlay-requires : goal.mount_overlay-requires
+mount_overlay-requires c =
+    is_granted c.args.world.now c.args.change c.args.name.now c.args.permit c.spend.result (granted.Overlay c.in-Overlay.new)
+    c.spend.ensures c.in-Overlay.is c.requires
+
+pub returns-in-Overlay : goal.returns-in-Overlay
+returns-in-Overlay c =
+    ends c.args.world.now c.args.change c.args.name.now c.args.permit c.spend.result (granted.Overlay c.in-Overlay.new)
+    c.spend.ensures c.in-Overlay.is c.mount_overlay.new.world c.mount_overlay.result c.mount_overlay.ensures

@@ -1,7 +1,6 @@
 use Rattle.std.proofs.Common.{OnOk, Ok, Err, Result, ap, subst}
 use Rattle.vt_line.specs.Lines.{IsReadingOf}
 use Rattle.vt_line.specs.Versions.{version_of}
-use Rattle.vt_script.proofs.GrammarLemmas.{line_had}
 use Rattle.vt_calls.specs.KernelValue.{kernel_world}
 use Rattle.vt_script.proofs.ReplyLemmas.{call_leaves, direct_leaves, silent_leaves, unread_leaves}
 use Rattle.vt_explain.proofs.explaining.explain.Goals as goal
@@ -13,11 +12,6 @@ always (Err e) p = tt
 so_then : {T E P Q : Type 0} (r : Result T E) → OnOk r P → (P → Q) → OnOk r Q
 so_then (Ok x) p then = then p
 so_then (Err e) p then = tt
-
-pub explain_call-requires : goal.explain_call-requires
-explain_call-requires c =
-    let reading = subst (IsReadingOf (version_of c.args.version) c.args.line.text.now) c.in-Ok-Call.field-0-is c.in-Ok-Call.ensures.reading in
-    line_had (version_of c.args.version) c.args.line.text.now _ _ reading.1
 
 pub returns-in-Ok-Silent : goal.returns-in-Ok-Silent
 returns-in-Ok-Silent c = λ numbers.

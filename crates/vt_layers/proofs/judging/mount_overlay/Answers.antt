@@ -1,16 +1,20 @@
-use Rattle.std.proofs.Common.{Err, ap, nat_eq, sym, ◌∙◌}
+use Rattle.std.proofs.Common.{Err, Ok, ap, map, nat_eq, refl, sym, ◌∙◌}
 use Rattle.std.proofs.lemmas.Result.{err_from_is_err_and}
 use Rattle.vt_spec.specs.declared.errors.Rule.TheVariants.{M2, M9}
-use Rattle.vt_spec.specs.Language.Script.{options_of}
+use Rattle.vt_spec.specs.Language.Calls.Call.{MountOverlay}
 use Rattle.vt_spec.specs.Machine.Judge.{mount_overlay_permit}
 use Rattle.vt_spec.specs.Machine.Permits.Permit.{ToMountOverlay as MeansToMount}
-use Rattle.vt_spec.specs.Machine.Rules.Mounting.{overlay_at}
+use Rattle.vt_spec.specs.Machine.Rules.Mounting.{layer_at, overlay_at}
 use Rattle.vt_cred.specs.MountFlags.{flags_of}
 use Rattle.vt_location.specs.Locations.{location_of}
+use Rattle.vt_request.specs.Requests.{options_named}
 use Rattle.vt_tasks.specs.TaskValue.{task_of}
+use Rattle.vt_rules.proofs.Judged.{no_receivers, refused_before}
 use Rattle.vt_rules.proofs.Rows.{skipped, stopped}
-use Rattle.vt_layers.specs.LayersValue.{layers_of}
-use Rattle.vt_layers.proofs.JudgeLemmas.{denied, left, no_receivers, nowhere, without_capability, without_layers}
+use Rattle.vt_layers.specs.LayersValue.{lowers_alone, lowers_of}
+use Rattle.vt_layers.specs.declared.walks.Lower.{Lower}
+use Rattle.vt_layers.proofs.GrantLemmas.{granted_overlay}
+use Rattle.vt_layers.proofs.JudgeLemmas.{left, no_list, nowhere, without_capability, without_layers}
 use Rattle.vt_layers.proofs.judging.mount_overlay.Goals as goal
 
 pub returns-then-lacks : goal.returns-then-lacks
@@ -18,9 +22,9 @@ returns-then-lacks g c =
     let looks = g.L.Look.looks c.args.world.now in
     let overfills = g.L.LookAtMounts.overfills c.args.world.now in
     let task = task_of c.args.who.now in
-    let options = options_of c.args.options.now in
+    let options = options_named c.args.options.now in
     let flags = flags_of c.args.flags in
-    denied looks task (mount_overlay_permit nat_eq looks overfills task c.args.path.now options flags) _
+    refused_before (MountOverlay c.args.path.now options flags) task (mount_overlay_permit nat_eq looks overfills task c.args.path.now options flags) _
     (without_capability looks task overfills c.args.path.now options flags (sym c.lacks.ensures ∙ c.if-lacks.true)
     ∙ ap Err (sym c.denial.ensures))
 
@@ -29,10 +33,10 @@ returns-in_err-destination g c =
     let looks = g.L.Look.looks c.args.world.now in
     let overfills = g.L.LookAtMounts.overfills c.args.world.now in
     let task = task_of c.args.who.now in
-    let options = options_of c.args.options.now in
+    let options = options_named c.args.options.now in
     let flags = flags_of c.args.flags in
     let p = err_from_is_err_and c.from_residual.result c.from_residual.ensures.1 in
-    rw (p.1, p.2) (denied looks task (mount_overlay_permit nat_eq looks overfills task c.args.path.now options flags) _
+    rw (p.1, p.2) (refused_before (MountOverlay c.args.path.now options flags) task (mount_overlay_permit nat_eq looks overfills task c.args.path.now options flags) _
     (nowhere looks task overfills c.args.path.now options flags _ (sym c.lacks.ensures ∙ c.if-lacks.false)
     c.in_err-destination.ensures))
 
@@ -41,24 +45,24 @@ returns-in_err-layers g c =
     let looks = g.L.Look.looks c.args.world.now in
     let overfills = g.L.LookAtMounts.overfills c.args.world.now in
     let task = task_of c.args.who.now in
-    let options = options_of c.args.options.now in
+    let options = options_named c.args.options.now in
     let flags = flags_of c.args.flags in
     let p = err_from_is_err_and c.from_residual-in_err-layers.result c.from_residual-in_err-layers.ensures.1 in
-    rw (p.1, p.2) (denied looks task (mount_overlay_permit nat_eq looks overfills task c.args.path.now options flags) _
+    rw (p.1, p.2) (refused_before (MountOverlay c.args.path.now options flags) task (mount_overlay_permit nat_eq looks overfills task c.args.path.now options flags) _
     (without_layers looks task overfills c.args.path.now options flags (location_of c.in_ok-destination.destination) _
-    (sym c.lacks.ensures ∙ c.if-lacks.false) c.in_ok-destination.ensures c.in_err-layers.ensures))
+    (sym c.lacks.ensures ∙ c.if-lacks.false) c.in_ok-destination.ensures c.in_err-layers.ensures.err))
 
 pub returns-then-is_elsewhere : goal.returns-then-is_elsewhere
 returns-then-is_elsewhere g c =
     let looks = g.L.Look.looks c.args.world.now in
     let overfills = g.L.LookAtMounts.overfills c.args.world.now in
     let task = task_of c.args.who.now in
-    let options = options_of c.args.options.now in
+    let options = options_named c.args.options.now in
     let flags = flags_of c.args.flags in
-    denied looks task (mount_overlay_permit nat_eq looks overfills task c.args.path.now options flags) _
+    refused_before (MountOverlay c.args.path.now options flags) task (mount_overlay_permit nat_eq looks overfills task c.args.path.now options flags) _
     (left looks task overfills c.args.path.now options flags (location_of c.in_ok-destination.destination)
-    (layers_of c.in_ok-layers.layers) (sym c.lacks.ensures ∙ c.if-lacks.false) c.in_ok-destination.ensures
-    c.in_ok-layers.ensures
+    (lowers_alone (lowers_of c.in_ok-layers.layers.items)) (sym c.lacks.ensures ∙ c.if-lacks.false) c.in_ok-destination.ensures
+    c.in_ok-layers.ensures.ok
     ∙ stopped _ M2 _ _ (sym c.is_elsewhere.ensures ∙ c.if-is_elsewhere.true)
     ∙ ap Err (sym c.denial-then-is_elsewhere.ensures))
 
@@ -67,17 +71,17 @@ returns-in_err-overfills_with_overlay g c =
     let looks = g.L.Look.looks c.args.world.now in
     let overfills = g.L.LookAtMounts.overfills c.args.world.now in
     let task = task_of c.args.who.now in
-    let options = options_of c.args.options.now in
+    let options = options_named c.args.options.now in
     let flags = flags_of c.args.flags in
     let place = location_of c.in_ok-destination.destination in
-    let permit = MeansToMount place (overlay_at looks task (layers_of c.in_ok-layers.layers)) flags in
+    let permit = MeansToMount place (overlay_at looks task (lowers_alone (lowers_of c.in_ok-layers.layers.items))) flags in
     let p = err_from_is_err_and c.from_residual-in_err-overfills_with_overlay.result
     c.from_residual-in_err-overfills_with_overlay.ensures.1 in
-    rw (p.1, p.2) (no_receivers looks task
-    (mount_overlay_permit nat_eq looks overfills task c.args.path.now options flags) (overfills permit) permit _
+    rw (p.1, p.2) (no_receivers (MountOverlay c.args.path.now options flags) task
+    (mount_overlay_permit nat_eq looks overfills task c.args.path.now options flags) (overfills permit) permit _ refl
     (left looks task overfills c.args.path.now options flags place
-    (layers_of c.in_ok-layers.layers) (sym c.lacks.ensures ∙ c.if-lacks.false) c.in_ok-destination.ensures
-    c.in_ok-layers.ensures
+    (lowers_alone (lowers_of c.in_ok-layers.layers.items)) (sym c.lacks.ensures ∙ c.if-lacks.false) c.in_ok-destination.ensures
+    c.in_ok-layers.ensures.ok
     ∙ skipped _ M2 _ _ (sym c.is_elsewhere.ensures ∙ c.if-is_elsewhere.false))
     c.in_err-overfills_with_overlay.ensures.memory)
 
@@ -86,27 +90,52 @@ returns-then-branch g c =
     let looks = g.L.Look.looks c.args.world.now in
     let overfills = g.L.LookAtMounts.overfills c.args.world.now in
     let task = task_of c.args.who.now in
-    let options = options_of c.args.options.now in
+    let options = options_named c.args.options.now in
     let flags = flags_of c.args.flags in
-    let overlay = overlay_at looks task (layers_of c.in_ok-layers.layers) in
-    denied looks task (mount_overlay_permit nat_eq looks overfills task c.args.path.now options flags) _
+    let overlay = overlay_at looks task (lowers_alone (lowers_of c.in_ok-layers.layers.items)) in
+    refused_before (MountOverlay c.args.path.now options flags) task (mount_overlay_permit nat_eq looks overfills task c.args.path.now options flags) _
     (left looks task overfills c.args.path.now options flags (location_of c.in_ok-destination.destination)
-    (layers_of c.in_ok-layers.layers) (sym c.lacks.ensures ∙ c.if-lacks.false) c.in_ok-destination.ensures
-    c.in_ok-layers.ensures
+    (lowers_alone (lowers_of c.in_ok-layers.layers.items)) (sym c.lacks.ensures ∙ c.if-lacks.false) c.in_ok-destination.ensures
+    c.in_ok-layers.ensures.ok
     ∙ skipped _ M2 _ _ (sym c.is_elsewhere.ensures ∙ c.if-is_elsewhere.false)
     ∙ stopped _ M9 _ _ (sym (c.in_ok-overfills_with_overlay.ensures.ok overlay flags) ∙ c.if-branch.true)
     ∙ ap Err (sym c.denial-then-branch.ensures))
+
+pub returns-in_err-lowers : goal.returns-in_err-lowers
+returns-in_err-lowers g c =
+    let looks = g.L.Look.looks c.args.world.now in
+    let overfills = g.L.LookAtMounts.overfills c.args.world.now in
+    let task = task_of c.args.who.now in
+    let options = options_named c.args.options.now in
+    let flags = flags_of c.args.flags in
+    let place = location_of c.in_ok-destination.destination in
+    let overlay = overlay_at looks task (lowers_alone (lowers_of c.in_ok-layers.layers.items)) in
+    let p = err_from_is_err_and c.from_residual-in_err-lowers.result c.from_residual-in_err-lowers.ensures.1 in
+    rw (p.1) (no_list (MountOverlay c.args.path.now options flags) task
+    (mount_overlay_permit nat_eq looks overfills task c.args.path.now options flags)
+    (MeansToMount place overlay flags) _
+    (left looks task overfills c.args.path.now options flags place
+    (lowers_alone (lowers_of c.in_ok-layers.layers.items)) (sym c.lacks.ensures ∙ c.if-lacks.false) c.in_ok-destination.ensures
+    c.in_ok-layers.ensures.ok
+    ∙ skipped _ M2 _ _ (sym c.is_elsewhere.ensures ∙ c.if-is_elsewhere.false)
+    ∙ skipped _ M9 _ _ (sym (c.in_ok-overfills_with_overlay.ensures.ok overlay flags) ∙ c.if-branch.false))
+    p.2)
 
 pub returns : goal.returns
 returns g c =
     let looks = g.L.Look.looks c.args.world.now in
     let overfills = g.L.LookAtMounts.overfills c.args.world.now in
     let task = task_of c.args.who.now in
-    let options = options_of c.args.options.now in
+    let options = options_named c.args.options.now in
     let flags = flags_of c.args.flags in
-    let overlay = overlay_at looks task (layers_of c.in_ok-layers.layers) in
-    left looks task overfills c.args.path.now options flags (location_of c.in_ok-destination.destination)
-    (layers_of c.in_ok-layers.layers) (sym c.lacks.ensures ∙ c.if-lacks.false) c.in_ok-destination.ensures
-    c.in_ok-layers.ensures
+    let place = location_of c.in_ok-destination.destination in
+    let lowers = c.in_ok-layers.layers.items in
+    let overlay = overlay_at looks task (lowers_alone (lowers_of lowers)) in
+    left looks task overfills c.args.path.now options flags place
+    (lowers_alone (lowers_of lowers)) (sym c.lacks.ensures ∙ c.if-lacks.false) c.in_ok-destination.ensures
+    c.in_ok-layers.ensures.ok
     ∙ skipped _ M2 _ _ (sym c.is_elsewhere.ensures ∙ c.if-is_elsewhere.false)
     ∙ skipped _ M9 _ _ (sym (c.in_ok-overfills_with_overlay.ensures.ok overlay flags) ∙ c.if-branch.false)
+    ∙ ap (λ overlay. Ok (MeansToMount place overlay flags))
+    (granted_overlay looks task lowers _
+    (c.in_ok-lowers.ensures ∙ ap (map (λ (lower : Lower). layer_at looks (location_of lower.at))) c.as_slice.ensures.value))

@@ -1,5 +1,5 @@
 use Rattle.std.proofs.Common.{◌≡◌, ◌∷◌, ◌<◌, Err, length, option_map, sym, ap, ◌∙◌, subst, rules}
-use Rattle.vt_spec.specs.Language.Script.{asked_by, marks, task_word}
+use Rattle.vt_spec.specs.Language.Script.{asked_by, overlays, task_word}
 use Rattle.vt_spec.specs.Language.Script.Request.{Calling}
 use Rattle.vt_spec.specs.Language.Script.Who.{Someone}
 use Rattle.vt_request.specs.Requests.{call_of}
@@ -18,7 +18,7 @@ returns-in_err-call c =
     let call = call_named (version_of c.args.version) c.in-Some.name words in
     let named = some_from_is_some (task_word task) (sym c.is_task.ensures ∙ c.if-not-is_task.false) in
     let asked = task-named (version_of c.args.version) task name words named.0 c.in-Some.name named.1 c.in-Some.ensures.named in
-    let all = asked_by (marks (version_of c.args.version)) (option_map Someone (task_word task)) (name ∷ words) in
+    let all = asked_by (overlays (version_of c.args.version)) (option_map Someone (task_word task)) (name ∷ words) in
     let error : c.from_residual.result ≡ Err c.in_err-call.field-0.0 = search rules in
     subst (IsRequestRead all) (sym error)
     (request-refused all named.0 call c.in_err-call.field-0.0 asked c.in_err-call.ensures)
@@ -31,7 +31,7 @@ returns-in_err-task c =
     let call = call_named (version_of c.args.version) c.in-Some.name words in
     let named = some_from_is_some (task_word task) (sym c.is_task.ensures ∙ c.if-not-is_task.false) in
     let asked = task-named (version_of c.args.version) task name words named.0 c.in-Some.name named.1 c.in-Some.ensures.named in
-    let all = asked_by (marks (version_of c.args.version)) (option_map Someone (task_word task)) (name ∷ words) in
+    let all = asked_by (overlays (version_of c.args.version)) (option_map Someone (task_word task)) (name ∷ words) in
     let error : c.from_residual-in_err-task.result ≡ Err Memory = search rules in
     let long = if_some (λ name. 8 < length name) (task_word task) named.0 named.1 c.in_err-task.ensures.memory in
     subst (IsRequestRead all) (sym error)

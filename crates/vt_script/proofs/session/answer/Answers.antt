@@ -1,13 +1,12 @@
 use Rattle.std.proofs.Common.{◌≡◌, ◌⊎◌, ◌<◌, length, None, ap, sym, subst, ◌∙◌, IsSomeAnd, Ok, Err}
 use Rattle.vt_spec.specs.Language.Printed.{reply_line}
-use Rattle.vt_spec.specs.Language.Script.{marks, request_of}
+use Rattle.vt_spec.specs.Language.Script.{overlays, request_of}
 use Rattle.vt_io.specs.Sink.{Prints}
 use Rattle.vt_spec.specs.Language.Limits.{longest_line}
 use Rattle.vt_line.specs.Calls.{TakesMemory}
 use Rattle.vt_line.specs.Lines.{IsSilent, IsSpoken, IsReadingOf}
 use Rattle.vt_line.specs.Versions.{version_of}
 use Rattle.vt_script.proofs.ReplyLemmas.{kept_whole, replied_silent, replies_call, replies_direct, replies_too_long, replies_unread}
-use Rattle.vt_script.proofs.GrammarLemmas.{line_had}
 use Rattle.vt_script.proofs.session.answer.Goals as goal
 
 pub returns-then-is_overlong-clause-replies : goal.returns-then-is_overlong-clause-replies
@@ -45,18 +44,13 @@ returns-in-Ok-Ask-clause-replies g c = λ text held numbers.
     c.direct-answer.result _ _ numbers asks.0 asks.1 c.direct-answer.ensures.ok
     c.direct-answer.ensures.memory c.write_reply-in-Ok-Ask.ensures.printed
 
-pub call-answer-requires : goal.call-answer-requires
-call-answer-requires g c =
-    let reading = subst (IsReadingOf (version_of c.args.version) c.bytes.result.now) c.in-Ok-Call.field-0-is c.in-Ok-Call.ensures.reading in
-    line_had (version_of c.args.version) c.bytes.result.now _ _ reading.1
-
 pub returns-in-Err-clause-replies : goal.returns-in-Err-clause-replies
 returns-in-Err-clause-replies g c = λ text held numbers.
     let whole : c.bytes.result.now ≡ text = c.bytes.ensures
     ∙ kept_whole text c.args.line.now held (sym c.is_overlong.ensures ∙ c.if-is_overlong.false) in
     replies_unread (version_of c.args.version) g.W.Sink c.write_reply-in-Err.result (g.C.Calls.world c.args.world.now) text c.args.number c.in-Err.deny _ _ numbers c.in-Err.ensures.refused
-    (λ is. subst (λ l. (longest_line < length l) ⊎ (IsSpoken l × (request_of (marks (version_of c.args.version)) l ≡ None))) whole
+    (λ is. subst (λ l. (longest_line < length l) ⊎ (IsSpoken l × (request_of (overlays (version_of c.args.version)) l ≡ None))) whole
     (c.in-Err.ensures.no_request.0 (ap Err is)))
-    (λ is. subst (λ l. IsSpoken l × IsSomeAnd (request_of (marks (version_of c.args.version)) l) TakesMemory) whole
+    (λ is. subst (λ l. IsSpoken l × IsSomeAnd (request_of (overlays (version_of c.args.version)) l) TakesMemory) whole
     (c.in-Err.ensures.no_memory (ap Err is)))
     c.write_reply-in-Err.ensures.printed

@@ -1,4 +1,4 @@
-use Rattle.std.proofs.Common.{arith, ap, drop, false, is_some, length, map, nat_eq, option_copied, rules, Some, sym, true, ◌+◌, ◌<◌, ◌||◌, ◌∙◌, ◌≡◌}
+use Rattle.std.proofs.Common.{arith, ap, drop, false, is_some, map, option_copied, rules, sym, true, ◌+◌, ◌<◌, ◌||◌, ◌∙◌, ◌≡◌}
 use Rattle.std.specs.List.{list_any}
 use Rattle.std.specs.Prelude.{count_by}
 use Rattle.vt_fs.specs.FilesystemsValue.{files_at, filled_from}

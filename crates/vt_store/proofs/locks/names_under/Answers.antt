@@ -1,13 +1,13 @@
-use Rattle.std.proofs.Common.{arith, ap, false, is_some, nat_eq, option_copied, option_map, rules, Some, None, subst, sym, true, ◌<◌, ◌&&◌, ◌∙◌, ◌≡◌}
+use Rattle.std.proofs.Common.{arith, ap, false, is_some, nat_eq, option_copied, option_map, rules, Some, subst, sym, true, ◌<◌, ◌&&◌, ◌∙◌, ◌≡◌}
 use Rattle.vt_fs.specs.FilesystemsValue.{files_at, node_seen}
 use Rattle.vt_fs.specs.Laws.{ParentsAreNamed}
 use Rattle.vt_location.specs.declared.locations.NodeRef.{NodeRef}
 use Rattle.vt_location.specs.declared.numbers.FilesystemId.{FilesystemId}
 use Rattle.vt_location.specs.Locations.{inode_of}
 use Rattle.vt_node.specs.Ranks.{name_ranked}
-use Rattle.vt_spec.specs.FileTree.{has_entry_to, is_directory_under}
+use Rattle.vt_spec.specs.FileTree.{is_directory_under}
 use Rattle.vt_spec.specs.Tree.{entries_of}
-use Rattle.vt_store.proofs.Locked.{has_name, none_has_name}
+use Rattle.vt_store.proofs.Locked.{has_name}
 use Rattle.vt_store.proofs.locks.names_under.Goals as goal
 
 pub is_under-requires-clause-named : goal.is_under-requires-clause-named
@@ -28,7 +28,8 @@ returns-then-is_some c =
     ∙ c.node.ensures
     ∙ (λ i. (files_at plain (in_one i).count).tree.node (c.node_ref.ensures.number i)) in
     let some : is_some (name_ranked (entries_of c.in-Some.node.now.content) c.args.file.slot 0) ≡ true = search rules in
-    let small : c.args.file.slot < 18446744073709551616 = let h = c.node-in-Some.type_inv in let e = c.node-in-Some.ensures in omega (arith, h, e) in
+    let small : c.args.file.slot < 18446744073709551616 =
+        let h = c.node-in-Some.type_inv in let e = c.node-in-Some.ensures in omega (arith, h, e) in
     let named = sym (has_name count (files_at plain count).tree (inode_of c.args.directory) c.in-Some.node.now
     c.args.file.slot small there) ∙ some in
     let top_in_one = ap (λ (n : NodeRef). n.filesystem) c.node_ref-then-is_some.ensures.value
@@ -50,7 +51,8 @@ returns-else-is_some c =
     ∙ c.node.ensures
     ∙ (λ i. (files_at plain (in_one i).count).tree.node (c.node_ref.ensures.number i)) in
     let some : is_some (name_ranked (entries_of c.in-Some.node.now.content) c.args.file.slot 0) ≡ false = search rules in
-    let small : c.args.file.slot < 18446744073709551616 = let h = c.node-in-Some.type_inv in let e = c.node-in-Some.ensures in omega (arith, h, e) in
+    let small : c.args.file.slot < 18446744073709551616 =
+        let h = c.node-in-Some.type_inv in let e = c.node-in-Some.ensures in omega (arith, h, e) in
     let named = sym (has_name count (files_at plain count).tree (inode_of c.args.directory) c.in-Some.node.now
     c.args.file.slot small there) ∙ some in
     c.if-is_some.false

@@ -1,0 +1,143 @@
+-- A grant that mounts no overlay is given to no call that does, and no call of code names an upper layer.
+use Rattle.std.proofs.Common.{◌≡◌, ap, false, nat_eq, refl, subst, true, ◌∙◌, ℕ, Bool, List, [], ◌∷◌, Result, Ok, Err, Option, None, Some}
+use Rattle.vt_spec.specs.declared.errors.Deny.{Deny}
+use Rattle.vt_spec.specs.Errors.{Rules, and_then, unless}
+use Rattle.vt_spec.specs.Language.Calls as spec
+use Rattle.vt_spec.specs.Language.Calls.{MountFlags, OverlayWords}
+use Rattle.vt_spec.specs.Language.Calls.Call.{MountOverlay}
+use Rattle.vt_spec.specs.Language.Script.{known_options, names_no_upper, options_of}
+use Rattle.vt_spec.specs.Lists.{Fresh, when}
+use Rattle.vt_spec.specs.Machine.Judge.{Judgement, judge, judge_in, mount_overlay_permit, overlay_permit_by}
+use Rattle.vt_spec.specs.Machine.Apply.{overfills}
+use Rattle.vt_spec.specs.Machine.Looks.{Looks, looks_of}
+use Rattle.vt_spec.specs.Machine.Mounts.{Location}
+use Rattle.vt_spec.specs.Machine.Permits.{Permit}
+use Rattle.vt_spec.specs.Machine.Permits.Permit.{ToMountOverlay}
+use Rattle.vt_spec.specs.Machine.Rules.Mounting.{LayerLocations, admin_rules, destination_walk, layer_rules, layers_walked, new_mount_rules, overlay_at}
+use Rattle.vt_spec.specs.Machine.Walking.{walk_end}
+use Rattle.vt_spec.specs.Machine.World.{Task, World}
+use Rattle.vt_laws_trees.specs.Trees.Calls.{mounts_overlay}
+use Rattle.vt_cred.specs.MountFlags.{flags_of}
+use Rattle.vt_permits.specs.GrantValue.{permit_of}
+use Rattle.vt_permits.specs.declared.grant.Attachment.TheVariants as attachment
+use Rattle.vt_permits.specs.declared.grant.DescriptorGrant.TheVariants as descriptor
+use Rattle.vt_permits.specs.declared.grant.Grant.{Grant}
+use Rattle.vt_permits.specs.declared.grant.Grant.TheVariants as granted
+use Rattle.vt_permits.specs.declared.grant.LookGrant.TheVariants as look
+use Rattle.vt_permits.specs.declared.grant.MakeGrant.TheVariants as make
+use Rattle.vt_permits.specs.declared.grant.MountGrant.TheVariants as mount
+use Rattle.vt_permits.specs.declared.grant.RemoveGrant.TheVariants as remove
+use Rattle.vt_permits.specs.declared.grant.TaskGrant.TheVariants as task
+use Rattle.vt_permits.specs.declared.grant.WriteGrant.TheVariants as write
+use Rattle.vt_request.specs.Requests.{call_of}
+use Rattle.vt_request.specs.declared.request.Call.{Call}
+use Rattle.vt_request.specs.declared.request.Call.TheVariants as call
+use Rattle.vt_request.specs.declared.request.DescriptorCall.TheVariants as descriptor_call
+use Rattle.vt_request.specs.declared.request.LookCall.TheVariants as look_call
+use Rattle.vt_request.specs.declared.request.MakeCall.TheVariants as make_call
+use Rattle.vt_request.specs.declared.request.MountCall.TheVariants as mount_call
+use Rattle.vt_request.specs.declared.request.RemoveCall.TheVariants as remove_call
+use Rattle.vt_request.specs.declared.request.TaskCall.TheVariants as task_call
+use Rattle.vt_request.specs.declared.request.WriteCall.TheVariants as write_call
+
+-- the permit is to mount an overlay
+abbrev pub merges : Permit ℕ → Bool
+merges (ToMountOverlay destination overlay flags) = true
+merges permit = false
+
+-- if a call is permitted, it is permitted to mount an overlay
+abbrev Merging : Judgement ℕ → Type 0
+Merging (Ok permit) = merges permit ≡ true
+Merging (Err deny) = Unit {0}
+
+unless_merging : (rows : Rules) (judged : Judgement ℕ) → Merging judged → Merging (unless rows judged)
+unless_merging [] judged merging = merging
+unless_merging ((true, rule) ∷ rows) judged merging = tt
+unless_merging ((false, rule) ∷ rows) judged merging = unless_merging rows judged merging
+
+then_merging : {A : Type 0} (found : Result A Deny) (next : A → Judgement ℕ) → ((a : A) → Merging (next a))
+    → Merging (and_then found next)
+then_merging (Ok a) next merging = merging a
+then_merging (Err deny) next merging = tt
+
+module _ (looks : Looks ℕ) (overfills : Permit ℕ → Bool) (who : Task ℕ) where
+  by_options : (place : Location ℕ) (options : Option OverlayWords) (flags : MountFlags)
+      → Merging (overlay_permit_by nat_eq looks overfills who place options flags)
+  by_options place None flags = tt
+  by_options place (Some words) flags =
+      then_merging (layers_walked nat_eq looks who words)
+      (λ layers. unless (layer_rules nat_eq looks layers (overlay_at looks who layers)) (asked layers))
+      (λ layers. unless_merging (layer_rules nat_eq looks layers (overlay_at looks who layers)) (asked layers)
+      (unless_merging (new_mount_rules nat_eq looks who place (overfills (permit layers))) (Ok (permit layers)) refl))
+    where
+      permit : LayerLocations ℕ → Permit ℕ
+      permit layers = ToMountOverlay place (overlay_at looks who layers) flags
+
+      asked : LayerLocations ℕ → Judgement ℕ
+      asked layers = unless (new_mount_rules nat_eq looks who place (overfills (permit layers))) (Ok (permit layers))
+
+  mounting_merges : (path : List ℕ) (options : Option OverlayWords) (flags : MountFlags)
+      → Merging (mount_overlay_permit nat_eq looks overfills who path options flags)
+  unfolding mount_overlay_permit
+  mounting_merges path options flags =
+      unless_merging (admin_rules who)
+      (and_then (walk_end (destination_walk nat_eq looks who path))
+      (λ here. overlay_permit_by nat_eq looks overfills who here.location options flags))
+      (then_merging (walk_end (destination_walk nat_eq looks who path))
+      (λ here. overlay_permit_by nat_eq looks overfills who here.location options flags)
+      (λ here. by_options here.location options flags))
+
+  permit_merges : (asked : spec.Call) (permit : Permit ℕ) → judge nat_eq looks overfills who asked ≡ Ok permit
+      → merges permit ≡ false → mounts_overlay asked ≡ false
+  permit_merges (MountOverlay path options flags) permit is plain =
+      let merging : merges permit ≡ true = subst Merging is (mounting_merges path options flags) in absurd cc
+  permit_merges asked permit is plain = refl
+
+-- the grant is to mount an overlay
+abbrev pub mounts_layers : Grant → Bool
+mounts_layers (granted.Overlay new) = true
+mounts_layers grant = false
+
+other_grant : (who : Task ℕ) (grant : Grant) → mounts_layers grant ≡ false → merges (permit_of who grant) ≡ false
+other_grant who (granted.Overlay new) plain = absurd cc
+other_grant who (granted.Look look.Nothing) plain = refl
+other_grant who (granted.Make (make.Node new)) plain = refl
+other_grant who (granted.Remove (remove.Unlink gone)) plain = refl
+other_grant who (granted.Write (write.Part part)) plain = refl
+other_grant who (granted.Descriptor (descriptor.Close number)) plain = refl
+other_grant who (granted.Task task.Exit) plain = refl
+other_grant who (granted.Mount (mount.Attach (attachment.Bind bind))) plain = refl
+other_grant who grant plain = refl
+
+-- so the call mounts none
+pub granted_plain : (fresh : Fresh ℕ) (world : World ℕ) (who : Task ℕ) (asked : spec.Call) (grant : Grant)
+    → judge_in nat_eq fresh world who asked ≡ Ok (permit_of who grant) → mounts_layers grant ≡ false
+    → mounts_overlay asked ≡ false
+granted_plain fresh world who asked grant is plain =
+    permit_merges (looks_of nat_eq world) (overfills nat_eq fresh world who) who asked (permit_of who grant) is
+    (other_grant who grant plain)
+
+-- a call names no upper layer
+abbrev pub names_lowers_alone : spec.Call → Bool
+names_lowers_alone (MountOverlay path (Some words) flags) = names_no_upper words
+names_lowers_alone asked = true
+
+pub calls_name_lowers_alone : (asked : Call) → names_lowers_alone (call_of asked) ≡ true
+calls_name_lowers_alone (call.Mount (mount_call.Overlay path options flags)) = by (options_of options.items) where
+  by_upper : (words : OverlayWords) (there : Bool) → names_no_upper words ≡ there
+      → names_lowers_alone (MountOverlay path.items (when there words) (flags_of flags)) ≡ true
+  by_upper words true is = is
+  by_upper words false is = refl
+
+  by : (named : Option OverlayWords)
+      → names_lowers_alone (MountOverlay path.items (known_options names_no_upper named) (flags_of flags)) ≡ true
+  by None = refl
+  by (Some words) = by_upper words (names_no_upper words) refl
+calls_name_lowers_alone (call.Mount (mount_call.Umount path)) = refl
+calls_name_lowers_alone (call.Look (look_call.Ls path)) = refl
+calls_name_lowers_alone (call.Make (make_call.Mkdir path mode)) = refl
+calls_name_lowers_alone (call.Remove (remove_call.Unlink path)) = refl
+calls_name_lowers_alone (call.Write (write_call.Write path bytes)) = refl
+calls_name_lowers_alone (call.Descriptor (descriptor_call.Close number)) = refl
+calls_name_lowers_alone (call.Task task_call.Exit) = refl
+calls_name_lowers_alone asked = refl

@@ -1,0 +1,49 @@
+-- What the mount of an overlay is handed serves, and may be given: counts, and even numbers for its inodes.
+use Rattle.std.proofs.Common.{◌≡◌, ap, ℕ, ◌==◌, ◌%◌, ◌≤◌, Bool, true, false, cond, not, List, [], ◌∷◌, length, arith, eqb-true, ne_eqb}
+use Rattle.std.specs.List.{list_all}
+use Rattle.std.proofs.lemmas.Bool.{and_parts}
+use Rattle.vt_spec.specs.Language.Calls.{MountFlags}
+use Rattle.vt_spec.specs.Machine.Mounts.{Location}
+use Rattle.vt_spec.specs.Machine.NewMounts.{inode_count}
+use Rattle.vt_spec.specs.Machine.Permits.Permit.{ToMountOverlay}
+use Rattle.vt_spec.specs.Machine.World.{Overlay}
+use Rattle.vt_laws_given.specs.NumbersHanded.{Placed, handed_at}
+use Rattle.vt_laws_overlays_made.specs.Made.{IsNew, placed_inodes}
+use Rattle.vt_laws_overlays_made.proofs.making.Serves.{births_apart, supplies_for_overlays_serve}
+use Rattle.vt_laws_rules.specs.Numbers.{IsSuppliedFrom}
+use Rattle.vt_laws_runs.specs.Handed.{counts_from, may_be_given}
+use Rattle.vt_overlay.specs.MergedTree.{AreLayers}
+use Rattle.vt_detach.specs.Events.{overlay_kept}
+use Rattle.vt_world.specs.Held.{IsHeld}
+use Rattle.vt_world.specs.WorldValue.{WorldValue, world_of}
+use Rattle.vt_calls.proofs.NumbersLeft.{counts_given}
+use Rattle.vt_calls.proofs.Supplies.{AreVacant}
+
+-- even numbers in place of some counts may be given
+placed_given : (next : ℕ) (all : List Placed) → list_all (λ (placed : Placed). placed.1 % 2 == 0) all ≡ true
+    → IsSuppliedFrom may_be_given (handed_at next all)
+placed_given next [] even k = counts_given next k
+placed_given next (placed ∷ rest) even k = by (k == placed.0) (placed_given next rest parts.1 k)
+  where
+    parts : ((placed.1 % 2 == 0) ≡ true) × (list_all (λ (one : Placed). one.1 % 2 == 0) rest ≡ true)
+    parts = and_parts (placed.1 % 2 == 0) (list_all (λ (one : Placed). one.1 % 2 == 0) rest) even
+
+    by : (b : Bool) → may_be_given (handed_at next rest k) ≡ true
+        → may_be_given (cond b placed.1 (handed_at next rest k)) ≡ true
+    by true later =
+        let half : placed.1 % 2 ≡ 0 = eqb-true (placed.1 % 2) 0 parts.0 in
+        ap not (ne_eqb (placed.1 % 4) 3 (λ e. absurd (omega (arith, half, e))))
+    by false later = later
+
+-- The supply of a permit to mount an overlay of layers that are kept serves, where nothing has the numbers of its inodes.
+pub overlay_is_vacant : (value : WorldValue) → IsHeld value → (place : Location ℕ) (overlay : Overlay ℕ)
+    (flags : MountFlags) → AreLayers value.filesystems (overlay_kept value.next overlay).lowers
+    → length (overlay_kept value.next overlay).lowers ≤ 128 → IsNew (world_of value) (record { count = value.next })
+    → AreVacant value (ToMountOverlay place overlay flags)
+overlay_is_vacant value held place overlay flags are few new =
+    let most = inode_count (world_of value) in
+    let kept = overlay_kept value.next overlay in (
+      supplies_for_overlays_serve most value.filesystems kept (world_of value) held.in_world are few new,
+      placed_given value.next (placed_inodes most value.filesystems kept)
+          (births_apart most value.filesystems kept are few).0,
+    )

@@ -1,0 +1,2 @@
+-- What the proofs of src/granted.rt use.
+pub mod Mounts

@@ -1,0 +1,143 @@
+-- The event that mounts an overlay: what its permit names, and what is kept of it.
+use Rattle.std.proofs.Common.{◌≡◌, ◌<◌, ◌∙◌, refl, sym, ap, subst, true, true≢false, not, nat_lt, lt-ltb, ◌&&◌, ◌/◌, List, [], ◌∷◌, length, map, Some, arith}
+use Rattle.std.specs.Prelude.{All, nat_le, slice_get}
+use Rattle.std.specs.List.{list_all}
+use Rattle.std.proofs.lemmas.Bool.{and_parts}
+use Rattle.std.proofs.lemmas.List.{length-map}
+use Rattle.vt_spec.specs.Language.Calls.{TaskName}
+use Rattle.vt_spec.specs.Language.Limits.{most_lowers}
+use Rattle.vt_spec.specs.Lists.{is_empty_list}
+use Rattle.vt_spec.specs.Rights.{Credentials}
+use Rattle.vt_spec.proofs.Lists.{map_twice}
+use Rattle.vt_cred.specs.MountFlags.{flags_of}
+use Rattle.vt_laws_letting_go.proofs.Lists.{Among, all_from_among, all_pass, among-map}
+use Rattle.vt_laws_overlays_granted.specs.Granted.{MayBeMounted}
+use Rattle.vt_laws_overlays_granted.proofs.granted.Mounts.{given_overlays_may_be_mounted}
+use Rattle.vt_location.specs.Locations.{location_of, number_of}
+use Rattle.vt_location.specs.Numbers.{counted, exchanged, inode_number, is_own_number}
+use Rattle.vt_location.proofs.NodeLemmas.{here_number, own_birth, own_count}
+use Rattle.vt_location.proofs.NumberLemmas.{counted_same, exchanged_number}
+use Rattle.vt_merge.specs.declared.layers.LayerRef.{LayerRef}
+use Rattle.vt_overlay.specs.MergedTree.{AreLayers, OverlayValue, merged_tree}
+use Rattle.vt_overlay.proofs.RootFound.{root_number_is}
+use Rattle.vt_permits.specs.GrantValue.{layer_of, overlay_of, overlay_permit}
+use Rattle.vt_permits.specs.declared.grant.LowerLayer.{LowerLayer}
+use Rattle.vt_permits.specs.declared.grant.ToMountOverlay.{ToMountOverlay}
+use Rattle.vt_propagate.specs.Seen.{is_mounted}
+use Rattle.vt_store.specs.OverlaysValue as stored
+use Rattle.vt_store.specs.StoreValue.{StoreValue}
+use Rattle.vt_detach.specs.Events.{layer_kept, overlay_kept, supply_of}
+use Rattle.vt_world.specs.Held.{IsHeld}
+use Rattle.vt_world.specs.StoredWorld.{overlay_of_store, overlays_of_store, with_store}
+use Rattle.vt_world.specs.WorldValue.{WorldValue, overlay_seen, world_of}
+use Rattle.vt_detach.proofs.FilesSeen.{IsSeenIn}
+use Rattle.vt_detach.proofs.OverlayGranted.{kept_layers, layer_in}
+use Rattle.vt_detach.proofs.PlainFound.{overlay_among}
+use Rattle.vt_attach.proofs.NewFilesystems.{number_below}
+use Rattle.vt_ns.specs.OverlayMounts.{IsPlainLayer, PermitsOverlay}
+use Rattle.vt_ns.proofs.world.BoundEvents.{place_mounted}
+
+-- a layer of a plain filesystem is kept by its slot
+abbrev pub kept_by_slot : LowerLayer → LayerRef
+kept_by_slot lower = record { directory = record { filesystem = lower.filesystem; slot = lower.directory.slot } }
+
+pub kept_as_it_is : (lower : LowerLayer) → lower.directory.slot < 18446744073709551616 → IsPlainLayer lower
+    → kept_by_slot lower ≡ layer_kept (layer_of lower)
+kept_as_it_is lower small plain =
+    λ i. record { directory = record { filesystem = record { count = sym count i }; slot = sym slot i } }
+  where
+    count : counted lower.filesystem.count / 4 ≡ lower.filesystem.count
+    count = omega arith
+
+    born : number_of lower.directory ≡ inode_number lower.filesystem.count lower.directory.slot
+    born =
+        here_number lower.directory (own_birth lower.filesystem.count lower.directory small plain)
+        ∙ ap (λ n. inode_number n lower.directory.slot)
+        (sym (own_count lower.filesystem.count lower.directory small plain))
+
+    slot : exchanged (counted lower.filesystem.count / 4) (number_of lower.directory) ≡ lower.directory.slot
+    slot =
+        ap (λ n. exchanged n (number_of lower.directory)) count
+        ∙ ap (exchanged lower.filesystem.count) born
+        ∙ exchanged_number lower.filesystem.count lower.directory.slot small
+
+-- all overlays have lower counts than the next one
+pub overlays_below : (base : WorldValue) (store : StoreValue) → IsHeld (with_store store base)
+    → list_all (λ (entry : stored.OverlayEntry). nat_lt entry.count base.next) store.overlays ≡ true
+overlays_below base store whole =
+    all_pass (λ (entry : stored.OverlayEntry). nat_lt entry.count base.next) store.overlays (λ entry m.
+    let seen = overlay_seen (overlay_of_store store.plain entry) in
+    let low = number_below (with_store store base) whole seen (overlay_among (with_store store base) whole.overlays seen
+    (among-map overlay_seen (overlays_of_store store) (overlay_of_store store.plain entry)
+    (among-map (overlay_of_store store.plain) store.overlays entry m))).0 in
+    lt-ltb entry.count base.next (omega (arith, low)))
+
+module _ (value : WorldValue) (whole : IsHeld value) (name : TaskName) (new : ToMountOverlay)
+    (permits : PermitsOverlay value name new) where
+  may : MayBeMounted (world_of value) (supply_of value (overlay_permit permits.task new)) permits.task
+      (location_of new.destination) (overlay_of permits.task new) (flags_of new.flags)
+  may =
+      given_overlays_may_be_mounted (world_of value) (supply_of value (overlay_permit permits.task new)) permits.task
+      (location_of new.destination) (overlay_of permits.task new) (flags_of new.flags) whole.in_world permits.given
+
+  -- the destination is on a mount that is there
+  pub destination_mounted : is_mounted value.mounts (counted new.destination.mount.count) ≡ true
+  destination_mounted = place_mounted value new.destination may.destination.directory.reached.there
+
+  -- the layers are inodes of plain filesystems,
+  pub layers_are_plain : All IsPlainLayer new.lowers.items
+  layers_are_plain = all_from_among IsPlainLayer new.lowers.items plain
+    where
+      plain : (lower : LowerLayer) → Among lower new.lowers.items → IsPlainLayer lower
+      plain lower m =
+          let is_in : IsSeenIn value.filesystems (counted lower.filesystem.count) (number_of lower.directory) =
+          layer_in value whole (overlay_of permits.task new) refl may.layers (layer_of lower)
+          (among-map layer_of new.lowers.items lower m) in
+          subst (λ count. is_own_number count (number_of lower.directory) ≡ true)
+          (sym (counted_same lower.filesystem.count is_in.entry.count is_in.number_is)) is_in.own
+
+  -- one at least
+  pub some_layer : 0 < length new.lowers.items
+  some_layer = by new.lowers.items (and_parts (not (is_empty_list (overlay_of permits.task new).lowers))
+      (nat_le (length (overlay_of permits.task new).lowers) most_lowers) (and_parts
+      (not (is_empty_list (overlay_of permits.task new).lowers)
+      && nat_le (length (overlay_of permits.task new).lowers) most_lowers) _ may.fit).0).0
+    where
+      by : (lowers : List LowerLayer) → not (is_empty_list (map layer_of lowers)) ≡ true → 0 < length lowers
+      by [] e = absurd (true≢false (sym e))
+      by (lower ∷ lowers) e = omega arith
+
+  -- What is kept of it
+  module _ (lowers : List LayerRef)
+      (lowers_are : lowers ≡ map (λ lower. layer_kept (layer_of lower)) new.lowers.items)
+      (mounter : Credentials) (mounter_is : mounter ≡ permits.task.credentials) where
+    abbrev pub kept_so : OverlayValue
+    kept_so = record { number = record { count = value.next }; lowers = lowers; mounter = mounter }
+
+    lowers_again : lowers ≡ map layer_kept (map layer_of new.lowers.items)
+    lowers_again = lowers_are ∙ sym (map_twice layer_kept layer_of new.lowers.items)
+
+    pub kept_is_overlay : kept_so ≡ overlay_kept value.next (overlay_of permits.task new)
+    kept_is_overlay = λ i. record {
+      number = record { count = value.next };
+      lowers = lowers_again i;
+      mounter = mounter_is i;
+    }
+
+    pub layers_are_kept : AreLayers value.filesystems lowers
+    layers_are_kept =
+        subst (AreLayers value.filesystems) (sym lowers_again)
+        (kept_layers value whole (overlay_of permits.task new) refl may.layers).0
+
+    pub some_kept : 0 < length lowers
+    some_kept =
+        let many = ap length lowers_are in
+        let as_many = length-map new.lowers.items (λ lower. layer_kept (layer_of lower)) in
+        let some = some_layer in omega (arith, many, as_many, some)
+
+    -- its root is the directory of its highest layer
+    pub root_is_top : (top : LayerRef) → slice_get lowers 0 ≡ Some top → top.directory.slot < 18446744073709551616
+        → inode_number value.next top.directory.slot ≡ (merged_tree value.filesystems kept_so).root
+    root_is_top top first small =
+        root_number_is value.filesystems kept_so layers_are_kept top first
+        (exchanged_number top.directory.filesystem.count top.directory.slot small)

@@ -1,0 +1,114 @@
+-- The event that mounts an overlay, as code does it: what it attaches, and the world that it leaves.
+use Rattle.std.proofs.Common.{◌≡◌, ◌<◌, ◌∙◌, refl, sym, ap, subst, ℕ, nat_eq, true, false, ◌+◌, ◌*◌, ◌%◌, ◌==◌, List, [], ◌∷◌, ◌++◌, length, map, Some}
+use Rattle.std.specs.Prelude.{slice_get}
+use Rattle.std.specs.List.{list_all}
+use Rattle.std.proofs.lemmas.Option.{same_Some}
+use Rattle.vt_spec.specs.Language.Calls.{TaskName}
+use Rattle.vt_spec.specs.Machine.Attach.{parts_of}
+use Rattle.vt_spec.specs.Machine.Mounts as meant
+use Rattle.vt_spec.specs.Machine.NewMounts.{new_mount}
+use Rattle.vt_spec.specs.Machine.Permits.Permit.{ToMountOverlay as MeansToMerge}
+use Rattle.vt_spec.specs.Machine.SameWorlds.{SameWorlds}
+use Rattle.vt_spec.specs.Machine.World.{Task}
+use Rattle.vt_spec.specs.Rights.{Credentials}
+use Rattle.vt_cred.specs.MountFlags.{flags_of}
+use Rattle.vt_group.specs.Grouping.{Grouping}
+use Rattle.vt_laws_given.specs.LeftWorlds.{IsGivenToTask}
+use Rattle.vt_location.specs.declared.locations.Location.{Location}
+use Rattle.vt_location.specs.declared.mounts.Mount.{Mount}
+use Rattle.vt_location.specs.Locations.{location_of}
+use Rattle.vt_location.specs.MountValue.{mount_of}
+use Rattle.vt_location.specs.Numbers.{counted, inode_number}
+use Rattle.vt_merge.specs.declared.layers.LayerRef.{LayerRef}
+use Rattle.vt_mount.specs.MountsValue.{MountEntry, are_ascending, mounts_in}
+use Rattle.vt_permits.specs.GrantValue.{layer_of, overlay_of, overlay_permit}
+use Rattle.vt_permits.specs.declared.grant.ToMountOverlay.{ToMountOverlay}
+use Rattle.vt_propagate.specs.declared.copying.Counts.{Counts}
+use Rattle.vt_propagate.specs.declared.copying.Graft.{Graft}
+use Rattle.vt_store.specs.LayersHeld.{new_overlay}
+use Rattle.vt_store.specs.OverlaysValue.{OverlayEntry}
+use Rattle.vt_store.specs.StoreValue.{StoreValue}
+use Rattle.vt_world.specs.Held.{IsHeld}
+use Rattle.vt_world.specs.StoredWorld.{overlay_of_store, with_store}
+use Rattle.vt_world.specs.WorldValue.{WorldValue, world_of}
+use Rattle.vt_detach.specs.Events.{layer_kept, left_by, supply_of}
+use Rattle.vt_detach.specs.Stored.{OverlaysStay, kept}
+use Rattle.vt_attach.specs.Grafted.{IsGrafted, MayGraft}
+use Rattle.vt_attach.specs.Overlaid.{IsWithOverlay}
+use Rattle.vt_attach.proofs.NewOverlayDone.{may_mount_overlay as may_graft}
+use Rattle.vt_attach.proofs.OverlayMounted.{overlay_is_mounted}
+use Rattle.vt_ns.specs.OverlayMounts.{MountsOverlay, PermitsOverlay}
+use Rattle.vt_ns.proofs.world.OverlayEvents.{kept_is_overlay, layers_are_kept, root_is_top}
+
+-- the overlay that is kept, and a graft of the one mount of it
+module _ (base : WorldValue) (store : StoreValue) (whole : IsHeld (with_store store base)) (name : TaskName)
+    (new : ToMountOverlay) (permits : PermitsOverlay (with_store store base) name new) (lowers : List LayerRef)
+    (lowers_are : lowers ≡ map (λ lower. layer_kept (layer_of lower)) new.lowers.items)
+    (mounter : Credentials) (mounter_is : mounter ≡ permits.task.credentials)
+    (top : LayerRef) (top_is : slice_get lowers 0 ≡ Some top)
+    (small : top.directory.slot < 18446744073709551616)
+    (mount : Mount)
+    (mount_is : mount_of mount
+    ≡ new_mount (counted base.next) (inode_number base.next top.directory.slot) (flags_of new.flags))
+    (graft : Graft) (tree_is : graft.tree.now ≡ mount ∷ []) (place_is : graft.place ≡ new.destination)
+    (binds : graft.moves ≡ false)
+    (parts_are : map mount_of graft.parts.now
+    ≡ parts_of nat_eq (world_of (with_store store base)) (location_of graft.place))
+    (counts : Counts) (first : counts.first ≡ base.next + 1) (step : counts.step ≡ 2)
+    (ascending : are_ascending (mounts_in base.mounts) ≡ true)
+    (odd : list_all (λ mount. mount.number % 4 == 1) (mounts_in base.mounts) ≡ true) where
+  abbrev value : WorldValue
+  value = with_store store base
+
+  abbrev pub entry : OverlayEntry
+  entry = new_overlay (record { count = base.next }) lowers mounter
+
+  given_there : IsGivenToTask (supply_of value (MeansToMerge (location_of graft.place) (overlay_of permits.task new)
+      (flags_of new.flags))) (world_of value) permits.task
+      (MeansToMerge (location_of graft.place) (overlay_of permits.task new) (flags_of new.flags))
+  given_there =
+      subst (λ (place : Location). IsGivenToTask (supply_of value (MeansToMerge (location_of place)
+      (overlay_of permits.task new) (flags_of new.flags))) (world_of value) permits.task
+      (MeansToMerge (location_of place) (overlay_of permits.task new) (flags_of new.flags)))
+      (sym place_is) permits.given
+
+  tree_seen : map mount_of graft.tree.now
+      ≡ new_mount (counted base.next) (overlay_of_store store.plain entry).root (flags_of new.flags) ∷ []
+  tree_seen =
+      ap (map mount_of) tree_is
+      ∙ ap (λ (one : meant.Mount ℕ). one ∷ [])
+      (mount_is ∙ ap (λ root. new_mount (counted base.next) root (flags_of new.flags))
+      (root_is_top value whole name new permits lowers lowers_are mounter mounter_is top top_is small))
+
+  pub may_mount_overlay : MayGraft base.mounts base.groups graft counts
+  may_mount_overlay =
+      may_graft value whole permits.task graft counts (overlay_of permits.task new) (flags_of new.flags) given_there refl
+      refl refl entry
+      (kept_is_overlay value whole name new permits lowers lowers_are mounter mounter_is) refl refl binds tree_seen
+      parts_are first step ascending odd
+
+  -- what is attached and held leaves the world that the permit leaves
+  pub overlay_mounted : base.next < 18446744073709551616
+      → (held later : StoreValue) → IsWithOverlay (new_overlay (record { count = base.next }) lowers mounter) store held
+      → OverlaysStay (store.overlays ++ new_overlay (record { count = base.next }) lowers mounter ∷ []) later.overlays
+      → (mounts : List MountEntry) (groups : Grouping) (next : ℕ)
+      → IsGrafted graft counts (kept base.mounts held) base.groups (kept mounts later) groups
+      → next ≡ base.next + 2 * (length graft.parts.now * 2)
+      → IsHeld (with_store later (record base { mounts = mounts; groups = groups; next = next }))
+      × MountsOverlay (with_store store base) name new
+      (with_store later (record base { mounts = mounts; groups = groups; next = next }))
+  overlay_mounted small_next held later with_overlay stay mounts groups next is grows =
+      let done = overlay_is_mounted base store held later whole permits.task graft counts
+      (overlay_of permits.task new) (flags_of new.flags) given_there refl refl refl entry
+      (kept_is_overlay value whole name new permits lowers lowers_are mounter mounter_is) refl refl
+      (layers_are_kept value whole name new permits lowers lowers_are mounter mounter_is) small_next binds tree_seen
+      parts_are first step ascending odd with_overlay stay mounts groups next is grows in
+      let then = with_store later (record base { mounts = mounts; groups = groups; next = next }) in
+      let same : SameWorlds (left_by value permits.task (overlay_permit permits.task new)) (world_of then) =
+      subst (λ (place : Location). SameWorlds (left_by value permits.task (MeansToMerge (location_of place)
+      (overlay_of permits.task new) (flags_of new.flags))) (world_of then)) place_is done.1 in (
+        done.0,
+        λ other found.
+            subst (λ (one : Task ℕ). SameWorlds (left_by value one (overlay_permit one new)) (world_of then))
+            (same_Some permits.task other (sym permits.called ∙ found)) same,
+      )
