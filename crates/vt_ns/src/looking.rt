@@ -13,6 +13,7 @@ use vt_cred::{Cred, Rights, allows};
 use vt_location::{FilesystemId, Location, Mount, MountId, NamespaceId, NodeRef};
 use vt_looks::{Asked, Ground, Look};
 use vt_node::Node;
+use vt_overlay::Overlay;
 use vt_request::TaskName;
 use vt_spec::errors::Deny;
 
@@ -35,6 +36,16 @@ impl World {
         ensures { result ≡ is_seen self.now at }
     {
         self.shown(at.mount) == at.node.filesystem
+    }
+
+    // The overlay that a mount shows, if it shows one. Where there are none, the mount is not looked for.
+    #[inline(always)]
+    pub(crate) fn overlay_on(&self, mount: MountId) -> Option<&Overlay> {
+        if self.store.has_overlays() {
+            self.store.overlay(self.shown(mount))
+        } else {
+            None
+        }
     }
 }
 
@@ -146,22 +157,22 @@ impl Look for World {
     }
 
     fn is_overlay(&self, at: Location) -> bool {
-        self.store.is_overlay(self.shown(at.mount))
+        self.overlay_on(at.mount).is_some()
     }
 
     // No overlay has an upper layer, since no call mounts such a one: each is read-only, and all its objects are in
     // lower layers.
 
     fn has_no_upper(&self, at: Location) -> bool {
-        self.store.is_overlay(self.shown(at.mount))
+        self.overlay_on(at.mount).is_some()
     }
 
     fn is_only_below(&self, at: Location) -> bool {
-        self.store.is_overlay(self.shown(at.mount))
+        self.overlay_on(at.mount).is_some()
     }
 
     fn mounter_may(&self, at: Location, wanted: Rights) -> bool {
-        match self.store.overlay(self.shown(at.mount)) {
+        match self.overlay_on(at.mount) {
             Some(overlay) => grants(overlay.mounter(), self.node(at), wanted),
             None => true,
         }
@@ -176,6 +187,9 @@ impl Look for World {
     }
 
     fn is_locked(&self, at: Location) -> bool {
+        if !self.store.has_overlays() {
+            return false;
+        }
         match at.node.plain() {
             Some(inode) if self.is_seen(at) => self.store.is_in_layer(inode),
             _ => false,

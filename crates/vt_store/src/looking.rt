@@ -29,6 +29,7 @@ impl Store {
 
     /// The real object of a node: owner, group, mode, kind and content are the node's. Entries, parent and emptiness
     /// are `entry`, `parent` and `is_nonempty`. It does not allocate.
+    #[inline(always)]
     pub fn object(&self, node: NodeRef) -> Option<&Node>
         requires { StandOnLayers self.now }
         ensures { option_copied result ≡ lent_in self.now node.filesystem.count (number_of node) }
@@ -40,6 +41,7 @@ impl Store {
     }
 
     /// The node to which a name of a directory leads, of which this is the real object. It does not allocate.
+    #[inline(always)]
     pub fn entry(&self, directory: NodeRef, object: &Node, name: &[u8]) -> Option<NodeRef>
         requires standing { StandOnLayers self.now }
         requires object { lent_in self.now directory.filesystem.count (number_of directory) ≡ Some object.now }

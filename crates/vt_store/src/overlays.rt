@@ -1,5 +1,5 @@
 //! `Overlays`: the overlays by their numbers, and how many mounts show each.
-ghost use Rattle.std.specs.Prelude.{◌≡◌, ◌<◌, ◌+◌, ◌-◌, ◌++◌, ◌∷◌, [], IfSome, OnErr, OnOk, nat_lt, option_copied, option_map, true};
+ghost use Rattle.std.specs.Prelude.{◌≡◌, ◌<◌, ◌+◌, ◌-◌, ◌++◌, ◌∷◌, ◌↔◌, [], IfSome, OnErr, OnOk, nat_lt, option_copied, option_map, true};
 ghost use Rattle.std.specs.List.{list_all, list_any};
 ghost use Rattle.vt_location.specs.Locations.{inode_of};
 ghost use Rattle.vt_fs.specs.FilesystemsValue.{files_at};
@@ -53,9 +53,29 @@ impl Overlays {
         }
     }
 
-    /// The overlay of this number, if there is one.
+    /// Whether there are none.
+    #[inline(always)]
+    pub fn is_empty(&self) -> bool
+        ensures { (result ≡ true) ↔ (self.now ≡ []) }
+    {
+        self.by_number.is_empty()
+    }
+
+    /// The overlay of this number, if there is one. Where there are none, no hash is taken.
     #[inline(always)]
     pub fn get(&self, id: FilesystemId) -> Option<&Overlay>
+        ensures value { option_copied result ≡ overlay_of self.now id.count }
+        ensures own { IfSome result (λ overlay. overlay.now.number ≡ id) }
+    {
+        if self.is_empty() {
+            return None;
+        }
+        self.found(id)
+    }
+
+    // The overlay of this number, by its hash. It is a call of its own, so that looks at plain trees stay small.
+    #[inline(never)]
+    fn found(&self, id: FilesystemId) -> Option<&Overlay>
         ensures value { option_copied result ≡ overlay_of self.now id.count }
         ensures own { IfSome result (λ overlay. overlay.now.number ≡ id) }
     {
@@ -96,6 +116,9 @@ impl Overlays {
     pub fn mounts(&self, id: FilesystemId) -> Option<u64>
         ensures { result ≡ option_map (λ entry. entry.mounts) (entry_kept self.now id.count) }
     {
+        if self.is_empty() {
+            return None;
+        }
         let found = self.by_number.get(&id)?;
         Some(found.mounts)
     }

@@ -1,5 +1,5 @@
 //! `Store`: the plain filesystems, and the overlays.
-ghost use Rattle.std.specs.Prelude.{◌≡◌, [], IfSome, is_some, option_copied};
+ghost use Rattle.std.specs.Prelude.{◌≡◌, ◌↔◌, [], IfSome, false, is_some, option_copied};
 ghost use Rattle.std.specs.Borrow.{sem};
 
 use crate::overlays::Overlays;
@@ -56,6 +56,14 @@ impl Store {
         &mut self.plain
     }
 
+    /// Whether there are overlays.
+    #[inline(always)]
+    pub fn has_overlays(&self) -> bool
+        ensures { (result ≡ false) ↔ (self.now.overlays ≡ []) }
+    {
+        !self.overlays.is_empty()
+    }
+
     /// The overlay of a filesystem, if it is one.
     #[inline(always)]
     pub fn overlay(&self, filesystem: FilesystemId) -> Option<&Overlay>
@@ -66,6 +74,7 @@ impl Store {
     }
 
     /// Whether a filesystem is an overlay.
+    #[inline(always)]
     pub fn is_overlay(&self, filesystem: FilesystemId) -> bool
         ensures { result ≡ is_some (filesystem_in self.now filesystem.count).overlay }
     {
