@@ -1,9 +1,10 @@
 -- The overlays as the map keeps them, and as contracts see them.
 use Rattle.std.proofs.Common.{◌≡◌, ◌<◌, refl, sym, ap, subst, ◌∙◌, ℕ, Bool, true, false, cond, ◌&&◌, nat_eq, nat_lt, List, [], ◌∷◌, ◌++◌, map, filter, not, Option, Some, None, option_map, is_some}
-use Rattle.std.specs.Prelude.{IfSome, IsSome}
+use Rattle.std.specs.Prelude.{IfSome, IsSome, length}
 use Rattle.std.specs.List.{list_all}
 use Rattle.std.specs.Map.{lookup}
 use Rattle.std.proofs.lemmas.Bool.{eqb-true}
+use Rattle.std.proofs.lemmas.List.{nil_from_length}
 use Rattle.indexmap.specs.IndexMap.{IndexMap, WritesThrough, get_by}
 use Rattle.vt_location.specs.declared.numbers.FilesystemId.{FilesystemId}
 use Rattle.vt_location.specs.InOrder.{in_order_by}
@@ -38,6 +39,13 @@ of_count f one = record { count = f; overlay = one.overlay; mounts = one.mounts 
 
 same : (a b : ℕ) → nat_eq a b ≡ true → b ≡ a
 same a b e = sym (eqb-true a b e)
+
+-- where nothing is kept, nothing is found, and contracts see no overlays
+pub none_found : (f : ℕ) (es : List (FilesystemId × KeptOverlay)) → length es ≡ 0 → None ≡ lookup (is_key f) es
+none_found f es none = sym (ap (lookup (is_key f)) (nil_from_length es none))
+
+pub none_kept : (es : List (FilesystemId × KeptOverlay)) → length es ≡ 0 → kept_overlays es ≡ []
+none_kept es none = ap kept_overlays (nil_from_length es none)
 
 module _ (f : ℕ) where
   -- a count finds the overlay that it is the key of

@@ -1,6 +1,7 @@
 //! `Overlays`: the overlays by their numbers, and how many mounts show each.
-ghost use Rattle.std.specs.Prelude.{◌≡◌, ◌<◌, ◌+◌, ◌-◌, ◌++◌, ◌∷◌, ◌↔◌, [], IfSome, OnErr, OnOk, nat_lt, option_copied, option_map, true};
+ghost use Rattle.std.specs.Prelude.{◌≡◌, ◌<◌, ◌+◌, ◌-◌, ◌++◌, ◌∷◌, [], IfSome, OnErr, OnOk, nat_eq, nat_lt, option_copied, option_map, true};
 ghost use Rattle.std.specs.List.{list_all, list_any};
+ghost use Rattle.std.specs.Map.{lookup};
 ghost use Rattle.vt_location.specs.Locations.{inode_of};
 ghost use Rattle.vt_fs.specs.FilesystemsValue.{files_at};
 ghost use Rattle.vt_fs.specs.Laws.{ParentsAreNamed};
@@ -27,6 +28,32 @@ struct KeptOverlay {
 #[derive(Debug, Drop)]
 pub(crate) struct Overlays {
     by_number: IndexMap<FilesystemId, KeptOverlay>,
+}
+
+// The overlay of a number. Mostly there are none, and then no hash is taken.
+#[inline(always)]
+fn found_under(
+    by_number: &IndexMap<FilesystemId, KeptOverlay>,
+    id: FilesystemId,
+) -> Option<&KeptOverlay>
+    ensures { option_copied result ≡ lookup (λ other. nat_eq id.count other.count) by_number.now.entries }
+{
+    if by_number.is_empty() {
+        None
+    } else {
+        found_by_hash(by_number, id)
+    }
+}
+
+// The same where there are some. It is a call of its own, so that looks at plain trees stay small.
+#[inline(never)]
+fn found_by_hash(
+    by_number: &IndexMap<FilesystemId, KeptOverlay>,
+    id: FilesystemId,
+) -> Option<&KeptOverlay>
+    ensures { option_copied result ≡ lookup (λ other. nat_eq id.count other.count) by_number.now.entries }
+{
+    by_number.get(&id)
 }
 
 impl Model for Overlays {
@@ -56,7 +83,7 @@ impl Overlays {
     /// Whether there are none.
     #[inline(always)]
     pub fn is_empty(&self) -> bool
-        ensures { (result ≡ true) ↔ (self.now ≡ []) }
+        ensures { result ≡ true → self.now ≡ [] }
     {
         self.by_number.is_empty()
     }
@@ -67,19 +94,7 @@ impl Overlays {
         ensures value { option_copied result ≡ overlay_of self.now id.count }
         ensures own { IfSome result (λ overlay. overlay.now.number ≡ id) }
     {
-        if self.is_empty() {
-            return None;
-        }
-        self.found(id)
-    }
-
-    // The overlay of this number, by its hash. It is a call of its own, so that looks at plain trees stay small.
-    #[inline(never)]
-    fn found(&self, id: FilesystemId) -> Option<&Overlay>
-        ensures value { option_copied result ≡ overlay_of self.now id.count }
-        ensures own { IfSome result (λ overlay. overlay.now.number ≡ id) }
-    {
-        let found = self.by_number.get(&id)?;
+        let found = found_under(&self.by_number, id)?;
         Some(&found.overlay)
     }
 
@@ -116,10 +131,7 @@ impl Overlays {
     pub fn mounts(&self, id: FilesystemId) -> Option<u64>
         ensures { result ≡ option_map (λ entry. entry.mounts) (entry_kept self.now id.count) }
     {
-        if self.is_empty() {
-            return None;
-        }
-        let found = self.by_number.get(&id)?;
+        let found = found_under(&self.by_number, id)?;
         Some(found.mounts)
     }
 
