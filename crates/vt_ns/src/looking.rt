@@ -47,6 +47,16 @@ impl World {
             None
         }
     }
+
+    // Whether the mounter of a filesystem, if it is an overlay, has rights on an object. It is a call of its own, so that
+    // walks on plain trees stay small.
+    #[inline(never)]
+    fn mounter_grants(&self, filesystem: FilesystemId, object: &Node, wanted: Rights) -> bool {
+        match self.store.overlay(filesystem) {
+            Some(overlay) => grants(overlay.mounter(), Some(object), wanted),
+            None => true,
+        }
+    }
 }
 
 impl Look for World {
@@ -180,10 +190,7 @@ impl Look for World {
 
     #[inline(always)]
     fn mounter_may_on(&self, ground: Ground, _at: Location, object: &Node, wanted: Rights) -> bool {
-        match self.store.overlay(ground.filesystem) {
-            Some(overlay) => grants(overlay.mounter(), Some(object), wanted),
-            None => true,
-        }
+        !self.store.has_overlays() || self.mounter_grants(ground.filesystem, object, wanted)
     }
 
     fn is_locked(&self, at: Location) -> bool {

@@ -34,6 +34,19 @@ impl Store {
         requires { StandOnLayers self.now }
         ensures { option_copied result ≡ lent_in self.now node.filesystem.count (number_of node) }
     {
+        if self.has_overlays() {
+            self.any_object(copied(node))
+        } else {
+            self.plain.node(node)
+        }
+    }
+
+    // The same where there are overlays. It is a call of its own, so that looks at plain trees stay small.
+    #[inline(never)]
+    fn any_object(&self, node: NodeRef) -> Option<&Node>
+        requires { StandOnLayers self.now }
+        ensures { option_copied result ≡ lent_in self.now node.filesystem.count (number_of node) }
+    {
         match self.overlay(node.filesystem) {
             Some(overlay) => overlay.inode(&self.plain, node),
             None => self.plain.node(node),
@@ -43,6 +56,23 @@ impl Store {
     /// The node to which a name of a directory leads, of which this is the real object. It does not allocate.
     #[inline(always)]
     pub fn entry(&self, directory: NodeRef, object: &Node, name: &[u8]) -> Option<NodeRef>
+        requires standing { StandOnLayers self.now }
+        requires object { lent_in self.now directory.filesystem.count (number_of directory) ≡ Some object.now }
+        ensures { option_map number_of result ≡ entry_named name.now
+            (entries_in ((files_in self.now directory.filesystem.count).tree.node (number_of directory))) }
+    {
+        if self.has_overlays() {
+            let found = self.any_entry(copied(directory), object, name)?;
+            Some(copied(found))
+        } else {
+            let entry = object.entry(name)?;
+            Some(NodeRef::new(directory.filesystem, entry))
+        }
+    }
+
+    // The same where there are overlays.
+    #[inline(never)]
+    fn any_entry(&self, directory: NodeRef, object: &Node, name: &[u8]) -> Option<NodeRef>
         requires standing { StandOnLayers self.now }
         requires object { lent_in self.now directory.filesystem.count (number_of directory) ≡ Some object.now }
         ensures { option_map number_of result ≡ entry_named name.now
@@ -161,6 +191,18 @@ fn has_entries(node: Option<&Node>) -> bool
     match node {
         Some(node) => node.is_nonempty(),
         None => false,
+    }
+}
+
+// A copy, for a call that is seldom made: so a walk need not keep its node in memory for that.
+#[inline(always)]
+fn copied(node: NodeRef) -> NodeRef
+    ensures { result ≡ node }
+{
+    NodeRef {
+        filesystem: node.filesystem,
+        slot: node.slot,
+        birth: node.birth,
     }
 }
 
