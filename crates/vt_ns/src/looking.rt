@@ -1,11 +1,12 @@
 //! The world, as walks and rules look at it.
-ghost use Rattle.std.specs.Prelude.{◌≡◌, nat_eq, option_copied};
+ghost use Rattle.std.specs.Prelude.{◌≡◌, IfSome, None, Some, nat_eq, option_copied, true};
 ghost use Rattle.vt_cred.specs.Rights.{right_bits};
 ghost use Rattle.vt_spec.specs.Machine.Rightful.{node_allows};
 ghost use Rattle.vt_spec.specs.Machine.World.{mount_numbered};
 ghost use Rattle.vt_location.specs.Locations.{location_of, number_of};
 ghost use Rattle.vt_location.specs.Numbers.{filesystem_number, mount_number};
 ghost use Rattle.vt_detach.specs.Looking.{is_seen, looks_of_value};
+ghost use Rattle.vt_store.specs.StoreValue.{overlay_in};
 ghost use Rattle.vt_world.specs.WorldValue.{world_of};
 
 use crate::world::World;
@@ -16,6 +17,7 @@ use vt_node::Node;
 use vt_overlay::Overlay;
 use vt_request::TaskName;
 use vt_spec::errors::Deny;
+use vt_store::Store;
 
 impl World {
     /// The filesystem that a mount shows. A number that no mount has stands for a mount of the filesystem with that
@@ -45,16 +47,6 @@ impl World {
             self.store.overlay(self.shown(mount))
         } else {
             None
-        }
-    }
-
-    // Whether the mounter of a filesystem, if it is an overlay, has rights on an object. It is a call of its own, so that
-    // walks on plain trees stay small.
-    #[inline(never)]
-    fn mounter_grants(&self, filesystem: FilesystemId, object: &Node, wanted: Rights) -> bool {
-        match self.store.overlay(filesystem) {
-            Some(overlay) => grants(overlay.mounter(), Some(object), wanted),
-            None => true,
         }
     }
 }
@@ -190,7 +182,7 @@ impl Look for World {
 
     #[inline(always)]
     fn mounter_may_on(&self, ground: Ground, _at: Location, object: &Node, wanted: Rights) -> bool {
-        !self.store.has_overlays() || self.mounter_grants(ground.filesystem, object, wanted)
+        !self.store.has_overlays() || mounter_grants(&self.store, ground.filesystem, object, wanted)
     }
 
     fn is_locked(&self, at: Location) -> bool {
@@ -224,5 +216,19 @@ fn grants(who: &Cred, object: Option<&Node>, wanted: Rights) -> bool
     match object {
         Some(node) => allows(who, &node.attr(), node.kind(), wanted),
         None => false,
+    }
+}
+
+// Whether the mounter of a filesystem, if it is an overlay, has rights on an object. It is a call of its own, so that
+// walks on plain trees stay small.
+#[inline(never)]
+fn mounter_grants(store: &Store, filesystem: FilesystemId, object: &Node, wanted: Rights) -> bool
+    ensures overlay { IfSome (overlay_in store.now filesystem.count) (λ overlay.
+        result ≡ node_allows overlay.mounter (right_bits wanted) (Some object.now)) }
+    ensures plain { overlay_in store.now filesystem.count ≡ None → result ≡ true }
+{
+    match store.overlay(filesystem) {
+        Some(overlay) => grants(overlay.mounter(), Some(object), wanted),
+        None => true,
     }
 }
