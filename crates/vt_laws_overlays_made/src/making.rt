@@ -10,17 +10,20 @@ pub fn numbers_for_an_overlay_have_their_places()
     ensures mounts { MountsGetCounts }
 {}
 
-/// Let a world have all invariants. Let the layers of an overlay be directories of its plain trees, kept as the world
-/// has them, and let the numbers handed in differ. Then the overlay that is made has the `tree` and the real `objects`
-/// that its layers show as they are kept. So it is the `same` but for the order of the numbers beside its tree.
+/// Let a world have all invariants. Let the layers of an overlay be directories of the world's plain trees, which are
+/// kept as the world has them, and let the numbers handed in differ. Then the overlay that is made has the `tree` and
+/// the real `objects` that its layers show as they are kept. So it is the `same` but for the order of the numbers
+/// beside its tree.
 pub fn overlays_that_are_made_are_shown()
     ensures tree { MadeTreesAreShown }
     ensures objects { MadeObjectsAreShown }
     ensures same { MadeOverlaysAreSame }
 {}
 
-/// For a new overlay of at most 128 layers the numbers handed in serve a world with all invariants (`serves`): those of
-/// births are even, each is another, and none is in use. So the overlay that is made is the one that is shown (`same`).
+/// Let a world have all invariants, and let an overlay be new there, of at most 128 layers, which are directories of
+/// trees that are kept. Then the numbers handed in serve the world (`serves`): those of births are even, each is
+/// another, and none is in use. So where its layers are directories of the world's plain trees, kept as the world has
+/// them, the overlay that is made is the one that is shown but for the order of the numbers beside its tree (`same`).
 pub fn numbers_for_a_new_overlay_serve()
     ensures serves { SuppliesForOverlaysServe }
     ensures same { NewOverlaysAreSame }

@@ -1,19 +1,20 @@
 //! Who writes to overlays.
 ghost use Rattle.vt_laws_overlays_read.specs.Writers.{ChangesHaveLayers, EveryCallKeepsWriters, OpensCopyNothing, PermitsKeepWriters, PlainOnesAreChanged, PlainWorldsHaveLayers, SameWorldsHaveLayersAlike, ScriptsChangeNone, ScriptsKeepWriters, SweepsKeepWriters};
 
-/// Where no descriptor is open for writing in an overlay without an upper layer, a permit changes no such overlay
-/// (`layers`). So where no overlay has an upper layer, permits change `plain` trees alone, and nothing is copied up
-/// where a file is opened (`copied`). Of `link`, `unlink`, `write` and the others rule F2 says it; of `pwrite` the
-/// descriptors.
+/// Where no descriptor is open for writing in an overlay without an upper layer, a permit that a call is given changes
+/// no such overlay (`layers`). So where no overlay has an upper layer, the permits of all calls but the mount of an
+/// overlay change `plain` trees alone, and nothing is copied up where a file is opened (`copied`). Of `link`, `unlink`,
+/// `write` and the others rule F2 says it; of `pwrite` the descriptors.
 pub fn overlays_without_an_upper_layer_are_read_only()
     ensures layers { ChangesHaveLayers }
     ensures plain { PlainOnesAreChanged }
     ensures copied { OpensCopyNothing }
 {}
 
-/// In a world with all invariants permits keep it that no descriptor is open for writing in an overlay without an
-/// upper layer, before the sweep and after it, the mount of an overlay among them (`permits`). The sweep keeps it in
-/// every world (`sweeps`). So every call keeps it, granted or refused (`calls`), if a `fork` names at most 32 groups.
+/// In a world with all invariants the permits that calls are given keep it that no descriptor is open for writing in an
+/// overlay without an upper layer, before the sweep and after it, the mount of an overlay among them (`permits`). The
+/// sweep keeps it in every world (`sweeps`). So every call keeps it, granted or refused (`calls`), if the numbers that
+/// are handed in serve the world, and a `fork` names at most 32 groups.
 pub fn writers_keep_their_layers()
     ensures permits { PermitsKeepWriters }
     ensures sweeps { SweepsKeepWriters }
@@ -28,9 +29,10 @@ pub fn worlds_whose_writers_have_layers()
     ensures alike { SameWorldsHaveLayersAlike }
 {}
 
-/// In every world that a script leads to no descriptor is open for writing in an overlay without an upper layer
-/// (`writers`), whatever numbers its lines are handed that are not in use, and whichever lines an allocation fails in.
-/// So there no permit changes such an overlay (`none`).
+/// A script leads from an opening world, whose numbers differ, to others. In every one of these no descriptor is open
+/// for writing in an overlay without an upper layer (`writers`), whatever numbers its lines are handed that are not in
+/// use, and whichever lines an allocation fails in. So there no permit that a call is given changes such an overlay
+/// (`none`).
 pub fn scripts_leave_overlays_without_an_upper_layer()
     ensures writers { ScriptsKeepWriters }
     ensures none { ScriptsChangeNone }
