@@ -1,11 +1,12 @@
 //! The world, as walks and rules look at it.
-ghost use Rattle.std.specs.Prelude.{◌≡◌, nat_eq, option_copied};
+ghost use Rattle.std.specs.Prelude.{◌≡◌, IfSome, None, Some, nat_eq, option_copied, true};
 ghost use Rattle.vt_cred.specs.Rights.{right_bits};
 ghost use Rattle.vt_spec.specs.Machine.Rightful.{node_allows};
 ghost use Rattle.vt_spec.specs.Machine.World.{mount_numbered};
 ghost use Rattle.vt_location.specs.Locations.{location_of, number_of};
 ghost use Rattle.vt_location.specs.Numbers.{filesystem_number, mount_number};
 ghost use Rattle.vt_detach.specs.Looking.{is_seen, looks_of_value};
+ghost use Rattle.vt_store.specs.StoreValue.{overlay_in};
 ghost use Rattle.vt_world.specs.WorldValue.{world_of};
 
 use crate::world::World;
@@ -13,8 +14,10 @@ use vt_cred::{Cred, Rights, allows};
 use vt_location::{FilesystemId, Location, Mount, MountId, NamespaceId, NodeRef};
 use vt_looks::{Asked, Ground, Look};
 use vt_node::Node;
+use vt_overlay::Overlay;
 use vt_request::TaskName;
 use vt_spec::errors::Deny;
+use vt_store::Store;
 
 impl World {
     /// The filesystem that a mount shows. A number that no mount has stands for a mount of the filesystem with that
@@ -35,6 +38,16 @@ impl World {
         ensures { result ≡ is_seen self.now at }
     {
         self.shown(at.mount) == at.node.filesystem
+    }
+
+    // The overlay that a mount shows, if it shows one. Where there are none, the mount is not looked for.
+    #[inline(always)]
+    pub(crate) fn overlay_on(&self, mount: MountId) -> Option<&Overlay> {
+        if self.store.has_overlays() {
+            self.store.overlay(self.shown(mount))
+        } else {
+            None
+        }
     }
 }
 
@@ -146,22 +159,22 @@ impl Look for World {
     }
 
     fn is_overlay(&self, at: Location) -> bool {
-        self.store.is_overlay(self.shown(at.mount))
+        self.overlay_on(at.mount).is_some()
     }
 
     // No overlay has an upper layer, since no call mounts such a one: each is read-only, and all its objects are in
     // lower layers.
 
     fn has_no_upper(&self, at: Location) -> bool {
-        self.store.is_overlay(self.shown(at.mount))
+        self.overlay_on(at.mount).is_some()
     }
 
     fn is_only_below(&self, at: Location) -> bool {
-        self.store.is_overlay(self.shown(at.mount))
+        self.overlay_on(at.mount).is_some()
     }
 
     fn mounter_may(&self, at: Location, wanted: Rights) -> bool {
-        match self.store.overlay(self.shown(at.mount)) {
+        match self.overlay_on(at.mount) {
             Some(overlay) => grants(overlay.mounter(), self.node(at), wanted),
             None => true,
         }
@@ -169,13 +182,13 @@ impl Look for World {
 
     #[inline(always)]
     fn mounter_may_on(&self, ground: Ground, _at: Location, object: &Node, wanted: Rights) -> bool {
-        match self.store.overlay(ground.filesystem) {
-            Some(overlay) => grants(overlay.mounter(), Some(object), wanted),
-            None => true,
-        }
+        !self.store.has_overlays() || mounter_grants(&self.store, ground.filesystem, object, wanted)
     }
 
     fn is_locked(&self, at: Location) -> bool {
+        if !self.store.has_overlays() {
+            return false;
+        }
         match at.node.plain() {
             Some(inode) if self.is_seen(at) => self.store.is_in_layer(inode),
             _ => false,
@@ -203,5 +216,19 @@ fn grants(who: &Cred, object: Option<&Node>, wanted: Rights) -> bool
     match object {
         Some(node) => allows(who, &node.attr(), node.kind(), wanted),
         None => false,
+    }
+}
+
+// Whether the mounter of a filesystem, if it is an overlay, has rights on an object. It is a call of its own, so that
+// walks on plain trees stay small.
+#[inline(never)]
+fn mounter_grants(store: &Store, filesystem: FilesystemId, object: &Node, wanted: Rights) -> bool
+    ensures overlay { IfSome (overlay_in store.now filesystem.count) (λ overlay.
+        result ≡ node_allows overlay.mounter (right_bits wanted) (Some object.now)) }
+    ensures plain { overlay_in store.now filesystem.count ≡ None → result ≡ true }
+{
+    match store.overlay(filesystem) {
+        Some(overlay) => grants(overlay.mounter(), Some(object), wanted),
+        None => true,
     }
 }

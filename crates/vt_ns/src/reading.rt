@@ -48,7 +48,7 @@ impl World {
         ensures { stat_line_of result ≡ stat_line (node_at nat_eq (world_of self.now) (location_of object)) }
     {
         match self.node(object) {
-            Some(node) => told(node, self.store.is_overlay(self.shown(object.mount))),
+            Some(node) => told(node, self.overlay_on(object.mount).is_some()),
             None => told_of_nothing(),
         }
     }
