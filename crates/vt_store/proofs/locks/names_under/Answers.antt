@@ -29,7 +29,7 @@ returns-then-is_some c =
     ∙ (λ i. (files_at plain (in_one i).count).tree.node (c.node_ref.ensures.number i)) in
     let some : is_some (name_ranked (entries_of c.in-Some.node.now.content) c.args.file.slot 0) ≡ true = search rules in
     let small : c.args.file.slot < 18446744073709551616 =
-        let h = c.node-in-Some.type_inv in let e = c.node-in-Some.ensures in omega (arith, h, e) in
+    let h = c.node-in-Some.type_inv in let e = c.node-in-Some.ensures in omega (arith, h, e) in
     let named = sym (has_name count (files_at plain count).tree (inode_of c.args.directory) c.in-Some.node.now
     c.args.file.slot small there) ∙ some in
     let top_in_one = ap (λ (n : NodeRef). n.filesystem) c.node_ref-then-is_some.ensures.value
@@ -52,7 +52,7 @@ returns-else-is_some c =
     ∙ (λ i. (files_at plain (in_one i).count).tree.node (c.node_ref.ensures.number i)) in
     let some : is_some (name_ranked (entries_of c.in-Some.node.now.content) c.args.file.slot 0) ≡ false = search rules in
     let small : c.args.file.slot < 18446744073709551616 =
-        let h = c.node-in-Some.type_inv in let e = c.node-in-Some.ensures in omega (arith, h, e) in
+    let h = c.node-in-Some.type_inv in let e = c.node-in-Some.ensures in omega (arith, h, e) in
     let named = sym (has_name count (files_at plain count).tree (inode_of c.args.directory) c.in-Some.node.now
     c.args.file.slot small there) ∙ some in
     c.if-is_some.false
