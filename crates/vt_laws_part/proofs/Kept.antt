@@ -23,7 +23,8 @@ module _ {A : Type 0} where
   filter_again p [] = refl
   filter_again p (x ∷ xs) = by (p x) refl (filter_again p xs)
     where
-      by : (b : Bool) → p x ≡ b → filter p (filter p xs) ≡ filter p xs → filter p (filter p (x ∷ xs)) ≡ filter p (x ∷ xs)
+      by : (b : Bool) → p x ≡ b → filter p (filter p xs) ≡ filter p xs
+          → filter p (filter p (x ∷ xs)) ≡ filter p (x ∷ xs)
       by true e rest =
           ap (filter p) (filter_here p x xs e) ∙ filter_here p x (filter p xs) e ∙ ap (λ l. x ∷ l) rest
           ∙ sym (filter_here p x xs e)
@@ -48,7 +49,8 @@ module _ {A : Type 0} where
   filter_kept k p whole none [] = refl
   filter_kept k p whole none (x ∷ xs) = by (p x) refl (filter_kept k p whole none xs)
     where
-      skip : (o : Option A) → k x ≡ o → p x ≡ false → filter p (cons_option o (filter_map k xs)) ≡ filter p (filter_map k xs)
+      skip : (o : Option A) → k x ≡ o → p x ≡ false
+          → filter p (cons_option o (filter_map k xs)) ≡ filter p (filter_map k xs)
       skip None e f = refl
       skip (Some y) e f = filter_skip p y (filter_map k xs) (none x y e f)
 
@@ -61,17 +63,20 @@ module _ {A : Type 0} where
 
   -- so does a search, which may find what was kept otherwise
   pub find_kept : (k : A → Option A) (p : A → Bool) → ((x : A) → p x ≡ true → (y : A) × (k x ≡ Some y) × (p y ≡ true))
-      → ((x y : A) → k x ≡ Some y → p x ≡ false → p y ≡ false) → (B : Type 0) (f : A → B) → ((x y : A) → k x ≡ Some y → f y ≡ f x)
+      → ((x y : A) → k x ≡ Some y → p x ≡ false → p y ≡ false) → (B : Type 0) (f : A → B)
+      → ((x y : A) → k x ≡ Some y → f y ≡ f x)
       → (d : A) (xs : List A) → f (unwrap_or (find p (filter_map k xs)) d) ≡ f (unwrap_or (find p xs) d)
   find_kept k p kept none B f same d [] = refl
   find_kept k p kept none B f same d (x ∷ xs) = by (p x) refl (find_kept k p kept none B f same d xs)
     where
-      skip : (o : Option A) → k x ≡ o → p x ≡ false → find p (cons_option o (filter_map k xs)) ≡ find p (filter_map k xs)
+      skip : (o : Option A) → k x ≡ o → p x ≡ false
+          → find p (cons_option o (filter_map k xs)) ≡ find p (filter_map k xs)
       skip None e g = refl
       skip (Some y) e g = ap (λ b. cond b (Some y) (find p (filter_map k xs))) (none x y e g)
 
       by : (b : Bool) → p x ≡ b → f (unwrap_or (find p (filter_map k xs)) d) ≡ f (unwrap_or (find p xs) d)
-          → f (unwrap_or (find p (cons_option (k x) (filter_map k xs))) d) ≡ f (unwrap_or (cond b (Some x) (find p xs)) d)
+          → f (unwrap_or (find p (cons_option (k x) (filter_map k xs))) d)
+          ≡ f (unwrap_or (cond b (Some x) (find p xs)) d)
       by true e rest =
           let t = kept x e in
           ap (λ o. f (unwrap_or (find p (cons_option o (filter_map k xs))) d)) t.1
@@ -106,9 +111,11 @@ filter_both k p q [] pass fail = refl
 filter_both {A} k p q (x ∷ xs) pass fail =
     by (q x) refl (filter_both k p q xs (λ y m. pass y (inr m)) (λ y z m. fail y z (inr m)))
   where
-    skip : (o : Option A) → k x ≡ o → q x ≡ false → filter p (cons_option o (filter_map k xs)) ≡ filter p (filter_map k xs)
+    skip : (o : Option A) → k x ≡ o → q x ≡ false
+        → filter p (cons_option o (filter_map k xs)) ≡ filter p (filter_map k xs)
     skip None e f = refl
-    skip (Some y) e f = ap (λ b. cond b (y ∷ filter p (filter_map k xs)) (filter p (filter_map k xs))) (fail x y (inl refl) f e)
+    skip (Some y) e f = ap (λ b. cond b (y ∷ filter p (filter_map k xs)) (filter p (filter_map k xs)))
+        (fail x y (inl refl) f e)
 
     by : (b : Bool) → q x ≡ b → filter p (filter_map k xs) ≡ filter q xs
         → filter p (cons_option (k x) (filter_map k xs)) ≡ cond b (x ∷ filter q xs) (filter q xs)

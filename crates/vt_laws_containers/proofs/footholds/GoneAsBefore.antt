@@ -1,13 +1,13 @@
 -- Mounts of a set that go, and files that change, leave others as they were.
 use Rattle.std.proofs.Common.{◌≡◌, refl, sym, ap, subst, ◌∙◌, inl, inr, ℕ, nat_eq, Bool, true, false, cond, true≢false, List, [], ◌∷◌, Option, Some, None, filter, find, length, map, ◌||◌, eq-eqb, eqb-true}
-use Rattle.std.specs.Prelude.{option_map, unwrap_or}
+use Rattle.std.specs.Prelude.{option_map}
 use Rattle.std.specs.List.{list_any}
 use Rattle.std.proofs.lemmas.Bool.{false_from_ne_true}
 use Rattle.vt_spec.specs.Language.Calls.{Call, TaskName}
 use Rattle.vt_spec.specs.Lists.{Fresh, chain, holds_of, is_among, last_or}
 use Rattle.vt_spec.specs.Machine.Detach.{after_going, is_going, mount_point_of_parent, taken_away}
-use Rattle.vt_spec.specs.Machine.Mounts.{Location, Mount, detached, no_mount}
-use Rattle.vt_spec.specs.Machine.Receives.{lost_a_group, regrouped, regrouped_by}
+use Rattle.vt_spec.specs.Machine.Mounts.{Location, Mount, detached}
+use Rattle.vt_spec.specs.Machine.Receives.{lost_a_group, regrouped_by}
 use Rattle.vt_spec.specs.Machine.Run.{Serves}
 use Rattle.vt_spec.specs.Machine.Sealed.{is_own_namespace}
 use Rattle.vt_spec.specs.Machine.World.{Task, World, mount_at, mount_numbered, task_called, with_mounts}

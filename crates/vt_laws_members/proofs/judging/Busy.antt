@@ -71,7 +71,8 @@ module _ (world : World ℕ) (names : List TaskName) (is : IsWorld nat_eq world)
           → receives nat_eq world group receiver ≡ true → (o : Option ℕ) → receiver.namespace ≡ o → owns receiver ≡ true
       side there group e hears None f =
           absurd (true≢false (sym hears
-          ∙ ap (holds_of (λ source. is_among nat_eq group (groups_up world source))) (alone_source world receiver is there f)))
+          ∙ ap (holds_of (λ source. is_among nat_eq group (groups_up world source)))
+          (alone_source world receiver is there f)))
       side there group e hears (Some n) f = which (is_own_namespace nat_eq world names n) refl
         where
           which : (b : Bool) → is_own_namespace nat_eq world names n ≡ b → owns receiver ≡ true
@@ -128,7 +129,8 @@ module _ (world : World ℕ) (names : List TaskName) (is : IsWorld nat_eq world)
       at : Location ℕ
       at = record { mount = receiver.number; node = node }
 
-      by : (o : Option (Mount ℕ)) → ((child : Mount ℕ) → o ≡ Some child → Among child world.mounts × (owns child ≡ true))
+      by : (o : Option (Mount ℕ))
+          → ((child : Mount ℕ) → o ≡ Some child → Among child world.mounts × (owns child ≡ true))
           → then_some o (λ (child : Mount ℕ). when (may_go nat_eq part child) child)
           ≡ then_some o (λ (child : Mount ℕ). when (may_go nat_eq world child) child)
       by None its = refl
@@ -165,7 +167,8 @@ module _ (world : World ℕ) (names : List TaskName) (is : IsWorld nat_eq world)
     where
       by_parent : World ℕ → Mount ℕ → Bool → List ℕ
       by_parent w parent true =
-          map (λ (gone : Mount ℕ). gone.number) (filter_map (goes_at nat_eq w point.node) (receivers_of nat_eq w parent))
+          map (λ (gone : Mount ℕ). gone.number)
+          (filter_map (goes_at nat_eq w point.node) (receivers_of nat_eq w parent))
       by_parent w parent false = mount.number ∷ []
 
       by : (parent : Mount ℕ) → Among parent world.mounts → owns parent ≡ true → (b : Bool)
@@ -182,7 +185,8 @@ module _ (world : World ℕ) (names : List TaskName) (is : IsWorld nat_eq world)
       → going nat_eq part mount ≡ going nat_eq world mount
   going_alike mount m own = by mount.mount_point refl
     where
-      by : (o : Option (Location ℕ)) → mount.mount_point ≡ o → going_at nat_eq part mount o ≡ going_at nat_eq world mount o
+      by : (o : Option (Location ℕ)) → mount.mount_point ≡ o
+          → going_at nat_eq part mount o ≡ going_at nat_eq world mount o
       by None e = refl
       by (Some point) e = from_alike mount point m own e
 
@@ -221,7 +225,8 @@ module _ (world : World ℕ) (names : List TaskName) (is : IsWorld nat_eq world)
           → (gone : Mount ℕ) × Among gone world.mounts × (owns gone ≡ true) × (gone.number ≡ number)
       which point e true at =
           let from = among-from_map (λ (gone : Mount ℕ). gone.number)
-          (filter_map (goes_at nat_eq world point.node) (receivers_of nat_eq world (mount_at nat_eq world point))) number at in
+          (filter_map (goes_at nat_eq world point.node)
+          (receivers_of nat_eq world (mount_at nat_eq world point))) number at in
           let gone = among-from_filter_map (goes_at nat_eq world point.node)
           (receivers_of nat_eq world (mount_at nat_eq world point)) from.0 from.1 in
           let below = below_own mount point m own e in

@@ -71,7 +71,8 @@ module _ (world : World ℕ) (names : List TaskName) (is : MountInvariants nat_e
         sym (eqb-true number at.0.number both.0),
         ⊎_elim inl
             (λ stood.
-            let two = and_parts (not (is_some at.0.namespace)) (is_at nat_eq (roots_and_directories theirs) at.0) stood in
+            let two = and_parts (not (is_some at.0.namespace))
+            (is_at nat_eq (roots_and_directories theirs) at.0) stood in
             inr (nowhere at.0.namespace two.0, two.1))
             (or_cases (is_own world names theirs at.0)
             (not (is_some at.0.namespace) && is_at nat_eq (roots_and_directories theirs) at.0) both.1),
@@ -182,7 +183,8 @@ module _ (world : World ℕ) (names : List TaskName) (is : MountInvariants nat_e
       → option_map root_of (child_at nat_eq world.mounts a) ≡ Some b → IsTheirs b.mount
   entered_theirs a b own e = by (child_at nat_eq world.mounts a) refl e
     where
-      by : (o : Option (Mount ℕ)) → child_at nat_eq world.mounts a ≡ o → option_map root_of o ≡ Some b → IsTheirs b.mount
+      by : (o : Option (Mount ℕ)) → child_at nat_eq world.mounts a ≡ o → option_map root_of o ≡ Some b
+          → IsTheirs b.mount
       by None f h = none_is_some b h
       by (Some child) f h =
           let m = found_among (stands_at nat_eq a) world.mounts child f in

@@ -21,7 +21,7 @@ use Rattle.vt_spec.specs.Machine.Locked.{overlay_or}
 use Rattle.vt_spec.specs.Machine.Rules.Making.{file_word_rules, hard_link_rules, symlink_text_rules, whiteout_rules}
 use Rattle.vt_spec.specs.Machine.Rules.Mounting.{admin_rules}
 use Rattle.vt_spec.specs.Machine.Rules.Removing.{object_there, removing, unlink_rules}
-use Rattle.vt_spec.specs.Machine.Walking.{Place, directory_walk, file_walk, is_directory_there, is_special, name_of, new_leaf_walk, new_walk, object_walk, old_leaf_walk, old_walk, symlink_walk, walk_end}
+use Rattle.vt_spec.specs.Machine.Walking.{Place, directory_walk, file_walk, is_special, new_leaf_walk, new_walk, object_walk, old_leaf_walk, symlink_walk, walk_end}
 use Rattle.vt_spec.specs.Machine.World.{Task}
 use Rattle.vt_spec.specs.Rights.{owns}
 use Rattle.vt_spec.specs.Tree.{Node, new_directory}
@@ -50,7 +50,8 @@ module _ (one other : Looks ℕ) (task : Task ℕ) (own uses : ℕ → Bool) (al
 
   made_alike : (place : Place ℕ) (node : Node ℕ) → On place.parent.mount
       → made_permit nat_eq one task place node ≡ made_permit nat_eq other task place node
-  made_alike place node on = asked_alike (λ looks. made_permit nat_eq looks task place node) (λ looks. rw (is_read_only, on) refl)
+  made_alike place node on =
+      asked_alike (λ looks. made_permit nat_eq looks task place node) (λ looks. rw (is_read_only, on) refl)
 
   pub mkdir_alike : (path : List ℕ) (mode : Option ℕ)
       → mkdir_permit nat_eq one task path mode ≡ mkdir_permit nat_eq other task path mode
@@ -71,8 +72,10 @@ module _ (one other : Looks ℕ) (task : Task ℕ) (own uses : ℕ → Bool) (al
   symlink_alike text path =
       ap (unless (symlink_text_rules text))
       (judged_alike IsPlaced (new_leaf_walk nat_eq one task path) (new_leaf_walk nat_eq other task path)
-      (λ place. made_permit nat_eq one task place (record { attr = exact_attr task symlink_mode; content = Symlink text }))
-      (λ place. made_permit nat_eq other task place (record { attr = exact_attr task symlink_mode; content = Symlink text }))
+      (λ place. made_permit nat_eq one task place
+      (record { attr = exact_attr task symlink_mode; content = Symlink text }))
+      (λ place. made_permit nat_eq other task place
+      (record { attr = exact_attr task symlink_mode; content = Symlink text }))
       (new_leaf_agrees one other task On alike.walks alike.directory alike.rules.removed path)
       (λ place at. made_alike place (record { attr = exact_attr task symlink_mode; content = Symlink text }) at.0))
 
@@ -117,7 +120,8 @@ module _ (one other : Looks ℕ) (task : Task ℕ) (own uses : ℕ → Bool) (al
       asked_alike (λ looks. written_permit nat_eq looks task place bytes None) (λ looks. rw (is_read_only, on) refl)
   written_by place on bytes (Some file) found =
       let there : own file.mount ≡ true = found file refl in
-      asked_alike (λ looks. written_permit nat_eq looks task place bytes (Some file)) (λ looks. rw (is_read_only, there) refl)
+      asked_alike (λ looks. written_permit nat_eq looks task place bytes (Some file))
+      (λ looks. rw (is_read_only, there) refl)
 
   pub write_alike : (path bytes : List ℕ)
       → write_permit nat_eq one task path bytes ≡ write_permit nat_eq other task path bytes
@@ -166,7 +170,8 @@ module _ (one other : Looks ℕ) (task : Task ℕ) (own uses : ℕ → Bool) (al
     where
       by : Location ℕ → Looks ℕ → Judgement ℕ
       by here looks =
-          attr_permit nat_eq looks here (owns task.credentials (attr_at looks here)) (attr_with_mode (attr_at looks here) mode)
+          attr_permit nat_eq looks here (owns task.credentials (attr_at looks here))
+          (attr_with_mode (attr_at looks here) mode)
 
   pub chown_alike : (path : List ℕ) (uid gid : Option ℕ)
       → chown_permit nat_eq one task path uid gid ≡ chown_permit nat_eq other task path uid gid
@@ -232,11 +237,13 @@ module _ (one other : Looks ℕ) (task : Task ℕ) (own uses : ℕ → Bool) (al
   create_same : (place : Place ℕ) (access : Access) (mode : ℕ) → On place.parent.mount
       → create_file_permit nat_eq one task place access mode ≡ create_file_permit nat_eq other task place access mode
   create_same place access mode on =
-      asked_alike (λ looks. create_file_permit nat_eq looks task place access mode) (λ looks. rw (is_read_only, on) refl)
+      asked_alike (λ looks. create_file_permit nat_eq looks task place access mode)
+      (λ looks. rw (is_read_only, on) refl)
 
   opened_by : (place : Place ℕ) → On place.parent.mount → (access : Access) (mode : ℕ) (o : Option (Location ℕ))
       → IsFound o
-      → opened_or_created_permit nat_eq one task place access mode o ≡ opened_or_created_permit nat_eq other task place access mode o
+      → opened_or_created_permit nat_eq one task place access mode o
+      ≡ opened_or_created_permit nat_eq other task place access mode o
   opened_by place on access mode None found = create_same place access mode on
   opened_by place on access mode (Some file) found = open_file_same file access (found file refl)
 
@@ -244,13 +251,16 @@ module _ (one other : Looks ℕ) (task : Task ℕ) (own uses : ℕ → Bool) (al
       → open_by_permit nat_eq one task path access creation ≡ open_by_permit nat_eq other task path access creation
   open_by path access NoCreation =
       judged_alike StandsHere (object_walk nat_eq one task path) (object_walk nat_eq other task path)
-      (λ here. open_file_permit nat_eq one task here.location access) (λ here. open_file_permit nat_eq other task here.location access)
+      (λ here. open_file_permit nat_eq one task here.location access)
+      (λ here. open_file_permit nat_eq other task here.location access)
       (object_agrees one other task On alike.walks alike.directory alike.rules.removed path)
       (λ here on. open_file_same here.location access on)
   open_by path access (OrCreate mode) =
       judged_alike IsPlaced (file_walk nat_eq one task path) (file_walk nat_eq other task path)
-      (λ place. unless (file_word_rules place) (opened_or_created_permit nat_eq one task place access mode place.object))
-      (λ place. unless (file_word_rules place) (opened_or_created_permit nat_eq other task place access mode place.object))
+      (λ place. unless (file_word_rules place)
+      (opened_or_created_permit nat_eq one task place access mode place.object))
+      (λ place. unless (file_word_rules place)
+      (opened_or_created_permit nat_eq other task place access mode place.object))
       (file_agrees one other task On alike.walks alike.directory alike.rules.removed path)
       (λ place at. ap (unless (file_word_rules place)) (opened_by place at.0 access mode place.object at.1))
   open_by path access (Exclusive mode) =

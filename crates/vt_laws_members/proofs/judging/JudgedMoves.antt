@@ -99,8 +99,10 @@ module _ (one other : Looks ℕ) (task : Task ℕ) (own uses : ℕ → Bool) (al
   move_alike overfills source path =
       ap (unless (admin_rules task))
       (judged_alike StandsThere (source_walk nat_eq one task source) (source_walk nat_eq other task source)
-      (λ from. and_then (walk_end (destination_walk nat_eq one task path)) (λ here. moved from.location here.location one))
-      (λ from. and_then (walk_end (destination_walk nat_eq other task path)) (λ here. moved from.location here.location other))
+      (λ from. and_then (walk_end (destination_walk nat_eq one task path))
+      (λ here. moved from.location here.location one))
+      (λ from. and_then (walk_end (destination_walk nat_eq other task path))
+      (λ here. moved from.location here.location other))
       (source_agrees one other task On alike.walks alike.directory alike.rules.removed source)
       (λ from there.
       judged_alike StandsThere (destination_walk nat_eq one task path) (destination_walk nat_eq other task path)

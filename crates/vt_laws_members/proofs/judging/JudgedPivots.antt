@@ -87,7 +87,8 @@ module _ (one other : Looks ℕ) (task : Task ℕ) (own uses : ℕ → Bool) (al
       pivot_by new put (is_on_descendant nat_eq asked task.root.mount new) (lies_under_location nat_eq asked new put)
       (has_shared_parent asked new) (has_shared_parent asked task.root) looks
 
-  pivot_same : (new put : Location ℕ) → On new.mount → On put.mount → pivot_of one new put one ≡ pivot_of other new put other
+  pivot_same : (new put : Location ℕ) → On new.mount → On put.mount
+      → pivot_of one new put one ≡ pivot_of other new put other
   pivot_same new put on_new on_put =
       let on_root : own task.root.mount ≡ true = alike.walks.root in
       same_asked (pivot_of one new put) (λ looks. rw (is_elsewhere, is_no_root, mount_at, on_root, on_new, on_put) refl)
@@ -98,7 +99,8 @@ module _ (one other : Looks ℕ) (task : Task ℕ) (own uses : ℕ → Bool) (al
       ∙ ap (λ b. pivot_by new put (is_on_descendant nat_eq other task.root.mount new)
       (lies_under_location nat_eq other new put) b (has_shared_parent one task.root) other) (parents.parent new on_new)
       ∙ ap (λ b. pivot_by new put (is_on_descendant nat_eq other task.root.mount new)
-      (lies_under_location nat_eq other new put) (has_shared_parent other new) b other) (parents.parent task.root on_root)
+      (lies_under_location nat_eq other new put) (has_shared_parent other new) b other)
+      (parents.parent task.root on_root)
 
   pub pivot_alike : (new put : List ℕ) → pivot_permit nat_eq one task new put ≡ pivot_permit nat_eq other task new put
   unfolding pivot_permit

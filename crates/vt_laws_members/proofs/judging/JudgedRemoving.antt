@@ -69,7 +69,8 @@ module _ (one other : Looks ℕ) (task : Task ℕ) (own uses : ℕ → Bool) (al
       → rmdir_by place object (is_mount_point_in nat_eq one task.namespace object) one
       ≡ rmdir_by place object (is_mount_point_in nat_eq other task.namespace object) other
   rmdir_same place object on there =
-      same_asked (rmdir_by place object (is_mount_point_in nat_eq one task.namespace object)) (λ looks. rw (is_read_only, there, on) refl)
+      same_asked (rmdir_by place object (is_mount_point_in nat_eq one task.namespace object))
+      (λ looks. rw (is_read_only, there, on) refl)
       ∙ ap (λ b. rmdir_by place object b other) (same_points object there)
 
   pub rmdir_alike : (path : List ℕ) → rmdir_permit nat_eq one task path ≡ rmdir_permit nat_eq other task path
@@ -133,7 +134,8 @@ module _ (one other : Looks ℕ) (task : Task ℕ) (own uses : ℕ → Bool) (al
   module _ (renames : RenamesAlike one other own) (from to : Place ℕ) (old : Location ℕ)
       (on_from : On from.parent.mount) (on_to : On to.parent.mount) (on_old : On old.mount) where
     used_there : uses (other.mount old.mount).filesystem ≡ true
-    used_there = ap (λ (m : Mount ℕ). uses m.filesystem) (sym (alike.rules.mount old.mount on_old)) ∙ alike.seen old.mount on_old
+    used_there = ap (λ (m : Mount ℕ). uses m.filesystem) (sym (alike.rules.mount old.mount on_old))
+        ∙ alike.seen old.mount on_old
 
     covered : (o : Option (Location ℕ)) → IsFoundAt o → (point stuck : Bool) (looks : Looks ℕ)
         → uses (looks.mount old.mount).filesystem ≡ true
@@ -144,7 +146,8 @@ module _ (one other : Looks ℕ) (task : Task ℕ) (own uses : ℕ → Bool) (al
         rw (is_read_only, on_from, on_to, on_old, on_new, used) refl
 
     points : (o : Option (Location ℕ)) → IsFoundAt o
-        → holds_of (is_mount_point_in nat_eq one task.namespace) o ≡ holds_of (is_mount_point_in nat_eq other task.namespace) o
+        → holds_of (is_mount_point_in nat_eq one task.namespace) o
+        ≡ holds_of (is_mount_point_in nat_eq other task.namespace) o
     points None found = refl
     points (Some new) found = same_points new (found new refl)
 
@@ -155,12 +158,14 @@ module _ (one other : Looks ℕ) (task : Task ℕ) (own uses : ℕ → Bool) (al
         let lock : list_any other.is_locked (from.parent ∷ to.parent ∷ old ∷ option_to_list o) ≡ true =
         any_from_among other.is_locked (from.parent ∷ to.parent ∷ old ∷ option_to_list o) old (inr (inr (inl refl)))
         (sym (alike.rules.locked old on_old) ∙ e) in
-        ap (λ l. unless (rename_front from to old o other ++ (l, L1) ∷ rename_rest from to old o (point_by one old o) stuck other)
+        ap (λ l. unless (rename_front from to old o other ++ (l, L1) ∷ rename_rest from to old o
+        (point_by one old o) stuck other)
         (Ok (ToRename from.parent (name_of from.last) to.parent (name_of to.last) old o))) lock
         ∙ stops (rename_front from to old o other) (rename_rest from to old o (point_by one old o) stuck other)
         (rename_rest from to old o (point_by other old o) stuck other) L1
         (Ok (ToRename from.parent (name_of from.last) to.parent (name_of to.last) old o))
-        ∙ ap (λ l. unless (rename_front from to old o other ++ (l, L1) ∷ rename_rest from to old o (point_by other old o) stuck other)
+        ∙ ap (λ l. unless (rename_front from to old o other ++ (l, L1) ∷ rename_rest from to old o
+        (point_by other old o) stuck other)
         (Ok (ToRename from.parent (name_of from.last) to.parent (name_of to.last) old o))) (sym lock)
     by_lock o found stuck false e =
         ap (λ b. rename_by from to old o (b || holds_of (is_mount_point_in nat_eq one task.namespace) o) stuck other)
@@ -191,7 +196,8 @@ module _ (one other : Looks ℕ) (task : Task ℕ) (own uses : ℕ → Bool) (al
         same_asked nothing_by
         (λ looks. rw (is_read_only, on_from, on_to) refl)
 
-    one_object : (o : Option (Location ℕ)) → IsFoundAt o → is_one_object nat_eq one old o ≡ is_one_object nat_eq other old o
+    one_object : (o : Option (Location ℕ)) → IsFoundAt o
+        → is_one_object nat_eq one old o ≡ is_one_object nat_eq other old o
     one_object None found = refl
     one_object (Some new) found =
         ap (λ (m : Mount ℕ). nat_eq m.filesystem (one.mount new.mount).filesystem && nat_eq old.node new.node)
@@ -223,16 +229,20 @@ module _ (one other : Looks ℕ) (task : Task ℕ) (own uses : ℕ → Bool) (al
   rename_alike renames old new =
       judged_alike IsAt (old_leaf_walk nat_eq one task old) (old_leaf_walk nat_eq other task old)
       (λ from. unless (old_word_rules from)
-      (and_then (walk_end (rename_new_walk nat_eq one task new (is_directory_there nat_eq one from))) (to_rename from one)))
+      (and_then (walk_end (rename_new_walk nat_eq one task new (is_directory_there nat_eq one from)))
+      (to_rename from one)))
       (λ from. unless (old_word_rules from)
-      (and_then (walk_end (rename_new_walk nat_eq other task new (is_directory_there nat_eq other from))) (to_rename from other)))
+      (and_then (walk_end (rename_new_walk nat_eq other task new (is_directory_there nat_eq other from)))
+      (to_rename from other)))
       (old_leaf_agrees one other task On alike.walks alike.directory alike.rules.removed old)
       (λ from at. ap (unless (old_word_rules from))
       (judged_alike IsAt (rename_new_walk nat_eq one task new (is_directory_there nat_eq one from))
       (rename_new_walk nat_eq other task new (is_directory_there nat_eq one from))
       (to_rename from one) (to_rename from other)
-      (rename_new_agrees one other task On alike.walks alike.directory alike.rules.removed new (is_directory_there nat_eq one from))
+      (rename_new_agrees one other task On alike.walks alike.directory alike.rules.removed new
+      (is_directory_there nat_eq one from))
       (λ to stands. ap (unless (old_word_rules to))
-      (renamed_alike renames from to (object_there from) at.0 stands.0 (there_own one other task own uses alike from at) stands.1))
+      (renamed_alike renames from to (object_there from) at.0 stands.0
+      (there_own one other task own uses alike from at) stands.1))
       ∙ ap (λ b. and_then (walk_end (rename_new_walk nat_eq other task new b)) (to_rename from other))
       (same_directory_there one other task On alike.walks alike.directory alike.rules.removed from at)))

@@ -1,5 +1,5 @@
 -- What is locked in the world is locked in the part, and the other way round.
-use Rattle.std.proofs.Common.{◌≡◌, refl, sym, ap, subst, ◌∙◌, inl, inr, ⊎_elim, ℕ, nat_eq, Bool, true, false, cond, true≢false, List, [], ◌∷◌, ◌++◌, Option, Some, None, find, is_some, ◌||◌, ◌&&◌, eq-eqb, eqb-true}
+use Rattle.std.proofs.Common.{◌≡◌, refl, sym, ap, subst, ◌∙◌, inl, ⊎_elim, ℕ, nat_eq, true, false, cond, true≢false, List, [], ◌++◌, Option, Some, None, find, is_some, ◌||◌, ◌&&◌, eq-eqb, eqb-true}
 use Rattle.std.specs.Prelude.{option_to_list, unwrap_or}
 use Rattle.std.specs.List.{list_all, list_any}
 use Rattle.std.proofs.lemmas.Bool.{and_from, and_parts, or_cases, or_left, or_right}
@@ -84,7 +84,8 @@ module _ (a b : World ℕ) (number : ℕ)
   pub lies_at : (object : ℕ) (layer : Layer ℕ) → lies_in_layer nat_eq a number object layer ≡ true
       → lies_in_layer nat_eq b number object layer ≡ true
   lies_at object layer h =
-      ap (λ (f : Filesystem ℕ). nat_eq number layer.filesystem && is_under nat_eq f.files layer.directory object) same ∙ h
+      ap (λ (f : Filesystem ℕ). nat_eq number layer.filesystem && is_under nat_eq f.files layer.directory object) same
+      ∙ h
 
   counts_at : (object : ℕ) (layer : Layer ℕ) (merged : Filesystem ℕ) → Among merged (overlays a)
       → counts_in_layer nat_eq a number object layer merged ≡ true
@@ -232,7 +233,8 @@ module _ (world : World ℕ) (names : List TaskName) (is : IsWorld nat_eq world)
       (and_parts (holds_of (λ (l : Layer ℕ). nat_eq number l.filesystem) c.overlay.upper)
       (list_any (is_real_upper nat_eq c.overlay object) merged.files.numbers) c.object_of).1 in
       let merge = is.overlays.overlays_merge merged.number c.overlay
-      (ap (λ (f : Filesystem ℕ). f.overlay) (found_filesystem world.filesystems is.files.one_filesystem merged there) ∙ c.is)
+      (ap (λ (f : Filesystem ℕ). f.overlay) (found_filesystem world.filesystems is.files.one_filesystem merged there)
+      ∙ c.is)
       in
       subst (λ n. is_some ((files_of n).tree.node object) ≡ true) (sym c.inside)
       (sym (ap (holds_of (λ (l : Layer ℕ). is_there nat_eq world l.filesystem object)) c.has)
@@ -304,7 +306,8 @@ module _ (world : World ℕ) (names : List TaskName) (is : IsWorld nat_eq world)
       let directory : is_directory_node ((files_of number).tree.node (files_of number).tree.root) ≡ true =
       subst (λ n. is_directory_node ((files_of n).tree.node (files_of number).tree.root) ≡ true) (sym layer.3)
       (subst (λ d. is_directory_node ((files_of layer.0.filesystem).tree.node d) ≡ true) (sym layer.4)
-      (layer_directory world names is at.0 (among-from_filter is_overlay world.filesystems at.0 at.1).0 layer.0 layer.1)) in
+      (layer_directory world names is at.0
+      (among-from_filter is_overlay world.filesystems at.0 at.1).0 layer.0 layer.1)) in
       let tree = tree_there number (files_of number).tree.root directory in
       record {
         merged = at.0;
@@ -329,7 +332,8 @@ module _ (world : World ℕ) (names : List TaskName) (is : IsWorld nat_eq world)
 
   -- what is wholly locked is locked in the part
   wholly_in_part : (number object : ℕ) → is_among nat_eq number (used_filesystems nat_eq world names) ≡ true
-      → IsWhole number → is_some ((files_of number).tree.node object) ≡ true → is_locked nat_eq part number object ≡ true
+      → IsWhole number → is_some ((files_of number).tree.node object) ≡ true
+      → is_locked nat_eq part number object ≡ true
   wholly_in_part number object used whole there =
       let in_part : Among whole.merged (overlays part) =
       among_from_contains (overlays part) whole.merged

@@ -49,7 +49,8 @@ module _ (own uses : ℕ → Bool) where
     pub same_masked : masked one ≡ masked other
     same_masked = λ i. record {
       namespace_called = λ name. None;
-      mount = λ number. same_if (own number) (one.mount number) (other.mount number) (no_mount number) (alike.mount number) i;
+      mount = λ number. same_if (own number) (one.mount number) (other.mount number) (no_mount number)
+          (alike.mount number) i;
       mount_count = 0;
       mount_tree = λ number. [];
       mounts_over = λ here.
@@ -58,16 +59,19 @@ module _ (own uses : ℕ → Bool) where
       is_busy = λ number. false;
       is_written_through = λ number. false;
       node = λ here. same_if (own here.mount) (one.node here) (other.node here) None (alike.node here) i;
-      is_removed = λ here. same_if (own here.mount) (one.is_removed here) (other.is_removed here) false (alike.removed here) i;
+      is_removed = λ here. same_if (own here.mount) (one.is_removed here) (other.is_removed here) false
+          (alike.removed here) i;
       is_under = λ filesystem top directory.
-          same_if (uses filesystem) (one.is_under filesystem top directory) (other.is_under filesystem top directory) false
+          same_if (uses filesystem) (one.is_under filesystem top directory)
+          (other.is_under filesystem top directory) false
           (alike.under filesystem top directory) i;
       overlay = λ here. same_if (own here.mount) (one.overlay here) (other.overlay here) None (alike.overlay here) i;
       mounter_rules = λ here change.
           same_if (own here.mount) (one.mounter_rules here change) (other.mounter_rules here change) []
           (alike.mounter here change) i;
       has_lower_directory = λ here name. false;
-      is_locked = λ here. same_if (own here.mount) (one.is_locked here) (other.is_locked here) false (alike.locked here) i;
+      is_locked = λ here. same_if (own here.mount) (one.is_locked here) (other.is_locked here) false
+          (alike.locked here) i;
       overlaps_one_of = λ others layer. false;
       is_in_use = λ overlay. false;
     }

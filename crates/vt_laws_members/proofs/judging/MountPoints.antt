@@ -60,7 +60,8 @@ module _ (world : World ℕ) (names : List TaskName) (is : IsWorld nat_eq world)
       ap (λ b. b || stands_on_one part points mount) (point_same mount m own point.0 point.1)
       ∙ ap (λ b. is_point nat_eq world point.0 point.1 mount || b) (all_same mount m own points)
 
-  points_same : (here : Location ℕ) → OnTheirs world names is here → points_of nat_eq part here ≡ points_of nat_eq world here
+  points_same : (here : Location ℕ) → OnTheirs world names is here
+      → points_of nat_eq part here ≡ points_of nat_eq world here
   points_same here own =
       ap (λ (f : Filesystem ℕ). (f.number, here.node)
       ∷ of_overlay [] (λ (overlay : Overlay ℕ). upper_points world f overlay here.node) f)
@@ -71,7 +72,8 @@ module _ (world : World ℕ) (names : List TaskName) (is : IsWorld nat_eq world)
   stood_theirs l m =
       let of = among-from_flat_map (λ (t : Task ℕ). t.root ∷ t.directory ∷ []) theirs l m in
       ⊎_elim (λ root. subst (OnTheirs world names is) (sym root) (root_theirs world names is of.0 of.1))
-      (λ rest. ⊎_elim (λ directory. subst (OnTheirs world names is) (sym directory) (directory_theirs world names is of.0 of.1))
+      (λ rest. ⊎_elim (λ directory. subst (OnTheirs world names is) (sym directory)
+      (directory_theirs world names is of.0 of.1))
       (λ none. absurd none) rest)
       of.2
 

@@ -65,7 +65,8 @@ module _ (world : World ℕ) (names : List TaskName) (is : IsWorld nat_eq world)
       (or_left (owns mount) (is_at nat_eq (roots_and_directories theirs) mount) own)
 
   -- a mount of theirs, by its number
-  pub own_theirs : (mount : Mount ℕ) → Among mount world.mounts → owns mount ≡ true → IsTheirs world names is.mounts mount.number
+  pub own_theirs : (mount : Mount ℕ) → Among mount world.mounts → owns mount ≡ true
+      → IsTheirs world names is.mounts mount.number
   own_theirs mount m own = (mount, m, refl, inl own)
 
   -- Children
@@ -121,7 +122,8 @@ module _ (world : World ℕ) (names : List TaskName) (is : IsWorld nat_eq world)
   pub part_one_number : OneNumberEach part
   part_one_number = apart world.mounts is.mounts.one_number
 
-  stands_too : (number : ℕ) → IsTheirs world names is.mounts number → Stands nat_eq world number → Stands nat_eq part number
+  stands_too : (number : ℕ) → IsTheirs world names is.mounts number → Stands nat_eq world number
+      → Stands nat_eq part number
   stands_too number own (at_root it e) =
       at_root it (ap (λ (m : Mount ℕ). m.mount_point) (same_mount world names is.mounts it own) ∙ e)
   stands_too number own (on_parent it point e f below) =
@@ -139,14 +141,16 @@ module _ (world : World ℕ) (names : List TaskName) (is : IsWorld nat_eq world)
       ∙ nowhere y from.0 y.mount_point refl from.1 none (kept_how world names theirs from.0 y from.2)))
       (part_mount world names is from.0 y from.1 from.2))
     where
-      nowhere : (y x : Mount ℕ) (o : Option (Location ℕ)) → y.mount_point ≡ o → Among x world.mounts → y.namespace ≡ None
+      nowhere : (y x : Mount ℕ) (o : Option (Location ℕ)) → y.mount_point ≡ o → Among x world.mounts
+          → y.namespace ≡ None
           → (x ≡ y) ⊎ ((seen_by_descriptor x ≡ y) × (owns x ≡ false)
           × (is_at nat_eq (roots_and_directories theirs) x ≡ false) × (is_at nat_eq (locations theirs) x ≡ true))
           → y.mount_point ≡ None
       nowhere y x None e m none how = e
       nowhere y x (Some point) e m none how =
           ⊎_elim
-          (λ same. absurd (nowhere_stands world names is.mounts y point (subst (λ z. Among z world.mounts) same m) none e))
+          (λ same. absurd (nowhere_stands world names is.mounts y point
+          (subst (λ z. Among z world.mounts) same m) none e))
           (λ stub. absurd (none_is_some point (ap (λ (z : Mount ℕ). z.mount_point) stub.0 ∙ e))) how
 
       by : (x y : Mount ℕ) → Among x world.mounts → kept x ≡ Some y → owns y ≡ true → Stands nat_eq part y.number
@@ -168,7 +172,8 @@ module _ (world : World ℕ) (names : List TaskName) (is : IsWorld nat_eq world)
   deep_in_part = rank part part_one_number part_stands
 
   -- at the bottom there is no child
-  none_below : (mount : Mount ℕ) → length world.mounts ≤ deep mount.number → children nat_eq world.mounts mount.number ≡ []
+  none_below : (mount : Mount ℕ) → length world.mounts ≤ deep mount.number
+      → children nat_eq world.mounts mount.number ≡ []
   none_below mount less = by (children nat_eq world.mounts mount.number) refl
     where
       by : (list : List (Mount ℕ)) → children nat_eq world.mounts mount.number ≡ list
@@ -188,7 +193,8 @@ module _ (world : World ℕ) (names : List TaskName) (is : IsWorld nat_eq world)
           → children nat_eq part.mounts mount.number ≡ []
       by [] e = e
       by (child ∷ rest) e =
-          let below = child_deeper part part_one_number part_stands mount child (subst (Among child) (sym e) (inl refl)) in
+          let below = child_deeper part part_one_number part_stands mount child
+          (subst (Among child) (sym e) (inl refl)) in
           let bound = rank_bounded part part_one_number part_stands child.number in
           absurd (omega (arith, below, bound, less))
 
@@ -247,7 +253,8 @@ module _ (world : World ℕ) (names : List TaskName) (is : IsWorld nat_eq world)
       let below = child_deeper world is.mounts.one_number is.mounts.standing mount child at in
       let below_in_part = child_deeper part part_one_number part_stands mount child
       (subst (Among child) (sym (children_alike mount.number own)) at) in
-      bindables_alike n k child (own_theirs child it.0 it.1) (omega (arith, l, below)) (omega (arith, m, below_in_part))))
+      bindables_alike n k child (own_theirs child it.0 it.1) (omega (arith, l, below))
+      (omega (arith, m, below_in_part))))
 
   under_alike : (source : Location ℕ) → IsTheirs world names is.mounts source.mount
       → filter (stands_under nat_eq part source) (bindable_children nat_eq part.mounts source.mount)

@@ -45,7 +45,8 @@ found_before world added number directory shows =
     by (find (λ (f : Filesystem ℕ). nat_eq number f.number) world.filesystems) refl
   where
     by : (o : Option (Filesystem ℕ)) → find (λ (f : Filesystem ℕ). nat_eq number f.number) world.filesystems ≡ o
-        → unwrap_or (find (λ (f : Filesystem ℕ). nat_eq number f.number) (world.filesystems ++ added ∷ [])) (no_filesystem number)
+        → unwrap_or (find (λ (f : Filesystem ℕ). nat_eq number f.number) (world.filesystems ++ added ∷ []))
+        (no_filesystem number)
         ≡ unwrap_or (find (λ (f : Filesystem ℕ). nat_eq number f.number) world.filesystems) (no_filesystem number)
     by None e =
         absurd (true≢false (sym shows
@@ -91,7 +92,8 @@ module _ (world : World ℕ) (names : List TaskName) (is : IsWorld nat_eq world)
       by None h own = true≢false (sym h)
       by (Some n) h own = true≢false (sym own ∙ ap own_one (sym (eqb-true namespace n h)) ∙ other)
 
-  count_alike : (namespace : ℕ) → own_one namespace ≡ true → count_in part.mounts namespace ≡ count_in world.mounts namespace
+  count_alike : (namespace : ℕ) → own_one namespace ≡ true
+      → count_in part.mounts namespace ≡ count_in world.mounts namespace
   count_alike namespace own =
       ap length (filter_kept (keep world names theirs) (is_in namespace)
       (λ x e. own_whole world names is x (inside_own namespace own x e))
@@ -175,10 +177,12 @@ module _ (world : World ℕ) (names : List TaskName) (is : IsWorld nat_eq world)
     shows : (mount : Mount ℕ) → Among mount world.mounts
         → is_directory_node ((filesystem_numbered nat_eq world mount.filesystem).files.tree.node mount.root) ≡ true
     shows mount m =
-        (and_parts (is_directory_node ((filesystem_numbered nat_eq world mount.filesystem).files.tree.node mount.root)) _
+        (and_parts (is_directory_node
+        ((filesystem_numbered nat_eq world mount.filesystem).files.tree.node mount.root)) _
         (among_from_list_all (has_its_root nat_eq world) world.mounts is.roots mount m)).0
 
-    added_parts : (added : Filesystem ℕ) → parts_of nat_eq (with_new_filesystem world added) place ≡ parts_of nat_eq world place
+    added_parts : (added : Filesystem ℕ)
+        → parts_of nat_eq (with_new_filesystem world added) place ≡ parts_of nat_eq world place
     added_parts added =
         ap (λ list. destination ∷ list)
         (filter_alike (takes (with_new_filesystem world added) place destination) (takes world place destination)
@@ -191,7 +195,8 @@ module _ (world : World ℕ) (names : List TaskName) (is : IsWorld nat_eq world)
     added_parts_in_part : (added : Filesystem ℕ)
         → parts_of nat_eq (with_new_filesystem part added) place ≡ parts_of nat_eq part place
     added_parts_in_part added =
-        ap (λ to. to ∷ filter (takes (with_new_filesystem part added) place to) (receivers_of nat_eq part to)) same_destination
+        ap (λ to. to ∷ filter (takes (with_new_filesystem part added) place to)
+        (receivers_of nat_eq part to)) same_destination
         ∙ ap (λ list. destination ∷ filter (takes (with_new_filesystem part added) place destination) list)
         (receivers_alike world names is sealed_off destination there own)
         ∙ ap (λ list. destination ∷ list)
@@ -216,14 +221,16 @@ module _ (world : World ℕ) (names : List TaskName) (is : IsWorld nat_eq world)
         → has_too_many nat_eq (attach nat_eq base supply place false mounts)
         ≡ has_too_many nat_eq (attach nat_eq other supply_too place false mounts_too)
     copies_alike base other same listed same_too listed_too parts parts_too supply supply_too mounts mounts_too long =
-        too_many_alike (attach nat_eq base supply place false mounts) (attach nat_eq other supply_too place false mounts_too)
+        too_many_alike (attach nat_eq base supply place false mounts)
+        (attach nat_eq other supply_too place false mounts_too)
         listed listed_too
         (λ namespace its.
         added_counted base place (copies_from nat_eq supply (parts_of nat_eq base place) mounts) mounts namespace
         ∙ ap (λ list. count_in list namespace + count_in (parts_of nat_eq base place) namespace * length mounts) same
         ∙ ap (λ list. count_in world.mounts namespace + count_in list namespace * length mounts)
         (parts ∙ sym parts_alike ∙ sym parts_too)
-        ∙ ap (λ n. n + count_in (parts_of nat_eq other place) namespace * length mounts) (sym (count_alike namespace its))
+        ∙ ap (λ n. n + count_in (parts_of nat_eq other place) namespace * length mounts)
+        (sym (count_alike namespace its))
         ∙ ap (λ n. count_in part.mounts namespace + count_in (parts_of nat_eq other place) namespace * n) long
         ∙ ap (λ list. count_in list namespace + count_in (parts_of nat_eq other place) namespace * length mounts_too)
         (sym same_too)
@@ -246,7 +253,8 @@ module _ (world : World ℕ) (names : List TaskName) (is : IsWorld nat_eq world)
         copies_alike (with_new_filesystem world (plain_filesystem nat_eq fresh))
         (with_new_filesystem part (plain_filesystem nat_eq other)) refl refl refl refl
         (added_parts (plain_filesystem nat_eq fresh)) (added_parts_in_part (plain_filesystem nat_eq other))
-        (odds fresh) (odds other) (mount_of flags (plain_filesystem nat_eq fresh)) (mount_of flags (plain_filesystem nat_eq other)) refl
+        (odds fresh) (odds other) (mount_of flags (plain_filesystem nat_eq fresh))
+        (mount_of flags (plain_filesystem nat_eq other)) refl
       where
         mount_of : MountFlags → Filesystem ℕ → List (Mount ℕ)
         mount_of flags filesystem = new_mount filesystem.number filesystem.files.tree.root flags ∷ []
@@ -266,7 +274,8 @@ module _ (world : World ℕ) (names : List TaskName) (is : IsWorld nat_eq world)
         mount_of flags filesystem = new_mount filesystem.number filesystem.files.tree.root flags ∷ []
 
     -- a source on a mount of theirs
-    pub bind_overfills : (fresh other : Fresh ℕ) (task : Task ℕ) (source : Location ℕ) (recursive : Bool) → On source.mount
+    pub bind_overfills : (fresh other : Fresh ℕ) (task : Task ℕ) (source : Location ℕ) (recursive : Bool)
+        → On source.mount
         → overfills nat_eq fresh world task (ToBind source place recursive)
         ≡ overfills nat_eq other part task (ToBind source place recursive)
     bind_overfills fresh other task source recursive from =
@@ -324,9 +333,11 @@ module _ (world : World ℕ) (names : List TaskName) (is : IsWorld nat_eq world)
           (within part source_in_part) namespace
 
       pub move_overfills : (fresh other : Fresh ℕ) (task : Task ℕ)
-          → overfills nat_eq fresh world task (ToMove number place) ≡ overfills nat_eq other part task (ToMove number place)
+          → overfills nat_eq fresh world task (ToMove number place)
+          ≡ overfills nat_eq other part task (ToMove number place)
       move_overfills fresh other task =
-          too_many_alike (attached_by nat_eq world new place true tree) (attached_by nat_eq part newer place true tree_too)
+          too_many_alike (attached_by nat_eq world new place true tree)
+          (attached_by nat_eq part newer place true tree_too)
           refl refl
           (λ namespace own_too.
           let all = moved_count new namespace in
@@ -335,7 +346,8 @@ module _ (world : World ℕ) (names : List TaskName) (is : IsWorld nat_eq world)
           let at_parts : count_in (parts_of nat_eq part place) namespace * length tree_too
           ≡ count_in (parts_of nat_eq world place) namespace * length tree =
           λ i. count_in (parts_alike i) namespace * length (same_tree i) in
-          let inside : count_in tree_too namespace ≡ count_in tree namespace = ap (λ list. count_in list namespace) same_tree in
+          let inside : count_in tree_too namespace ≡ count_in tree namespace =
+          ap (λ list. count_in list namespace) same_tree in
           omega (arith, all, all_too, count, at_parts, inside))
           (λ namespace outside.
           let all = moved_count new namespace in

@@ -46,15 +46,18 @@ module _ (world : World ℕ) (names : List TaskName) (is : IsWorld nat_eq world)
   on here e = theirs_from world names is.mounts here.mount e
 
   -- the mount below
-  parent_alike : (here : Location ℕ) → OnTheirs world names is here → has_shared_parent one here ≡ has_shared_parent other here
+  parent_alike : (here : Location ℕ) → OnTheirs world names is here
+      → has_shared_parent one here ≡ has_shared_parent other here
   parent_alike here own =
       by (mount_at nat_eq world here).mount_point refl
       ∙ ap (λ (m : Mount ℕ). holds_of (λ point. is_shared (mount_at nat_eq part point).propagation) m.mount_point)
       (mount_alike world names is here own)
     where
       by : (o : Option (Location ℕ)) → (mount_at nat_eq world here).mount_point ≡ o
-          → holds_of (λ point. is_shared (mount_at nat_eq world point).propagation) (mount_at nat_eq world here).mount_point
-          ≡ holds_of (λ point. is_shared (mount_at nat_eq part point).propagation) (mount_at nat_eq world here).mount_point
+          → holds_of (λ point. is_shared (mount_at nat_eq world point).propagation)
+          (mount_at nat_eq world here).mount_point
+          ≡ holds_of (λ point. is_shared (mount_at nat_eq part point).propagation)
+          (mount_at nat_eq world here).mount_point
       by None e =
           ap (holds_of (λ point. is_shared (mount_at nat_eq world point).propagation)) e
           ∙ sym (ap (holds_of (λ point. is_shared (mount_at nat_eq part point).propagation)) e)
@@ -79,18 +82,21 @@ module _ (world : World ℕ) (names : List TaskName) (is : IsWorld nat_eq world)
   below_alike top here own there =
       ap (list_any (λ (location : Location ℕ). nat_eq top.mount location.mount
       && one.is_under (mount_at nat_eq world top).filesystem top.node location.node)) (down_alike here there)
-      ∙ (λ i. list_any (λ (location : Location ℕ). nat_eq top.mount location.mount && same location.node i) (down part here))
+      ∙ (λ i. list_any (λ (location : Location ℕ). nat_eq top.mount location.mount && same location.node i)
+      (down part here))
     where
       same : (node : ℕ) → one.is_under (mount_at nat_eq world top).filesystem top.node node
           ≡ other.is_under (mount_at nat_eq part top).filesystem top.node node
       same node =
-          under_alike world names is (mount_at nat_eq world top).filesystem (theirs_used world names is top own) top.node node
+          under_alike world names is (mount_at nat_eq world top).filesystem
+          (theirs_used world names is top own) top.node node
           ∙ ap (λ (m : Mount ℕ). other.is_under m.filesystem top.node node) (mount_alike world names is top own)
 
   -- no other task has a file open through a mount of theirs
   abbrev writes_through : ℕ → Task ℕ → Bool
   writes_through number t =
-      list_any (λ (descriptor : Descriptor ℕ). descriptor.writes && nat_eq number descriptor.location.mount) t.descriptors
+      list_any (λ (descriptor : Descriptor ℕ). descriptor.writes
+      && nat_eq number descriptor.location.mount) t.descriptors
 
   none_writes : (number : ℕ) → is_own world names (members world names) (mount_numbered nat_eq world number) ≡ true
       → (t : Task ℕ) → Among t world.tasks → is_member_task names t ≡ false → writes_through number t ≡ false
@@ -105,7 +111,8 @@ module _ (world : World ℕ) (names : List TaskName) (is : IsWorld nat_eq world)
       (among-flat_map locations_of (outsiders world names) t at.0.location
       (among-filter (λ t. not (is_member_task names t)) world.tasks t m (ap not outside))
       (inr (inr (among-map (λ (d : Descriptor ℕ). d.location) t.descriptors at.0 at.1))))) in
-      true≢false (sym own ∙ ap (λ n. is_own world names (members world names) (mount_numbered nat_eq world n)) here ∙ away))
+      true≢false (sym own ∙ ap (λ n. is_own world names (members world names) (mount_numbered nat_eq world n)) here
+      ∙ away))
 
   written_alike : (here : Location ℕ) → is_elsewhere nat_eq one task here ≡ false
       → one.is_written_through here.mount ≡ other.is_written_through here.mount

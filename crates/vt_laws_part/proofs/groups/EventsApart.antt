@@ -108,7 +108,8 @@ module _ (world : World ℕ) (names : List TaskName) (is : MountInvariants nat_e
         above_lives group lower e lives,
       )
     where
-      member_group : (g : ℕ) (mount : Mount ℕ) → is_member_of nat_eq g mount ≡ true → group_of mount.propagation ≡ Some g
+      member_group : (g : ℕ) (mount : Mount ℕ) → is_member_of nat_eq g mount ≡ true
+          → group_of mount.propagation ≡ Some g
       member_group g mount h = by (group_of mount.propagation) h
         where
           by : (o : Option ℕ) → holds_of (nat_eq g) o ≡ true → o ≡ Some g

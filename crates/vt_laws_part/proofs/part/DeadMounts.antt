@@ -38,7 +38,8 @@ module _ (world : World ℕ) (names : List TaskName) where
       → nat_eq location.mount x.number ≡ true → lives x ≡ true
   located_lives x location m e =
       or_right (is_some x.namespace) _
-      (any_from_among (λ (l : Location ℕ). nat_eq x.number l.mount) (all_locations world) location (among_all location m)
+      (any_from_among (λ (l : Location ℕ). nat_eq x.number l.mount) (all_locations world) location
+      (among_all location m)
       (ap (λ n. nat_eq n location.mount) (sym (eqb-true location.mount x.number e))
       ∙ eq-eqb location.mount location.mount refl))
 
@@ -56,7 +57,8 @@ module _ (world : World ℕ) (names : List TaskName) where
       located_lives x found.0 found.1 found.2
 
   -- roots and working directories are locations
-  root_at : (x : Mount ℕ) → is_at nat_eq (roots_and_directories theirs) x ≡ true → is_at nat_eq (locations theirs) x ≡ true
+  root_at : (x : Mount ℕ) → is_at nat_eq (roots_and_directories theirs) x ≡ true
+      → is_at nat_eq (locations theirs) x ≡ true
   root_at x e =
       let found = any_among (λ (l : Location ℕ). nat_eq l.mount x.number) (roots_and_directories theirs) e in
       let task = among-from_flat_map (λ (t : Task ℕ). t.root ∷ t.directory ∷ []) theirs found.0 found.1 in
@@ -67,7 +69,8 @@ module _ (world : World ℕ) (names : List TaskName) where
 
   kept_lives : (x y : Mount ℕ) → kept x ≡ Some y → lives x ≡ true
   kept_lives x y e =
-      by (is_own world names theirs x) (is_at nat_eq (roots_and_directories theirs) x) (is_at nat_eq (locations theirs) x)
+      by (is_own world names theirs x) (is_at nat_eq (roots_and_directories theirs) x)
+      (is_at nat_eq (locations theirs) x)
       refl refl refl
     where
       by : (a b c : Bool) → is_own world names theirs x ≡ a → is_at nat_eq (roots_and_directories theirs) x ≡ b
@@ -89,7 +92,8 @@ module _ (world : World ℕ) (names : List TaskName) where
       by : (o : Option (Mount ℕ)) → kept x ≡ o → (b : Bool) → lives x ≡ b
           → filter_map kept (filter lives rest) ≡ filter_map kept rest
           → filter_map kept (cond b (x ∷ filter lives rest) (filter lives rest)) ≡ cons_option o (filter_map kept rest)
-      by o e true f in_rest = ap (λ k. cons_option k (filter_map kept (filter lives rest))) e ∙ ap (cons_option o) in_rest
+      by o e true f in_rest = ap (λ k. cons_option k (filter_map kept (filter lives rest))) e
+          ∙ ap (cons_option o) in_rest
       by None e false f in_rest = in_rest
       by (Some y) e false f in_rest = absurd (true≢false (sym (kept_lives x y e) ∙ f))
 

@@ -17,7 +17,8 @@ use Rattle.vt_laws_part.specs.Parts.{OnlyTheirFlagsChangeThePart}
 use Rattle.vt_laws_part.proofs.part.PartOfPart.{is_own, keep, kept_how}
 
 module _ (world : World ℕ) (names : List TaskName) (one : OneNumberEach world) (old : Mount ℕ)
-    (there : Among old world.mounts) (own : is_own world names (members world names) old ≡ true) (flags : MountFlags) where
+    (there : Among old world.mounts) (own : is_own world names (members world names) old ≡ true)
+    (flags : MountFlags) where
   abbrev new : Mount ℕ
   new = record old { flags = flags }
 
@@ -48,7 +49,8 @@ module _ (world : World ℕ) (names : List TaskName) (one : OneNumberEach world)
           → ((x ≡ old) × (set x ≡ new)) ⊎ (nat_eq old.number x.number ≡ false)
       by true e =
           inl (
-            sym (found_itself world.mounts one x m) ∙ ap (mount_in nat_eq world.mounts) (sym (eqb-true old.number x.number e))
+            sym (found_itself world.mounts one x m)
+                ∙ ap (mount_in nat_eq world.mounts) (sym (eqb-true old.number x.number e))
                 ∙ found_itself world.mounts one old there,
             ap (λ b. cond b new x) e,
           )
@@ -74,7 +76,8 @@ module _ (world : World ℕ) (names : List TaskName) (one : OneNumberEach world)
       same t None e = refl
       same t (Some y) e =
           ap Some (sym (apart y (ap (nat_eq old.number)
-          (⊎_elim (λ same. ap (λ (z : Mount ℕ). z.number) (sym same)) (λ stub. ap (λ (z : Mount ℕ). z.number) (sym stub.0))
+          (⊎_elim (λ same. ap (λ (z : Mount ℕ). z.number) (sym same))
+          (λ stub. ap (λ (z : Mount ℕ). z.number) (sym stub.0))
           (kept_how world names theirs x y e)) ∙ t)))
 
   all_of : {B : Type 0} (f : Mount ℕ → B) → f new ≡ f old → (list : List (Mount ℕ))
@@ -115,7 +118,8 @@ module _ (world : World ℕ) (names : List TaskName) (one : OneNumberEach world)
       ∙ by (kept x) (mounts_set rest (λ y m. h y (inr m)))
     where
       by : (o : Option (Mount ℕ)) → filter_map kept (map set rest) ≡ map set (filter_map kept rest)
-          → cons_option (option_map set o) (filter_map kept (map set rest)) ≡ map set (cons_option o (filter_map kept rest))
+          → cons_option (option_map set o) (filter_map kept (map set rest))
+          ≡ map set (cons_option o (filter_map kept rest))
       by None later = later
       by (Some y) later = ap (λ l. set y ∷ l) later
 
@@ -129,12 +133,14 @@ module _ (world : World ℕ) (names : List TaskName) (one : OneNumberEach world)
   found_filesystem number [] = number
   found_filesystem number (x ∷ rest) = cond (nat_eq number x.number) x.filesystem (found_filesystem number rest)
 
-  found_so : (number : ℕ) (list : List (Mount ℕ)) → (mount_in nat_eq list number).filesystem ≡ found_filesystem number list
+  found_so : (number : ℕ) (list : List (Mount ℕ))
+      → (mount_in nat_eq list number).filesystem ≡ found_filesystem number list
   found_so number [] = refl
   found_so number (x ∷ rest) = by (nat_eq number x.number) (found_so number rest)
     where
       by : (b : Bool) → (mount_in nat_eq rest number).filesystem ≡ found_filesystem number rest
-          → (unwrap_or (cond b (Some x) (find (λ (m : Mount ℕ). nat_eq number m.number) rest)) (no_mount number)).filesystem
+          → (unwrap_or (cond b (Some x) (find (λ (m : Mount ℕ). nat_eq number m.number) rest))
+          (no_mount number)).filesystem
           ≡ cond b x.filesystem (found_filesystem number rest)
       by true e = refl
       by false e = e
@@ -144,14 +150,17 @@ module _ (world : World ℕ) (names : List TaskName) (one : OneNumberEach world)
   found_set number [] h = refl
   found_set number (x ∷ rest) h =
       ⊎_elim
-      (λ t. ap (λ (f : Mount ℕ). cond (nat_eq number f.number) f.filesystem (found_filesystem number (map set rest))) t.1
-      ∙ ap (λ (f : Mount ℕ). cond (nat_eq number f.number) f.filesystem (found_filesystem number (map set rest))) (sym t.0))
+      (λ t. ap (λ (f : Mount ℕ). cond (nat_eq number f.number) f.filesystem
+      (found_filesystem number (map set rest))) t.1
+      ∙ ap (λ (f : Mount ℕ). cond (nat_eq number f.number) f.filesystem (found_filesystem number (map set rest)))
+      (sym t.0))
       (λ t. ap (λ (f : Mount ℕ). cond (nat_eq number f.number) f.filesystem (found_filesystem number (map set rest)))
       (apart x t))
       (which x (h x (inl refl)))
       ∙ ap (cond (nat_eq number x.number) x.filesystem) (found_set number rest (λ y m. h y (inr m)))
 
-  located : (location : Location ℕ) → (mount_at nat_eq later location).filesystem ≡ (mount_at nat_eq world location).filesystem
+  located : (location : Location ℕ)
+      → (mount_at nat_eq later location).filesystem ≡ (mount_at nat_eq world location).filesystem
   located location =
       found_so location.mount (map set world.mounts) ∙ found_set location.mount world.mounts all_there
       ∙ sym (found_so location.mount world.mounts)
@@ -169,9 +178,11 @@ module _ (world : World ℕ) (names : List TaskName) (one : OneNumberEach world)
   -- filesystems are found by what is used directly
   abbrev shown_by : List ℕ → Filesystem ℕ → Option (Filesystem ℕ)
   shown_by direct x =
-      let used : List ℕ = each_once nat_eq (direct ++ flat_map (λ n. change_layers (filesystem_numbered nat_eq world n)) direct) in
+      let used : List ℕ = each_once nat_eq
+      (direct ++ flat_map (λ n. change_layers (filesystem_numbered nat_eq world n)) direct) in
       let lowers : List (Layer ℕ) =
-      flat_map (λ n. of_overlay [] (λ (overlay : Overlay ℕ). overlay.lowers) (filesystem_numbered nat_eq world n)) direct in
+      flat_map (λ n. of_overlay [] (λ (overlay : Overlay ℕ). overlay.lowers)
+      (filesystem_numbered nat_eq world n)) direct in
       cond (is_among nat_eq x.number used) (Some x)
       (when (list_any (λ layer. nat_eq x.number layer.filesystem) lowers) (record x {
         files = only_among nat_eq

@@ -86,7 +86,8 @@ module _ (world : World ℕ) (names : List TaskName) (is : MountInvariants nat_e
         skip None e f = refl
         skip (Some y) e f =
             ap (λ b. cond b (Some y) (find (stands_at nat_eq here) (filter_map kept rest)))
-            (⊎_elim (λ same. ap (stands_at nat_eq here) (sym same) ∙ f) (λ stub. ap (stands_at nat_eq here) (sym stub.0))
+            (⊎_elim (λ same. ap (stands_at nat_eq here) (sym same) ∙ f)
+            (λ stub. ap (stands_at nat_eq here) (sym stub.0))
             (kept_how world names theirs x y e))
 
         by : (b : Bool) → stands_at nat_eq here x ≡ b

@@ -45,7 +45,8 @@ module _ (world later : World ℕ) (names : List TaskName) (same : SeesTheSame w
 
   pub used_same : used_filesystems nat_eq later names ≡ used_filesystems nat_eq world names
   used_same =
-      ap (λ d. each_once nat_eq (d ++ flat_map (λ n. change_layers (filesystem_numbered nat_eq later n)) d)) directly_same
+      ap (λ d. each_once nat_eq
+      (d ++ flat_map (λ n. change_layers (filesystem_numbered nat_eq later n)) d)) directly_same
       ∙ ap (λ l. each_once nat_eq (direct ++ l))
       (flat_map_alike (λ n. change_layers (filesystem_numbered nat_eq later n))
       (λ n. change_layers (filesystem_numbered nat_eq world n)) direct
@@ -53,11 +54,14 @@ module _ (world later : World ℕ) (names : List TaskName) (same : SeesTheSame w
 
   pub lowers_same : own_lowers nat_eq later names ≡ own_lowers nat_eq world names
   lowers_same =
-      ap (λ d. flat_map (λ n. of_overlay [] (λ (overlay : Overlay ℕ). overlay.lowers) (filesystem_numbered nat_eq later n)) d)
+      ap (λ d. flat_map (λ n. of_overlay [] (λ (overlay : Overlay ℕ). overlay.lowers)
+      (filesystem_numbered nat_eq later n)) d)
       directly_same
-      ∙ flat_map_alike (λ n. of_overlay [] (λ (overlay : Overlay ℕ). overlay.lowers) (filesystem_numbered nat_eq later n))
+      ∙ flat_map_alike (λ n. of_overlay [] (λ (overlay : Overlay ℕ). overlay.lowers)
+      (filesystem_numbered nat_eq later n))
       (λ n. of_overlay [] (λ (overlay : Overlay ℕ). overlay.lowers) (filesystem_numbered nat_eq world n)) direct
-      (λ n m. ap (of_overlay [] (λ (overlay : Overlay ℕ). overlay.lowers)) (same.direct n (contains_from_among direct n m)))
+      (λ n m. ap (of_overlay [] (λ (overlay : Overlay ℕ). overlay.lowers))
+      (same.direct n (contains_from_among direct n m)))
 
   masters_same : part_of_master nat_eq later names ≡ part_of_master nat_eq world names
   masters_same =

@@ -40,7 +40,8 @@ module _ (world : World ℕ) (names : List TaskName) where
       → (x ≡ y) ⊎ ((seen_by_descriptor x ≡ y) × (is_own tasks x ≡ false)
       × (is_at nat_eq (roots_and_directories tasks) x ≡ false) × (is_at nat_eq (locations tasks) x ≡ true))
   kept_how tasks x y e =
-      by (is_own tasks x) (is_at nat_eq (roots_and_directories tasks) x) (is_at nat_eq (locations tasks) x) refl refl refl e
+      by (is_own tasks x) (is_at nat_eq (roots_and_directories tasks) x)
+      (is_at nat_eq (locations tasks) x) refl refl refl e
     where
       by : (a b c : Bool) → is_own tasks x ≡ a → is_at nat_eq (roots_and_directories tasks) x ≡ b
           → is_at nat_eq (locations tasks) x ≡ c
@@ -61,7 +62,8 @@ module _ (world : World ℕ) (names : List TaskName) where
   keeps_again tasks x y e =
       ⊎_elim (λ same. ap (keep tasks) (sym same) ∙ e)
       (λ stub. subst (λ z. keep tasks z ≡ Some z) stub.0
-      (ap (λ b. cond b (Some (seen_by_descriptor x)) (when (is_at nat_eq (locations tasks) x) (seen_by_descriptor x))) stub.2
+      (ap (λ b. cond b (Some (seen_by_descriptor x))
+      (when (is_at nat_eq (locations tasks) x) (seen_by_descriptor x))) stub.2
       ∙ ap (λ b. when b (seen_by_descriptor x)) stub.3))
       (kept_how tasks x y e)
 
@@ -72,7 +74,8 @@ module _ (world : World ℕ) (names : List TaskName) where
 
   none_own : (x y : Mount ℕ) → keep theirs x ≡ Some y → is_own theirs x ≡ false → is_own theirs y ≡ false
   none_own x y e f =
-      ⊎_elim (λ same. ap (is_own theirs) (sym same) ∙ f) (λ stub. ap (is_own theirs) (sym stub.0)) (kept_how theirs x y e)
+      ⊎_elim (λ same. ap (is_own theirs) (sym same) ∙ f) (λ stub. ap (is_own theirs) (sym stub.0))
+      (kept_how theirs x y e)
 
   pub same_own : own_mounts nat_eq part names ≡ own_mounts nat_eq world names
   same_own =
@@ -117,7 +120,8 @@ module _ (world : World ℕ) (names : List TaskName) where
       → (mount_at nat_eq part location).filesystem ≡ (mount_at nat_eq world location).filesystem
   located location m =
       find_kept (keep theirs) (λ mount. nat_eq location.mount mount.number)
-      (kept_at location.mount (λ x e. any_from_among (λ (l : Location ℕ). nat_eq l.mount x.number) (locations theirs) location m e))
+      (kept_at location.mount
+      (λ x e. any_from_among (λ (l : Location ℕ). nat_eq l.mount x.number) (locations theirs) location m e))
       (λ x y e f. ap (nat_eq location.mount) (same_number x y e) ∙ f)
       ℕ (λ (mount : Mount ℕ). mount.filesystem) same_filesystem (no_mount location.mount) world.mounts
 
@@ -142,7 +146,8 @@ module _ (world : World ℕ) (names : List TaskName) where
       × (is_among nat_eq x.number used ≡ false)
       × (list_any (λ layer. nat_eq x.number layer.filesystem) (own_lowers nat_eq world names) ≡ true))
   shown_how x y e =
-      by (is_among nat_eq x.number used) (list_any (λ layer. nat_eq x.number layer.filesystem) (own_lowers nat_eq world names))
+      by (is_among nat_eq x.number used)
+      (list_any (λ layer. nat_eq x.number layer.filesystem) (own_lowers nat_eq world names))
       refl refl e
     where
       by : (a b : Bool) → is_among nat_eq x.number used ≡ a
@@ -157,7 +162,8 @@ module _ (world : World ℕ) (names : List TaskName) where
 
   shown_number : (x y : Filesystem ℕ) → shown x ≡ Some y → y.number ≡ x.number
   shown_number x y e =
-      ⊎_elim (λ same. ap (λ (f : Filesystem ℕ). f.number) (sym same.0)) (λ low. ap (λ (f : Filesystem ℕ). f.number) (sym low.0))
+      ⊎_elim (λ same. ap (λ (f : Filesystem ℕ). f.number) (sym same.0))
+      (λ low. ap (λ (f : Filesystem ℕ). f.number) (sym low.0))
       (shown_how x y e)
 
   -- a filesystem that they use is whole in the part
@@ -168,21 +174,28 @@ module _ (world : World ℕ) (names : List TaskName) where
       step : (x : Filesystem ℕ) (rest : List (Filesystem ℕ)) (b : Bool) → nat_eq number x.number ≡ b
           → unwrap_or (find (λ f. nat_eq number f.number) (filter_map shown rest)) (no_filesystem number)
           ≡ unwrap_or (find (λ f. nat_eq number f.number) rest) (no_filesystem number)
-          → unwrap_or (find (λ f. nat_eq number f.number) (cons_option (shown x) (filter_map shown rest))) (no_filesystem number)
+          → unwrap_or (find (λ f. nat_eq number f.number) (cons_option (shown x) (filter_map shown rest)))
+          (no_filesystem number)
           ≡ unwrap_or (cond b (Some x) (find (λ f. nat_eq number f.number) rest)) (no_filesystem number)
       step x rest true e later =
-          ap (λ o. unwrap_or (find (λ f. nat_eq number f.number) (cons_option o (filter_map shown rest))) (no_filesystem number))
-          (ap (λ b. cond b (Some x) (when (list_any (λ layer. nat_eq x.number layer.filesystem) (own_lowers nat_eq world names))
-          (part_of_lower nat_eq world names x))) (ap (λ n. is_among nat_eq n used) (sym (eqb-true number x.number e)) ∙ m))
-          ∙ ap (λ b. unwrap_or (cond b (Some x) (find (λ f. nat_eq number f.number) (filter_map shown rest))) (no_filesystem number)) e
+          ap (λ o. unwrap_or (find (λ f. nat_eq number f.number) (cons_option o (filter_map shown rest)))
+          (no_filesystem number))
+          (ap (λ b. cond b (Some x)
+          (when (list_any (λ layer. nat_eq x.number layer.filesystem) (own_lowers nat_eq world names))
+          (part_of_lower nat_eq world names x)))
+          (ap (λ n. is_among nat_eq n used) (sym (eqb-true number x.number e)) ∙ m))
+          ∙ ap (λ b. unwrap_or (cond b (Some x) (find (λ f. nat_eq number f.number) (filter_map shown rest)))
+          (no_filesystem number)) e
       step x rest false e later = by (shown x) refl
         where
           by : (o : Option (Filesystem ℕ)) → shown x ≡ o
-              → unwrap_or (find (λ f. nat_eq number f.number) (cons_option o (filter_map shown rest))) (no_filesystem number)
+              → unwrap_or (find (λ f. nat_eq number f.number) (cons_option o (filter_map shown rest)))
+              (no_filesystem number)
               ≡ unwrap_or (find (λ f. nat_eq number f.number) rest) (no_filesystem number)
           by None g = later
           by (Some y) g =
-              ap (λ b. unwrap_or (cond b (Some y) (find (λ f. nat_eq number f.number) (filter_map shown rest))) (no_filesystem number))
+              ap (λ b. unwrap_or (cond b (Some y) (find (λ f. nat_eq number f.number) (filter_map shown rest)))
+              (no_filesystem number))
               (ap (nat_eq number) (shown_number x y g) ∙ e) ∙ later
 
       search : (list : List (Filesystem ℕ))
@@ -191,7 +204,8 @@ module _ (world : World ℕ) (names : List TaskName) where
       search [] = refl
       search (x ∷ rest) = step x rest (nat_eq number x.number) refl (search rest)
 
-  pub used_directly_used : (number : ℕ) → Among number (used_directly nat_eq world names) → is_among nat_eq number used ≡ true
+  pub used_directly_used : (number : ℕ) → Among number (used_directly nat_eq world names)
+      → is_among nat_eq number used ≡ true
   used_directly_used number m =
       is_among_numbers used number
       (among-each_once (used_directly nat_eq world names
@@ -200,7 +214,8 @@ module _ (world : World ℕ) (names : List TaskName) where
 
   pub same_used : used_filesystems nat_eq part names ≡ used
   same_used =
-      ap (λ d. each_once nat_eq (d ++ flat_map (λ n. change_layers (filesystem_numbered nat_eq part n)) d)) same_directly
+      ap (λ d. each_once nat_eq
+      (d ++ flat_map (λ n. change_layers (filesystem_numbered nat_eq part n)) d)) same_directly
       ∙ ap (λ l. each_once nat_eq (used_directly nat_eq world names ++ l))
       (flat_map_alike (λ n. change_layers (filesystem_numbered nat_eq part n))
       (λ n. change_layers (filesystem_numbered nat_eq world n)) (used_directly nat_eq world names)
@@ -208,9 +223,11 @@ module _ (world : World ℕ) (names : List TaskName) where
 
   pub same_lowers : own_lowers nat_eq part names ≡ own_lowers nat_eq world names
   same_lowers =
-      ap (λ d. flat_map (λ n. of_overlay [] (λ (overlay : Overlay ℕ). overlay.lowers) (filesystem_numbered nat_eq part n)) d)
+      ap (λ d. flat_map (λ n. of_overlay [] (λ (overlay : Overlay ℕ). overlay.lowers)
+      (filesystem_numbered nat_eq part n)) d)
       same_directly
-      ∙ flat_map_alike (λ n. of_overlay [] (λ (overlay : Overlay ℕ). overlay.lowers) (filesystem_numbered nat_eq part n))
+      ∙ flat_map_alike (λ n. of_overlay [] (λ (overlay : Overlay ℕ). overlay.lowers)
+      (filesystem_numbered nat_eq part n))
       (λ n. of_overlay [] (λ (overlay : Overlay ℕ). overlay.lowers) (filesystem_numbered nat_eq world n))
       (used_directly nat_eq world names)
       (λ n m. ap (of_overlay [] (λ (overlay : Overlay ℕ). overlay.lowers)) (found n (used_directly_used n m)))
@@ -225,8 +242,10 @@ module _ (world : World ℕ) (names : List TaskName) where
         (λ same. ap (λ u. cond (is_among nat_eq y.number u) (Some y)
         (when (list_any (λ layer. nat_eq y.number layer.filesystem) (own_lowers nat_eq part names))
         (part_of_lower nat_eq part names y))) same_used
-        ∙ ap (λ b. cond b (Some y) (when (list_any (λ layer. nat_eq y.number layer.filesystem) (own_lowers nat_eq part names))
-        (part_of_lower nat_eq part names y))) (ap (λ (f : Filesystem ℕ). is_among nat_eq f.number used) (sym same.0) ∙ same.1))
+        ∙ ap (λ b. cond b (Some y)
+        (when (list_any (λ layer. nat_eq y.number layer.filesystem) (own_lowers nat_eq part names))
+        (part_of_lower nat_eq part names y)))
+        (ap (λ (f : Filesystem ℕ). is_among nat_eq f.number used) (sym same.0) ∙ same.1))
         (λ low. absurd (true≢false (sym (all_used x.number low.2) ∙ low.1)))
         (shown_how x y e)
 
@@ -239,7 +258,8 @@ module _ (world : World ℕ) (names : List TaskName) where
             ≡ cons_option o (filter_map shown rest)
         step x rest None e later = later
         step x rest (Some y) e later =
-            ap (λ o. cons_option o (filter_map (part_of_filesystem nat_eq part names) (filter_map shown rest))) (shown_again x y e)
+            ap (λ o. cons_option o (filter_map (part_of_filesystem nat_eq part names) (filter_map shown rest)))
+            (shown_again x y e)
             ∙ ap (λ l. y ∷ l) later
 
         search : (list : List (Filesystem ℕ))
@@ -249,8 +269,10 @@ module _ (world : World ℕ) (names : List TaskName) where
 
     same_masters : part_of_master nat_eq part names ≡ part_of_master nat_eq world names
     same_masters =
-        ap (λ l. λ (group : ℕ). cond (list_any (is_member_of nat_eq group) l) (part_of_master nat_eq world names group) None) same_own
-        ∙ (λ i group. twice (list_any (is_member_of nat_eq group) (own_mounts nat_eq world names)) (world.master group) i)
+        ap (λ l. λ (group : ℕ). cond (list_any (is_member_of nat_eq group) l)
+        (part_of_master nat_eq world names group) None) same_own
+        ∙ (λ i group. twice (list_any (is_member_of nat_eq group) (own_mounts nat_eq world names))
+        (world.master group) i)
       where
         twice : (b : Bool) (o : Option ℕ) → cond b (cond b o None) None ≡ cond b o None
         twice true o = refl
@@ -263,13 +285,15 @@ module _ (world : World ℕ) (names : List TaskName) where
     same_namespaces : kept_namespaces (members part names) part.namespaces ≡ part.namespaces
     same_namespaces =
         ap (λ tasks. kept_namespaces tasks part.namespaces) same_members
-        ∙ filter_again (λ (n : Namespace ℕ). list_any (λ (task : Task ℕ). nat_eq n.number task.namespace) theirs) world.namespaces
+        ∙ filter_again (λ (n : Namespace ℕ). list_any
+        (λ (task : Task ℕ). nat_eq n.number task.namespace) theirs) world.namespaces
 
     pub part_of_part : part_of nat_eq part names ≡ part
     part_of_part =
         ap (λ m. record (part_of nat_eq part names) { mounts = m }) same_mounts
         ∙ ap (λ m. record (part_of nat_eq part names) { mounts = part.mounts; master = m }) same_masters
-        ∙ ap (λ f. record (part_of nat_eq part names) { mounts = part.mounts; master = part.master; filesystems = f }) same_shown
+        ∙ ap (λ f. record (part_of nat_eq part names)
+        { mounts = part.mounts; master = part.master; filesystems = f }) same_shown
         ∙ ap (λ n. record part { namespaces = n; tasks = members part names }) same_namespaces
         ∙ ap (λ t. record part { tasks = t }) same_members
 

@@ -26,7 +26,8 @@ module _ (world : World ℕ) (names : List TaskName) (new : Filesystem ℕ)
       (among-each_once (used_directly nat_eq world names
       ++ flat_map (λ n. change_layers (filesystem_numbered nat_eq world n)) (used_directly nat_eq world names))
       new.number
-      (among-append_left (used_directly nat_eq world names) _ new.number (subst (λ n. Among n (used_directly nat_eq world names)) e m))))
+      (among-append_left (used_directly nat_eq world names) _ new.number
+      (subst (λ n. Among n (used_directly nat_eq world names)) e m))))
       ∙ unused)
 
   found : (number : ℕ) → Among number (used_directly nat_eq world names)
@@ -57,7 +58,8 @@ module _ (world : World ℕ) (names : List TaskName) (new : Filesystem ℕ)
   none_of_it there x e =
       ap (λ b. cond b (Some x) (when (list_any (λ layer. nat_eq x.number layer.filesystem) lowers) (lower_by there x)))
       (ap (λ n. is_among nat_eq n used) e ∙ unused)
-      ∙ ap (λ b. when b (lower_by there x)) (ap (λ n. list_any (λ layer. nat_eq n layer.filesystem) lowers) e ∙ no_lower)
+      ∙ ap (λ b. when b (lower_by there x))
+      (ap (λ n. list_any (λ layer. nat_eq n layer.filesystem) lowers) e ∙ no_lower)
 
   each : (x : Filesystem ℕ)
       → shown_of later used lowers (replaced_if_numbered nat_eq new x) ≡ shown_of world used lowers x
@@ -70,7 +72,8 @@ module _ (world : World ℕ) (names : List TaskName) (new : Filesystem ℕ)
           ∙ sym (none_of_it (filesystem_numbered nat_eq world x.number) x (sym (eqb-true new.number x.number e)))
       by false e =
           ap (λ f. part_by f x)
-          (filesystem_elsewhere world new x.number (λ same. true≢false (sym (eq-eqb new.number x.number (sym same)) ∙ e)))
+          (filesystem_elsewhere world new x.number
+          (λ same. true≢false (sym (eq-eqb new.number x.number (sym same)) ∙ e)))
 
   pub sees_the_same : SeesTheSame world later names
   sees_the_same = record {

@@ -40,7 +40,8 @@ module _ (world : World ℕ) (names : List TaskName) (is : IsWorld nat_eq world)
           among-append_right (map (λ (m : Mount ℕ). m.filesystem) (own_mounts nat_eq world names)) _ filesystem
           (subst (λ f. Among f (map (λ (l : Location ℕ). (mount_at nat_eq world l).filesystem)
           (locations (members world names)))) here
-          (among-map (λ (l : Location ℕ). (mount_at nat_eq world l).filesystem) (locations (members world names)) location
+          (among-map (λ (l : Location ℕ). (mount_at nat_eq world l).filesystem)
+          (locations (members world names)) location
           (among-flat_map locations_of (members world names) task location
           (among-filter (is_member_task names) world.tasks task there member) at)))
       by location task there at here false member =
@@ -60,7 +61,8 @@ module _ (world : World ℕ) (names : List TaskName) (is : IsWorld nat_eq world)
     where
       by : (o : Option ℕ) → mount.namespace ≡ o → Among filesystem (used_directly nat_eq world names)
       by None none =
-          located_by mount.number filesystem mount (found_itself world.mounts is.mounts.one_number mount there) shows alone
+          located_by mount.number filesystem mount
+          (found_itself world.mounts is.mounts.one_number mount there) shows alone
           (ap (λ o. is_some o || is_located nat_eq world mount.number) (sym none)
           ∙ among_from_list_all (mount_lives nat_eq world) world.mounts (all_in_use world is).mounts mount there)
       by (Some namespace) at = which (is_own_namespace nat_eq world names namespace) refl
@@ -75,7 +77,8 @@ module _ (world : World ℕ) (names : List TaskName) (is : IsWorld nat_eq world)
               (ap (holds_of (is_own_namespace nat_eq world names)) at ∙ own))))
           which false other =
               absurd (true≢false
-              (sym (any_from_among (λ (m : Mount ℕ). nat_eq filesystem m.filesystem) (other_mounts nat_eq world names) mount
+              (sym (any_from_among (λ (m : Mount ℕ). nat_eq filesystem m.filesystem)
+              (other_mounts nat_eq world names) mount
               (among-filter (λ (m : Mount ℕ). holds_of (λ n. not (is_own_namespace nat_eq world names n)) m.namespace)
               world.mounts mount there
               (ap (holds_of (λ n. not (is_own_namespace nat_eq world names n))) at ∙ ap not other))
@@ -108,7 +111,8 @@ module _ (world : World ℕ) (names : List TaskName) (is : IsWorld nat_eq world)
   layer_directory merged there layer m = by merged.overlay refl
     where
       by : (o : Option (Overlay ℕ)) → merged.overlay ≡ o
-          → is_directory_node ((filesystem_numbered nat_eq world layer.filesystem).files.tree.node layer.directory) ≡ true
+          → is_directory_node ((filesystem_numbered nat_eq world layer.filesystem).files.tree.node layer.directory)
+          ≡ true
       by None e = absurd (subst (Among layer) (ap (overlay_or [] layers_of) e) m)
       by (Some overlay) e =
           (and_parts (not (is_overlay (filesystem_numbered nat_eq world layer.filesystem)))
@@ -126,7 +130,8 @@ module _ (world : World ℕ) (names : List TaskName) (is : IsWorld nat_eq world)
     where
       by : (o : Option (Overlay ℕ)) → other.overlay ≡ o → ⊥
       by None e =
-          true≢false (sym has ∙ ap (overlay_or false (λ overlay. list_any (λ layer. nat_eq merged.number layer.filesystem)
+          true≢false (sym has ∙ ap
+          (overlay_or false (λ overlay. list_any (λ layer. nat_eq merged.number layer.filesystem)
           (layers_of overlay))) e)
       by (Some overlay) e =
           let at = any_among (λ (layer : Layer ℕ). nat_eq merged.number layer.filesystem) (layers_of overlay)
@@ -147,7 +152,8 @@ module _ (world : World ℕ) (names : List TaskName) (is : IsWorld nat_eq world)
       absurd (no_layer merged at.0 there at.1 overlaid
       (and_parts (has_layer_on nat_eq merged.number at.0) (is_mounted nat_eq world at.0.number) at.2).0))
       (or_cases (is_mounted nat_eq world merged.number) _
-      (among_from_list_all (filesystem_lives nat_eq world) world.filesystems (all_in_use world is).filesystems merged there))
+      (among_from_list_all (filesystem_lives nat_eq world) world.filesystems
+      (all_in_use world is).filesystems merged there))
 
   -- one on which no other is
   pub overlay_without_others : (merged : Filesystem ℕ) → Among merged (overlays world)
@@ -235,7 +241,8 @@ module _ (world : World ℕ) (names : List TaskName) (is : IsWorld nat_eq world)
           absurd (subst (λ o. Among layer (of_overlay [] (λ (overlay : Overlay ℕ). overlay.lowers)
           (unwrap_or o (no_filesystem number)))) e m)
       by number (Some merged) e layer m =
-          layer_plain merged (found_among (λ (f : Filesystem ℕ). nat_eq number f.number) world.filesystems merged e) layer
+          layer_plain merged (found_among
+          (λ (f : Filesystem ℕ). nat_eq number f.number) world.filesystems merged e) layer
           (layered merged layer (subst (λ o. Among layer (of_overlay [] (λ (overlay : Overlay ℕ). overlay.lowers)
           (unwrap_or o (no_filesystem number)))) e m))
 
@@ -268,7 +275,8 @@ module _ (world : World ℕ) (names : List TaskName) (is : IsWorld nat_eq world)
       && used_alone nat_eq world names n) number
 
   same_locks : (filesystem : ℕ)
-      → list_any (locks filesystem) (overlays (part_of nat_eq world names)) ≡ list_any (locks filesystem) (overlays world)
+      → list_any (locks filesystem) (overlays (part_of nat_eq world names))
+      ≡ list_any (locks filesystem) (overlays world)
   same_locks filesystem =
       same_truth (list_any (locks filesystem) (overlays (part_of nat_eq world names)))
       (list_any (locks filesystem) (overlays world))
@@ -287,7 +295,8 @@ module _ (world : World ℕ) (names : List TaskName) (is : IsWorld nat_eq world)
       ≡ wholly_locked nat_eq world names filesystem
   locked_by_part filesystem m =
       ap (λ (f : Filesystem ℕ). list_any (λ merged. is_lower_root nat_eq filesystem f.files.tree.root merged
-      && used_alone nat_eq world names merged.number) (overlays (part_of nat_eq world names)) && all_named nat_eq f.files)
+      && used_alone nat_eq world names merged.number) (overlays (part_of nat_eq world names))
+      && all_named nat_eq f.files)
       (found world names filesystem (is_among_numbers (used_filesystems nat_eq world names) filesystem m))
       ∙ ap (λ b. b && all_named nat_eq (filesystem_numbered nat_eq world filesystem).files) (same_locks filesystem)
 
@@ -324,7 +333,8 @@ sealed_is_by_part_and_footholds world names apart =
     && list_all (free_or_locked world names apart.is) (used_filesystems nat_eq world names)) apart.tasks
     ∙ ap (λ a. a && no_outsider_on_mounts nat_eq world names
     && list_all (free_or_locked world names apart.is) (used_filesystems nat_eq world names)) apart.events
-    ∙ ap (λ a. a && list_all (free_or_locked world names apart.is) (used_filesystems nat_eq world names)) apart.locations
+    ∙ ap (λ a. a && list_all (free_or_locked world names apart.is)
+    (used_filesystems nat_eq world names)) apart.locations
     ∙ sym (used_by_part world names apart.is)
 
 -- the first three of what makes a set sealed off
@@ -380,7 +390,8 @@ more_free part names free more used over h =
         let at = any_among (locks_by part f free) (overlays part) both.0 in
         let parts = and_parts (is_lower_root nat_eq f (filesystem_numbered nat_eq part f).files.tree.root at.0)
         (free at.0.number) at.2 in
-        and_from (list_any (locks_by part f more) (overlays part)) (all_named nat_eq (filesystem_numbered nat_eq part f).files)
+        and_from (list_any (locks_by part f more) (overlays part))
+        (all_named nat_eq (filesystem_numbered nat_eq part f).files)
         (any_from_among (locks_by part f more) (overlays part) at.0 at.1
         (and_from (is_lower_root nat_eq f (filesystem_numbered nat_eq part f).files.tree.root at.0) (more at.0.number)
         parts.0 (over at.0 at.1 parts.1))) both.1

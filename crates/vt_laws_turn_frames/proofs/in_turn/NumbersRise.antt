@@ -1,5 +1,5 @@
 -- A change number stays, rises by one, or is the largest one for good.
-use Rattle.std.proofs.Common.{◌≡◌, ◌≢◌, refl, sym, ap, subst, ◌∙◌, ◌⊎◌, inl, inr, ⊎_elim, ℕ, nat_eq, Bool, true, false, true≢false, cond, not, ◌||◌, List, [], ◌∷◌, ◌+◌, ◌*◌, ◌≤◌, Option, Some, None, find, eqb-true, eq-eqb, ne_eqb, arith}
+use Rattle.std.proofs.Common.{◌≡◌, ◌≢◌, refl, sym, ap, subst, ◌∙◌, ◌⊎◌, inl, inr, ⊎_elim, ℕ, nat_eq, Bool, true, false, true≢false, cond, List, [], ◌∷◌, ◌+◌, ◌*◌, ◌≤◌, Option, Some, None, find, eqb-true, eq-eqb, ne_eqb, arith}
 use Rattle.std.specs.Prelude.{option_map, ◌==◌}
 use Rattle.vt_spec.specs.Language.Calls.{Call, TaskName}
 use Rattle.vt_spec.specs.Lists.{Fresh}

@@ -15,7 +15,7 @@ use Rattle.vt_spec.specs.Machine.Walking.{Here, Place, Stop, directory_walk, fil
 use Rattle.vt_spec.specs.Machine.World.{Task}
 use Rattle.vt_laws_turn_walks.specs.ByWords.{Aim, names, reaches, steps_of, whole_walk}
 use Rattle.vt_laws_turn_walks.specs.ByWords.Aim.{File, InDirectory, Object, Symlink, Words}
-use Rattle.vt_laws_turn_walks.specs.Routes.{RoutesAreWalks, Way, layer_ways, way, ways}
+use Rattle.vt_laws_turn_walks.specs.Routes.{RoutesAreWalks, Way, layer_ways, way}
 use Rattle.vt_laws_turn_walks.proofs.by_words.Depths.{then_then}
 
 here_route_steps : (a : Result (Here ℕ) (Stop ℕ)) → (here_route a).steps ≡ reverse (steps_of (reaches nat_eq a))

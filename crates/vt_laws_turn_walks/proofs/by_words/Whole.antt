@@ -15,7 +15,7 @@ use Rattle.vt_laws_turn_walks.specs.Walkers.Walk.{Goes, Names, Reaches}
 use Rattle.vt_laws_turn_walks.proofs.by_words.Counting.{HasSteps, IsHalfDone, first_words_steps, gone_on_steps, has_word, is_quiet, one_word_steps}
 use Rattle.vt_laws_turn_walks.proofs.by_words.Depths.{Within, same_then, then_ok, then_same, then_then, unless_same, word_within, words_same}
 use Rattle.vt_laws_turn_walks.proofs.by_words.Files.{Longer, file_from, file_long, follow_alike, from_long, longer_place, placed_long}
-use Rattle.vt_laws_turn_walks.proofs.by_words.Meanings.{directory_at, file_means, first_words_mean, follow, gone_on_means, left_from, one_word_means, quiet_at, rest, taken, texts}
+use Rattle.vt_laws_turn_walks.proofs.by_words.Meanings.{directory_at, file_means, first_words_mean, follow, gone_on_means, one_word_means, quiet_at, rest, taken, texts}
 
 -- what comes after the text of a path
 text_then : {B : Type 0} (path : List ℕ) (f g : List ℕ → Result B (Stop ℕ)) → f path ≡ g path

@@ -5,7 +5,7 @@ use Rattle.vt_spec.specs.Language.Calls.{TaskName, same_name}
 use Rattle.vt_spec.specs.Language.Limits.{most_restarts}
 use Rattle.vt_spec.specs.Language.Script.{Who}
 use Rattle.vt_spec.specs.Language.Script.Who.{Someone}
-use Rattle.vt_spec.specs.Lists.{Fresh, first_of_list, holds_of, rest_of}
+use Rattle.vt_spec.specs.Lists.{Fresh, first_of_list, holds_of}
 use Rattle.vt_spec.specs.Machine.Turns.{Progress, Queue, Queued, Sched, Turned, one_further, queue_of, same_who, shortened, turn, without_progress}
 use Rattle.vt_spec.specs.Machine.World.{Task, World}
 use Rattle.vt_spec.proofs.Found.{found_among, found_passes}
