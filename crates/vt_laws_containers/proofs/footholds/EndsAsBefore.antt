@@ -12,9 +12,8 @@ use Rattle.vt_spec.specs.Machine.Sealed.{is_member_task, is_own_mount, is_own_na
 use Rattle.vt_spec.specs.Machine.Settled.{filesystem_lives, is_located, mount_lives, only_used, only_used_by, real_among, settled, used_in, without_dead_filesystems, without_dead_in, without_dead_mounts}
 use Rattle.vt_spec.specs.Machine.World.{Filesystem, Overlay, Task, World, all_locations, is_overlay, locations_of, mount_at}
 use Rattle.vt_spec.proofs.Lists.{Among, among-append, among-append_left, among-append_right, among-flat_map, among-from_filter, among-from_flat_map, among-from_map, among-map, any_from_among}
-use Rattle.vt_spec.proofs.Worlds.{same_task_name}
+use Rattle.vt_spec.proofs.Worlds.{number-only_used, same_task_name}
 use Rattle.vt_laws_letting_go.proofs.Lists.{filter-map, filter_less}
-use Rattle.vt_laws_sealed.proofs.outsiders.InodesSwept.{cut_number}
 use Rattle.vt_laws_sealed.proofs.outsiders.OthersSwept.{others_swept}
 use Rattle.vt_laws_sealed.proofs.outsiders.Staying.{OthersStayOut}
 use Rattle.vt_laws_members_changes.proofs.letting_go.Ends.{raised_is, raised_members}
@@ -114,8 +113,8 @@ module _ (world left : World ℕ) (names set : List TaskName) (others : OthersAs
       one.1 in (
         one.0,
         alive.0,
-        ap (λ (x : Filesystem ℕ). x.number) second.2 ∙ cut_number first (not (is_overlay second.0)) second.0
-            ∙ ap (λ (x : Filesystem ℕ). x.number) one.2 ∙ cut_number living (is_overlay one.0) one.0,
+        ap (λ (x : Filesystem ℕ). x.number) second.2 ∙ number-only_used first (not (is_overlay second.0)) second.0
+            ∙ ap (λ (x : Filesystem ℕ). x.number) one.2 ∙ number-only_used living (is_overlay one.0) one.0,
         ap layered_as second.2 ∙ cut_layered first (not (is_overlay second.0)) second.0
             ∙ ap layered_as one.2 ∙ cut_layered living (is_overlay one.0) one.0,
       )

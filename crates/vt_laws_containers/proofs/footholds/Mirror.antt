@@ -18,20 +18,13 @@ use Rattle.vt_laws_mounts.proofs.mounts.MountsReplaced.{found_itself}
 use Rattle.vt_laws_part.specs.Seals.{IsApart}
 use Rattle.vt_laws_sealed.proofs.outsiders.OtherMounts.{namespace_outside, standing_apart_of}
 use Rattle.vt_laws_sealed.proofs.outsiders.StandingApart.{StandsApart}
+use Rattle.vt_spec.proofs.Found.{filter_all, filter_alike}
 
 -- Filters
-filter_all : {A : Type 0} (p : A → Bool) (xs : List A) → ((x : A) → Among x xs → p x ≡ true) → filter p xs ≡ xs
-filter_all p [] all = refl
-filter_all p (x ∷ xs) all = cc (all x (inl refl), filter_all p xs (λ y m. all y (inr m)))
 
 filter_none : {A : Type 0} (p : A → Bool) (xs : List A) → ((x : A) → Among x xs → p x ≡ false) → filter p xs ≡ []
 filter_none p [] none = refl
 filter_none p (x ∷ xs) none = cc (none x (inl refl), filter_none p xs (λ y m. none y (inr m)))
-
-pub filter_alike : {A : Type 0} (p q : A → Bool) (xs : List A) → ((x : A) → Among x xs → p x ≡ q x)
-    → filter p xs ≡ filter q xs
-filter_alike p q [] same = refl
-filter_alike p q (x ∷ xs) same = cc (same x (inl refl), filter_alike p q xs (λ y m. same y (inr m)))
 
 -- Two mounts share events, whichever is first.
 or_turned : (a b : Bool) → (a || b) ≡ (b || a)

@@ -29,7 +29,8 @@ use Rattle.vt_laws_sealed.proofs.outsiders.StandingApart.{NothingNew, StandsApar
 use Rattle.vt_laws_sealed.proofs.outsiders.Staying.{LeavesApart}
 use Rattle.vt_laws_sealed.proofs.outsiders.TakingAway.{one_taken, taken_from, taken_leaves_apart}
 use Rattle.vt_laws_containers.proofs.footholds.AsBefore.{OthersAsBefore}
-use Rattle.vt_laws_containers.proofs.footholds.Mirror.{ShareNone, filter_alike, mirror, mirror_owns, mirror_stands, none_there, none_turned, ours_if_not_out, ours_is_not_out, out, out_if_not_ours, own_out, placed_listed, their_names}
+use Rattle.vt_laws_containers.proofs.footholds.Mirror.{ShareNone, mirror, mirror_owns, mirror_stands, none_there, none_turned, ours_if_not_out, ours_is_not_out, out, out_if_not_ours, own_out, placed_listed, their_names}
+use Rattle.vt_spec.proofs.Found.{filter_alike}
 
 -- Mounts and groups are taken away alike, whatever tasks there are.
 pub taken_mounts : (world : World ℕ) (tasks : List (Task ℕ)) (gone : List ℕ)
