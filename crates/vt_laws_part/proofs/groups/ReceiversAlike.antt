@@ -1,7 +1,8 @@
 -- The receivers of a group of theirs are the same in the world and in the part.
-use Rattle.std.proofs.Common.{◌≡◌, refl, sym, ap, subst, ◌∙◌, ◌⊎◌, inl, inr, ⊎_elim, ℕ, suc, nat_eq, Bool, true, false, cond, true≢false, List, [], ◌∷◌, Option, Some, None, filter, is_some, length, map, not, ◌||◌, ◌&&◌, ◌≤◌, eqb-true, arith}
+use Rattle.std.proofs.lemmas.Grind.{common_steps}
+use Rattle.std.proofs.Common.{◌≡◌, refl, sym, ap, subst, ◌∙◌, ◌⊎◌, inl, inr, ⊎_elim, ℕ, nat_eq, Bool, true, false, cond, true≢false, List, [], ◌∷◌, Option, Some, None, filter, is_some, length, map, not, ◌||◌, ◌&&◌, ◌≤◌, arith}
 use Rattle.std.specs.Prelude.{unwrap_or}
-use Rattle.std.specs.List.{cons_option, filter_map, list_all, list_any}
+use Rattle.std.specs.List.{filter_map, list_all, list_any}
 use Rattle.std.proofs.lemmas.Bool.{and_parts, false_from_ne_true, not-true, or_left, or_right}
 use Rattle.std.proofs.lemmas.List.{length-map}
 use Rattle.std.proofs.lemmas.Option.{same_Some}
@@ -25,11 +26,7 @@ use Rattle.vt_laws_part.specs.Groups.{NoEventOfTheirsReachesOthers, TheirGroupsR
 use Rattle.vt_laws_part.proofs.part.PartOfPart.{is_own, keep, kept_how}
 
 pub member_group : (g : ℕ) (mount : Mount ℕ) → is_member_of nat_eq g mount ≡ true → group_of mount.propagation ≡ Some g
-member_group g mount h = by (group_of mount.propagation) h
-  where
-    by : (o : Option ℕ) → holds_of (nat_eq g) o ≡ true → o ≡ Some g
-    by None h = absurd (true≢false (sym h))
-    by (Some x) h = ap Some (sym (eqb-true g x h))
+member_group g mount h = grind (arith, common_steps, true≢false)
 
 pub master_by : (world : World ℕ) (lower group : ℕ) → world.master lower ≡ Some group → (kind : Propagation ℕ)
     → group_of kind ≡ Some lower → master_of world kind ≡ Some group
@@ -157,23 +154,7 @@ module _ (world : World ℕ) (names : List TaskName) (is : MountInvariants nat_e
 
   own_fewer : (list : List (Mount ℕ)) → length (filter (is_own world names theirs) list) ≤ length (filter_map kept list)
   own_fewer [] = omega arith
-  own_fewer (x ∷ rest) = by (is_own world names theirs x) refl (own_fewer rest)
-    where
-      more : (o : Option (Mount ℕ)) → length (filter (is_own world names theirs) rest) ≤ length (filter_map kept rest)
-          → length (filter (is_own world names theirs) rest) ≤ length (cons_option o (filter_map kept rest))
-      more None l = l
-      more (Some y) l = omega (arith, l)
-
-      by : (b : Bool) → is_own world names theirs x ≡ b
-          → length (filter (is_own world names theirs) rest) ≤ length (filter_map kept rest)
-          → length (cond b (x ∷ filter (is_own world names theirs) rest) (filter (is_own world names theirs) rest))
-          ≤ length (cons_option (kept x) (filter_map kept rest))
-      by true e l =
-          subst (λ o. suc (length (filter (is_own world names theirs) rest)) ≤ length
-          (cons_option o (filter_map kept rest)))
-          (sym (ap (λ b. cond (b || is_at nat_eq (roots_and_directories theirs) x) (Some x)
-          (when (is_at nat_eq (locations theirs) x) (seen_by_descriptor x))) e)) (omega (arith, l))
-      by false e l = more (kept x) l
+  own_fewer (x ∷ rest) = grind (arith, common_steps, is_own, own_fewer rest)
 
   -- the groups up from a group of theirs
   pub same_up : (group : ℕ) → OwnHears group → Living group → groups_up part group ≡ groups_up world group

@@ -1,22 +1,21 @@
 -- Two worlds that show the same through some mounts are walked alike from them.
-use Rattle.std.proofs.Common.{◌≡◌, refl, sym, ap, subst, ◌∙◌, inl, inr, ⊎_elim, ℕ, zero, suc, nat_eq, Bool, true, false, cond, List, [], ◌∷◌, ◌++◌, Option, Some, None, Ok, Err, Result, map, flat_map, not, ◌||◌, ◌-◌, reverse}
+use Rattle.std.proofs.lemmas.Grind.{common_steps}
+use Rattle.std.proofs.Common.{◌≡◌, refl, sym, ap, subst, ◌∙◌, inl, inr, ⊎_elim, ℕ, zero, suc, nat_eq, Bool, true, false, cond, List, [], ◌∷◌, ◌++◌, Option, Some, None, Ok, Err, Result, map, flat_map, not, ◌||◌, ◌-◌, reverse, arith}
 use Rattle.std.specs.Prelude.{IfOk, length, nat_lt, ok_or, option_map, option_to_list, ◌==◌}
 use Rattle.std.specs.List.{list_any}
 use Rattle.vt_spec.specs.declared.errors.Deny.{Deny}
-use Rattle.vt_spec.specs.declared.errors.Rule.TheVariants.{W2, W3, W4, W5, W6, W7, W8, W9}
+use Rattle.vt_spec.specs.declared.errors.Rule.TheVariants.{W2, W3, W6, W7, W8, W9}
 use Rattle.vt_spec.specs.Errors.{Rules, and_then, denial, unless}
 use Rattle.vt_spec.specs.FileTree.{symlink_text}
 use Rattle.vt_spec.specs.Lists.{last_or}
 use Rattle.vt_spec.specs.Machine.Looks.{Looks, mount_at, topmost}
 use Rattle.vt_spec.specs.Machine.Mounts.{Location, Mount, same_location}
 use Rattle.vt_laws_part.specs.Walks.{AreOn, ShowAlike, TextsAgree, WordsAgree}
-use Rattle.vt_spec.specs.Machine.Walking.{Follow, Here, LastWord, Stop, also_met, entered_upward, entry_location, filesystems_of, follow_rules, hops, if_symlink, is_lost, is_top, last_word, met_by, parent_location, search_rules, slash_rules, start_of, stepped, steps_with, stopped_by, symlink_start, symlink_walked, then_walk, up_from, walk_unless, word_walked, words_walked}
+use Rattle.vt_spec.specs.Machine.Walking.{Follow, Here, LastWord, Stop, entered_upward, entry_location, filesystems_of, follow_rules, hops, if_symlink, is_lost, is_top, last_word, met_by, parent_location, search_rules, slash_rules, start_of, stepped, steps_with, stopped_by, symlink_start, symlink_walked, then_walk, up_from, walk_unless, word_walked, words_walked}
 use Rattle.vt_spec.specs.Machine.Walking.LastWord.{Dot, DotDot, Named, NoWord}
 use Rattle.vt_spec.specs.Machine.World.{Task}
 use Rattle.vt_spec.specs.Language.Limits.{longest_name}
-use Rattle.vt_spec.specs.Machine.Rightful.{mounter_allows, node_allows}
 use Rattle.vt_spec.specs.PathText.{ends_in_slash, is_absolute, words}
-use Rattle.vt_spec.specs.Rights.{execute_right}
 use Rattle.vt_spec.specs.Tree.{entries_in, entry_named, is_directory_node, parent_in}
 use Rattle.vt_spec.proofs.Lists.{Among, among-append, contains_from_among}
 
@@ -48,9 +47,7 @@ last_each Q (b ∷ list) a q h = last_each Q list b (h b (inl refl)) (λ c m. h 
 pub map_each : {A B : Type 0} (Q : A → Type 0) (f g : A → B) (list : List A) → ((a : A) → Q a → f a ≡ g a) → Each Q list
     → map f list ≡ map g list
 map_each Q f g [] same h = refl
-map_each Q f g (a ∷ list) same h =
-    ap (λ x. x ∷ map f list) (same a (h a (inl refl)))
-    ∙ ap (λ l. g a ∷ l) (map_each Q f g list same (λ c m. h c (inr m)))
+map_each Q f g (a ∷ list) same h = cc (same a (h a (inl refl)), map_each Q f g list same (λ c m. h c (inr m)))
 
 -- what two worlds have to show alike on these mounts
 pub record Alike (one other : Looks ℕ) (task : Task ℕ) (Own : ℕ → Type 0) : Type 0 where
@@ -73,12 +70,7 @@ module _ (one other : Looks ℕ) (task : Task ℕ) (Own : ℕ → Type 0) (alike
 
   pub same_search : (here : Location ℕ) → Own here.mount
       → search_rules nat_eq one task here ≡ search_rules nat_eq other task here
-  same_search here own =
-      ap (λ n. (not (is_directory_node n), W3) ∷ (not (node_allows task.credentials execute_right n), W4)
-      ∷ (not (mounter_allows (one.overlay here) execute_right n), W5) ∷ []) (alike.node here own)
-      ∙ ap (λ o. (not (is_directory_node (other.node here)), W3)
-      ∷ (not (node_allows task.credentials execute_right (other.node here)), W4)
-      ∷ (not (mounter_allows o execute_right (other.node here)), W5) ∷ []) (alike.overlay here own)
+  same_search here own = cc (alike.node here own, alike.overlay here own)
 
   pub same_entry : (here : Location ℕ) (name : List ℕ) → Own here.mount
       → entry_location nat_eq one here name ≡ entry_location nat_eq other here name
@@ -176,9 +168,7 @@ module _ (one other : Looks ℕ) (task : Task ℕ) (Own : ℕ → Type 0) (alike
   same_entered : (here : Location ℕ) → Own here.mount
       → entered_upward nat_eq one task here ≡ entered_upward nat_eq other task here
   same_entered here own =
-      ap (λ b. cond b [] (one.mounts_over (parent_location nat_eq one here))) (same_top here own)
-      ∙ ap (cond (is_top nat_eq other task here) [])
-      (alike.over (parent_location nat_eq one here) own ∙ ap other.mounts_over (same_parent here own))
+      cc (same_top here own, alike.over (parent_location nat_eq one here) own, same_parent here own)
 
   pub over_by : (here : Location ℕ) → Own here.mount → (o : Option ℕ)
       → (flat_map one.mounts_over
@@ -317,12 +307,7 @@ module _ (one other : Looks ℕ) (task : Task ℕ) (Own : ℕ → Type 0) (alike
     where
       same_start : symlink_start nat_eq one task directory symlink text
           ≡ symlink_start nat_eq other task directory symlink text
-      same_start =
-          ap (λ (m : Mount ℕ). record {
-            location = start_of task directory text;
-            left = symlink.left - 1;
-            steps = cond (is_absolute text) (also_met m.filesystem symlink.steps) symlink.steps;
-          }) (alike.mount task.root alike.root)
+      same_start = grind (arith, common_steps)
 
       start_own : Own (start_of task directory text).mount
       start_own = by (is_absolute text)
