@@ -12,7 +12,7 @@ use Rattle.vt_spec.specs.Machine.Detach.{is_busy}
 use Rattle.vt_spec.specs.Machine.Filesystems.{overlay_rules}
 use Rattle.vt_spec.specs.Machine.Invariants.{IsWorld}
 use Rattle.vt_spec.specs.Machine.Judge.{Judgement, judge, pwrite_permit, setns_permit}
-use Rattle.vt_spec.specs.Machine.Locked.{is_locked, is_locked_at, live_layers, live_upper_and_work, of_overlay, overlaps_one_of, upper_and_work}
+use Rattle.vt_spec.specs.Machine.Locked.{is_locked_at, live_layers, live_upper_and_work, of_overlay, overlaps_one_of, upper_and_work}
 use Rattle.vt_spec.specs.Machine.Looks.{Looks, looks_of}
 use Rattle.vt_spec.specs.Machine.Mounts.{Location, Mount, mount_tree}
 use Rattle.vt_spec.specs.Machine.Permits.{Permit}
@@ -68,10 +68,7 @@ called_alike names name theirs (task ∷ rest) =
         (find (λ (t : Task ℕ). same_name name t.name) (filter (is_member_task names) rest))) e
     by true false e f later =
         absurd (true≢false (sym theirs ∙ ap (λ n. is_among same_name n names) (same_task_name name task.name e) ∙ f))
-    by false true e f later =
-        ap (λ b. cond b (Some task)
-        (find (λ (t : Task ℕ). same_name name t.name) (filter (is_member_task names) rest))) e
-        ∙ later
+    by false true e f later = cc (e, later)
     by false false e f later = later
 
 module _ (world : World ℕ) (names : List TaskName) (is : IsWorld nat_eq world)
@@ -98,8 +95,7 @@ module _ (world : World ℕ) (names : List TaskName) (is : IsWorld nat_eq world)
       → (mount_at nat_eq world here).filesystem ≡ (mount_at nat_eq part here).filesystem
       → is_locked_at nat_eq world here ≡ is_locked_at nat_eq part here
   locked_here here used same =
-      locked_alike world names is sealed_off (mount_at nat_eq world here).filesystem used here.node
-      ∙ ap (λ n. is_locked nat_eq part n here.node) same
+      cc (locked_alike world names is sealed_off (mount_at nat_eq world here).filesystem used here.node, same)
 
   rules : RulesSeeAlike one other own uses
   rules = record {

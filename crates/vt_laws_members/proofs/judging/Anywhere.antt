@@ -1,13 +1,14 @@
 -- Mounts of other namespaces stand on nothing that members reach but what is locked.
-use Rattle.std.proofs.Common.{◌≡◌, refl, sym, ap, subst, ◌∙◌, inl, ⊎_elim, ℕ, nat_eq, Bool, true, false, true≢false, not, List, [], ◌++◌, Option, Some, None, is_some, ◌&&◌, eq-eqb, eqb-true}
+use Rattle.std.proofs.lemmas.Grind.{common_steps}
+use Rattle.std.proofs.Common.{◌≡◌, refl, sym, ap, subst, ◌∙◌, inl, ⊎_elim, ℕ, nat_eq, Bool, true, false, true≢false, not, List, [], ◌++◌, Option, Some, None, is_some, ◌&&◌, eq-eqb, eqb-true, arith}
 use Rattle.std.specs.Prelude.{option_map, option_to_list}
-use Rattle.std.specs.List.{list_all, list_any}
+use Rattle.std.specs.List.{list_any}
 use Rattle.std.proofs.lemmas.Bool.{and_from, and_parts, not-true, or_cases, or_left}
 use Rattle.vt_spec.specs.FileTree.{is_under}
 use Rattle.vt_spec.specs.Language.Calls.{TaskName}
 use Rattle.vt_spec.specs.Lists.{holds_of, is_among, then_some}
 use Rattle.vt_spec.specs.Machine.Detach.{is_point, mounts_on, points_of, upper_points}
-use Rattle.vt_spec.specs.Machine.Invariants.{IsWorld, Stands, has_its_root, live_lowers}
+use Rattle.vt_spec.specs.Machine.Invariants.{IsWorld, Stands, live_lowers}
 use Rattle.vt_spec.specs.Machine.Locked.{is_locked, is_locked_at, lies_in_layer, lies_or_counts_under, live_upper_and_work, of_overlay, overlaps_one_of, overlay_or, overlays, upper_and_work}
 use Rattle.vt_spec.specs.Machine.Mounts.{Location, Mount}
 use Rattle.vt_spec.specs.Machine.Sealed.{is_own_namespace, locations, members, no_outsider_on, other_mounts, outsiders, part_of, sealed, used_alone, used_filesystems, wholly_locked}
@@ -78,20 +79,11 @@ module _ (world : World ℕ) (names : List TaskName) (is : IsWorld nat_eq world)
         (used_are_free world names sealed_off shows (among_numbers (used_filesystems nat_eq world names) shows used)))
 
     directory : is_directory_at nat_eq world point ≡ true
-    directory =
-        (and_parts (is_directory_at nat_eq world point) true
-        (sym (ap (λ o. list_all (is_directory_at nat_eq world) (option_to_list o)) at)
-        ∙ (and_parts (is_directory_node
-        ((filesystem_numbered nat_eq world mount.filesystem).files.tree.node mount.root))
-        (list_all (is_directory_at nat_eq world) (option_to_list mount.mount_point))
-        (among_from_list_all (has_its_root nat_eq world) world.mounts is.roots mount there)).1)).0
+    directory = grind (arith, common_steps, among_from_list_all)
 
     -- so it is locked
     locked : uses shows ≡ true → is_locked nat_eq world shows point.node ≡ true
-    locked used =
-        let tree = tree_there world names is sealed_off shows point.node directory in
-        all_locked world names shows tree.0 tree.1 (whole used) point.node
-        (directory_used (filesystem_numbered nat_eq world shows).files.tree point.node directory)
+    locked used = grind (arith, common_steps, tree_there, directory, all_locked, whole, directory_used)
 
   -- an upper or work directory is in nothing that is wholly locked
   module _ (merged : Filesystem ℕ) (there : Among merged world.filesystems) (overlay : Overlay ℕ)

@@ -1,23 +1,21 @@
 -- Calls that make, change, remove and rename files are judged alike.
-use Rattle.std.proofs.Common.{◌≡◌, refl, ap, ◌∙◌, ℕ, nat_eq, Bool, true, false, ◌&&◌, List, [], ◌∷◌, Option, Some, None, Ok}
+use Rattle.std.proofs.lemmas.Grind.{common_steps}
+use Rattle.std.proofs.Common.{◌≡◌, refl, ap, ℕ, nat_eq, Bool, true, List, [], ◌∷◌, Option, Some, None, Ok, arith}
 use Rattle.std.specs.Prelude.{unwrap_or}
-use Rattle.vt_spec.specs.declared.errors.Rule.TheVariants.{B1, C1, E1, E2, E9, F1, F2, L1}
-use Rattle.vt_spec.specs.Errors.{Rules, and_then, unless}
-use Rattle.vt_spec.specs.declared.attributes.Kind.TheVariants.{White}
-use Rattle.vt_spec.specs.Language.Calls.{Access, Creation, opens_for_writing}
+use Rattle.vt_spec.specs.declared.errors.Rule.TheVariants.{E1, E2}
+use Rattle.vt_spec.specs.Errors.{and_then, unless}
+use Rattle.vt_spec.specs.Language.Calls.{Access, Creation}
 use Rattle.vt_spec.specs.Language.Calls.Creation.{Exclusive, NoCreation, OrCreate}
-use Rattle.vt_spec.specs.Language.Changes.Change.{CopyUp, SetMark}
+use Rattle.vt_spec.specs.Language.Changes.Change.{SetMark}
 use Rattle.vt_spec.specs.Machine.Attributes.{attr_with_mode, attr_with_owner, may_chown}
 use Rattle.vt_spec.specs.Machine.Judge.{Judgement, attr_permit, chmod_permit, chown_permit, create_file_permit, hard_link_permit, made_permit, make_permit, mkdir_permit, opaque_permit, open_by_permit, open_file_permit, open_permit, opened_or_created_permit, symlink_permit, unlink_permit, whiteout_permit, write_permit, written_permit}
-use Rattle.vt_spec.specs.Machine.Looks.{Looks, is_directory_at}
+use Rattle.vt_spec.specs.Machine.Looks.{Looks}
 use Rattle.vt_spec.specs.Machine.Mounts.{Location}
-use Rattle.vt_spec.specs.Machine.Permits.Permit.{ToChange, ToOpen}
+use Rattle.vt_spec.specs.Machine.Permits.Permit.{ToChange}
 use Rattle.vt_spec.specs.Machine.Rows.{directory_mode, exact_attr, linking, new_attr, symlink_mode}
 use Rattle.vt_spec.specs.Machine.Rules.Attributes.{attr_at, opaque_rules}
-use Rattle.vt_spec.specs.Machine.Rules.Conditions.{has_no_upper, kind_at, is_read_only, may_not, mounter_may_not}
-use Rattle.vt_spec.specs.Machine.Rules.Descriptors.{access_rights, copy_rules, descriptor_rules, exclusive_word_rules, is_copied_up}
-use Rattle.vt_spec.specs.Machine.Filesystems.{lies_only_in_lowers}
-use Rattle.vt_spec.specs.Machine.Locked.{overlay_or}
+use Rattle.vt_spec.specs.Machine.Rules.Conditions.{is_read_only}
+use Rattle.vt_spec.specs.Machine.Rules.Descriptors.{copy_rules, descriptor_rules, exclusive_word_rules, is_copied_up}
 use Rattle.vt_spec.specs.Machine.Rules.Making.{file_word_rules, hard_link_rules, symlink_text_rules, whiteout_rules}
 use Rattle.vt_spec.specs.Machine.Rules.Mounting.{admin_rules}
 use Rattle.vt_spec.specs.Machine.Rules.Removing.{object_there, removing, unlink_rules}
@@ -118,10 +116,7 @@ module _ (one other : Looks ℕ) (task : Task ℕ) (own uses : ℕ → Bool) (al
       → written_permit nat_eq one task place bytes o ≡ written_permit nat_eq other task place bytes o
   written_by place on bytes None found =
       asked_alike (λ looks. written_permit nat_eq looks task place bytes None) (λ looks. rw (is_read_only, on) refl)
-  written_by place on bytes (Some file) found =
-      let there : own file.mount ≡ true = found file refl in
-      asked_alike (λ looks. written_permit nat_eq looks task place bytes (Some file))
-      (λ looks. rw (is_read_only, there) refl)
+  written_by place on bytes (Some file) found = grind (arith, common_steps, asked_alike)
 
   pub write_alike : (path bytes : List ℕ)
       → write_permit nat_eq one task path bytes ≡ write_permit nat_eq other task path bytes
@@ -204,35 +199,14 @@ module _ (one other : Looks ℕ) (task : Task ℕ) (own uses : ℕ → Bool) (al
   -- Open files
 
   -- the rules of open(2), with those of a copy-up given
-  abbrev open_with : Location ℕ → Access → Rules → Looks ℕ → Judgement ℕ
-  open_with file access rest looks =
-      unless ((is_directory_at looks file, E2)
-      ∷ (kind_at looks file White, E9)
-      ∷ (opens_for_writing access && is_read_only looks file, F1)
-      ∷ (opens_for_writing access && has_no_upper looks file, F2)
-      ∷ (opens_for_writing access && looks.is_locked file, L1)
-      ∷ (may_not looks task file (access_rights access), C1)
-      ∷ (mounter_may_not looks file (access_rights access), B1)
-      ∷ rest)
-      (Ok (ToOpen file access))
 
   copies_alike : (file : Location ℕ) (access : Access) → On file.mount
       → copy_rules (is_copied_up one file access) one file ≡ copy_rules (is_copied_up other file access) other file
-  copies_alike file access on =
-      ap (λ o. copy_rules (opens_for_writing access
-      && overlay_or false (λ overlay. lies_only_in_lowers overlay file.node) o) one file) (alike.rules.overlay file on)
-      ∙ by (is_copied_up other file access)
-    where
-      by : (b : Bool) → copy_rules b one file ≡ copy_rules b other file
-      by true = alike.rules.mounter file (CopyUp file.node) on
-      by false = refl
+  copies_alike file access on = grind (arith, common_steps)
 
   open_file_same : (file : Location ℕ) (access : Access) → On file.mount
       → open_file_permit nat_eq one task file access ≡ open_file_permit nat_eq other task file access
-  open_file_same file access on =
-      asked_alike (open_with file access (copy_rules (is_copied_up one file access) one file))
-      (λ looks. rw (is_read_only, on) refl)
-      ∙ ap (λ r. open_with file access r other) (copies_alike file access on)
+  open_file_same file access on = grind (arith, common_steps, asked_alike, copies_alike)
 
   create_same : (place : Place ℕ) (access : Access) (mode : ℕ) → On place.parent.mount
       → create_file_permit nat_eq one task place access mode ≡ create_file_permit nat_eq other task place access mode

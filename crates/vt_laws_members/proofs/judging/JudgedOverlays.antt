@@ -27,15 +27,16 @@ use Rattle.vt_laws_members.proofs.judging.WalksLead.{destination_agrees, judged_
 -- tests that agree on a list
 pub any_same : {A : Type 0} (p q : A → Bool) (xs : List A) → Each (λ x. p x ≡ q x) xs → list_any p xs ≡ list_any q xs
 any_same p q [] same = refl
-any_same p q (x ∷ xs) same =
-    ap (λ b. b || list_any p xs) (same x (inl refl)) ∙ ap (λ b. q x || b) (any_same p q xs (λ y m. same y (inr m)))
+any_same p q (x ∷ xs) same = cc (same x (inl refl), any_same p q xs (λ y m. same y (inr m)))
 
 pair_same : {A : Type 0} (p q : A → A → Bool) (xs : List A)
     → ((x y : A) → Among x xs → Among y xs → p x y ≡ q x y) → any_pair p xs ≡ any_pair q xs
 pair_same p q [] same = refl
 pair_same p q (x ∷ xs) same =
-    ap (λ b. b || any_pair p xs) (any_same (p x) (q x) xs (λ y m. same x y (inl refl) (inr m)))
-    ∙ ap (λ b. list_any (q x) xs || b) (pair_same p q xs (λ y z m n. same y z (inr m) (inr n)))
+    cc (
+      any_same (p x) (q x) xs (λ y m. same x y (inl refl) (inr m)),
+      pair_same p q xs (λ y z m n. same y z (inr m) (inr n)),
+    )
 
 and_agree : {A B : Type 0} (Q : A → Type 0) (R : B → Type 0) (a b : Result A Deny) (f g : A → Result B Deny)
     → Agree Q a b

@@ -1,5 +1,5 @@
 -- A change of a mount's flags, and of the root mount, are judged alike.
-use Rattle.std.proofs.Common.{◌≡◌, refl, sym, ap, ◌∙◌, ℕ, nat_eq, Bool, true, false, not, List, [], ◌∷◌, Ok, ◌||◌, ◌&&◌}
+use Rattle.std.proofs.Common.{◌≡◌, refl, ap, ◌∙◌, ℕ, nat_eq, Bool, true, false, not, List, [], ◌∷◌, Ok, ◌||◌, ◌&&◌}
 use Rattle.std.specs.List.{list_any}
 use Rattle.vt_spec.specs.declared.errors.Rule.TheVariants.{M2, M7, M8, M11, M12}
 use Rattle.vt_spec.specs.Errors.{and_then, unless}
@@ -51,11 +51,7 @@ module _ (one other : Looks ℕ) (task : Task ℕ) (own uses : ℕ → Bool) (al
       → is_elsewhere nat_eq one task here ≡ b
       → flags_by flags here (one.is_written_through here.mount) one
       ≡ flags_by flags here (other.is_written_through here.mount) one
-  by_namespace flags here on true e =
-      ap (λ b. unless ((b, M2) ∷ (is_no_root nat_eq one here, M7)
-      ∷ (flags.read_only && one.is_written_through here.mount, M8) ∷ []) (Ok (ToSetFlags here.mount flags))) e
-      ∙ sym (ap (λ b. unless ((b, M2) ∷ (is_no_root nat_eq one here, M7)
-      ∷ (flags.read_only && other.is_written_through here.mount, M8) ∷ []) (Ok (ToSetFlags here.mount flags))) e)
+  by_namespace flags here on true e = cc (e)
   by_namespace flags here on false e = ap (λ b. flags_by flags here b one) (parents.written here on e)
 
   pub remount_alike : (path : List ℕ) (flags : MountFlags)

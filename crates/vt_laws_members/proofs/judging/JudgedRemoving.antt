@@ -8,7 +8,7 @@ use Rattle.vt_spec.specs.Errors.{Rules, and_then, unless}
 use Rattle.vt_spec.specs.Lists.{holds_of}
 use Rattle.vt_spec.specs.Machine.Judge.{Judgement, rename_permit, renamed_permit, rmdir_permit}
 use Rattle.vt_spec.specs.Machine.Looks.{Looks, is_directory_at, mount_at}
-use Rattle.vt_spec.specs.Machine.Mounts.{Location, Mount}
+use Rattle.vt_spec.specs.Machine.Mounts.{Location}
 use Rattle.vt_spec.specs.Machine.Permits.Permit.{Allowed, ToRemoveDirectory, ToRename}
 use Rattle.vt_spec.specs.Machine.Rules.Conditions.{has_no_upper, is_kept, is_mount_point_anywhere, is_mount_point_in, is_read_only, may_not, mounter_may_not}
 use Rattle.vt_spec.specs.Machine.Rules.Removing.{changes_parent, is_nonempty, is_one_object, is_stuck, moving, object_there, old_word_rules, removing, rename_new_walk, rmdir_word_rules, same_filesystem, same_object_rules}
@@ -17,7 +17,6 @@ use Rattle.vt_spec.specs.Machine.World.{Task}
 use Rattle.vt_spec.specs.Rights.{write_right}
 use Rattle.vt_laws_members.proofs.judging.Judged.{JudgesAlike}
 use Rattle.vt_laws_members.proofs.judging.JudgedFiles.{IsFound, IsPlaced, there_own}
-use Rattle.vt_spec.specs.Tree.{is_directory_node}
 use Rattle.vt_spec.proofs.Lists.{any_from_among}
 use Rattle.vt_laws_members.proofs.judging.Masks.{by_both, by_mask, masked}
 use Rattle.vt_laws_members.proofs.judging.WalksLead.{judged_alike, old_agrees, old_leaf_agrees, rename_new_agrees, same_directory_there}
@@ -134,8 +133,7 @@ module _ (one other : Looks ℕ) (task : Task ℕ) (own uses : ℕ → Bool) (al
   module _ (renames : RenamesAlike one other own) (from to : Place ℕ) (old : Location ℕ)
       (on_from : On from.parent.mount) (on_to : On to.parent.mount) (on_old : On old.mount) where
     used_there : uses (other.mount old.mount).filesystem ≡ true
-    used_there = ap (λ (m : Mount ℕ). uses m.filesystem) (sym (alike.rules.mount old.mount on_old))
-        ∙ alike.seen old.mount on_old
+    used_there = cc (alike.rules.mount old.mount on_old, alike.seen old.mount on_old)
 
     covered : (o : Option (Location ℕ)) → IsFoundAt o → (point stuck : Bool) (looks : Looks ℕ)
         → uses (looks.mount old.mount).filesystem ≡ true
@@ -167,16 +165,10 @@ module _ (one other : Looks ℕ) (task : Task ℕ) (own uses : ℕ → Bool) (al
         ∙ ap (λ l. unless (rename_front from to old o other ++ (l, L1) ∷ rename_rest from to old o
         (point_by other old o) stuck other)
         (Ok (ToRename from.parent (name_of from.last) to.parent (name_of to.last) old o))) (sym lock)
-    by_lock o found stuck false e =
-        ap (λ b. rename_by from to old o (b || holds_of (is_mount_point_in nat_eq one task.namespace) o) stuck other)
-        (renames.anywhere old on_old e)
-        ∙ ap (λ b. rename_by from to old o (is_mount_point_anywhere other old || b) stuck other) (points o found)
+    by_lock o found stuck false e = cc (renames.anywhere old on_old e, points o found)
 
     stuck_same : is_stuck one from old ≡ is_stuck other from old
-    stuck_same =
-        ap (λ n. is_directory_node n && one.has_lower_directory from.parent (name_of from.last))
-        (alike.rules.node old on_old)
-        ∙ ap (λ b. is_directory_at other old && b) (renames.lower from.parent (name_of from.last) on_from)
+    stuck_same = cc (alike.rules.node old on_old, renames.lower from.parent (name_of from.last) on_from)
 
     rename_same : (o : Option (Location ℕ)) → IsFoundAt o
         → rename_by from to old o (point_by one old o) (is_stuck one from old) one
@@ -200,10 +192,7 @@ module _ (one other : Looks ℕ) (task : Task ℕ) (own uses : ℕ → Bool) (al
         → is_one_object nat_eq one old o ≡ is_one_object nat_eq other old o
     one_object None found = refl
     one_object (Some new) found =
-        ap (λ (m : Mount ℕ). nat_eq m.filesystem (one.mount new.mount).filesystem && nat_eq old.node new.node)
-        (alike.rules.mount old.mount on_old)
-        ∙ ap (λ (m : Mount ℕ). nat_eq (other.mount old.mount).filesystem m.filesystem && nat_eq old.node new.node)
-        (alike.rules.mount new.mount (found new refl))
+        cc (alike.rules.mount old.mount on_old, alike.rules.mount new.mount (found new refl))
 
     renamed_by : IsFoundAt to.object → (b : Bool)
         → renamed_permit nat_eq b one task from to old ≡ renamed_permit nat_eq b other task from to old
@@ -213,9 +202,7 @@ module _ (one other : Looks ℕ) (task : Task ℕ) (own uses : ℕ → Bool) (al
     renamed_alike : IsFoundAt to.object
         → renamed_permit nat_eq (is_one_object nat_eq one old to.object) one task from to old
         ≡ renamed_permit nat_eq (is_one_object nat_eq other old to.object) other task from to old
-    renamed_alike found =
-        renamed_by found (is_one_object nat_eq one old to.object)
-        ∙ ap (λ b. renamed_permit nat_eq b other task from to old) (one_object to.object found)
+    renamed_alike found = cc (renamed_by found (is_one_object nat_eq one old to.object), one_object to.object found)
 
   abbrev to_rename : Place ℕ → Looks ℕ → Place ℕ → Judgement ℕ
   to_rename from looks to =

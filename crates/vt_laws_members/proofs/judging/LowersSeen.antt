@@ -1,11 +1,12 @@
 -- What lower layers of overlays that members reach have at a path is in the part.
-use Rattle.std.proofs.Common.{◌≡◌, refl, sym, ap, subst, ◌∙◌, inl, inr, ⊎_elim, ℕ, nat_eq, Bool, true, false, cond, not, List, [], ◌∷◌, ◌++◌, filter, find, flat_map, map, Option, Some, None, ◌||◌, ◌&&◌, eq-eqb, eqb-true}
+use Rattle.std.proofs.lemmas.Grind.{common_steps}
+use Rattle.std.proofs.Common.{◌≡◌, refl, sym, ap, subst, ◌∙◌, inl, inr, ⊎_elim, ℕ, nat_eq, Bool, true, false, cond, not, List, [], ◌∷◌, ◌++◌, filter, find, flat_map, map, Option, Some, None, ◌||◌, ◌&&◌, eq-eqb, eqb-true, arith}
 use Rattle.std.specs.Prelude.{option_to_list, unwrap_or}
 use Rattle.std.specs.List.{cons_option, filter_map, list_any}
 use Rattle.std.proofs.lemmas.Bool.{and_from}
 use Rattle.vt_spec.specs.FileTree.{FileTree, is_under, path_down}
 use Rattle.vt_spec.specs.Language.Calls.{TaskName}
-use Rattle.vt_spec.specs.Lists.{is_among, prefixes, then_some, when}
+use Rattle.vt_spec.specs.Lists.{is_among, prefixes, when}
 use Rattle.vt_spec.specs.Machine.Filesystems.{has_lower_directory_at}
 use Rattle.vt_spec.specs.Machine.Invariants.{IsWorld, ListsNumbers}
 use Rattle.vt_spec.specs.Machine.Layers.{has_lower_directory, view_of}
@@ -51,9 +52,7 @@ module _ (world : World ℕ) (names : List TaskName) (is : IsWorld nat_eq world)
         itself = found_filesystem world.filesystems is.files.one_filesystem x there
 
         top : is_directory_node (x.files.tree.node layer.directory) ≡ true
-        top =
-            sym (ap (λ (f : Filesystem ℕ). is_directory_node (f.files.tree.node layer.directory))
-            (ap (filesystem_numbered nat_eq world) its ∙ itself)) ∙ directory
+        top = cc (its, itself, directory)
 
         tree : IsTree x.files.tree
         tree = among_from_all (λ (f : Filesystem ℕ). IsTree f.files.tree) world.filesystems is.files.trees x there
@@ -90,13 +89,7 @@ module _ (world : World ℕ) (names : List TaskName) (is : IsWorld nat_eq world)
 
         cut_view : (path : List (List ℕ))
             → view_at layer path (part_of_lower nat_eq world names x) ≡ view_at layer path x
-        cut_view path =
-            ap (λ o. then_some o cut.tree.node) (leads path) ∙ by (led x.files.tree layer.directory path) refl
-          where
-            by : (o : Option ℕ) → led x.files.tree layer.directory path ≡ o
-                → then_some o cut.tree.node ≡ then_some o x.files.tree.node
-            by None e = refl
-            by (Some object) e = same_node object path e
+        cut_view path = grind (arith, common_steps, leads, same_node)
 
       abbrev shown : Filesystem ℕ → Option (Filesystem ℕ)
       shown = part_of_filesystem nat_eq world names
@@ -144,9 +137,7 @@ module _ (world : World ℕ) (names : List TaskName) (is : IsWorld nat_eq world)
           skip : (o : Option (Filesystem ℕ)) → shown x ≡ o → passes x ≡ false
               → find passes (cons_option o (filter_map shown rest)) ≡ find passes (filter_map shown rest)
           skip None e f = refl
-          skip (Some y) e f =
-              ap (λ b. cond b (Some y) (find passes (filter_map shown rest)))
-              (ap (nat_eq layer.filesystem) (shown_number x y e) ∙ f)
+          skip (Some y) e f = cc (shown_number x y e, f)
 
           by : (b : Bool) → passes x ≡ b
               → view_at layer path (unwrap_or (find passes (filter_map shown rest)) none)
@@ -160,8 +151,7 @@ module _ (world : World ℕ) (names : List TaskName) (is : IsWorld nat_eq world)
               (unwrap_or (cond b (Some its.0) (find passes (filter_map shown rest))) none))
               (ap (nat_eq layer.filesystem) (shown_number x its.0 its.1) ∙ e)
               ∙ its.2
-          by false e later =
-              ap (λ o. view_at layer path (unwrap_or o none)) (skip (shown x) refl e) ∙ later
+          by false e later = cc (skip (shown x) refl e, later)
 
       pub lower_view : (path : List (List ℕ))
           → node_led (view_of (open_layer nat_eq part layer)) path

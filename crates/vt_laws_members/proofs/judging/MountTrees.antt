@@ -1,4 +1,5 @@
 -- Children of mounts of theirs, and trees of mounts, are the same in the part.
+use Rattle.std.proofs.lemmas.Grind.{common_steps}
 use Rattle.std.proofs.Common.{◌≡◌, refl, sym, ap, subst, ◌∙◌, inl, ⊎_elim, ℕ, zero, suc, nat_eq, Bool, true, false, true≢false, List, [], ◌∷◌, Option, Some, None, filter, flat_map, length, not, ◌⊎◌, ◌+◌, ◌≤◌, arith, eqb-true}
 use Rattle.std.specs.List.{cons_option, filter_map, list_any}
 use Rattle.std.proofs.lemmas.Bool.{or_from, or_left, or_parts}
@@ -40,11 +41,7 @@ pub child_deeper : (world : World ℕ) (one : OneNumberEach world) (all : AllSta
     → Among child (children nat_eq world.mounts mount.number)
     → rank world one all child.number ≡ suc (rank world one all mount.number)
 child_deeper world one all mount child m =
-    let from = among-from_filter (stands_on nat_eq mount.number) world.mounts child m in
-    let at = stands_where mount.number child from.1 in
-    rank_child world one all child.number at.0
-    (ap (λ (x : Mount ℕ). x.mount_point) (found_itself world.mounts one child from.0) ∙ at.1)
-    ∙ ap (λ n. suc (rank world one all n)) (sym at.2)
+    grind (arith, common_steps, among-from_filter, rank_child, found_itself, rank)
 
 module _ (world : World ℕ) (names : List TaskName) (is : IsWorld nat_eq world) where
   abbrev theirs : List (Task ℕ)
@@ -79,12 +76,7 @@ module _ (world : World ℕ) (names : List TaskName) (is : IsWorld nat_eq world)
 
   pub children_alike : (number : ℕ) → IsTheirs world names is.mounts number
       → children nat_eq part.mounts number ≡ children nat_eq world.mounts number
-  children_alike number own =
-      filter_both kept (stands_on nat_eq number) (stands_on nat_eq number) world.mounts
-      (λ x m h. (own_whole x (child_own number x own m h), h))
-      (λ x y m h e.
-      ⊎_elim (λ same. ap (stands_on nat_eq number) (sym same) ∙ h) (λ stub. ap (stands_on nat_eq number) (sym stub.0))
-      (kept_how world names theirs x y e))
+  children_alike number own = grind (arith, common_steps, filter_both, own_whole, child_own, kept_how)
 
   pub children_own : (number : ℕ) (child : Mount ℕ) → IsTheirs world names is.mounts number
       → Among child (children nat_eq world.mounts number) → Among child world.mounts × (owns child ≡ true)
@@ -202,12 +194,9 @@ module _ (world : World ℕ) (names : List TaskName) (is : IsWorld nat_eq world)
       → length world.mounts ≤ n + deep mount.number → length part.mounts ≤ k + deep_in_part mount.number
       → tree_from nat_eq k part.mounts mount ≡ tree_from nat_eq n world.mounts mount
   trees_alike zero zero mount own l m = refl
-  trees_alike zero (suc k) mount own l m =
-      ap (λ list. mount ∷ flat_map (tree_from nat_eq k part.mounts) list)
-      (children_alike mount.number own ∙ none_below mount (omega (arith, l)))
+  trees_alike zero (suc k) mount own l m = cc (children_alike mount.number own, none_below mount (omega (arith, l)))
   trees_alike (suc n) zero mount own l m =
-      ap (λ list. mount ∷ flat_map (tree_from nat_eq n world.mounts) list)
-      (sym (none_below_in_part mount (omega (arith, m))) ∙ children_alike mount.number own)
+      cc (none_below_in_part mount (omega (arith, m)), children_alike mount.number own)
   trees_alike (suc n) (suc k) mount own l m =
       ap (λ list. mount ∷ flat_map (tree_from nat_eq k part.mounts) list) (children_alike mount.number own)
       ∙ ap (λ list. mount ∷ list)

@@ -1,5 +1,6 @@
 -- What is below a mount of theirs, and which files are open through it, is the same in the part.
-use Rattle.std.proofs.Common.{◌≡◌, refl, sym, ap, ◌∙◌, inl, inr, ℕ, nat_eq, Bool, true, false, cond, true≢false, not, List, [], ◌∷◌, filter, length, Option, Some, None, ◌||◌, ◌&&◌, eqb-true}
+use Rattle.std.proofs.lemmas.Grind.{common_steps}
+use Rattle.std.proofs.Common.{◌≡◌, refl, sym, ap, ◌∙◌, inr, ℕ, nat_eq, Bool, true, false, true≢false, not, List, [], ◌∷◌, filter, length, Option, Some, None, ◌&&◌, eqb-true, arith}
 use Rattle.std.specs.List.{list_any}
 use Rattle.std.proofs.lemmas.Bool.{and_parts, false_from_ne_true, not-true}
 use Rattle.vt_spec.specs.Language.Calls.{TaskName}
@@ -24,12 +25,7 @@ use Rattle.vt_laws_members.proofs.judging.SeenInPart.{OnTheirs, mount_alike, the
 pub any_filter : {A : Type 0} (p q : A → Bool) (xs : List A) → ((x : A) → Among x xs → q x ≡ false → p x ≡ false)
     → list_any p (filter q xs) ≡ list_any p xs
 any_filter p q [] none = refl
-any_filter {A} p q (x ∷ xs) none = by (q x) refl (any_filter p q xs (λ y m. none y (inr m)))
-  where
-    by : (b : Bool) → q x ≡ b → list_any p (filter q xs) ≡ list_any p xs
-        → list_any p (cond b (x ∷ filter q xs) (filter q xs)) ≡ (p x || list_any p xs)
-    by true e later = ap (λ b. p x || b) later
-    by false e later = later ∙ sym (ap (λ b. b || list_any p xs) (none x (inl refl) e))
+any_filter {A} p q (x ∷ xs) none = grind (arith, common_steps, any_filter p q xs (λ y m. none y (inr m)))
 
 module _ (world : World ℕ) (names : List TaskName) (is : IsWorld nat_eq world)
     (sealed_off : sealed nat_eq world names ≡ true) (task : Task ℕ) (member : Among task (members world names)) where
@@ -72,10 +68,7 @@ module _ (world : World ℕ) (names : List TaskName) (is : IsWorld nat_eq world)
   down w here = chain (length w.mounts) (λ location. (mount_at nat_eq w location).mount_point) here
 
   down_alike : (here : Location ℕ) → OnTheirs world names is here → down world here ≡ down part here
-  down_alike here own =
-      sym (up_alike world names is.mounts (λ location. (mount_at nat_eq world location).mount_point)
-      (λ location. (mount_at nat_eq part location).mount_point) (λ a b e. e)
-      (λ a theirs. ap (λ (m : Mount ℕ). m.mount_point) (same_mount world names is.mounts a.mount theirs)) here own)
+  down_alike here own = grind (arith, common_steps, up_alike, same_mount)
 
   below_alike : (top here : Location ℕ) → OnTheirs world names is top → OnTheirs world names is here
       → lies_under_location nat_eq one top here ≡ lies_under_location nat_eq other top here

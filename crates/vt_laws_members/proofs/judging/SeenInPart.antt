@@ -1,14 +1,15 @@
 -- What members see on the mounts that they get to is what their part shows.
-use Rattle.std.proofs.Common.{◌≡◌, refl, sym, ap, subst, ◌∙◌, inl, inr, ⊎_elim, ℕ, nat_eq, Bool, true, false, cond, List, [], ◌∷◌, Option, Some, None, map, not, ◌||◌, ◌&&◌, eq-eqb, eqb-true}
+use Rattle.std.proofs.lemmas.Grind.{common_steps}
+use Rattle.std.proofs.Common.{◌≡◌, refl, sym, ap, subst, ◌∙◌, inl, inr, ⊎_elim, ℕ, nat_eq, Bool, true, List, [], ◌∷◌, Option, Some, None, map, ◌&&◌, eq-eqb, eqb-true, arith}
 use Rattle.std.specs.Prelude.{option_to_list}
 use Rattle.std.specs.List.{list_all, list_any}
 use Rattle.std.proofs.lemmas.Bool.{and_parts}
 use Rattle.vt_spec.specs.Language.Calls.{TaskName}
-use Rattle.vt_spec.specs.FileTree.{is_directory_under, is_removed}
+use Rattle.vt_spec.specs.FileTree.{is_directory_under}
 use Rattle.vt_spec.specs.Lists.{is_among}
 use Rattle.vt_spec.specs.Machine.Invariants.{IsWorld, is_directory_seen_in, is_located_well, is_there, stands_on_directories}
 use Rattle.vt_spec.specs.Machine.Looks.{looks_of}
-use Rattle.vt_spec.specs.Machine.Mounts.{Location, Mount, same_location}
+use Rattle.vt_spec.specs.Machine.Mounts.{Location, Mount}
 use Rattle.vt_spec.specs.Machine.Sealed.{is_at, is_member_task, is_own_mount, locations, members, own_mounts, part_of, roots_and_directories, used_directly, used_filesystems}
 use Rattle.vt_spec.specs.Machine.Walking.{hop, hops}
 use Rattle.vt_spec.specs.Machine.World.{Filesystem, Task, World, all_locations, filesystem_at, filesystem_numbered, is_directory_at, locations_of, mount_at, mount_numbered}
@@ -85,8 +86,7 @@ module _ (world : World ℕ) (names : List TaskName) (is : IsWorld nat_eq world)
   pub filesystem_alike : (here : Location ℕ) → OnTheirs here
       → filesystem_at nat_eq world here ≡ filesystem_at nat_eq part here
   filesystem_alike here own =
-      sym (found world names (mount_at nat_eq world here).filesystem (theirs_used here own))
-      ∙ ap (λ (m : Mount ℕ). filesystem_numbered nat_eq part m.filesystem) (mount_alike here own)
+      cc (found world names (mount_at nat_eq world here).filesystem (theirs_used here own), mount_alike here own)
 
   pub under_alike : (number : ℕ) → uses number ≡ true → (top directory : ℕ)
       → is_directory_under nat_eq (filesystem_numbered nat_eq world number).files top directory
@@ -97,12 +97,7 @@ module _ (world : World ℕ) (names : List TaskName) (is : IsWorld nat_eq world)
   lost_alike : (here : Location ℕ) → OnTheirs here
       → Rattle.vt_spec.specs.Machine.Walking.is_lost nat_eq (looks_of nat_eq world) here
       ≡ Rattle.vt_spec.specs.Machine.Walking.is_lost nat_eq (looks_of nat_eq part) here
-  lost_alike here own =
-      ap (λ (f : Filesystem ℕ). is_removed nat_eq f.files.tree here.node
-      || not (is_directory_under nat_eq f.files (mount_at nat_eq world here).root here.node))
-      (filesystem_alike here own)
-      ∙ ap (λ (m : Mount ℕ). is_removed nat_eq (filesystem_at nat_eq part here).files.tree here.node
-      || not (is_directory_under nat_eq (filesystem_at nat_eq part here).files m.root here.node)) (mount_alike here own)
+  lost_alike here own = cc (filesystem_alike here own, mount_alike here own)
 
   module _ (task : Task ℕ) (member : Among task theirs) where
     task_there : Among task world.tasks
@@ -165,20 +160,11 @@ module _ (world : World ℕ) (names : List TaskName) (is : IsWorld nat_eq world)
     -- `..` from the root of a mount
     hop_goes : (a b : Location ℕ) → hop nat_eq (looks_of nat_eq world) task a ≡ Some b
         → (mount_numbered nat_eq world a.mount).mount_point ≡ Some b
-    hop_goes a b e = by (same_location nat_eq a task.root) (nat_eq a.node (mount_at nat_eq world a).root) e
-      where
-        by : (p q : Bool) → cond p None (cond q (mount_at nat_eq world a).mount_point None) ≡ Some b
-            → (mount_at nat_eq world a).mount_point ≡ Some b
-        by true q h = none_is_some b h
-        by false true h = h
-        by false false h = none_is_some b h
+    hop_goes a b e = grind (arith, common_steps, none_is_some)
 
     hop_alike : (a : Location ℕ) → OnTheirs a
         → hop nat_eq (looks_of nat_eq part) task a ≡ hop nat_eq (looks_of nat_eq world) task a
-    hop_alike a own =
-        ap (λ (m : Mount ℕ). cond (same_location nat_eq a task.root) None
-        (cond (nat_eq a.node m.root) m.mount_point None))
-        (sym (mount_alike a own))
+    hop_alike a own = grind (arith, common_steps, mount_alike)
 
     hops_each : (here : Location ℕ) → OnTheirs here
         → Each (λ (l : Location ℕ). OnTheirs l) (hops nat_eq (looks_of nat_eq world) task here)

@@ -1,14 +1,13 @@
 -- Every walk of a path leads alike, where two worlds show alike what it meets.
-use Rattle.std.proofs.Common.{◌≡◌, refl, ap, subst, ◌∙◌, ℕ, zero, suc, ◌+◌, ◌-◌, ◌++◌, nat_eq, Bool, true, false, cond, not, List, [], ◌∷◌, Option, Some, None, is_some, Ok, Err, Result, reverse, ◌||◌, ◌&&◌}
+use Rattle.std.proofs.lemmas.Grind.{common_steps}
+use Rattle.std.proofs.Common.{◌≡◌, refl, ap, subst, ◌∙◌, ℕ, zero, suc, ◌+◌, ◌-◌, ◌++◌, nat_eq, Bool, true, false, cond, not, List, [], ◌∷◌, Option, Some, None, is_some, Ok, Err, Result, reverse, ◌||◌, ◌&&◌, arith}
 use Rattle.std.specs.Prelude.{IfOk, flat_map, length, nat_lt, option_map, option_to_list, unwrap_or, ◌==◌}
 use Rattle.std.specs.List.{list_any}
 use Rattle.std.proofs.lemmas.Option.{same_Some}
 use Rattle.vt_spec.specs.declared.errors.Deny.{Deny}
 use Rattle.vt_spec.specs.declared.errors.Rule.TheVariants.{W2, W3, W6, W7, W8, W9}
 use Rattle.vt_spec.specs.Errors.{Rules, and_then, unless}
-use Rattle.vt_spec.specs.FileTree.{symlink_text}
 use Rattle.vt_spec.specs.Language.Limits.{longest_name, most_symlinks}
-use Rattle.vt_spec.specs.Lists.{holds_of, then_some}
 use Rattle.vt_spec.specs.Machine.Looks.{Looks, is_directory_at, topmost}
 use Rattle.vt_spec.specs.Machine.Mounts.{Location, Mount}
 use Rattle.vt_spec.specs.Machine.Rules.Mounting.{at_topmost, destination_walk, source_walk}
@@ -270,11 +269,7 @@ module _ (one other : Looks ℕ) (task : Task ℕ) (Own : ℕ → Type 0) (alike
 
   pub same_directory_there : (place : Place ℕ) → PlaceAt place
       → is_directory_there nat_eq one place ≡ is_directory_there nat_eq other place
-  same_directory_there place at = by place.object at.1
-    where
-      by : (o : Option (Location ℕ)) → FoundAt o → holds_of (is_directory_at one) o ≡ holds_of (is_directory_at other) o
-      by None f = refl
-      by (Some object) f = ap is_directory_node (alike.node object (f object refl))
+  same_directory_there place at = grind (arith, common_steps)
 
   pub old_leaf_agrees : (path : List ℕ)
       → Agree PlaceAt (old_leaf_walk nat_eq one task path) (old_leaf_walk nat_eq other task path)
@@ -327,13 +322,7 @@ module _ (one other : Looks ℕ) (task : Task ℕ) (Own : ℕ → Type 0) (alike
 
   same_symlink_there : (place : Place ℕ) → PlaceAt place
       → symlink_there nat_eq one place ≡ symlink_there nat_eq other place
-  same_symlink_there place at = by place.object at.1
-    where
-      by : (o : Option (Location ℕ)) → FoundAt o
-          → then_some o (λ object. symlink_text (one.node object))
-          ≡ then_some o (λ object. symlink_text (other.node object))
-      by None f = refl
-      by (Some object) f = ap symlink_text (alike.node object (f object refl))
+  same_symlink_there place at = grind (arith, common_steps)
 
   abbrev mounts_entered : Looks ℕ → Bool → Option (Location ℕ) → List (Location ℕ)
   mounts_entered looks special o = cond special [] (flat_map looks.mounts_over (option_to_list o))
