@@ -198,8 +198,6 @@ module _ (one other : Looks ℕ) (task : Task ℕ) (own uses : ℕ → Bool) (al
 
   -- Open files
 
-  -- the rules of open(2), with those of a copy-up given
-
   copies_alike : (file : Location ℕ) (access : Access) → On file.mount
       → copy_rules (is_copied_up one file access) one file ≡ copy_rules (is_copied_up other file access) other file
   copies_alike file access on = grind (arith, common_steps)
