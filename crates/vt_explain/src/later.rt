@@ -1,6 +1,8 @@
 //! The later rules that a refused line would fail too.
 use serde_json::Value;
 use std::alloc::{AllocError, Global};
+use vt_check::draft::Draft;
+use vt_check::object::List;
 use vt_later::{Passed, refusal};
 use vt_line::line::Line;
 use vt_ns::World;
@@ -55,26 +57,24 @@ pub fn later_rules(refused: Refused<'_>, first: Rule) -> Result<Vec<Rule>, Alloc
     Ok(rules)
 }
 
-/// Rules, each with its error.
-pub fn words_of(alloc: Global, rules: &[Rule]) -> Result<String, AllocError> {
-    let mut text = String::new(alloc);
-    for rule in rules {
-        if !text.is_empty() {
-            text.push_str(", ")?;
+/// Appends rules, each with its error.
+pub fn push_rules(text: &mut Draft, rules: &[Rule]) {
+    for (index, rule) in rules.iter().enumerate() {
+        if index > 0 {
+            text.push(", ");
         }
-        text.push_str(rule.name())?;
-        text.push_str(" (")?;
-        text.push_str(rule.errno().name())?;
-        text.push(')')?;
+        text.push(rule.name());
+        text.push(" (");
+        text.push(rule.errno().name());
+        text.push(")");
     }
-    Ok(text)
 }
 
 /// Rules, by their names.
 pub fn names_of(alloc: Global, rules: &[Rule]) -> Result<Value, AllocError> {
-    let mut names = Vec::new(alloc);
+    let mut names = List::new(alloc);
     for rule in rules {
-        names.push(Value::try_from_str(alloc, rule.name())?)?;
+        names.push_text(rule.name());
     }
-    Ok(Value::Array(names))
+    names.end()
 }
