@@ -358,3 +358,11 @@ module _ (base : WorldValue) (store : StoreValue) (held : IsHeld (with_store sto
         subst (λ (v : WorldValue). is_locked_at nat_eq (world_of v) (location_of at) ≡ false) is
         (none_below (mount_at nat_eq (world_of kept) (location_of at)).filesystem at.node small
         (born_below at.node none))
+
+    -- and so is everything where there are no overlays
+    pub all_unlocked : store.overlays ≡ [] → is_locked_at nat_eq (world_of value) (location_of at) ≡ false
+    all_unlocked none =
+        subst (λ (v : WorldValue). is_locked_at nat_eq (world_of v) (location_of at) ≡ false) is
+        (locked_by (mount_at nat_eq (world_of kept) (location_of at)).filesystem (number_of at.node)
+        ∙ ap (list_any (in_entry (mount_at nat_eq (world_of kept) (location_of at)).filesystem (number_of at.node)))
+        none)
