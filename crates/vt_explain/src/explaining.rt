@@ -11,7 +11,7 @@ ghost use Rattle.vt_calls.specs.KernelValue.{kernel_world};
 use crate::asked::{PathAsked, paths_of};
 use crate::changes::{self, Sides, add_changes};
 use crate::holders::{self, Look, add_holders};
-use crate::later::{Refused, later_rules, names_of, push_rules};
+use crate::later::{Refused, later_rules, push_rules};
 use crate::opened::{Openings, openings_of};
 use crate::report::{Format, Section};
 use crate::walked::{View, push_walk};
@@ -19,7 +19,7 @@ use serde_json::Value;
 use std::alloc::{AllocError, Global};
 use vt_calls::Kernel;
 use vt_check::draft::Draft;
-use vt_check::object::Object;
+use vt_check::object::{List, Object};
 use vt_io::memory::BytesSink;
 use vt_line::line::Line;
 use vt_lines::lines::first_line;
@@ -118,6 +118,15 @@ fn push_head_text(
         push_rules(text, later);
         text.push("\n");
     }
+}
+
+// Rules, by their names.
+fn names_of(alloc: Global, rules: &[Rule]) -> Result<Value, AllocError> {
+    let mut names = List::new(alloc);
+    for rule in rules {
+        names.push_text(rule.name());
+    }
+    names.end()
 }
 
 // Adds the rule that refuses a line, and the later ones.
@@ -379,27 +388,29 @@ fn push_refusal(asked: Asked<'_>, busy: Busy<'_>, rule: Rule, text: &mut Draft) 
     }
 }
 
-// The later rules that a call would fail too, if it is refused.
+// The later rules that a call of a task would fail too.
 fn later_of(
     asked: Asked<'_>,
     world: &World,
     name: &TaskName,
-    outcome: &Result<Answer, Deny>,
+    rule: Rule,
 ) -> Result<Vec<Rule>, AllocError> {
-    let refused = Refused {
-        version: asked.version,
-        alloc: asked.alloc,
-        world,
-        name,
-        line: asked.line.text,
-    };
-    match outcome {
-        Ok(_) => Ok(Vec::new(asked.alloc)),
-        Err(deny) => later_rules(refused, deny.rule),
+    match world.task(name) {
+        Some(who) => later_rules(
+            &Refused {
+                version: asked.version,
+                alloc: asked.alloc,
+                world,
+                who,
+                line: asked.line.text,
+            },
+            rule,
+        ),
+        None => Ok(Vec::new(asked.alloc)),
     }
 }
 
-// Appends what is told of a call's answer before its effect.
+// Appends a call's answer, and the later rules that would refuse it too, if it is refused.
 fn push_answered(
     asked: Asked<'_>,
     world: &World,
@@ -407,7 +418,11 @@ fn push_answered(
     outcome: &Result<Answer, Deny>,
     text: &mut Draft,
 ) {
-    match later_of(asked, world, name, outcome) {
+    let Err(deny) = outcome else {
+        push_head(asked, outcome, &[], text);
+        return;
+    };
+    match later_of(asked, world, name, deny.rule) {
         Ok(later) => push_head(asked, outcome, &later, text),
         Err(_) => text.fail(),
     }
