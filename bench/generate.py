@@ -31,6 +31,13 @@ climbs  a tree, each directory in the one before, and 20 paths of 1,364 `..` fro
 parts   the same under a mount of a part of the filesystem
 exits   tasks that are all forked first, and then end in the order in which they were forked
 stacks  mounts over one another at one place, and paths that lead through all of them
+layers2, layers8, layers64
+        an overlay of so many lower layers, and paths of 3 and of 12 words to what its top layer has, its bottom layer, and
+        none of them
+merged2, merged8, merged64
+        an overlay of so many lower layers, and `ls` of a directory of 1,000 names that all of them have a part of
+locked  files of 1,000 directories, written and read in turn beside 64 live overlays of three layers each; each 20th line
+        writes in one of the layers, and is refused
 later60, later600, later2000
         so many mounted filesystems, of which the oldest is unmounted, again and again, and a new one mounted in its place
 
@@ -407,6 +414,67 @@ def later_round(i, count):
     yield f't read /l/{(i + 1) % count}/f'
 
 
+SHALLOW = ('s', 't')
+DEEP = tuple(f'a{number}' for number in range(11))
+MERGED = 1000
+
+
+def directories(top, words):
+    for end in range(len(words) + 1):
+        yield f't mkdir {"/".join([top, *words[:end]])}'
+
+
+def overlay(at, lowers):
+    yield f't mkdir {at}'
+    yield f't mount overlay {at} lowerdir={":".join(lowers)}'
+
+
+def layers(lines, count):
+    lowers = [f'/l{number}' for number in range(count)]
+    places = ['/'.join(words) for words in (SHALLOW, DEEP)]
+    made = []
+    for lower in lowers:
+        made += directories(lower, SHALLOW)
+        made += [line for line in directories(lower, DEEP)][1:]
+    for place in places:
+        made.append(f't write {lowers[0]}/{place}/top first')
+        made.append(f't write {lowers[-1]}/{place}/bottom last')
+    made += overlay('/m', lowers)
+    yield from made
+    paths = [f'/m/{place}/{name}' for name in ('top', 'bottom', 'none') for place in places]
+    for i in range(lines - len(made)):
+        yield f't read {paths[i % len(paths)]}'
+
+
+def merged(lines, count):
+    lowers = [f'/l{number}' for number in range(count)]
+    made = []
+    for lower in lowers:
+        made += directories(lower, ('n',))
+    made += [f't write {lowers[number % count]}/n/{number} x' for number in range(MERGED)]
+    made += overlay('/m', lowers)
+    yield from made
+    for _ in range(lines - len(made)):
+        yield 't ls /m/n'
+
+
+LIVE = 64
+
+
+def locked(lines):
+    made = []
+    for number in range(LIVE):
+        lowers = [f'/o{number}/{name}' for name in ('a', 'b', 'c')]
+        made.append(f't mkdir /o{number}')
+        for lower in lowers:
+            made += directories(lower, ('d',))
+            made.append(f't write {lower}/d/f x')
+        made += overlay(f'/o{number}/m', lowers)
+    yield from made
+    for i, line in enumerate(files(lines - len(made))):
+        yield f't write /o{i % LIVE}/b/d/f y' if i > DIRECTORIES and i % 20 == 0 else line
+
+
 UPWARD = 1364
 
 
@@ -471,6 +539,9 @@ KINDS = {
     'ending100': lambda lines: ending(lines, 100), 'handed10': lambda lines: ending(lines, 10, is_nested=True),
     'later60': lambda lines: later(lines, 60), 'later600': lambda lines: later(lines, 600),
     'later2000': lambda lines: later(lines, 2000),
+    'layers2': lambda lines: layers(lines, 2), 'layers8': lambda lines: layers(lines, 8),
+    'layers64': lambda lines: layers(lines, 64), 'merged2': lambda lines: merged(lines, 2),
+    'merged8': lambda lines: merged(lines, 8), 'merged64': lambda lines: merged(lines, 64), 'locked': locked,
     'climbs': climbs, 'parts': lambda lines: climbs(lines, '/part'), 'exits': exits, 'stacks': stacks,
 }
 

@@ -6,6 +6,7 @@ mod bwrap_pivots;
 mod denials;
 mod docker_volumes;
 mod image_build;
+mod image_of_three_layers;
 mod lazy_unmount;
 mod moved_mounts;
 mod nspawn;
@@ -20,6 +21,7 @@ mod sandbox;
 mod secret_file;
 mod slave_root;
 mod sticky_tmp;
+mod two_users_of_an_image;
 mod unshare_mounts;
 mod volume_propagation;
 
@@ -32,7 +34,7 @@ pub struct Example {
 }
 
 /// The examples, in the order of the cookbook.
-pub const EXAMPLES: [Example; 23] = [
+pub const EXAMPLES: [Example; 25] = [
     Example {
         name: "docker-volumes",
         about: "what docker run -v and bind-propagation=rshared show of a disk that the host mounts later",
@@ -122,6 +124,14 @@ pub const EXAMPLES: [Example; 23] = [
         about: "runc's slaves",
     },
     Example {
+        name: "image-of-three-layers",
+        about: "what a read-only container sees of an image of three layers",
+    },
+    Example {
+        name: "two-users-of-an-image",
+        about: "who may read what an image holds",
+    },
+    Example {
         name: "denials",
         about: "each kind of denial",
     },
@@ -152,6 +162,8 @@ pub fn script_of(name: &str) -> Option<&'static str> {
         "volume-propagation" => Some(volume_propagation::script()),
         "private-volume" => Some(private_volume::script()),
         "slave-root" => Some(slave_root::script()),
+        "image-of-three-layers" => Some(image_of_three_layers::script()),
+        "two-users-of-an-image" => Some(two_users_of_an_image::script()),
         "denials" => Some(denials::script()),
         _ => None,
     }

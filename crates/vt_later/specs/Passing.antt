@@ -17,6 +17,16 @@ lets_pass passed M8 = passed.uses
 lets_pass passed M9 = passed.numbers
 lets_pass passed rule = false
 
+-- what is let pass by the first is let pass by the second too
+abbrev pub IsWithin : Passed → Passed → Type 0
+IsWithin passed more = (rule : Rule) → lets_pass passed rule ≡ true → lets_pass more rule ≡ true
+
+-- the least that lets a rule pass, and all that was let pass before
+abbrev pub IsLeastWith : Passed → Rule → Passed → Type 0
+IsLeastWith passed rule more =
+    (lets_pass more rule ≡ true) × IsWithin passed more
+    × ((most : Passed) → lets_pass most rule ≡ true → IsWithin passed most → IsWithin more most)
+
 -- the second table has the rules of the first, and each of them that is not let pass fails in both or in none
 abbrev pub SameBut : Passed → Rules → Rules → Type 0
 SameBut passed [] [] = ⊤

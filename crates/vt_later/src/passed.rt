@@ -1,7 +1,8 @@
 //! The rules that are let pass.
-ghost use Rattle.std.specs.Prelude.{◌≡◌};
+ghost use Rattle.std.specs.Prelude.{◌≡◌, false, IfSome, IfNone};
 ghost use Rattle.vt_cred.specs.Caps.{capability_bits};
 ghost use Rattle.vt_later.specs.Lenience.{added};
+ghost use Rattle.vt_later.specs.Passing.{lets_pass, IsLeastWith, IsWithin};
 
 use bitflags::Flags;
 use vt_cred::Caps;
@@ -27,7 +28,9 @@ pub struct Passed {
 
 impl Passed {
     /// S3 (EMFILE) alone.
-    pub fn least() -> Passed {
+    pub fn least() -> Passed
+        ensures { (other : Passed) → IsWithin result other }
+    {
         Passed {
             privileges: false,
             rights: false,
@@ -38,8 +41,11 @@ impl Passed {
         }
     }
 
-    /// These rules and another one, if that is one of those which can be let pass.
-    pub fn with(self, rule: Rule) -> Option<Passed> {
+    /// These rules and another one, with those that look at the same, if that is one of those which can be let pass.
+    pub fn with(self, rule: Rule) -> Option<Passed>
+        ensures more { IfSome result (IsLeastWith self rule) }
+        ensures never { IfNone result ((passed : Passed) → lets_pass passed rule ≡ false) }
+    {
         let mut more = self;
         match rule {
             Rule::S3 => {}
