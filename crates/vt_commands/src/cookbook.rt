@@ -1,5 +1,5 @@
 //! The command that writes an example of the cookbook.
-ghost use Rattle.std.specs.Prelude.{◌≡◌, true, IfErr};
+ghost use Rattle.std.specs.Prelude.{◌≡◌, false, true, IfErr};
 ghost use Rattle.vt_commands.specs.Status.{comes_before_output};
 
 use crate::command::out_of_memory;

@@ -439,7 +439,7 @@ fn told_after(
 ) -> Result<String, AllocError> {
     let mut text = Draft::new(asked.alloc);
     push_answered(asked, world, name, outcome, &mut text);
-    text.push_part(&before.text, 0, before.text.len());
+    text.push_draft(&before.text);
     let busy = Busy {
         world,
         call,

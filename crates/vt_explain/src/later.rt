@@ -44,8 +44,12 @@ fn refusal_of<L: LookAtLayers>(
             refusal(refused.alloc, refused.world, refused.who, call, passed)
         }
         Ok(_) => Ok(None),
-        Err(deny) if deny.rule == Rule::S5 => Err(AllocError),
-        Err(_) => Ok(None),
+        Err(deny) => {
+            if deny.rule == Rule::S5 {
+                return Err(AllocError);
+            }
+            Ok(None)
+        }
     }
 }
 
