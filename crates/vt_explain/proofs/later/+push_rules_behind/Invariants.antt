@@ -1,4 +1,3 @@
-use Rattle.std.proofs.Common.{ℕ}
 use Rattle.vt_explain.proofs.later.+push_rules_behind.Given as goal
 
 abbrev pub decreases-push_rules_behind : goal.decreases-push_rules_behind
