@@ -86,6 +86,13 @@ impl Object {
         self.put(name, Value::try_from_str(self.alloc, text));
     }
 
+    /// Adds bytes as they are shown.
+    pub fn put_bytes(&mut self, name: &str, bytes: &[u8]) {
+        let mut text = self.draft();
+        text.push_bytes(bytes);
+        self.put_draft(name, text);
+    }
+
     /// Adds a text that was written.
     pub fn put_draft(&mut self, name: &str, text: Draft) {
         match text.end() {
@@ -113,12 +120,74 @@ impl Object {
         }
     }
 
+    /// Appends the object as a line, or notes that an allocation failed.
+    pub fn push_line(self, text: &mut Draft) {
+        match self.line() {
+            Ok(line) => text.push(line.as_str()),
+            Err(_) => text.fail(),
+        }
+    }
+
     /// The object as a line, if no allocation failed.
     pub fn line(self) -> Result<String, AllocError> {
         if self.failed {
             Err(AllocError)
         } else {
             line_of(self.alloc, self.members)
+        }
+    }
+}
+
+/// A list that is being written. An allocation that fails is noted, and told at the end.
+#[derive(Drop)]
+pub struct List {
+    alloc: Global,
+    values: Vec<Value>,
+    failed: bool,
+}
+
+impl List {
+    /// The empty list.
+    pub fn new(alloc: Global) -> Self {
+        List {
+            alloc,
+            values: Vec::new(alloc),
+            failed: false,
+        }
+    }
+
+    // Appends a value, if there is memory for it.
+    fn try_push(&mut self, value: Result<Value, AllocError>) -> Result<(), AllocError> {
+        self.values.push(value?)?;
+        Ok(())
+    }
+
+    /// Appends a value.
+    pub fn push(&mut self, value: Result<Value, AllocError>) {
+        self.failed |= self.try_push(value).is_err();
+    }
+
+    /// Appends a text.
+    pub fn push_text(&mut self, text: &str) {
+        self.push(Value::try_from_str(self.alloc, text));
+    }
+
+    /// Appends bytes as they are shown.
+    pub fn push_bytes(&mut self, bytes: &[u8]) {
+        let mut text = Draft::new(self.alloc);
+        text.push_bytes(bytes);
+        match text.end() {
+            Ok(text) => self.push_text(text.as_str()),
+            Err(_) => self.failed = true,
+        }
+    }
+
+    /// The list as a value, if no allocation failed.
+    pub fn end(self) -> Result<Value, AllocError> {
+        if self.failed {
+            Err(AllocError)
+        } else {
+            Ok(Value::Array(self.values))
         }
     }
 }
