@@ -254,9 +254,6 @@ module _ (value : WorldValue) (whole : IsHeld value) (name : TaskName) (number :
   own_size : length graft.tree.now ≡ length own
   own_size = sym (length-map _ _ ∙ length-map _ _ ∙ length-map graft.tree.now mount_of)
 
-  planned_are : planned_copies world graft counts ≡ own ++ copies_beside world graft counts
-  planned_are = refl
-
   own_taken : take (length graft.tree.now) (planned_copies world graft counts) ≡ own
   own_taken = ap (λ n. take n (own ++ copies_beside world graft counts)) own_size
       ∙ take-append_seam own (copies_beside world graft counts)

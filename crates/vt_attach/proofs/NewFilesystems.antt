@@ -1,5 +1,5 @@
 -- A filesystem that is new: one empty directory, with a number that no other has.
-use Rattle.std.proofs.Common.{◌≡◌, refl, sym, ap, subst, ◌∙◌, inl, inr, ⊎_elim, ℕ, ◌<◌, ◌%◌, ◌/◌, ◌==◌, nat_eq, eq-eqb, eqb-true, lt-ltb, nat_lt, Bool, true, false, true≢false, cond, not, ◌&&◌, ◌||◌, List, [], ◌∷◌, ◌++◌, map, flat_map, Some, None, is_some, arith}
+use Rattle.std.proofs.Common.{◌≡◌, refl, sym, ap, subst, ◌∙◌, inl, ⊎_elim, ℕ, ◌<◌, ◌%◌, ◌/◌, ◌==◌, nat_eq, eq-eqb, eqb-true, lt-ltb, nat_lt, Bool, true, false, true≢false, cond, not, ◌&&◌, ◌||◌, List, [], ◌∷◌, ◌++◌, map, flat_map, Some, None, is_some, arith}
 use Rattle.std.specs.Prelude.{All}
 use Rattle.std.specs.List.{list_all}
 use Rattle.std.proofs.lemmas.Bool.{ltb-true, ne_eqb}
@@ -10,7 +10,7 @@ use Rattle.vt_spec.specs.Machine.World.{Filesystem, Namespace, filesystem_number
 use Rattle.vt_spec.specs.TreeInvariant.{IsTree}
 use Rattle.vt_spec.specs.Inodes.{Inodes}
 use Rattle.vt_laws_counts.specs.Using.{root_counted}
-use Rattle.vt_fs.specs.FilesystemsValue.{FilesystemEntry, Filesystems, IsNew, entry_of, filesystem_seen, inodes_seen, without}
+use Rattle.vt_fs.specs.FilesystemsValue.{FilesystemEntry, Filesystems, IsNew, filesystem_seen, inodes_seen, without}
 use Rattle.vt_laws_rules.proofs.numbers.Supports.{used_numbers_are_named}
 use Rattle.vt_laws_letting_go.proofs.Lists.{Among, all_from_among, among-append, among-append_left, among-append_right, among-flat_map, among_from_all, filter_here, filter_skip, is_among_numbers}
 use Rattle.vt_location.specs.Numbers.{counted, inode_number, is_own_number}
@@ -90,19 +90,6 @@ found_below value whole number inode there =
     (number_below value whole))) in
     let same = number_numbered number (world_of value).filesystems in
     omega (arith, found, same)
-
-none_of : (filesystems : Filesystems) (count : ℕ)
-    → ((entry : FilesystemEntry) → Among entry filesystems → entry.count < count)
-    → entry_of filesystems count ≡ None
-none_of [] count less = refl
-none_of (entry ∷ rest) count less =
-    ap (λ b. cond b (Some entry) (entry_of rest count))
-    (let low = less entry (inl refl) in ne_eqb count entry.count (λ same. absurd (omega (arith, low, same))))
-    ∙ none_of rest count (λ other m. less other (inr m))
-
--- no filesystem has the next number
-pub next_is_free : (value : WorldValue) → IsHeld value → entry_of value.filesystems value.next ≡ None
-next_is_free value whole = none_of value.filesystems value.next (filesystem_counted value whole)
 
 -- each has a smaller one
 pub next_is_above : (value : WorldValue) → IsHeld value

@@ -22,11 +22,8 @@ use Rattle.vt_spec.specs.Machine.World.{Filesystem, Overlay, Task, World, open_l
 use Rattle.vt_spec.specs.Tree.{Tree}
 use Rattle.vt_laws_counts.proofs.Listed.{same_numbers_are_permuted}
 use Rattle.vt_laws_given.specs.LeftWorlds.{IsGivenToTask}
-use Rattle.vt_spec.specs.TreeInvariant.{IsTree}
-use Rattle.vt_laws_layers.proofs.directories.Fit.{new_overlay_is_tree}
 use Rattle.vt_laws_layers.proofs.directories.Merged.{merged_lists_numbers}
 use Rattle.vt_laws_layers.specs.Layers.Mounted as mounted
-use Rattle.vt_laws_letting_go.specs.InUse.{IsListedTree}
 use Rattle.vt_laws_letting_go.specs.Keeping.{has_only_named}
 use Rattle.vt_laws_letting_go.specs.OneByOne.{Inode}
 use Rattle.vt_laws_letting_go.proofs.Lists.{all_from_among}
@@ -260,16 +257,6 @@ module _ (value : WorldValue) (whole : IsHeld value) (task : Task ℕ) (place : 
             sym (named_same made over over_same)
             ∙ new_overlays_are_named (evens fresh) world overlay whole.in_world names_layers.layers
             (evens-distinct fresh distinct)
-
-        -- and they are a tree
-        pub new_overlay_is_listed : IsListedTree (overlay_seen (overlay_of_store base entry)).files
-        new_overlay_is_listed = record {
-          tree =
-              subst (λ (tree : Tree ℕ). IsTree tree) over_same.files.tree
-              (new_overlay_is_tree (evens fresh) world overlay whole.in_world names_layers.layers
-              (evens-distinct fresh distinct));
-          numbers = merged_lists_numbers (overlay_of_store base entry).root (inodes_kept base entry.overlay);
-        }
 
         worlds_alike : Alike (with_new_filesystem world made) over_base
         worlds_alike =

@@ -74,7 +74,7 @@ module _ (value : WorldValue) (name : TaskName) (asked : Call) (held : IsHeld va
 
   pub permitted : (change : ℕ) (result : Result PermitValue Deny)
       → JudgesByReceivers (call_of asked) task by_code (grant_in result)
-      → IfOk result (λ permit. kind_of (call_of asked) ≡ Some permit.call)
+      → IfOk result (λ permit. kind_of (call_of asked) ≡ permit.call)
       → IfOk result (λ permit. permit.change ≡ change)
       → IfOk result (λ permit. IsPermitted value change name (call_of asked) permit)
   permitted change (Ok permit) judged named number = record {

@@ -1,12 +1,11 @@
--- A grant that mounts no overlay is given to no call that does, and no call of code names an upper layer.
-use Rattle.std.proofs.Common.{◌≡◌, ap, false, nat_eq, refl, subst, true, ◌∙◌, ℕ, Bool, List, [], ◌∷◌, Result, Ok, Err, Option, None, Some}
+-- A grant that mounts no overlay is given to no call that does.
+use Rattle.std.proofs.Common.{◌≡◌, false, nat_eq, refl, subst, true, ℕ, Bool, List, [], ◌∷◌, Result, Ok, Err, Option, None, Some}
 use Rattle.vt_spec.specs.declared.errors.Deny.{Deny}
 use Rattle.vt_spec.specs.Errors.{Rules, and_then, unless}
 use Rattle.vt_spec.specs.Language.Calls as spec
 use Rattle.vt_spec.specs.Language.Calls.{MountFlags, OverlayWords}
 use Rattle.vt_spec.specs.Language.Calls.Call.{MountOverlay}
-use Rattle.vt_spec.specs.Language.Script.{known_options, names_no_upper, options_of}
-use Rattle.vt_spec.specs.Lists.{Fresh, when}
+use Rattle.vt_spec.specs.Lists.{Fresh}
 use Rattle.vt_spec.specs.Machine.Judge.{Judgement, judge, judge_in, mount_overlay_permit, overlay_permit_by}
 use Rattle.vt_spec.specs.Machine.Apply.{overfills}
 use Rattle.vt_spec.specs.Machine.Looks.{Looks, looks_of}
@@ -17,7 +16,6 @@ use Rattle.vt_spec.specs.Machine.Rules.Mounting.{LayerLocations, admin_rules, de
 use Rattle.vt_spec.specs.Machine.Walking.{walk_end}
 use Rattle.vt_spec.specs.Machine.World.{Task, World}
 use Rattle.vt_laws_trees.specs.Trees.Calls.{mounts_overlay}
-use Rattle.vt_cred.specs.MountFlags.{flags_of}
 use Rattle.vt_permits.specs.GrantValue.{permit_of}
 use Rattle.vt_permits.specs.declared.grant.Attachment.TheVariants as attachment
 use Rattle.vt_permits.specs.declared.grant.DescriptorGrant.TheVariants as descriptor
@@ -29,19 +27,9 @@ use Rattle.vt_permits.specs.declared.grant.MountGrant.TheVariants as mount
 use Rattle.vt_permits.specs.declared.grant.RemoveGrant.TheVariants as remove
 use Rattle.vt_permits.specs.declared.grant.TaskGrant.TheVariants as task
 use Rattle.vt_permits.specs.declared.grant.WriteGrant.TheVariants as write
-use Rattle.vt_request.specs.Requests.{call_of}
-use Rattle.vt_request.specs.declared.request.Call.{Call}
-use Rattle.vt_request.specs.declared.request.Call.TheVariants as call
-use Rattle.vt_request.specs.declared.request.DescriptorCall.TheVariants as descriptor_call
-use Rattle.vt_request.specs.declared.request.LookCall.TheVariants as look_call
-use Rattle.vt_request.specs.declared.request.MakeCall.TheVariants as make_call
-use Rattle.vt_request.specs.declared.request.MountCall.TheVariants as mount_call
-use Rattle.vt_request.specs.declared.request.RemoveCall.TheVariants as remove_call
-use Rattle.vt_request.specs.declared.request.TaskCall.TheVariants as task_call
-use Rattle.vt_request.specs.declared.request.WriteCall.TheVariants as write_call
 
 -- the permit is to mount an overlay
-abbrev pub merges : Permit ℕ → Bool
+abbrev merges : Permit ℕ → Bool
 merges (ToMountOverlay destination overlay flags) = true
 merges permit = false
 
@@ -116,28 +104,3 @@ pub granted_plain : (fresh : Fresh ℕ) (world : World ℕ) (who : Task ℕ) (as
 granted_plain fresh world who asked grant is plain =
     permit_merges (looks_of nat_eq world) (overfills nat_eq fresh world who) who asked (permit_of who grant) is
     (other_grant who grant plain)
-
--- a call names no upper layer
-abbrev pub names_lowers_alone : spec.Call → Bool
-names_lowers_alone (MountOverlay path (Some words) flags) = names_no_upper words
-names_lowers_alone asked = true
-
-pub calls_name_lowers_alone : (asked : Call) → names_lowers_alone (call_of asked) ≡ true
-calls_name_lowers_alone (call.Mount (mount_call.Overlay path options flags)) = by (options_of options.items) where
-  by_upper : (words : OverlayWords) (there : Bool) → names_no_upper words ≡ there
-      → names_lowers_alone (MountOverlay path.items (when there words) (flags_of flags)) ≡ true
-  by_upper words true is = is
-  by_upper words false is = refl
-
-  by : (named : Option OverlayWords)
-      → names_lowers_alone (MountOverlay path.items (known_options names_no_upper named) (flags_of flags)) ≡ true
-  by None = refl
-  by (Some words) = by_upper words (names_no_upper words) refl
-calls_name_lowers_alone (call.Mount (mount_call.Umount path)) = refl
-calls_name_lowers_alone (call.Look (look_call.Ls path)) = refl
-calls_name_lowers_alone (call.Make (make_call.Mkdir path mode)) = refl
-calls_name_lowers_alone (call.Remove (remove_call.Unlink path)) = refl
-calls_name_lowers_alone (call.Write (write_call.Write path bytes)) = refl
-calls_name_lowers_alone (call.Descriptor (descriptor_call.Close number)) = refl
-calls_name_lowers_alone (call.Task task_call.Exit) = refl
-calls_name_lowers_alone asked = refl

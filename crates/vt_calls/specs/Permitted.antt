@@ -35,7 +35,7 @@ EndsGiven old name grant result new = (call : Call) → IsGivenFor old name call
 pub record IsPermitted (value : WorldValue) (change : ℕ) (name : TaskName) (call : Call) (permit : PermitValue)
     : Type 0 where
   pub given : IsGivenFor value name call permit.grant
-  pub named : kind_of call ≡ Some permit.call
+  pub named : kind_of call ≡ permit.call
   pub number : permit.change ≡ change
 
 -- some call has it, so that it may be spent

@@ -20,8 +20,6 @@ use Rattle.vt_laws_counts.specs.OverlaysStay.{layer_count}
 use Rattle.vt_laws_counts.specs.Using.{Exchanges}
 use Rattle.vt_laws_counts.proofs.using.MountRoots as Roots
 use Rattle.vt_fs.specs.FilesystemsValue.{Filesystems, Shown, filesystem_seen, shown_entry}
-use Rattle.vt_group.specs.Grouping.{Grouping, Has}
-use Rattle.vt_group.specs.Together.{TakesAway}
 use Rattle.vt_laws_letting_go.specs.Counts.{mount_uses, mounts_showing, times}
 use Rattle.vt_laws_letting_go.specs.Leaving.{stands_on_attached}
 use Rattle.vt_laws_letting_go.specs.OneByOne.{Inode}
@@ -51,7 +49,6 @@ use Rattle.vt_detach.proofs.Overlaid.{KeepsOverlays, keeps_itself, layers_of_few
 use Rattle.vt_detach.proofs.Remaining.{remade_with}
 use Rattle.vt_detach.proofs.OverlaysRemade.{counted_kept, seen_kept}
 use Rattle.vt_detach.proofs.Staying.{IsDone}
-use Rattle.vt_detach.proofs.TypedEvents.{typed_done, typed_value}
 use Rattle.vt_spec.proofs.Lists.{map_alike, map_twice}
 use Rattle.vt_spec.proofs.Truths.{or_false_left}
 use Rattle.vt_laws_permits.specs.Taken.{is_ungrouped}
@@ -257,33 +254,6 @@ detached_done value name permit task gone mounts filesystems overlays whole clos
     (settled_has after value.groups (alone_has world value.groups whole.groups live gone free) (λ mount m dead.
     ap is_ungrouped (detached_is_private world gone whole.in_world.mounts.nowhere mount m
     (or_false_left (is_some mount.namespace) (is_located nat_eq after mount.number) dead))))
-    (detached_counted value after [] detaching.lost new overlays kept_last refl refl
-    (all_from_among (CountsWhatIsInIt (world_of new)) value.namespaces (λ entry m.
-    let was = among_from_all (CountsWhatIsInIt
-    (world_of value)) value.namespaces whole.namespaces entry m in record { tasks = was.tasks })))
-    refl
-
--- Where they are in groups, they leave them at once, and all mounts get the types that the groups then tell.
-pub detached_typed : (value : WorldValue) (name : TaskName) (permit : Permit ℕ) (task : Task ℕ) (gone : List ℕ)
-    (groups : Grouping)
-    (mounts : List MountEntry) (filesystems : Filesystems) (overlays : List Merged) → IsHeld value
-    → HasChildrenOf gone (mounts_in value.mounts)
-    → TakesAway value.groups groups gone → IsApplied value name permit task (taken_away nat_eq (world_of value) gone)
-    → IsDetaching value [] (in_use_of (detached_world gone (world_of value))) [] (kept_with mounts filesystems overlays)
-    → IsDone value name permit (typed_value groups (remade_with value mounts filesystems overlays value.tasks))
-detached_typed value name permit task gone groups mounts filesystems overlays whole closed follows is detaching =
-    let after = detached_world gone (world_of value) in
-    let new = remade_with value mounts filesystems overlays value.tasks in
-    let kept_last = subst (λ one. IsKeptBut value [] [] [] detaching.lost one
-    (kept_with mounts filesystems overlays)) detaching.ends detaching.is in
-    let regroups = taken_regroups (world_of value) gone closed in
-    typed_done value whole name permit task after
-    (record { called = is.called; given = is.given; named = is.named; applied = λ fresh. is.applied fresh ∙ regroups })
-    groups (subst (λ one. Has one groups) regroups (follows (world_of value) whole.groups whole.in_world.mounts.groups))
-    (detached_is_private (world_of value) gone whole.in_world.mounts.nowhere)
-    [] detaching.lost new
-    (detached_swept value after [] detaching.lost new overlays kept_last refl refl
-    (same_files_keep value (world_of value) after refl (keeps_itself value whole.overlays)) refl refl)
     (detached_counted value after [] detaching.lost new overlays kept_last refl refl
     (all_from_among (CountsWhatIsInIt (world_of new)) value.namespaces (λ entry m.
     let was = among_from_all (CountsWhatIsInIt

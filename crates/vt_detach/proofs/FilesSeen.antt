@@ -7,7 +7,7 @@ use Rattle.std.specs.List.{list_any}
 use Rattle.vt_spec.specs.Lists.{any_pair, is_among}
 use Rattle.vt_spec.specs.Machine.Mounts.{Mount, source_of}
 use Rattle.vt_spec.specs.Machine.Run.{used_by_filesystem, used_by_mount}
-use Rattle.vt_spec.specs.Machine.World.{Filesystem, Namespace, filesystem_at, filesystem_numbered, is_overlay, mount_at, node_at}
+use Rattle.vt_spec.specs.Machine.World.{Filesystem, Namespace, filesystem_at, filesystem_numbered, is_overlay, mount_at}
 use Rattle.vt_spec.specs.Machine.Invariants.{is_located_well}
 use Rattle.vt_spec.specs.Inodes.{Inodes, node_in}
 use Rattle.vt_spec.specs.TreeInvariant.{IsTree}
@@ -29,7 +29,6 @@ use Rattle.vt_world.specs.WorldValue.{WorldValue, world_of}
 use Rattle.vt_detach.proofs.Overlaid.{found_plain_one, plain_one_among}
 use Rattle.vt_detach.proofs.PlainFound.{found_where_plain}
 use Rattle.vt_detach.proofs.FilesystemsFound.{found as filesystem_found, found_if}
-use Rattle.vt_fs.proofs.Numbers.{found_by_number}
 use Rattle.vt_laws_permits.proofs.in_use.InUseServes.{leaves_two}
 use Rattle.vt_spec.proofs.Found.{is_among_left}
 
@@ -251,24 +250,3 @@ tree_of_entry value held entry m =
     among_from_all (λ (filesystem : Filesystem ℕ). IsTree filesystem.files.tree)
     (world_of value).filesystems held.in_world.files.trees
     (filesystem_seen entry) (plain_one_among value held.overlays.merged entry m)
-
--- what is at a location in no overlay, as the definitions look and as code does
-pub looked_node : (value : WorldValue) → IsHeld value → (at : Location) → at.node.slot < 18446744073709551616
-    → IsPlainAt value at
-    → is_some (node_at nat_eq (world_of value) (location_of at)) ≡ true
-    → (files_at value.filesystems at.node.filesystem.count).tree.node (number_of at.node)
-    ≡ node_at nat_eq (world_of value) (location_of at)
-looked_node value held at small plain there =
-    let seen = seen_in value.filesystems held.own_inodes (mount_at nat_eq (world_of value) (location_of at)).filesystem
-    (number_of at.node)
-    (there_where_plain value held (mount_at nat_eq (world_of value) (location_of at)).filesystem
-    (number_of at.node) plain there)
-    in
-    let count_is = own_count seen.entry.count at.node small seen.own in
-    ap (λ count. (files_at value.filesystems count).tree.node (number_of at.node)) (sym count_is)
-    ∙ ap (λ (filesystem : Filesystem ℕ). filesystem.files.tree.node (number_of at.node))
-    (sym (found_by_number value.filesystems seen.entry.count))
-    ∙ ap (λ number. (filesystem_found value.filesystems number).files.tree.node (number_of at.node))
-    (sym seen.number_is)
-    ∙ ap (λ (filesystem : Filesystem ℕ). filesystem.files.tree.node (number_of at.node))
-    (sym (found_where_plain value held (mount_at nat_eq (world_of value) (location_of at)).filesystem plain))

@@ -1,11 +1,11 @@
 -- Events of tasks after which the mount of a location that was left goes, and its filesystem with its last mount.
-use Rattle.std.proofs.Common.{◌≡◌, refl, sym, ap, subst, ◌∙◌, ⊎_elim, ℕ, ◌+◌, nat_eq, eqb-true, Bool, true, false, true≢false, cond, not, ◌||◌, List, [], ◌∷◌, ◌++◌, map, filter, Option, Some, None, is_some}
+use Rattle.std.proofs.Common.{◌≡◌, refl, sym, ap, subst, ◌∙◌, ⊎_elim, ℕ, ◌+◌, nat_eq, Bool, true, false, cond, not, ◌||◌, List, [], ◌∷◌, ◌++◌, map, filter, is_some}
 use Rattle.std.specs.Prelude.{nat_lt}
 use Rattle.std.proofs.lemmas.Bool.{and_parts}
 use Rattle.std.proofs.lemmas.List.{append-nil}
 use Rattle.vt_spec.specs.Language.Calls.{TaskName}
-use Rattle.vt_spec.specs.Lists.{folded, holds_of, is_among}
-use Rattle.vt_spec.specs.Machine.Mounts.{Location, Mount, mount_in}
+use Rattle.vt_spec.specs.Lists.{folded, is_among}
+use Rattle.vt_spec.specs.Machine.Mounts.{Location, Mount}
 use Rattle.vt_spec.specs.Machine.Permits.{Permit}
 use Rattle.vt_spec.specs.Machine.Settled.{is_located, is_mounted, without_dead_filesystems, without_dead_mounts}
 use Rattle.vt_spec.specs.Machine.World.{Filesystem, Task, World, all_locations, is_overlay, mount_numbered}
@@ -21,9 +21,8 @@ use Rattle.vt_laws_letting_go.specs.Keeping.{LocationsStand}
 use Rattle.vt_laws_letting_go.specs.Leaving.{MountsStand}
 use Rattle.vt_laws_letting_go.specs.Mounting.{inode_at}
 use Rattle.vt_laws_letting_go.specs.OneByOne.{Inode, is_mount_used, without_mount}
-use Rattle.vt_laws_letting_go.proofs.Lists.{Among, all_from_among, all_pass, among-append, among-append_left, among-append_right, among-from_filter, among-from_map, among-map, among_from_all, passes, filter_less}
+use Rattle.vt_laws_letting_go.proofs.Lists.{Among, all_from_among, all_pass, among-append, among-append_left, among-append_right, among-from_filter, among-from_map, among-map, among_from_all, passes}
 use Rattle.vt_laws_letting_go.proofs.sweeps.OfWorlds.{mounts_of_worlds_stand}
-use Rattle.vt_laws_letting_go.proofs.leaving.PlacesLeft.{found_itself}
 use Rattle.vt_laws_letting_go.proofs.sweeps.UsesCounted.{located_while_counted}
 use Rattle.vt_location.specs.Numbers.{counted}
 use Rattle.vt_mount.specs.MountsValue.{MountEntry, mounts_in, without}
@@ -340,25 +339,6 @@ module _ (value : WorldValue) (whole : IsHeld value) (tasks : Tasks) (more : Lis
   }
 
   -- Counts
-
-  same_in_namespace : (n : ℕ) → filter (λ (x : Mount ℕ). holds_of (nat_eq n) x.namespace) mounted.mounts
-      ≡ filter (λ (x : Mount ℕ). holds_of (nat_eq n) x.namespace) world.mounts
-  same_in_namespace n =
-      filter_less (λ (x : Mount ℕ). holds_of (nat_eq n) x.namespace) (λ x. not (nat_eq x.number number)) world.mounts
-      (λ x m gone.
-      none x.namespace
-      (ap (λ (y : Mount ℕ). is_some y.namespace)
-      (sym (found_itself world.mounts whole.in_world.mounts.one_number x m)
-      ∙ ap (mount_in nat_eq world.mounts) (eqb-true x.number number (turned (nat_eq x.number number) gone)) ∙ found_so)
-      ∙ nowhere))
-    where
-      none : (o : Option ℕ) → is_some o ≡ false → holds_of (nat_eq n) o ≡ false
-      none None e = refl
-      none (Some other) e = absurd (true≢false e)
-
-      turned : (b : Bool) → not b ≡ false → b ≡ true
-      turned true e = refl
-      turned false e = absurd (true≢false e)
 
   gone_counted : ((namespace : ℕ)
       → times (λ task. nat_eq namespace task.namespace) tasks

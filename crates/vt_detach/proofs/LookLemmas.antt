@@ -1,6 +1,6 @@
 -- What a world shows, by what is kept of it.
-use Rattle.std.proofs.Common.{◌≡◌, ◌≢◌, refl, sym, ap, subst, ◌∙◌, ⊎_elim, inl, inr, true≢false, ℕ, nat_eq, eq-eqb, eqb-true, ne_eqb, Bool, true, false, cond, not, ◌||◌, ◌&&◌, List, [], ◌∷◌, filter, Option, Some, None, is_some}
-use Rattle.std.specs.Prelude.{All, option_map, option_to_list}
+use Rattle.std.proofs.Common.{◌≡◌, ◌≢◌, refl, sym, ap, ◌∙◌, ⊎_elim, inl, inr, true≢false, ℕ, nat_eq, eq-eqb, eqb-true, ne_eqb, Bool, true, false, cond, ◌||◌, ◌&&◌, List, [], ◌∷◌, filter, Option, Some, None, is_some}
+use Rattle.std.specs.Prelude.{option_map, option_to_list}
 use Rattle.std.specs.List.{list_all, list_any}
 use Rattle.std.proofs.lemmas.Bool.{and_parts}
 use Rattle.vt_spec.specs.FileTree.{is_directory_under, is_removed}
@@ -9,10 +9,10 @@ use Rattle.vt_spec.specs.Machine.Detach.{is_point, mounts_on, points_of, upper_p
 use Rattle.vt_spec.specs.Machine.Locked.{of_overlay, overlay_or}
 use Rattle.vt_spec.specs.Machine.Mounts as meant
 use Rattle.vt_spec.specs.Machine.Mounts.{no_mount}
-use Rattle.vt_spec.specs.Machine.World.{Filesystem, Layer, Overlay, filesystem_at, filesystem_numbered, is_directory_at, is_removed_at, mount_at, mount_numbered, no_filesystem, node_at, upper_object}
+use Rattle.vt_spec.specs.Machine.World.{Filesystem, Layer, Overlay, filesystem_at, filesystem_numbered, is_directory_at, is_removed_at, mount_at, mount_numbered, node_at, upper_object}
 use Rattle.vt_spec.specs.Machine.Invariants.{has_its_root}
 use Rattle.vt_spec.specs.Tree.{is_directory_node}
-use Rattle.vt_spec.specs.TreeInvariant.{HasOwnParents, IsTree}
+use Rattle.vt_spec.specs.TreeInvariant.{IsTree}
 use Rattle.vt_spec.proofs.Lists.{Among, among_from_list_all}
 use Rattle.vt_laws_trees.proofs.trees.TreesOfWorlds.{number_numbered, numbered_all}
 use Rattle.vt_laws_mounts.proofs.mounts.MountsFound.{found_or_none}
@@ -23,14 +23,12 @@ use Rattle.vt_location.specs.Births.{born_in}
 use Rattle.vt_location.specs.Locations.{is_small_node, location_of, number_of}
 use Rattle.vt_location.specs.Numbers.{counted, inode_number}
 use Rattle.vt_location.proofs.NumberLemmas.{counted_inode, counted_test}
-use Rattle.vt_fs.specs.Laws.{ParentsAreNamed}
 use Rattle.vt_mount.specs.MountsValue.{mounts_in, stands_over}
 pub use Rattle.vt_spec.proofs.Truths.{nat_eq_turned as turned}
 use Rattle.vt_world.specs.Held.{IsHeld}
 use Rattle.vt_detach.specs.Looking.{is_seen}
 use Rattle.vt_world.specs.WorldValue.{WorldValue, world_of}
 use Rattle.vt_detach.proofs.NodesFound.{IsNodeIn, at_home, in_no_other, no_counted_inode, nodes_own}
-use Rattle.vt_fs.proofs.Parents.{parents_named}
 use Rattle.vt_fs.proofs.TreesLookedAt.{nowhere_removed, nowhere_under, under_nowhere}
 use Rattle.std.proofs.Math.Bool.{or-false, and-false, and-true}
 
@@ -55,27 +53,6 @@ any_filtered {A = A} seen on over test (x ∷ xs) same =
     by false over_x rest = rest
 
 module _ (value : WorldValue) (held : IsHeld value) where
-  -- in each tree directories are named by their parents
-  pub parents_named_at : (count : ℕ)
-      → ParentsAreNamed (filesystem_numbered nat_eq (world_of value) (counted count)).files.tree
-  parents_named_at count =
-      ⊎_elim
-      (λ tree. ⊎_elim
-      (λ own. parents_named (filesystem_numbered nat_eq (world_of value) (counted count)).files.tree tree own)
-      missing
-      (numbered_all (λ (f : Filesystem ℕ). HasOwnParents f.files.tree) (counted count) (world_of value).filesystems
-      held.in_world.files.own_parents))
-      missing
-      (numbered_all (λ (f : Filesystem ℕ). IsTree f.files.tree) (counted count) (world_of value).filesystems
-      held.in_world.files.trees)
-    where
-      missing : (filesystem_numbered nat_eq (world_of value) (counted count) ≡ no_filesystem (counted count))
-          × All (λ (f : Filesystem ℕ). nat_eq (counted count) f.number ≡ false) (world_of value).filesystems
-          → ParentsAreNamed (filesystem_numbered nat_eq (world_of value) (counted count)).files.tree
-      missing none =
-          subst (λ (f : Filesystem ℕ). ParentsAreNamed f.files.tree) (sym none.0)
-          (λ directory other. ap not (sym (eq-eqb directory directory refl)))
-
   -- what is not in a tree is not its root
   root_there : (count owner slot : ℕ)
       → (filesystem_numbered nat_eq (world_of value) (counted count)).files.tree.node (inode_number owner slot) ≡ None
@@ -120,15 +97,6 @@ module _ (value : WorldValue) (held : IsHeld value) where
       (found_or_none (mounts_in value.mounts) (counted number))
 
   module _ (at : Location) (small : is_small_node at.node ≡ true) where
-    -- a location that is seen is in the filesystem that has the count of its node
-    pub seen_filesystem : is_seen value at ≡ true
-        → filesystem_at nat_eq (world_of value) (location_of at)
-        ≡ filesystem_numbered nat_eq (world_of value) (counted at.node.filesystem.count)
-    seen_filesystem seen =
-        ap (filesystem_numbered nat_eq (world_of value))
-        (eqb-true (mount_at nat_eq (world_of value) (location_of at)).filesystem
-        (counted at.node.filesystem.count) seen)
-
     -- one that is not seen has no inode
     pub unseen_node : is_seen value at ≡ false → node_at nat_eq (world_of value) (location_of at) ≡ None
     unseen_node unseen =

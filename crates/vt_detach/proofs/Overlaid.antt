@@ -10,7 +10,6 @@ use Rattle.vt_spec.specs.Machine.World.{Filesystem, World, filesystem_numbered, 
 use Rattle.vt_laws_counts.specs.BesideOverlays.{OverlaysHaveNoUpper}
 use Rattle.vt_laws_counts.specs.OverlaysStay.{OverlaysAreNamed, layer_count}
 use Rattle.vt_laws_counts.proofs.overlays.Living.{overlays_are_mounted, overlays_use_filesystems}
-use Rattle.vt_laws_counts.proofs.overlays.NamedStay.{filter_stays}
 use Rattle.vt_laws_counts.proofs.using.Exchanged.{numbers_mapped}
 use Rattle.vt_spec.proofs.Lists.{pair-filter}
 use Rattle.vt_laws_letting_go.specs.Counts.{mounts_showing}
@@ -233,20 +232,6 @@ pub same_files_keep : (old : WorldValue) (world other : World ℕ) → other.fil
 same_files_keep old world other same keeps = record {
   overlays = ap (filter is_overlay) same ∙ keeps.overlays;
   rise = ap are_rising same ∙ keeps.rise;
-}
-
--- and one in which plain filesystems were changed
-pub changed_plain_ones_keep : (old : WorldValue) (world : World ℕ) (step : Filesystem ℕ → Filesystem ℕ)
-    (other : World ℕ) → other.filesystems ≡ map step world.filesystems
-    → ((f : Filesystem ℕ) → (step f).number ≡ f.number)
-    → ((f : Filesystem ℕ) → Among f world.filesystems → is_overlay (step f) ≡ is_overlay f)
-    → ((f : Filesystem ℕ) → Among f world.filesystems → is_overlay f ≡ true → step f ≡ f)
-    → KeepsOverlays old world → KeepsOverlays old other
-changed_plain_ones_keep old world step other same numbers kinds stays keeps = record {
-  overlays = ap (filter is_overlay) same ∙ filter_stays step is_overlay world.filesystems kinds stays ∙ keeps.overlays;
-  rise = ap are_rising same
-      ∙ same_numbers_rise world.filesystems (map step world.filesystems)
-      (numbers_mapped step numbers world.filesystems) keeps.rise;
 }
 
 -- no overlay has an upper layer midway,

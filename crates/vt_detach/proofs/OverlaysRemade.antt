@@ -155,9 +155,6 @@ pub kept_itself : (value : WorldValue) → IsHeld value
     → overlays_kept (map merged_seen value.overlays) value.overlays ≡ value.overlays
 kept_itself value whole = all value.overlays (λ entry m. m)
   where
-    world : World ℕ
-    world = world_of value
-
     all : (list : List OverlayEntry) → ((entry : OverlayEntry) → Among entry list → Among entry value.overlays)
         → overlays_kept (map merged_seen value.overlays) list ≡ list
     all [] within = refl

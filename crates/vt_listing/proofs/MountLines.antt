@@ -1,5 +1,5 @@
 -- The list of a namespace's mounts: places in it, and the filesystems that it shows, each once.
-use Rattle.std.proofs.Common.{◌≡◌, ◌<◌, true≢false, refl, sym, ap, ◌∙◌, ℕ, ◌+◌, Bool, true, false, not, cond, ◌||◌, nat_eq, eqb-true, eq-eqb, ne_eqb, List, [], ◌∷◌, ◌++◌, map, filter, length, take, get_or, position, Option, Some, None, option_map, unwrap_or, append_assoc, arith}
+use Rattle.std.proofs.Common.{◌≡◌, ◌<◌, true≢false, refl, sym, ap, ◌∙◌, ℕ, ◌+◌, Bool, true, false, not, cond, ◌||◌, nat_eq, eqb-true, eq-eqb, ne_eqb, List, [], ◌∷◌, ◌++◌, map, filter, length, take, get_or, position, Option, Some, None, option_map, unwrap_or, arith}
 use Rattle.std.specs.Prelude.{filter_map, flat_map, nat_lt}
 use Rattle.std.specs.List.{cons_option, list_any, position_or_len}
 use Rattle.std.proofs.lemmas.Bool.{lt-ltb, ltb-false, ltb-true}
@@ -118,15 +118,6 @@ one_more seen group before is =
     inserted_numbers (λ (id : GroupId). counted id.count) same_group groups_tested group seen
     ∙ ap (λ ks. insert_key nat_eq ks (counted group.count)) is
     ∙ sym (once_more (counted group.count) before)
-
-pub more_after : (old between new : List GroupId) (more others : List ℕ) → SeesMore old between more
-    → SeesMore between new others
-    → SeesMore old new (more ++ others)
-more_after old between new more others first then before is =
-    then (before ++ more) (first before is) ∙ ap (each_once nat_eq) (append_assoc before more others)
-
-pub none_more : (seen : List GroupId) → SeesMore seen seen []
-none_more seen before is = is ∙ ap (each_once nat_eq) (sym (append-nil before))
 
 -- the groups of mounts so far, with those of the next one
 module _ (h : MountId → Option (List ℕ)) (i : ℕ) (d : MountId) (ids : List MountId) (within : i < length ids)

@@ -1,5 +1,5 @@
 //! The world, as walks and rules look at it.
-ghost use Rattle.std.specs.Prelude.{◌≡◌, IfSome, None, Some, nat_eq, option_copied, true};
+ghost use Rattle.std.specs.Prelude.{◌≡◌, IfSome, None, Some, nat_eq, option_copied, option_map, true};
 ghost use Rattle.vt_cred.specs.Rights.{right_bits};
 ghost use Rattle.vt_spec.specs.Machine.Rightful.{node_allows};
 ghost use Rattle.vt_spec.specs.Machine.World.{mount_numbered};
@@ -7,6 +7,8 @@ ghost use Rattle.vt_location.specs.Locations.{location_of, number_of};
 ghost use Rattle.vt_location.specs.Numbers.{filesystem_number, mount_number};
 ghost use Rattle.vt_detach.specs.Looking.{is_seen, looks_of_value};
 ghost use Rattle.vt_store.specs.StoreValue.{overlay_in};
+ghost use Rattle.vt_ns.specs.Mounters.{mounter_on};
+ghost use Rattle.vt_world.specs.Held.{IsHeld};
 ghost use Rattle.vt_world.specs.WorldValue.{world_of};
 
 use crate::world::World;
@@ -42,7 +44,11 @@ impl World {
 
     // The overlay that a mount shows, if it shows one. Where there are none, the mount is not looked for.
     #[inline(always)]
-    pub(crate) fn overlay_on(&self, mount: MountId) -> Option<&Overlay> {
+    pub(crate) fn overlay_on(&self, mount: MountId) -> Option<&Overlay>
+        ensures mounter { option_map (λ overlay. overlay.mounter) (option_copied result)
+            ≡ mounter_on (world_of self.now) (mount_number mount) }
+        ensures held { IsHeld self.now }
+    {
         if self.store.has_overlays() {
             self.store.overlay(self.shown(mount))
         } else {

@@ -5,6 +5,8 @@ ghost use Rattle.vt_location.specs.MountValue.{mount_of};
 ghost use Rattle.vt_location.specs.Numbers.{namespace_number};
 ghost use Rattle.vt_request.specs.Answers.{spot_of};
 ghost use Rattle.vt_spec.specs.Machine.Listing as listing;
+ghost use Rattle.vt_store.specs.StoreValue.{StandOnLayers};
+ghost use Rattle.vt_world.specs.StoredWorld.{overlays_of_store};
 ghost use Rattle.vt_world.specs.WorldValue.{world_of};
 
 use crate::world::World;
@@ -13,6 +15,7 @@ use vt_fs::Filesystems;
 use vt_location::{Location, Mount, NamespaceId};
 use vt_mount::Mounts;
 use vt_request::Spot;
+use vt_store::Store;
 use vt_tasks::Tasks;
 
 impl World {
@@ -35,6 +38,15 @@ impl World {
         ensures { result.now ≡ self.now.filesystems }
     {
         self.store.plain()
+    }
+
+    /// Its filesystems, overlays among them.
+    pub fn store(&self) -> &Store
+        ensures plain { result.now.plain ≡ self.now.filesystems }
+        ensures overlays { overlays_of_store result.now ≡ self.now.overlays }
+        ensures standing { StandOnLayers result.now }
+    {
+        &self.store
     }
 
     /// Its namespaces, in the order of their creation.

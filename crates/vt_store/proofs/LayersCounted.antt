@@ -48,9 +48,6 @@ shown-without : (count : ℕ) (fs : Filesystems)
 shown-without count [] = refl
 shown-without count (entry ∷ rest) = by (nat_eq count entry.count) (shown-without count rest)
   where
-    others : List Shown → List Shown
-    others all = filter (λ (one : Shown). not (nat_eq count one.count)) all
-
     by : (b : Bool) → shown (without count rest) ≡ filter (λ (one : Shown). not (nat_eq count one.count)) (shown rest)
         → shown (cond (not b) (entry ∷ without count rest) (without count rest))
         ≡ cond (not b) (shown_entry entry ∷ filter (λ (one : Shown). not (nat_eq count one.count)) (shown rest))

@@ -1,12 +1,11 @@
 -- An inode of a plain tree as the tree keeps it, and as the definitions see it.
-use Rattle.std.proofs.Common.{◌≡◌, ◌<◌, ◌∙◌, ◌∷◌, [], ap, Bool, cond, false, List, map, None, option_map, Option, refl, Some, sym, true, true≢false, ℕ}
+use Rattle.std.proofs.Common.{◌≡◌, ◌∙◌, ◌∷◌, [], ap, Bool, cond, false, List, map, None, option_map, Option, refl, Some, sym, true, true≢false, ℕ}
 use Rattle.std.specs.Ordering.{eq_by_cmp}
 use Rattle.vt_spec.specs.Lists.{is_empty_list}
 use Rattle.vt_spec.specs.Machine.Renaming.{renamed_content, renamed_entry}
-use Rattle.vt_spec.specs.Tree.{Content, Entries, Node, entries_in, entries_of, entry_named, is_directory_node, name_cmp, parent_in, parent_of}
+use Rattle.vt_spec.specs.Tree.{Content, Entries, Node, entries_in, entries_of, entry_named, is_directory_node, name_cmp, parent_in}
 use Rattle.vt_spec.specs.Tree.Content.{Directory, Regular, Symlink, Whiteout}
-use Rattle.vt_location.proofs.NumberLemmas.{exchanged_slot}
-use Rattle.vt_location.specs.Numbers.{exchanged, inode_number}
+use Rattle.vt_location.specs.Numbers.{exchanged}
 use Rattle.vt_fs.specs.FilesystemsValue.{node_seen}
 use Rattle.vt_overlay.proofs.ObjectsAlike.{seen_twice}
 
@@ -59,37 +58,6 @@ module _ (f : ℕ) where
   entry_lent object seen lent name =
       sym (entry-seen name object.content)
       ∙ ap (λ node. entry_named name (entries_in node)) (ap (option_map (node_seen f)) (sym lent) ∙ seen_twice f seen)
-
-  -- the parent of a directory
-  parent-seen : (own slot : ℕ) (content : Content ℕ) (node : Node ℕ)
-      → is_directory_node (Some (record { attr = node.attr; content = content })) ≡ true
-      → exchanged f (parent_of slot content)
-      ≡ parent_in own (option_map (node_seen f) (Some (record { attr = node.attr; content = content })))
-  parent-seen own slot (Directory parent entries opaque) node is = refl
-  parent-seen own slot (Regular bytes) node is = absurd (true≢false (sym is))
-  parent-seen own slot (Symlink text) node is = absurd (true≢false (sym is))
-  parent-seen own slot Whiteout node is = absurd (true≢false (sym is))
-
-  pub parent_lent : (own slot parent : ℕ) (node : Node ℕ) (seen : Option (Node ℕ))
-      → option_map (node_seen f) (Some node) ≡ seen → is_directory_node (Some node) ≡ true
-      → parent ≡ parent_of slot node.content → parent < 18446744073709551616
-      → inode_number f parent ≡ parent_in own seen
-  parent_lent own slot parent node seen is directory at small =
-      sym (exchanged_slot f parent small) ∙ ap (exchanged f) at ∙ parent-seen own slot node.content node directory
-      ∙ ap (parent_in own) is
-
-  pub directory_seen : (node : Option (Node ℕ))
-      → is_directory_node (option_map (node_seen f) node) ≡ is_directory_node node
-  directory_seen None = refl
-  directory_seen (Some node) = by node.content
-    where
-      by : (content : Content ℕ)
-          → is_directory_node (option_map (node_seen f) (Some (record { attr = node.attr; content = content })))
-          ≡ is_directory_node (Some (record { attr = node.attr; content = content }))
-      by (Directory parent entries opaque) = refl
-      by (Regular bytes) = refl
-      by (Symlink text) = refl
-      by Whiteout = refl
 
 -- what is no directory is its own parent
 pub its_own_parent : (own : ℕ) (node : Option (Node ℕ)) → is_directory_node node ≡ false → own ≡ parent_in own node

@@ -37,9 +37,6 @@ module _ (store : StoreValue) (plain : Filesystems) (same : plain ≡ store.plai
     pub over_node : (number : ℕ) → (merged_tree plain overlay).node number ≡ (files_in store count).tree.node number
     over_node number = ap (λ (files : FileTree ℕ). files.tree.node number) over_files
 
-    pub over_tree : merged_tree plain overlay ≡ (files_in store count).tree
-    over_tree = ap (λ (files : FileTree ℕ). files.tree) over_files
-
     pub over_lent : (number : ℕ) → real_lent plain overlay number ≡ lent_in store count number
     over_lent number =
         ap (λ p. real_lent p overlay number) same ∙ ap (lent_by store.plain count number) (sym is)

@@ -1,65 +1,16 @@
 -- How many mounts show an overlay, or a plain filesystem.
-use Rattle.std.proofs.Common.{◌≡◌, ◌∙◌, ◌∷◌, [], ap, Bool, cond, false, get_or, length, nat_eq, None, option_map, Option, refl, Some, sym, true, unwrap_or, ℕ}
+use Rattle.std.proofs.Common.{◌≡◌, ◌∙◌, ◌∷◌, [], ap, Bool, cond, false, get_or, length, nat_eq, None, Option, refl, Some, true, unwrap_or, ℕ}
 use Rattle.std.specs.Prelude.{All}
 use Rattle.std.proofs.lemmas.List.Elements.{All-cons, All-head, All-tail}
-use Rattle.std.proofs.lemmas.Option.{same_Some}
-use Rattle.vt_spec.proofs.Options.{none_is_some}
 use Rattle.vt_spec.specs.FileTree.{FileTree}
-use Rattle.vt_fs.specs.FilesystemsValue.{FilesystemEntry, Filesystems, entry_at, entry_of, files_at, files_seen, filesystem_seen, filesystems_seen, no_entry, with_changed}
+use Rattle.vt_fs.specs.FilesystemsValue.{FilesystemEntry, Filesystems, entry_of, files_at, files_seen, filesystem_seen, filesystems_seen, no_entry, with_changed}
 use Rattle.vt_merge.specs.declared.layers.LayerRef.{LayerRef}
-use Rattle.vt_store.specs.Counts.{mounts_by, mounts_in, with_mounts, with_mounts_by}
+use Rattle.vt_store.specs.Counts.{with_mounts_by}
 use Rattle.vt_store.specs.Laws.{IsSameLayer, MountsAreNotSeen, MountsLeaveLayers}
 use Rattle.vt_store.specs.OverlaysValue.{OverlayEntry, Overlays, with_overlay_changed}
-use Rattle.vt_store.specs.StoreValue.{StandOnLayers, StandsOnLayers, StoreValue, entry_in, filesystems_of, overlay_filesystem, put_in, woven}
+use Rattle.vt_store.specs.StoreValue.{StandOnLayers, StandsOnLayers, entry_in, filesystems_of, overlay_filesystem, put_in, woven}
 use Rattle.vt_store.proofs.LayersStanding.{overlays_stand_still}
 use Rattle.vt_store.proofs.OverlaysAlike.{overlays_stay_with_layers}
-
-abbrev mounts_of : Option OverlayEntry → Option ℕ
-mounts_of o = option_map (λ (entry : OverlayEntry). entry.mounts) o
-
-module _ (store : StoreValue) (count : ℕ) where
-  pub mounts_over : (mounts : ℕ) → Some mounts ≡ mounts_of (entry_in store count) → mounts ≡ mounts_in store count
-  mounts_over mounts e = by (entry_in store count) e
-    where
-      by : (o : Option OverlayEntry) → Some mounts ≡ mounts_of o → mounts ≡ mounts_by store.plain count o
-      by None e = none_is_some mounts (sym e)
-      by (Some entry) e = sym (same_Some entry.mounts mounts (sym e))
-
-  pub mounts_plain : None ≡ mounts_of (entry_in store count)
-      → (entry_at store.plain count).mounts ≡ mounts_in store count
-  mounts_plain e = by (entry_in store count) e
-    where
-      by : (o : Option OverlayEntry) → None ≡ mounts_of o
-          → (entry_at store.plain count).mounts ≡ mounts_by store.plain count o
-      by None e = refl
-      by (Some entry) e = none_is_some entry.mounts e
-
-  -- another number of them
-  pub changed_over : (change : ℕ → ℕ) (mounts : ℕ) → Some mounts ≡ mounts_of (entry_in store count)
-      → record store {
-        overlays = with_overlay_changed count (λ one. record one { mounts = change one.mounts }) store.overlays;
-      } ≡ with_mounts count change store
-  changed_over change mounts e = by (entry_in store count) e
-    where
-      by : (o : Option OverlayEntry) → Some mounts ≡ mounts_of o
-          → record store {
-            overlays = with_overlay_changed count (λ one. record one { mounts = change one.mounts }) store.overlays;
-          } ≡ with_mounts_by count change store o
-      by None e = none_is_some mounts (sym e)
-      by (Some entry) e = refl
-
-  pub changed_plain : (change : ℕ → ℕ) → None ≡ mounts_of (entry_in store count)
-      → record store { plain = with_changed count (λ entry. record entry { mounts = change entry.mounts }) store.plain }
-      ≡ with_mounts count change store
-  changed_plain change e = by (entry_in store count) e
-    where
-      by : (o : Option OverlayEntry) → None ≡ mounts_of o
-          → record store {
-            plain = with_changed count (λ entry. record entry { mounts = change entry.mounts }) store.plain;
-          }
-          ≡ with_mounts_by count change store o
-      by None e = refl
-      by (Some entry) e = none_is_some entry.mounts e
 
 -- Filesystems are seen as they were
 

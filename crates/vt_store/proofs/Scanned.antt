@@ -1,5 +1,5 @@
 -- The slots of a tree, looked through from the first one on.
-use Rattle.std.proofs.Common.{Bool, List, None, Option, Some, [], ap, arith, cond, drop, false, is_some, length, ltb-false, ltb-true, map, nat_lt, refl, suc, sym, true, true≢false, zero, ℕ, ◌+◌, ◌<◌, ◌||◌, ◌∙◌, ◌∷◌, ◌≡◌, ◌≤◌}
+use Rattle.std.proofs.Common.{Bool, List, None, Option, Some, [], ap, arith, cond, drop, false, is_some, ltb-false, ltb-true, map, nat_lt, refl, suc, sym, true, true≢false, zero, ℕ, ◌+◌, ◌<◌, ◌||◌, ◌∙◌, ◌∷◌, ◌≡◌, ◌≤◌}
 use Rattle.std.proofs.lemmas.List.Sums.{sum_by-cons}
 use Rattle.std.specs.List.{list_any}
 use Rattle.std.specs.Prelude.{count_by, slice_index_or}
@@ -64,11 +64,6 @@ module _ (test : ℕ → Bool) (number : ℕ → ℕ) (slot : ℕ) (slots : Slot
 
   abbrev found_in : ℕ → Slots → Bool
   found_in slot list = list_any test (map number (filled_from slot list))
-
-  pub one_less : 1 + length rest ≡ length (drop slot slots)
-  one_less =
-      (let longer : 1 + length rest ≡ suc (length rest) = omega arith in longer)
-      ∙ sym (ap length (next_slot slot slots some))
 
   pub vacant_found : slice_index_or slots slot None ≡ None → found_in (slot + 1) rest ≡ found_in slot (drop slot slots)
   vacant_found e = sym (ap (found_in slot) (next_slot slot slots some ∙ ap (λ o. o ∷ rest) e))

@@ -1,92 +1,171 @@
--- What a world shows of the overlay at a location, by the overlay that its store has there.
-use Rattle.std.proofs.Common.{◌≡◌, refl, sym, ap, subst, ◌∙◌, ℕ, nat_eq, Bool, true, false, not, Option, Some, None, is_some}
+-- What a world shows of the overlay at a location, by who mounted it.
+use Rattle.std.proofs.Common.{◌≡◌, refl, sym, ap, subst, ◌∙◌, true≢false, ℕ, nat_eq, Bool, true, false, not, Option, Some, None, is_some, option_copied, option_map, [], Bor}
+use Rattle.std.specs.Prelude.{IfSome}
+use Rattle.vt_spec.specs.Lists.{holds_of}
 use Rattle.vt_spec.specs.Machine.Filesystems.{lies_only_in_lowers}
 use Rattle.vt_spec.specs.Machine.Locked.{overlay_or}
 use Rattle.vt_spec.specs.Machine.Looks.{mounter_may}
 use Rattle.vt_spec.specs.Machine.Mounts as meant
 use Rattle.vt_spec.specs.Machine.Rightful.{mounter_allows, node_allows}
 use Rattle.vt_spec.specs.Machine.Rules.Conditions.{has_no_upper, is_overlay_at}
-use Rattle.vt_spec.specs.Machine.World.{Overlay, filesystem_at, filesystem_numbered, is_overlay, mount_at, node_at}
+use Rattle.vt_spec.specs.Machine.World.{Layer, Overlay, Real, filesystem_at, filesystem_numbered, mount_at, mount_numbered, node_at, upper_object}
+use Rattle.vt_spec.specs.Machine.World.Real.{Lower, Upper}
 use Rattle.vt_spec.specs.Rights.{Credentials}
+use Rattle.vt_spec.specs.Tree.{Node}
 use Rattle.vt_location.specs.Numbers.{counted}
 use Rattle.vt_looks.specs.Looking.{is_only_below}
 use Rattle.vt_overlay.specs.MergedTree.{OverlayValue}
-use Rattle.vt_store.specs.StoreValue.{StoreValue, filesystem_in, overlay_in}
+use Rattle.vt_store.specs.StoreValue.{StoreValue, overlay_in}
+use Rattle.vt_store.specs.OverlaysValue.{overlay_of}
 use Rattle.vt_world.specs.Held.{IsHeld}
 use Rattle.vt_world.specs.Lent.{lent_of_world}
 use Rattle.vt_world.specs.StoredWorld.{with_store}
 use Rattle.vt_world.specs.WorldValue.{WorldValue, world_of}
+use Rattle.vt_detach.proofs.LookLemmas.{shown_counted}
 use Rattle.vt_detach.specs.Looking.{looks_of_value}
 use Rattle.vt_ns.proofs.looking.Lending.{allows_alike}
-use Rattle.vt_ns.proofs.looking.OverlaysAt.{IsOverlayOf, no_overlay_there, overlay_there}
-use Rattle.vt_ns.proofs.looking.StoreLooked.{overlay_shown}
+use Rattle.vt_ns.proofs.looking.OverlaysAt.{no_overlay_there, overlay_there}
+use Rattle.vt_ns.proofs.looking.UppersAsked.{found_without}
 use Rattle.vt_ns.specs.Lent.{lent_alike, real_of_value}
+use Rattle.vt_ns.specs.Mounters.{mounter_on}
 
--- the mount of the location shows the filesystem of this count
+-- The mounter is that of the overlay in the store.
+module _ (base : WorldValue) (store : StoreValue) (value : WorldValue) (is : with_store store base ≡ value)
+    (held : IsHeld (with_store store base)) where
+  mounter_counted : (count : ℕ) → option_map (λ (overlay : OverlayValue). overlay.mounter) (overlay_in store count)
+      ≡ option_map (λ (overlay : Overlay ℕ). overlay.mounter)
+      (filesystem_numbered nat_eq (world_of value) (counted count)).overlay
+  mounter_counted count =
+      by (overlay_in store count) refl
+      ∙ ap (λ v. option_map (λ (overlay : Overlay ℕ). overlay.mounter)
+      (filesystem_numbered nat_eq (world_of v) (counted count)).overlay) is
+    where
+      by : (o : Option OverlayValue) → overlay_in store count ≡ o
+          → option_map (λ (overlay : OverlayValue). overlay.mounter) o
+          ≡ option_map (λ (overlay : Overlay ℕ). overlay.mounter)
+          (filesystem_numbered nat_eq (world_of (with_store store base)) (counted count)).overlay
+      by None e =
+          sym (ap (option_map (λ (overlay : Overlay ℕ). overlay.mounter)) (no_overlay_there base store held count e))
+      by (Some overlay) e =
+          let there = overlay_there base store held count overlay e in
+          sym (ap (option_map (λ (one : Overlay ℕ). one.mounter)) there.is ∙ ap Some there.mounter)
+
+  -- where the mount shows the filesystem of this count
+  pub mounter_shown : (mount shown : ℕ) → counted shown ≡ (mount_numbered nat_eq (world_of value) mount).filesystem
+      → option_map (λ (overlay : OverlayValue). overlay.mounter) (overlay_in store shown)
+      ≡ mounter_on (world_of value) mount
+  mounter_shown mount shown shows =
+      mounter_counted shown
+      ∙ ap (λ n. option_map (λ (overlay : Overlay ℕ). overlay.mounter)
+      (filesystem_numbered nat_eq (world_of value) n).overlay) shows
+
+  -- and nobody's, where there are no overlays
+  pub nobody_mounted : store.overlays ≡ [] → (count : ℕ) → mounter_on (world_of value) (counted count) ≡ None
+  nobody_mounted none count =
+      let shown = shown_counted value (subst IsHeld is held) count in
+      sym (mounter_shown (counted count) shown.0 (sym shown.1))
+      ∙ ap (λ overlays. option_map (λ (overlay : OverlayValue). overlay.mounter) (overlay_of overlays shown.0)) none
+
+-- it is somebody's just if an overlay is lent
+pub mounted_by_some : (lent : Option (Bor OverlayValue))
+    → is_some lent ≡ is_some (option_map (λ (overlay : OverlayValue). overlay.mounter) (option_copied lent))
+mounted_by_some None = refl
+mounted_by_some (Some overlay) = refl
+
+-- Looks at a location
+
+module _ (value : WorldValue) (at : meant.Location ℕ) where
+  abbrev overlay_here : Option (Overlay ℕ)
+  overlay_here = (filesystem_at nat_eq (world_of value) at).overlay
+
+  pub overlay_is : is_some (mounter_on (world_of value) at.mount) ≡ is_overlay_at (looks_of_value value) at
+  overlay_is = by overlay_here
+    where
+      by : (o : Option (Overlay ℕ)) → is_some (option_map (λ (overlay : Overlay ℕ). overlay.mounter) o) ≡ is_some o
+      by None = refl
+      by (Some overlay) = refl
+
+  -- it has no upper layer
+  pub no_upper_is : IsHeld value
+      → is_some (mounter_on (world_of value) at.mount) ≡ has_no_upper (looks_of_value value) at
+  no_upper_is held = by overlay_here (found_without value held (mount_at nat_eq (world_of value) at).filesystem)
+    where
+      by : (o : Option (Overlay ℕ)) → overlay_or false (λ overlay. is_some overlay.upper) o ≡ false
+          → is_some (option_map (λ (overlay : Overlay ℕ). overlay.mounter) o)
+          ≡ overlay_or false (λ overlay. not (is_some overlay.upper)) o
+      by None none = refl
+      by (Some overlay) none = sym (ap not none)
+
+  -- so all its objects are in lower ones
+  pub only_below_is : IsHeld value
+      → is_some (mounter_on (world_of value) at.mount) ≡ is_only_below (looks_of_value value) at
+  only_below_is held =
+      by overlay_here refl (found_without value held (mount_at nat_eq (world_of value) at).filesystem)
+    where
+      no_object : (overlay : Overlay ℕ) → overlay_here ≡ Some overlay → (o : Option (Layer ℕ)) → overlay.upper ≡ o
+          → is_some o ≡ false → (real : Option (Real ℕ)) → overlay.real at.node ≡ real → upper_object real ≡ None
+      no_object overlay e None upper none None is = refl
+      no_object overlay e None upper none (Some (Lower layer path)) is = refl
+      no_object overlay e None upper none (Some (Upper object)) is =
+          absurd (true≢false (sym ((held.in_world.overlays.overlays_merge
+          (mount_at nat_eq (world_of value) at).filesystem overlay e).upper_there at.node object is)
+          ∙ ap (holds_of _) upper))
+      no_object overlay e (Some layer) upper none real is = absurd (true≢false none)
+
+      by : (o : Option (Overlay ℕ)) → overlay_here ≡ o
+          → overlay_or false (λ overlay. is_some overlay.upper) o ≡ false
+          → is_some (option_map (λ (overlay : Overlay ℕ). overlay.mounter) o)
+          ≡ overlay_or false (λ overlay. lies_only_in_lowers overlay at.node) o
+      by None e none = refl
+      by (Some overlay) e none =
+          sym (ap (λ o. not (is_some o))
+          (no_object overlay e overlay.upper refl none (overlay.real at.node) refl))
+
+  -- the mounter is asked with what is lent
+  pub mounter_is : (who : Credentials) → mounter_on (world_of value) at.mount ≡ Some who → (wanted : ℕ)
+      → node_allows who wanted (real_of_value value at) ≡ mounter_may (looks_of_value value) at wanted
+  mounter_is who some wanted =
+      allows_alike who wanted (real_of_value value at) (node_at nat_eq (world_of value) at)
+      (lent_alike (node_at nat_eq (world_of value) at)
+      (lent_of_world (world_of value) (mount_at nat_eq (world_of value) at).filesystem at.node))
+      ∙ by overlay_here some
+    where
+      by : (o : Option (Overlay ℕ)) → option_map (λ (overlay : Overlay ℕ). overlay.mounter) o ≡ Some who
+          → node_allows who wanted (node_at nat_eq (world_of value) at)
+          ≡ mounter_allows o wanted (node_at nat_eq (world_of value) at)
+      by None e = absurd cc
+      by (Some overlay) e = cc
+
+  -- nobody is on a plain tree
+  pub nobody_is : mounter_on (world_of value) at.mount ≡ None → (wanted : ℕ)
+      → true ≡ mounter_may (looks_of_value value) at wanted
+  nobody_is none wanted = by overlay_here none
+    where
+      by : (o : Option (Overlay ℕ)) → option_map (λ (overlay : Overlay ℕ). overlay.mounter) o ≡ None
+          → true ≡ mounter_allows o wanted (node_at nat_eq (world_of value) at)
+      by None e = refl
+      by (Some overlay) e = absurd cc
+
+-- what the mounter of a filesystem is granted, where the mount of the location shows that
 module _ (base : WorldValue) (store : StoreValue) (value : WorldValue) (is : with_store store base ≡ value)
     (held : IsHeld (with_store store base)) (at : meant.Location ℕ) (shown : ℕ)
     (shows : counted shown ≡ (mount_at nat_eq (world_of value) at).filesystem) where
-  at_plain : overlay_in store shown ≡ None → (filesystem_at nat_eq (world_of value) at).overlay ≡ None
-  at_plain none =
-      ap (λ n. (filesystem_numbered nat_eq (world_of value) n).overlay) (sym shows)
-      ∙ sym (ap (λ v. (filesystem_numbered nat_eq (world_of v) (counted shown)).overlay) is)
-      ∙ no_overlay_there base store held shown none
-
-  at_overlay : (overlay : OverlayValue) → overlay_in store shown ≡ Some overlay
-      → IsOverlayOf overlay (filesystem_at nat_eq (world_of value) at)
-  at_overlay overlay some =
-      subst (λ n. IsOverlayOf overlay (filesystem_numbered nat_eq (world_of value) n)) shows
-      (subst (λ v. IsOverlayOf overlay (filesystem_numbered nat_eq (world_of v) (counted shown))) is
-      (overlay_there base store held shown overlay some))
-
-  pub overlay_is : is_some (filesystem_in store shown).overlay ≡ is_overlay_at (looks_of_value value) at
-  overlay_is =
-      overlay_shown base store held shown
-      ∙ ap (λ v. is_overlay (filesystem_numbered nat_eq (world_of v) (counted shown))) is
-      ∙ ap (λ n. is_overlay (filesystem_numbered nat_eq (world_of value) n)) shows
-
-  -- it has no upper layer
-  pub no_upper_is : is_some (filesystem_in store shown).overlay ≡ has_no_upper (looks_of_value value) at
-  no_upper_is = overlay_is ∙ by (overlay_in store shown) refl
+  pub granted_is : (wanted : ℕ) (node : Node ℕ) (granted : Bool) → real_of_value value at ≡ Some node
+      → IfSome (overlay_in store shown) (λ overlay. granted ≡ node_allows overlay.mounter wanted (Some node))
+      → (overlay_in store shown ≡ None → granted ≡ true)
+      → granted ≡ mounter_may (looks_of_value value) at wanted
+  granted_is wanted node granted lent overlaid plain = by (overlay_in store shown) refl overlaid
     where
-      without : Option (Overlay ℕ) → Bool
-      without = overlay_or false (λ overlay. not (is_some overlay.upper))
+      mounter : (o : Option OverlayValue) → overlay_in store shown ≡ o
+          → mounter_on (world_of value) at.mount ≡ option_map (λ (overlay : OverlayValue). overlay.mounter) o
+      mounter o e =
+          sym (mounter_shown base store value is held at.mount shown shows)
+          ∙ ap (option_map (λ (overlay : OverlayValue). overlay.mounter)) e
 
       by : (o : Option OverlayValue) → overlay_in store shown ≡ o
-          → is_overlay_at (looks_of_value value) at ≡ has_no_upper (looks_of_value value) at
-      by None e = let none = at_plain e in ap is_some none ∙ sym (ap without none)
-      by (Some overlay) e =
-          let there = at_overlay overlay e in
-          ap is_some there.is ∙ sym (ap without there.is ∙ ap (λ upper. not (is_some upper)) there.no_upper)
-
-  -- so all its objects are in lower ones
-  pub only_below_is : is_some (filesystem_in store shown).overlay ≡ is_only_below (looks_of_value value) at
-  only_below_is = overlay_is ∙ by (overlay_in store shown) refl
-    where
-      below : Option (Overlay ℕ) → Bool
-      below = overlay_or false (λ overlay. lies_only_in_lowers overlay at.node)
-
-      by : (o : Option OverlayValue) → overlay_in store shown ≡ o
-          → is_overlay_at (looks_of_value value) at ≡ is_only_below (looks_of_value value) at
-      by None e = let none = at_plain e in ap is_some none ∙ sym (ap below none)
-      by (Some overlay) e =
-          let there = at_overlay overlay e in
-          ap is_some there.is
-          ∙ sym (ap below there.is ∙ ap (λ object. not (is_some object)) (there.in_lowers at.node))
-
-  -- the mounter is asked with what is lent
-  pub mounter_is : (overlay : OverlayValue) → overlay_in store shown ≡ Some overlay → (wanted : ℕ)
-      → node_allows overlay.mounter wanted (real_of_value value at) ≡ mounter_may (looks_of_value value) at wanted
-  mounter_is overlay some wanted =
-      let there = at_overlay overlay some in
-      let node = node_at nat_eq (world_of value) at in
-      allows_alike overlay.mounter wanted (real_of_value value at) node
-      (lent_alike node (lent_of_world (world_of value) (mount_at nat_eq (world_of value) at).filesystem at.node))
-      ∙ sym (ap (λ o. mounter_allows o wanted node) there.is
-      ∙ ap (λ (who : Credentials). node_allows who wanted node) there.mounter)
-
-  -- nobody is on a plain tree
-  pub nobody_is : overlay_in store shown ≡ None → (wanted : ℕ)
-      → true ≡ mounter_may (looks_of_value value) at wanted
-  nobody_is none wanted =
-      sym (ap (λ o. mounter_allows o wanted (node_at nat_eq (world_of value) at)) (at_plain none))
+          → IfSome o (λ overlay. granted ≡ node_allows overlay.mounter wanted (Some node))
+          → granted ≡ mounter_may (looks_of_value value) at wanted
+      by None e allowed = plain e ∙ nobody_is value at (mounter None e) wanted
+      by (Some overlay) e allowed =
+          allowed ∙ ap (node_allows overlay.mounter wanted) (sym lent)
+          ∙ mounter_is value at overlay.mounter (mounter (Some overlay) e) wanted

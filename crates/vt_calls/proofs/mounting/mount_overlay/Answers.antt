@@ -7,6 +7,5 @@ mount_overlay-requires c =
 
 pub returns : goal.returns
 returns c =
-    overlay_ends c.args.world.now c.args.name.now c.args.new c.requires c.next_filesystem_is_new.ensures
-    c.mount_overlay.new.world c.mount_overlay.result c.done.result c.done.ensures c.mount_overlay.ensures.ok
-    c.mount_overlay.ensures.err
+    overlay_ends c.args.world.now c.args.name.now c.args.new c.requires c.next_filesystem_is_new.ensures _
+    c.mount_overlay.result c.done.result c.done.ensures c.mount_overlay.ensures.ok c.mount_overlay.ensures.err

@@ -1,7 +1,13 @@
 use Rattle.std.proofs.Common.{rules, sym, ◌∙◌}
-use Rattle.vt_ns.proofs.looking.LocksLooked.{below_unlocked, plain_parents, seen_locked, unseen_unlocked}
+use Rattle.vt_ns.proofs.looking.LocksLooked.{all_unlocked, below_unlocked, plain_parents, seen_locked, unseen_unlocked}
 use Rattle.vt_ns.proofs.looking.WorldLook.is_locked.Goals as goal
 use Rattle.vt_ns.specs.contracts.world.World.{the_view}
+
+pub returns-then-not-has_overlays : goal.returns-then-not-has_overlays
+returns-then-not-has_overlays c =
+    sym (all_unlocked (the_view c.self.inside) c.self.inside.store c.self.invariant c.args.self.now c.self.view_is
+    c.args.at (search rules)
+    (c.has_overlays.ensures c.if-not-has_overlays.true))
 
 pub is_in_layer-requires : goal.is_in_layer-requires
 is_in_layer-requires c =

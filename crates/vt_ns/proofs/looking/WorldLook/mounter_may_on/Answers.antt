@@ -1,23 +1,21 @@
-use Rattle.std.proofs.Common.{Some, ap, option_copied, sym, ◌∙◌}
-use Rattle.vt_spec.specs.Machine.Rightful.{node_allows}
-use Rattle.vt_spec.specs.Rights.{Credentials}
+use Rattle.std.proofs.Common.{ap, not, ◌∙◌}
 use Rattle.vt_cred.specs.Rights.{right_bits}
 use Rattle.vt_location.specs.Locations.{location_of}
-use Rattle.vt_ns.proofs.looking.OverlaysLooked.{mounter_is, nobody_is}
+use Rattle.vt_ns.proofs.looking.OverlaysLooked.{granted_is, nobody_is, nobody_mounted}
 use Rattle.vt_ns.proofs.looking.WorldLook.mounter_may_on.Goals as goal
 use Rattle.vt_ns.specs.contracts.world.World.{the_view}
 
-pub returns-in-Some : goal.returns-in-Some
-returns-in-Some c =
-    c.grants.ensures
-    ∙ ap (λ (who : Credentials). node_allows who (right_bits c.args.wanted) (Some c.args.object.now)) c.mounter.ensures
-    ∙ ap (node_allows c.in-Some.overlay.now.mounter (right_bits c.args.wanted)) (sym c.requires.object)
-    ∙ mounter_is (the_view c.self.inside) c.self.inside.store c.args.self.now c.self.view_is c.self.invariant
-    (location_of c.args._at) c.args.ground.filesystem.count c.requires.ground.filesystem c.in-Some.overlay.now
-    (sym c.overlay.ensures.value ∙ ap option_copied c.in-Some.is) (right_bits c.args.wanted)
+pub returns-then-not-has_overlays : goal.returns-then-not-has_overlays
+returns-then-not-has_overlays c =
+    ap not c.if-not-has_overlays.true
+    ∙ nobody_is c.args.self.now (location_of c.args._at)
+    (nobody_mounted (the_view c.self.inside) c.self.inside.store c.args.self.now c.self.view_is c.self.invariant
+    (c.has_overlays.ensures c.if-not-has_overlays.true) c.args._at.mount.count)
+    (right_bits c.args.wanted)
 
-pub returns-in-None : goal.returns-in-None
-returns-in-None c =
-    nobody_is (the_view c.self.inside) c.self.inside.store c.args.self.now c.self.view_is c.self.invariant
-    (location_of c.args._at) c.args.ground.filesystem.count c.requires.ground.filesystem
-    (sym c.overlay.ensures.value ∙ ap option_copied c.in-None.is) (right_bits c.args.wanted)
+pub returns-else-not-has_overlays : goal.returns-else-not-has_overlays
+returns-else-not-has_overlays c =
+    granted_is (the_view c.self.inside) c.self.inside.store c.args.self.now c.self.view_is c.self.invariant
+    (location_of c.args._at) c.args.ground.filesystem.count c.requires.ground.filesystem (right_bits c.args.wanted)
+    c.args.object.now c.mounter_grants.result c.requires.object c.mounter_grants.ensures.overlay
+    c.mounter_grants.ensures.plain
