@@ -152,7 +152,9 @@ fn fits(version: Version, alloc: Global, kind: Kind, text: &str) -> Result<bool,
 
 // Whether a word is written as an option where none stands.
 fn is_option(kind: Kind, text: &str) -> bool {
-    matches!(kind, Kind::Path | Kind::Filesystem | Kind::Options) && text.len() > 1 && text.starts_with('-')
+    matches!(kind, Kind::Path | Kind::Filesystem | Kind::Options)
+        && text.len() > 1
+        && text.starts_with('-')
 }
 
 // The search for the first fault of a line. An allocation that fails is noted, and told at the end.

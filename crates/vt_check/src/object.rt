@@ -3,51 +3,8 @@ use crate::draft::Draft;
 use serde_json::{Map, Value};
 use std::alloc::{AllocError, Global};
 
-/// The members of an object.
-pub type Members = Map<String, Value>;
-
-/// Adds a member.
-pub fn put(
-    alloc: Global,
-    members: &mut Members,
-    name: &str,
-    value: Value,
-) -> Result<(), AllocError> {
-    members.insert(String::from_str(alloc, name)?, value)?;
-    Ok(())
-}
-
-/// Adds a text.
-pub fn put_text(
-    alloc: Global,
-    members: &mut Members,
-    name: &str,
-    text: &str,
-) -> Result<(), AllocError> {
-    let value = Value::try_from_str(alloc, text)?;
-    put(alloc, members, name, value)
-}
-
-/// Adds a number.
-pub fn put_number(
-    alloc: Global,
-    members: &mut Members,
-    name: &str,
-    number: u64,
-) -> Result<(), AllocError> {
-    put(alloc, members, name, Value::from(number))
-}
-
-/// Bytes as they are shown.
-pub fn shown(alloc: Global, bytes: &[u8]) -> Result<String, AllocError> {
-    let mut text = Draft::new(alloc);
-    text.push_bytes(bytes);
-    text.end()
-}
-
-/// The object as a line.
-pub fn line_of(alloc: Global, members: Members) -> Result<String, AllocError> {
-    let object = Value::Object(members);
+// An object as a line.
+fn line_of(alloc: Global, object: &Value) -> Result<String, AllocError> {
     let mut line = object.to_string(alloc)?;
     line.push('\n')?;
     Ok(line)
@@ -57,7 +14,7 @@ pub fn line_of(alloc: Global, members: Members) -> Result<String, AllocError> {
 #[derive(Drop)]
 pub struct Object {
     alloc: Global,
-    members: Members,
+    members: Map<String, Value>,
     failed: bool,
 }
 
@@ -66,14 +23,17 @@ impl Object {
     pub fn new(alloc: Global) -> Self {
         Object {
             alloc,
-            members: Members::new(alloc),
+            members: Map::new(alloc),
             failed: false,
         }
     }
 
     // Adds a member, if there is memory for its value.
     fn try_put(&mut self, name: &str, value: Result<Value, AllocError>) -> Result<(), AllocError> {
-        put(self.alloc, &mut self.members, name, value?)
+        let value = value?;
+        self.members
+            .insert(String::from_str(self.alloc, name)?, value)?;
+        Ok(())
     }
 
     /// Adds a member.
@@ -133,7 +93,7 @@ impl Object {
         if self.failed {
             Err(AllocError)
         } else {
-            line_of(self.alloc, self.members)
+            line_of(self.alloc, &Value::Object(self.members))
         }
     }
 }
