@@ -1,6 +1,6 @@
 -- The text of a schedule is that of its commits.
 use Rattle.std.proofs.lemmas.Grind.{common_steps}
-use Rattle.std.proofs.Common.{◌≡◌, refl, sym, ap, ◌∙◌, ℕ, nat_eq, Bool, List, [], ◌∷◌, ◌++◌, Option, Some, None, ◌+◌, arith}
+use Rattle.std.proofs.Common.{◌≡◌, refl, ℕ, nat_eq, Bool, List, [], ◌∷◌, ◌++◌, Option, Some, None, ◌+◌, arith}
 use Rattle.std.proofs.lemmas.List.{append_assoc}
 use Rattle.std.specs.Prelude.{option_to_list}
 use Rattle.vt_spec.specs.Language.Printed.{reply_line}

@@ -1,7 +1,7 @@
 -- How often a call restarts.
 use Rattle.std.proofs.lemmas.Grind.{common_steps}
 use Rattle.std.proofs.Common.{◌≡◌, refl, sym, ap, subst, ◌∙◌, inl, inr, ℕ, nat_eq, Bool, true, false, true≢false, cond, not, List, [], ◌∷◌, ◌++◌, ◌≤◌, ◌<◌, ◌+◌, ◌&&◌, Option, Some, None, arith}
-use Rattle.std.specs.Prelude.{is_some, nat_le, option_map, option_to_list, unwrap_or}
+use Rattle.std.specs.Prelude.{is_some, option_map, option_to_list, unwrap_or}
 use Rattle.vt_spec.specs.Language.Calls.{Call, TaskName, same_name}
 use Rattle.vt_spec.specs.Language.Limits.{most_restarts}
 use Rattle.vt_spec.specs.Language.Script.{Who}

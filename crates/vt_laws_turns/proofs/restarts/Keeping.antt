@@ -1,7 +1,7 @@
 -- Each turn keeps the conditions of a scheduler's state.
 use Rattle.std.proofs.lemmas.Grind.{common_steps}
-use Rattle.std.proofs.Common.{◌≡◌, refl, sym, ap, subst, ◌∙◌, ⊎_elim, ℕ, suc, nat_eq, Bool, true, false, true≢false, cond, not, List, [], ◌∷◌, ◌≤◌, ◌+◌, Option, Some, filter, map, length, arith}
-use Rattle.std.specs.Prelude.{Contains, nat_le}
+use Rattle.std.proofs.Common.{◌≡◌, refl, sym, ap, subst, ◌∙◌, ⊎_elim, ℕ, suc, nat_eq, Bool, true, false, true≢false, cond, not, List, [], ◌∷◌, ◌≤◌, Option, Some, filter, map, length, arith}
+use Rattle.std.specs.Prelude.{Contains}
 use Rattle.vt_spec.specs.Language.Calls.{TaskName, same_name}
 use Rattle.vt_spec.specs.Language.Limits.{most_restarts}
 use Rattle.vt_spec.specs.Language.Script.{Who}
