@@ -99,7 +99,7 @@ const FD: Argument = Argument {
 };
 
 const PLAIN: Argument = Argument {
-    name: "`plain`",
+    name: "`plain` or `overlay`",
     kind: Kind::Filesystem,
 };
 

@@ -148,8 +148,8 @@ impl<'a> Warning<'a> {
             Warning::Unfollowed => {
                 text.push("no `chdir` of this task follows: it stays in its old directory");
             }
-            Warning::Upper => text.push("`upperdir` is not in this version: a run answers O2"),
-            Warning::FewLayers => text.push("fewer than two layers: a run answers O2"),
+            Warning::Upper => text.push("`upperdir` is not in this version: a run refuses it"),
+            Warning::FewLayers => text.push("fewer than two layers: a run refuses it"),
         }
     }
 
