@@ -1,9 +1,11 @@
 /* Preloaded into vtree: refuses the request for memory whose number REFUSE_MEMORY gives, counted from 1.
-   REFUSE_MEMORY_LOG names a file that is made when that request came. */
+   REFUSE_MEMORY_LOG names a file that is made when that request came, REFUSE_MEMORY_COUNT one in which the number of
+   all requests stands at the end. */
 #define _GNU_SOURCE
 #include <dlfcn.h>
 #include <fcntl.h>
 #include <stddef.h>
+#include <stdio.h>
 #include <stdlib.h>
 #include <unistd.h>
 
@@ -35,4 +37,14 @@ void *realloc(void *old, size_t size) {
     if (!next)
         next = (void *(*)(void *, size_t))dlsym(RTLD_NEXT, "realloc");
     return is_refused() ? NULL : next(old, size);
+}
+
+__attribute__((destructor)) static void write_count(void) {
+    const char *name = getenv("REFUSE_MEMORY_COUNT");
+    long counted = requests;
+    FILE *file = name ? fopen(name, "w") : NULL;
+    if (file) {
+        fprintf(file, "%ld\n", counted);
+        fclose(file);
+    }
 }

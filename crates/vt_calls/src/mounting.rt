@@ -9,8 +9,8 @@ use vt_permits::{Attachment, MountGrant, ToMountOverlay};
 use vt_request::{Answer, TaskName};
 use vt_spec::errors::Deny;
 
-// Changes mounts as is granted. S5 (ENOMEM): an allocation failed, or a count of uses is full; nothing has
-// changed.
+// Changes mounts as is granted. S5 (ENOMEM): an allocation failed, a count of uses is full, or no number is
+// left; nothing has changed.
 pub(crate) fn change_mounts(
     world: &mut World,
     name: &TaskName,
@@ -32,7 +32,8 @@ pub(crate) fn change_mounts(
     }
 }
 
-// Attaches mounts as is granted. S5 (ENOMEM): an allocation failed, or a count of uses is full; nothing has changed.
+// Attaches mounts as is granted. S5 (ENOMEM): an allocation failed, a count of uses is full, or no number is left;
+// nothing has changed.
 fn attach(world: &mut World, name: &TaskName, attachment: Attachment) -> Result<Answer, Deny>
     requires { IsGiven world.old name.now (Mount (Attach attachment)) }
     ensures { EndsGiven world.old name.now (Mount (Attach attachment)) result world.new }
@@ -47,8 +48,8 @@ fn attach(world: &mut World, name: &TaskName, attachment: Attachment) -> Result<
     }
 }
 
-// Mounts a new overlay as is granted. S5 (ENOMEM): an allocation failed, or a count of uses is full; nothing has
-// changed.
+// Mounts a new overlay as is granted. S5 (ENOMEM): an allocation failed, a count of uses is full, or no number is
+// left; nothing has changed.
 pub(crate) fn mount_overlay(
     world: &mut World,
     name: &TaskName,

@@ -1,7 +1,9 @@
 //! The findings of a script, written.
 
 use crate::diagnose::diagnosis;
+use crate::draft::Draft;
 use crate::report::{Finding, Level, Report, report_of};
+use crate::text::Place;
 use crate::{json, text};
 use std::alloc::{AllocError, Global};
 use std::io::{self, Write};
@@ -24,37 +26,82 @@ pub struct Options {
     pub strict: bool,
 }
 
-// Writes the findings of a report.
-fn write_findings<W: Write>(
+// Where a finding is.
+fn place_of<'a>(name: &'a str, strict: bool, finding: &'a Finding<'a>) -> Place<'a> {
+    Place {
+        name,
+        number: finding.line,
+        line: finding.text,
+        level: finding.level,
+        strict,
+    }
+}
+
+// Appends a report as text.
+fn push_text(text: &mut Draft, name: &str, strict: bool, report: &Report<'_>) {
+    for finding in &report.findings {
+        text::push_found(text, place_of(name, strict, finding), &finding.diagnosis);
+    }
+    text::push_summary(text, name, report);
+}
+
+// Appends a report as JSON.
+fn push_json(text: &mut Draft, alloc: Global, name: &str, strict: bool, report: &Report<'_>) {
+    for finding in &report.findings {
+        json::push_found(text, alloc, name, strict, finding);
+    }
+    json::push_summary(text, alloc, name, report);
+}
+
+// A report as it is written.
+fn written(
     alloc: Global,
     name: &str,
     options: Options,
-    report: &Report,
-    output: &mut W,
-) -> io::Result<()> {
-    for finding in &report.findings {
-        let shown = match options.format {
-            Format::Text => text::shown(alloc, name, options.strict, finding)?,
-            Format::Json => json::shown(alloc, name, options.strict, finding)?,
-        };
-        output.write_all(shown.as_bytes())?;
+    report: &Report<'_>,
+) -> Result<String, AllocError> {
+    let mut text = Draft::new(alloc);
+    match options.format {
+        Format::Text => push_text(&mut text, name, options.strict, report),
+        Format::Json => push_json(&mut text, alloc, name, options.strict, report),
     }
-    Ok(())
+    text.end()
 }
 
-// Writes how much was found.
-fn write_summary<W: Write>(
+// What is written of a script, and whether it is bad.
+#[derive(Drop)]
+struct Outcome {
+    text: String,
+    is_bad: bool,
+}
+
+// What is written of a report, and whether its script is bad.
+fn checked_by(
     alloc: Global,
     name: &str,
-    format: Format,
-    report: &Report,
-    output: &mut W,
-) -> io::Result<()> {
-    let shown = match format {
-        Format::Text => text::summary(alloc, name, report)?,
-        Format::Json => json::summary(alloc, name, report)?,
-    };
-    output.write_all(shown.as_bytes())
+    options: Options,
+    report: &Report<'_>,
+) -> Result<Outcome, AllocError> {
+    match written(alloc, name, options, report) {
+        Ok(text) => Ok(Outcome {
+            text,
+            is_bad: report.errors > 0 || (options.strict && report.warnings > 0),
+        }),
+        Err(error) => Err(error),
+    }
+}
+
+// What is written of a script, and whether it is bad.
+fn checked(
+    alloc: Global,
+    name: &str,
+    script: &[u8],
+    options: Options,
+) -> Result<Outcome, AllocError> {
+    let report = report_of(options.version, alloc, script)?;
+    let checked = checked_by(alloc, name, options, &report);
+    drop(report);
+    checked
 }
 
 /// Writes what is found in a script, under the name of its file, and returns whether it is bad: whether a run refuses a
@@ -66,26 +113,31 @@ pub fn check<W: Write>(
     options: Options,
     output: &mut W,
 ) -> io::Result<bool> {
-    let report = report_of(options.version, alloc, script)?;
-    write_findings(alloc, name, options, &report, output)?;
-    write_summary(alloc, name, options.format, &report, output)?;
-    Ok(report.errors > 0 || (options.strict && report.warnings > 0))
+    let Outcome { text, is_bad } = checked(alloc, name, script, options)?;
+    let written = output.write_all(text.as_bytes());
+    drop(text);
+    written?;
+    Ok(is_bad)
 }
 
-/// What is wrong with a line of this number in the file of this name, as text. A run refuses the line by S1, in this
-/// version of the language.
-pub fn explained(
+/// Appends what is wrong with a line of this number in the file of this name, as text. A run refuses the line by S1, in
+/// this version of the language.
+pub fn push_explained(
+    text: &mut Draft,
     version: Version,
     alloc: Global,
     name: &str,
     number: u64,
     line: &[u8],
-) -> Result<String, AllocError> {
-    let finding = Finding {
-        line: number,
-        text: line.to_vec(alloc)?,
+) {
+    let found = diagnosis(version, alloc, line);
+    let place = Place {
+        name,
+        number,
+        line,
         level: Level::Error,
-        diagnosis: diagnosis(version, alloc, line)?,
+        strict: false,
     };
-    text::shown(alloc, name, false, &finding)
+    text::push_found(text, place, &found);
+    drop(found);
 }

@@ -3,9 +3,9 @@ use crate::bytes::{ByteFault, ByteKind, byte_fault};
 use crate::draft::Draft;
 use crate::faults::{Fault, Wrong, first_fault};
 use crate::finding::{Diagnosis, Helper, Span};
-use crate::repair::help;
+use crate::repair::write_help;
 use crate::words::{Given, words_of};
-use std::alloc::{AllocError, Global};
+use std::alloc::Global;
 use vt_line::version::Version;
 
 const NOT_THIS_VERSION: &str = "not in this version";
@@ -142,22 +142,22 @@ fn write_no_escape(line: &[u8], span: Span, text: &mut Draft) {
 }
 
 // What is wrong with the bytes of a line.
-fn of_bytes(
-    version: Version,
-    alloc: Global,
-    line: &[u8],
-    fault: ByteFault,
-) -> Result<Diagnosis, AllocError> {
+fn of_bytes(version: Version, alloc: Global, line: &[u8], fault: ByteFault) -> Diagnosis {
     let (said, words) = said_of(fault.kind);
-    let mut message = Draft::new(alloc);
+    let mut help = Helper::new(version, alloc);
+    let mut message = help.draft();
     match fault.kind {
         ByteKind::Escape => write_no_escape(line, fault.span, &mut message),
         _ => message.push(said),
     }
-    let mut helper = Helper::new(version, alloc);
-    propose_good_bytes(&mut helper, line, fault);
-    helper.say(words);
-    Diagnosis::new(fault.span, message, helper, "")
+    propose_good_bytes(&mut help, line, fault);
+    help.say(words);
+    Diagnosis {
+        span: fault.span,
+        message,
+        help,
+        note: "",
+    }
 }
 
 // What else is to be known of a fault.
@@ -168,30 +168,37 @@ fn note_of(wrong: Wrong) -> &'static str {
     }
 }
 
-// The diagnosis of a fault.
-fn of_fault(alloc: Global, line: Given<'_>, fault: Fault<'_>) -> Result<Diagnosis, AllocError> {
-    let mut message = Draft::new(alloc);
+// What is wrong with the words of a line.
+fn of_line(line: Given<'_>, mut help: Helper) -> Diagnosis {
+    let fault = first_fault(&mut help, line);
+    let mut message = help.draft();
     fault.write(line.version, &mut message);
-    let mut helper = Helper::new(line.version, alloc);
-    help(&mut helper, line, fault);
-    Diagnosis::new(fault.part.span(), message, helper, note_of(fault.wrong))
+    write_help(&mut help, line, fault);
+    Diagnosis {
+        span: fault.part.span(),
+        message,
+        help,
+        note: note_of(fault.wrong),
+    }
 }
 
-// What is wrong with the words of a line.
-fn of_words(version: Version, alloc: Global, text: &str) -> Result<Diagnosis, AllocError> {
-    let words = words_of(alloc, text)?;
+// What is wrong with the words of a text.
+fn of_words(version: Version, alloc: Global, text: &str) -> Diagnosis {
+    let mut help = Helper::new(version, alloc);
+    let words = words_of(&mut help, text);
     let line = Given {
         version,
         text,
         words: words.as_slice(),
     };
-    let fault = first_fault(alloc, line)?;
-    of_fault(alloc, line, fault)
+    let found = of_line(line, help);
+    drop(words);
+    found
 }
 
 /// What is wrong with a line that a run refuses by S1 in a version of the language, where, and what to write in its
 /// place.
-pub fn diagnosis(version: Version, alloc: Global, line: &[u8]) -> Result<Diagnosis, AllocError> {
+pub fn diagnosis(version: Version, alloc: Global, line: &[u8]) -> Diagnosis {
     match byte_fault(line) {
         Some(fault) => of_bytes(version, alloc, line, fault),
         None => of_words(version, alloc, str::from_utf8(line).unwrap_or_default()),

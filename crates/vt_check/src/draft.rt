@@ -33,6 +33,28 @@ impl Draft {
         }
     }
 
+    /// Whether it ends like this so far.
+    pub fn ends_with(&self, end: &str) -> bool {
+        self.text.ends_with(end)
+    }
+
+    /// Notes that an allocation failed.
+    pub fn fail(&mut self) {
+        self.failed = true;
+    }
+
+    /// Appends another text, or notes that it failed.
+    pub fn push_draft(&mut self, other: &Draft) {
+        self.failed |= other.failed;
+        self.push(other.text.as_str());
+    }
+
+    /// Appends a part of another text, from one byte to another, or notes that it failed.
+    pub fn push_part(&mut self, other: &Draft, begin: usize, end: usize) {
+        self.failed |= other.failed;
+        self.push(other.text.as_str().get(begin..end).unwrap_or_default());
+    }
+
     /// Appends a part.
     pub fn push(&mut self, part: &str) {
         self.failed |= self.text.push_str(part).is_err();

@@ -1,5 +1,6 @@
 //! What is wrong with the words of a refused line: the first of them that no line could have there.
 use crate::draft::Draft;
+use crate::finding::Helper;
 use crate::grammar::{Argument, CallWords, Kind, MOUNT_OVERLAY, call_named};
 use crate::unmodelled::unmodelled_in;
 use crate::words::{Given, Word};
@@ -136,19 +137,24 @@ fn write_lacking(text: &mut Draft, usage: &str, name: &str) {
     text.push(usage);
 }
 
-/// Whether a word is of a kind: whether a run takes it in the line of that kind.
-pub fn fits(version: Version, alloc: Global, kind: Kind, text: &str) -> Result<bool, AllocError> {
+// Whether a word is of a kind: whether a run takes it in the line of that kind.
+fn fits(version: Version, alloc: Global, kind: Kind, text: &str) -> Result<bool, AllocError> {
     let words = kind.words(version);
     let mut line = Draft::new(alloc);
     line.push(words.before);
     line.push(text);
     line.push(words.after);
-    is_taken(version, alloc, line.end()?.as_bytes())
+    let line = line.end()?;
+    let taken = is_taken(version, alloc, line.as_bytes());
+    drop(line);
+    taken
 }
 
-// Whether a word is written as an option where a path or the kind of a filesystem stands.
+// Whether a word is written as an option where none stands.
 fn is_option(kind: Kind, text: &str) -> bool {
-    matches!(kind, Kind::Path | Kind::Filesystem) && text.len() > 1 && text.starts_with('-')
+    matches!(kind, Kind::Path | Kind::Filesystem | Kind::Options)
+        && text.len() > 1
+        && text.starts_with('-')
 }
 
 // The search for the first fault of a line. An allocation that fails is noted, and told at the end.
@@ -364,17 +370,16 @@ fn said_of(version: Version, wrong: Wrong) -> &'static str {
     }
 }
 
-/// The first fault of a refused line whose bytes are all good.
-pub fn first_fault<'a>(alloc: Global, line: Given<'a>) -> Result<Fault<'a>, AllocError> {
+/// The first fault of a refused line whose bytes are all good. An allocation that fails is noted with the help.
+pub fn first_fault<'a>(help: &mut Helper, line: Given<'a>) -> Fault<'a> {
     let mut search = Search {
-        alloc,
+        alloc: help.alloc,
         line,
         failed: false,
     };
     let fault = search.first();
     if search.failed {
-        Err(AllocError)
-    } else {
-        Ok(fault)
+        help.fail();
     }
+    fault
 }

@@ -11,29 +11,14 @@ pub struct Span {
     pub width: usize,
 }
 
-/// What to write: lines, one after the other, and words about them. Either may be empty.
-#[derive(Drop)]
-pub struct Help {
-    pub lines: Vec<Proposal>,
-    pub words: &'static str,
-}
-
-impl Help {
-    /// Words alone.
-    pub fn words(alloc: Global, words: &'static str) -> Self {
-        Help {
-            lines: Vec::new(alloc),
-            words,
-        }
-    }
-}
-
-/// Help that is being written. An allocation that fails is noted, and told at the end.
+/// What to write: lines, one after the other, and words about them. Either may be empty. An allocation that fails is
+/// noted, and told where the help is written.
 #[derive(Drop)]
 pub struct Helper {
     pub version: Version,
     pub alloc: Global,
-    help: Help,
+    lines: Vec<Proposal>,
+    words: &'static str,
     failed: bool,
 }
 
@@ -43,18 +28,25 @@ impl Helper {
         Helper {
             version,
             alloc,
-            help: Help::words(alloc, ""),
+            lines: Vec::new(alloc),
+            words: "",
             failed: false,
         }
     }
 
-    /// The help, if no allocation failed.
-    pub fn end(self) -> Result<Help, AllocError> {
-        if self.failed {
-            Err(AllocError)
-        } else {
-            Ok(self.help)
-        }
+    /// The lines.
+    pub fn lines(&self) -> &[Proposal] {
+        self.lines.as_slice()
+    }
+
+    /// The words about the lines.
+    pub fn words(&self) -> &'static str {
+        self.words
+    }
+
+    /// Whether an allocation failed.
+    pub fn has_failed(&self) -> bool {
+        self.failed
     }
 
     /// An empty text.
@@ -64,28 +56,17 @@ impl Helper {
 
     /// Sets the words about the lines.
     pub fn say(&mut self, words: &'static str) {
-        self.help.words = words;
+        self.words = words;
     }
 
     /// Takes the proposed lines back.
     pub fn take_back(&mut self) {
-        self.help.lines.clear();
-    }
-
-    /// How many lines are proposed.
-    pub fn count(&self) -> usize {
-        self.help.lines.len()
+        self.lines.clear();
     }
 
     /// Notes that an allocation failed.
     pub fn fail(&mut self) {
         self.failed = true;
-    }
-
-    /// The answer, or `false` where an allocation failed, which is noted.
-    pub fn noted(&mut self, answer: Result<bool, AllocError>) -> bool {
-        self.failed |= answer.is_err();
-        answer.unwrap_or_default()
     }
 
     /// The text, or nothing where an allocation failed, which is noted.
@@ -101,8 +82,13 @@ impl Helper {
 
     /// Proposes the text as a line, if a run takes it, and says whether it does.
     pub fn propose(&mut self, text: Draft) -> bool {
-        let is_taken = self.try_propose(text);
-        self.noted(is_taken)
+        match self.try_propose(text) {
+            Ok(is_taken) => is_taken,
+            Err(_) => {
+                self.fail();
+                false
+            }
+        }
     }
 
     /// Proposes the text as a line, or sets these words if no run takes it.
@@ -116,7 +102,7 @@ impl Helper {
     fn try_propose(&mut self, text: Draft) -> Result<bool, AllocError> {
         match Proposal::new(self.version, self.alloc, text.end()?)? {
             Some(line) => {
-                self.help.lines.push(line)?;
+                self.lines.push(line)?;
                 Ok(true)
             }
             None => Ok(false),
@@ -124,32 +110,13 @@ impl Helper {
     }
 }
 
-/// What is wrong with a line, where, and what to write in its place.
+/// What is wrong with a line, where, and what to write in its place. An allocation that failed is told where it is
+/// written.
 #[derive(Drop)]
 pub struct Diagnosis {
     pub span: Span,
-    pub message: String,
-    pub help: Help,
+    pub message: Draft,
+    pub help: Helper,
     /// What else is to be known, or nothing.
     pub note: &'static str,
-}
-
-impl Diagnosis {
-    /// A diagnosis of what was written, if no allocation failed.
-    pub fn new(
-        span: Span,
-        message: Draft,
-        helper: Helper,
-        note: &'static str,
-    ) -> Result<Self, AllocError> {
-        match (message.end(), helper.end()) {
-            (Ok(message), Ok(help)) => Ok(Diagnosis {
-                span,
-                message,
-                help,
-                note,
-            }),
-            _ => Err(AllocError),
-        }
-    }
 }

@@ -99,7 +99,7 @@ const FD: Argument = Argument {
 };
 
 const PLAIN: Argument = Argument {
-    name: "`plain`",
+    name: "`plain` or `overlay`",
     kind: Kind::Filesystem,
 };
 
@@ -647,9 +647,11 @@ static YES_OR_NO_WORDS: KindWords = KindWords {
     choices: &["yes", "no"],
     synonyms: &[
         ("y", "yes"),
+        ("on", "yes"),
         ("true", "yes"),
         ("1", "yes"),
         ("n", "no"),
+        ("off", "no"),
         ("false", "no"),
         ("0", "no"),
     ],

@@ -2,7 +2,7 @@
 use crate::draft::Draft;
 use std::alloc::{AllocError, Global};
 use std::collections::BTreeMap;
-use vt_request::{Call, Creation, DescriptorCall, MakeCall, TaskCall, TaskName};
+use vt_request::{Call, Creation, DescriptorCall, MakeCall, MountCall, TaskCall, TaskName};
 use vt_spec::attributes::Mode;
 
 // The umask of the first task.
@@ -19,28 +19,40 @@ struct Task {
     refused_fork: Option<u64>,
 }
 
-/// A warning about a word of a line.
-#[derive(Drop)]
-pub struct Warning {
-    /// The place of the word in the line.
-    pub word: usize,
-    pub message: Draft,
-    pub help: &'static str,
-}
-
-/// The tasks that the lines so far speak of, by the numbers of their names.
-#[derive(Drop)]
-pub struct History {
-    tasks: BTreeMap<Vec<u8>, Task>,
-}
-
-fn new_task(umask: u16) -> Task {
-    Task {
-        forks: 0,
-        umask,
-        chroot: None,
-        refused_fork: None,
+impl Task {
+    fn new(umask: u16) -> Self {
+        Task {
+            forks: 0,
+            umask,
+            chroot: None,
+            refused_fork: None,
+        }
     }
+}
+
+/// A warning about a word of a line.
+#[derive(Clone, Copy)]
+pub enum Warning<'a> {
+    /// No line forks the task of these numbers.
+    Unforked(&'a [u8]),
+    /// The umask takes bits of the mode that is the word at this place.
+    Masked {
+        word: usize,
+        mode: u16,
+        umask: u16,
+    },
+    /// The child of the task of these numbers has this number, since a line above is refused.
+    Renumbered {
+        line: u64,
+        numbers: &'a [u8],
+        child: u64,
+    },
+    /// No change of the working directory follows a change of the root.
+    Unfollowed,
+    /// The options of an overlay have an upper layer.
+    Upper,
+    /// The options of an overlay have fewer than two layers.
+    FewLayers,
 }
 
 // Appends the name of the task that these numbers name.
@@ -52,114 +64,183 @@ fn push_task(text: &mut Draft, numbers: &[u8]) {
     }
 }
 
-fn unforked(alloc: Global, numbers: &[u8]) -> Warning {
-    let mut message = Draft::new(alloc);
-    message.push("no line above forks `");
-    push_task(&mut message, numbers);
-    message.push("`");
-    Warning {
-        word: 0,
-        message,
-        help: "a task's children are `.1`, `.2` and so on, in the order of its `fork` lines",
+fn write_unforked(text: &mut Draft, numbers: &[u8]) {
+    text.push("no line above forks `");
+    push_task(text, numbers);
+    text.push("`");
+}
+
+// The bits of a mode that an umask leaves.
+fn kept_bits(mode: u16, umask: u16) -> u16 {
+    mode & (0o1777 ^ (umask & 0o1777))
+}
+
+fn write_masked(text: &mut Draft, mode: u16, umask: u16) {
+    text.push("the umask ");
+    text.push_octal(umask, 3);
+    text.push(" makes ");
+    text.push_octal(kept_bits(mode, umask), 1);
+    text.push(" of the mode ");
+    text.push_octal(mode, 1);
+}
+
+fn write_renumbered(text: &mut Draft, line: u64, numbers: &[u8], child: u64) {
+    text.push("this makes `");
+    push_task(text, numbers);
+    text.push(".");
+    text.push_number(child);
+    text.push("`, since line ");
+    text.push_number(line);
+    text.push(" is refused and forks nothing");
+}
+
+// Whether the options of an overlay name an upper layer.
+fn has_upper(options: &[u8]) -> bool {
+    for item in options.split(|byte| *byte == b',') {
+        if item.starts_with(b"upperdir=") {
+            return true;
+        }
+    }
+    false
+}
+
+impl<'a> Warning<'a> {
+    // A warning where the umask takes bits of a mode.
+    fn of_mode(word: usize, mode: Mode, umask: u16) -> Option<Self> {
+        let mode = mode.bits();
+        if kept_bits(mode, umask) == mode {
+            return None;
+        }
+        Some(Warning::Masked { word, mode, umask })
+    }
+
+    // A warning where the options of an overlay name an upper layer, or no two layers.
+    fn of_options(options: &[u8]) -> Option<Self> {
+        if has_upper(options) {
+            Some(Warning::Upper)
+        } else if options.contains(&b':') {
+            None
+        } else {
+            Some(Warning::FewLayers)
+        }
+    }
+
+    /// The place of the word in the line.
+    pub fn word(self) -> usize {
+        match self {
+            Warning::Unforked(_) => 0,
+            Warning::Masked { word, .. } => word,
+            Warning::Renumbered { .. } | Warning::Unfollowed => 1,
+            Warning::Upper | Warning::FewLayers => 4,
+        }
+    }
+
+    /// Writes it in one sentence.
+    pub fn write(self, text: &mut Draft) {
+        match self {
+            Warning::Unforked(numbers) => write_unforked(text, numbers),
+            Warning::Masked { mode, umask, .. } => write_masked(text, mode, umask),
+            Warning::Renumbered {
+                line,
+                numbers,
+                child,
+            } => write_renumbered(text, line, numbers, child),
+            Warning::Unfollowed => {
+                text.push("no `chdir` of this task follows: it stays in its old directory");
+            }
+            Warning::Upper => text.push("`upperdir` is not in this version: a run refuses it"),
+            Warning::FewLayers => text.push("fewer than two layers: a run refuses it"),
+        }
+    }
+
+    /// What to do about it.
+    pub fn help(self) -> &'static str {
+        match self {
+            Warning::Unforked(_) => {
+                "a task's children are `.1`, `.2` and so on, in the order of its `fork` lines"
+            }
+            Warning::Masked { .. } => "`chmod` sets a mode whatever the umask is",
+            Warning::Renumbered { .. } => {
+                "a refused line uses no number: mend it, or number the tasks anew"
+            }
+            Warning::Unfollowed => "`chdir /` enters the new root; until then `..` leads out of it",
+            Warning::Upper | Warning::FewLayers => {
+                "an overlay is read here, and not written: `lowerdir=/high:/low`, the top layer first"
+            }
+        }
     }
 }
 
-// A warning where the umask takes bits of a mode.
-fn umask_takes(alloc: Global, word: usize, mode: Mode, umask: u16) -> Option<Warning> {
-    let bits = mode.bits();
-    let kept = bits & (0o1777 ^ (umask & 0o1777));
-    if kept == bits {
-        return None;
-    }
-    let mut message = Draft::new(alloc);
-    message.push("the umask ");
-    message.push_octal(umask, 3);
-    message.push(" makes ");
-    message.push_octal(kept, 1);
-    message.push(" of the mode ");
-    message.push_octal(bits, 1);
-    Some(Warning {
-        word,
-        message,
-        help: "`chmod` sets a mode whatever the umask is",
-    })
-}
-
-fn renumbered(alloc: Global, line: u64, numbers: &[u8], child: u64) -> Warning {
-    let mut message = Draft::new(alloc);
-    message.push("this makes `");
-    push_task(&mut message, numbers);
-    message.push(".");
-    message.push_number(child);
-    message.push("`, since line ");
-    message.push_number(line);
-    message.push(" is refused and forks nothing");
-    Warning {
-        word: 1,
-        message,
-        help: "a refused line uses no number: mend it, or number the tasks anew",
-    }
-}
-
-/// What is said of a change of the root that no change of the working directory follows.
-pub fn unfollowed(alloc: Global) -> Warning {
-    let mut message = Draft::new(alloc);
-    message.push("no `chdir` of this task follows: it stays in its old directory");
-    Warning {
-        word: 1,
-        message,
-        help: "`chdir /` enters the new root; until then `..` leads out of it",
-    }
+/// The tasks that the lines so far speak of, by the numbers of their names. An allocation that fails is noted.
+#[derive(Drop)]
+pub struct History {
+    alloc: Global,
+    tasks: BTreeMap<Vec<u8>, Task>,
+    failed: bool,
 }
 
 impl History {
     /// The first task alone.
-    pub fn new(alloc: Global) -> Result<Self, AllocError> {
-        let mut tasks = BTreeMap::new(alloc);
-        tasks.insert(Vec::new(alloc), new_task(UMASK))?;
-        Ok(History { tasks })
+    pub fn new(alloc: Global) -> Self {
+        let mut history = History {
+            alloc,
+            tasks: BTreeMap::new(alloc),
+            failed: false,
+        };
+        history.meet(&[], UMASK);
+        history
+    }
+
+    /// Whether an allocation failed.
+    pub fn has_failed(&self) -> bool {
+        self.failed
+    }
+
+    // Begins to speak of a task, if there is memory for it.
+    fn insert(&mut self, numbers: &[u8], umask: u16) -> Result<(), AllocError> {
+        self.tasks
+            .insert(numbers.to_vec(self.alloc)?, Task::new(umask))?;
+        Ok(())
     }
 
     // Begins to speak of a task, and says whether it is new.
-    fn meet(&mut self, alloc: Global, numbers: &[u8], umask: u16) -> Result<bool, AllocError> {
-        if self.tasks.contains_key(numbers) {
-            return Ok(false);
+    fn meet(&mut self, numbers: &[u8], umask: u16) -> bool {
+        let is_new = !self.tasks.contains_key(numbers);
+        if is_new {
+            self.failed |= self.insert(numbers, umask).is_err();
         }
-        self.tasks.insert(numbers.to_vec(alloc)?, new_task(umask))?;
-        Ok(true)
+        is_new
     }
 
-    // A child of a task.
-    fn fork(&mut self, alloc: Global, numbers: &[u8]) -> Result<Option<Warning>, AllocError> {
-        let Some(task) = self.tasks.get_mut(numbers) else {
-            return Ok(None);
-        };
-        task.forks = task.forks.saturating_add(1);
-        let (forks, umask, refused) = (task.forks, task.umask, task.refused_fork);
-        task.refused_fork = None;
-        self.meet_child(alloc, numbers, forks, umask)?;
-        Ok(match refused {
-            Some(line) => Some(renumbered(alloc, line, numbers, forks)),
-            None => None,
-        })
-    }
-
-    // Begins to speak of the child of this number.
-    fn meet_child(
+    // Begins to speak of a child of the task of these numbers, if there is memory for it.
+    fn try_meet_child(
         &mut self,
-        alloc: Global,
         numbers: &[u8],
         number: u64,
         umask: u16,
     ) -> Result<(), AllocError> {
-        let mut child = numbers.to_vec(alloc)?;
+        let mut child = numbers.to_vec(self.alloc)?;
         child.push(u8::try_from(number).unwrap_or(u8::MAX))?;
-        self.meet(alloc, &child, umask)?;
+        self.meet(child.as_slice(), umask);
         Ok(())
     }
 
+    // A child of a task.
+    fn fork<'a>(&mut self, numbers: &'a [u8]) -> Option<Warning<'a>> {
+        let task = self.tasks.get_mut(numbers)?;
+        task.forks = task.forks.saturating_add(1);
+        let (child, umask, refused) = (task.forks, task.umask, task.refused_fork);
+        task.refused_fork = None;
+        self.failed |= self.try_meet_child(numbers, child, umask).is_err();
+        Some(Warning::Renumbered {
+            line: refused?,
+            numbers,
+            child,
+        })
+    }
+
     // What a call of a task leaves for later ones, if it is no fork.
-    fn apply(&mut self, alloc: Global, line: u64, numbers: &[u8], call: &Call) -> Option<Warning> {
+    fn apply<'a>(&mut self, line: u64, numbers: &'a [u8], call: &Call) -> Option<Warning<'a>> {
         let task = self.tasks.get_mut(numbers)?;
         match call {
             Call::Task(TaskCall::Umask { mode }) => task.umask = mode.bits(),
@@ -170,14 +251,17 @@ impl History {
                     mode: Some(mode),
                     ..
                 },
-            ) => return umask_takes(alloc, 3, *mode, task.umask),
+            ) => return Warning::of_mode(3, *mode, task.umask),
             Call::Descriptor(
                 DescriptorCall::Open {
                     creation: Creation::OrCreate(mode) | Creation::Exclusive(mode),
                     ..
                 },
             ) => {
-                return umask_takes(alloc, 5, *mode, task.umask);
+                return Warning::of_mode(5, *mode, task.umask);
+            }
+            Call::Mount(MountCall::Overlay { options, .. }) => {
+                return Warning::of_options(options.as_slice());
             }
             _ => {}
         }
@@ -185,24 +269,18 @@ impl History {
     }
 
     /// Goes on by a task's call in this line, and warns of what is seldom meant.
-    pub fn call(
-        &mut self,
-        alloc: Global,
-        line: u64,
-        name: &TaskName,
-        call: &Call,
-    ) -> Result<Option<Warning>, AllocError> {
+    pub fn call<'a>(&mut self, line: u64, name: &'a TaskName, call: &Call) -> Option<Warning<'a>> {
         let numbers = name.numbers();
-        let is_new = self.meet(alloc, numbers, UMASK)?;
+        let is_new = self.meet(numbers, UMASK);
         let warning = match call {
-            Call::Task(TaskCall::Fork { .. }) => self.fork(alloc, numbers)?,
-            _ => self.apply(alloc, line, numbers, call),
+            Call::Task(TaskCall::Fork { .. }) => self.fork(numbers),
+            _ => self.apply(line, numbers, call),
         };
-        Ok(if is_new {
-            Some(unforked(alloc, numbers))
+        if is_new {
+            Some(Warning::Unforked(numbers))
         } else {
             warning
-        })
+        }
     }
 
     /// Goes on by a line that was to fork a child of this task, and is refused.
@@ -213,8 +291,8 @@ impl History {
     }
 
     /// The lines that change a task's root, and behind which its working directory was not changed, in order.
-    pub fn unfollowed_chroots(&self, alloc: Global) -> Result<Vec<u64>, AllocError> {
-        let mut lines = Vec::new(alloc);
+    pub fn unfollowed_chroots(&self) -> Result<Vec<u64>, AllocError> {
+        let mut lines = Vec::new(self.alloc);
         for task in self.tasks.values() {
             if let Some(line) = task.chroot {
                 lines.push(line)?;

@@ -1,24 +1,27 @@
 //! A report as JSON, one object a line.
-use crate::finding::{Diagnosis, Help};
-use crate::object::{Object, shown as shown_bytes};
+use crate::draft::Draft;
+use crate::finding::{Diagnosis, Helper, Span};
+use crate::object::{List, Object};
 use crate::report::{Finding, Level, Report};
 use serde_json::Value;
 use std::alloc::{AllocError, Global};
 
 // The lines that are proposed, as an array.
-fn proposed(alloc: Global, help: &Help) -> Result<Value, AllocError> {
-    let mut lines = Vec::new(alloc);
-    for line in &help.lines {
-        lines.push(Value::try_from_str(alloc, line.as_str())?)?;
+fn proposed(help: &Helper) -> Result<Value, AllocError> {
+    let mut lines = List::new(help.alloc);
+    for line in help.lines() {
+        lines.push_text(line.as_str());
     }
-    Ok(Value::Array(lines))
+    if help.has_failed() {
+        lines.push(Err(AllocError));
+    }
+    lines.end()
 }
 
 // Adds where a finding is.
-fn put_place(object: &mut Object, name: &str, finding: &Finding) {
-    let span = finding.diagnosis.span;
+fn put_place(object: &mut Object, name: &str, number: u64, span: Span) {
     object.put_text("file", name);
-    object.put_number("line", finding.line);
+    object.put_number("line", number);
     object.put_number("column", (span.column as u64).saturating_add(1));
     object.put_number("width", span.width as u64);
 }
@@ -41,35 +44,37 @@ fn rule_of(level: Level) -> &'static str {
 }
 
 // Adds what is said of a finding.
-fn put_words(alloc: Global, object: &mut Object, found: &Diagnosis) {
-    object.put_text("message", found.message.as_str());
-    object.put("write", proposed(alloc, &found.help));
-    object.put_text("help", found.help.words);
+fn put_words(object: &mut Object, found: &Diagnosis) {
+    let mut message = object.draft();
+    message.push_draft(&found.message);
+    object.put_draft("message", message);
+    object.put("write", proposed(&found.help));
+    object.put_text("help", found.help.words());
     object.put_text("note", found.note);
 }
 
-/// A finding of the file of this name, as an object and a newline.
-pub fn shown(
+/// Appends a finding of the file of this name, as an object and a newline.
+pub fn push_found(
+    text: &mut Draft,
     alloc: Global,
     name: &str,
     strict: bool,
-    finding: &Finding,
-) -> Result<String, AllocError> {
-    let text = shown_bytes(alloc, &finding.text)?;
+    finding: &Finding<'_>,
+) {
     let mut object = Object::new(alloc);
-    put_place(&mut object, name, finding);
-    object.put_text("text", text.as_str());
+    put_place(&mut object, name, finding.line, finding.diagnosis.span);
+    object.put_bytes("text", finding.text);
     object.put_text("level", level_word(finding.level, strict));
     object.put_text("rule", rule_of(finding.level));
-    put_words(alloc, &mut object, &finding.diagnosis);
-    object.line()
+    put_words(&mut object, &finding.diagnosis);
+    object.push_line(text);
 }
 
-/// How much was found in the file of this name, as an object and a newline.
-pub fn summary(alloc: Global, name: &str, report: &Report) -> Result<String, AllocError> {
+/// Appends how much was found in the file of this name, as an object and a newline.
+pub fn push_summary(text: &mut Draft, alloc: Global, name: &str, report: &Report<'_>) {
     let mut object = Object::new(alloc);
     object.put_text("file", name);
     object.put_number("errors", report.errors);
     object.put_number("warnings", report.warnings);
-    object.line()
+    object.push_line(text);
 }

@@ -1,15 +1,14 @@
 //! Words that are like a given one.
 use crate::draft::Draft;
+use crate::finding::Helper;
 use crate::grammar::{CAPABILITIES, CallWords, Kind, calls};
 use crate::unmodelled::is_unmodelled;
-use std::alloc::{AllocError, Global};
 use strsim::osa_distance;
 use vt_line::version::Version;
 
 // The search for a word that is like a text.
-#[derive(Drop)]
+#[derive(Clone, Copy)]
 struct Search<'a> {
-    alloc: Global,
     text: &'a str,
     // The word that is most like it so far, and how many letters may differ of another.
     found: Option<&'static str>,
@@ -18,66 +17,60 @@ struct Search<'a> {
 
 impl<'a> Search<'a> {
     // At most two letters may differ, or one of a text of up to four.
-    fn new(alloc: Global, text: &'a str) -> Self {
+    fn new(text: &'a str) -> Self {
         Search {
-            alloc,
             text,
             found: None,
             least: if text.len() <= 4 { 2 } else { 3 },
         }
     }
 
-    fn compare(&mut self, word: &'static str) -> Result<(), AllocError> {
-        let distance = osa_distance(self.alloc, self.text, word)?;
-        if distance < self.least {
-            self.least = distance;
-            self.found = Some(word);
+    fn compare(&mut self, helper: &mut Helper, word: &'static str) {
+        match osa_distance(helper.alloc, self.text, word) {
+            Ok(distance) if distance < self.least => {
+                self.least = distance;
+                self.found = Some(word);
+            }
+            Ok(_) => {}
+            Err(_) => helper.fail(),
         }
-        Ok(())
     }
 
-    fn compare_calls(&mut self, calls: &'static [CallWords]) -> Result<(), AllocError> {
+    fn compare_calls(&mut self, helper: &mut Helper, calls: &'static [CallWords]) {
         for call in calls {
-            self.compare(call.name)?;
+            self.compare(helper, call.name);
         }
-        Ok(())
     }
 }
 
-/// The word of the list that is like the text: at most two letters differ, or one of a text of up to four.
-pub fn nearest(
-    alloc: Global,
-    text: &str,
-    words: &[&'static str],
-) -> Result<Option<&'static str>, AllocError> {
-    let mut search = Search::new(alloc, text);
+// The word of the list that is like the text: at most two letters differ, or one of a text of up to four.
+fn nearest(helper: &mut Helper, text: &str, words: &[&'static str]) -> Option<&'static str> {
+    let mut search = Search::new(text);
     for word in words {
-        search.compare(*word)?;
+        search.compare(helper, *word);
     }
-    Ok(search.found)
+    search.found
 }
 
 // The name of the call that is like a text in lower case.
-fn nearest_name(
-    version: Version,
-    alloc: Global,
-    text: &str,
-) -> Result<Option<&'static str>, AllocError> {
-    let mut search = Search::new(alloc, text);
+fn nearest_name(helper: &mut Helper, version: Version, text: &str) -> Option<&'static str> {
+    let mut search = Search::new(text);
     for part in calls(version) {
-        search.compare_calls(part)?;
+        search.compare_calls(helper, part);
     }
-    Ok(search.found)
+    search.found
 }
 
 /// The name of the call that is like the text in whichever case, in a version of the language.
-pub fn nearest_call(
-    version: Version,
-    alloc: Global,
-    text: &str,
-) -> Result<Option<&'static str>, AllocError> {
-    let text = text.to_ascii_lowercase(alloc)?;
-    nearest_name(version, alloc, text.as_str())
+pub fn nearest_call(helper: &mut Helper, version: Version, text: &str) -> Option<&'static str> {
+    let mut lower = helper.draft();
+    for character in text.chars() {
+        lower.push_char(character.to_ascii_lowercase());
+    }
+    let lower = helper.ended(lower)?;
+    let name = nearest_name(helper, version, lower.as_str());
+    drop(lower);
+    name
 }
 
 // The word that stands for the text in a kind.
@@ -90,28 +83,42 @@ fn synonym(version: Version, kind: Kind, text: &str) -> Option<&'static str> {
     None
 }
 
-// The capability that a name means.
-fn capability(alloc: Global, name: &str) -> Result<Option<&'static str>, AllocError> {
-    let name = name.to_ascii_uppercase(alloc)?;
-    let mut whole = Draft::new(alloc);
-    whole.push("CAP_");
-    whole.push(name.as_str().strip_prefix("CAP_").unwrap_or(name.as_str()));
-    let whole = whole.end()?;
-    if is_unmodelled(whole.as_str()) {
-        return Ok(None);
+// The capability that a whole name means.
+fn modelled(helper: &mut Helper, name: &str) -> Option<&'static str> {
+    if is_unmodelled(name) {
+        return None;
     }
-    nearest(alloc, whole.as_str(), &CAPABILITIES)
+    nearest(helper, name, &CAPABILITIES)
+}
+
+// The capability that a name means, in whichever case, with or without `CAP_`.
+fn capability(helper: &mut Helper, name: &str) -> Option<&'static str> {
+    let mut whole = helper.draft();
+    if !name
+        .get(..4)
+        .unwrap_or_default()
+        .eq_ignore_ascii_case("CAP_")
+    {
+        whole.push("CAP_");
+    }
+    for character in name.chars() {
+        whole.push_char(character.to_ascii_uppercase());
+    }
+    let whole = helper.ended(whole)?;
+    let found = modelled(helper, whole.as_str());
+    drop(whole);
+    found
 }
 
 // Writes the names of capabilities, each as it is meant, and says whether all are clear.
-fn write_capabilities(alloc: Global, text: &str, names: &mut Draft) -> Result<bool, AllocError> {
+fn write_capabilities(helper: &mut Helper, text: &str, names: &mut Draft) -> bool {
     for part in text.split([',', '+', ';']) {
-        match capability(alloc, part)? {
+        match capability(helper, part) {
             Some(name) => names.push_after(",", name),
-            None => return Ok(false),
+            None => return false,
         }
     }
-    Ok(true)
+    true
 }
 
 // Writes a mode without what a shell or a language writes before it, and says whether there is something.
@@ -152,36 +159,49 @@ fn write_groups(text: &str, groups: &mut Draft) {
 
 // Writes the word of a list that is like the text, and says whether there is one.
 fn write_nearest(
-    alloc: Global,
+    helper: &mut Helper,
     text: &str,
     words: &[&'static str],
     word: &mut Draft,
-) -> Result<bool, AllocError> {
-    let found = nearest(alloc, text, words)?;
+) -> bool {
+    let found = nearest(helper, text, words);
     word.push(found.unwrap_or_default());
-    Ok(found.is_some())
+    found.is_some()
+}
+
+// Writes the word of a kind that a text means, where none stands for it, and says whether one is clear.
+fn write_meant(
+    helper: &mut Helper,
+    version: Version,
+    kind: Kind,
+    text: &str,
+    word: &mut Draft,
+) -> bool {
+    match kind {
+        Kind::Capabilities => write_capabilities(helper, text, word),
+        Kind::Mode => write_mode(text, word),
+        Kind::Task => write_task(text, word),
+        Kind::Groups => {
+            write_groups(text, word);
+            true
+        }
+        _ => write_nearest(helper, text, kind.words(version).choices, word),
+    }
 }
 
 /// Writes the word of a kind that a text means, and says whether one is clear.
 pub fn write_corrected(
+    helper: &mut Helper,
     version: Version,
-    alloc: Global,
     kind: Kind,
     text: &str,
     word: &mut Draft,
-) -> Result<bool, AllocError> {
-    if let Some(synonym) = synonym(version, kind, text) {
-        word.push(synonym);
-        return Ok(true);
-    }
-    match kind {
-        Kind::Capabilities => write_capabilities(alloc, text, word),
-        Kind::Mode => Ok(write_mode(text, word)),
-        Kind::Task => Ok(write_task(text, word)),
-        Kind::Groups => {
-            write_groups(text, word);
-            Ok(true)
+) -> bool {
+    match synonym(version, kind, text) {
+        Some(synonym) => {
+            word.push(synonym);
+            true
         }
-        _ => write_nearest(alloc, text, kind.words(version).choices, word),
+        None => write_meant(helper, version, kind, text, word),
     }
 }

@@ -3,51 +3,8 @@ use crate::draft::Draft;
 use serde_json::{Map, Value};
 use std::alloc::{AllocError, Global};
 
-/// The members of an object.
-pub type Members = Map<String, Value>;
-
-/// Adds a member.
-pub fn put(
-    alloc: Global,
-    members: &mut Members,
-    name: &str,
-    value: Value,
-) -> Result<(), AllocError> {
-    members.insert(String::from_str(alloc, name)?, value)?;
-    Ok(())
-}
-
-/// Adds a text.
-pub fn put_text(
-    alloc: Global,
-    members: &mut Members,
-    name: &str,
-    text: &str,
-) -> Result<(), AllocError> {
-    let value = Value::try_from_str(alloc, text)?;
-    put(alloc, members, name, value)
-}
-
-/// Adds a number.
-pub fn put_number(
-    alloc: Global,
-    members: &mut Members,
-    name: &str,
-    number: u64,
-) -> Result<(), AllocError> {
-    put(alloc, members, name, Value::from(number))
-}
-
-/// Bytes as they are shown.
-pub fn shown(alloc: Global, bytes: &[u8]) -> Result<String, AllocError> {
-    let mut text = Draft::new(alloc);
-    text.push_bytes(bytes);
-    text.end()
-}
-
-/// The object as a line.
-pub fn line_of(alloc: Global, members: Members) -> Result<String, AllocError> {
-    let object = Value::Object(members);
+// An object as a line.
+fn line_of(alloc: Global, object: &Value) -> Result<String, AllocError> {
     let mut line = object.to_string(alloc)?;
     line.push('\n')?;
     Ok(line)
@@ -57,7 +14,7 @@ pub fn line_of(alloc: Global, members: Members) -> Result<String, AllocError> {
 #[derive(Drop)]
 pub struct Object {
     alloc: Global,
-    members: Members,
+    members: Map<String, Value>,
     failed: bool,
 }
 
@@ -66,14 +23,17 @@ impl Object {
     pub fn new(alloc: Global) -> Self {
         Object {
             alloc,
-            members: Members::new(alloc),
+            members: Map::new(alloc),
             failed: false,
         }
     }
 
     // Adds a member, if there is memory for its value.
     fn try_put(&mut self, name: &str, value: Result<Value, AllocError>) -> Result<(), AllocError> {
-        put(self.alloc, &mut self.members, name, value?)
+        let value = value?;
+        self.members
+            .insert(String::from_str(self.alloc, name)?, value)?;
+        Ok(())
     }
 
     /// Adds a member.
@@ -84,6 +44,13 @@ impl Object {
     /// Adds a text.
     pub fn put_text(&mut self, name: &str, text: &str) {
         self.put(name, Value::try_from_str(self.alloc, text));
+    }
+
+    /// Adds bytes as they are shown.
+    pub fn put_bytes(&mut self, name: &str, bytes: &[u8]) {
+        let mut text = self.draft();
+        text.push_bytes(bytes);
+        self.put_draft(name, text);
     }
 
     /// Adds a text that was written.
@@ -113,12 +80,74 @@ impl Object {
         }
     }
 
+    /// Appends the object as a line, or notes that an allocation failed.
+    pub fn push_line(self, text: &mut Draft) {
+        match self.line() {
+            Ok(line) => text.push(line.as_str()),
+            Err(_) => text.fail(),
+        }
+    }
+
     /// The object as a line, if no allocation failed.
     pub fn line(self) -> Result<String, AllocError> {
         if self.failed {
             Err(AllocError)
         } else {
-            line_of(self.alloc, self.members)
+            line_of(self.alloc, &Value::Object(self.members))
+        }
+    }
+}
+
+/// A list that is being written. An allocation that fails is noted, and told at the end.
+#[derive(Drop)]
+pub struct List {
+    alloc: Global,
+    values: Vec<Value>,
+    failed: bool,
+}
+
+impl List {
+    /// The empty list.
+    pub fn new(alloc: Global) -> Self {
+        List {
+            alloc,
+            values: Vec::new(alloc),
+            failed: false,
+        }
+    }
+
+    // Appends a value, if there is memory for it.
+    fn try_push(&mut self, value: Result<Value, AllocError>) -> Result<(), AllocError> {
+        self.values.push(value?)?;
+        Ok(())
+    }
+
+    /// Appends a value.
+    pub fn push(&mut self, value: Result<Value, AllocError>) {
+        self.failed |= self.try_push(value).is_err();
+    }
+
+    /// Appends a text.
+    pub fn push_text(&mut self, text: &str) {
+        self.push(Value::try_from_str(self.alloc, text));
+    }
+
+    /// Appends bytes as they are shown.
+    pub fn push_bytes(&mut self, bytes: &[u8]) {
+        let mut text = Draft::new(self.alloc);
+        text.push_bytes(bytes);
+        match text.end() {
+            Ok(text) => self.push_text(text.as_str()),
+            Err(_) => self.failed = true,
+        }
+    }
+
+    /// The list as a value, if no allocation failed.
+    pub fn end(self) -> Result<Value, AllocError> {
+        if self.failed {
+            Err(AllocError)
+        } else {
+            Ok(Value::Array(self.values))
         }
     }
 }

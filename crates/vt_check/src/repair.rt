@@ -32,14 +32,13 @@ fn replace(helper: &mut Helper, line: Given<'_>, at: Word<'_>, text: &str) -> bo
 // Proposes the line with what a word of this kind means in its place.
 fn mend(helper: &mut Helper, line: Given<'_>, kind: Kind, at: Word<'_>) -> bool {
     let mut text = helper.draft();
-    let is_clear = write_corrected(line.version, helper.alloc, kind, at.text, &mut text);
-    if !helper.noted(is_clear) {
+    let is_clear = write_corrected(helper, line.version, kind, at.text, &mut text);
+    let Some(text) = helper.ended(text) else {
         return false;
-    }
-    match helper.ended(text) {
-        Some(text) => replace(helper, line, at, text.as_str()),
-        None => false,
-    }
+    };
+    let is_mended = is_clear && replace(helper, line, at, text.as_str());
+    drop(text);
+    is_mended
 }
 
 // What stands for an owner or a group, where it may be left out.
@@ -148,17 +147,6 @@ fn help_task(helper: &mut Helper, line: Given<'_>, at: Word<'_>) {
     }
 }
 
-// The name of the call that is like a word.
-fn call_like(helper: &mut Helper, line: Given<'_>, at: Word<'_>) -> Option<&'static str> {
-    match nearest_call(line.version, helper.alloc, at.text) {
-        Ok(name) => name,
-        Err(_) => {
-            helper.fail();
-            None
-        }
-    }
-}
-
 // How a call is used.
 fn usage_of(line: Given<'_>, name: &str) -> &'static str {
     match call_named(line.version, name) {
@@ -172,7 +160,7 @@ fn help_call(helper: &mut Helper, line: Given<'_>, at: Word<'_>) {
     if is_known(at.text) {
         return;
     }
-    if let Some(name) = call_like(helper, line, at) {
+    if let Some(name) = nearest_call(helper, line.version, at.text) {
         if !replace(helper, line, at, name) {
             helper.say(usage_of(line, name));
         }
@@ -249,7 +237,7 @@ fn help_parents(helper: &mut Helper, line: Given<'_>) -> bool {
         return false;
     };
     propose_parents(helper, who.text, path.text);
-    if helper.count() >= 9 {
+    if helper.lines().len() >= 9 {
         helper.take_back();
         return false;
     }
@@ -323,7 +311,7 @@ fn help_rewritten(helper: &mut Helper, line: Given<'_>, fault: Fault<'_>) -> boo
 }
 
 /// Writes what to write in the place of a line with this fault.
-pub fn help(helper: &mut Helper, line: Given<'_>, fault: Fault<'_>) {
+pub fn write_help(helper: &mut Helper, line: Given<'_>, fault: Fault<'_>) {
     if is_of_test(line) {
         helper.say(OF_TEST);
     } else if !mend_bad(helper, line, fault) && !help_rewritten(helper, line, fault) {

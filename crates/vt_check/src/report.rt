@@ -6,8 +6,8 @@ ghost use Rattle.vt_lines.specs.Refused.{is_refused, refused_in};
 use crate::bytes::byte_fault;
 use crate::diagnose::diagnosis;
 use crate::draft::Draft;
-use crate::finding::{Diagnosis, Help};
-use crate::history::{History, Warning, unfollowed};
+use crate::finding::{Diagnosis, Helper};
+use crate::history::{History, Warning};
 use crate::words::word_at;
 use std::alloc::{AllocError, Global};
 use strsim::osa_distance;
@@ -30,20 +30,20 @@ pub enum Level {
 
 /// Something found in a line.
 #[derive(Drop)]
-pub struct Finding {
+pub struct Finding<'a> {
     /// The number of the line, from 1.
     pub line: u64,
     /// The line itself.
-    pub text: Vec<u8>,
+    pub text: &'a [u8],
     pub level: Level,
     pub diagnosis: Diagnosis,
 }
 
 /// What is found in a script.
 #[derive(Drop)]
-pub struct Report {
+pub struct Report<'a> {
     /// The first of them, in the order of their lines.
-    pub findings: Vec<Finding>,
+    pub findings: Vec<Finding<'a>>,
     /// How many lines a run refuses by S1.
     pub errors: u64,
     pub warnings: u64,
@@ -51,24 +51,30 @@ pub struct Report {
     pub further: [u64; 4],
 }
 
-// What is found so far.
+// What is found so far. An allocation that fails is noted, and told at the end.
 #[derive(Drop)]
-struct Scan {
+struct Scan<'a> {
+    version: Version,
+    alloc: Global,
     history: History,
-    findings: Vec<Finding>,
+    findings: Vec<Finding<'a>>,
     warnings: u64,
     // How many lines have each of the faults that are told once a file.
     told: [u64; 4],
+    failed: bool,
 }
 
-impl Scan {
-    fn new(alloc: Global) -> Result<Self, AllocError> {
-        Ok(Scan {
-            history: History::new(alloc)?,
+impl<'a> Scan<'a> {
+    fn new(version: Version, alloc: Global) -> Self {
+        Scan {
+            version,
+            alloc,
+            history: History::new(alloc),
             findings: Vec::new(alloc),
             warnings: 0,
             told: [0; 4],
-        })
+            failed: false,
+        }
     }
 
     // Whether the fault of a refused line was told before in this file.
@@ -86,42 +92,48 @@ impl Scan {
         *count > 1
     }
 
-    // Keeps a finding, if not too many are kept.
-    fn find(
-        &mut self,
-        alloc: Global,
-        number: u64,
-        line: &[u8],
-        level: Level,
-        diagnosis: Diagnosis,
-    ) -> Result<(), AllocError> {
-        if self.findings.len() < MOST_SHOWN {
-            self.findings.push(Finding {
-                line: number,
-                text: line.to_vec(alloc)?,
-                level,
-                diagnosis,
-            })?;
+    // Whether so many findings are kept that no more are shown.
+    fn is_full(&self) -> bool {
+        self.findings.len() >= MOST_SHOWN
+    }
+
+    // Keeps a finding.
+    fn find(&mut self, number: u64, line: &'a [u8], level: Level, diagnosis: Diagnosis) {
+        let kept = self.findings.push(Finding {
+            line: number,
+            text: line,
+            level,
+            diagnosis,
+        });
+        self.failed |= kept.is_err();
+    }
+
+    // Whether a word is `fork`, or one like it.
+    fn is_like_fork(&mut self, word: &str) -> bool {
+        if !matches!(word.len(), 3..=5) {
+            return false;
         }
-        Ok(())
+        match osa_distance(self.alloc, word, "fork") {
+            Ok(distance) => distance <= 1,
+            Err(_) => {
+                self.failed = true;
+                false
+            }
+        }
     }
 
     // Goes on by a refused line, if it was to fork a child.
-    fn refuse_fork(
-        &mut self,
-        version: Version,
-        alloc: Global,
-        number: u64,
-        line: &[u8],
-    ) -> Result<(), AllocError> {
-        let text = str::from_utf8(line).unwrap_or_default();
-        if !is_like_fork(alloc, word_at(text, 1).text)? {
-            return Ok(());
+    fn refuse_fork(&mut self, number: u64, line: &str) {
+        if !self.is_like_fork(word_at(line, 1).text) {
+            return;
         }
-        let read = exit_of(version, alloc, word_at(text, 0).text)?;
-        self.refuse_fork_of(number, &read);
-        drop(read);
-        Ok(())
+        match exit_of(self.version, self.alloc, word_at(line, 0).text) {
+            Ok(read) => {
+                self.refuse_fork_of(number, &read);
+                drop(read);
+            }
+            Err(_) => self.failed = true,
+        }
     }
 
     // Goes on by a refused line of this number that was to fork a child of the task of another line.
@@ -132,89 +144,91 @@ impl Scan {
     }
 
     // Keeps what is wrong with a refused line.
-    fn refuse(
-        &mut self,
-        version: Version,
-        alloc: Global,
-        number: u64,
-        line: &[u8],
-    ) -> Result<(), AllocError> {
-        self.refuse_fork(version, alloc, number, line)?;
-        if self.is_told(line) || self.findings.len() >= MOST_SHOWN {
-            return Ok(());
+    fn refuse(&mut self, number: u64, line: &'a [u8]) {
+        self.refuse_fork(number, str::from_utf8(line).unwrap_or_default());
+        if !self.is_told(line) && !self.is_full() {
+            let found = diagnosis(self.version, self.alloc, line);
+            self.find(number, line, Level::Error, found);
         }
-        let found = diagnosis(version, alloc, line)?;
-        self.find(alloc, number, line, Level::Error, found)
     }
 
     // Keeps a warning about a line.
-    fn warn(
-        &mut self,
-        alloc: Global,
-        number: u64,
-        line: &[u8],
-        warning: Warning,
-    ) -> Result<(), AllocError> {
+    fn warn(&mut self, number: u64, line: &'a [u8], warning: Warning<'_>) {
         self.warnings = self.warnings.saturating_add(1);
-        let found = warned(alloc, line, warning)?;
-        self.find(alloc, number, line, Level::Warning, found)
-    }
-
-    // Goes on by a line, and says whether a run refuses it.
-    fn take(
-        &mut self,
-        version: Version,
-        alloc: Global,
-        number: u64,
-        line: &[u8],
-    ) -> Result<bool, AllocError>
-        ensures { IfOk result (λ refused. refused ≡ is_refused (version_of version) line.now) }
-    {
-        let read = reading(version, alloc, line)?;
-        let refused = read.is_none();
-        let followed = self.follow(version, alloc, number, line, &read);
-        drop(read);
-        followed?;
-        Ok(refused)
+        if !self.is_full() {
+            let found = warned(self.version, self.alloc, line, warning);
+            self.find(number, line, Level::Warning, found);
+        }
     }
 
     // Goes on by a line as a run reads it, or by one that it refuses.
-    fn follow(
-        &mut self,
-        version: Version,
-        alloc: Global,
-        number: u64,
-        line: &[u8],
-        read: &Option<Line>,
-    ) -> Result<(), AllocError> {
+    fn follow(&mut self, number: u64, line: &'a [u8], read: &Option<Line>) {
         match read {
-            None => self.refuse(version, alloc, number, line),
-            Some(Line::Call(name, call)) => self.called(alloc, number, line, name, call),
-            Some(_) => Ok(()),
+            None => self.refuse(number, line),
+            Some(Line::Call(name, call)) => self.called(number, line, name, call),
+            Some(_) => {}
         }
     }
 
     // Goes on by a task's call.
-    fn called(
-        &mut self,
-        alloc: Global,
-        number: u64,
-        line: &[u8],
-        name: &TaskName,
-        call: &Call,
-    ) -> Result<(), AllocError> {
-        match self.history.call(alloc, number, name, call)? {
-            Some(warning) => self.warn(alloc, number, line, warning),
-            None => Ok(()),
+    fn called(&mut self, number: u64, line: &'a [u8], name: &TaskName, call: &Call) {
+        if let Some(warning) = self.history.call(number, name, call) {
+            self.warn(number, line, warning);
+        }
+    }
+
+    // Goes on by a line, and says whether a run refuses it, in this version of the language.
+    fn take(&mut self, version: Version, number: u64, line: &'a [u8]) -> Result<bool, AllocError>
+        ensures { IfOk result (λ refused. refused ≡ is_refused (version_of version) line.now) }
+    {
+        let read = reading(version, self.alloc, line)?;
+        let refused = read.is_none();
+        self.follow(number, line, &read);
+        drop(read);
+        Ok(refused)
+    }
+
+    // Goes on by all lines of a text in this version of the language, and says how many a run refuses.
+    #[tactic(auto, using(vt_lines::proofs::LineLemmas::refused_lines))]
+    fn take_all(&mut self, version: Version, text: &'a [u8]) -> Result<u64, AllocError>
+        ensures { IfOk result (λ errors. errors ≡ refused_in (version_of version) text.now) }
+    {
+        let mut rest = text;
+        let mut number: u64 = 0;
+        let mut errors: u64 = 0;
+        while let Some((line, after)) = first_line(rest) {
+            number = number.saturating_add(1);
+            if self.take(version, number, line)? {
+                errors += 1;
+            }
+            rest = after;
+        }
+        Ok(errors)
+    }
+
+    // Warns of changes of the root, in these lines, that no change of the working directory follows.
+    fn warn_of(&mut self, text: &'a [u8], numbers: &[u64]) {
+        for number in numbers {
+            self.warn(*number, line_of(text, *number), Warning::Unfollowed);
         }
     }
 
     // Warns of each change of the root that no change of the working directory follows.
-    fn warn_of_chroots(&mut self, alloc: Global, text: &[u8]) -> Result<(), AllocError> {
-        for number in self.history.unfollowed_chroots(alloc)? {
-            self.warn(alloc, number, line_of(text, number), unfollowed(alloc))?;
+    fn warn_of_chroots(&mut self, text: &'a [u8]) {
+        match self.history.unfollowed_chroots() {
+            Ok(numbers) => {
+                self.warn_of(text, numbers.as_slice());
+                drop(numbers);
+            }
+            Err(_) => self.failed = true,
         }
-        Ok(())
+    }
+
+    // Goes on behind the last line: warns, and puts the findings in the order of their lines.
+    fn finish(&mut self, text: &'a [u8]) {
+        self.warn_of_chroots(text);
+        let sorted = self.findings.sort_by_key(|finding| finding.line);
+        self.failed |= self.history.has_failed() || sorted.is_err();
     }
 }
 
@@ -226,29 +240,30 @@ fn line_of(text: &[u8], number: u64) -> &[u8] {
         .unwrap_or_default()
 }
 
-// Whether a word is `fork`, or one like it.
-fn is_like_fork(alloc: Global, word: &str) -> Result<bool, AllocError> {
-    Ok(matches!(word.len(), 3..=5) && osa_distance(alloc, word, "fork")? <= 1)
-}
-
 // The line by which a task of this name ends, if the name is one.
 fn exit_of(version: Version, alloc: Global, name: &str) -> Result<Option<Line>, AllocError> {
     let mut exit = Draft::new(alloc);
     exit.push(name);
     exit.push(" exit");
     let exit = exit.end()?;
-    reading(version, alloc, exit.as_bytes())
+    let read = reading(version, alloc, exit.as_bytes());
+    drop(exit);
+    read
 }
 
 // A warning with its place in the line.
-fn warned(alloc: Global, line: &[u8], warning: Warning) -> Result<Diagnosis, AllocError> {
+fn warned(version: Version, alloc: Global, line: &[u8], warning: Warning<'_>) -> Diagnosis {
     let text = str::from_utf8(line).unwrap_or_default();
-    Ok(Diagnosis {
-        span: word_at(text, warning.word).span(),
-        help: Help::words(alloc, warning.help),
-        message: warning.message.end()?,
+    let mut help = Helper::new(version, alloc);
+    help.say(warning.help());
+    let mut message = help.draft();
+    warning.write(&mut message);
+    Diagnosis {
+        span: word_at(text, warning.word()).span(),
+        message,
+        help,
         note: "",
-    })
+    }
 }
 
 // How many lines have a fault that was told at the first of them.
@@ -263,14 +278,14 @@ fn further(told: [u64; 4]) -> [u64; 4] {
 }
 
 // The report of a scan that has come to the end of a text.
-fn ended(mut scan: Scan, alloc: Global, text: &[u8], errors: u64) -> Result<Report, AllocError>
+fn ended<'a>(scan: Scan<'a>, errors: u64) -> Result<Report<'a>, AllocError>
     ensures { IfOk result (λ report. report.errors ≡ errors) }
 {
-    scan.warn_of_chroots(alloc, text)?;
-    let mut findings = scan.findings;
-    findings.sort_by_key(|finding| finding.line)?;
+    if scan.failed {
+        return Err(AllocError);
+    }
     Ok(Report {
-        findings,
+        findings: scan.findings,
         errors,
         warnings: scan.warnings,
         further: further(scan.told),
@@ -278,20 +293,15 @@ fn ended(mut scan: Scan, alloc: Global, text: &[u8], errors: u64) -> Result<Repo
 }
 
 /// What is found in a script, in a version of its language. As many lines are errors as a run refuses by S1.
-#[tactic(auto, using(vt_lines::proofs::LineLemmas::refused_lines))]
-pub fn report_of(version: Version, alloc: Global, text: &[u8]) -> Result<Report, AllocError>
+pub fn report_of(version: Version, alloc: Global, text: &[u8]) -> Result<Report<'_>, AllocError>
     ensures { IfOk result (λ report. report.errors ≡ refused_in (version_of version) text.now) }
 {
-    let mut scan = Scan::new(alloc)?;
-    let mut rest = text;
-    let mut number: u64 = 0;
-    let mut errors: u64 = 0;
-    while let Some((line, after)) = first_line(rest) {
-        number = number.saturating_add(1);
-        if scan.take(version, alloc, number, line)? {
-            errors += 1;
+    let mut scan = Scan::new(version, alloc);
+    match scan.take_all(version, text) {
+        Ok(errors) => {
+            scan.finish(text);
+            ended(scan, errors)
         }
-        rest = after;
+        Err(error) => Err(error),
     }
-    ended(scan, alloc, text, errors)
 }

@@ -1,8 +1,7 @@
 //! A report as text, in the form of a compiler's errors.
 use crate::draft::Draft;
-use crate::finding::{Help, Span};
-use crate::report::{Finding, Level, Report};
-use std::alloc::{AllocError, Global};
+use crate::finding::{Diagnosis, Helper, Span};
+use crate::report::{Level, Report};
 
 // The most columns of a line of a script that are shown.
 const MOST_COLUMNS: usize = 84;
@@ -93,8 +92,8 @@ fn push_remark(text: &mut Draft, number: u64, kind: &str, said: &str) {
 }
 
 // Appends the lines that are proposed, in one sentence.
-fn push_proposed(text: &mut Draft, number: u64, help: &Help) {
-    for (place, line) in help.lines.iter().enumerate() {
+fn push_proposed(text: &mut Draft, number: u64, help: &Helper) {
+    for (place, line) in help.lines().iter().enumerate() {
         if place == 0 {
             push_margin(text, number, " = help: write ");
         } else {
@@ -102,30 +101,32 @@ fn push_proposed(text: &mut Draft, number: u64, help: &Help) {
         }
         text.push_quoted(line.as_str());
     }
-    if !help.lines.is_empty() {
+    if !help.lines().is_empty() {
         text.push("\n");
     }
 }
 
 // Appends what follows the excerpt: what to write, and what else is to be known.
-fn push_help(text: &mut Draft, number: u64, help: &Help, note: &str) {
+fn push_help(text: &mut Draft, number: u64, help: &Helper, note: &str) {
+    if help.has_failed() {
+        text.fail();
+    }
     push_proposed(text, number, help);
-    let kind = if help.lines.is_empty() {
+    let kind = if help.lines().is_empty() {
         "help"
     } else {
         "note"
     };
-    push_remark(text, number, kind, help.words);
+    push_remark(text, number, kind, help.words());
     push_remark(text, number, "note", note);
 }
 
 // Appends the excerpt with its carets.
-fn push_excerpt(text: &mut Draft, finding: &Finding) {
-    let number = finding.line;
+fn push_excerpt(text: &mut Draft, number: u64, line: &[u8], span: Span) {
     push_margin(text, number, " |\n");
     text.push_number(number);
     text.push(" | ");
-    let carets = push_part(text, &finding.text, finding.diagnosis.span);
+    let carets = push_part(text, line, span);
     text.push("\n");
     push_margin(text, number, " | ");
     text.push_times(' ', carets.before);
@@ -134,34 +135,36 @@ fn push_excerpt(text: &mut Draft, finding: &Finding) {
 }
 
 // Appends where a finding is.
-fn push_place(text: &mut Draft, name: &str, finding: &Finding) {
-    push_margin(text, finding.line, "--> ");
+fn push_place(text: &mut Draft, name: &str, number: u64, span: Span) {
+    push_margin(text, number, "--> ");
     text.push(name);
     text.push(":");
-    text.push_number(finding.line);
+    text.push_number(number);
     text.push(":");
-    text.push_number((finding.diagnosis.span.column as u64).saturating_add(1));
+    text.push_number((span.column as u64).saturating_add(1));
     text.push("\n");
 }
 
-/// A finding of the file of this name, as several lines and an empty one.
-pub fn shown(
-    alloc: Global,
-    name: &str,
-    strict: bool,
-    finding: &Finding,
-) -> Result<String, AllocError> {
-    let found = &finding.diagnosis;
-    let mut text = Draft::new(alloc);
-    text.push(level_word(finding.level, strict));
+/// A line of a file, and how grave what is found in it is, where warnings are errors or not.
+#[derive(Clone, Copy)]
+pub struct Place<'a> {
+    pub name: &'a str,
+    pub number: u64,
+    pub line: &'a [u8],
+    pub level: Level,
+    pub strict: bool,
+}
+
+/// Appends what is found in a line, as several lines and an empty one.
+pub fn push_found(text: &mut Draft, place: Place<'_>, found: &Diagnosis) {
+    text.push(level_word(place.level, place.strict));
     text.push(": ");
-    text.push(found.message.as_str());
+    text.push_draft(&found.message);
     text.push("\n");
-    push_place(&mut text, name, finding);
-    push_excerpt(&mut text, finding);
-    push_help(&mut text, finding.line, &found.help, found.note);
+    push_place(text, place.name, place.number, found.span);
+    push_excerpt(text, place.number, place.line, found.span);
+    push_help(text, place.number, &found.help, found.note);
     text.push("\n");
-    text.end()
 }
 
 // Appends how many of a thing there are.
@@ -182,7 +185,7 @@ fn push_further(text: &mut Draft, count: u64, what: &str) {
 }
 
 // How many lines have a fault that was told once before.
-fn told_before(report: &Report) -> u64 {
+fn told_before(report: &Report<'_>) -> u64 {
     let mut told: u64 = 0;
     for count in &report.further {
         told = told.saturating_add(*count);
@@ -191,7 +194,7 @@ fn told_before(report: &Report) -> u64 {
 }
 
 // Appends how many findings are not shown, if there are some.
-fn push_hidden(text: &mut Draft, report: &Report, found: u64) {
+fn push_hidden(text: &mut Draft, report: &Report<'_>, found: u64) {
     let shown = u64::try_from(report.findings.len()).unwrap_or(u64::MAX);
     let hidden = found
         .saturating_sub(told_before(report))
@@ -204,7 +207,7 @@ fn push_hidden(text: &mut Draft, report: &Report, found: u64) {
 }
 
 // Appends how many errors and warnings there are in a file.
-fn push_counts(text: &mut Draft, name: &str, report: &Report) {
+fn push_counts(text: &mut Draft, name: &str, report: &Report<'_>) {
     text.push(name);
     text.push(": ");
     push_count(text, report.errors, "error", "errors");
@@ -213,18 +216,16 @@ fn push_counts(text: &mut Draft, name: &str, report: &Report) {
     text.push("\n");
 }
 
-/// What is said behind the findings of the file of this name; nothing where nothing was found.
-pub fn summary(alloc: Global, name: &str, report: &Report) -> Result<String, AllocError> {
-    let mut text = Draft::new(alloc);
+/// Appends what is said behind the findings of the file of this name; nothing where nothing was found.
+pub fn push_summary(text: &mut Draft, name: &str, report: &Report<'_>) {
     let [crlf, mark, tab, high] = report.further;
-    push_further(&mut text, crlf, "CR LF at the end");
-    push_further(&mut text, mark, "a byte order mark");
-    push_further(&mut text, tab, "a tab");
-    push_further(&mut text, high, "a byte above 0x7e");
+    push_further(text, crlf, "CR LF at the end");
+    push_further(text, mark, "a byte order mark");
+    push_further(text, tab, "a tab");
+    push_further(text, high, "a byte above 0x7e");
     let found = report.errors.saturating_add(report.warnings);
     if found > 0 {
-        push_hidden(&mut text, report, found);
-        push_counts(&mut text, name, report);
+        push_hidden(text, report, found);
+        push_counts(text, name, report);
     }
-    text.end()
 }

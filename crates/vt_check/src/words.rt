@@ -1,6 +1,5 @@
 //! The words of a line, with their places.
-use crate::finding::Span;
-use std::alloc::{AllocError, Global};
+use crate::finding::{Helper, Span};
 use vt_line::version::Version;
 
 /// A word, and the column where it begins, counted from 0.
@@ -48,17 +47,17 @@ impl<'a> Given<'a> {
     }
 }
 
-/// The words between the spaces of a line.
-pub fn words_of<'a>(alloc: Global, line: &'a str) -> Result<Vec<Word<'a>>, AllocError> {
-    let mut words = Vec::new(alloc);
+/// The words between the spaces of a line. An allocation that fails is noted with the help.
+pub fn words_of<'a>(help: &mut Helper, line: &'a str) -> Vec<Word<'a>> {
+    let mut words = Vec::new(help.alloc);
     let mut column: usize = 0;
     for text in line.split(' ') {
-        if !text.is_empty() {
-            words.push(Word { column, text })?;
+        if !text.is_empty() && words.push(Word { column, text }).is_err() {
+            help.fail();
         }
         column = column.saturating_add(text.len()).saturating_add(1);
     }
-    Ok(words)
+    words
 }
 
 /// The word at this place of a line, counted from 0, or its first column where there is none.

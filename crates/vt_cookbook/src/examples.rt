@@ -6,6 +6,7 @@ mod bwrap_pivots;
 mod denials;
 mod docker_volumes;
 mod image_build;
+mod image_layer;
 mod image_of_three_layers;
 mod lazy_unmount;
 mod moved_mounts;
@@ -34,7 +35,7 @@ pub struct Example {
 }
 
 /// The examples, in the order of the cookbook.
-pub const EXAMPLES: [Example; 25] = [
+pub const EXAMPLES: [Example; 26] = [
     Example {
         name: "docker-volumes",
         about: "what docker run -v and bind-propagation=rshared show of a disk that the host mounts later",
@@ -124,8 +125,12 @@ pub const EXAMPLES: [Example; 25] = [
         about: "runc's slaves",
     },
     Example {
+        name: "image-layer",
+        about: "a layer of an image, unpacked: whiteouts and opaque directories",
+    },
+    Example {
         name: "image-of-three-layers",
-        about: "what a read-only container sees of an image of three layers",
+        about: "what a read-only container sees of three layers",
     },
     Example {
         name: "two-users-of-an-image",
@@ -162,6 +167,7 @@ pub fn script_of(name: &str) -> Option<&'static str> {
         "volume-propagation" => Some(volume_propagation::script()),
         "private-volume" => Some(private_volume::script()),
         "slave-root" => Some(slave_root::script()),
+        "image-layer" => Some(image_layer::script()),
         "image-of-three-layers" => Some(image_of_three_layers::script()),
         "two-users-of-an-image" => Some(two_users_of_an_image::script()),
         "denials" => Some(denials::script()),

@@ -1,12 +1,15 @@
 //! The mounts that come, go and change in a call.
-use crate::known::{Known, find, is_known};
-use crate::names;
+use crate::mounts::{find, has_namespace, parent};
 use crate::report::{Heads, Section};
-use std::alloc::{AllocError, Global};
+use vt_check::draft::Draft;
 use vt_location::MountId;
 use vt_request::CallKind;
+use vt_show::columns::Table;
+use vt_show::names;
+use vt_show::picture::{MountShown, NamespaceShown};
 
-const HEADS: Heads = Heads {
+pub static HEADS: Heads = Heads {
+    title: "MOUNTS THAT COME (+), GO (-) AND CHANGE (~)",
     section: "change",
     words: &["", "MOUNT", "TARGET", "OPTIONS", "PROPAGATION", "WHY"],
     members: &["change", "mount", "target", "options", "propagation", "why"],
@@ -16,131 +19,166 @@ const HEADS: Heads = Heads {
 #[derive(Clone, Copy)]
 pub struct Sides<'a> {
     pub call: CallKind,
-    pub before: &'a [Known],
-    pub after: &'a [Known],
+    pub before: &'a [NamespaceShown],
+    pub after: &'a [NamespaceShown],
     pub aim: Option<MountId>,
 }
 
-// Why an event reaches a mount, on which another comes or goes: it is meant, or receives.
-fn reached(alloc: Global, parent: &Known, aim: Option<MountId>) -> Result<String, AllocError> {
+// Appends why an event reaches a mount, on which another comes or goes: it is meant, or receives.
+fn push_reached(text: &mut Draft, parent: &MountShown, aim: Option<MountId>) {
     if Some(parent.mount.number) == aim {
-        return String::from_str(alloc, "asked for");
+        text.push("asked for");
+        return;
     }
-    let kind = names::propagation(alloc, parent.kind)?;
-    let (name, kind) = (parent.name.as_str(), kind.as_str());
-    format!(in alloc; "{name} receives as {kind}")
+    names::push_mount(text, parent.place);
+    text.push(" receives as ");
+    names::push_kind(text, parent.kind);
 }
 
-// Why a mount comes.
-fn why_it_comes(alloc: Global, sides: Sides<'_>, new: &Known) -> Result<String, AllocError> {
-    if !is_known(sides.before, new.mount.namespace) {
-        return String::from_str(alloc, "copied into the new namespace");
+// Appends that a mount stands on one that comes or goes as well.
+fn push_on(text: &mut Draft, parent: &MountShown, what: &str) {
+    text.push("stands on ");
+    names::push_mount(text, parent.place);
+    text.push(what);
+}
+
+// Appends why a mount comes.
+fn push_why_it_comes(text: &mut Draft, sides: Sides<'_>, new: &MountShown) {
+    if !has_namespace(sides.before, new.mount.namespace) {
+        text.push("copied into the new namespace");
+        return;
     }
-    let Some(parent) = new.parent() else {
-        return Ok(String::new(alloc));
-    };
-    let Some(parent) = find(sides.after, parent) else {
-        return Ok(String::new(alloc));
+    let Some(parent) = parent(sides.after, new) else {
+        return;
     };
     if find(sides.before, parent.mount.number).is_none() {
-        let name = parent.name.as_str();
-        return format!(in alloc; "stands on {name}, which comes");
+        push_on(text, parent, ", which comes");
+    } else {
+        push_reached(text, parent, sides.aim);
     }
-    reached(alloc, parent, sides.aim)
 }
 
-// Why a mount goes.
-fn why_it_goes(alloc: Global, sides: Sides<'_>, old: &Known) -> Result<String, AllocError> {
-    if !is_known(sides.after, old.mount.namespace) {
-        return String::from_str(alloc, "its namespace ends");
+// Whether a call is to unmount.
+fn unmounts(call: CallKind) -> bool {
+    call == CallKind::Umount || call == CallKind::Lazy
+}
+
+// Why a mount goes, where its own namespace, the call or its aim tells it, or nothing.
+fn why_it_goes(sides: Sides<'_>, old: &MountShown) -> &'static str {
+    if !has_namespace(sides.after, old.mount.namespace) {
+        return "its namespace ends";
     }
-    if sides.call != CallKind::Umount && sides.call != CallKind::Lazy {
-        return String::from_str(alloc, "its mount point is removed");
+    if !unmounts(sides.call) {
+        return "its mount point is removed";
     }
     if Some(old.mount.number) == sides.aim {
-        return String::from_str(alloc, "asked for");
+        return "asked for";
     }
-    let Some(parent) = old.parent() else {
-        return Ok(String::new(alloc));
-    };
-    let Some(parent) = find(sides.before, parent) else {
-        return Ok(String::new(alloc));
+    ""
+}
+
+// Appends why a mount goes.
+fn push_why_it_goes(text: &mut Draft, sides: Sides<'_>, old: &MountShown) {
+    let why = why_it_goes(sides, old);
+    if !why.is_empty() {
+        text.push(why);
+        return;
+    }
+    let Some(parent) = parent(sides.before, old) else {
+        return;
     };
     if find(sides.after, parent.mount.number).is_none() {
-        let name = parent.name.as_str();
-        return format!(in alloc; "stands on {name}, which goes");
+        push_on(text, parent, ", which goes");
+    } else {
+        push_reached(text, parent, None);
     }
-    reached(alloc, parent, None)
 }
 
-// Appends what a word was, if it is another now.
-fn push_was(text: &mut String, was: &str, is: &str) -> Result<(), AllocError> {
-    if was == is {
-        return Ok(());
+// Begins to tell what a word of a mount was.
+fn begin_was(table: &mut Table) {
+    let begin = if table.written() == 0 { "was " } else { ", " };
+    table.text.push(begin);
+}
+
+// Appends what a mount was that has changed.
+fn push_what_it_was(table: &mut Table, old: &MountShown, new: &MountShown) {
+    if old.path() != new.path() {
+        begin_was(table);
+        table.text.push(old.path());
     }
-    text.push_str(if text.is_empty() { "was " } else { ", " })?;
-    text.push_str(was)
-}
-
-// What a mount was that has changed.
-fn what_it_was(alloc: Global, old: &Known, new: &Known) -> Result<String, AllocError> {
-    let mut text = String::new(alloc);
-    push_was(&mut text, old.target.as_str(), new.target.as_str())?;
-    push_was(&mut text, old.flags.as_str(), new.flags.as_str())?;
-    let was = names::propagation(alloc, old.kind)?;
-    let is = names::propagation(alloc, new.kind)?;
-    push_was(&mut text, was.as_str(), is.as_str())?;
-    Ok(text)
-}
-
-// Adds the row of a mount.
-fn push_row(
-    alloc: Global,
-    section: &mut Section,
-    sign: &str,
-    known: &Known,
-    why: String,
-) -> Result<(), AllocError> {
-    let mut row = Vec::new(alloc);
-    row.push(String::from_str(alloc, sign)?)?;
-    row.push(String::from_str(alloc, known.name.as_str())?)?;
-    row.push(String::from_str(alloc, known.target.as_str())?)?;
-    row.push(String::from_str(alloc, known.flags.as_str())?)?;
-    row.push(names::propagation(alloc, known.kind)?)?;
-    if !why.is_empty() {
-        row.push(why)?;
+    if old.mount.flags != new.mount.flags {
+        begin_was(table);
+        names::push_flags(&mut table.text, old.mount.flags);
     }
-    section.push(row)
+    if old.kind != new.kind {
+        begin_was(table);
+        names::push_kind(&mut table.text, old.kind);
+    }
 }
 
-// Adds a mount that is there after the call, if it came or changed.
-fn push_new(
-    alloc: Global,
-    section: &mut Section,
-    sides: Sides<'_>,
-    new: &Known,
-) -> Result<(), AllocError> {
+// Adds a mount, without why it is told.
+fn add_mount(table: &mut Table, sign: &str, shown: &MountShown) {
+    table.add(sign);
+    names::push_mount(&mut table.text, shown.place);
+    table.end_word();
+    table.add(shown.path());
+    names::push_flags(&mut table.text, shown.mount.flags);
+    table.end_word();
+    names::push_kind(&mut table.text, shown.kind);
+    table.end_word();
+}
+
+// Ends the row of a mount: why it is told stands in it if there is something to tell.
+fn end_mount(table: &mut Table) {
+    if table.written() > 0 {
+        table.end_word();
+    }
+    table.end_row();
+}
+
+// Adds a mount that comes.
+fn add_new(table: &mut Table, sides: Sides<'_>, new: &MountShown) {
+    add_mount(table, "+", new);
+    push_why_it_comes(&mut table.text, sides, new);
+    end_mount(table);
+}
+
+// Adds a mount that was there before, if it goes.
+fn add_old(table: &mut Table, sides: Sides<'_>, old: &MountShown) {
+    if find(sides.after, old.mount.number).is_none() {
+        add_mount(table, "-", old);
+        push_why_it_goes(&mut table.text, sides, old);
+        end_mount(table);
+    }
+}
+
+// Adds a mount that is there after the call, if it has changed.
+fn add_changed(table: &mut Table, old: &MountShown, new: &MountShown) {
+    if old.mount != new.mount {
+        add_mount(table, "~", new);
+        push_what_it_was(table, old, new);
+        end_mount(table);
+    }
+}
+
+// Adds a mount that is there after the call, if it came or has changed.
+fn add_kept(table: &mut Table, sides: Sides<'_>, new: &MountShown) {
     match find(sides.before, new.mount.number) {
-        None => push_row(alloc, section, "+", new, why_it_comes(alloc, sides, new)?),
-        Some(old) if old.mount != new.mount => {
-            push_row(alloc, section, "~", new, what_it_was(alloc, old, new)?)
-        }
-        Some(_) => Ok(()),
+        Some(old) => add_changed(table, old, new),
+        None => add_new(table, sides, new),
     }
 }
 
-/// The mounts that come, go and change.
-pub fn changes(alloc: Global, sides: Sides<'_>) -> Result<Section, AllocError> {
-    let title = String::from_str(alloc, "MOUNTS THAT COME (+), GO (-) AND CHANGE (~)")?;
-    let mut section = Section::new(alloc, HEADS, title)?;
-    for old in sides.before {
-        if find(sides.after, old.mount.number).is_none() {
-            let why = why_it_goes(alloc, sides, old)?;
-            push_row(alloc, &mut section, "-", old, why)?;
+/// Adds the mounts that come, go and change.
+pub fn add_changes(section: &mut Section, sides: Sides<'_>) {
+    for namespace in sides.before {
+        for old in &namespace.mounts {
+            add_old(&mut section.table, sides, old);
         }
     }
-    for new in sides.after {
-        push_new(alloc, &mut section, sides, new)?;
+    for namespace in sides.after {
+        for new in &namespace.mounts {
+            add_kept(&mut section.table, sides, new);
+        }
     }
-    Ok(section)
 }

@@ -9,29 +9,28 @@ ghost use Rattle.vt_script.specs.Session.{IsLeftBy};
 ghost use Rattle.vt_calls.specs.KernelValue.{kernel_world};
 
 use crate::asked::{PathAsked, paths_of};
-use crate::changes::{Sides, changes};
-use crate::holders::{Look, holders};
-use crate::known::{Known, known_mounts};
-use crate::later::{Refused, later_rules, names_of, words_of};
-use crate::names;
-use crate::opened::openings_of;
-use crate::report::Format;
-use crate::walked::{View, path_walked};
+use crate::changes::{self, Sides, add_changes};
+use crate::holders::{self, Look, add_holders};
+use crate::later::{Refused, later_rules, push_rules};
+use crate::opened::{Openings, openings_of};
+use crate::report::{Format, Section};
+use crate::walked::{View, push_walk};
 use serde_json::Value;
 use std::alloc::{AllocError, Global};
 use vt_calls::Kernel;
-use vt_check::object::{Members, line_of, put, put_number, put_text, shown};
+use vt_check::draft::Draft;
+use vt_check::object::{List, Object};
 use vt_io::memory::BytesSink;
 use vt_line::line::Line;
 use vt_lines::lines::first_line;
 use vt_location::{Location, NamespaceId};
 use vt_ns::World;
-use vt_request::{Answer, Call, CallKind, TaskName};
+use vt_request::{Answer, Call, CallKind, PeerLine, TaskName};
 use vt_rule_pages::pages::page_of;
 use vt_script::{Calls, Version, write_reply};
-use vt_show::picture::picture_of;
+use vt_show::picture::{NamespaceShown, Picture, TaskShown, picture_of};
 use vt_show::places::Places;
-use vt_show::show::{self, show};
+use vt_show::{json, text};
 use vt_spec::errors::{Deny, Rule};
 
 /// How much of an answer is kept at a time.
@@ -57,212 +56,292 @@ struct Asked<'a> {
 // What is told before a call is made, and kept for what is told of it then.
 #[derive(Drop)]
 struct Before {
-    text: String,
+    text: Draft,
     // Where its paths end.
     first: Option<Location>,
     second: Option<Location>,
-    mounts: Vec<Known>,
+    mounts: Vec<NamespaceShown>,
+    groups: Vec<PeerLine>,
 }
 
-// The first line of an answer, as a run writes it, without its number.
-fn answer_text(asked: Asked<'_>, outcome: &Result<Answer, Deny>) -> Result<String, AllocError> {
-    let number = asked.line.number;
-    let mut sink = BytesSink::new(asked.alloc, PIECE);
-    if write_reply(&mut sink, number, outcome).is_err() {
-        return Err(AllocError);
-    }
-    let Some((line, _rows)) = first_line(sink.bytes()) else {
-        return Ok(String::new(asked.alloc));
-    };
-    let number = format!(in asked.alloc; "{number} ")?;
-    let words = line.strip_prefix(number.as_bytes()).unwrap_or(line);
-    shown(asked.alloc, words)
-}
-
-// Appends a line of the head: what is told, and in which words.
-fn push_line(text: &mut String, what: &str, words: &str) -> Result<(), AllocError> {
-    text.push_str(what)?;
-    text.push_str(words)?;
-    text.push('\n')
-}
-
-// The line, its answer, the rule that refuses it, and the later ones, as text.
-fn head_text(
-    asked: Asked<'_>,
-    line: &str,
-    answer: &str,
-    rule: Option<Rule>,
-    later: &[Rule],
-) -> Result<String, AllocError> {
-    let number = asked.line.number;
-    let mut text = format!(in asked.alloc; "LINE {number}: {line}\n")?;
-    push_line(&mut text, "  answer       ", answer)?;
-    if let Some(rule) = rule {
-        let page = page_of(rule);
-        push_line(&mut text, "  rule         ", page.meaning)?;
-        push_line(&mut text, "  manual       ", page.manual)?;
-    }
-    if !later.is_empty() {
-        push_line(
-            &mut text,
-            "  also         ",
-            words_of(asked.alloc, later)?.as_str(),
-        )?;
-    }
-    Ok(text)
-}
-
-// The line, its answer, the rule that refuses it, and the later ones, as an object.
-fn head_object(
-    asked: Asked<'_>,
-    line: &str,
-    answer: &str,
-    rule: Option<Rule>,
-    later: &[Rule],
-) -> Result<String, AllocError> {
-    let alloc = asked.alloc;
-    let mut members = Members::new(alloc);
-    put_text(alloc, &mut members, "section", "line")?;
-    put_number(alloc, &mut members, "line", asked.line.number)?;
-    put_text(alloc, &mut members, "text", line)?;
-    put_text(alloc, &mut members, "answer", answer)?;
-    match rule {
-        Some(rule) => {
-            let page = page_of(rule);
-            put_text(alloc, &mut members, "rule", rule.name())?;
-            put_text(alloc, &mut members, "meaning", page.meaning)?;
-            put_text(alloc, &mut members, "manual", page.manual)?;
-            put(alloc, &mut members, "also", names_of(alloc, later)?)?;
+// What follows the first space of a line.
+fn behind_space(line: &[u8]) -> &[u8] {
+    for (index, byte) in line.iter().enumerate() {
+        if *byte == b' ' {
+            return line.get(index.saturating_add(1)..).unwrap_or_default();
         }
-        None => put(alloc, &mut members, "rule", Value::Null)?,
     }
-    line_of(alloc, members)
+    line
 }
 
-// The line, its answer, the rule that refuses it, and the later ones.
-fn head(
+// Appends the first line of an answer, as a run writes it, without its number.
+fn push_answer(asked: Asked<'_>, outcome: &Result<Answer, Deny>, text: &mut Draft) {
+    let mut sink = BytesSink::new(asked.alloc, PIECE);
+    if write_reply(&mut sink, asked.line.number, outcome).is_err() {
+        text.fail();
+    }
+    if let Some((line, _rows)) = first_line(sink.bytes()) {
+        text.push_bytes(behind_space(line));
+    }
+    drop(sink);
+}
+
+// Appends the rule that refuses a line, as text.
+fn push_rule_text(text: &mut Draft, rule: Rule) {
+    let page = page_of(rule);
+    text.push("  rule         ");
+    text.push(page.meaning);
+    text.push("\n  manual       ");
+    text.push(page.manual);
+    text.push("\n");
+}
+
+// Appends the line, its answer, the rule that refuses it, and the later ones, as text.
+fn push_head_text(
     asked: Asked<'_>,
     outcome: &Result<Answer, Deny>,
     later: &[Rule],
-) -> Result<String, AllocError> {
-    let line = shown(asked.alloc, asked.line.text)?;
-    let answer = answer_text(asked, outcome)?;
-    let rule = match outcome {
-        Ok(_) => None,
-        Err(deny) => Some(deny.rule),
-    };
+    text: &mut Draft,
+) {
+    text.push("LINE ");
+    text.push_number(asked.line.number);
+    text.push(": ");
+    text.push_bytes(asked.line.text);
+    text.push("\n  answer       ");
+    push_answer(asked, outcome, text);
+    text.push("\n");
+    if let Err(deny) = outcome {
+        push_rule_text(text, deny.rule);
+    }
+    if !later.is_empty() {
+        text.push("  also         ");
+        push_rules(text, later);
+        text.push("\n");
+    }
+}
+
+// Rules, by their names.
+fn names_of(alloc: Global, rules: &[Rule]) -> Result<Value, AllocError> {
+    let mut names = List::new(alloc);
+    for rule in rules {
+        names.push_text(rule.name());
+    }
+    names.end()
+}
+
+// Adds the rule that refuses a line, and the later ones.
+fn put_rules(object: &mut Object, rule: Rule, later: Result<Value, AllocError>) {
+    let page = page_of(rule);
+    object.put_text("rule", rule.name());
+    object.put_text("meaning", page.meaning);
+    object.put_text("manual", page.manual);
+    object.put("also", later);
+}
+
+// Appends the line, its answer, the rule that refuses it, and the later ones, as an object.
+fn push_head_object(
+    asked: Asked<'_>,
+    outcome: &Result<Answer, Deny>,
+    later: &[Rule],
+    text: &mut Draft,
+) {
+    let mut object = Object::new(asked.alloc);
+    object.put_text("section", "line");
+    object.put_number("line", asked.line.number);
+    object.put_bytes("text", asked.line.text);
+    let mut answer = object.draft();
+    push_answer(asked, outcome, &mut answer);
+    object.put_draft("answer", answer);
+    match outcome {
+        Ok(_) => object.put("rule", Ok(Value::Null)),
+        Err(deny) => put_rules(&mut object, deny.rule, names_of(asked.alloc, later)),
+    }
+    match object.line() {
+        Ok(line) => text.push(line.as_str()),
+        Err(_) => text.fail(),
+    }
+}
+
+// Appends the line, its answer, the rule that refuses it, and the later ones.
+fn push_head(asked: Asked<'_>, outcome: &Result<Answer, Deny>, later: &[Rule], text: &mut Draft) {
     match asked.format {
-        Format::Text => head_text(asked, line.as_str(), answer.as_str(), rule, later),
-        Format::Json => head_object(asked, line.as_str(), answer.as_str(), rule, later),
+        Format::Text => push_head_text(asked, outcome, later, text),
+        Format::Json => push_head_object(asked, outcome, later, text),
     }
 }
 
-// What `show` writes of a task and what is about it.
-fn task_shown(asked: Asked<'_>, world: &World, name: &TaskName) -> Result<Vec<u8>, AllocError> {
-    let name = names::task(asked.alloc, name)?;
-    let options = show::Options {
-        format: match asked.format {
-            Format::Text => show::Format::Text,
-            Format::Json => show::Format::Json,
-        },
-        files: false,
-        task: Some(name.as_str()),
-    };
-    let mut output = Vec::new(asked.alloc);
-    match show(asked.alloc, world, options, &mut output) {
-        Ok(_) => Ok(output),
-        Err(_) => Err(AllocError),
+// What is told of a line that is no call.
+fn told_alone(asked: Asked<'_>, outcome: &Result<Answer, Deny>) -> Result<String, AllocError> {
+    let mut text = Draft::new(asked.alloc);
+    push_head(asked, outcome, &[], &mut text);
+    text.end()
+}
+
+// Appends who calls.
+fn push_caller(asked: Asked<'_>, shown: &TaskShown<'_>, text: &mut Draft) {
+    match asked.format {
+        Format::Text => {
+            text.push("\n");
+            text::push_task(text, shown);
+        }
+        Format::Json => json::push_task(asked.alloc, text, shown),
     }
 }
 
-// Appends who calls: the lines that `show` writes of the task, up to an empty one; of objects the first.
-fn push_caller(
-    asked: Asked<'_>,
-    world: &World,
-    name: &TaskName,
-    text: &mut String,
-) -> Result<(), AllocError> {
-    let output = task_shown(asked, world, name)?;
-    let mut rest = output.as_slice();
-    for _ in 0..output.len() {
-        let Some((line, after)) = first_line(rest) else {
-            return Ok(());
+impl Before {
+    // Tells who calls.
+    fn tell_caller(&mut self, asked: Asked<'_>, tasks: &[TaskShown<'_>], name: &TaskName) {
+        for shown in tasks {
+            if shown.task.name == *name {
+                push_caller(asked, shown, &mut self.text);
+            }
+        }
+    }
+
+    // Tells where a path of the call leads.
+    fn tell_path(
+        &mut self,
+        asked: Asked<'_>,
+        view: View<'_>,
+        path: Option<PathAsked<'_>>,
+    ) -> Option<Location> {
+        match path {
+            Some(path) => push_walk(view, path, asked.format, &mut self.text),
+            None => None,
+        }
+    }
+
+    // Tells where the paths of the call lead.
+    fn tell_paths(&mut self, asked: Asked<'_>, view: View<'_>, call: &Call) {
+        let paths = paths_of(call);
+        self.first = self.tell_path(asked, view, paths.first);
+        self.second = self.tell_path(asked, view, paths.second);
+    }
+
+    // Tells where the paths lead of a task's call.
+    fn tell_walks(&mut self, asked: Asked<'_>, world: &World, name: &TaskName, call: &Call) {
+        let Some(who) = world.task(name) else {
+            return;
         };
-        if line.is_empty() {
-            return Ok(());
-        }
-        push_line(text, "", str::from_utf8(line).unwrap_or_default())?;
-        if asked.format == Format::Json {
-            return Ok(());
-        }
-        rest = after;
+        let Ok(places) = Places::new(asked.alloc, world) else {
+            self.text.fail();
+            return;
+        };
+        let view = View {
+            alloc: asked.alloc,
+            world,
+            who,
+            places: &places,
+        };
+        self.tell_paths(asked, view, call);
+        drop(places);
     }
-    Ok(())
-}
 
-// Appends a path of the call, and returns where it ends.
-fn push_path(
-    asked: Asked<'_>,
-    view: &View<'_>,
-    path: Option<PathAsked<'_>>,
-    text: &mut String,
-) -> Result<Option<Location>, AllocError> {
-    let Some(path) = path else {
-        return Ok(None);
-    };
-    let walked = path_walked(view, path)?;
-    walked.section.write(asked.format, text)?;
-    Ok(walked.end)
+    // Keeps the mounts of a picture.
+    fn keep(&mut self, picture: Picture<'_>) {
+        self.mounts = picture.namespaces;
+        self.groups = picture.groups;
+    }
+
+    // Tells what is told before a call is made.
+    fn tell(&mut self, asked: Asked<'_>, world: &World, name: &TaskName, call: &Call) {
+        match picture_of(asked.alloc, world) {
+            Ok(picture) => {
+                self.tell_caller(asked, &picture.tasks, name);
+                self.keep(picture);
+            }
+            Err(_) => self.text.fail(),
+        }
+        self.tell_walks(asked, world, name, call);
+    }
+
+    // Where the last path of the call ends.
+    fn end(&self) -> Option<Location> {
+        match self.second {
+            Some(end) => Some(end),
+            None => self.first,
+        }
+    }
 }
 
 // What is told before a call is made.
-fn told_before(
-    asked: Asked<'_>,
-    world: &World,
-    name: &TaskName,
-    call: &Call,
-) -> Result<Before, AllocError> {
-    let alloc = asked.alloc;
-    let picture = picture_of(alloc, world)?;
+fn told_before(asked: Asked<'_>, world: &World, name: &TaskName, call: &Call) -> Before {
     let mut before = Before {
-        text: String::new(alloc),
+        text: Draft::new(asked.alloc),
         first: None,
         second: None,
-        mounts: known_mounts(alloc, &picture)?,
+        mounts: Vec::new(asked.alloc),
+        groups: Vec::new(asked.alloc),
     };
-    let Some(who) = world.task(name) else {
-        return Ok(before);
-    };
-    if asked.format == Format::Text {
-        before.text.push('\n')?;
-    }
-    push_caller(asked, world, name, &mut before.text)?;
-    let places = Places::new(alloc, world)?;
-    let view = View {
-        alloc,
-        world,
-        who,
-        places: &places,
-    };
-    let paths = paths_of(call);
-    before.first = push_path(asked, &view, paths.first, &mut before.text)?;
-    before.second = push_path(asked, &view, paths.second, &mut before.text)?;
-    Ok(before)
+    before.tell(asked, world, name, call);
+    before
 }
 
-// Appends a table about where a path ends.
+// Appends who holds what is busy where a path ends.
 fn push_held(
     asked: Asked<'_>,
-    look: &Look<'_>,
+    look: Look<'_>,
     call: CallKind,
     end: Option<Location>,
-    text: &mut String,
-) -> Result<(), AllocError> {
-    let Some(end) = end else {
-        return Ok(());
+    text: &mut Draft,
+) {
+    if let Some(end) = end {
+        let mut section = Section::new(asked.alloc, &holders::HEADS);
+        add_holders(look, &mut section, call, end);
+        section.write(asked.format, b"", text);
+    }
+}
+
+// A call that is refused since something is busy.
+#[derive(Clone, Copy)]
+struct Busy<'a> {
+    world: &'a World,
+    call: CallKind,
+    before: &'a Before,
+    // The namespace whose mounts alone keep a name from being removed.
+    namespace: Option<NamespaceId>,
+}
+
+// Appends who holds what is busy.
+fn push_holders_by(
+    asked: Asked<'_>,
+    busy: Busy<'_>,
+    places: &Places<'_>,
+    openings: &Openings,
+    text: &mut Draft,
+) {
+    let look = Look {
+        world: busy.world,
+        places,
+        mounts: &busy.before.mounts,
+        groups: &busy.before.groups,
+        openings,
+        line: asked.line.number,
+        namespace: busy.namespace,
     };
-    let section = holders(look, call, end)?;
-    section.write(asked.format, text)
+    push_held(asked, look, busy.call, busy.before.first, text);
+    push_held(asked, look, busy.call, busy.before.second, text);
+    if openings.failed {
+        text.fail();
+    }
+}
+
+// Appends who holds what is busy, by the places of mounts.
+fn push_holders_at(asked: Asked<'_>, busy: Busy<'_>, places: &Places<'_>, text: &mut Draft) {
+    let openings = openings_of(asked.version, asked.alloc, asked.line.before);
+    push_holders_by(asked, busy, places, &openings, text);
+    drop(openings);
+}
+
+// Appends who holds what is busy.
+fn push_holders(asked: Asked<'_>, busy: Busy<'_>, text: &mut Draft) {
+    match Places::new(asked.alloc, busy.world) {
+        Ok(places) => {
+            push_holders_at(asked, busy, &places, text);
+            drop(places);
+        }
+        Err(_) => text.fail(),
+    }
 }
 
 // The namespace whose mounts alone keep a name from being removed: that of the caller of `rmdir`.
@@ -276,76 +355,102 @@ fn blocking(world: &World, name: &TaskName, call: CallKind) -> Option<NamespaceI
     }
 }
 
-// Appends who holds what is busy.
-fn push_holders(
-    asked: Asked<'_>,
-    world: &World,
-    namespace: Option<NamespaceId>,
-    call: CallKind,
-    before: &Before,
-    text: &mut String,
-) -> Result<(), AllocError> {
-    let places = Places::new(asked.alloc, world)?;
-    let groups = world.peers()?;
-    let openings = openings_of(asked.version, asked.alloc, asked.line.before)?;
-    let look = Look {
-        alloc: asked.alloc,
-        world,
-        places: &places,
-        mounts: before.mounts.as_slice(),
-        groups: groups.as_slice(),
-        openings: &openings,
-        line: asked.line.number,
-        namespace,
-    };
-    push_held(asked, &look, call, before.first, text)?;
-    push_held(asked, &look, call, before.second, text)
+// Appends the mounts that come, go and change.
+fn push_changes(asked: Asked<'_>, sides: Sides<'_>, text: &mut Draft) {
+    let mut section = Section::new(asked.alloc, &changes::HEADS);
+    add_changes(&mut section, sides);
+    section.write(asked.format, b"", text);
 }
 
-// Appends the mounts that come, go and change.
-fn push_changes(
-    asked: Asked<'_>,
-    world: &World,
-    call: CallKind,
-    before: &Before,
-    text: &mut String,
-) -> Result<(), AllocError> {
-    let picture = picture_of(asked.alloc, world)?;
-    let after = known_mounts(asked.alloc, &picture)?;
-    let end = match before.second {
-        Some(end) => Some(end),
-        None => before.first,
+// Appends what a call has changed.
+fn push_effect(asked: Asked<'_>, world: &World, call: CallKind, before: &Before, text: &mut Draft) {
+    let Ok(picture) = picture_of(asked.alloc, world) else {
+        text.fail();
+        return;
     };
     let sides = Sides {
         call,
-        before: before.mounts.as_slice(),
-        after: after.as_slice(),
-        aim: match end {
+        before: &before.mounts,
+        after: &picture.namespaces,
+        aim: match before.end() {
             Some(end) => Some(end.mount),
             None => None,
         },
     };
-    changes(asked.alloc, sides)?.write(asked.format, text)
+    push_changes(asked, sides, text);
+    drop(picture);
 }
 
-// The later rules that a call would fail too, if it is refused.
+// Appends who holds what is busy, if a call was refused for that.
+fn push_refusal(asked: Asked<'_>, busy: Busy<'_>, rule: Rule, text: &mut Draft) {
+    if rule == Rule::M8 || rule == Rule::P1 {
+        push_holders(asked, busy, text);
+    }
+}
+
+// The later rules that a call of a task would fail too.
 fn later_of(
     asked: Asked<'_>,
     world: &World,
     name: &TaskName,
-    outcome: &Result<Answer, Deny>,
+    rule: Rule,
 ) -> Result<Vec<Rule>, AllocError> {
-    let refused = Refused {
-        version: asked.version,
-        alloc: asked.alloc,
+    match world.task(name) {
+        Some(who) => later_rules(
+            &Refused {
+                version: asked.version,
+                alloc: asked.alloc,
+                world,
+                who,
+                line: asked.line.text,
+            },
+            rule,
+        ),
+        None => Ok(Vec::new(asked.alloc)),
+    }
+}
+
+// Appends a call's answer, and the later rules that would refuse it too, if it is refused.
+fn push_answered(
+    asked: Asked<'_>,
+    world: &World,
+    name: &TaskName,
+    outcome: &Result<Answer, Deny>,
+    text: &mut Draft,
+) {
+    let Err(deny) = outcome else {
+        push_head(asked, outcome, &[], text);
+        return;
+    };
+    match later_of(asked, world, name, deny.rule) {
+        Ok(later) => push_head(asked, outcome, &later, text),
+        Err(_) => text.fail(),
+    }
+}
+
+// What is told of a call after it was made.
+fn told_after(
+    asked: Asked<'_>,
+    world: &World,
+    name: &TaskName,
+    call: CallKind,
+    before: &Before,
+    outcome: &Result<Answer, Deny>,
+) -> Result<String, AllocError> {
+    let mut text = Draft::new(asked.alloc);
+    push_answered(asked, world, name, outcome, &mut text);
+    text.push_draft(&before.text);
+    let busy = Busy {
         world,
-        name,
-        line: asked.line.text,
+        call,
+        before,
+        namespace: blocking(world, name, call),
     };
     match outcome {
-        Ok(_) => Ok(Vec::new(asked.alloc)),
-        Err(deny) => later_rules(refused, deny.rule),
+        Ok(_) => push_effect(asked, world, call, before, &mut text),
+        Err(deny) => push_refusal(asked, busy, deny.rule, &mut text),
     }
+    text.end()
 }
 
 // A call explained, and made.
@@ -358,21 +463,12 @@ fn explain_call(
     ensures { OnOk result ((outcome : Result Answer Deny)
         × Ends kernel_world kernel.old name.now (call_of call) outcome kernel.new) }
 {
-    let before = told_before(asked, kernel.world(), name, &call)?;
+    let before = told_before(asked, kernel.world(), name, &call);
     let kind = call.kind();
     let outcome = kernel.call(name, call);
-    let later = later_of(asked, kernel.world(), name, &outcome)?;
-    let mut text = head(asked, &outcome, later.as_slice())?;
-    text.push_str(before.text.as_str())?;
-    match &outcome {
-        Ok(_) => push_changes(asked, kernel.world(), kind, &before, &mut text)?,
-        Err(deny) if deny.rule == Rule::M8 || deny.rule == Rule::P1 => {
-            let namespace = blocking(kernel.world(), name, kind);
-            push_holders(asked, kernel.world(), namespace, kind, &before, &mut text)?
-        }
-        Err(_) => {}
-    }
-    Ok(text)
+    let told = told_after(asked, kernel.world(), name, kind, &before, &outcome);
+    drop(before);
+    told
 }
 
 /// Explains a line in the world before it, and answers it: the world is then the one that a run has behind the line.
@@ -397,7 +493,7 @@ pub fn explain(
     match Line::parse_as(version, alloc, line.text) {
         Ok(Line::Silent) => Ok(String::new(alloc)),
         Ok(Line::Call(name, call)) => explain_call(asked, kernel, &name, call),
-        Ok(Line::Ask(directive)) => head(asked, &kernel.direct(directive), &[]),
-        Err(deny) => head(asked, &Err(deny), &[]),
+        Ok(Line::Ask(directive)) => told_alone(asked, &kernel.direct(directive)),
+        Err(deny) => told_alone(asked, &Err(deny)),
     }
 }

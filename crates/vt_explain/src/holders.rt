@@ -1,17 +1,20 @@
 //! Who holds what is busy: tasks with roots, directories and open files on a mount, and mounts that stand there.
-use crate::known::{Known, find};
-use crate::names;
+use crate::mounts::{find, parent};
 use crate::opened::Openings;
 use crate::receiving::receives;
 use crate::report::{Heads, Section};
-use std::alloc::{AllocError, Global};
+use vt_check::draft::Draft;
 use vt_location::{Location, MountId, NamespaceId};
 use vt_ns::World;
 use vt_request::{Access, CallKind, PeerLine, TypeLine};
+use vt_show::columns::Table;
+use vt_show::names;
+use vt_show::picture::{MountShown, NamespaceShown};
 use vt_show::places::Places;
 use vt_tasks::Task;
 
-const HEADS: Heads = Heads {
+pub static HEADS: Heads = Heads {
+    title: "WHO HOLDS IT",
     section: "holder",
     words: &["BUSY", "HELD BY", "AS", "AT"],
     members: &["busy", "by", "as", "at"],
@@ -20,10 +23,9 @@ const HEADS: Heads = Heads {
 /// A world in which something is busy.
 #[derive(Clone, Copy)]
 pub struct Look<'a> {
-    pub alloc: Global,
     pub world: &'a World,
     pub places: &'a Places<'a>,
-    pub mounts: &'a [Known],
+    pub mounts: &'a [NamespaceShown],
     pub groups: &'a [PeerLine],
     /// What the lines before opened.
     pub openings: &'a Openings,
@@ -33,172 +35,181 @@ pub struct Look<'a> {
     pub namespace: Option<NamespaceId>,
 }
 
-// Adds a row.
-fn push_row(
-    look: &Look<'_>,
-    section: &mut Section,
-    busy: &str,
-    by: &str,
-    what: &str,
-    at: &str,
-) -> Result<(), AllocError> {
-    let mut row = Vec::new(look.alloc);
-    row.push(String::from_str(look.alloc, busy)?)?;
-    row.push(String::from_str(look.alloc, by)?)?;
-    row.push(String::from_str(look.alloc, what)?)?;
-    row.push(String::from_str(look.alloc, at)?)?;
-    section.push(row)
+// What a task has on a mount.
+#[derive(Clone, Copy)]
+enum Held {
+    Root,
+    Directory,
+    File(u8, Access),
+}
+
+// Appends an open file of a task: its number, its access, and the line that opened it.
+fn push_file(look: Look<'_>, text: &mut Draft, task: &Task, number: u8, access: Access) {
+    text.push("open ");
+    text.push_number(u64::from(number));
+    text.push(" ");
+    text.push(names::access(access));
+    if let Some(line) = look.openings.line_of(&task.name, number, look.line) {
+        text.push(", line ");
+        text.push_number(line);
+    }
+}
+
+// Appends what a task has on a mount.
+fn push_held(look: Look<'_>, text: &mut Draft, task: &Task, held: Held) {
+    match held {
+        Held::Root => text.push("root"),
+        Held::Directory => text.push("directory"),
+        Held::File(number, access) => push_file(look, text, task, number, access),
+    }
 }
 
 // Adds that a task has something on a mount, if it is there.
-fn push_use(
-    look: &Look<'_>,
-    section: &mut Section,
-    busy: &Known,
+fn add_use(
+    look: Look<'_>,
+    table: &mut Table,
+    busy: &MountShown,
     task: &Task,
-    what: &str,
+    held: Held,
     at: Location,
-) -> Result<(), AllocError> {
-    if at.mount != busy.mount.number {
-        return Ok(());
-    }
-    let by = names::task(look.alloc, &task.name)?;
-    let place = look.places.place_of(at)?;
-    let place = names::place(look.alloc, &place)?;
-    push_row(
-        look,
-        section,
-        busy.name.as_str(),
-        by.as_str(),
-        what,
-        place.as_str(),
-    )
-}
-
-// How an open file of a task is told: its number, its access, and the line that opened it.
-fn file_words(
-    look: &Look<'_>,
-    task: &Task,
-    number: u8,
-    access: Access,
-) -> Result<String, AllocError> {
-    let access = names::access(access);
-    match look.openings.line_of(&task.name, number, look.line) {
-        Some(line) => format!(in look.alloc; "open {number} {access}, line {line}"),
-        None => format!(in look.alloc; "open {number} {access}"),
+) {
+    if at.mount == busy.mount.number {
+        names::push_mount(&mut table.text, busy.place);
+        table.end_word();
+        names::push_task(&mut table.text, &task.name);
+        table.end_word();
+        push_held(look, &mut table.text, task, held);
+        table.end_word();
+        look.places.push(at, &mut table.text);
+        table.end_word();
+        table.end_row();
     }
 }
 
-// Adds the open files of a task on a mount.
-fn push_files(
-    look: &Look<'_>,
-    section: &mut Section,
-    busy: &Known,
-    task: &Task,
-    written: bool,
-) -> Result<(), AllocError> {
+// Adds the open files of a task on a mount: all, or those that may be written to.
+fn add_files(look: Look<'_>, table: &mut Table, busy: &MountShown, task: &Task, written: bool) {
     for number in 0..=u8::MAX {
         if let Some(file) = task.descriptors.get(number) {
             if !written || file.access.writes() {
-                let what = file_words(look, task, number, file.access)?;
-                push_use(look, section, busy, task, what.as_str(), file.location)?;
+                let held = Held::File(number, file.access);
+                add_use(look, table, busy, task, held, file.location);
             }
         }
     }
-    Ok(())
 }
 
 // Adds the tasks that hold a mount.
-fn push_tasks(look: &Look<'_>, section: &mut Section, busy: &Known) -> Result<(), AllocError> {
+fn add_tasks(look: Look<'_>, table: &mut Table, busy: &MountShown) {
     for task in look.world.tasks().kept() {
-        push_use(look, section, busy, task, "root", task.root)?;
-        push_use(look, section, busy, task, "directory", task.directory)?;
-        push_files(look, section, busy, task, false)?;
+        add_use(look, table, busy, task, Held::Root, task.root);
+        add_use(look, table, busy, task, Held::Directory, task.directory);
+        add_files(look, table, busy, task, false);
     }
-    Ok(())
 }
 
 // Whether a mount keeps what it stands on busy.
-fn counts(look: &Look<'_>, mount: &Known) -> bool {
+fn counts(look: Look<'_>, mount: &MountShown) -> bool {
     look.namespace.is_none() || look.namespace == mount.mount.namespace
 }
 
+// Begins the row of a mount that stands on what is busy: a mount, or else a name.
+fn push_busy(text: &mut Draft, busy: Option<&MountShown>) {
+    match busy {
+        Some(busy) => names::push_mount(text, busy.place),
+        None => text.push("the name"),
+    }
+}
+
+// Adds a mount that stands on what is busy.
+fn add_mount(table: &mut Table, busy: Option<&MountShown>, mount: &MountShown) {
+    push_busy(&mut table.text, busy);
+    table.end_word();
+    names::push_mount(&mut table.text, mount.place);
+    table.end_word();
+    table.add("mount");
+    table.add(mount.path());
+    table.end_row();
+}
+
 // Adds the mounts of a list, which stand on what is busy.
-fn push_mounts(
-    look: &Look<'_>,
-    section: &mut Section,
-    busy: &str,
-    ids: &[MountId],
-) -> Result<(), AllocError> {
+fn add_mounts(look: Look<'_>, table: &mut Table, busy: Option<&MountShown>, ids: &[MountId]) {
     for id in ids {
         if let Some(mount) = find(look.mounts, *id) {
             if counts(look, mount) {
-                let (name, target) = (mount.name.as_str(), mount.target.as_str());
-                push_row(look, section, busy, name, "mount", target)?;
+                add_mount(table, busy, mount);
             }
         }
     }
-    Ok(())
 }
 
 // The type of the mount that one stands on.
-fn kind_below(look: &Look<'_>, known: &Known) -> TypeLine {
-    let Some(parent) = known.parent() else {
-        return TypeLine::Private;
-    };
-    match find(look.mounts, parent) {
+fn kind_below(look: Look<'_>, shown: &MountShown) -> TypeLine {
+    match parent(look.mounts, shown) {
         Some(parent) => parent.kind,
         None => TypeLine::Private,
     }
 }
 
-// Adds who holds the copies of a mount that would go with it.
-fn push_copies(look: &Look<'_>, section: &mut Section, busy: &Known) -> Result<(), AllocError> {
-    let Some(point) = busy.mount.mount_point else {
-        return Ok(());
-    };
-    let TypeLine::Shared { group, .. } = kind_below(look, busy) else {
-        return Ok(());
-    };
+// Whether a mount is a copy of another one that would go with it, of which the parent is in this group.
+fn is_copy(look: Look<'_>, busy: &MountShown, copy: &MountShown, group: usize) -> bool {
+    let id = copy.mount.number;
+    id != busy.mount.number
+        && !look.world.all_mounts().has_child(id)
+        && receives(look.groups, kind_below(look, copy), group)
+}
+
+// Adds who holds the copies of a mount that stand where it does, and of which the parents receive from this group.
+fn add_copies_in(
+    look: Look<'_>,
+    table: &mut Table,
+    busy: &MountShown,
+    point: Location,
+    group: usize,
+) {
     for id in look.world.all_mounts().mounts_on(point.node) {
         if let Some(copy) = find(look.mounts, *id) {
-            let is_other = *id != busy.mount.number && !look.world.all_mounts().has_child(*id);
-            if is_other && receives(look.groups, kind_below(look, copy), group) {
-                push_tasks(look, section, copy)?;
+            if is_copy(look, busy, copy, group) {
+                add_tasks(look, table, copy);
             }
         }
     }
-    Ok(())
+}
+
+// Adds who holds the copies of a mount that would go with it.
+fn add_copies(look: Look<'_>, table: &mut Table, busy: &MountShown) {
+    let Some(point) = busy.mount.mount_point else {
+        return;
+    };
+    if let TypeLine::Shared { group, .. } = kind_below(look, busy) {
+        add_copies_in(look, table, busy, point, group);
+    }
 }
 
 // Adds who has files open for writing through a mount.
-fn push_writers(look: &Look<'_>, section: &mut Section, busy: &Known) -> Result<(), AllocError> {
+fn add_writers(look: Look<'_>, table: &mut Table, busy: &MountShown) {
     for task in look.world.tasks().kept() {
-        push_files(look, section, busy, task, true)?;
+        add_files(look, table, busy, task, true);
     }
-    Ok(())
 }
 
 // Adds who keeps a mount from being unmounted: mounts on it, and tasks, on it or on a copy that would go with it.
-fn push_users(look: &Look<'_>, section: &mut Section, busy: &Known) -> Result<(), AllocError> {
+fn add_users(look: Look<'_>, table: &mut Table, busy: &MountShown) {
     let children = look.world.all_mounts().children(busy.mount.number);
-    push_mounts(look, section, busy.name.as_str(), children)?;
-    push_tasks(look, section, busy)?;
-    push_copies(look, section, busy)
+    add_mounts(look, table, Some(busy), children);
+    add_tasks(look, table, busy);
+    add_copies(look, table, busy);
 }
 
-/// Who holds what is busy where a path of a call ends: the mount that is unmounted or would become read-only, or a name
-/// at which mounts stand.
-pub fn holders(look: &Look<'_>, call: CallKind, at: Location) -> Result<Section, AllocError> {
-    let title = String::from_str(look.alloc, "WHO HOLDS IT")?;
-    let mut section = Section::new(look.alloc, HEADS, title)?;
+/// Adds who holds what is busy where a path of a call ends: the mount that is unmounted or would become read-only, or a
+/// name at which mounts stand.
+pub fn add_holders(look: Look<'_>, section: &mut Section, call: CallKind, at: Location) {
+    let table = &mut section.table;
     match (call, find(look.mounts, at.mount)) {
-        (CallKind::Umount, Some(busy)) => push_users(look, &mut section, busy)?,
-        (CallKind::Remount, Some(busy)) => push_writers(look, &mut section, busy)?,
+        (CallKind::Umount, Some(busy)) => add_users(look, table, busy),
+        (CallKind::Remount, Some(busy)) => add_writers(look, table, busy),
         _ => {
             let ids = look.world.all_mounts().mounts_on(at.node);
-            push_mounts(look, &mut section, "the name", ids)?;
+            add_mounts(look, table, None, ids);
         }
     }
-    Ok(section)
 }

@@ -1,5 +1,5 @@
 //! The lines that opened files.
-use std::alloc::{AllocError, Global};
+use std::alloc::Global;
 use vt_calls::Kernel;
 use vt_line::line::Line;
 use vt_lines::lines::first_line;
@@ -21,6 +21,8 @@ pub struct Openings {
     all: Vec<Opening>,
     // How many lines the script has.
     lines: u64,
+    /// Whether an allocation failed, so that some are missing.
+    pub failed: bool,
 }
 
 impl Openings {
@@ -38,56 +40,62 @@ impl Openings {
     }
 
     // Makes a call, and records what it opens.
-    fn record(
-        &mut self,
-        kernel: &mut Kernel,
-        task: TaskName,
-        call: Call,
-    ) -> Result<(), AllocError> {
+    fn record(&mut self, kernel: &mut Kernel, task: TaskName, call: Call) {
         if let Ok(Answer::Opened(descriptor)) = kernel.call(&task, call) {
-            let before = self.lines;
-            self.all.push(Opening {
+            let opening = Opening {
                 task,
                 descriptor,
-                before,
-            })?;
+                before: self.lines,
+            };
+            self.failed |= self.all.push(opening).is_err();
         }
-        Ok(())
     }
-}
 
-// Records what the lines open, which are made in a world.
-fn record_lines(
-    version: Version,
-    alloc: Global,
-    kernel: &mut Kernel,
-    script: &[u8],
-) -> Result<Openings, AllocError> {
-    let mut openings = Openings {
-        all: Vec::new(alloc),
-        lines: 0,
-    };
-    let mut rest = script;
-    for _ in 0..u64::MAX {
-        let Some((text, after)) = first_line(rest) else {
-            return Ok(openings);
-        };
+    // Answers a line, and records what it opens.
+    fn record_line(&mut self, version: Version, alloc: Global, kernel: &mut Kernel, text: &[u8]) {
         if let Ok(Line::Call(task, call)) = Line::parse_as(version, alloc, text) {
-            openings.record(kernel, task, call)?;
+            self.record(kernel, task, call);
         }
-        openings.lines = openings.lines.saturating_add(1);
-        rest = after;
+        self.lines = self.lines.saturating_add(1);
     }
-    Ok(openings)
+
+    // Answers the lines of a script, and records what they open.
+    fn record_lines(
+        &mut self,
+        version: Version,
+        alloc: Global,
+        kernel: &mut Kernel,
+        script: &[u8],
+    ) {
+        let mut rest = script;
+        for _ in 0..u64::MAX {
+            let Some((text, after)) = first_line(rest) else {
+                return;
+            };
+            self.record_line(version, alloc, kernel, text);
+            rest = after;
+        }
+    }
+
+    // The same in a world of which nothing is left then.
+    fn record_all(&mut self, version: Version, alloc: Global, kernel: Kernel, script: &[u8]) {
+        let mut kernel = kernel;
+        self.record_lines(version, alloc, &mut kernel, script);
+        // By a call: the proof of a function that drops a world itself takes minutes.
+        drop(kernel);
+    }
 }
 
 /// What the lines of a script open. They are made once more, in a world of their own.
-pub fn openings_of(version: Version, alloc: Global, script: &[u8]) -> Result<Openings, AllocError> {
-    let Ok(mut kernel) = Kernel::opening(alloc) else {
-        return Err(AllocError);
+pub fn openings_of(version: Version, alloc: Global, script: &[u8]) -> Openings {
+    let mut openings = Openings {
+        all: Vec::new(alloc),
+        lines: 0,
+        failed: false,
     };
-    let recorded = record_lines(version, alloc, &mut kernel, script);
-    // By a call: the proof of a function that drops a world itself takes minutes.
-    drop(kernel);
-    recorded
+    match Kernel::opening(alloc) {
+        Ok(kernel) => openings.record_all(version, alloc, kernel, script),
+        Err(_) => openings.failed = true,
+    }
+    openings
 }

@@ -1,10 +1,9 @@
 //! What is told, as tables: each a text or objects of JSON.
 use serde_json::Value;
-use std::alloc::{AllocError, Global};
-use vt_check::object::{Members, line_of, put, put_text};
-
-/// What stands between two columns.
-const GAP: usize = 2;
+use std::alloc::Global;
+use vt_check::draft::Draft;
+use vt_check::object::Object;
+use vt_show::columns::{Table, Word};
 
 /// The form in which a line is explained.
 #[derive(Clone, Copy, PartialEq, Eq)]
@@ -14,11 +13,12 @@ pub enum Format {
 }
 
 /// A table: how it is named in either form, and its columns.
-#[derive(Clone, Copy)]
 pub struct Heads {
+    /// What stands above it.
+    pub title: &'static str,
     /// The member `section` of each row.
     pub section: &'static str,
-    /// The words above the columns; the last column has none.
+    /// The words above the columns; the last column may have none.
     pub words: &'static [&'static str],
     /// The members for the columns.
     pub members: &'static [&'static str],
@@ -28,104 +28,76 @@ pub struct Heads {
 #[derive(Drop)]
 pub struct Section {
     alloc: Global,
-    heads: Heads,
-    title: String,
-    // The heads, and then what was added.
-    rows: Vec<Vec<String>>,
-    widths: Vec<usize>,
+    heads: &'static Heads,
+    pub table: Table,
 }
 
 impl Section {
     /// A table with its heads alone.
-    pub fn new(alloc: Global, heads: Heads, title: String) -> Result<Self, AllocError> {
-        let mut row = Vec::new(alloc);
-        let mut widths = Vec::new(alloc);
-        for word in heads.words {
-            row.push(String::from_str(alloc, word)?)?;
-            widths.push(0)?;
-        }
-        let mut section = Section {
+    pub fn new(alloc: Global, heads: &'static Heads) -> Self {
+        Section {
             alloc,
             heads,
-            title,
-            rows: Vec::new(alloc),
-            widths,
-        };
-        section.push(row)?;
-        Ok(section)
+            table: Table::new(alloc, heads.words),
+        }
     }
 
-    /// Adds a row.
-    pub fn push(&mut self, row: Vec<String>) -> Result<(), AllocError> {
-        for (column, width) in self.widths.iter_mut().enumerate() {
-            if let Some(word) = row.get(column) {
-                *width = (*width).max(word.len());
+    // Adds a word of a row to its object; nothing where the row ends before it.
+    fn put_word(&self, object: &mut Object, member: &str, words: &[Word], column: usize) {
+        match words.get(column) {
+            Some(word) if word.column == column => {
+                let mut part = object.draft();
+                part.push_part(&self.table.text, word.begin, word.end);
+                object.put_draft(member, part);
+            }
+            _ => object.put(member, Ok(Value::Null)),
+        }
+    }
+
+    // Appends the row that begins these words, as an object and a newline.
+    fn push_object(&self, text: &mut Draft, words: &[Word]) {
+        let mut object = Object::new(self.alloc);
+        object.put_text("section", self.heads.section);
+        for (column, member) in self.heads.members.iter().enumerate() {
+            self.put_word(&mut object, member, words, column);
+        }
+        match object.line() {
+            Ok(line) => text.push(line.as_str()),
+            Err(_) => text.fail(),
+        }
+    }
+
+    // Appends rows of these words, each as an object.
+    fn push_objects(&self, text: &mut Draft, words: &[Word]) {
+        for (index, word) in words.iter().enumerate() {
+            if word.column == 0 {
+                self.push_object(text, words.get(index..).unwrap_or_default());
             }
         }
-        self.rows.push(row)?;
-        Ok(())
     }
 
-    // Appends a word, and spaces up to the next column.
-    fn push_word(&self, text: &mut String, column: usize, word: &str) -> Result<(), AllocError> {
-        text.push_str(word)?;
-        let width = self.widths.get(column).copied().unwrap_or_default();
-        let spaces = width.saturating_sub(word.len()).saturating_add(GAP);
-        text.push_str(" ".repeat(self.alloc, spaces)?.as_str())
+    // The words behind the heads.
+    fn words(&self) -> &[Word] {
+        let heads = self.heads.words.len();
+        self.table.words.get(heads..).unwrap_or_default()
     }
 
-    // Appends a row; its last word is not padded.
-    fn push_row(&self, text: &mut String, row: &[String]) -> Result<(), AllocError> {
-        let last = row.len().saturating_sub(1);
-        for (column, word) in row.iter().enumerate() {
-            if column < last {
-                self.push_word(text, column, word.as_str())?;
-            } else {
-                text.push_str(word.as_str())?;
-            }
+    /// Appends the table, if it has rows. In text what it is about stands behind its title.
+    pub fn write(&self, format: Format, about: &[u8], text: &mut Draft) {
+        // Without rows too it is told that an allocation failed.
+        text.push_part(&self.table.text, 0, 0);
+        let words = self.words();
+        if words.is_empty() {
+            return;
         }
-        text.push('\n')
-    }
-
-    // Appends the table as text.
-    fn push_text(&self, text: &mut String) -> Result<(), AllocError> {
-        text.push('\n')?;
-        text.push_str(self.title.as_str())?;
-        text.push('\n')?;
-        for row in &self.rows {
-            self.push_row(text, row)?;
-        }
-        Ok(())
-    }
-
-    // Appends the rows, each as an object.
-    fn push_objects(&self, text: &mut String) -> Result<(), AllocError> {
-        for row in self.rows.get(1..).unwrap_or_default() {
-            let line = object(self.alloc, self.heads, row)?;
-            text.push_str(line.as_str())?;
-        }
-        Ok(())
-    }
-
-    /// Appends the table, if it has rows.
-    pub fn write(&self, format: Format, text: &mut String) -> Result<(), AllocError> {
         match format {
-            _ if self.rows.len() <= 1 => Ok(()),
-            Format::Text => self.push_text(text),
-            Format::Json => self.push_objects(text),
+            Format::Text => {
+                text.push("\n");
+                text.push(self.heads.title);
+                text.push_bytes(about);
+                self.table.write(text);
+            }
+            Format::Json => self.push_objects(text, words),
         }
     }
-}
-
-// A row as an object and a newline.
-fn object(alloc: Global, heads: Heads, row: &[String]) -> Result<String, AllocError> {
-    let mut members = Members::new(alloc);
-    put_text(alloc, &mut members, "section", heads.section)?;
-    for (index, name) in heads.members.iter().enumerate() {
-        match row.get(index) {
-            Some(word) => put_text(alloc, &mut members, name, word.as_str())?,
-            None => put(alloc, &mut members, name, Value::Null)?,
-        }
-    }
-    line_of(alloc, members)
 }

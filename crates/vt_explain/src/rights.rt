@@ -1,8 +1,8 @@
 //! The class of bits of an object that counts for a caller.
-use std::alloc::{AllocError, Global};
+use vt_check::draft::Draft;
 use vt_cred::{Attr, Caps, Cred, Kind};
 
-const BITS: [&str; 8] = ["---", "--x", "-w-", "-wx", "r--", "r-x", "rw-", "rwx"];
+static BITS: [&str; 8] = ["---", "--x", "-w-", "-wx", "r--", "r-x", "rw-", "rwx"];
 
 // The class of the caller, and its bits.
 fn class_of(cred: &Cred, attr: &Attr) -> (&'static str, u16) {
@@ -27,20 +27,14 @@ fn search_capability(cred: &Cred) -> &'static str {
     ""
 }
 
-/// The class of bits that counts for a caller, its bits, and for a directory without search permission the capability
-/// that gives it.
-pub fn rights_of(
-    alloc: Global,
-    cred: &Cred,
-    attr: &Attr,
-    kind: Kind,
-) -> Result<String, AllocError> {
+/// Appends the class of bits that counts for a caller, its bits, and for a directory without search permission the
+/// capability that gives it.
+pub fn push_rights(text: &mut Draft, cred: &Cred, attr: &Attr, kind: Kind) {
     let (class, bits) = class_of(cred, attr);
-    let letters = BITS.get(usize::from(bits)).copied().unwrap_or_default();
-    let by = if kind == Kind::Dir && bits & 1 == 0 {
-        search_capability(cred)
-    } else {
-        ""
-    };
-    format!(in alloc; "{class} {letters}{by}")
+    text.push(class);
+    text.push(" ");
+    text.push(BITS.get(usize::from(bits)).copied().unwrap_or_default());
+    if kind == Kind::Dir && bits & 1 == 0 {
+        text.push(search_capability(cred));
+    }
 }

@@ -1,22 +1,23 @@
 //! Where a path leads, word by word.
 use crate::asked::{Last, PathAsked};
-use crate::names;
-use crate::report::{Heads, Section};
-use crate::rights::rights_of;
+use crate::report::{Format, Heads, Section};
+use crate::rights::push_rights;
 use std::alloc::{AllocError, Global};
-use vt_check::object::shown;
+use vt_check::draft::Draft;
 use vt_cred::Kind;
 use vt_location::Location;
 use vt_looks::Look;
 use vt_node::{Node, copied_bytes};
 use vt_ns::World;
+use vt_show::names;
 use vt_show::places::Places;
 use vt_spec::errors::{Deny, Rule};
 use vt_tasks::Task;
 use vt_text::path::PathText;
 use vt_walk::{place_walk, symlink_walk};
 
-const HEADS: Heads = Heads {
+static HEADS: Heads = Heads {
+    title: "PATH ",
     section: "path",
     words: &["WORD", "LEADS TO", "MODE", "OWNER", "CALLER"],
     members: &["word", "leads_to", "mode", "owner", "caller", "note"],
@@ -32,23 +33,6 @@ pub struct View<'a> {
     pub world: &'a World,
     pub who: &'a Task,
     pub places: &'a Places<'a>,
-}
-
-// A path of which some words are walked. The text of each symlink that was followed stands in its place.
-#[derive(Drop)]
-struct Path {
-    text: Vec<u8>,
-    // How many of its bytes are walked.
-    walked: usize,
-    links: usize,
-    here: Location,
-}
-
-/// A path, word by word, and where it ends if it leads somewhere.
-#[derive(Drop)]
-pub struct Walked {
-    pub section: Section,
-    pub end: Option<Location>,
 }
 
 // Where the word ends that begins at a place of a text or after it, if there is one.
@@ -85,82 +69,30 @@ fn start_of(who: &Task, text: &[u8]) -> Location {
     }
 }
 
+// Where a path leads that may lead nowhere, a final symlink followed.
+fn file_reached(view: View<'_>, path: &PathText<'_>) -> Result<Option<Location>, Deny> {
+    match symlink_walk(view.world, view.who, path) {
+        Ok(at) => Ok(Some(at)),
+        Err(deny) if deny.rule == Rule::W6 => Ok(None),
+        Err(deny) => Err(deny),
+    }
+}
+
 // Where a front of a path leads, its last word not followed; nowhere where that may be missing.
-fn reached(view: &View<'_>, front: &[u8], last: Last) -> Result<Option<Location>, Deny> {
+fn reached(view: View<'_>, front: &[u8], last: Last) -> Result<Option<Location>, Deny> {
     let path = PathText::parse(front)?;
     match last {
         Last::Name => Ok(place_walk(view.world, view.who, &path)?.object),
-        Last::File => match symlink_walk(view.world, view.who, &path) {
-            Ok(at) => Ok(Some(at)),
-            Err(deny) if deny.rule == Rule::W6 => Ok(None),
-            Err(deny) => Err(deny),
-        },
+        Last::File => file_reached(view, &path),
         Last::Object | Last::Link | Last::Destination => Ok(Some(symlink_walk(
             view.world, view.who, &path,
         )?)),
     }
 }
 
-// Adds what an object is, and which of its bits count for the caller.
-fn push_object(view: &View<'_>, row: &mut Vec<String>, node: &Node) -> Result<(), AllocError> {
-    let alloc = view.alloc;
-    let attr = node.attr();
-    let (uid, gid) = (attr.uid, attr.gid);
-    let (kind, bits) = (names::kind(node.kind()), attr.mode.bits());
-    row.push(format!(in alloc; "{kind} {bits:o}")?)?;
-    row.push(format!(in alloc; "{uid}:{gid}")?)?;
-    row.push(rights_of(alloc, &view.who.cred, &attr, node.kind())?)?;
-    Ok(())
-}
-
-// The row of a word that leads to a location.
-fn row_at(view: &View<'_>, word: &[u8], at: Location) -> Result<Vec<String>, AllocError> {
-    let alloc = view.alloc;
-    let mut row = Vec::new(alloc);
-    row.push(shown(alloc, word)?)?;
-    let place = view.places.place_of(at)?;
-    row.push(names::place(alloc, &place)?)?;
-    if let Some(node) = view.world.node(at) {
-        push_object(view, &mut row, node)?;
-    }
-    Ok(row)
-}
-
-// Adds a row of a word that leads nowhere.
-fn push_nowhere(
-    view: &View<'_>,
-    section: &mut Section,
-    word: &[u8],
-    why: &str,
-) -> Result<(), AllocError> {
-    let mut row = Vec::new(view.alloc);
-    row.push(shown(view.alloc, word)?)?;
-    row.push(String::from_str(view.alloc, why)?)?;
-    section.push(row)
-}
-
-// Which mount a word enters or leaves.
-fn note(view: &View<'_>, word: &[u8], from: Location, to: Location) -> Result<String, AllocError> {
-    let alloc = view.alloc;
-    if from.mount == to.mount {
-        return Ok(String::new(alloc));
-    }
-    let (what, mount) = if word == b"..".as_slice() {
-        ("leaves", from.mount)
-    } else {
-        ("enters", to.mount)
-    };
-    let Some(place) = view.places.of(mount) else {
-        return Ok(String::new(alloc));
-    };
-    let name = names::mount(alloc, place)?;
-    let name = name.as_str();
-    format!(in alloc; "{what} {name}")
-}
-
 // The text of a symlink.
-fn link_text<'a>(view: &View<'a>, at: Location) -> Option<&'a [u8]> {
-    let node = view.world.node(at)?;
+fn link_text(world: &World, at: Location) -> Option<&[u8]> {
+    let node = world.node(at)?;
     if node.kind() == Kind::Symlink {
         Some(node.bytes())
     } else {
@@ -169,11 +101,25 @@ fn link_text<'a>(view: &View<'a>, at: Location) -> Option<&'a [u8]> {
 }
 
 // Whether no symlink on the mount of a location is followed.
-fn is_nosymfollow(view: &View<'_>, at: Location) -> bool {
-    match view.world.all_mounts().get(at.mount) {
+fn is_nosymfollow(world: &World, at: Location) -> bool {
+    match world.all_mounts().get(at.mount) {
         Some(mount) => mount.flags.is_nosymfollow(),
         None => false,
     }
+}
+
+// A text in which another one stands in the place of a word.
+fn spliced(
+    alloc: Global,
+    text: &[u8],
+    begin: usize,
+    end: usize,
+    link: &[u8],
+) -> Result<Vec<u8>, AllocError> {
+    let mut spliced = copied_bytes(alloc, text.get(..begin).unwrap_or_default())?;
+    spliced.extend_from_slice(link)?;
+    spliced.extend_from_slice(text.get(end..).unwrap_or_default())?;
+    Ok(spliced)
 }
 
 // The next word of a path: its place, and what it is taken for.
@@ -184,52 +130,6 @@ struct Word {
     last: Last,
 }
 
-impl Path {
-    // The next word, if there is one; all but the last lead to objects.
-    fn next_word(&self, last: Last) -> Option<Word> {
-        let text = self.text.as_slice();
-        let end = word_end(text, self.walked)?;
-        let is_last = word_end(text, end).is_none();
-        Some(Word {
-            begin: word_begin(text, end),
-            end,
-            last: if is_last { last } else { Last::Object },
-        })
-    }
-
-    // The path up to the end of a word.
-    fn front(&self, word: Word) -> &[u8] {
-        self.text.get(..word.end).unwrap_or_default()
-    }
-
-    // The bytes of a word.
-    fn bytes(&self, word: Word) -> &[u8] {
-        self.text.get(word.begin..word.end).unwrap_or_default()
-    }
-
-    // The text of a symlink stands in the place of the word that named it.
-    fn follow(
-        &mut self,
-        alloc: Global,
-        root: Location,
-        word: Word,
-        link: &[u8],
-    ) -> Result<(), AllocError> {
-        let is_absolute = link.first() == Some(&b'/');
-        let begin = if is_absolute { 0 } else { word.begin };
-        let mut text = copied_bytes(alloc, self.text.get(..begin).unwrap_or_default())?;
-        text.extend_from_slice(link)?;
-        text.extend_from_slice(self.text.get(word.end..).unwrap_or_default())?;
-        self.text = text;
-        self.walked = begin;
-        self.links = self.links.saturating_add(1);
-        if is_absolute {
-            self.here = root;
-        }
-        Ok(())
-    }
-}
-
 // How a walk goes on behind a word.
 #[derive(Clone, Copy)]
 enum Turn {
@@ -237,136 +137,256 @@ enum Turn {
     End(Option<Location>),
 }
 
-// A rule that ends a walk, in the place of where a word leads.
-fn push_rule(
-    view: &View<'_>,
-    section: &mut Section,
-    word: &[u8],
-    rule: Rule,
-) -> Result<Turn, AllocError> {
-    let rule = rule.name();
-    let why = format!(in view.alloc; "stopped by {rule}")?;
-    push_nowhere(view, section, word, why.as_str())?;
-    Ok(Turn::End(None))
-}
-
-// Follows the symlink that a word leads to, if that may be.
-fn followed(
-    view: &View<'_>,
-    path: &mut Path,
-    word: Word,
-    at: Location,
-    link: &[u8],
-    section: &mut Section,
-) -> Result<Turn, AllocError> {
-    let mut row = row_at(view, path.bytes(word), at)?;
-    let mut arrow = String::from_str(view.alloc, "-> ")?;
-    arrow.push_str(shown(view.alloc, link)?.as_str())?;
-    row.push(arrow)?;
-    section.push(row)?;
-    if is_nosymfollow(view, at) {
-        return push_rule(view, section, b"", Rule::W9);
-    }
-    if path.links >= MOST_LINKS {
-        return push_rule(view, section, b"", Rule::W7);
-    }
-    path.follow(view.alloc, view.who.root, word, link)?;
-    Ok(Turn::On)
-}
-
-// Adds a word that leads to a location, and goes on there.
-fn passed(
-    view: &View<'_>,
-    path: &mut Path,
-    word: Word,
-    at: Location,
-    section: &mut Section,
-) -> Result<Turn, AllocError> {
-    let mut row = row_at(view, path.bytes(word), at)?;
-    let note = note(view, path.bytes(word), path.here, at)?;
-    if !note.is_empty() {
-        row.push(note)?;
-    }
-    section.push(row)?;
-    path.here = at;
-    path.walked = word.end;
-    Ok(Turn::On)
-}
-
-// Walks the next word of a path.
-fn step(
-    view: &View<'_>,
-    path: &mut Path,
+// A walk along a path, of which some words are walked. The text of each symlink that was followed stands in its place.
+#[derive(Drop)]
+struct Walk<'a> {
+    view: View<'a>,
+    // What the last word is taken for.
     last: Last,
-    section: &mut Section,
-) -> Result<Turn, AllocError> {
-    let Some(word) = path.next_word(last) else {
-        return Ok(Turn::End(Some(path.here)));
-    };
-    let at = match reached(view, path.front(word), word.last) {
-        Ok(Some(at)) => at,
-        Ok(None) => {
-            push_nowhere(view, section, path.bytes(word), "(missing)")?;
-            return Ok(Turn::End(None));
+    text: Vec<u8>,
+    // How many of its bytes are walked.
+    walked: usize,
+    links: usize,
+    here: Location,
+    section: Section,
+}
+
+impl<'a> Walk<'a> {
+    // Before the first word.
+    fn new(view: View<'a>, asked: PathAsked<'_>) -> Self {
+        let mut walk = Walk {
+            view,
+            last: asked.last,
+            text: Vec::new(view.alloc),
+            walked: 0,
+            links: 0,
+            here: start_of(view.who, asked.text),
+            section: Section::new(view.alloc, &HEADS),
+        };
+        match copied_bytes(view.alloc, asked.text) {
+            Ok(text) => walk.text = text,
+            Err(_) => walk.section.table.text.fail(),
         }
-        Err(deny) => return push_rule(view, section, path.bytes(word), deny.rule),
-    };
-    match link_text(view, at) {
-        Some(link) if word.last.follows() => followed(view, path, word, at, link, section),
-        _ => passed(view, path, word, at, section),
+        walk
+    }
+
+    // The next word, if there is one; all but the last lead to objects.
+    fn next_word(&self) -> Option<Word> {
+        let text = self.text.as_slice();
+        let end = word_end(text, self.walked)?;
+        let is_last = word_end(text, end).is_none();
+        Some(Word {
+            begin: word_begin(text, end),
+            end,
+            last: if is_last { self.last } else { Last::Object },
+        })
+    }
+
+    // The bytes of a word.
+    fn bytes(&self, word: Word) -> &[u8] {
+        self.text.get(word.begin..word.end).unwrap_or_default()
+    }
+
+    // Adds a word as it stands in the path.
+    fn add_word(&mut self, word: Word) {
+        let bytes = self.text.get(word.begin..word.end).unwrap_or_default();
+        self.section.table.text.push_bytes(bytes);
+        self.section.table.end_word();
+    }
+
+    // Adds what an object is, and which of its bits count for the caller.
+    fn add_object(&mut self, node: &Node) {
+        let table = &mut self.section.table;
+        let attr = node.attr();
+        table.text.push(names::kind(node.kind()));
+        table.text.push(" ");
+        table.text.push_octal(attr.mode.bits(), 1);
+        table.end_word();
+        table.text.push_number(u64::from(attr.uid));
+        table.text.push(":");
+        table.text.push_number(u64::from(attr.gid));
+        table.end_word();
+        push_rights(&mut table.text, &self.view.who.cred, &attr, node.kind());
+        table.end_word();
+    }
+
+    // Adds a location, and what is there.
+    fn add_location(&mut self, at: Location) {
+        self.view.places.push(at, &mut self.section.table.text);
+        self.section.table.end_word();
+        if let Some(node) = self.view.world.node(at) {
+            self.add_object(node);
+        }
+    }
+
+    // Adds which mount a word enters or leaves.
+    fn add_note(&mut self, word: Word, to: Location) {
+        if self.here.mount == to.mount {
+            return;
+        }
+        let (what, mount) = if self.bytes(word) == b"..".as_slice() {
+            ("leaves ", self.here.mount)
+        } else {
+            ("enters ", to.mount)
+        };
+        if let Some(place) = self.view.places.of(mount) {
+            self.section.table.text.push(what);
+            names::push_mount(&mut self.section.table.text, place);
+            self.section.table.end_word();
+        }
+    }
+
+    // Adds why a walk ends at a word.
+    fn stop(&mut self, why: &str, rule: &str) -> Turn {
+        self.section.table.text.push(why);
+        self.section.table.text.push(rule);
+        self.section.table.end_word();
+        self.section.table.end_row();
+        Turn::End(None)
+    }
+
+    // Adds that a symlink is not followed.
+    fn stop_by(&mut self, rule: Rule) -> Turn {
+        self.section.table.add("");
+        self.stop("stopped by ", rule.name())
+    }
+
+    // Goes on by the text of a symlink in the place of the word that named it.
+    fn replace(&mut self, word: Word, link: &[u8]) -> Turn {
+        let is_absolute = link.first() == Some(&b'/');
+        let begin = if is_absolute { 0 } else { word.begin };
+        match spliced(self.view.alloc, &self.text, begin, word.end, link) {
+            Ok(text) => self.text = text,
+            Err(_) => self.section.table.text.fail(),
+        }
+        self.walked = begin;
+        self.links = self.links.saturating_add(1);
+        if is_absolute {
+            self.here = self.view.who.root;
+        }
+        Turn::On
+    }
+
+    // Follows the symlink that a word leads to, if that may be.
+    fn follow(&mut self, word: Word, at: Location, link: &[u8]) -> Turn {
+        self.add_word(word);
+        self.add_location(at);
+        self.section.table.text.push("-> ");
+        self.section.table.text.push_bytes(link);
+        self.section.table.end_word();
+        self.section.table.end_row();
+        if is_nosymfollow(self.view.world, at) {
+            return self.stop_by(Rule::W9);
+        }
+        if self.links >= MOST_LINKS {
+            return self.stop_by(Rule::W7);
+        }
+        self.replace(word, link)
+    }
+
+    // Adds a word that leads to a location, and goes on there.
+    fn pass(&mut self, word: Word, at: Location) -> Turn {
+        self.add_word(word);
+        self.add_location(at);
+        self.add_note(word, at);
+        self.section.table.end_row();
+        self.here = at;
+        self.walked = word.end;
+        Turn::On
+    }
+
+    // Goes on where a word leads.
+    fn go_on(&mut self, word: Word, at: Location) -> Turn {
+        let world = self.view.world;
+        match link_text(world, at) {
+            Some(link) if word.last.follows() => self.follow(word, at, link),
+            _ => self.pass(word, at),
+        }
+    }
+
+    // Where the path up to a word leads.
+    fn reached(&self, word: Word) -> Result<Option<Location>, Deny> {
+        let front = self.text.get(..word.end).unwrap_or_default();
+        reached(self.view, front, word.last)
+    }
+
+    // Walks the next word.
+    fn step(&mut self) -> Turn {
+        let Some(word) = self.next_word() else {
+            return Turn::End(Some(self.here));
+        };
+        match self.reached(word) {
+            Ok(Some(at)) => self.go_on(word, at),
+            Ok(None) => {
+                self.add_word(word);
+                self.stop("(missing)", "")
+            }
+            Err(deny) => {
+                self.add_word(word);
+                self.stop("stopped by ", deny.rule.name())
+            }
+        }
+    }
+
+    // Walks the words, and returns where they lead.
+    fn walk(&mut self) -> Option<Location> {
+        for _ in 0..u64::MAX {
+            if let Turn::End(end) = self.step() {
+                return end;
+            }
+        }
+        None
+    }
+
+    // The root of the topmost mount over a destination.
+    fn over(&mut self, at: Location) -> Location {
+        let top = self.view.world.topmost(at);
+        if self.last != Last::Destination || top == at {
+            return at;
+        }
+        self.section.table.add("");
+        self.add_location(top);
+        self.section.table.add("stands over it");
+        self.section.table.end_row();
+        top
+    }
+
+    // Adds where the path begins.
+    fn add_start(&mut self) {
+        let word = if self.text.first() == Some(&b'/') {
+            "(root)"
+        } else {
+            "(directory)"
+        };
+        self.section.table.add(word);
+        self.add_location(self.here);
+        self.section.table.end_row();
+    }
+
+    // Walks the path from its start, and returns where it ends if it leads somewhere.
+    fn walk_all(&mut self) -> Option<Location> {
+        self.add_start();
+        match self.walk() {
+            Some(at) => Some(self.over(at)),
+            None => None,
+        }
     }
 }
 
-// The root of the topmost mount over a destination.
-fn over(
-    view: &View<'_>,
-    last: Last,
-    end: Option<Location>,
-    section: &mut Section,
-) -> Result<Option<Location>, AllocError> {
-    let Some(at) = end else {
-        return Ok(None);
-    };
-    let top = view.world.topmost(at);
-    if last != Last::Destination || top == at {
-        return Ok(end);
-    }
-    let mut row = row_at(view, b"", top)?;
-    row.push(String::from_str(view.alloc, "stands over it")?)?;
-    section.push(row)?;
-    Ok(Some(top))
-}
-
-// Adds where a path begins.
-fn push_start(view: &View<'_>, path: &Path, section: &mut Section) -> Result<(), AllocError> {
-    let word: &[u8] = if path.text.first() == Some(&b'/') {
-        b"(root)"
-    } else {
-        b"(directory)"
-    };
-    section.push(row_at(view, word, path.here)?)
-}
-
-/// Where a path leads, word by word: each by the walk of the path up to it.
-pub fn path_walked(view: &View<'_>, asked: PathAsked<'_>) -> Result<Walked, AllocError> {
-    let mut title = String::from_str(view.alloc, "PATH ")?;
-    title.push_str(shown(view.alloc, asked.text)?.as_str())?;
-    let mut section = Section::new(view.alloc, HEADS, title)?;
+/// Appends where a path leads, word by word, each by the walk of the path up to it; and returns where it ends, if it leads
+/// somewhere.
+pub fn push_walk(
+    view: View<'_>,
+    asked: PathAsked<'_>,
+    format: Format,
+    text: &mut Draft,
+) -> Option<Location> {
     if asked.text.is_empty() {
-        return Ok(Walked { section, end: None });
+        return None;
     }
-    let mut path = Path {
-        text: copied_bytes(view.alloc, asked.text)?,
-        walked: 0,
-        links: 0,
-        here: start_of(view.who, asked.text),
-    };
-    push_start(view, &path, &mut section)?;
-    for _ in 0..u64::MAX {
-        if let Turn::End(end) = step(view, &mut path, asked.last, &mut section)? {
-            let end = over(view, asked.last, end, &mut section)?;
-            return Ok(Walked { section, end });
-        }
-    }
-    Ok(Walked { section, end: None })
+    let mut walk = Walk::new(view, asked);
+    let end = walk.walk_all();
+    walk.section.write(format, asked.text, text);
+    drop(walk);
+    end
 }

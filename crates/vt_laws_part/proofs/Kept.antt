@@ -1,5 +1,6 @@
 -- Lists of which something is kept: filters, searches and lists that agree.
-use Rattle.std.proofs.Common.{◌≡◌, refl, sym, ap, ◌∙◌, inl, inr, ⊎_elim, ℕ, nat_eq, Bool, true, false, cond, List, [], ◌∷◌, Option, Some, None, map, filter, find, not, eqb-true, length, suc, ◌≤◌, arith}
+use Rattle.std.proofs.lemmas.Grind.{common_steps}
+use Rattle.std.proofs.Common.{◌≡◌, refl, sym, ap, inl, inr, ⊎_elim, ℕ, nat_eq, Bool, true, false, List, [], ◌∷◌, Option, Some, map, filter, find, not, eqb-true, length, ◌≤◌, arith}
 use Rattle.std.specs.Prelude.{unwrap_or}
 use Rattle.std.specs.List.{cons_option, filter_map}
 use Rattle.vt_spec.specs.Lists.{each_once}
@@ -9,9 +10,7 @@ use Rattle.vt_spec.proofs.Lists.{Among, among-filter, among-from_filter, filter_
 pub filter_map_same : {A B : Type 0} (f g : A → Option B) (xs : List A) → ((x : A) → Among x xs → f x ≡ g x)
     → filter_map f xs ≡ filter_map g xs
 filter_map_same f g [] h = refl
-filter_map_same f g (x ∷ xs) h =
-    ap (λ o. cons_option o (filter_map f xs)) (h x (inl refl))
-    ∙ ap (cons_option (g x)) (filter_map_same f g xs (λ y m. h y (inr m)))
+filter_map_same f g (x ∷ xs) h = cc (h x (inl refl), filter_map_same f g xs (λ y m. h y (inr m)))
 
 pub filter_map_map : {A B C : Type 0} (f : B → Option C) (h : A → B) (xs : List A)
     → filter_map f (map h xs) ≡ filter_map (λ x. f (h x)) xs
@@ -21,64 +20,29 @@ filter_map_map f h (x ∷ xs) = ap (cons_option (f (h x))) (filter_map_map f h x
 module _ {A : Type 0} where
   pub filter_again : (p : A → Bool) (xs : List A) → filter p (filter p xs) ≡ filter p xs
   filter_again p [] = refl
-  filter_again p (x ∷ xs) = by (p x) refl (filter_again p xs)
-    where
-      by : (b : Bool) → p x ≡ b → filter p (filter p xs) ≡ filter p xs → filter p (filter p (x ∷ xs)) ≡ filter p (x ∷ xs)
-      by true e rest =
-          ap (filter p) (filter_here p x xs e) ∙ filter_here p x (filter p xs) e ∙ ap (λ l. x ∷ l) rest
-          ∙ sym (filter_here p x xs e)
-      by false e rest = ap (filter p) (filter_skip p x xs e) ∙ rest ∙ sym (filter_skip p x xs e)
+  filter_again p (x ∷ xs) = grind (arith, common_steps, filter_here, filter_skip, filter_again p xs)
 
   -- what is kept once is kept again
   pub kept_again : (k : A → Option A) → ((x y : A) → k x ≡ Some y → k y ≡ Some y) → (xs : List A)
       → filter_map k (filter_map k xs) ≡ filter_map k xs
   kept_again k again [] = refl
-  kept_again k again (x ∷ xs) = by (k x) refl (kept_again k again xs)
-    where
-      by : (o : Option A) → k x ≡ o → filter_map k (filter_map k xs) ≡ filter_map k xs
-          → filter_map k (cons_option o (filter_map k xs)) ≡ cons_option o (filter_map k xs)
-      by None e rest = rest
-      by (Some y) e rest =
-          ap (λ o. cons_option o (filter_map k (filter_map k xs))) (again x y e) ∙ ap (λ l. y ∷ l) rest
+  kept_again k again (x ∷ xs) = grind (arith, common_steps, kept_again k again xs)
 
   -- a test finds the same among what is kept, if it passes only what is kept as it is, and fails what is kept otherwise
   pub filter_kept : (k : A → Option A) (p : A → Bool) → ((x : A) → p x ≡ true → k x ≡ Some x)
       → ((x y : A) → k x ≡ Some y → p x ≡ false → p y ≡ false) → (xs : List A)
       → filter p (filter_map k xs) ≡ filter p xs
   filter_kept k p whole none [] = refl
-  filter_kept k p whole none (x ∷ xs) = by (p x) refl (filter_kept k p whole none xs)
-    where
-      skip : (o : Option A) → k x ≡ o → p x ≡ false → filter p (cons_option o (filter_map k xs)) ≡ filter p (filter_map k xs)
-      skip None e f = refl
-      skip (Some y) e f = filter_skip p y (filter_map k xs) (none x y e f)
-
-      by : (b : Bool) → p x ≡ b → filter p (filter_map k xs) ≡ filter p xs
-          → filter p (cons_option (k x) (filter_map k xs)) ≡ filter p (x ∷ xs)
-      by true e rest =
-          ap (λ o. filter p (cons_option o (filter_map k xs))) (whole x e) ∙ filter_here p x (filter_map k xs) e
-          ∙ ap (λ l. x ∷ l) rest ∙ sym (filter_here p x xs e)
-      by false e rest = skip (k x) refl e ∙ rest ∙ sym (filter_skip p x xs e)
+  filter_kept k p whole none (x ∷ xs) =
+      grind (arith, common_steps, filter_skip, filter_here, filter_kept k p whole none xs)
 
   -- so does a search, which may find what was kept otherwise
   pub find_kept : (k : A → Option A) (p : A → Bool) → ((x : A) → p x ≡ true → (y : A) × (k x ≡ Some y) × (p y ≡ true))
-      → ((x y : A) → k x ≡ Some y → p x ≡ false → p y ≡ false) → (B : Type 0) (f : A → B) → ((x y : A) → k x ≡ Some y → f y ≡ f x)
+      → ((x y : A) → k x ≡ Some y → p x ≡ false → p y ≡ false) → (B : Type 0) (f : A → B)
+      → ((x y : A) → k x ≡ Some y → f y ≡ f x)
       → (d : A) (xs : List A) → f (unwrap_or (find p (filter_map k xs)) d) ≡ f (unwrap_or (find p xs) d)
   find_kept k p kept none B f same d [] = refl
-  find_kept k p kept none B f same d (x ∷ xs) = by (p x) refl (find_kept k p kept none B f same d xs)
-    where
-      skip : (o : Option A) → k x ≡ o → p x ≡ false → find p (cons_option o (filter_map k xs)) ≡ find p (filter_map k xs)
-      skip None e g = refl
-      skip (Some y) e g = ap (λ b. cond b (Some y) (find p (filter_map k xs))) (none x y e g)
-
-      by : (b : Bool) → p x ≡ b → f (unwrap_or (find p (filter_map k xs)) d) ≡ f (unwrap_or (find p xs) d)
-          → f (unwrap_or (find p (cons_option (k x) (filter_map k xs))) d) ≡ f (unwrap_or (cond b (Some x) (find p xs)) d)
-      by true e rest =
-          let t = kept x e in
-          ap (λ o. f (unwrap_or (find p (cons_option o (filter_map k xs))) d)) t.1
-          ∙ ap (λ b. f (unwrap_or (cond b (Some t.0) (find p (filter_map k xs))) d)) t.2
-          ∙ same x t.0 t.1
-      by false e rest =
-          ap (λ o. f (unwrap_or o d)) (skip (k x) refl e) ∙ rest
+  find_kept k p kept none B f same d (x ∷ xs) = grind (arith, common_steps, find_kept k p kept none B f same d xs)
 
 -- what is in a list without repetitions is in it
 pub among-from_each_once : (xs : List ℕ) (x : ℕ) → Among x (each_once nat_eq xs) → Among x xs
@@ -104,27 +68,9 @@ pub filter_both : {A : Type 0} (k : A → Option A) (p q : A → Bool) (xs : Lis
     → filter p (filter_map k xs) ≡ filter q xs
 filter_both k p q [] pass fail = refl
 filter_both {A} k p q (x ∷ xs) pass fail =
-    by (q x) refl (filter_both k p q xs (λ y m. pass y (inr m)) (λ y z m. fail y z (inr m)))
-  where
-    skip : (o : Option A) → k x ≡ o → q x ≡ false → filter p (cons_option o (filter_map k xs)) ≡ filter p (filter_map k xs)
-    skip None e f = refl
-    skip (Some y) e f = ap (λ b. cond b (y ∷ filter p (filter_map k xs)) (filter p (filter_map k xs))) (fail x y (inl refl) f e)
-
-    by : (b : Bool) → q x ≡ b → filter p (filter_map k xs) ≡ filter q xs
-        → filter p (cons_option (k x) (filter_map k xs)) ≡ cond b (x ∷ filter q xs) (filter q xs)
-    by true e rest =
-        let t = pass x (inl refl) e in
-        ap (λ o. filter p (cons_option o (filter_map k xs))) t.0
-        ∙ ap (λ b. cond b (x ∷ filter p (filter_map k xs)) (filter p (filter_map k xs))) t.1
-        ∙ ap (λ l. x ∷ l) rest
-    by false e rest = skip (k x) refl e ∙ rest
+    grind (arith, common_steps, filter_both k p q xs (λ y m. pass y (inr m)) (λ y z m. fail y z (inr m)))
 
 -- what is kept is no more
 pub length-filter_map : {A B : Type 0} (k : A → Option B) (xs : List A) → length (filter_map k xs) ≤ length xs
 length-filter_map {A} {B} k [] = omega arith
-length-filter_map {A} {B} k (x ∷ xs) = by (k x) (length-filter_map k xs)
-  where
-    by : (o : Option B) → length (filter_map k xs) ≤ length xs
-        → length (cons_option o (filter_map k xs)) ≤ suc (length xs)
-    by None l = omega (arith, l)
-    by (Some y) l = omega (arith, l)
+length-filter_map {A} {B} k (x ∷ xs) = grind (arith, common_steps, length-filter_map k xs)

@@ -26,7 +26,8 @@ impl World {
     /// Mounts a new overlay of these lower layers, the highest first, with the caller as its mounter: mount(2) of
     /// overlayfs. Each receiver of the destination's mount gets a mount of it too.
     ///
-    /// It fails too where no number is left, or an inode or a filesystem would have more than 2^64 - 1 uses.
+    /// It fails too where no number is left, or an inode or a filesystem would have more than 2^64 - 1 uses. Each mount
+    /// that it makes takes as many numbers as a tree of two mounts: those of the filesystem and its root lie between.
     pub fn mount_overlay(&mut self, name: &TaskName, new: ToMountOverlay) -> Result<(), AllocError>
         requires { PermitsOverlay self.old name.now new }
         ensures ok { OnOk result (MountsOverlay self.old name.now new self.new) }

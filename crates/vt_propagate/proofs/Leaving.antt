@@ -112,6 +112,27 @@ module _ (mounts : List (Mount ℕ)) (number : ℕ) (mount : Mount ℕ) (found :
       by (kid ∷ []) none one = absurd (one refl)
       by (kid ∷ other ∷ kids) none one = refl
 
+-- the mount at a place is found by its number
+found_by_number : (mounts : List (Mount ℕ)) → are_ascending mounts ≡ true → (place : Location ℕ) (number : ℕ)
+    → (child : Mount ℕ) → child_at nat_eq mounts place ≡ Some child → number ≡ child.number
+    → numbered mounts number ≡ Some child
+found_by_number mounts up place number child e same =
+    ap (numbered mounts) same ∙ numbered_among mounts up child (found_in (stands_at nat_eq place) mounts child e).0
+
+-- the mount at a place is free where none stands on it
+pub free-childless : (mounts : List (Mount ℕ)) → are_ascending mounts ≡ true → (place : Location ℕ) (number : ℕ)
+    → Some number ≡ option_map (λ child. child.number) (child_at nat_eq mounts place)
+    → (ids : List MountId) → counts ids ≡ numbers_of (children nat_eq mounts number) → length ids ≡ 0
+    → true ≡ holds_of (is_free mounts) (numbered mounts number)
+free-childless mounts up place number told ids on none = by (child_at nat_eq mounts place) refl told
+  where
+    by : (o : Option (Mount ℕ)) → child_at nat_eq mounts place ≡ o → Some number ≡ option_map (λ child. child.number) o
+        → true ≡ holds_of (is_free mounts) (numbered mounts number)
+    by None e t = absurd (true≢false (ap is_some t))
+    by (Some child) e t =
+        free-none mounts number child
+        (sym (found_by_number mounts up place number child e (same_Some number child.number t))) ids on none
+
 -- the mount at a place is free just where the one that is found by its number is
 pub free_at-told : (mounts : List (Mount ℕ)) → are_ascending mounts ≡ true → (place : Location ℕ) (number : ℕ)
     → Some number ≡ option_map (λ child. child.number) (child_at nat_eq mounts place)
@@ -130,9 +151,7 @@ free_at-told mounts up place number told free is = by (child_at nat_eq mounts pl
     by None e t = absurd (true≢false (ap is_some t))
     by (Some child) e t =
         let same : number ≡ child.number = same_Some number child.number t in
-        let found : numbered mounts number ≡ Some child =
-        ap (numbered mounts) same ∙ numbered_among mounts up child
-        (found_in (stands_at nat_eq place) mounts child e).0 in
+        let found : numbered mounts number ≡ Some child = found_by_number mounts up place number child e same in
         ap (λ b. cond b (Some number) None) (is ∙ ap (holds_of (is_free mounts)) found)
         ∙ goes (is_free mounts child) child same
 

@@ -1,12 +1,12 @@
 -- Where the first that passes stands in a list, and what notes it.
 use Rattle.std.proofs.Common.{◌≡◌, ℕ, Bool, true, false, cond, List, [], ◌∷◌, ◌++◌, ◌+◌, ◌<◌, ◌||◌, map, nat_eq, Option, None, Some, refl, sym, ap, ◌∙◌, arith, get_or, length, take, eq-eqb, ne_eqb, is_some, true≢false}
 use Rattle.std.specs.Prelude.{if◌then◌else◌, unwrap_or}
-use Rattle.std.specs.List.{list_any}
+use Rattle.std.specs.List.{list_any, position_from}
 use Rattle.std.proofs.lemmas.Option.{same_Some}
 use Rattle.std.proofs.lemmas.Bool.{eqb-false, eqb-true}
 use Rattle.std.proofs.lemmas.List.{length-map, length-take-le, map-append, take_more}
 use Rattle.vt_spec.specs.Lists.{or_else, index_from}
-use Rattle.vt_spec.specs.Machine.Mounts.{Mount, index_of}
+use Rattle.vt_spec.specs.Machine.Mounts.{Mount}
 use Rattle.vt_location.specs.declared.mounts.Mount.{Mount as Kept}
 use Rattle.vt_location.specs.MountValue.{mount_of}
 
@@ -114,16 +114,9 @@ place_within test mounts n is some = by (index_from test 0 (map mount_of mounts)
     by None within same = omega (arith, same, some)
     by (Some i) within same = let less : i < 0 + length mounts = within i refl in omega (arith, same, less)
 
--- of fewer than two mounts, each index is 0
-pub index_of-short : (mounts : List Kept) (number : ℕ) → length mounts < 2
-    → index_of nat_eq (map mount_of mounts) number ≡ 0
-index_of-short [] number few = refl
-index_of-short (mount ∷ []) number few = by (nat_eq number (mount_of mount).number)
-  where
-    first : ℕ
-    first = 0
-
-    by : (b : Bool) → unwrap_or (if b then Some first else None) 0 ≡ first
-    by true = refl
-    by false = refl
-index_of-short (mount ∷ other ∷ rest) number few = absurd (omega (arith, few))
+-- the first that passes by what is seen of it stands where the first of those that are seen does
+pub place_at : {A B : Type 0} (seen : A → B) (here : A → Bool) (test : B → Bool) → ((a : A) → here a ≡ test (seen a))
+    → (k : ℕ) (list : List A) → position_from here k list ≡ index_from test k (map seen list)
+place_at seen here test same k [] = refl
+place_at seen here test same k (a ∷ list) =
+    λ i. cond (same a i) (Some k) (place_at seen here test same (k + 1) list i)

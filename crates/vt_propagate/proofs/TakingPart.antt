@@ -3,7 +3,6 @@ use Rattle.std.proofs.Common.{◌≡◌, ℕ, Bool, true, ◌&&◌, List, ◌∷
 use Rattle.std.specs.Prelude.{unwrap_or}
 use Rattle.vt_spec.specs.Machine.Attach.{parts_of, receivers_of, takes_part}
 use Rattle.vt_spec.specs.Machine.Mounts.{Location, Mount, no_mount}
-use Rattle.vt_spec.specs.Machine.Receives.{receivers}
 use Rattle.vt_spec.specs.Machine.World.{World, mount_at}
 use Rattle.vt_group.specs.Grouping.{Grouping}
 use Rattle.vt_location.specs.declared.numbers.MountId.{MountId}

@@ -1,8 +1,8 @@
 -- Where the mounts and the groups of an attachment stand.
-use Rattle.std.specs.Prelude.{List, Option, map, nat_eq, unwrap_or, ℕ, ◌≡◌}
+use Rattle.std.specs.Prelude.{List, Option, length, map, nat_eq, ℕ, ◌<◌, ◌≡◌}
 use Rattle.std.specs.HashMap.{get}
 use Rattle.vt_spec.specs.Lists.{index_from}
-use Rattle.vt_spec.specs.Machine.Mounts.{Mount, index_of}
+use Rattle.vt_spec.specs.Machine.Mounts.{Mount}
 use Rattle.vt_spec.specs.Machine.Receives.{is_member_of}
 use Rattle.vt_location.specs.declared.numbers.GroupId.{GroupId}
 use Rattle.vt_location.specs.declared.numbers.MountId.{MountId}
@@ -11,6 +11,7 @@ use Rattle.vt_location.specs.Numbers.{counted}
 use Rattle.vt_mount.specs.Listed.{same_id}
 use Rattle.vt_propagate.specs.declared.copying.Graft.{Graft}
 use Rattle.vt_propagate.specs.declared.indexes.Indexes.{Indexes}
+use Rattle.vt_propagate.specs.declared.indexes.TheConstants.{FEW}
 use Rattle.vt_group.specs.Sets.{same_group}
 
 -- where the first mount with a number stands, and the first in a group
@@ -20,11 +21,11 @@ place_of mounts number = index_from (λ mount. nat_eq number mount.number) 0 mou
 abbrev pub place_of_group : List (Mount ℕ) → ℕ → Option ℕ
 place_of_group mounts group = index_from (is_member_of nat_eq group) 0 mounts
 
--- these are the indexes of a graft
+-- these are the indexes of a graft, where it has more than a few
 pub record IsIndexed (indexes : Indexes) (graft : Graft) : Type 0 where
-  pub parts : (id : MountId) → unwrap_or (get same_id indexes.parts id) 0
-      ≡ index_of nat_eq (map mount_of graft.parts.now) (counted id.count)
-  pub tree : (id : MountId) → unwrap_or (get same_id indexes.tree id) 0
-      ≡ index_of nat_eq (map mount_of graft.tree.now) (counted id.count)
-  pub groups : (group : GroupId)
+  pub parts : FEW < length graft.parts.now → (id : MountId)
+      → get same_id indexes.parts id ≡ place_of (map mount_of graft.parts.now) (counted id.count)
+  pub tree : FEW < length graft.tree.now → (id : MountId)
+      → get same_id indexes.tree id ≡ place_of (map mount_of graft.tree.now) (counted id.count)
+  pub groups : FEW < length graft.parts.now → (group : GroupId)
       → get same_group indexes.groups group ≡ place_of_group (map mount_of graft.parts.now) (counted group.count)

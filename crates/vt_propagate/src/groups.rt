@@ -144,6 +144,6 @@ impl<'a> Copying<'a> {
         requires { IsReady self.now }
         ensures { result ≡ has_members nat_eq (parts_seen self.now) (group_number group) }
     {
-        self.indexes.groups.contains_key(&group)
+        self.group_place(group).is_some()
     }
 }

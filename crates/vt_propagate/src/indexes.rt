@@ -1,8 +1,8 @@
 //! Where the mounts and the groups of an attachment stand.
-ghost use Rattle.std.specs.Prelude.{◌≡◌, IfOk, None, OnOk, Some, if◌then◌else◌, map, nat_eq, option_map, unwrap_or};
+ghost use Rattle.std.specs.Prelude.{◌≡◌, ◌<◌, IfOk, None, OnOk, Some, if◌then◌else◌, length, map, option_map};
 ghost use Rattle.std.specs.HashMap.{get};
 ghost use Rattle.vt_spec.specs.Lists.{or_else};
-ghost use Rattle.vt_spec.specs.Machine.Mounts.{group_of, index_of};
+ghost use Rattle.vt_spec.specs.Machine.Mounts.{group_of};
 ghost use Rattle.vt_location.specs.declared.numbers.GroupId.{GroupId};
 ghost use Rattle.vt_location.specs.declared.numbers.MountId.{MountId};
 ghost use Rattle.vt_location.specs.MountValue.{mount_of, propagation_of};
@@ -16,8 +16,11 @@ use std::alloc::{AllocError, Global};
 use std::collections::HashMap;
 use vt_location::{GroupId, Mount, MountId, Propagation};
 
-/// The index of each part and of each mount of a tree by their numbers, if it is not 0, and that of the first part in
-/// each group.
+/// So many mounts are searched from their front, and get no map.
+pub(crate) const FEW: usize = 8;
+
+/// The index of each part and of each mount of a tree by their numbers, and that of the first part in each group, where
+/// there are more than a few.
 #[derive(Debug, Drop)]
 pub(crate) struct Indexes {
     pub(crate) parts: HashMap<MountId, usize>,
@@ -38,12 +41,12 @@ impl Indexes {
     }
 }
 
-// The index of each of these mounts; of those with one number, the first. An index of 0 is left out if there is no other.
+// The index of each of these mounts, if there are more than a few; of those with one number, the first.
 fn places(alloc: Global, mounts: &[Mount]) -> Result<HashMap<MountId, usize>, AllocError>
-    ensures { IfOk result (λ places. (id : MountId) → unwrap_or (get same_id places id) 0
-        ≡ index_of nat_eq (map mount_of mounts.now) (mount_number id)) }
+    ensures { IfOk result (λ places. FEW < length mounts.now → (id : MountId)
+        → get same_id places id ≡ place_of (map mount_of mounts.now) (mount_number id)) }
 {
-    if mounts.len() < 2 {
+    if mounts.len() <= FEW {
         return Ok(HashMap::new(alloc));
     }
     all_places(alloc, mounts)
@@ -61,8 +64,19 @@ fn all_places(alloc: Global, mounts: &[Mount]) -> Result<HashMap<MountId, usize>
     Ok(places)
 }
 
-// The index of the first of these mounts in each group.
+// The index of the first of these mounts in each group, if there are more than a few.
 fn group_places(alloc: Global, parts: &[Mount]) -> Result<HashMap<GroupId, usize>, AllocError>
+    ensures { IfOk result (λ places. FEW < length parts.now → (group : GroupId)
+        → get same_group places group ≡ place_of_group (map mount_of parts.now) (group_number group)) }
+{
+    if parts.len() <= FEW {
+        return Ok(HashMap::new(alloc));
+    }
+    all_group_places(alloc, parts)
+}
+
+// The same with all indexes.
+fn all_group_places(alloc: Global, parts: &[Mount]) -> Result<HashMap<GroupId, usize>, AllocError>
     ensures { IfOk result (λ places. (group : GroupId)
         → get same_group places group ≡ place_of_group (map mount_of parts.now) (group_number group)) }
 {

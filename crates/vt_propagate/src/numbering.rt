@@ -1,14 +1,19 @@
 //! Numbers of copies and of new groups.
 ghost use Rattle.std.specs.Prelude.{◌≡◌, ◌<◌, ◌+◌, ◌*◌, length, map, nat_eq};
+ghost use Rattle.std.specs.HashMap.{get};
 ghost use Rattle.vt_spec.specs.Machine.Attach.{copy_number as copy_number_of, index_of_group as index_of_group_in};
 ghost use Rattle.vt_spec.specs.Lists.{holds_of};
 ghost use Rattle.vt_spec.specs.Machine.Mounts.{group_of, index_of as index_of_in};
+ghost use Rattle.vt_location.specs.declared.numbers.MountId.{MountId};
 ghost use Rattle.vt_location.specs.MountValue.{mount_of, propagation_of};
 ghost use Rattle.vt_location.specs.Numbers.{group_number, mount_number};
+ghost use Rattle.vt_mount.specs.Listed.{same_id};
+ghost use Rattle.vt_propagate.specs.Indexes.{place_of, place_of_group};
 ghost use Rattle.vt_propagate.specs.Copying.{IsReady, graft_seen, parts_seen, supply, tree_seen};
 
 use crate::copying::{Counts, Graft};
-use crate::indexes::Indexes;
+use crate::indexes::{FEW, Indexes};
+use std::collections::HashMap;
 use vt_location::{GroupId, Mount, MountId, Propagation};
 
 /// What is copied and where: a graft, the mount at its destination, the counts of the new numbers, and the indexes of
@@ -66,7 +71,7 @@ impl<'a> Copying<'a> {
         ensures value { result ≡ index_of_in nat_eq (parts_seen self.now) (mount_number part) }
         ensures within { 0 < length self.now.graft.parts.now → result < length self.now.graft.parts.now }
     {
-        self.indexes.parts.get(&part).copied().unwrap_or(0)
+        place_in(self.graft.parts, &self.indexes.parts, part).unwrap_or(0)
     }
 
     // The index of the mount of the tree with this number, or 0.
@@ -75,7 +80,7 @@ impl<'a> Copying<'a> {
         ensures value { result ≡ index_of_in nat_eq (tree_seen self.now) (mount_number origin) }
         ensures within { 0 < length self.now.graft.tree.now → result < length self.now.graft.tree.now }
     {
-        self.indexes.tree.get(&origin).copied().unwrap_or(0)
+        place_in(self.graft.tree, &self.indexes.tree, origin).unwrap_or(0)
     }
 
     // The index of the first part that is a member of this group, or 0.
@@ -84,8 +89,40 @@ impl<'a> Copying<'a> {
         ensures value { result ≡ index_of_group_in nat_eq (parts_seen self.now) (group_number group) }
         ensures within { 0 < length self.now.graft.parts.now → result < length self.now.graft.parts.now }
     {
-        self.indexes.groups.get(&group).copied().unwrap_or(0)
+        self.group_place(group).unwrap_or(0)
     }
+
+    /// The index of the first part that is a member of this group.
+    pub(crate) fn group_place(&self, group: GroupId) -> Option<usize>
+        requires { IsReady self.now }
+        ensures { result ≡ place_of_group (parts_seen self.now) (group_number group) }
+    {
+        if self.graft.parts.len() <= FEW {
+            return first_in(self.graft.parts, group);
+        }
+        self.indexes.groups.get(&group).copied()
+    }
+}
+
+// The index of the first of these mounts with this number. If there are more than a few, these are their places.
+fn place_in(mounts: &[Mount], places: &HashMap<MountId, usize>, id: MountId) -> Option<usize>
+    requires { FEW < length mounts.now → (one : MountId)
+        → get same_id places.now one ≡ place_of (map mount_of mounts.now) (mount_number one) }
+    ensures { result ≡ place_of (map mount_of mounts.now) (mount_number id) }
+{
+    if mounts.len() <= FEW {
+        return mounts.iter().position(|mount| mount.number == id);
+    }
+    places.get(&id).copied()
+}
+
+// The index of the first of these mounts that is a member of this group.
+fn first_in(mounts: &[Mount], group: GroupId) -> Option<usize>
+    ensures { result ≡ place_of_group (map mount_of mounts.now) (group_number group) }
+{
+    mounts
+        .iter()
+        .position(|mount| is_member(mount.propagation, group))
 }
 
 /// Whether a mount of this type is a member of this group.

@@ -120,6 +120,10 @@ fn free_at(mounts: &Mounts, place: Location) -> Option<MountId>
         ≡ option_map (λ mount. mount.number) (free_at (mounts_in mounts.now) (location_of place)) }
 {
     let child = mounts.child_at(place)?;
+    // Mostly nothing stands on it, so that the mount itself is not looked at.
+    if mounts.children(child).is_empty() {
+        return Some(child);
+    }
     is_free(mounts, child).then_some(child)
 }
 

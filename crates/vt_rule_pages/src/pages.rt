@@ -422,7 +422,7 @@ const O1: RulePage = RulePage {
 };
 
 const O2: RulePage = RulePage {
-    meaning: "the options are none of an overlay",
+    meaning: "the options or layers are none of an overlay",
     calls: &["mount"],
     manual: "the kernel: Documentation/filesystems/overlayfs.rst",
     script: "t mkdir /l\nt mkdir /m\nt mount overlay /m lowerdir=/l => deny 22 EINVAL O2\n",

@@ -1,100 +1,117 @@
 //! Tables of text, each column as wide as its widest word.
-use std::alloc::{AllocError, Global};
+use std::alloc::Global;
 use vt_check::draft::Draft;
 
 /// What stands between two columns.
 const GAP: usize = 2;
 
-/// Rows of words, with as many columns as there are words above them. The last word of a row is not padded.
+/// A word of a table: its column, and where it stands among all words.
+#[derive(Clone, Copy)]
+pub struct Word {
+    pub column: usize,
+    pub begin: usize,
+    pub end: usize,
+}
+
+/// Rows of words. A row may end before the last column; its last word is not padded.
 #[derive(Drop)]
 pub struct Table {
-    alloc: Global,
-    cells: Vec<String>,
+    /// All words, one behind the other. What is appended to it belongs to the word that ends next.
+    pub text: Draft,
+    /// The words, from the first row on.
+    pub words: Vec<Word>,
     widths: Vec<usize>,
-    // The column of the next word.
+    // The column of the next word, and where it begins.
     column: usize,
-    failed: bool,
+    begin: usize,
 }
 
 impl Table {
     /// A table with these words above its columns.
     pub fn new(alloc: Global, heads: &[&str]) -> Self {
         let mut table = Table {
-            alloc,
-            cells: Vec::new(alloc),
+            text: Draft::new(alloc),
+            words: Vec::new(alloc),
             widths: Vec::new(alloc),
             column: 0,
-            failed: false,
+            begin: 0,
         };
-        for _ in heads {
-            table.failed |= table.widths.push(0).is_err();
-        }
-        for head in heads {
-            table.add_text(head);
-        }
+        table.add_heads(heads);
         table
     }
 
-    /// An empty text.
-    pub fn draft(&self) -> Draft {
-        Draft::new(self.alloc)
+    // Adds the words above the columns.
+    fn add_heads(&mut self, heads: &[&str]) {
+        for head in heads {
+            if self.widths.push(0).is_err() {
+                self.text.fail();
+            }
+            self.add(head);
+        }
+        self.end_row();
+    }
+
+    /// How long the next word is so far.
+    pub fn written(&self) -> usize {
+        self.text.len().saturating_sub(self.begin)
+    }
+
+    /// Ends a word. Its column is as wide as the word at least.
+    pub fn end_word(&mut self) {
+        let written = self.written();
+        if let Some(width) = self.widths.get_mut(self.column) {
+            *width = (*width).max(written);
+        }
+        let word = Word {
+            column: self.column,
+            begin: self.begin,
+            end: self.text.len(),
+        };
+        if self.words.push(word).is_err() {
+            self.text.fail();
+        }
+        self.column = self.column.saturating_add(1);
+        self.begin = word.end;
+    }
+
+    /// Ends a row.
+    pub fn end_row(&mut self) {
+        self.column = 0;
     }
 
     /// Adds a word.
-    pub fn add(&mut self, word: Draft) {
-        self.failed |= self.try_add(word).is_err();
-    }
-
-    /// Adds a word.
-    pub fn add_text(&mut self, word: &str) {
-        let mut text = self.draft();
-        text.push(word);
-        self.add(text);
+    pub fn add(&mut self, word: &str) {
+        self.text.push(word);
+        self.end_word();
     }
 
     /// Adds a number.
     pub fn add_number(&mut self, number: u64) {
-        let mut text = self.draft();
-        text.push_number(number);
-        self.add(text);
+        self.text.push_number(number);
+        self.end_word();
     }
 
-    // Adds a word, if there is memory for it. Its column is as wide as the word at least.
-    fn try_add(&mut self, word: Draft) -> Result<(), AllocError> {
-        let word = word.end()?;
-        if let Some(width) = self.widths.get_mut(self.column) {
-            *width = (*width).max(word.len());
-        }
-        self.column = self.after(self.column);
-        self.cells.push(word)?;
-        Ok(())
-    }
-
-    // The column behind one.
-    fn after(&self, column: usize) -> usize {
-        let next = column.saturating_add(1);
-        if next < self.widths.len() { next } else { 0 }
-    }
-
-    // Appends what stands between a word of this length and the next.
+    // Appends what stands before the word of a column: a new line, or spaces behind a word of this length.
     fn push_space(&self, text: &mut Draft, column: usize, length: usize) {
-        if self.after(column) == 0 {
+        let Some(before) = column.checked_sub(1) else {
             text.push("\n");
             return;
-        }
-        if let Some(width) = self.widths.get(column) {
+        };
+        if let Some(width) = self.widths.get(before) {
             text.push_times(' ', (*width).saturating_sub(length).saturating_add(GAP));
         }
     }
 
-    /// Appends the rows, each with a newline, or tells that an allocation failed.
-    pub fn write(&self, text: &mut Draft) -> Result<(), AllocError> {
-        let mut column: usize = 0;
-        for cell in &self.cells {
-            text.push(cell.as_str());
-            self.push_space(text, column, cell.len());
-            column = self.after(column);
+    /// Appends the rows, behind a newline each, and a newline.
+    pub fn write(&self, text: &mut Draft) {
+        // Of no word too it is told that an allocation failed.
+        text.push_part(&self.text, 0, 0);
+        let mut length: usize = 0;
+        for word in &self.words {
+            self.push_space(text, word.column, length);
+            text.push_part(&self.text, word.begin, word.end);
+            length = word.end.saturating_sub(word.begin);
         }
-        if self.failed { Err(AllocError) } else { Ok(()) }
+        text.push("\n");
     }
 }

@@ -35,13 +35,7 @@ fn push_mount(text: &mut Draft, mount: &MountShown) {
     text.push(" [label=\"");
     names::push_mount(text, mount.place);
     text.push(" ");
-    push_escaped(
-        text,
-        match &mount.target {
-            Some(path) => path.as_str(),
-            None => names::GONE,
-        },
-    );
+    push_escaped(text, mount.path());
     text.push("\"];\n");
 }
 

@@ -8,7 +8,8 @@ use std::alloc::{AllocError, Global};
 use vt_check::draft::Draft;
 use vt_check::object::Object;
 use vt_location::FilesystemId;
-use vt_node::{Kind, Node};
+use vt_node::Node;
+use vt_ns::World;
 use vt_request::{MountPlace, PeerLine, Spot, TypeLine};
 
 // Adds a number.
@@ -127,9 +128,9 @@ fn put_root(object: &mut Object, root: &Spot) {
 fn put_source(object: &mut Object, mount: &MountShown) {
     put_count(object, "filesystem", mount.filesystem);
     put_root(object, &mount.root);
-    object.put_text("type", "plain");
+    object.put_text("type", names::filesystem_type(mount.is_overlay));
     let mut flags = object.draft();
-    names::push_flags(&mut flags, mount.flags);
+    names::push_flags(&mut flags, mount.mount.flags);
     object.put_draft("options", flags);
 }
 
@@ -182,16 +183,6 @@ fn group(alloc: Global, line: &PeerLine) -> Result<String, AllocError> {
     object.line()
 }
 
-// The word of a kind.
-fn kind_word(kind: Kind) -> &'static str {
-    match kind {
-        Kind::Dir => "dir",
-        Kind::File => "file",
-        Kind::Symlink => "link",
-        Kind::White => "white",
-    }
-}
-
 // An object of a tree as an object and a newline.
 fn object(
     alloc: Global,
@@ -203,7 +194,7 @@ fn object(
     let mut object = Object::new(alloc);
     put_count(&mut object, "filesystem", filesystem);
     object.put_text("path", names::or_root(found.path.as_str()));
-    object.put_text("kind", kind_word(node.kind()));
+    object.put_text("kind", names::kind(node.kind()));
     let mut mode = object.draft();
     mode.push_octal(attr.mode.bits(), 4);
     object.put_draft("mode", mode);
@@ -214,78 +205,82 @@ fn object(
 }
 
 // Appends a line that was written, unless an allocation failed.
-fn push_line(text: &mut Draft, line: Result<String, AllocError>) -> Result<(), AllocError> {
-    text.push(line?.as_str());
-    Ok(())
+fn push_line(text: &mut Draft, line: Result<String, AllocError>) {
+    match line {
+        Ok(line) => text.push(line.as_str()),
+        Err(_) => text.fail(),
+    }
 }
 
 // Appends the objects of a filesystem.
-fn push_tree(
-    alloc: Global,
-    text: &mut Draft,
-    picture: &Picture<'_>,
-    filesystem: usize,
-    id: FilesystemId,
-) -> Result<(), AllocError> {
-    let filesystems = picture.world.filesystems();
-    let Some(root) = filesystems.root(id) else {
-        return Ok(());
-    };
-    let mut walk = TreeWalk::new(alloc, filesystems, root)?;
+fn push_tree(alloc: Global, text: &mut Draft, filesystem: usize, walk: &mut TreeWalk<'_>) {
     for _ in 0..u64::MAX {
-        let Some(found) = walk.next()? else {
+        let Some(found) = walk.next() else {
             break;
         };
-        if let Some(node) = filesystems.node(found.node) {
-            push_line(text, object(alloc, filesystem, &found, node))?;
-        }
+        push_object(alloc, text, filesystem, walk, &found);
     }
-    Ok(())
+    if walk.failed {
+        text.fail();
+    }
+}
+
+// Appends an object of a tree.
+fn push_object(
+    alloc: Global,
+    text: &mut Draft,
+    filesystem: usize,
+    walk: &TreeWalk<'_>,
+    found: &Found,
+) {
+    if let Some(node) = walk.node(found) {
+        push_line(text, object(alloc, filesystem, found, node));
+    }
+}
+
+// Appends the objects of a filesystem of this number.
+fn push_filesystem(
+    alloc: Global,
+    text: &mut Draft,
+    world: &World,
+    id: FilesystemId,
+    number: usize,
+) {
+    if let Some(root) = world.store().root(id) {
+        let mut walk = TreeWalk::new(alloc, world, root);
+        push_tree(alloc, text, number, &mut walk);
+    }
 }
 
 // Appends the objects of the filesystems that mounts show.
-fn push_trees(alloc: Global, text: &mut Draft, picture: &Picture<'_>) -> Result<(), AllocError> {
+fn push_trees(alloc: Global, text: &mut Draft, picture: &Picture<'_>) {
     for (index, id) in picture.filesystems.iter().enumerate() {
         let number = index.saturating_add(1);
         if picture.shows_filesystem(number) {
-            push_tree(alloc, text, picture, number, *id)?;
+            push_filesystem(alloc, text, picture.world, *id, number);
         }
     }
-    Ok(())
 }
 
-// Appends the mounts of a namespace.
-fn push_mounts(alloc: Global, text: &mut Draft, shown: &[MountShown]) -> Result<(), AllocError> {
-    for one in shown {
-        push_line(text, mount(alloc, one))?;
-    }
-    Ok(())
-}
-
-// Appends tasks, namespaces and peer groups.
-fn push_all(alloc: Global, text: &mut Draft, picture: &Picture<'_>) -> Result<(), AllocError> {
-    for one in &picture.tasks {
-        push_line(text, task(alloc, one))?;
-    }
-    for namespace in &picture.namespaces {
-        push_mounts(alloc, text, &namespace.mounts)?;
-    }
-    for one in &picture.groups {
-        push_line(text, group(alloc, one))?;
-    }
-    Ok(())
+/// Appends a task.
+pub fn push_task(alloc: Global, text: &mut Draft, shown: &TaskShown<'_>) {
+    push_line(text, task(alloc, shown));
 }
 
 /// Appends a world as JSON, with the objects of its trees if they are asked for.
-pub fn push_shown(
-    alloc: Global,
-    text: &mut Draft,
-    picture: &Picture<'_>,
-    files: bool,
-) -> Result<(), AllocError> {
-    push_all(alloc, text, picture)?;
-    if files {
-        push_trees(alloc, text, picture)?;
+pub fn push_shown(alloc: Global, text: &mut Draft, picture: &Picture<'_>, files: bool) {
+    for one in &picture.tasks {
+        push_task(alloc, text, one);
     }
-    Ok(())
+    for namespace in &picture.namespaces {
+        for one in &namespace.mounts {
+            push_line(text, mount(alloc, one));
+        }
+    }
+    for one in &picture.groups {
+        push_line(text, group(alloc, one));
+    }
+    if files {
+        push_trees(alloc, text, picture);
+    }
 }

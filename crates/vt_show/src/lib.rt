@@ -2,14 +2,14 @@
 #![tactic(auto)]
 
 mod branches;
-mod columns;
+pub mod columns;
 mod dot;
 mod groups;
-mod json;
-mod names;
+pub mod json;
+pub mod names;
 pub mod picture;
 pub mod places;
 pub mod show;
-mod text;
+pub mod text;
 mod tree_text;
 mod tree_walk;

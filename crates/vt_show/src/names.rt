@@ -81,15 +81,29 @@ pub fn push_mount(text: &mut Draft, place: MountPlace) {
     push_count(text, place.place);
 }
 
-/// Writes several mounts, or that there is none.
-pub fn write_mounts(text: &mut Draft, places: &[MountPlace]) {
+/// Appends several mounts, or that there is none.
+pub fn push_mounts(text: &mut Draft, places: &[MountPlace]) {
+    if places.is_empty() {
+        text.push(NOTHING);
+    }
     for (index, place) in places.iter().enumerate() {
         if index > 0 {
             text.push(",");
         }
         push_mount(text, *place);
     }
-    text.push_if_empty(NOTHING);
+}
+
+/// The type of a filesystem.
+pub fn filesystem_type(is_overlay: bool) -> &'static str {
+    if is_overlay { "overlay" } else { "plain" }
+}
+
+/// Appends a filesystem.
+pub fn push_filesystem(text: &mut Draft, is_overlay: bool, number: usize) {
+    text.push(filesystem_type(is_overlay));
+    text.push(":");
+    push_count(text, number);
 }
 
 /// Appends a task.
@@ -119,6 +133,16 @@ pub fn access(access: Access) -> &'static str {
         Access::Read => "r",
         Access::Write => "w",
         Access::ReadWrite => "rw",
+    }
+}
+
+/// The kind of an object.
+pub fn kind(kind: Kind) -> &'static str {
+    match kind {
+        Kind::Dir => "dir",
+        Kind::File => "file",
+        Kind::Symlink => "link",
+        Kind::White => "white",
     }
 }
 

@@ -1,9 +1,9 @@
 //! What is shown of a world, with one number for each mount, peer group and filesystem.
 use crate::groups::GroupNumbers;
+use crate::names::GONE;
 use crate::places::{Place, Places};
 use indexmap::IndexSet;
 use std::alloc::{AllocError, Global};
-use vt_cred::MountFlags;
 use vt_location::{FilesystemId, Mount, MountId, NamespaceId};
 use vt_ns::World;
 use vt_request::{Access, MountPlace, PeerLine, Spot, TypeLine};
@@ -31,6 +31,7 @@ pub struct TaskShown<'a> {
 /// An attached mount.
 #[derive(Drop)]
 pub struct MountShown {
+    pub mount: Mount,
     pub place: MountPlace,
     /// The mount that it stands on.
     pub parent: Option<MountPlace>,
@@ -38,11 +39,21 @@ pub struct MountShown {
     pub target: Option<String>,
     /// Its filesystem, by where that first stands among all mounts, from 1.
     pub filesystem: usize,
+    pub is_overlay: bool,
     /// Where in its filesystem the tree begins that it shows.
     pub root: Spot,
-    pub flags: MountFlags,
     /// Its type, with groups by their numbers in the list of peer groups.
     pub kind: TypeLine,
+}
+
+impl MountShown {
+    /// Its path as it is told.
+    pub fn path(&self) -> &str {
+        match &self.target {
+            Some(path) => path.as_str(),
+            None => GONE,
+        }
+    }
 }
 
 /// A namespace with its mounts, in the order of their attachment.
@@ -81,8 +92,12 @@ fn files_of(alloc: Global, places: &Places<'_>, task: &Task) -> Result<Vec<OpenS
 
 // The number of a namespace, from 1.
 fn namespace_number(world: &World, id: NamespaceId) -> usize {
-    let index = world.namespaces().iter().position(|other| *other == id);
-    index.unwrap_or_default().saturating_add(1)
+    for (index, other) in world.namespaces().iter().enumerate() {
+        if *other == id {
+            return index.saturating_add(1);
+        }
+    }
+    1
 }
 
 // A task, as it is shown.
@@ -128,12 +143,13 @@ impl<'a> Picture<'a> {
         let target = places.target(mount)?;
         let root = self.world.root_spot_of(mount)?;
         Ok(MountShown {
+            mount: *mount,
             place,
             parent,
             target,
             filesystem,
+            is_overlay: self.world.store().is_overlay(mount.root.filesystem),
             root,
-            flags: mount.flags,
             kind: groups.shown(mount.propagation),
         })
     }
@@ -241,9 +257,12 @@ pub fn picture_of<'a>(alloc: Global, world: &'a World) -> Result<Picture<'a>, Al
 impl Picture<'_> {
     /// Whether one of the mounts shows the filesystem of this number.
     pub fn shows_filesystem(&self, number: usize) -> bool {
-        self.namespaces
-            .iter()
-            .any(|namespace| namespace.shows_filesystem(number))
+        for namespace in &self.namespaces {
+            if namespace.shows_filesystem(number) {
+                return true;
+            }
+        }
+        false
     }
 
     /// Keeps a task alone, with the mounts of its namespace and the peer groups that have one of them.
@@ -257,14 +276,26 @@ impl Picture<'_> {
 impl NamespaceShown {
     // Whether one of its mounts shows the filesystem of this number.
     fn shows_filesystem(&self, number: usize) -> bool {
-        self.mounts.iter().any(|mount| mount.filesystem == number)
+        for mount in &self.mounts {
+            if mount.filesystem == number {
+                return true;
+            }
+        }
+        false
     }
+}
+
+// Whether one of these mounts is in a namespace.
+fn has_one_in(places: &[MountPlace], namespace: usize) -> bool {
+    for place in places {
+        if place.namespace == namespace {
+            return true;
+        }
+    }
+    false
 }
 
 // Whether a mount of a namespace is a member or a slave of a peer group.
 fn is_in(line: &PeerLine, namespace: usize) -> bool {
-    line.members
-        .iter()
-        .any(|place| place.namespace == namespace)
-        || line.slaves.iter().any(|place| place.namespace == namespace)
+    has_one_in(&line.members, namespace) || has_one_in(&line.slaves, namespace)
 }

@@ -1,5 +1,5 @@
 //! Where mounts and objects are, as paths from the root mount of their namespace.
-use crate::names::push_steps;
+use crate::names::{push_place, push_steps};
 use crate::tree_walk::push_path_to;
 use indexmap::IndexMap;
 use std::alloc::{AllocError, Global};
@@ -102,7 +102,7 @@ impl<'a> Places<'a> {
 
     // Whether an object is a directory.
     fn is_directory(&self, at: Location) -> bool {
-        match self.world.filesystems().node(at.node) {
+        match self.world.store().object(at.node) {
             Some(node) => node.is_directory(),
             None => false,
         }
@@ -129,13 +129,7 @@ impl<'a> Places<'a> {
         if self.is_directory(at) {
             return self.push_spot(at, path);
         }
-        push_path_to(
-            self.alloc,
-            self.world.filesystems(),
-            mount.root,
-            at.node,
-            path,
-        )
+        Ok(push_path_to(self.alloc, self.world, mount.root, at.node, path))
     }
 
     // Appends the path of a place, and says whether it is still reached.
@@ -160,5 +154,13 @@ impl<'a> Places<'a> {
             mount: place,
             path: path.end()?,
         })
+    }
+
+    /// Appends where an object is.
+    pub fn push(&self, at: Location, text: &mut Draft) {
+        match self.place_of(at) {
+            Ok(place) => push_place(text, &place),
+            Err(_) => text.fail(),
+        }
     }
 }

@@ -56,8 +56,8 @@ fn written(
 ) -> Result<String, AllocError> {
     let mut text = Draft::new(alloc);
     match options.format {
-        Format::Text => text::push_shown(alloc, &mut text, picture, options.files)?,
-        Format::Json => json::push_shown(alloc, &mut text, picture, options.files)?,
+        Format::Text => text::push_shown(alloc, &mut text, picture, options.files),
+        Format::Json => json::push_shown(alloc, &mut text, picture, options.files),
         Format::Dot => dot::push_shown(&mut text, picture),
     }
     text.end()

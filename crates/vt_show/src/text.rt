@@ -5,7 +5,7 @@ use crate::names;
 use crate::picture::{MountShown, NamespaceShown, OpenShown, Picture, TaskShown};
 use crate::places::Place;
 use crate::tree_text::push_trees;
-use std::alloc::{AllocError, Global};
+use std::alloc::Global;
 use vt_check::draft::Draft;
 use vt_request::{MountPlace, PeerLine};
 
@@ -69,8 +69,8 @@ fn push_credentials(text: &mut Draft, shown: &TaskShown<'_>) {
     text.push("\n");
 }
 
-// Appends a task.
-fn push_task(text: &mut Draft, shown: &TaskShown<'_>) {
+/// Appends a task.
+pub fn push_task(text: &mut Draft, shown: &TaskShown<'_>) {
     text.push("TASK ");
     names::push_task(text, &shown.task.name);
     text.push(" in namespace ");
@@ -86,62 +86,55 @@ fn push_task(text: &mut Draft, shown: &TaskShown<'_>) {
 
 // Adds the path of a mount behind its branch.
 fn add_target(table: &mut Table, branch: &Branch<'_>) {
-    let mut target = table.draft();
-    branch.push(&mut target);
-    target.push(match &branch.mount.target {
-        Some(path) => path.as_str(),
-        None => names::GONE,
-    });
-    table.add(target);
+    branch.push(&mut table.text);
+    table.add(branch.mount.path());
 }
 
 // Adds what a mount shows: its filesystem, and where in it.
 fn add_source(table: &mut Table, mount: &MountShown) {
-    let mut source = table.draft();
-    source.push("plain:");
-    names::push_count(&mut source, mount.filesystem);
-    names::push_bracketed(&mut source, &mount.root);
-    table.add(source);
+    names::push_filesystem(&mut table.text, mount.is_overlay, mount.filesystem);
+    names::push_bracketed(&mut table.text, &mount.root);
+    table.end_word();
+    table.add(names::filesystem_type(mount.is_overlay));
 }
 
 // Adds the row of a mount.
 fn add_mount(table: &mut Table, branch: &Branch<'_>) {
     let mount = branch.mount;
-    let mut place = table.draft();
-    names::push_mount(&mut place, mount.place);
-    table.add(place);
+    names::push_mount(&mut table.text, mount.place);
+    table.end_word();
     add_target(table, branch);
     add_source(table, mount);
-    table.add_text("plain");
-    let mut flags = table.draft();
-    names::push_flags(&mut flags, mount.flags);
-    table.add(flags);
-    let mut kind = table.draft();
-    names::push_kind(&mut kind, mount.kind);
-    table.add(kind);
+    names::push_flags(&mut table.text, mount.mount.flags);
+    table.end_word();
+    names::push_kind(&mut table.text, mount.kind);
+    table.end_word();
+    table.end_row();
 }
 
-// Appends the mounts of a namespace.
-fn push_namespace(
-    alloc: Global,
-    text: &mut Draft,
-    namespace: &NamespaceShown,
-) -> Result<(), AllocError> {
-    text.push("\nNAMESPACE ");
-    names::push_count(text, namespace.number);
-    text.push("\n");
+// Appends a table of the mounts of a namespace.
+fn push_mounts(alloc: Global, text: &mut Draft, branches: &[Branch<'_>]) {
     let mut table = Table::new(alloc, &MOUNT_HEADS);
-    for branch in &branches(alloc, &namespace.mounts)? {
+    for branch in branches {
         add_mount(&mut table, branch);
     }
-    table.write(text)
+    table.write(text);
+}
+
+// Appends a namespace.
+fn push_namespace(alloc: Global, text: &mut Draft, namespace: &NamespaceShown) {
+    text.push("\nNAMESPACE ");
+    names::push_count(text, namespace.number);
+    match branches(alloc, &namespace.mounts) {
+        Ok(branches) => push_mounts(alloc, text, &branches),
+        Err(_) => text.fail(),
+    }
 }
 
 // Adds mounts by their numbers.
 fn add_mounts(table: &mut Table, places: &[MountPlace]) {
-    let mut text = table.draft();
-    names::write_mounts(&mut text, places);
-    table.add(text);
+    names::push_mounts(&mut table.text, places);
+    table.end_word();
 }
 
 // Adds the row of a peer group.
@@ -149,46 +142,36 @@ fn add_group(table: &mut Table, line: &PeerLine) {
     table.add_number(line.group as u64);
     match line.master {
         Some(master) => table.add_number(master as u64),
-        None => table.add_text(names::NOTHING),
+        None => table.add(names::NOTHING),
     }
     add_mounts(table, &line.members);
     add_mounts(table, &line.slaves);
+    table.end_row();
 }
 
 // Appends the peer groups, if there are any.
-fn push_groups(alloc: Global, text: &mut Draft, groups: &[PeerLine]) -> Result<(), AllocError> {
+fn push_groups(alloc: Global, text: &mut Draft, groups: &[PeerLine]) {
     if groups.is_empty() {
-        return Ok(());
+        return;
     }
-    text.push("\nPEER GROUPS\n");
+    text.push("\nPEER GROUPS");
     let mut table = Table::new(alloc, &GROUP_HEADS);
     for line in groups {
         add_group(&mut table, line);
     }
-    table.write(text)
+    table.write(text);
 }
 
-// Appends the tasks and the namespaces.
-fn push_all(alloc: Global, text: &mut Draft, picture: &Picture<'_>) -> Result<(), AllocError> {
+/// Appends a world as text, with the trees of its filesystems if they are asked for.
+pub fn push_shown(alloc: Global, text: &mut Draft, picture: &Picture<'_>, files: bool) {
     for task in &picture.tasks {
         push_task(text, task);
     }
     for namespace in &picture.namespaces {
-        push_namespace(alloc, text, namespace)?;
+        push_namespace(alloc, text, namespace);
     }
-    push_groups(alloc, text, &picture.groups)
-}
-
-/// Appends a world as text, with the trees of its filesystems if they are asked for.
-pub fn push_shown(
-    alloc: Global,
-    text: &mut Draft,
-    picture: &Picture<'_>,
-    files: bool,
-) -> Result<(), AllocError> {
-    push_all(alloc, text, picture)?;
+    push_groups(alloc, text, &picture.groups);
     if files {
-        push_trees(alloc, picture, text)?;
+        push_trees(alloc, picture, text);
     }
-    Ok(())
 }

@@ -1,95 +1,92 @@
 //! The tree of a filesystem as text.
 use crate::columns::Table;
-use crate::names::{push_count, push_mode, push_name};
+use crate::names::{self, push_mode, push_name};
 use crate::picture::Picture;
 use crate::tree_walk::{Found, TreeWalk};
-use std::alloc::{AllocError, Global};
+use std::alloc::Global;
 use vt_check::draft::Draft;
-use vt_fs::Filesystems;
-use vt_location::FilesystemId;
+use vt_location::{FilesystemId, NodeRef};
 use vt_node::{Kind, Node};
+use vt_ns::World;
 
 static HEADS: [&str; 5] = ["MODE", "UID", "GID", "SIZE", "NAME"];
 
-// Adds the name of an object behind two spaces for each name above it, and what a symlink leads to.
-fn add_name(table: &mut Table, found: &Found, node: &Node) {
-    let mut text = table.draft();
-    text.push_times(' ', found.depth.saturating_mul(2));
-    text.push(if found.depth == 0 {
-        "/"
-    } else {
-        found.path.as_str().get(found.name..).unwrap_or_default()
-    });
+// Adds the name of an object behind two spaces for each name above it, and what a symlink leads to. An overlay shows no
+// mark of a layer.
+fn add_name(table: &mut Table, found: &Found, node: &Node, is_overlay: bool) {
+    table.text.push_times(' ', found.depth.saturating_mul(2));
+    table.text.push(found.last_name());
     if node.kind() == Kind::Symlink {
-        text.push(" -> ");
-        push_name(&mut text, node.bytes());
+        table.text.push(" -> ");
+        push_name(&mut table.text, node.bytes());
     }
-    if node.is_opaque() {
-        text.push(" (opaque)");
+    if node.is_opaque() && !is_overlay {
+        table.text.push(" (opaque)");
     }
-    table.add(text);
+    table.end_word();
 }
 
 // Adds the row of an object.
-fn add_object(table: &mut Table, found: &Found, node: &Node) {
+fn add_object(table: &mut Table, found: &Found, node: &Node, is_overlay: bool) {
     let attr = node.attr();
-    let mut mode = table.draft();
-    push_mode(&mut mode, node.kind(), attr.mode);
-    table.add(mode);
+    push_mode(&mut table.text, node.kind(), attr.mode);
+    table.end_word();
     table.add_number(u64::from(attr.uid));
     table.add_number(u64::from(attr.gid));
     table.add_number(node.bytes().len() as u64);
-    add_name(table, found, node);
+    add_name(table, found, node, is_overlay);
+    table.end_row();
 }
 
-// Adds the objects of a filesystem.
-fn add_objects(
-    alloc: Global,
-    table: &mut Table,
-    filesystems: &Filesystems,
-    id: FilesystemId,
-) -> Result<(), AllocError> {
-    let Some(root) = filesystems.root(id) else {
-        return Ok(());
-    };
-    let mut walk = TreeWalk::new(alloc, filesystems, root)?;
+// Adds an object of a tree.
+fn add_found(table: &mut Table, walk: &TreeWalk<'_>, found: &Found) {
+    if let Some(node) = walk.node(found) {
+        add_object(table, found, node, walk.is_overlay);
+    }
+}
+
+// Adds the objects of a tree.
+fn add_objects(table: &mut Table, walk: &mut TreeWalk<'_>) {
     for _ in 0..u64::MAX {
-        let Some(found) = walk.next()? else {
+        let Some(found) = walk.next() else {
             break;
         };
-        if let Some(node) = filesystems.node(found.node) {
-            add_object(table, &found, node);
-        }
+        add_found(table, walk, &found);
     }
-    Ok(())
+    if walk.failed {
+        table.text.fail();
+    }
 }
 
-// Appends the tree of a filesystem.
-fn push_tree(
-    alloc: Global,
-    picture: &Picture<'_>,
-    id: FilesystemId,
-    text: &mut Draft,
-) -> Result<(), AllocError> {
+// Appends the tree under a root.
+fn push_tree(alloc: Global, world: &World, root: NodeRef, text: &mut Draft) {
     let mut table = Table::new(alloc, &HEADS);
-    add_objects(alloc, &mut table, picture.world.filesystems(), id)?;
-    table.write(text)
+    let mut walk = TreeWalk::new(alloc, world, root);
+    add_objects(&mut table, &mut walk);
+    table.write(text);
+}
+
+// Appends a filesystem of this number.
+fn push_filesystem(
+    alloc: Global,
+    world: &World,
+    id: FilesystemId,
+    number: usize,
+    text: &mut Draft,
+) {
+    if let Some(root) = world.store().root(id) {
+        text.push("\nFILESYSTEM ");
+        names::push_filesystem(text, world.store().is_overlay(id), number);
+        push_tree(alloc, world, root, text);
+    }
 }
 
 /// Appends the trees of the filesystems that mounts show.
-pub fn push_trees(
-    alloc: Global,
-    picture: &Picture<'_>,
-    text: &mut Draft,
-) -> Result<(), AllocError> {
+pub fn push_trees(alloc: Global, picture: &Picture<'_>, text: &mut Draft) {
     for (index, id) in picture.filesystems.iter().enumerate() {
         let number = index.saturating_add(1);
         if picture.shows_filesystem(number) {
-            text.push("\nFILESYSTEM plain:");
-            push_count(text, number);
-            text.push("\n");
-            push_tree(alloc, picture, *id, text)?;
+            push_filesystem(alloc, picture.world, *id, number, text);
         }
     }
-    Ok(())
 }

@@ -2,8 +2,9 @@
 use crate::names::push_name;
 use std::alloc::{AllocError, Global};
 use vt_check::draft::Draft;
-use vt_fs::Filesystems;
 use vt_location::NodeRef;
+use vt_node::Node;
+use vt_ns::World;
 
 /// An object of a tree, under one of its names.
 #[derive(Drop)]
@@ -18,6 +19,14 @@ pub struct Found {
 }
 
 impl Found {
+    /// The last of its names, or that of the root.
+    pub fn last_name(&self) -> &str {
+        if self.depth == 0 {
+            return "/";
+        }
+        self.path.as_str().get(self.name..).unwrap_or_default()
+    }
+
     // What a name in it leads to.
     fn child(&self, alloc: Global, name: &[u8], node: NodeRef) -> Result<Self, AllocError> {
         let mut path = Draft::new(alloc);
@@ -38,72 +47,110 @@ impl Found {
 #[derive(Drop)]
 pub struct TreeWalk<'a> {
     alloc: Global,
-    filesystems: &'a Filesystems,
+    world: &'a World,
     waiting: Vec<Found>,
+    /// Whether it is the tree of an overlay.
+    pub is_overlay: bool,
+    /// Whether an allocation failed, so that objects are missing.
+    pub failed: bool,
 }
 
 impl<'a> TreeWalk<'a> {
     /// Before the first object, which is the top.
-    pub fn new(
-        alloc: Global,
-        filesystems: &'a Filesystems,
-        top: NodeRef,
-    ) -> Result<Self, AllocError> {
-        let mut waiting = Vec::new(alloc);
-        waiting.push(Found {
+    pub fn new(alloc: Global, world: &'a World, top: NodeRef) -> Self {
+        let mut walk = TreeWalk {
+            alloc,
+            world,
+            waiting: Vec::new(alloc),
+            is_overlay: world.store().is_overlay(top.filesystem),
+            failed: false,
+        };
+        walk.wait(Found {
             path: String::new(alloc),
             name: 0,
             depth: 0,
             node: top,
-        })?;
-        Ok(TreeWalk {
-            alloc,
-            filesystems,
-            waiting,
-        })
+        });
+        walk
+    }
+
+    /// What an object is.
+    pub fn node(&self, found: &Found) -> Option<&'a Node> {
+        self.world.store().object(found.node)
     }
 
     /// The next object, or nothing behind the last one.
-    pub fn next(&mut self) -> Result<Option<Found>, AllocError> {
-        let Some(found) = self.waiting.pop() else {
-            return Ok(None);
-        };
-        self.push_children(&found)?;
-        Ok(Some(found))
+    pub fn next(&mut self) -> Option<Found> {
+        let found = self.waiting.pop()?;
+        self.push_children(&found);
+        Some(found)
+    }
+
+    // An object waits.
+    fn wait(&mut self, found: Found) {
+        self.failed |= self.waiting.push(found).is_err();
     }
 
     // What is in a directory waits, the first name last.
-    fn push_children(&mut self, found: &Found) -> Result<(), AllocError> {
-        let Some(node) = self.filesystems.node(found.node) else {
-            return Ok(());
-        };
-        for name in node.names(self.alloc)?.iter().rev() {
-            if let Some(child) = node.entry(name) {
-                let child = NodeRef::new(found.node.filesystem, child);
-                self.waiting.push(found.child(self.alloc, name, child)?)?;
+    fn push_children(&mut self, found: &Found) {
+        match self.world.store().names(self.alloc, found.node) {
+            Ok(names) => self.push_names(found, &names),
+            Err(_) => self.failed = true,
+        }
+    }
+
+    // What these names lead to waits.
+    fn push_names(&mut self, found: &Found, names: &[Vec<u8>]) {
+        for name in names.iter().rev() {
+            if let Some(node) = self.entry(found.node, name) {
+                self.push_child(found, name, node);
             }
         }
-        Ok(())
     }
+
+    // Where a name of a directory leads.
+    fn entry(&self, directory: NodeRef, name: &[u8]) -> Option<NodeRef> {
+        let store = self.world.store();
+        let object = store.object(directory)?;
+        store.entry(directory, object, name)
+    }
+
+    // What a name leads to waits.
+    fn push_child(&mut self, found: &Found, name: &[u8], node: NodeRef) {
+        match found.child(self.alloc, name, node) {
+            Ok(child) => self.wait(child),
+            Err(_) => self.failed = true,
+        }
+    }
+}
+
+// Appends the path to an object that a walk comes to, and says whether there is one.
+fn push_found(walk: &mut TreeWalk<'_>, object: NodeRef, path: &mut Draft) -> bool {
+    for _ in 0..u64::MAX {
+        let Some(found) = walk.next() else {
+            return false;
+        };
+        if found.node == object {
+            path.push(found.path.as_str());
+            return true;
+        }
+    }
+    false
 }
 
 /// Appends the path from a directory to the first name of an object below it, and says whether there is one.
 pub fn push_path_to(
     alloc: Global,
-    filesystems: &Filesystems,
+    world: &World,
     top: NodeRef,
     object: NodeRef,
     path: &mut Draft,
-) -> Result<bool, AllocError> {
-    let mut walk = TreeWalk::new(alloc, filesystems, top)?;
-    for _ in 0..u64::MAX {
-        let Some(found) = walk.next()? else {
-            return Ok(false);
-        };
-        if found.node == object {
-            path.push(found.path.as_str());
-            return Ok(true);
-        }
+) -> bool {
+    let mut walk = TreeWalk::new(alloc, world, top);
+    let is_found = push_found(&mut walk, object, path);
+    if walk.failed {
+        path.fail();
     }
-    Ok(false)
+    drop(walk);
+    is_found
 }

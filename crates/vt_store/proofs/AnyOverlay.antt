@@ -14,7 +14,7 @@ use Rattle.vt_location.specs.declared.numbers.FilesystemId.{FilesystemId}
 use Rattle.vt_spec.proofs.Options.{none_is_some}
 use Rattle.vt_store.proofs.KeptOverlays.{count_of, key_eq}
 use Rattle.vt_fs.specs.FilesystemsValue.{Filesystems}
-use Rattle.vt_store.specs.Locks.{lies_in_overlay}
+use Rattle.vt_store.specs.Locks.{directory_lies_in_overlay, overlay_stands_in}
 use Rattle.vt_store.specs.OverlaysValue.{OverlayEntry, kept_overlay, kept_overlays}
 use Rattle.vt_store.specs.declared.overlays.KeptOverlay.{KeptOverlay}
 
@@ -64,9 +64,13 @@ any-kept test es distinct =
     mapped [] = refl
     mapped (e ∷ kept) = ap (λ b. test (kept_overlay e) || b) (mapped kept)
 
--- an inode lies in a layer of an overlay, as it is kept
-abbrev pub lies_in_kept : Filesystems → ℕ → ℕ → FilesystemId × KeptOverlay → Bool
-lies_in_kept plain count number kept = lies_in_overlay plain count number (kept_overlay kept)
+-- a directory lies in a layer of an overlay, as it is kept
+abbrev pub directory_lies_in_kept : Filesystems → ℕ → ℕ → FilesystemId × KeptOverlay → Bool
+directory_lies_in_kept plain count directory kept = directory_lies_in_overlay plain count directory (kept_overlay kept)
+
+-- one of its layers is in a filesystem
+abbrev pub stands_in_kept : ℕ → FilesystemId × KeptOverlay → Bool
+stands_in_kept count kept = overlay_stands_in count (kept_overlay kept)
 
 -- the next of some that are left
 pub next-kept : {A : Type 0} (k : ℕ) (list : List A) (a : A) → slice_get list k ≡ Some a

@@ -14,3 +14,4 @@ pub mod Ranked
 pub mod Scanned
 pub mod Locked
 pub mod AnyOverlay
+pub mod AnyNamed

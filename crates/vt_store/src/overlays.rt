@@ -7,7 +7,7 @@ ghost use Rattle.vt_fs.specs.FilesystemsValue.{files_at};
 ghost use Rattle.vt_fs.specs.Laws.{ParentsAreNamed};
 ghost use Rattle.vt_tree.specs.Slots.{most_uses};
 
-use crate::locks::lies_in_one;
+use crate::locks::{lies_in_one, one_stands_in};
 use indexmap::IndexMap;
 use std::alloc::{AllocError, Global};
 use std::marker::Model;
@@ -68,7 +68,7 @@ impl Model for Overlays {
 
 impl Overlays {
     ghost use Rattle.vt_store.specs.LayersHeld.{new_overlay};
-    ghost use Rattle.vt_store.specs.Locks.{lies_in_overlay};
+    ghost use Rattle.vt_store.specs.Locks.{directory_lies_in_overlay, overlay_stands_in};
     ghost use Rattle.vt_store.specs.OverlaysValue.{entry_kept, overlay_of, with_overlay_changed, without_overlay};
 
     /// No overlays. It does not allocate.
@@ -156,15 +156,29 @@ impl Overlays {
         }
     }
 
-    /// Whether an inode of a plain tree lies in a layer of one of them.
-    pub fn have_layer_over(&self, plain: &Filesystems, inode: InodeRef) -> bool
-        requires { ParentsAreNamed (files_at plain.now inode.filesystem.count).tree }
+    /// Whether the directory of a layer of one of them is in this plain filesystem.
+    pub fn have_layer_in(&self, filesystem: FilesystemId) -> bool
+        ensures { result ≡ list_any (overlay_stands_in filesystem.count) self.now }
+    {
+        for index in 0..self.by_number.len() {
+            if let Some((_, found)) = self.by_number.get_index(index) {
+                if one_stands_in(found.overlay.lowers(), filesystem) {
+                    return true;
+                }
+            }
+        }
+        false
+    }
+
+    /// Whether a directory of a plain tree lies in a layer of one of them.
+    pub fn have_layer_over(&self, plain: &Filesystems, directory: InodeRef) -> bool
+        requires { ParentsAreNamed (files_at plain.now directory.filesystem.count).tree }
         ensures { result
-            ≡ list_any (lies_in_overlay plain.now inode.filesystem.count (inode_of inode)) self.now }
+            ≡ list_any (directory_lies_in_overlay plain.now directory.filesystem.count (inode_of directory)) self.now }
     {
         for index in 0..self.by_number.len() {
             if let Some((_, kept)) = self.by_number.get_index(index) {
-                if lies_in_one(plain, kept.overlay.lowers(), inode) {
+                if lies_in_one(plain, kept.overlay.lowers(), directory) {
                     return true;
                 }
             }

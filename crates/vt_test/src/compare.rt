@@ -1,5 +1,6 @@
 //! The answers of a run beside those that are wanted.
 use crate::suite::Wanted;
+use memchr::memchr;
 use std::alloc::{AllocError, Global};
 use vt_lines::lines::first_line;
 
@@ -21,7 +22,7 @@ pub struct Difference<'a> {
 
 // The number at the front of a text, up to a space, and what follows the space.
 fn numbered(line: &[u8]) -> Option<Given<'_>> {
-    let space = line.iter().position(|byte| *byte == b' ')?;
+    let space = memchr(b' ', line)?;
     let digits = str::from_utf8(line.get(..space)?).ok()?;
     Some(Given {
         number: digits.parse().ok()?,
@@ -42,11 +43,24 @@ pub fn given_lines(alloc: Global, answers: &[u8]) -> Result<Vec<Given<'_>>, Allo
     Ok(lines)
 }
 
+// Whether a text has this word.
+fn has_word(text: &[u8], word: &[u8]) -> bool {
+    for other in text.split(|byte| *byte == b' ') {
+        if other == word {
+            return true;
+        }
+    }
+    false
+}
+
 // Whether each further word of what is wanted, as `EBUSY` or `M8`, is one of a denial.
 fn is_denial_of(wanted: &[u8], given: &[u8]) -> bool {
-    wanted.split(|byte| *byte == b' ').all(|word| given
-        .split(|byte| *byte == b' ')
-        .any(|other| other == word))
+    for word in wanted.split(|byte| *byte == b' ') {
+        if !has_word(given, word) {
+            return false;
+        }
+    }
+    true
 }
 
 /// Whether a line is what is wanted: the same, or of the kind that `deny`, `deny EBUSY`, `deny M8` or `ok ..` asks for.
@@ -62,32 +76,48 @@ pub fn is_met(wanted: &[u8], given: &[u8]) -> bool {
         && is_denial_of(wanted, given)
 }
 
-// Whether the lines of an answer are what is wanted. `ok ..` wants no further lines, and takes any.
-fn are_met(wanted: &[Wanted<'_>], given: &[Given<'_>]) -> bool {
-    if let ([wanted], [given, _, ..]) = (wanted, given) {
-        return wanted.text == b"ok ..".as_slice() && is_met(wanted.text, given.text);
+// Whether each line of an answer is what is wanted.
+fn are_all_met(wanted: &[Wanted<'_>], given: &[Given<'_>]) -> bool {
+    for (wanted, given) in wanted.iter().zip(given) {
+        if !is_met(wanted.text, given.text) {
+            return false;
+        }
     }
     wanted.len() == given.len()
-        && wanted
-            .iter()
-            .zip(given)
-            .all(|(wanted, given)| is_met(wanted.text, given.text))
+}
+
+// Whether the lines of an answer are what is wanted. `ok ..` wants no further lines, and takes any.
+fn are_met(wanted: &[Wanted<'_>], given: &[Given<'_>]) -> bool {
+    match (wanted, given) {
+        ([wanted], [given, _, ..]) => {
+            wanted.text == b"ok ..".as_slice() && is_met(wanted.text, given.text)
+        }
+        _ => are_all_met(wanted, given),
+    }
 }
 
 // How many of the first answers that are wanted are those of a line.
 fn wanted_for(wanted: &[Wanted<'_>], number: u64) -> usize {
-    wanted
-        .iter()
-        .position(|answer| answer.number != number)
-        .unwrap_or(wanted.len())
+    let mut count: usize = 0;
+    for answer in wanted {
+        if answer.number != number {
+            return count;
+        }
+        count = count.saturating_add(1);
+    }
+    count
 }
 
 // How many of the first lines that were written answer a line.
 fn given_for(given: &[Given<'_>], number: u64) -> usize {
-    given
-        .iter()
-        .position(|line| line.number != number)
-        .unwrap_or(given.len())
+    let mut count: usize = 0;
+    for line in given {
+        if line.number != number {
+            return count;
+        }
+        count = count.saturating_add(1);
+    }
+    count
 }
 
 // The number of the first line that has an answer, wanted or given.
@@ -100,14 +130,30 @@ fn next_number(wanted: &[Wanted<'_>], given: &[Given<'_>]) -> Option<u64> {
     }
 }
 
-// The items from a place on.
-fn rest<T>(items: &[T], from: usize) -> &[T] {
-    items.get(from..).unwrap_or_default()
+// The answers that are wanted and those that are given, as far as they are not compared.
+#[derive(Clone, Copy)]
+struct Rest<'a> {
+    wanted: &'a [Wanted<'a>],
+    given: &'a [Given<'a>],
 }
 
-// So many of the first items.
-fn front<T>(items: &[T], count: usize) -> &[T] {
-    items.get(..count).unwrap_or_default()
+impl<'a> Rest<'a> {
+    // The first line that has an answer, with its answers, and what follows them.
+    fn split(self) -> Option<(Difference<'a>, Rest<'a>)> {
+        let number = next_number(self.wanted, self.given)?;
+        let (wanted, more_wanted) = self.wanted.split_at(wanted_for(self.wanted, number));
+        let (given, more_given) = self.given.split_at(given_for(self.given, number));
+        let line = Difference {
+            number,
+            wanted,
+            given,
+        };
+        let rest = Rest {
+            wanted: more_wanted,
+            given: more_given,
+        };
+        Some((line, rest))
+    }
 }
 
 /// The lines that are answered otherwise than is wanted.
@@ -117,24 +163,15 @@ pub fn differences<'a>(
     given: &'a [Given<'a>],
 ) -> Result<Vec<Difference<'a>>, AllocError> {
     let mut found = Vec::new(alloc);
-    let mut wanted_done: usize = 0;
-    let mut given_done: usize = 0;
+    let mut rest = Rest { wanted, given };
     for _ in 0..wanted.len().saturating_add(given.len()) {
-        let (more_wanted, more_given) = (rest(wanted, wanted_done), rest(given, given_done));
-        let Some(number) = next_number(more_wanted, more_given) else {
+        let Some((line, more)) = rest.split() else {
             break;
         };
-        let wanted = front(more_wanted, wanted_for(more_wanted, number));
-        let given = front(more_given, given_for(more_given, number));
-        if !are_met(wanted, given) {
-            found.push(Difference {
-                number,
-                wanted,
-                given,
-            })?;
+        if !are_met(line.wanted, line.given) {
+            found.push(line)?;
         }
-        wanted_done = wanted_done.saturating_add(wanted.len());
-        given_done = given_done.saturating_add(given.len());
+        rest = more;
     }
     Ok(found)
 }

@@ -1,33 +1,27 @@
 //! The outcome of a script as JSON, one object a line.
-use crate::compare::Difference;
-use crate::suite::Script;
-use crate::text::{line_of as script_line, name_of};
+use crate::compare::{Difference, Given};
+use crate::suite::{Script, Wanted};
+use crate::text::{line_of, push_name};
 use serde_json::Value;
 use std::alloc::{AllocError, Global};
-use vt_check::object::{Members, line_of, put, put_number, put_text, shown};
-
-// A text as a value.
-fn value(alloc: Global, text: &[u8]) -> Result<Value, AllocError> {
-    let text = shown(alloc, text)?;
-    Value::try_from_str(alloc, text.as_str())
-}
+use vt_check::object::{List, Object};
 
 // The answers that are wanted.
-fn wanted(alloc: Global, found: &Difference<'_>) -> Result<Value, AllocError> {
-    let mut answers = Vec::new(alloc);
-    for answer in found.wanted {
-        answers.push(value(alloc, answer.text)?)?;
+fn wanted(alloc: Global, answers: &[Wanted<'_>]) -> Result<Value, AllocError> {
+    let mut texts = List::new(alloc);
+    for answer in answers {
+        texts.push_bytes(answer.text);
     }
-    Ok(Value::Array(answers))
+    texts.end()
 }
 
 // The answers that are given.
-fn given(alloc: Global, found: &Difference<'_>) -> Result<Value, AllocError> {
-    let mut answers = Vec::new(alloc);
-    for answer in found.given {
-        answers.push(value(alloc, answer.text)?)?;
+fn given(alloc: Global, answers: &[Given<'_>]) -> Result<Value, AllocError> {
+    let mut texts = List::new(alloc);
+    for answer in answers {
+        texts.push_bytes(answer.text);
     }
-    Ok(Value::Array(answers))
+    texts.end()
 }
 
 // A difference as an object.
@@ -36,41 +30,25 @@ fn difference(
     script: &Script<'_>,
     found: &Difference<'_>,
 ) -> Result<Value, AllocError> {
-    let mut members = Members::new(alloc);
-    let line = script.before.saturating_add(found.number);
-    put_number(alloc, &mut members, "line", line)?;
-    put_answers(alloc, &mut members, script, found)?;
-    Ok(Value::Object(members))
+    let mut object = Object::new(alloc);
+    object.put_number("line", script.before.saturating_add(found.number));
+    object.put_bytes("call", line_of(script, found.number));
+    object.put("wanted", wanted(alloc, found.wanted));
+    object.put("given", given(alloc, found.given));
+    object.end()
 }
 
-// Adds a line and its answers.
-fn put_answers(
+// The differences of a script.
+fn differences(
     alloc: Global,
-    members: &mut Members,
-    script: &Script<'_>,
-    found: &Difference<'_>,
-) -> Result<(), AllocError> {
-    let call = value(alloc, script_line(script, found.number))?;
-    put(alloc, members, "call", call)?;
-    let answers = wanted(alloc, found)?;
-    put(alloc, members, "wanted", answers)?;
-    let answers = given(alloc, found)?;
-    put(alloc, members, "given", answers)
-}
-
-// Adds the differences of a script.
-fn put_differences(
-    alloc: Global,
-    members: &mut Members,
     script: &Script<'_>,
     found: &[Difference<'_>],
-) -> Result<(), AllocError> {
-    let mut all = Vec::new(alloc);
+) -> Result<Value, AllocError> {
+    let mut all = List::new(alloc);
     for one in found {
-        all.push(difference(alloc, script, one)?)?;
+        all.push(difference(alloc, script, one));
     }
-    put(alloc, members, "passed", Value::Bool(found.is_empty()))?;
-    put(alloc, members, "differences", Value::Array(all))
+    all.end()
 }
 
 /// A script and its differences, as an object and a newline.
@@ -80,27 +58,29 @@ pub fn outcome(
     script: &Script<'_>,
     found: &[Difference<'_>],
 ) -> Result<String, AllocError> {
-    let name = name_of(alloc, file, script.name)?;
-    let mut members = Members::new(alloc);
-    put_text(alloc, &mut members, "file", file)?;
-    put_number(alloc, &mut members, "line", script.before.saturating_add(1))?;
-    put_text(alloc, &mut members, "script", name.as_str())?;
-    put_differences(alloc, &mut members, script, found)?;
-    line_of(alloc, members)
+    let mut object = Object::new(alloc);
+    object.put_text("file", file);
+    object.put_number("line", script.before.saturating_add(1));
+    let mut name = object.draft();
+    push_name(&mut name, file, script.name);
+    object.put_draft("script", name);
+    object.put("passed", Ok(Value::Bool(found.is_empty())));
+    object.put("differences", differences(alloc, script, found));
+    object.line()
 }
 
 /// A file that cannot be tested, as an object and a newline.
 pub fn fault(alloc: Global, file: &str, said: &str) -> Result<String, AllocError> {
-    let mut members = Members::new(alloc);
-    put_text(alloc, &mut members, "file", file)?;
-    put_text(alloc, &mut members, "error", said)?;
-    line_of(alloc, members)
+    let mut object = Object::new(alloc);
+    object.put_text("file", file);
+    object.put_text("error", said);
+    object.line()
 }
 
 /// How many scripts have passed and failed, as an object and a newline.
 pub fn totals(alloc: Global, passed: u64, failed: u64) -> Result<String, AllocError> {
-    let mut members = Members::new(alloc);
-    put_number(alloc, &mut members, "passed", passed)?;
-    put_number(alloc, &mut members, "failed", failed)?;
-    line_of(alloc, members)
+    let mut object = Object::new(alloc);
+    object.put_number("passed", passed);
+    object.put_number("failed", failed);
+    object.line()
 }

@@ -6,6 +6,9 @@ use vt_lines::answers::answers;
 use vt_lines::lines::first_line;
 use vt_script::{Calls, Version};
 
+// In how large pieces a script is read.
+const PIECE: usize = 8192;
+
 // The lines of a script that are answered otherwise, by their numbers in the file, each with its answers as they are
 // written there.
 #[derive(Drop)]
@@ -14,53 +17,95 @@ struct Change {
     answers: Vec<u8>,
 }
 
-// The answers of a line as they stand in a file.
-fn written(alloc: Global, given: &[Given<'_>]) -> Result<Vec<u8>, AllocError> {
-    let mut text = Vec::new(alloc);
+// Appends the answers of a line as they stand in a file.
+fn write_answers(text: &mut Vec<u8>, given: &[Given<'_>]) -> Result<(), AllocError> {
     for (place, answer) in given.iter().enumerate() {
         text.extend_from_slice(if place == 0 { b" => " } else { b"\n=> " })?;
         text.extend_from_slice(answer.text)?;
     }
-    Ok(text)
+    Ok(())
 }
 
-// A difference as a change of the file.
-fn change_of(alloc: Global, before: u64, found: &Difference<'_>) -> Result<Change, AllocError> {
-    Ok(Change {
+// Appends a difference as a change of the file.
+fn push_change(
+    alloc: Global,
+    changes: &mut Vec<Change>,
+    before: u64,
+    found: &Difference<'_>,
+) -> Result<(), AllocError> {
+    let mut answers = Vec::new(alloc);
+    write_answers(&mut answers, found.given)?;
+    changes.push(Change {
         line: before.saturating_add(found.number),
-        answers: written(alloc, found.given)?,
-    })
+        answers,
+    })?;
+    Ok(())
 }
 
-// Appends the changes of a script.
-fn push_changes<C: Calls + Drop>(
+// Appends the changes of a script that is answered by these lines.
+fn push_differences(
     alloc: Global,
     changes: &mut Vec<Change>,
     script: &Script<'_>,
+    given: &[Given<'_>],
 ) -> Result<(), AllocError> {
-    let text = answers::<C>(script.version, alloc, script.text.as_slice(), 8192)?;
-    let given = given_lines(alloc, text.bytes())?;
-    let found = differences(alloc, script.wanted.as_slice(), given.as_slice())?;
-    for one in &found {
-        changes.push(change_of(alloc, script.before, one)?)?;
+    for one in &differences(alloc, script.wanted.as_slice(), given)? {
+        push_change(alloc, changes, script.before, one)?;
     }
     Ok(())
 }
 
-// The changes of a file, in the order of its lines.
-fn changes_of<C: Calls + Drop>(
-    version: Version,
+// Appends the changes of a script that is answered by this text.
+fn push_changes(
     alloc: Global,
-    file: &[u8],
-) -> Result<Vec<Change>, SuiteFault> {
-    let mut changes = Vec::new(alloc);
-    for script in &scripts(version, alloc, file)? {
-        push_changes::<C>(alloc, &mut changes, script)?;
-    }
-    Ok(changes)
+    changes: &mut Vec<Change>,
+    script: &Script<'_>,
+    answers: &[u8],
+) -> Result<(), AllocError> {
+    let given = given_lines(alloc, answers)?;
+    let pushed = push_differences(alloc, changes, script, given.as_slice());
+    drop(given);
+    pushed
 }
 
-// A file as it is written anew.
+// Appends the changes of a script, as it is answered.
+fn push_changes_of<C: Calls + Drop>(
+    alloc: Global,
+    changes: &mut Vec<Change>,
+    script: &Script<'_>,
+) -> Result<(), AllocError> {
+    let text = answers::<C>(script.version, alloc, script.text.as_slice(), PIECE)?;
+    let pushed = push_changes(alloc, changes, script, text.bytes());
+    drop(text);
+    pushed
+}
+
+// Appends the changes of scripts.
+fn push_all_changes<C: Calls + Drop>(
+    alloc: Global,
+    changes: &mut Vec<Change>,
+    scripts: &[Script<'_>],
+) -> Result<(), AllocError> {
+    for script in scripts {
+        push_changes_of::<C>(alloc, changes, script)?;
+    }
+    Ok(())
+}
+
+// Appends the changes of a file, in the order of its lines.
+fn push_changes_in<C: Calls + Drop>(
+    version: Version,
+    alloc: Global,
+    changes: &mut Vec<Change>,
+    file: &[u8],
+) -> Result<(), SuiteFault> {
+    let scripts = scripts(version, alloc, file)?;
+    let pushed = push_all_changes::<C>(alloc, changes, scripts.as_slice());
+    drop(scripts);
+    Ok(pushed?)
+}
+
+// A file as it is written anew, with these changes.
 #[derive(Drop)]
 struct Rewriting {
     changes: Vec<Change>,
@@ -72,14 +117,17 @@ struct Rewriting {
 }
 
 impl Rewriting {
-    // Goes on by a line of the file.
-    fn take(&mut self, number: u64, line: &[u8]) -> Result<(), AllocError> {
-        let call = match entry_of(line) {
-            Entry::More(_) if self.leaves_out => return Ok(()),
-            Entry::Line(call, _) => call,
-            _ => line,
-        };
-        self.leaves_out = false;
+    fn new(alloc: Global) -> Self {
+        Rewriting {
+            changes: Vec::new(alloc),
+            made: 0,
+            leaves_out: false,
+            text: Vec::new(alloc),
+        }
+    }
+
+    // Writes a line of the file, whose call this is.
+    fn write(&mut self, number: u64, line: &[u8], call: &[u8]) -> Result<(), AllocError> {
         match self.changes.get(self.made) {
             Some(change) if change.line == number => {
                 self.text.extend_from_slice(call)?;
@@ -92,6 +140,43 @@ impl Rewriting {
         self.text.push(b'\n')?;
         Ok(())
     }
+
+    // Goes on by a line of the file.
+    fn take(&mut self, number: u64, line: &[u8]) -> Result<(), AllocError> {
+        let call = match entry_of(line) {
+            Entry::More(_) if self.leaves_out => return Ok(()),
+            Entry::Line(call, _) => call,
+            _ => line,
+        };
+        self.leaves_out = false;
+        self.write(number, line, call)
+    }
+
+    // Writes a file, without a last newline where the file has none.
+    fn write_all(&mut self, file: &[u8]) -> Result<(), AllocError> {
+        let mut rest = file;
+        let mut number: u64 = 0;
+        while let Some((line, after)) = first_line(rest) {
+            number = number.saturating_add(1);
+            self.take(number, line)?;
+            rest = after;
+        }
+        if file.last() != Some(&b'\n') {
+            self.text.pop();
+        }
+        Ok(())
+    }
+
+    // Finds the changes of a file, and makes them.
+    fn rewrite<C: Calls + Drop>(
+        &mut self,
+        version: Version,
+        alloc: Global,
+        file: &[u8],
+    ) -> Result<(), SuiteFault> {
+        push_changes_in::<C>(version, alloc, &mut self.changes, file)?;
+        Ok(self.write_all(file)?)
+    }
 }
 
 /// A file with other answers.
@@ -102,14 +187,6 @@ pub struct Rewritten {
     pub changes: usize,
 }
 
-// The text without its last newline where the file has none.
-fn ended_as(file: &[u8], mut text: Vec<u8>) -> Vec<u8> {
-    if file.last() != Some(&b'\n') {
-        text.pop();
-    }
-    text
-}
-
 /// The file, whose scripts are in a version of their language, with the given answers in the place of those that are
 /// wanted and are not given; all else stays.
 pub fn with_given_answers<C: Calls + Drop>(
@@ -117,22 +194,12 @@ pub fn with_given_answers<C: Calls + Drop>(
     alloc: Global,
     file: &[u8],
 ) -> Result<Rewritten, SuiteFault> {
-    let changes = changes_of::<C>(version, alloc, file)?;
-    let mut rewriting = Rewriting {
-        changes,
-        made: 0,
-        leaves_out: false,
-        text: Vec::new(alloc),
-    };
-    let mut rest = file;
-    let mut number: u64 = 0;
-    while let Some((line, after)) = first_line(rest) {
-        number = number.saturating_add(1);
-        rewriting.take(number, line)?;
-        rest = after;
+    let mut rewriting = Rewriting::new(alloc);
+    match rewriting.rewrite::<C>(version, alloc, file) {
+        Ok(()) => Ok(Rewritten {
+            text: rewriting.text,
+            changes: rewriting.made,
+        }),
+        Err(fault) => Err(fault),
     }
-    Ok(Rewritten {
-        text: ended_as(file, rewriting.text),
-        changes: rewriting.made,
-    })
 }

@@ -3,7 +3,7 @@
 //! `== NAME` begins a script, on a new world. `LINE => ANSWER` is a line and its answer, `LINE =>` one that has none, `LINE`
 //! one that is answered `ok`, and `=> MORE` a further line of the answer above. A comment and a line of spaces have no
 //! answer. What stands before the first name is a script too.
-use std::alloc::{AllocError, AllocFailed, Global};
+use std::alloc::{AllocError, Global};
 use std::collections::BTreeMap;
 use std::mem;
 use thiserror::Error;
@@ -51,12 +51,6 @@ impl From<AllocError> for SuiteFault {
     }
 }
 
-impl<T: Drop> From<AllocFailed<T>> for SuiteFault {
-    fn from(_error: AllocFailed<T>) -> SuiteFault {
-        SuiteFault::Memory
-    }
-}
-
 /// What a line of a file is.
 #[derive(Clone, Copy)]
 pub enum Entry<'a> {
@@ -68,28 +62,46 @@ pub enum Entry<'a> {
     Line(&'a [u8], Option<&'a [u8]>),
 }
 
-// Whether a line is a comment or of spaces alone, and not too long to be one.
-fn is_silent(line: &[u8]) -> bool {
-    let first = line.iter().find(|byte| **byte != b' ');
-    line.len() <= LONGEST_LINE && first.is_none_or(|byte| *byte == b'#')
+// A text without the spaces before it.
+fn without_front(text: &[u8]) -> &[u8] {
+    for (place, byte) in text.iter().enumerate() {
+        if *byte != b' ' {
+            return text.get(place..).unwrap_or_default();
+        }
+    }
+    &[]
+}
+
+/// A text without the spaces behind it.
+pub fn without_end(text: &[u8]) -> &[u8] {
+    let mut end: usize = 0;
+    for (place, byte) in text.iter().enumerate() {
+        if *byte != b' ' {
+            end = place.saturating_add(1);
+        }
+    }
+    text.get(..end).unwrap_or_default()
 }
 
 // A text without the spaces around it.
 fn trimmed(text: &[u8]) -> &[u8] {
-    let is_word = |byte: &u8| *byte != b' ';
-    let first = text.iter().position(is_word).unwrap_or(text.len());
-    let spaces = text.iter().rev().take_while(|byte| **byte == b' ').count();
-    text.get(first..text.len().saturating_sub(spaces))
-        .unwrap_or_default()
+    without_front(without_end(text))
 }
 
-// Where the first mark ` =>` of a line begins that a space follows, or the line's end.
+// Whether a line is a comment or of spaces alone, and not too long to be one.
+fn is_silent(line: &[u8]) -> bool {
+    line.len() <= LONGEST_LINE && matches!(without_front(line).first(), None | Some(b'#'))
+}
+
+// Whether a text begins with the mark ` =>` that a space follows, or the text's end.
+fn is_mark(text: &[u8]) -> bool {
+    text.starts_with(b" =>") && matches!(text.get(3), None | Some(b' '))
+}
+
+// Where the first mark of a line begins.
 fn mark_in(line: &[u8]) -> Option<usize> {
-    for (place, window) in line.windows(3).enumerate() {
-        let is_whole = line
-            .get(place.saturating_add(3))
-            .is_none_or(|byte| *byte == b' ');
-        if window == b" =>".as_slice() && is_whole {
+    for place in 0..line.len() {
+        if is_mark(line.get(place..).unwrap_or_default()) {
             return Some(place);
         }
     }
@@ -194,16 +206,23 @@ impl<'a> Reading<'a> {
                 first: *first,
             });
         }
+        self.start(alloc, line, name)?;
+        Ok(())
+    }
+
+    // Begins a script of a new name.
+    fn start(&mut self, alloc: Global, line: u64, name: &'a [u8]) -> Result<(), AllocError> {
         self.names.insert(name.to_vec(alloc)?, line)?;
         self.end(Script::new(self.script.version, alloc, name, line))
     }
 
     // Ends a script, where another begins.
-    fn end(&mut self, next: Script<'a>) -> Result<(), SuiteFault> {
+    fn end(&mut self, next: Script<'a>) -> Result<(), AllocError> {
         let script = mem::replace(&mut self.script, next);
-        if !script.is_nothing() {
-            self.done.push(script)?;
+        if script.is_nothing() {
+            return Ok(());
         }
+        self.done.push(script)?;
         Ok(())
     }
 
@@ -224,6 +243,19 @@ impl<'a> Reading<'a> {
             }
         }
     }
+
+    // Goes on by all lines of a file.
+    fn read(&mut self, version: Version, alloc: Global, file: &'a [u8]) -> Result<(), SuiteFault> {
+        let mut rest = file;
+        let mut number: u64 = 0;
+        while let Some((line, after)) = first_line(rest) {
+            number = number.saturating_add(1);
+            self.take(alloc, number, line)?;
+            rest = after;
+        }
+        self.end(Script::new(version, alloc, b"", 0))?;
+        Ok(())
+    }
 }
 
 /// The scripts of a file, all in this version of their language.
@@ -233,13 +265,8 @@ pub fn scripts(
     file: &[u8],
 ) -> Result<Vec<Script<'_>>, SuiteFault> {
     let mut reading = Reading::new(version, alloc);
-    let mut rest = file;
-    let mut number: u64 = 0;
-    while let Some((line, after)) = first_line(rest) {
-        number = number.saturating_add(1);
-        reading.take(alloc, number, line)?;
-        rest = after;
+    match reading.read(version, alloc, file) {
+        Ok(()) => Ok(reading.done),
+        Err(fault) => Err(fault),
     }
-    reading.end(Script::new(version, alloc, b"", 0))?;
-    Ok(reading.done)
 }

@@ -1,21 +1,22 @@
 //! The outcome of a script as text.
 use crate::compare::Difference;
-use crate::suite::Script;
+use crate::suite::{Script, without_end};
 use std::alloc::{AllocError, Global};
-use vt_check::check::explained;
-use vt_check::object::shown;
+use vt_check::check::push_explained;
+use vt_check::draft::Draft;
 
 /// The most differences of a script that are shown.
 pub const MOST_SHOWN: usize = 50;
 
-/// The name of a script as it is shown: its own, or that of its file where it has none.
-pub fn name_of(alloc: Global, file: &str, name: &[u8]) -> Result<String, AllocError> {
+/// Appends the name of a script as it is shown: its own, or that of its file where it has none.
+pub fn push_name(text: &mut Draft, file: &str, name: &[u8]) {
     if name.is_empty() {
-        return String::from_str(alloc, file);
+        text.push(file);
+        return;
     }
     match str::from_utf8(name) {
-        Ok(name) => String::from_str(alloc, name),
-        Err(_) => shown(alloc, name),
+        Ok(name) => text.push(name),
+        Err(_) => text.push_bytes(name),
     }
 }
 
@@ -28,77 +29,87 @@ pub fn line_of<'a>(script: &'a Script<'_>, number: u64) -> &'a [u8] {
         .split(|byte| *byte == b'\n')
         .nth(place)
         .unwrap_or_default();
-    without_spaces(line)
+    without_end(line)
 }
 
-// A line without spaces at its end.
-fn without_spaces(line: &[u8]) -> &[u8] {
-    let spaces = line.iter().rev().take_while(|byte| **byte == b' ').count();
-    line.get(..line.len().saturating_sub(spaces))
-        .unwrap_or(line)
+// What stands before the lines about a line of this number: as many spaces as it has digits.
+#[derive(Clone, Copy)]
+struct Margin {
+    columns: usize,
 }
 
-// Appends an answer, behind the margin and a sign.
-fn push_answer(
-    alloc: Global,
-    text: &mut String,
-    margin: &str,
-    sign: char,
-    answer: &[u8],
-) -> Result<(), AllocError> {
-    let answer = shown(alloc, answer)?;
-    let answer = answer.as_str();
-    let part = format!(in alloc; "{margin} | {sign} {answer}\n")?;
-    text.push_str(part.as_str())
-}
-
-// Appends the answers that are wanted, and those that are given.
-fn push_answers(
-    alloc: Global,
-    text: &mut String,
-    margin: &str,
-    found: &Difference<'_>,
-) -> Result<(), AllocError> {
-    for wanted in found.wanted {
-        push_answer(alloc, text, margin, '-', wanted.text)?;
+impl Margin {
+    // The margin of a number.
+    fn of(number: u64) -> Self {
+        let log = number.checked_ilog10().unwrap_or_default();
+        Margin {
+            columns: (log as usize).saturating_add(1),
+        }
     }
-    for given in found.given {
-        push_answer(alloc, text, margin, '+', given.text)?;
+
+    // Appends it, and what follows it.
+    fn push(self, text: &mut Draft, mark: &str) {
+        text.push_times(' ', self.columns);
+        text.push(mark);
     }
-    Ok(())
+
+    // Appends an answer behind it.
+    fn push_answer(self, text: &mut Draft, mark: &str, answer: &[u8]) {
+        self.push(text, mark);
+        text.push_bytes(answer);
+        text.push("\n");
+    }
+
+    // Appends the answers that are wanted, and those that are given.
+    fn push_answers(self, text: &mut Draft, found: &Difference<'_>) {
+        for wanted in found.wanted {
+            self.push_answer(text, " | - ", wanted.text);
+        }
+        for given in found.given {
+            self.push_answer(text, " | + ", given.text);
+        }
+    }
 }
 
-/// Whether a line is refused as none of the grammar, where that is not wanted.
-pub fn is_refused(found: &Difference<'_>) -> bool {
-    found
-        .given
-        .first()
-        .is_some_and(|given| given.text == b"deny 22 EINVAL S1".as_slice())
+// Whether a line is refused as none of the grammar, where that is not wanted.
+fn is_refused(found: &Difference<'_>) -> bool {
+    match found.given.first() {
+        Some(given) => given.text == b"deny 22 EINVAL S1".as_slice(),
+        None => false,
+    }
 }
 
-/// A difference: where the line stands in the file, the line, and the answers; for a line of no grammar also what is wrong.
-pub fn difference(
+// Appends where a line stands in a file, and the line.
+fn push_line(text: &mut Draft, margin: Margin, file: &str, number: u64, line: &[u8]) {
+    margin.push(text, "--> ");
+    text.push(file);
+    text.push(":");
+    text.push_number(number);
+    text.push("\n");
+    margin.push(text, " |\n");
+    text.push_number(number);
+    text.push(" | ");
+    text.push_bytes(line);
+    text.push("\n");
+}
+
+// Appends a difference: where the line stands in the file, the line, and the answers; for a line of no grammar also what
+// is wrong.
+fn push_difference(
+    text: &mut Draft,
     alloc: Global,
     file: &str,
     script: &Script<'_>,
     found: &Difference<'_>,
-) -> Result<String, AllocError> {
+) {
     let number = script.before.saturating_add(found.number);
-    let digits = format!(in alloc; "{number}")?;
-    let margin = " ".repeat(alloc, digits.len())?;
-    let margin = margin.as_str();
+    let margin = Margin::of(number);
     let line = line_of(script, found.number);
-    let call = shown(alloc, line)?;
-    let call = call.as_str();
-    let mut text = format!(in alloc;
-        "{margin}--> {file}:{number}\n{margin} |\n{number} | {call}\n"
-    )?;
-    push_answers(alloc, &mut text, margin, found)?;
+    push_line(text, margin, file, number, line);
+    margin.push_answers(text, found);
     if is_refused(found) {
-        let why = explained(script.version, alloc, file, number, line)?;
-        text.push_str(why.as_str())?;
+        push_explained(text, script.version, alloc, file, number, line);
     }
-    Ok(text)
 }
 
 /// What is written of a script that fails.
@@ -108,20 +119,36 @@ pub fn failure(
     script: &Script<'_>,
     found: &[Difference<'_>],
 ) -> Result<String, AllocError> {
-    let name = name_of(alloc, file, script.name)?;
-    let name = name.as_str();
-    let mut text = format!(in alloc; "failed: {name}\n")?;
-    for one in found.iter().take(MOST_SHOWN) {
-        let part = difference(alloc, file, script, one)?;
-        text.push_str(part.as_str())?;
+    let mut text = Draft::new(alloc);
+    push_failure(&mut text, alloc, file, script, found);
+    text.end()
+}
+
+/// Appends what is written of a script that fails.
+pub fn push_failure(
+    text: &mut Draft,
+    alloc: Global,
+    file: &str,
+    script: &Script<'_>,
+    found: &[Difference<'_>],
+) {
+    text.push("failed: ");
+    push_name(text, file, script.name);
+    text.push("\n");
+    for one in found.get(..MOST_SHOWN).unwrap_or(found) {
+        push_difference(text, alloc, file, script, one);
     }
-    let more = found.len().saturating_sub(MOST_SHOWN);
-    if more > 0 {
-        let part = format!(in alloc; "note: {more} more differences are not shown\n")?;
-        text.push_str(part.as_str())?;
-    }
+    push_hidden(text, found.len().saturating_sub(MOST_SHOWN));
     if !text.ends_with("\n\n") {
-        text.push('\n')?;
+        text.push("\n");
     }
-    Ok(text)
+}
+
+// Appends how many differences are not shown, if there are some.
+fn push_hidden(text: &mut Draft, hidden: usize) {
+    if hidden > 0 {
+        text.push("note: ");
+        text.push_number(hidden as u64);
+        text.push(" more differences are not shown\n");
+    }
 }

@@ -16,17 +16,17 @@ static ROWS: [Row; 14] = [
     (
         "mount -t proc ...",
         "",
-        "only new, empty filesystems are modelled: `mount plain PATH`",
+        "new, empty filesystems and overlays alone are modelled: `mount plain`, `mount overlay`",
     ),
     (
         "mount -t sysfs ...",
         "",
-        "only new, empty filesystems are modelled: `mount plain PATH`",
+        "new, empty filesystems and overlays alone are modelled: `mount plain`, `mount overlay`",
     ),
     (
         "mount -t ...",
         "",
-        "only new, empty filesystems are modelled: `mount plain PATH`",
+        "new, empty filesystems and overlays alone are modelled: `mount plain`, `mount overlay`",
     ),
 ];
 

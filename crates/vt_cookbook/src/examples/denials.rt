@@ -45,6 +45,19 @@ t.1 unlink /d/f                         => deny 13 EACCES C1\n\
 # Only the owner or a holder of CAP_FOWNER changes a mode.\n\
 t.1 chmod /d/f 777                      => deny 1 EPERM C2\n\
 \n\
+# O: layers of an overlay, of which none is another one. F: an overlay without an upper layer is read-only. L: its layers\n\
+# are locked while it is mounted. M: mounts; only the root of one can be unmounted.\n\
+t mkdir /high\n\
+t mkdir /low\n\
+t mkdir /m\n\
+t mount overlay /m lowerdir=/low:/low   => deny 40 ELOOP O5\n\
+t mount overlay /m lowerdir=/high:/low\n\
+t mkdir /m/x                            => deny 30 EROFS F2\n\
+t mkdir /low/x                          => deny 16 EBUSY L1\n\
+t umount /low                           => deny 22 EINVAL M7\n\
+t umount /m\n\
+t mkdir /low/x\n\
+\n\
 # Search. Without execute on a directory no path leads through it (W4), also for a file with every right.\n\
 t chmod /d/f 777\n\
 t chmod /d 744\n\
@@ -63,7 +76,7 @@ t ls /d                                 => ok f link\n\
 # Two rules fail at once: /d exists (E1), and t.1 may not write to / (C1). E comes first.\n\
 t.1 mkdir /d                            => deny 17 EEXIST E1\n\
 # Nothing was changed by any denial.\n\
-t ls /                                  => ok d loop\n\
+t ls /                                  => ok d high loop low m\n\
 t read /d/f                             => ok text\n\
 "
 }

@@ -5,8 +5,8 @@ pub fn script() -> &'static str {
     "\
 # An image of three layers, what a container of it sees, and why no layer changes while one runs.\n\
 #\n\
-# Docker and podman unpack each layer of an image once, and mount an overlay of them for each container: this is\n\
-# `docker run --read-only`, whose overlay has no upper layer. The highest layer comes first.\n\
+# Docker, podman and containerd unpack each layer of an image once, and mount an overlay of them for each use. Here it\n\
+# has no upper layer, as `podman image mount` and the views of containerd have none. The highest layer comes first.\n\
 \n\
 t mkdir /layers\n\
 # The base: a shell and its libraries.\n\

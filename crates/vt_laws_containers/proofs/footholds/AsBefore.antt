@@ -19,7 +19,9 @@ use Rattle.vt_laws_part.proofs.Kept.{among-each_once, among-from_each_once}
 use Rattle.vt_laws_part.proofs.part.PartOfPart.{used_directly_used}
 use Rattle.vt_laws_part.proofs.seals.ByPart.{layer_directory}
 use Rattle.vt_laws_containers.specs.Footholds.{LeavesOthersOut}
-use Rattle.vt_laws_containers.proofs.scripts.UsedThere.{IsThere, directory_is_there, located_is_there, mounted_is_there, there_with_inode}
+use Rattle.vt_laws_containers.proofs.scripts.UsedThere.{IsThere, located_is_there, mounted_is_there, there_with_inode}
+use Rattle.vt_laws_members_changes.proofs.letting_go.Ready.{layered_overlay}
+use Rattle.vt_spec.proofs.Nodes.{directory_is_there}
 
 -- the layers of a filesystem, if it is an overlay
 abbrev pub without_real : Overlay ℕ → Overlay ℕ
@@ -83,18 +85,6 @@ changes_alike one other same = cc (stripped one.overlay, stripped other.overlay)
     stripped : (o : Option (Overlay ℕ)) → on (option_map without_real o) ≡ on o
     stripped None = refl
     stripped (Some overlay) = refl
-
--- a filesystem with a layer is an overlay
-layered_overlay : (number : ℕ) (merged : Filesystem ℕ) → has_layer_on nat_eq number merged ≡ true
-    → is_overlay merged ≡ true
-layered_overlay number merged = by merged.overlay
-  where
-    by : (o : Option (Overlay ℕ))
-        → overlay_or false (λ (overlay : Overlay ℕ). list_any (λ l. nat_eq number l.filesystem) (layers_of overlay)) o
-        ≡ true
-        → is_some o ≡ true
-    by None h = h
-    by (Some overlay) h = refl
 
 any_alike : {A : Type 0} (p q : A → Bool) (list : List A) → ((x : A) → Among x list → p x ≡ q x)
     → list_any p list ≡ list_any q list

@@ -1,6 +1,7 @@
 -- After the sweep, and with change numbers raised, others are as they were before these.
-use Rattle.std.proofs.Common.{◌≡◌, refl, sym, ap, subst, ◌∙◌, inl, inr, ⊎_elim, ℕ, nat_eq, Bool, true, false, cond, true≢false, List, [], ◌∷◌, ◌++◌, Option, Some, None, filter, find, flat_map, is_some, map, not, ◌||◌, eq-eqb, eqb-true}
-use Rattle.std.specs.Prelude.{option_map, unwrap_or}
+use Rattle.std.proofs.lemmas.Grind.{common_steps}
+use Rattle.std.proofs.Common.{◌≡◌, refl, sym, ap, subst, ◌∙◌, inl, inr, ⊎_elim, ℕ, nat_eq, Bool, true, false, cond, true≢false, List, [], ◌∷◌, ◌++◌, filter, find, flat_map, map, not, arith}
+use Rattle.std.specs.Prelude.{unwrap_or}
 use Rattle.std.specs.List.{list_all, list_any}
 use Rattle.std.proofs.lemmas.Bool.{not-true, or_right}
 use Rattle.vt_spec.specs.Language.Calls.{TaskName, same_name}
@@ -8,13 +9,12 @@ use Rattle.vt_spec.specs.Lists.{holds_of, is_among}
 use Rattle.vt_spec.specs.Machine.Filesystems.{raised, raised_if_changed}
 use Rattle.vt_spec.specs.Machine.Mounts.{Location, Mount, no_mount}
 use Rattle.vt_spec.specs.Machine.Policy.{numbers_raised, raised_task}
-use Rattle.vt_spec.specs.Machine.Sealed.{is_member_task, is_own_mount, is_own_namespace, locations, members, other_mounts, outsiders, own_mounts, share_events, used_directly}
-use Rattle.vt_spec.specs.Machine.Settled.{filesystem_lives, is_located, mount_lives, only_used, only_used_by, real_among, settled, used_in, without_dead_filesystems, without_dead_in, without_dead_mounts}
-use Rattle.vt_spec.specs.Machine.World.{Filesystem, Overlay, Task, World, all_locations, is_overlay, locations_of, mount_at}
+use Rattle.vt_spec.specs.Machine.Sealed.{is_member_task, is_own_namespace, locations, members, other_mounts, outsiders, own_mounts, share_events, used_directly}
+use Rattle.vt_spec.specs.Machine.Settled.{filesystem_lives, mount_lives, only_used, settled, without_dead_filesystems, without_dead_in, without_dead_mounts}
+use Rattle.vt_spec.specs.Machine.World.{Filesystem, Task, World, all_locations, is_overlay, locations_of, mount_at}
 use Rattle.vt_spec.proofs.Lists.{Among, among-append, among-append_left, among-append_right, among-flat_map, among-from_filter, among-from_flat_map, among-from_map, among-map, any_from_among}
-use Rattle.vt_spec.proofs.Worlds.{same_task_name}
+use Rattle.vt_spec.proofs.Worlds.{number-only_used, same_task_name}
 use Rattle.vt_laws_letting_go.proofs.Lists.{filter-map, filter_less}
-use Rattle.vt_laws_sealed.proofs.outsiders.InodesSwept.{cut_number}
 use Rattle.vt_laws_sealed.proofs.outsiders.OthersSwept.{others_swept}
 use Rattle.vt_laws_sealed.proofs.outsiders.Staying.{OthersStayOut}
 use Rattle.vt_laws_members_changes.proofs.letting_go.Ends.{raised_is, raised_members}
@@ -37,26 +37,11 @@ module _ (world left : World ℕ) (names set : List TaskName) (others : OthersAs
   abbrev last : World ℕ
   last = settled nat_eq left
 
-  abbrev own_by : ℕ → Bool
-  own_by namespace = is_own_namespace nat_eq left set namespace
-
   owns_stay : own_mounts nat_eq last set ≡ own_mounts nat_eq left set
-  owns_stay =
-      filter_less (is_own_mount nat_eq left set) (mount_lives nat_eq left) left.mounts
-      (λ mount m dead. by mount.namespace (is_located nat_eq left mount.number) dead)
-    where
-      by : (o : Option ℕ) (located : Bool) → (is_some o || located) ≡ false → holds_of own_by o ≡ false
-      by None located dead = refl
-      by (Some n) located dead = absurd (true≢false dead)
+  owns_stay = grind (arith, common_steps, filter_less, true≢false)
 
   others_stay : other_mounts nat_eq last set ≡ other_mounts nat_eq left set
-  others_stay =
-      filter_less (λ (mount : Mount ℕ). holds_of (λ n. not (own_by n)) mount.namespace) (mount_lives nat_eq left)
-      left.mounts (λ mount m dead. by mount.namespace (is_located nat_eq left mount.number) dead)
-    where
-      by : (o : Option ℕ) (located : Bool) → (is_some o || located) ≡ false → holds_of (λ n. not (own_by n)) o ≡ false
-      by None located dead = refl
-      by (Some n) located dead = absurd (true≢false dead)
+  others_stay = grind (arith, common_steps, filter_less, true≢false)
 
   -- a mount with a location on it lives
   found_living : (location : Location ℕ) → Among location (all_locations left)
@@ -64,26 +49,13 @@ module _ (world left : World ℕ) (names set : List TaskName) (others : OthersAs
   found_living location m = ap (λ o. unwrap_or o (no_mount location.mount)) (search left.mounts)
     where
       located : (mount : Mount ℕ) → nat_eq location.mount mount.number ≡ true → mount_lives nat_eq left mount ≡ true
-      located mount e =
-          or_right (is_some mount.namespace) _
-          (any_from_among (λ (l : Location ℕ). nat_eq mount.number l.mount) (all_locations left) location m
-          (eq-eqb mount.number location.mount (sym (eqb-true location.mount mount.number e))))
+      located mount e = grind (arith, common_steps, or_right, any_from_among)
 
       search : (list : List (Mount ℕ))
           → find (λ (x : Mount ℕ). nat_eq location.mount x.number) (filter (mount_lives nat_eq left) list)
           ≡ find (λ (x : Mount ℕ). nat_eq location.mount x.number) list
       search [] = refl
-      search (x ∷ rest) = by (mount_lives nat_eq left x) refl (nat_eq location.mount x.number) refl (search rest)
-        where
-          by : (a : Bool) → mount_lives nat_eq left x ≡ a → (b : Bool) → nat_eq location.mount x.number ≡ b
-              → find (λ (y : Mount ℕ). nat_eq location.mount y.number) (filter (mount_lives nat_eq left) rest)
-              ≡ find (λ (y : Mount ℕ). nat_eq location.mount y.number) rest
-              → find (λ (y : Mount ℕ). nat_eq location.mount y.number)
-              (cond a (x ∷ filter (mount_lives nat_eq left) rest) (filter (mount_lives nat_eq left) rest))
-              ≡ cond b (Some x) (find (λ (y : Mount ℕ). nat_eq location.mount y.number) rest)
-          by true g b h later = cc
-          by false g true h later = absurd (true≢false (sym (located x h) ∙ g))
-          by false g false h later = later
+      search (x ∷ rest) = grind (arith, common_steps, located, true≢false, search rest)
 
   placed : (test : Task ℕ → Bool) (location : Location ℕ) → Among location (locations (filter test left.tasks))
       → Among location (all_locations left)
@@ -93,16 +65,7 @@ module _ (world left : World ℕ) (names set : List TaskName) (others : OthersAs
 
   -- a filesystem that is left is an overlay over the layers that it had
   cut_layered : (w : World ℕ) (b : Bool) (f : Filesystem ℕ) → layered_as (only_used nat_eq w b f) ≡ layered_as f
-  cut_layered w true f = by (list_all (λ number. is_among nat_eq number (used_in nat_eq w f)) f.files.numbers)
-    where
-      cut : (o : Option (Overlay ℕ))
-          → option_map without_real (option_map (real_among nat_eq (used_in nat_eq w f)) o) ≡ option_map without_real o
-      cut None = refl
-      cut (Some overlay) = refl
-
-      by : (all : Bool) → layered_as (only_used_by nat_eq all (used_in nat_eq w f) f) ≡ layered_as f
-      by true = refl
-      by false = cut f.overlay
+  cut_layered w true f = grind (arith, common_steps, without_real, layered_as)
   cut_layered w false f = refl
 
   left_from : (f : Filesystem ℕ) → Among f last.filesystems
@@ -114,8 +77,8 @@ module _ (world left : World ℕ) (names set : List TaskName) (others : OthersAs
       one.1 in (
         one.0,
         alive.0,
-        ap (λ (x : Filesystem ℕ). x.number) second.2 ∙ cut_number first (not (is_overlay second.0)) second.0
-            ∙ ap (λ (x : Filesystem ℕ). x.number) one.2 ∙ cut_number living (is_overlay one.0) one.0,
+        ap (λ (x : Filesystem ℕ). x.number) second.2 ∙ number-only_used first (not (is_overlay second.0)) second.0
+            ∙ ap (λ (x : Filesystem ℕ). x.number) one.2 ∙ number-only_used living (is_overlay one.0) one.0,
         ap layered_as second.2 ∙ cut_layered first (not (is_overlay second.0)) second.0
             ∙ ap layered_as one.2 ∙ cut_layered living (is_overlay one.0) one.0,
       )
@@ -202,10 +165,7 @@ module _ (world left : World ℕ) (names set : List TaskName) (others : OthersAs
           ∙ outside))
         where
           outside : is_member_task names t ≡ false
-          outside =
-              not-true (is_member_task names t)
-              (among-from_filter (λ (x : Task ℕ). not (is_member_task names x)) world.tasks t
-              (subst (Among t) others.others m)).1
+          outside = grind (arith, common_steps, not-true, among-from_filter)
       by false e = refl
 
   map_same : (f : Task ℕ → Task ℕ) (list : List (Task ℕ)) → ((t : Task ℕ) → Among t list → f t ≡ t)

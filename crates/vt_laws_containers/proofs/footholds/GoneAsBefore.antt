@@ -1,16 +1,16 @@
 -- Mounts of a set that go, and files that change, leave others as they were.
-use Rattle.std.proofs.Common.{◌≡◌, refl, sym, ap, subst, ◌∙◌, inl, inr, ℕ, nat_eq, Bool, true, false, cond, true≢false, List, [], ◌∷◌, Option, Some, None, filter, find, length, map, ◌||◌, eq-eqb, eqb-true}
-use Rattle.std.specs.Prelude.{option_map, unwrap_or}
+use Rattle.std.proofs.lemmas.Grind.{common_steps}
+use Rattle.std.proofs.Common.{◌≡◌, refl, sym, ap, subst, ◌∙◌, inl, inr, ℕ, nat_eq, Bool, true, false, cond, true≢false, List, [], ◌∷◌, Option, Some, None, filter, find, length, map, eq-eqb, eqb-true, arith}
+use Rattle.std.specs.Prelude.{option_map}
 use Rattle.std.specs.List.{list_any}
 use Rattle.std.proofs.lemmas.Bool.{false_from_ne_true}
 use Rattle.vt_spec.specs.Language.Calls.{Call, TaskName}
 use Rattle.vt_spec.specs.Lists.{Fresh, chain, holds_of, is_among, last_or}
 use Rattle.vt_spec.specs.Machine.Detach.{after_going, is_going, mount_point_of_parent, taken_away}
-use Rattle.vt_spec.specs.Machine.Mounts.{Location, Mount, detached, no_mount}
-use Rattle.vt_spec.specs.Machine.Receives.{lost_a_group, regrouped, regrouped_by}
+use Rattle.vt_spec.specs.Machine.Mounts.{Location, Mount, detached}
 use Rattle.vt_spec.specs.Machine.Run.{Serves}
 use Rattle.vt_spec.specs.Machine.Sealed.{is_own_namespace}
-use Rattle.vt_spec.specs.Machine.World.{Task, World, mount_at, mount_numbered, task_called, with_mounts}
+use Rattle.vt_spec.specs.Machine.World.{Task, World, mount_numbered, task_called}
 use Rattle.vt_spec.proofs.Lists.{Among, among-from_filter, any_among, any_from_among, is_among_numbers, among_numbers}
 use Rattle.vt_laws_mounts.proofs.mounts.MountsReplaced.{found_itself}
 use Rattle.vt_laws_trees.specs.Trees.Limits.{names_few_groups}
@@ -41,25 +41,14 @@ files_as_before world base left names set others changes =
 kept_among : (test : ℕ → Bool) (number : ℕ) → test number ≡ true → (list : List ℕ)
     → is_among nat_eq number (filter test list) ≡ is_among nat_eq number list
 kept_among test number e [] = refl
-kept_among test number e (x ∷ rest) = by (test x) refl (kept_among test number e rest)
-  where
-    by : (b : Bool) → test x ≡ b → is_among nat_eq number (filter test rest) ≡ is_among nat_eq number rest
-        → is_among nat_eq number (cond b (x ∷ filter test rest) (filter test rest))
-        ≡ (nat_eq number x || is_among nat_eq number rest)
-    by true f later = ap (λ b. nat_eq number x || b) later
-    by false f later =
-        cc (false_from_ne_true (nat_eq number x) (λ h. true≢false (sym e ∙ ap test (eqb-true number x h) ∙ f)))
+kept_among test number e (x ∷ rest) =
+    grind (arith, common_steps, false_from_ne_true, true≢false, kept_among test number e rest)
 
 none_among : (test : ℕ → Bool) (number : ℕ) → test number ≡ false → (list : List ℕ)
     → is_among nat_eq number (filter test list) ≡ false
 none_among test number e [] = refl
-none_among test number e (x ∷ rest) = by (test x) refl (none_among test number e rest)
-  where
-    by : (b : Bool) → test x ≡ b → is_among nat_eq number (filter test rest) ≡ false
-        → is_among nat_eq number (cond b (x ∷ filter test rest) (filter test rest)) ≡ false
-    by true f later =
-        cc (false_from_ne_true (nat_eq number x) (λ h. true≢false (sym f ∙ sym (ap test (eqb-true number x h)) ∙ e)))
-    by false f later = later
+none_among test number e (x ∷ rest) =
+    grind (arith, common_steps, false_from_ne_true, true≢false, none_among test number e rest)
 
 maps_alike : (f g : Mount ℕ → Mount ℕ) (list : List (Mount ℕ)) → ((x : Mount ℕ) → Among x list → f x ≡ g x)
     → map f list ≡ map g list
@@ -68,11 +57,7 @@ maps_alike f g (x ∷ rest) same = cc (same x (inl refl), maps_alike f g rest (�
 
 none_found : (p : Mount ℕ → Bool) (list : List (Mount ℕ)) → list_any p list ≡ false → find p list ≡ None
 none_found p [] h = refl
-none_found p (x ∷ rest) h = by (p x) refl (none_found p rest)
-  where
-    by : (b : Bool) → p x ≡ b → (list_any p rest ≡ false → find p rest ≡ None) → find p (x ∷ rest) ≡ None
-    by true e later = absurd (true≢false (sym (ap (λ b. b || list_any p rest) e) ∙ h))
-    by false e later = cc (later (sym (ap (λ b. b || list_any p rest) e) ∙ h))
+none_found p (x ∷ rest) h = grind (arith, common_steps, true≢false, none_found p rest)
 
 module _ (world : World ℕ) (gone : List ℕ) where
   abbrev pub is_mount : ℕ → Bool
@@ -83,17 +68,7 @@ module _ (world : World ℕ) (gone : List ℕ) where
 
   parent_same : (point : Location ℕ)
       → mount_point_of_parent nat_eq world gone_there point ≡ mount_point_of_parent nat_eq world gone point
-  parent_same point = by (is_mount point.mount) refl
-    where
-      none_there : is_mount point.mount ≡ false → (b : Bool)
-          → Path (Option (Location ℕ)) None (cond b (mount_at nat_eq world point).mount_point None)
-      none_there e true = cc (none_found (λ (mount : Mount ℕ). nat_eq point.mount mount.number) world.mounts e)
-      none_there e false = refl
-
-      by : (b : Bool) → is_mount point.mount ≡ b
-          → mount_point_of_parent nat_eq world gone_there point ≡ mount_point_of_parent nat_eq world gone point
-      by true e = cc (kept_among is_mount point.mount e gone)
-      by false e = cc (none_among is_mount point.mount e gone, none_there e (is_going nat_eq gone point.mount))
+  parent_same point = grind (arith, common_steps, none_found, kept_among, none_among)
 
   after_same : (mount : Mount ℕ) → Among mount world.mounts
       → after_going nat_eq world gone_there mount ≡ after_going nat_eq world gone mount
@@ -112,15 +87,7 @@ module _ (world : World ℕ) (gone : List ℕ) where
       cc (maps_alike (after_going nat_eq world gone_there) (after_going nat_eq world gone) world.mounts after_same)
 
   pub taken_filesystems : (taken_away nat_eq world gone).filesystems ≡ world.filesystems
-  taken_filesystems =
-      by (list_any (lost_a_group nat_eq (with_mounts world (map (after_going nat_eq world gone) world.mounts)))
-      (map (after_going nat_eq world gone) world.mounts))
-    where
-      by : (b : Bool)
-          → (regrouped_by nat_eq b (with_mounts world (map (after_going nat_eq world gone) world.mounts))).filesystems
-          ≡ world.filesystems
-      by true = refl
-      by false = refl
+  taken_filesystems = grind (arith, common_steps)
 
 -- Mounts of theirs that go
 module _ (world : World ℕ) (names : List TaskName) (name : TaskName) (call : Call)

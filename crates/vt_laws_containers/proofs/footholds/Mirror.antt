@@ -1,16 +1,16 @@
 -- Others beside a sealed set, as a set of their own in the world without its tasks: they have their namespaces and
 -- mounts for themselves, too.
-use Rattle.std.proofs.Common.{◌≡◌, refl, sym, ap, subst, ◌∙◌, ◌⊎◌, inl, inr, ⊎_elim, ℕ, nat_eq, Bool, true, false, cond, true≢false, List, [], ◌∷◌, Option, Some, None, filter, map, not, ◌||◌, eq-eqb, eqb-true}
-use Rattle.std.specs.Prelude.{option_to_list}
+use Rattle.std.proofs.lemmas.Grind.{common_steps}
+use Rattle.std.proofs.Common.{◌≡◌, refl, sym, ap, subst, ◌∙◌, ◌⊎◌, inl, inr, ⊎_elim, ℕ, nat_eq, Bool, true, false, true≢false, List, [], ◌∷◌, Option, Some, None, filter, map, not, ◌||◌, eq-eqb, eqb-true, arith}
 use Rattle.std.specs.List.{list_all, list_any}
-use Rattle.std.proofs.lemmas.Bool.{and_parts, false_from_ne_true, not-true}
+use Rattle.std.proofs.lemmas.Bool.{false_from_ne_true, not-true}
 use Rattle.vt_spec.specs.Language.Calls.{TaskName, same_name}
 use Rattle.vt_spec.specs.Lists.{holds_of}
 use Rattle.vt_spec.specs.Machine.Invariants.{MountInvariants, Stands, is_listed}
 use Rattle.vt_spec.specs.Machine.Invariants.Stands.{at_root, on_parent}
 use Rattle.vt_spec.specs.Machine.Mounts.{Location, Mount, group_of}
 use Rattle.vt_spec.specs.Machine.Namespaces.{has_tasks}
-use Rattle.vt_spec.specs.Machine.Sealed.{is_at, is_member_task, is_own_mount, is_own_namespace, locations, members, other_mounts, outsiders, own_mounts, receives_events_of, roots_and_directories, share_events}
+use Rattle.vt_spec.specs.Machine.Sealed.{is_at, is_member_task, is_own_mount, is_own_namespace, locations, members, other_mounts, outsiders, own_mounts, roots_and_directories, share_events}
 use Rattle.vt_spec.specs.Machine.World.{Namespace, Task, World, locations_of, mount_at, mount_numbered}
 use Rattle.vt_spec.proofs.Lists.{Among, all_from_among, among-filter, among-flat_map, among-from_filter, among-from_flat_map, among-from_map, among-map, among_from_all, among_from_list_all, any_among, any_from_among, list_all_from_among}
 use Rattle.vt_spec.proofs.Worlds.{same_name_itself}
@@ -18,20 +18,13 @@ use Rattle.vt_laws_mounts.proofs.mounts.MountsReplaced.{found_itself}
 use Rattle.vt_laws_part.specs.Seals.{IsApart}
 use Rattle.vt_laws_sealed.proofs.outsiders.OtherMounts.{namespace_outside, standing_apart_of}
 use Rattle.vt_laws_sealed.proofs.outsiders.StandingApart.{StandsApart}
+use Rattle.vt_spec.proofs.Found.{filter_all, filter_alike}
 
 -- Filters
-filter_all : {A : Type 0} (p : A → Bool) (xs : List A) → ((x : A) → Among x xs → p x ≡ true) → filter p xs ≡ xs
-filter_all p [] all = refl
-filter_all p (x ∷ xs) all = cc (all x (inl refl), filter_all p xs (λ y m. all y (inr m)))
 
 filter_none : {A : Type 0} (p : A → Bool) (xs : List A) → ((x : A) → Among x xs → p x ≡ false) → filter p xs ≡ []
 filter_none p [] none = refl
 filter_none p (x ∷ xs) none = cc (none x (inl refl), filter_none p xs (λ y m. none y (inr m)))
-
-pub filter_alike : {A : Type 0} (p q : A → Bool) (xs : List A) → ((x : A) → Among x xs → p x ≡ q x)
-    → filter p xs ≡ filter q xs
-filter_alike p q [] same = refl
-filter_alike p q (x ∷ xs) same = cc (same x (inl refl), filter_alike p q xs (λ y m. same y (inr m)))
 
 -- Two mounts share events, whichever is first.
 or_turned : (a b : Bool) → (a || b) ≡ (b || a)
@@ -46,12 +39,7 @@ ShareNone share xs ys = list_all (λ x. list_all (λ y. not (share x y)) ys) xs
 
 pub none_turned : (world : World ℕ) (xs ys : List (Mount ℕ)) → ShareNone (share_events nat_eq world) xs ys ≡ true
     → ShareNone (share_events nat_eq world) ys xs ≡ true
-none_turned world xs ys none =
-    list_all_from_among (λ y. list_all (λ x. not (share_events nat_eq world y x)) xs) ys (λ y m.
-    list_all_from_among (λ x. not (share_events nat_eq world y x)) xs (λ x n.
-    ap not (or_turned (receives_events_of nat_eq world y x) (receives_events_of nat_eq world x y))
-    ∙ among_from_list_all (λ b. not (share_events nat_eq world x b)) ys
-    (among_from_list_all (λ a. list_all (λ b. not (share_events nat_eq world a b)) ys) xs none x n) y m))
+none_turned world xs ys none = grind (arith, common_steps, list_all_from_among, or_turned, among_from_list_all)
 
 module _ (world : World ℕ) (names : List TaskName) (apart : IsApart world names) where
   abbrev pub out : List (Task ℕ)
@@ -120,19 +108,11 @@ module _ (world : World ℕ) (names : List TaskName) (apart : IsApart world name
       (λ theirs. theirs ∙ ap not (sym (out_is_not_ours n theirs))) (side n listed)
 
   pub ours_if_not_out : (n : ℕ) → is_listed nat_eq world n ≡ true → not (is_out n) ≡ is_ours n
-  ours_if_not_out n listed = ap not (out_if_not_ours n listed) ∙ twice (is_ours n)
-    where
-      twice : (b : Bool) → not (not b) ≡ b
-      twice true = refl
-      twice false = refl
+  ours_if_not_out n listed = grind (arith, common_steps, out_if_not_ours)
 
   pub placed_listed : (mount : Mount ℕ) → Among mount world.mounts → (n : ℕ) → mount.namespace ≡ Some n
       → is_listed nat_eq world n ≡ true
-  placed_listed mount m n e =
-      (and_parts (is_listed nat_eq world n) true
-      (sym (ap (λ o. list_all (is_listed nat_eq world) (option_to_list o)) e)
-      ∙ among_from_list_all (λ (x : Mount ℕ). list_all (is_listed nat_eq world) (option_to_list x.namespace))
-      world.mounts apart.is.namespaces.mounts_listed mount m)).0
+  placed_listed mount m n e = grind (arith, common_steps, among_from_list_all)
 
   own_is_other : own_mounts nat_eq mirror their_names ≡ other_mounts nat_eq world names
   own_is_other =

@@ -226,9 +226,7 @@ module _ (world : World ℕ) (names : List TaskName) (name : TaskName) (call : C
 
     same_swept : settled nat_eq (taken_away nat_eq world all_gone.0) ≡ settled nat_eq detached_ones
     same_swept =
-        sym (settled_without_groups (taken_away nat_eq world all_gone.0))
-        ∙ sym (ap (settled nat_eq) same)
-        ∙ settled_without_groups detached_ones
+        cc (settled_without_groups (taken_away nat_eq world all_gone.0), same, settled_without_groups detached_ones)
 
     taken_before : EndsInAWorld world names name call it fresh serves few task (ToUnmountLazily number)
         → OthersAsBefore world (taken_away nat_eq world all_gone.0) names names

@@ -1,5 +1,6 @@
 -- Where mounts of a sealed set get other flags or mount points, others are as they were.
-use Rattle.std.proofs.Common.{◌≡◌, refl, sym, ap, subst, ◌∙◌, ◌⊎◌, inl, inr, ⊎_elim, ℕ, nat_eq, Bool, true, false, cond, true≢false, List, [], ◌∷◌, Option, Some, None, Ok, filter, find, map, not, eq-eqb, eqb-true}
+use Rattle.std.proofs.lemmas.Grind.{common_steps}
+use Rattle.std.proofs.Common.{◌≡◌, refl, sym, ap, subst, ◌∙◌, ◌⊎◌, inl, inr, ⊎_elim, ℕ, nat_eq, Bool, true, false, cond, true≢false, List, [], ◌∷◌, Option, Some, None, Ok, filter, find, map, not, eq-eqb, eqb-true, arith}
 use Rattle.std.specs.Prelude.{unwrap_or}
 use Rattle.std.specs.List.{list_all, list_any}
 use Rattle.std.proofs.lemmas.Bool.{not-true}
@@ -324,10 +325,7 @@ module _ (world : World ℕ) (names : List TaskName) (name : TaskName) (call : C
 
         turn : (number : ℕ) (mount : Mount ℕ) → nat_eq mount.number (mount_numbered nat_eq world number).number ≡ true
             → nat_eq number mount.number ≡ true
-        turn number mount e =
-            eq-eqb number mount.number
-            (sym (eqb-true mount.number (mount_numbered nat_eq world number).number e
-            ∙ number-mount_in world.mounts number))
+        turn number mount e = grind (arith, common_steps, number-mount_in)
 
         by_number : (mount : Mount ℕ) (p q : Bool) → (abbrev_of mount p q).number ≡ mount.number
         by_number mount true q = refl
@@ -357,37 +355,14 @@ module _ (world : World ℕ) (names : List TaskName) (name : TaskName) (call : C
         by_fixed mount false e false f no_new no_old = refl
 
     turned_name : (t : Task ℕ) → (turned t).name ≡ t.name
-    turned_name t = by (nat_eq task.namespace t.namespace)
-      where
-        by : (b : Bool) → (cond b (record t {
-          root = pivoted_location nat_eq old_root new_root t.root;
-          directory = pivoted_location nat_eq old_root new_root t.directory;
-        }) t).name ≡ t.name
-        by true = refl
-        by false = refl
+    turned_name t = grind (arith, common_steps)
 
     turned_space : (t : Task ℕ) → (turned t).namespace ≡ t.namespace
-    turned_space t = by (nat_eq task.namespace t.namespace)
-      where
-        by : (b : Bool) → (cond b (record t {
-          root = pivoted_location nat_eq old_root new_root t.root;
-          directory = pivoted_location nat_eq old_root new_root t.directory;
-        }) t).namespace ≡ t.namespace
-        by true = refl
-        by false = refl
+    turned_space t = grind (arith, common_steps)
 
     -- others stay
     turned_other : (t : Task ℕ) → Among t (outsiders world names) → turned t ≡ t
-    turned_other t m = by (nat_eq task.namespace t.namespace) refl
-      where
-        by : (b : Bool) → nat_eq task.namespace t.namespace ≡ b → cond b (record t {
-          root = pivoted_location nat_eq old_root new_root t.root;
-          directory = pivoted_location nat_eq old_root new_root t.directory;
-        }) t ≡ t
-        by true e =
-            absurd (true≢false (sym caller_ours ∙ ap is_ours (eqb-true task.namespace t.namespace e)
-            ∙ namespace_outside world names (apart_if_sealed world names it.is it.sealed_off) t m))
-        by false e = refl
+    turned_other t m = grind (arith, common_steps, caller_ours, namespace_outside, apart_if_sealed, true≢false)
 
     new_theirs : IsTheirs world names it.is.mounts new
     new_theirs =

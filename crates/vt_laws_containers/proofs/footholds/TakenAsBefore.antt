@@ -1,16 +1,16 @@
 -- Where mounts of a sealed set are taken away, others are as they were.
+use Rattle.std.proofs.lemmas.Grind.{common_steps}
 use Rattle.std.proofs.Common.{◌≡◌, refl, sym, ap, subst, ◌∙◌, ◌⊎◌, inl, ⊎_elim, ℕ, nat_eq, Bool, true, false, true≢false, List, [], ◌∷◌, Option, Some, None, filter, map, not, ◌&&◌, ◌+◌, eq-eqb, eqb-true, arith}
 use Rattle.std.specs.Prelude.{option_to_list}
 use Rattle.std.specs.List.{list_all, list_any}
 use Rattle.std.proofs.lemmas.Bool.{and_parts, false_from_ne_true, not-true}
 use Rattle.vt_spec.specs.Language.Calls.{TaskName}
 use Rattle.vt_spec.specs.Lists.{holds_of}
-use Rattle.vt_spec.specs.Machine.Detach.{after_going, is_going, taken_away}
+use Rattle.vt_spec.specs.Machine.Detach.{is_going, taken_away}
 use Rattle.vt_spec.specs.Machine.Invariants.{IsWorld, is_listed}
 use Rattle.vt_spec.specs.Machine.Mounts.{Location, Mount}
-use Rattle.vt_spec.specs.Machine.Receives.{lost_a_group, regrouped_by}
 use Rattle.vt_spec.specs.Machine.Sealed.{is_member_task, is_own_mount, is_own_namespace, locations, members, other_mounts, outsiders, own_mounts, sealed, share_events, used_directly}
-use Rattle.vt_spec.specs.Machine.World.{Namespace, Task, World, all_locations, locations_of, mount_at, mount_numbered, with_mounts}
+use Rattle.vt_spec.specs.Machine.World.{Namespace, Task, World, all_locations, locations_of, mount_at, mount_numbered}
 use Rattle.vt_spec.proofs.Lists.{Among, among-append, among-append_left, among-append_right, among-filter, among-flat_map, among-from_filter, among-from_flat_map, among-from_map, among-map, among_from_list_all, any_from_among, is_among_numbers, list_all_from_among}
 use Rattle.vt_spec.proofs.Worlds.{filesystems-taken_away}
 use Rattle.vt_laws_mounts.specs.Mounts.Attaching.{OneNumberAMount, is_mount}
@@ -29,46 +29,21 @@ use Rattle.vt_laws_sealed.proofs.outsiders.StandingApart.{NothingNew, StandsApar
 use Rattle.vt_laws_sealed.proofs.outsiders.Staying.{LeavesApart}
 use Rattle.vt_laws_sealed.proofs.outsiders.TakingAway.{one_taken, taken_from, taken_leaves_apart}
 use Rattle.vt_laws_containers.proofs.footholds.AsBefore.{OthersAsBefore}
-use Rattle.vt_laws_containers.proofs.footholds.Mirror.{ShareNone, filter_alike, mirror, mirror_owns, mirror_stands, none_there, none_turned, ours_if_not_out, ours_is_not_out, out, out_if_not_ours, own_out, placed_listed, their_names}
+use Rattle.vt_laws_containers.proofs.footholds.Mirror.{ShareNone, mirror, mirror_owns, mirror_stands, none_there, none_turned, ours_if_not_out, ours_is_not_out, out, out_if_not_ours, own_out, placed_listed, their_names}
+use Rattle.vt_spec.proofs.Found.{filter_alike}
 
 -- Mounts and groups are taken away alike, whatever tasks there are.
 pub taken_mounts : (world : World ℕ) (tasks : List (Task ℕ)) (gone : List ℕ)
     → (taken_away nat_eq (record world { tasks = tasks }) gone).mounts ≡ (taken_away nat_eq world gone).mounts
-taken_mounts world tasks gone =
-    by (list_any (lost_a_group nat_eq (with_mounts world (map (after_going nat_eq world gone) world.mounts)))
-    (map (after_going nat_eq world gone) world.mounts))
-  where
-    by : (b : Bool)
-        → (regrouped_by nat_eq b (with_mounts (record world { tasks = tasks })
-        (map (after_going nat_eq world gone) world.mounts))).mounts
-        ≡ (regrouped_by nat_eq b (with_mounts world (map (after_going nat_eq world gone) world.mounts))).mounts
-    by true = refl
-    by false = refl
+taken_mounts world tasks gone = grind (arith, common_steps)
 
 taken_master : (world : World ℕ) (tasks : List (Task ℕ)) (gone : List ℕ)
     → (taken_away nat_eq (record world { tasks = tasks }) gone).master ≡ (taken_away nat_eq world gone).master
-taken_master world tasks gone =
-    by (list_any (lost_a_group nat_eq (with_mounts world (map (after_going nat_eq world gone) world.mounts)))
-    (map (after_going nat_eq world gone) world.mounts))
-  where
-    by : (b : Bool)
-        → (regrouped_by nat_eq b (with_mounts (record world { tasks = tasks })
-        (map (after_going nat_eq world gone) world.mounts))).master
-        ≡ (regrouped_by nat_eq b (with_mounts world (map (after_going nat_eq world gone) world.mounts))).master
-    by true = refl
-    by false = refl
+taken_master world tasks gone = grind (arith, common_steps)
 
 pub taken_tasks : (world : World ℕ) (tasks : List (Task ℕ)) (gone : List ℕ)
     → (taken_away nat_eq (record world { tasks = tasks }) gone).tasks ≡ tasks
-taken_tasks world tasks gone =
-    by (list_any (lost_a_group nat_eq (with_mounts world (map (after_going nat_eq world gone) world.mounts)))
-    (map (after_going nat_eq world gone) world.mounts))
-  where
-    by : (b : Bool)
-        → (regrouped_by nat_eq b (with_mounts (record world { tasks = tasks })
-        (map (after_going nat_eq world gone) world.mounts))).tasks ≡ tasks
-    by true = refl
-    by false = refl
+taken_tasks world tasks gone = grind (arith, common_steps)
 
 -- A set is left with these tasks, and each mount that goes is in a namespace of the old set.
 pub record TakesOwn (world : World ℕ) (names set : List TaskName) (is : IsWorld nat_eq world)
@@ -364,10 +339,7 @@ module _ (world : World ℕ) (names set : List TaskName) (is : IsWorld nat_eq wo
       (map (λ (l : Location ℕ). (mount_at nat_eq left l).filesystem) (locations (members left set))) number m)
     where
       theirs_there : (l : Location ℕ) → IsTheirs world names is.mounts l.mount → is_mount world l.mount ≡ true
-      theirs_there l theirs =
-          is_among_numbers (map (λ (x : Mount ℕ). x.number) world.mounts) l.mount
-          (subst (λ n. Among n (map (λ (x : Mount ℕ). x.number) world.mounts)) theirs.2
-          (among-map (λ (x : Mount ℕ). x.number) world.mounts theirs.0 theirs.1))
+      theirs_there l theirs = grind (arith, common_steps, is_among_numbers, among-map)
 
   others_are : outsiders left set ≡ outsiders world names
   others_are = ap (filter (λ (t : Task ℕ). not (is_member_task set t))) (taken_tasks world tasks gone) ∙ takes.others
@@ -381,11 +353,7 @@ module _ (world : World ℕ) (names set : List TaskName) (is : IsWorld nat_eq wo
 
   none_on_own : list_all (λ l. not (is_own_mount nat_eq left set (mount_at nat_eq left l)))
       (locations (outsiders left set)) ≡ true
-  none_on_own =
-      (λ i. list_all (λ l. not (holds_of (λ n. own_left_is n i) (mount_at nat_eq left l).namespace))
-      (locations (others_are i)))
-      ∙ list_all_from_among (λ l. not (holds_of own_left (mount_at nat_eq left l).namespace))
-      (locations (outsiders world names)) (λ l m. ap not (not_on_own l m))
+  none_on_own = grind (arith, common_steps, own_left_is, others_are, list_all_from_among, not_on_own)
 
   no_events : ShareNone (share_events nat_eq left) (own_mounts nat_eq left set) (other_mounts nat_eq left set) ≡ true
   no_events =

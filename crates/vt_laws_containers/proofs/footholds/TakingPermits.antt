@@ -1,5 +1,6 @@
 -- Permits that take mounts of a sealed set away leave others as they were: umount(2), _exit(2), setns(2).
-use Rattle.std.proofs.Common.{◌≡◌, refl, sym, ap, subst, ◌∙◌, ◌⊎◌, inl, inr, ⊎_elim, ℕ, nat_eq, Bool, true, false, cond, true≢false, List, [], ◌∷◌, Option, Some, None, Ok, filter, map, not, is_some, ◌&&◌, ◌||◌, eq-eqb, eqb-true}
+use Rattle.std.proofs.lemmas.Grind.{common_steps}
+use Rattle.std.proofs.Common.{◌≡◌, refl, sym, ap, subst, ◌∙◌, ◌⊎◌, inl, inr, ⊎_elim, ℕ, nat_eq, Bool, true, false, true≢false, List, [], ◌∷◌, Option, Some, None, Ok, filter, map, not, is_some, ◌&&◌, ◌||◌, eq-eqb, eqb-true, arith}
 use Rattle.std.specs.Prelude.{IfOk, option_to_list}
 use Rattle.std.specs.List.{list_all, list_any}
 use Rattle.std.proofs.lemmas.Bool.{and_from, and_parts, false_from_ne_true, not-false, not-true}
@@ -82,12 +83,7 @@ filter_twice : {A : Type 0} (p q r : A → Bool) (xs : List A)
     → filter p (filter q xs) ≡ filter r xs
 filter_twice p q r [] same none = refl
 filter_twice {A} p q r (x ∷ xs) same none =
-    by (q x) refl (filter_twice p q r xs (λ y m. same y (inr m)) (λ y m. none y (inr m)))
-  where
-    by : (b : Bool) → q x ≡ b → filter p (filter q xs) ≡ filter r xs
-        → filter p (cond b (x ∷ filter q xs) (filter q xs)) ≡ cond (r x) (x ∷ filter r xs) (filter r xs)
-    by true e later = cc (same x (inl refl) e)
-    by false e later = cc (none x (inl refl) e)
+    grind (arith, common_steps, filter_twice p q r xs (λ y m. same y (inr m)) (λ y m. none y (inr m)))
 
 module _ (world : World ℕ) (names : List TaskName) (name : TaskName) (call : Call)
     (it : IsCallOfTheirs world names name call) where
@@ -129,11 +125,7 @@ module _ (world : World ℕ) (names : List TaskName) (name : TaskName) (call : C
     -- a namespace of others has a task
     out_stays : (n : ℕ) → list_any (λ (t : Task ℕ). nat_eq n t.namespace) (outsiders world names) ≡ true
         → list_any (λ (t : Task ℕ). nat_eq n t.namespace) tasks ≡ true
-    out_stays n h =
-        let at = any_among (λ (t : Task ℕ). nat_eq n t.namespace) (outsiders world names) h in
-        any_from_among (λ (t : Task ℕ). nat_eq n t.namespace) tasks at.0
-        (among-from_filter (λ (t : Task ℕ). not (is_member_task set t)) tasks at.0
-        (subst (Among at.0) (sym others) at.1)).0 at.2
+    out_stays n h = grind (arith, common_steps, any_among, any_from_among, among-from_filter)
 
     lives_on : (n : ℕ) → is_listed nat_eq world n ≡ true
         → list_any (λ (t : Task ℕ). nat_eq n t.namespace) (outsiders world names) ≡ true

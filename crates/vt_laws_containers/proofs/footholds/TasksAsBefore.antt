@@ -1,4 +1,5 @@
 -- Where tasks of a set and filesystems change, and mounts do not, others are as they were.
+use Rattle.std.proofs.lemmas.Grind.{common_steps}
 use Rattle.std.proofs.Common.{◌≡◌, refl, sym, ap, subst, ◌∙◌, ◌⊎◌, inl, inr, ⊎_elim, ℕ, nat_eq, Bool, true, false, cond, true≢false, List, [], ◌∷◌, ◌++◌, Some, filter, map, not, ◌+◌, ◌||◌, arith}
 use Rattle.std.specs.List.{list_all, list_any}
 use Rattle.std.proofs.lemmas.Bool.{false_from_ne_true, not-true}
@@ -149,24 +150,11 @@ caller_beside world names name call it task called mine stands spaced filesystem
 filter_changed : (p q : Task ℕ → Bool) (f : Task ℕ → Task ℕ) (list : List (Task ℕ))
     → ((t : Task ℕ) → Among t list → p (f t) ≡ q t) → filter p (map f list) ≡ map f (filter q list)
 filter_changed p q f [] same = refl
-filter_changed p q f (t ∷ rest) same =
-    by (q t) (same t (inl refl)) (filter_changed p q f rest (λ x m. same x (inr m)))
-  where
-    by : (b : Bool) → p (f t) ≡ b → filter p (map f rest) ≡ map f (filter q rest)
-        → cond (p (f t)) (f t ∷ filter p (map f rest)) (filter p (map f rest))
-        ≡ map f (cond b (t ∷ filter q rest) (filter q rest))
-    by true e later = ap (λ c. cond c (f t ∷ filter p (map f rest)) (filter p (map f rest))) e ∙ ap (λ l. f t ∷ l) later
-    by false e later = ap (λ c. cond c (f t ∷ filter p (map f rest)) (filter p (map f rest))) e ∙ later
+filter_changed p q f (t ∷ rest) same = grind (arith, common_steps, filter_changed p q f rest (λ x m. same x (inr m)))
 
 filter_append : (p : Task ℕ → Bool) (xs ys : List (Task ℕ)) → filter p (xs ++ ys) ≡ filter p xs ++ filter p ys
 filter_append p [] ys = refl
-filter_append p (x ∷ xs) ys = by (p x) (filter_append p xs ys)
-  where
-    by : (b : Bool) → filter p (xs ++ ys) ≡ filter p xs ++ filter p ys
-        → cond b (x ∷ filter p (xs ++ ys)) (filter p (xs ++ ys))
-        ≡ cond b (x ∷ filter p xs) (filter p xs) ++ filter p ys
-    by true later = ap (λ l. x ∷ l) later
-    by false later = later
+filter_append p (x ∷ xs) ys = grind (arith, common_steps, filter_append p xs ys)
 
 append_none : (xs : List (Task ℕ)) → xs ++ [] ≡ xs
 append_none [] = refl
@@ -214,11 +202,7 @@ module _ (world : World ℕ) (names : List TaskName) (name : TaskName) (call : C
   tasks = map replaced world.tasks ++ child ∷ []
 
   members_are : filter (is_member_task set) tasks ≡ map replaced (members world names) ++ child ∷ []
-  members_are =
-      filter_append (is_member_task set) (map replaced world.tasks) (child ∷ [])
-      ∙ ap (λ l. l ++ filter (is_member_task set) (child ∷ []))
-      (filter_changed (is_member_task set) (is_member_task names) replaced world.tasks member_alike)
-      ∙ ap (λ b. map replaced (members world names) ++ cond b (child ∷ []) []) child_member
+  members_are = grind (arith, common_steps, filter_append, filter_changed, member_alike, child_member)
 
   replaced_how_here : (t : Task ℕ) → Among t world.tasks → ((replaced t ≡ parent) × (task ≡ t)) ⊎ (replaced t ≡ t)
   replaced_how_here = replaced_how world names name call it task called parent refl

@@ -1,7 +1,7 @@
 -- Permits to look, to change tasks, and to change files leave others as they were.
-use Rattle.std.proofs.Common.{◌≡◌, refl, sym, ap, subst, ◌∙◌, ◌⊎◌, inl, inr, ⊎_elim, ℕ, nat_eq, nat_lt, Bool, true, false, true≢false, cond, List, [], ◌∷◌, Some, Result, Ok, Err, filter, map, not}
+use Rattle.std.proofs.lemmas.Grind.{common_steps}
+use Rattle.std.proofs.Common.{◌≡◌, refl, sym, ap, subst, ◌∙◌, ◌⊎◌, inl, inr, ⊎_elim, ℕ, nat_eq, nat_lt, Bool, true, false, true≢false, cond, List, [], ◌∷◌, Some, Ok, filter, map, not, arith}
 use Rattle.std.specs.Prelude.{IfOk, ◌==◌}
-use Rattle.vt_spec.specs.declared.errors.Deny.{Deny}
 use Rattle.vt_spec.specs.Language.Calls.{Access, Call, TaskName}
 use Rattle.vt_spec.specs.Lists.{Fresh, evens, odds}
 use Rattle.vt_spec.specs.Machine.Apply.{apply}
@@ -65,10 +65,6 @@ abbrev ends_task : Permit ℕ → Bool
 ends_task ToExit = true
 ends_task permit = false
 
-abbrev permit_of : Permit ℕ → Result (Permit ℕ) Deny → Permit ℕ
-permit_of other (Ok permit) = permit
-permit_of other (Err deny) = other
-
 module _ (world : World ℕ) (names : List TaskName) (name : TaskName) (call : Call)
     (it : IsCallOfTheirs world names name call) (few : names_few_groups call ≡ true)
     (fresh : Fresh ℕ) (serves : Serves nat_eq world fresh)
@@ -84,14 +80,7 @@ module _ (world : World ℕ) (names : List TaskName) (name : TaskName) (call : C
   -- a call that ends no task leaves the set
   no_exit : (permit : Permit ℕ) → judge_in nat_eq fresh world task call ≡ Ok permit → ends_task permit ≡ false
       → is_exit call ≡ false
-  no_exit permit judged other = by (is_exit call) refl
-    where
-      by : (b : Bool) → is_exit call ≡ b → b ≡ false
-      by true e =
-          absurd (true≢false
-          (ap (λ j. ends_task (permit_of permit j))
-          (sym (ap (judge_in nat_eq fresh world task) (exit_if call e)) ∙ judged) ∙ other))
-      by false e = refl
+  no_exit permit judged other = grind (arith, common_steps, is_exit, exit_if, true≢false)
 
   pub stays : (permit : Permit ℕ) → judge_in nat_eq fresh world task call ≡ Ok permit → ends_task permit ≡ false
       → left names name call ≡ names

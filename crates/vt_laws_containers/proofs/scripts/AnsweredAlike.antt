@@ -118,10 +118,7 @@ module _ (number : ℕ) (full lone : World ℕ) (names : List TaskName) (both : 
       (full_out : GivesNoFoothold full names name call fresh) (lone_out : GivesNoFoothold lone names name call fresh)
     where
       same_answer : of_full.answer ≡ of_lone.answer
-      same_answer =
-          full_ends.answer
-          ∙ ap (λ world. (policy nat_eq fresh world name call).answer) both.parts
-          ∙ sym lone_ends.answer
+      same_answer = cc (full_ends.answer, both.parts, lone_ends.answer)
 
       abbrev left : List TaskName
       left = grown names name call of_lone.answer
@@ -130,13 +127,7 @@ module _ (number : ℕ) (full lone : World ℕ) (names : List TaskName) (both : 
       same_left = ap (grown names name call) same_answer
 
       parts_left : part_of nat_eq of_full.world left ≡ part_of nat_eq of_lone.world left
-      parts_left =
-          ap (part_of nat_eq of_full.world) (sym same_left)
-          ∙ full_ends.part
-          ∙ ap (λ world. part_of nat_eq (policy nat_eq fresh world name call).world
-          (grown names name call of_full.answer)) both.parts
-          ∙ ap (part_of nat_eq (policy nat_eq fresh (part_of nat_eq lone names) name call).world) same_left
-          ∙ sym lone_ends.part
+      parts_left = cc (same_left, full_ends.part, both.parts, lone_ends.part)
 
       full_left : LeavesOthersOut full of_full.world names left
       full_left = subst (LeavesOthersOut full of_full.world names) same_left full_out

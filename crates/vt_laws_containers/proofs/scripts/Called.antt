@@ -1,5 +1,6 @@
 -- Each name of the set that a call leaves is the name of a task.
-use Rattle.std.proofs.Common.{◌≡◌, ◌≢◌, refl, sym, ap, subst, ◌∙◌, inl, ⊎_elim, ℕ, nat_eq, Bool, true, false, true≢false, cond, not, List, [], ◌∷◌, ◌++◌, ◌||◌, Option, Some, None, Result, Ok, Err, find, is_ok, is_some, map, ◌+◌}
+use Rattle.std.proofs.lemmas.Grind.{common_steps}
+use Rattle.std.proofs.Common.{◌≡◌, ◌≢◌, refl, sym, ap, subst, ◌∙◌, inl, ℕ, nat_eq, Bool, true, false, true≢false, cond, not, List, [], ◌∷◌, ◌++◌, ◌||◌, Option, Some, None, Result, Ok, Err, find, is_ok, is_some, map, ◌+◌, arith}
 use Rattle.std.specs.Prelude.{⊤}
 use Rattle.std.proofs.lemmas.Bool.{and_from, not-true}
 use Rattle.vt_spec.specs.declared.errors.Deny.{Deny}
@@ -11,7 +12,6 @@ use Rattle.vt_spec.specs.Lists.{Fresh, is_among}
 use Rattle.vt_spec.specs.Machine.Apply.{apply}
 use Rattle.vt_spec.specs.Machine.Filesystems.{raised}
 use Rattle.vt_spec.specs.Machine.Judge.{Judgement, judge_in}
-use Rattle.vt_spec.specs.Machine.Mounts.{Location}
 use Rattle.vt_spec.specs.Machine.Outcomes.{Outcome, after}
 use Rattle.vt_spec.specs.Machine.Permits.{Permit}
 use Rattle.vt_spec.specs.Machine.Permits.Permit.{Allowed, ToBind, ToChange, ToClose, ToEnterNamespace, ToExit, ToFork, ToList, ToListMounts, ToMake, ToMountOverlay, ToMountPlain, ToMove, ToOpen, ToOpenNew, ToPivot, ToRead, ToReadPart, ToRemoveDirectory, ToRename, ToSetCredentials, ToSetDirectory, ToSetFlags, ToSetRoot, ToSetType, ToSetUmask, ToStat, ToUnmount, ToUnmountLazily, ToUnshare, ToWritePart}
@@ -23,7 +23,6 @@ use Rattle.vt_spec.proofs.Found.{found_among, found_passes}
 use Rattle.vt_spec.proofs.Lists.{Among, among-append_right, among-filter, among-from_filter, among-map, among_from_list_all, any_from_among, list_all_from_among}
 use Rattle.vt_spec.proofs.Options.{some_from_is_some}
 use Rattle.vt_spec.proofs.Worlds.{same_name_itself, same_task_name}
-use Rattle.vt_laws_calls.specs.Tasks.{Pivots, task_after}
 use Rattle.vt_laws_calls.proofs.tasks.TasksLaws.{only_exit_leaves, other_tasks_stay}
 use Rattle.vt_laws_worlds.proofs.worlds.CallsKept.{name_found}
 use Rattle.vt_laws_sealed.specs.Outsiders.{are_all_called}
@@ -42,10 +41,7 @@ found_called member (first ∷ rest) task m e =
         → (Among task rest → is_some (find (λ (t : Task ℕ). same_name member t.name) rest) ≡ true)
         → is_some (cond b (Some first) (find (λ (t : Task ℕ). same_name member t.name) rest)) ≡ true
     by true f next = refl
-    by false f next =
-        ⊎_elim
-        (λ here. absurd (true≢false (sym e ∙ ap (λ (t : Task ℕ). same_name member t.name) here ∙ f)))
-        next m
+    by false f next = grind (arith, common_steps, true≢false)
 
 -- Where the members stay, each name of the set stays the name of a task.
 pub still_called : (world later : World ℕ) (names : List TaskName) → members later names ≡ members world names
@@ -176,13 +172,7 @@ module _ (world : World ℕ) (fresh : Fresh ℕ) (names : List TaskName) (name :
   -- a task that does not make the call stays
   other_stays : (member : TaskName) (was : Task ℕ) → member ≢ name → task_called world member ≡ Some was
       → is_some (task_called later member) ≡ true
-  other_stays member was differs e =
-      ⊎_elim {A = task_after fresh world name call member ≡ Some was} {
-      B = (moved : Location ℕ → Location ℕ) × Pivots fresh world name call was.namespace moved
-      × (task_after fresh world name call member
-      ≡ Some (record was { root = moved was.root; directory = moved was.directory }))
-      } (λ same. ap is_some same) (λ moved. ap is_some moved.2)
-      (other_tasks_stay fresh world name call member was differs e)
+  other_stays member was differs e = grind (arith, common_steps, other_tasks_stay)
 
   -- a task stays, but for the caller of an exit
   stays : (member : TaskName) → is_some (task_called world member) ≡ true
@@ -195,10 +185,7 @@ module _ (world : World ℕ) (fresh : Fresh ℕ) (names : List TaskName) (name :
       found : member ≡ name → (o : Option (Task ℕ)) → task_called later name ≡ o
           → is_some (task_called later member) ≡ true
       found same (Some t) e = ap (λ n. is_some (task_called later n)) same ∙ ap is_some e
-      found same None e =
-          absurd (true≢false
-          (sym (ap is_exit (only_exit_leaves fresh world name call was.0
-          (ap (task_called world) (sym same) ∙ was.1) e)) ∙ kept same))
+      found same None e = grind (arith, common_steps, only_exit_leaves, true≢false)
 
       by : (b : Bool) → same_name member name ≡ b → is_some (task_called later member) ≡ true
       by true e = found (same_task_name member name e) (task_called later name) refl

@@ -8,12 +8,13 @@ use Rattle.vt_spec.specs.Machine.Invariants.{IsWorld, has_its_root, is_located_w
 use Rattle.vt_spec.specs.Machine.Mounts.{Location, Mount}
 use Rattle.vt_spec.specs.Machine.Sealed.{change_layers, is_member_task, is_own_mount, locations, members, own_mounts, used_directly, used_filesystems}
 use Rattle.vt_spec.specs.Machine.World.{Filesystem, World, all_locations, filesystem_numbered, locations_of, mount_at, no_filesystem}
-use Rattle.vt_spec.specs.Tree.{Node, is_directory_node}
+use Rattle.vt_spec.specs.Tree.{is_directory_node}
 use Rattle.vt_spec.proofs.Found.{found_among, found_passes}
 use Rattle.vt_spec.proofs.Lists.{Among, among-append, among-flat_map, among-from_filter, among-from_flat_map, among-from_map, among_from_contains, among_from_list_all, contains_from_among}
 use Rattle.vt_laws_part.proofs.Kept.{among-from_each_once}
 use Rattle.vt_laws_part.proofs.seals.ByPart.{layer_directory}
 use Rattle.vt_laws_sealed.proofs.outsiders.SeenLater.{changed_of}
+use Rattle.vt_spec.proofs.Nodes.{directory_is_there}
 
 -- a filesystem has this number
 abbrev pub IsThere : World ℕ → ℕ → Type 0
@@ -36,10 +37,6 @@ there_with_inode world number inode h =
       sym (eqb-true number filesystem.number
           (found_passes (λ (f : Filesystem ℕ). nat_eq number f.number) world.filesystems filesystem e)),
     )
-
-pub directory_is_there : (o : Option (Node ℕ)) → is_directory_node o ≡ true → is_some o ≡ true
-directory_is_there None h = h
-directory_is_there (Some node) h = refl
 
 module _ (world : World ℕ) (names : List TaskName) (is : IsWorld nat_eq world) where
   -- the filesystem of a mount

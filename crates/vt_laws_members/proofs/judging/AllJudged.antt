@@ -12,7 +12,7 @@ use Rattle.vt_spec.specs.Machine.Detach.{is_busy}
 use Rattle.vt_spec.specs.Machine.Filesystems.{overlay_rules}
 use Rattle.vt_spec.specs.Machine.Invariants.{IsWorld}
 use Rattle.vt_spec.specs.Machine.Judge.{Judgement, judge, pwrite_permit, setns_permit}
-use Rattle.vt_spec.specs.Machine.Locked.{is_locked, is_locked_at, live_layers, live_upper_and_work, of_overlay, overlaps_one_of, upper_and_work}
+use Rattle.vt_spec.specs.Machine.Locked.{is_locked_at, live_layers, live_upper_and_work, of_overlay, overlaps_one_of, upper_and_work}
 use Rattle.vt_spec.specs.Machine.Looks.{Looks, looks_of}
 use Rattle.vt_spec.specs.Machine.Mounts.{Location, Mount, mount_tree}
 use Rattle.vt_spec.specs.Machine.Permits.{Permit}
@@ -49,7 +49,8 @@ use Rattle.vt_laws_members.proofs.judging.Overlaps.{overlaps_alike, overlaps_liv
 use Rattle.vt_laws_members.proofs.judging.SeenInPart.{OnTheirs, directory_theirs, filesystem_alike, located_used, members_see_alike, mount_alike, theirs_used, under_alike}
 
 -- who has a name of theirs is one of them
-pub called_alike : (names : List TaskName) (name : TaskName) → is_among same_name name names ≡ true → (tasks : List (Task ℕ))
+pub called_alike : (names : List TaskName) (name : TaskName) → is_among same_name name names ≡ true
+    → (tasks : List (Task ℕ))
     → find (λ (task : Task ℕ). same_name name task.name) (filter (is_member_task names) tasks)
     ≡ find (λ (task : Task ℕ). same_name name task.name) tasks
 called_alike names name theirs [] = refl
@@ -63,12 +64,11 @@ called_alike names name theirs (task ∷ rest) =
         (cond b (task ∷ filter (is_member_task names) rest) (filter (is_member_task names) rest))
         ≡ cond a (Some task) (find (λ (t : Task ℕ). same_name name t.name) rest)
     by true true e f later =
-        ap (λ b. cond b (Some task) (find (λ (t : Task ℕ). same_name name t.name) (filter (is_member_task names) rest))) e
+        ap (λ b. cond b (Some task)
+        (find (λ (t : Task ℕ). same_name name t.name) (filter (is_member_task names) rest))) e
     by true false e f later =
         absurd (true≢false (sym theirs ∙ ap (λ n. is_among same_name n names) (same_task_name name task.name e) ∙ f))
-    by false true e f later =
-        ap (λ b. cond b (Some task) (find (λ (t : Task ℕ). same_name name t.name) (filter (is_member_task names) rest))) e
-        ∙ later
+    by false true e f later = cc (e, later)
     by false false e f later = later
 
 module _ (world : World ℕ) (names : List TaskName) (is : IsWorld nat_eq world)
@@ -95,14 +95,14 @@ module _ (world : World ℕ) (names : List TaskName) (is : IsWorld nat_eq world)
       → (mount_at nat_eq world here).filesystem ≡ (mount_at nat_eq part here).filesystem
       → is_locked_at nat_eq world here ≡ is_locked_at nat_eq part here
   locked_here here used same =
-      locked_alike world names is sealed_off (mount_at nat_eq world here).filesystem used here.node
-      ∙ ap (λ n. is_locked nat_eq part n here.node) same
+      cc (locked_alike world names is sealed_off (mount_at nat_eq world here).filesystem used here.node, same)
 
   rules : RulesSeeAlike one other own uses
   rules = record {
     mount = λ number e. sym (same_mount world names is.mounts number (theirs_from world names is.mounts number e));
     over = λ here e. sym (over_alike world names is.mounts here (on here e));
-    node = λ here e. ap (λ (f : Filesystem ℕ). f.files.tree.node here.node) (filesystem_alike world names is here (on here e));
+    node = λ here e. ap (λ (f : Filesystem ℕ). f.files.tree.node here.node)
+        (filesystem_alike world names is here (on here e));
     removed = λ here e. ap (λ (f : Filesystem ℕ). is_removed nat_eq f.files.tree here.node)
         (filesystem_alike world names is here (on here e));
     under = λ filesystem top directory used. under_alike world names is filesystem used top directory;
@@ -156,7 +156,8 @@ module _ (world : World ℕ) (names : List TaskName) (is : IsWorld nat_eq world)
     where
       wrote : Looks ℕ → Descriptor ℕ → Judgement ℕ
       wrote looks descriptor =
-          unless (pwrite_rules looks descriptor.location offset bytes) (Ok (ToWritePart descriptor.location offset bytes))
+          unless (pwrite_rules looks descriptor.location offset bytes)
+          (Ok (ToWritePart descriptor.location offset bytes))
 
       of_found : Looks ℕ → Option (Descriptor ℕ) → Judgement ℕ
       of_found looks o =
@@ -268,16 +269,20 @@ module _ (world : World ℕ) (names : List TaskName) (is : IsWorld nat_eq world)
   judged overfills (MountPlain path flags) t = plain_alike one other task own uses judges overfills path flags
   judged overfills (MountOverlay path options flags) t =
       overlay_alike one other task own uses judges layers overfills path options flags
-  judged overfills (Bind source path recursive) t = bind_alike one other task own uses judges overfills source path recursive
-  judged overfills (MoveMount source path) t = move_alike one other task own uses judges parents trees overfills source path
+  judged overfills (Bind source path recursive) t =
+      bind_alike one other task own uses judges overfills source path recursive
+  judged overfills (MoveMount source path) t =
+      move_alike one other task own uses judges parents trees overfills source path
   judged overfills (Umount path) t = umount_alike one other task own uses judges parents trees path
   judged overfills (Lazy path) t = lazy_alike one other task own uses judges overfills path
   judged overfills (Remount path flags) t = remount_alike one other task own uses judges parents path flags
-  judged overfills (SetType path word recursive) t = type_alike one other task own uses judges overfills path word recursive
+  judged overfills (SetType path word recursive) t =
+      type_alike one other task own uses judges overfills path word recursive
   judged overfills (PivotRoot new put) t = pivot_alike one other task own uses judges parents new put
   judged overfills ListMounts t = refl
 
 pub members_are_judged_alike : MembersAreJudgedAlike
 members_are_judged_alike world names task call is overfills =
-    judged world names is.is is.sealed_off task (among_from_contains (members world names) task is.member) overfills call
+    judged world names is.is is.sealed_off task
+    (among_from_contains (members world names) task is.member) overfills call
     is.among_them

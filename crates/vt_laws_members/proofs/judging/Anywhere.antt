@@ -1,13 +1,14 @@
 -- Mounts of other namespaces stand on nothing that members reach but what is locked.
-use Rattle.std.proofs.Common.{◌≡◌, refl, sym, ap, subst, ◌∙◌, inl, ⊎_elim, ℕ, nat_eq, Bool, true, false, true≢false, not, List, [], ◌++◌, Option, Some, None, is_some, ◌&&◌, eq-eqb, eqb-true}
+use Rattle.std.proofs.lemmas.Grind.{common_steps}
+use Rattle.std.proofs.Common.{◌≡◌, refl, sym, ap, subst, ◌∙◌, inl, ⊎_elim, ℕ, nat_eq, Bool, true, false, true≢false, not, List, [], ◌++◌, Option, Some, None, is_some, ◌&&◌, eq-eqb, eqb-true, arith}
 use Rattle.std.specs.Prelude.{option_map, option_to_list}
-use Rattle.std.specs.List.{list_all, list_any}
+use Rattle.std.specs.List.{list_any}
 use Rattle.std.proofs.lemmas.Bool.{and_from, and_parts, not-true, or_cases, or_left}
 use Rattle.vt_spec.specs.FileTree.{is_under}
 use Rattle.vt_spec.specs.Language.Calls.{TaskName}
 use Rattle.vt_spec.specs.Lists.{holds_of, is_among, then_some}
 use Rattle.vt_spec.specs.Machine.Detach.{is_point, mounts_on, points_of, upper_points}
-use Rattle.vt_spec.specs.Machine.Invariants.{IsWorld, Stands, has_its_root, live_lowers}
+use Rattle.vt_spec.specs.Machine.Invariants.{IsWorld, Stands, live_lowers}
 use Rattle.vt_spec.specs.Machine.Locked.{is_locked, is_locked_at, lies_in_layer, lies_or_counts_under, live_upper_and_work, of_overlay, overlaps_one_of, overlay_or, overlays, upper_and_work}
 use Rattle.vt_spec.specs.Machine.Mounts.{Location, Mount}
 use Rattle.vt_spec.specs.Machine.Sealed.{is_own_namespace, locations, members, no_outsider_on, other_mounts, outsiders, part_of, sealed, used_alone, used_filesystems, wholly_locked}
@@ -36,7 +37,8 @@ module _ (world : World ℕ) (names : List TaskName) (is : IsWorld nat_eq world)
 
   -- a mount of another namespace, at a point
   module _ (mount : Mount ℕ) (there : Among mount world.mounts) (n : ℕ) (placed : mount.namespace ≡ Some n)
-      (outside : is_own_namespace nat_eq world names n ≡ false) (point : Location ℕ) (at : mount.mount_point ≡ Some point) where
+      (outside : is_own_namespace nat_eq world names n ≡ false) (point : Location ℕ)
+      (at : mount.mount_point ≡ Some point) where
     abbrev shows : ℕ
     shows = (mount_at nat_eq world point).filesystem
 
@@ -77,32 +79,26 @@ module _ (world : World ℕ) (names : List TaskName) (is : IsWorld nat_eq world)
         (used_are_free world names sealed_off shows (among_numbers (used_filesystems nat_eq world names) shows used)))
 
     directory : is_directory_at nat_eq world point ≡ true
-    directory =
-        (and_parts (is_directory_at nat_eq world point) true
-        (sym (ap (λ o. list_all (is_directory_at nat_eq world) (option_to_list o)) at)
-        ∙ (and_parts (is_directory_node ((filesystem_numbered nat_eq world mount.filesystem).files.tree.node mount.root))
-        (list_all (is_directory_at nat_eq world) (option_to_list mount.mount_point))
-        (among_from_list_all (has_its_root nat_eq world) world.mounts is.roots mount there)).1)).0
+    directory = grind (arith, common_steps, among_from_list_all)
 
     -- so it is locked
     locked : uses shows ≡ true → is_locked nat_eq world shows point.node ≡ true
-    locked used =
-        let tree = tree_there world names is sealed_off shows point.node directory in
-        all_locked world names shows tree.0 tree.1 (whole used) point.node
-        (directory_used (filesystem_numbered nat_eq world shows).files.tree point.node directory)
+    locked used = grind (arith, common_steps, tree_there, directory, all_locked, whole, directory_used)
 
   -- an upper or work directory is in nothing that is wholly locked
   module _ (merged : Filesystem ℕ) (there : Among merged world.filesystems) (overlay : Overlay ℕ)
       (e : merged.overlay ≡ Some overlay) (upper : Layer ℕ) (its : Among upper (upper_and_work overlay)) where
     upper_apart : overlaps_one_of nat_eq world (live_lowers nat_eq world) upper ≡ false
     upper_apart =
-        none_among (overlaps_one_of nat_eq world (live_lowers nat_eq world)) (live_upper_and_work world) is.overlays.lowers_apart
+        none_among (overlaps_one_of nat_eq world (live_lowers nat_eq world))
+        (live_upper_and_work world) is.overlays.lowers_apart
         upper
         (among-flat_map (of_overlay [] upper_and_work) (overlays world) merged upper
         (among-filter is_overlay world.filesystems merged there (ap is_some e))
         (subst (λ o. Among upper (overlay_or [] upper_and_work o)) (sym e) its))
 
-    upper_directory : is_directory_node ((filesystem_numbered nat_eq world upper.filesystem).files.tree.node upper.directory)
+    upper_directory : is_directory_node
+        ((filesystem_numbered nat_eq world upper.filesystem).files.tree.node upper.directory)
         ≡ true
     upper_directory =
         layer_directory world names is merged there upper
@@ -128,7 +124,8 @@ module _ (world : World ℕ) (names : List TaskName) (is : IsWorld nat_eq world)
         (is_under nat_eq (filesystem_numbered nat_eq world upper.filesystem).files upper.directory upper.directory)
         (eq-eqb upper.filesystem upper.filesystem refl)
         (under_itself (filesystem_numbered nat_eq world upper.filesystem).files upper.directory upper_directory)))
-        (any_from_among (lies_or_counts_under nat_eq world upper.filesystem upper.directory) (live_lowers nat_eq world) how.layer
+        (any_from_among (lies_or_counts_under nat_eq world upper.filesystem upper.directory)
+        (live_lowers nat_eq world) how.layer
         (among-flat_map (of_overlay [] (λ (o : Overlay ℕ). o.lowers)) (overlays world) how.merged how.layer how.overlaid
         how.lower)
         (or_left (lies_in_layer nat_eq world upper.filesystem upper.directory how.layer) _
@@ -139,7 +136,8 @@ module _ (world : World ℕ) (names : List TaskName) (is : IsWorld nat_eq world)
         how.at_root (how.under upper.directory object)))))))
         ∙ upper_apart)
 
-  module _ (here : Location ℕ) (own : OnTheirs world names is here) (free : is_locked_at nat_eq world here ≡ false) where
+  module _ (here : Location ℕ) (own : OnTheirs world names is here)
+      (free : is_locked_at nat_eq world here ≡ false) where
     abbrev number : ℕ
     number = (mount_at nat_eq world here).filesystem
 
@@ -158,8 +156,13 @@ module _ (world : World ℕ) (names : List TaskName) (is : IsWorld nat_eq world)
               × ((mount_at nat_eq world point).filesystem ≡ filesystem)
           by None e h = absurd (true≢false (sym h))
           by (Some point) e h =
-              let both = and_parts (nat_eq point.node node) (nat_eq (mount_at nat_eq world point).filesystem filesystem) h in
-              (point, e, eqb-true point.node node both.0, eqb-true (mount_at nat_eq world point).filesystem filesystem both.1)
+              let both = and_parts (nat_eq point.node node)
+              (nat_eq (mount_at nat_eq world point).filesystem filesystem) h in (
+                point,
+                e,
+                eqb-true point.node node both.0,
+                eqb-true (mount_at nat_eq world point).filesystem filesystem both.1,
+              )
 
       not_here : (filesystem node : ℕ) → filesystem ≡ number → node ≡ here.node
           → is_point nat_eq world filesystem node mount ≡ true → ⊥
@@ -184,8 +187,10 @@ module _ (world : World ℕ) (names : List TaskName) (is : IsWorld nat_eq world)
           of_upper upper u (Some object) m =
               let same : p ≡ (upper.filesystem, object) = ⊎_elim (λ s. s) (λ none. absurd none) m in
               let at = at_point p.0 p.1 h in
-              let shows : (mount_at nat_eq world at.0).filesystem ≡ upper.filesystem = at.3 ∙ ap (λ (q : ℕ × ℕ). q.0) same in
-              not_whole (filesystem_at nat_eq world here) (overlay_there world names is number overlay e) overlay e upper
+              let shows : (mount_at nat_eq world at.0).filesystem ≡ upper.filesystem = at.3
+              ∙ ap (λ (q : ℕ × ℕ). q.0) same in
+              not_whole (filesystem_at nat_eq world here)
+              (overlay_there world names is number overlay e) overlay e upper
               (among-append_left (option_to_list overlay.upper) (option_to_list overlay.work) upper
               (subst (λ o. Among upper (option_to_list o)) (sym u) (inl refl)))
               (subst (λ g. wholly_locked nat_eq world names g ≡ true) shows
@@ -209,7 +214,8 @@ module _ (world : World ℕ) (names : List TaskName) (is : IsWorld nat_eq world)
           (λ rest. by (filesystem_at nat_eq world here).overlay refl at.0 rest at.2) at.1
         where
           by : (o : Option (Overlay ℕ)) → (filesystem_at nat_eq world here).overlay ≡ o → (p : ℕ × ℕ)
-              → Among p (of_overlay [] (λ (overlay : Overlay ℕ). upper_points world (filesystem_at nat_eq world here) overlay
+              → Among p (of_overlay []
+              (λ (overlay : Overlay ℕ). upper_points world (filesystem_at nat_eq world here) overlay
               here.node) (filesystem_at nat_eq world here))
               → is_point nat_eq world p.0 p.1 mount ≡ true → ⊥
           by None e p m h =
@@ -222,12 +228,14 @@ module _ (world : World ℕ) (names : List TaskName) (is : IsWorld nat_eq world)
     pub anywhere_alike : list_any (λ (mount : Mount ℕ). is_some mount.namespace) (mounts_on nat_eq world here)
         ≡ list_any (λ (mount : Mount ℕ). is_some mount.namespace) (mounts_on nat_eq (part_of nat_eq world names) here)
     anywhere_alike =
-        found_alike world names is (λ (mount : Mount ℕ). is_some mount.namespace) (λ mount none. ap is_some none) here own
+        found_alike world names is (λ (mount : Mount ℕ). is_some mount.namespace)
+        (λ mount none. ap is_some none) here own
         (λ mount m on attached. by mount m on mount.namespace refl attached)
       where
         by : (mount : Mount ℕ) → Among mount world.mounts
             → stands_on_one world names is world (points_of nat_eq world here) mount ≡ true → (o : Option ℕ)
-            → mount.namespace ≡ o → is_some mount.namespace ≡ true → is_own world names (members world names) mount ≡ true
+            → mount.namespace ≡ o → is_some mount.namespace ≡ true
+            → is_own world names (members world names) mount ≡ true
         by mount m on None e attached = absurd (true≢false (sym attached ∙ ap is_some e))
         by mount m on (Some n) e attached = which (is_own_namespace nat_eq world names n) refl
           where

@@ -1,17 +1,17 @@
 -- What an unmount event of a mount of theirs detaches, and whether the mount is busy, is the same in the part.
-use Rattle.std.proofs.Common.{◌≡◌, refl, sym, ap, subst, ◌∙◌, ⊎_elim, ℕ, nat_eq, Bool, true, false, true≢false, not, List, [], ◌∷◌, Option, Some, None, map, is_some, ◌&&◌, ◌||◌}
+use Rattle.std.proofs.lemmas.Grind.{common_steps}
+use Rattle.std.proofs.Common.{◌≡◌, refl, sym, ap, subst, ◌∙◌, ⊎_elim, ℕ, nat_eq, Bool, true, false, true≢false, not, List, [], ◌∷◌, Option, Some, None, map, ◌||◌, arith}
 use Rattle.std.specs.Prelude.{option_map, unwrap_or}
 use Rattle.std.specs.List.{filter_map}
-use Rattle.std.proofs.lemmas.Bool.{and_parts, not-true}
+use Rattle.std.proofs.lemmas.Bool.{not-true}
 use Rattle.std.proofs.lemmas.Option.{same_Some}
 use Rattle.vt_spec.specs.Language.Calls.{TaskName}
 use Rattle.vt_spec.specs.Lists.{holds_of, is_among, then_some, when}
 use Rattle.vt_spec.specs.Machine.Attach.{receivers_of}
 use Rattle.vt_spec.specs.Machine.Detach.{going, going_at, going_from, goes_at, has_child, is_busy, is_used, may_go, only_cover}
-use Rattle.vt_spec.specs.Machine.Invariants.{IsWorld, is_nowhere_or_attached, is_private}
-use Rattle.vt_spec.specs.Machine.Mounts.{Location, Mount, Propagation, child_at, group_of, is_shared, source_of, stands_at, stands_on}
-use Rattle.vt_spec.specs.Machine.Mounts.Propagation.{Private, Shared, Slave, Unbindable}
-use Rattle.vt_spec.specs.Machine.Receives.{groups_up, receivers, receives}
+use Rattle.vt_spec.specs.Machine.Invariants.{IsWorld}
+use Rattle.vt_spec.specs.Machine.Mounts.{Location, Mount, child_at, group_of, is_shared, source_of, stands_at, stands_on}
+use Rattle.vt_spec.specs.Machine.Receives.{receivers, receives}
 use Rattle.vt_spec.specs.Machine.Sealed.{is_member_task, is_on_own_mount, is_own_mount, is_own_namespace, locations, members, other_mounts, outsiders, own_mounts, part_of, sealed}
 use Rattle.vt_spec.specs.Machine.World.{Task, World, all_locations, locations_of, mount_at, mount_numbered}
 use Rattle.vt_spec.proofs.Found.{found_among, found_passes}
@@ -32,17 +32,7 @@ use Rattle.vt_laws_members.proofs.judging.MountTrees.{child_own, children_alike,
 -- a mount in no namespace receives from no group
 alone_source : (world : World ℕ) (mount : Mount ℕ) → IsWorld nat_eq world → Among mount world.mounts
     → mount.namespace ≡ None → source_of mount.propagation ≡ None
-alone_source world mount is m none =
-    private_none mount.propagation
-    (and_parts (not (is_some mount.mount_point)) (is_private mount.propagation)
-    (sym (ap (λ n. is_some n || (not (is_some mount.mount_point) && is_private mount.propagation)) none)
-    ∙ among_from_list_all is_nowhere_or_attached world.mounts is.mounts.nowhere mount m)).1
-  where
-    private_none : (kind : Propagation ℕ) → is_private kind ≡ true → source_of kind ≡ None
-    private_none (Shared g) e = absurd (true≢false (sym e))
-    private_none (Slave g) e = absurd (true≢false (sym e))
-    private_none Private e = refl
-    private_none Unbindable e = absurd (true≢false (sym e))
+alone_source world mount is m none = grind (arith, common_steps, among_from_list_all, is.mounts.nowhere, true≢false)
 
 module _ (world : World ℕ) (names : List TaskName) (is : IsWorld nat_eq world)
     (sealed_off : sealed nat_eq world names ≡ true) where
@@ -69,9 +59,7 @@ module _ (world : World ℕ) (names : List TaskName) (is : IsWorld nat_eq world)
     where
       side : Among receiver world.mounts → (group : ℕ) → group_of mount.propagation ≡ Some group
           → receives nat_eq world group receiver ≡ true → (o : Option ℕ) → receiver.namespace ≡ o → owns receiver ≡ true
-      side there group e hears None f =
-          absurd (true≢false (sym hears
-          ∙ ap (holds_of (λ source. is_among nat_eq group (groups_up world source))) (alone_source world receiver is there f)))
+      side there group e hears None f = grind (arith, common_steps, alone_source, true≢false)
       side there group e hears (Some n) f = which (is_own_namespace nat_eq world names n) refl
         where
           which : (b : Bool) → is_own_namespace nat_eq world names n ≡ b → owns receiver ≡ true
@@ -128,7 +116,8 @@ module _ (world : World ℕ) (names : List TaskName) (is : IsWorld nat_eq world)
       at : Location ℕ
       at = record { mount = receiver.number; node = node }
 
-      by : (o : Option (Mount ℕ)) → ((child : Mount ℕ) → o ≡ Some child → Among child world.mounts × (owns child ≡ true))
+      by : (o : Option (Mount ℕ))
+          → ((child : Mount ℕ) → o ≡ Some child → Among child world.mounts × (owns child ≡ true))
           → then_some o (λ (child : Mount ℕ). when (may_go nat_eq part child) child)
           ≡ then_some o (λ (child : Mount ℕ). when (may_go nat_eq world child) child)
       by None its = refl
@@ -165,7 +154,8 @@ module _ (world : World ℕ) (names : List TaskName) (is : IsWorld nat_eq world)
     where
       by_parent : World ℕ → Mount ℕ → Bool → List ℕ
       by_parent w parent true =
-          map (λ (gone : Mount ℕ). gone.number) (filter_map (goes_at nat_eq w point.node) (receivers_of nat_eq w parent))
+          map (λ (gone : Mount ℕ). gone.number)
+          (filter_map (goes_at nat_eq w point.node) (receivers_of nat_eq w parent))
       by_parent w parent false = mount.number ∷ []
 
       by : (parent : Mount ℕ) → Among parent world.mounts → owns parent ≡ true → (b : Bool)
@@ -180,11 +170,7 @@ module _ (world : World ℕ) (names : List TaskName) (is : IsWorld nat_eq world)
 
   pub going_alike : (mount : Mount ℕ) → Among mount world.mounts → owns mount ≡ true
       → going nat_eq part mount ≡ going nat_eq world mount
-  going_alike mount m own = by mount.mount_point refl
-    where
-      by : (o : Option (Location ℕ)) → mount.mount_point ≡ o → going_at nat_eq part mount o ≡ going_at nat_eq world mount o
-      by None e = refl
-      by (Some point) e = from_alike mount point m own e
+  going_alike mount m own = grind (arith, common_steps, from_alike)
 
   -- what goes is theirs
   goes_own : (node : ℕ) (receiver gone : Mount ℕ) → Among receiver world.mounts → owns receiver ≡ true
@@ -221,7 +207,8 @@ module _ (world : World ℕ) (names : List TaskName) (is : IsWorld nat_eq world)
           → (gone : Mount ℕ) × Among gone world.mounts × (owns gone ≡ true) × (gone.number ≡ number)
       which point e true at =
           let from = among-from_map (λ (gone : Mount ℕ). gone.number)
-          (filter_map (goes_at nat_eq world point.node) (receivers_of nat_eq world (mount_at nat_eq world point))) number at in
+          (filter_map (goes_at nat_eq world point.node)
+          (receivers_of nat_eq world (mount_at nat_eq world point))) number at in
           let gone = among-from_filter_map (goes_at nat_eq world point.node)
           (receivers_of nat_eq world (mount_at nat_eq world point)) from.0 from.1 in
           let below = below_own mount point m own e in

@@ -69,8 +69,11 @@ module _ (world : World ℕ) (names : List TaskName) (is : IsWorld nat_eq world)
 
   at_destination : (path : List ℕ)
       → Agree StandsThere (destination_walk nat_eq one task path) (destination_walk nat_eq one task path)
-  at_destination path =
-      (refl, (destination_agrees one (looks_of nat_eq part) task On alike.walks alike.directory alike.rules.removed path).1)
+  at_destination path = (
+    refl,
+    (destination_agrees one
+        (looks_of nat_eq part) task On alike.walks alike.directory alike.rules.removed path).1,
+  )
 
   theirs : (here : Location ℕ) → On here.mount → IsTheirs world names is.mounts here.mount
   theirs here on = theirs_from world names is.mounts here.mount on
@@ -91,16 +94,19 @@ module _ (world : World ℕ) (names : List TaskName) (is : IsWorld nat_eq world)
       ap (unless (admin_rules task))
       (judged_alike StandsThere (destination_walk nat_eq one task path) (destination_walk nat_eq one task path)
       (λ here. attach_permit (new_mount_rules nat_eq one task here.location) full (ToMountPlain here.location flags))
-      (λ here. attach_permit (new_mount_rules nat_eq one task here.location) full_too (ToMountPlain here.location flags))
+      (λ here. attach_permit (new_mount_rules nat_eq one task here.location) full_too
+      (ToMountPlain here.location flags))
       (at_destination path)
       (λ here on.
       asked_later (is_elsewhere nat_eq one task here.location) (full (ToMountPlain here.location flags))
       (full_too (ToMountPlain here.location flags)) (λ b. (b, M9) ∷ []) (Ok (ToMountPlain here.location flags))
-      (λ apart. plain_overfills world names is sealed_off here.location (there here.location on) (its here.location apart)
+      (λ apart. plain_overfills world names is sealed_off here.location (there here.location on)
+      (its here.location apart)
       fresh other task flags)))
 
   overlay_limited_by : (here : Location ℕ) → On here.mount → (options : Option OverlayWords) (flags : MountFlags)
-      → overlay_permit_by nat_eq one full task here options flags ≡ overlay_permit_by nat_eq one full_too task here options flags
+      → overlay_permit_by nat_eq one full task here options flags
+      ≡ overlay_permit_by nat_eq one full_too task here options flags
   overlay_limited_by here on None flags = refl
   overlay_limited_by here on (Some words) flags =
       λ i. and_then (layers_walked nat_eq one task words) (λ layers.
@@ -112,7 +118,8 @@ module _ (world : World ℕ) (names : List TaskName) (is : IsWorld nat_eq world)
           ≡ attach_permit (new_mount_rules nat_eq one task here) full_too
           (ToMountOverlay here (overlay_at one task layers) flags)
       same layers =
-          asked_later (is_elsewhere nat_eq one task here) (full (ToMountOverlay here (overlay_at one task layers) flags))
+          asked_later (is_elsewhere nat_eq one task here)
+          (full (ToMountOverlay here (overlay_at one task layers) flags))
           (full_too (ToMountOverlay here (overlay_at one task layers) flags)) (λ b. (b, M9) ∷ [])
           (Ok (ToMountOverlay here (overlay_at one task layers) flags))
           (λ apart. overlay_overfills world names is sealed_off here (there here on) (its here apart) fresh other task
@@ -130,7 +137,8 @@ module _ (world : World ℕ) (names : List TaskName) (is : IsWorld nat_eq world)
       (at_destination path) (λ here on. overlay_limited_by here.location on options flags))
 
   bind_limited : (source path : List ℕ) (recursive : Bool)
-      → bind_permit nat_eq one full task source path recursive ≡ bind_permit nat_eq one full_too task source path recursive
+      → bind_permit nat_eq one full task source path recursive
+      ≡ bind_permit nat_eq one full_too task source path recursive
   unfolding bind_permit
   bind_limited source path recursive =
       ap (unless (admin_rules task))
@@ -177,12 +185,16 @@ module _ (world : World ℕ) (names : List TaskName) (is : IsWorld nat_eq world)
             && list_any (λ (mount : Mount ℕ). is_unbindable mount.propagation) (one.mount_tree from.location.mount),
         M5,
       )
-      ∷ (list_any (λ (mount : Mount ℕ). nat_eq mount.number here.location.mount) (one.mount_tree from.location.mount), M6)
+      ∷ (
+        list_any (λ (mount : Mount ℕ). nat_eq mount.number here.location.mount) (one.mount_tree from.location.mount),
+        M6,
+      )
       ∷ (is_no_root nat_eq one from.location, M7) ∷ (b, M9)
       ∷ (not (is_some (mount_at one from.location).mount_point), M10) ∷ [])
       (Ok (ToMove from.location.mount here.location))
       (λ apart.
-      let both = or_parts (is_elsewhere nat_eq one task from.location) (is_elsewhere nat_eq one task here.location) apart in
+      let both = or_parts (is_elsewhere nat_eq one task from.location)
+      (is_elsewhere nat_eq one task here.location) apart in
       move_overfills world names is sealed_off here.location (there here.location on) (its here.location both.1)
       from.location.mount (there from.location at) (its from.location both.0) fresh other task))))
     where
@@ -235,5 +247,6 @@ module _ (world : World ℕ) (names : List TaskName) (is : IsWorld nat_eq world)
 
 pub members_are_judged_by_their_part : MembersAreJudgedByTheirPart
 members_are_judged_by_their_part world names task call is fresh other =
-    limited world names is.is is.sealed_off task (among_from_contains (members world names) task is.member) fresh other call
+    limited world names is.is is.sealed_off task
+    (among_from_contains (members world names) task is.member) fresh other call
     ∙ members_are_judged_alike world names task call is (overfills nat_eq other (part_of nat_eq world names) task)

@@ -1,12 +1,13 @@
 -- Where members get: their part has these mounts as they are, and no step leads to another one.
-use Rattle.std.proofs.Common.{◌≡◌, refl, sym, ap, subst, ◌∙◌, ◌⊎◌, inl, inr, ⊎_elim, ℕ, zero, suc, nat_eq, Bool, true, false, cond, true≢false, List, [], ◌∷◌, Option, Some, None, map, find, length, not, ◌||◌, ◌&&◌, ◌≤◌, arith, is_some, eq-eqb, eqb-true}
-use Rattle.std.specs.Prelude.{option_map, pred, unwrap_or}
-use Rattle.std.specs.List.{cons_option, filter_map, list_any}
+use Rattle.std.proofs.lemmas.Grind.{common_steps}
+use Rattle.std.proofs.Common.{◌≡◌, refl, sym, ap, subst, ◌∙◌, ◌⊎◌, inl, inr, ⊎_elim, ℕ, zero, suc, nat_eq, Bool, true, false, cond, true≢false, List, [], ◌∷◌, Option, Some, None, map, find, length, not, ◌||◌, ◌&&◌, ◌≤◌, arith, is_some, eqb-true}
+use Rattle.std.specs.Prelude.{option_map, unwrap_or}
+use Rattle.std.specs.List.{cons_option, filter_map}
 use Rattle.std.proofs.lemmas.List.{length-map}
 use Rattle.std.proofs.lemmas.Bool.{and_from, and_parts, or_cases, or_left, or_right}
 use Rattle.std.proofs.lemmas.Option.{same_Some}
 use Rattle.vt_spec.specs.Language.Calls.{TaskName}
-use Rattle.vt_spec.specs.Lists.{chain, holds_of}
+use Rattle.vt_spec.specs.Lists.{chain}
 use Rattle.vt_spec.specs.Machine.Invariants.{MountInvariants, Stands, is_nowhere_or_attached, is_private}
 use Rattle.vt_spec.specs.Machine.Mounts.{Location, Mount, child_at, mounts_over, no_mount, root_of, stands_at}
 use Rattle.vt_spec.specs.Machine.Sealed.{is_at, members, part_of, roots_and_directories}
@@ -71,7 +72,8 @@ module _ (world : World ℕ) (names : List TaskName) (is : MountInvariants nat_e
         sym (eqb-true number at.0.number both.0),
         ⊎_elim inl
             (λ stood.
-            let two = and_parts (not (is_some at.0.namespace)) (is_at nat_eq (roots_and_directories theirs) at.0) stood in
+            let two = and_parts (not (is_some at.0.namespace))
+            (is_at nat_eq (roots_and_directories theirs) at.0) stood in
             inr (nowhere at.0.namespace two.0, two.1))
             (or_cases (is_own world names theirs at.0)
             (not (is_some at.0.namespace) && is_at nat_eq (roots_and_directories theirs) at.0) both.1),
@@ -83,24 +85,10 @@ module _ (world : World ℕ) (names : List TaskName) (is : MountInvariants nat_e
 
   pub theirs_test : (number : ℕ) → IsTheirs number → is_theirs world names number ≡ true
   theirs_test number (mount, m, same, ground) =
-      any_from_among (λ (m : Mount ℕ). nat_eq number m.number && is_stood_on world names m) world.mounts mount m
-      (and_from (nat_eq number mount.number) (is_stood_on world names mount) (eq-eqb number mount.number (sym same))
-      (⊎_elim
-      (λ own. or_left (is_own world names theirs mount) _ own)
-      (λ stood. or_right (is_own world names theirs mount)
-      (not (is_some mount.namespace) && is_at nat_eq (roots_and_directories theirs) mount)
-      (and_from (not (is_some mount.namespace)) (is_at nat_eq (roots_and_directories theirs) mount)
-      (ap (λ o. not (is_some o)) stood.0) stood.1))
-      ground))
+      grind (arith, common_steps, any_from_among, and_from, or_left, is_own, or_right)
 
   ground_whole : (mount : Mount ℕ) → IsGround mount → kept mount ≡ Some mount
-  ground_whole mount ground =
-      ⊎_elim
-      (λ own. kept_whole world names theirs mount
-      (or_left (is_own world names theirs mount) (is_at nat_eq (roots_and_directories theirs) mount) own))
-      (λ stood. kept_whole world names theirs mount
-      (or_right (is_own world names theirs mount) (is_at nat_eq (roots_and_directories theirs) mount) stood.1))
-      ground
+  ground_whole mount ground = grind (arith, common_steps, kept_whole, or_left, is_own, or_right)
 
   pub theirs_whole : (number : ℕ) → IsTheirs number → IsWhole world names is number
   theirs_whole number (mount, m, same, ground) =
@@ -125,20 +113,14 @@ module _ (world : World ℕ) (names : List TaskName) (is : MountInvariants nat_e
             → find (λ (m : Mount ℕ). nat_eq number m.number) (cons_option o (filter_map kept rest))
             ≡ find (λ (m : Mount ℕ). nat_eq number m.number) (filter_map kept rest)
         skip None e f = refl
-        skip (Some y) e f =
-            ap (λ b. cond b (Some y) (find (λ (m : Mount ℕ). nat_eq number m.number) (filter_map kept rest)))
-            (ap (nat_eq number)
-            (⊎_elim (λ same. ap (λ (m : Mount ℕ). m.number) (sym same))
-            (λ stub. ap (λ (m : Mount ℕ). m.number) (sym stub.0)) (kept_how world names theirs x y e)) ∙ f)
+        skip (Some y) e f = grind (arith, common_steps, kept_how)
 
         by : (b : Bool) → nat_eq number x.number ≡ b
             → find (λ (m : Mount ℕ). nat_eq number m.number) (filter_map kept rest)
             ≡ find (λ (m : Mount ℕ). nat_eq number m.number) rest
             → find (λ (m : Mount ℕ). nat_eq number m.number) (cons_option (kept x) (filter_map kept rest))
             ≡ cond b (Some x) (find (λ (m : Mount ℕ). nat_eq number m.number) rest)
-        by true e later =
-            ap (λ o. find (λ (m : Mount ℕ). nat_eq number m.number) (cons_option o (filter_map kept rest))) (it e)
-            ∙ ap (λ b. cond b (Some x) (find (λ (m : Mount ℕ). nat_eq number m.number) (filter_map kept rest))) e
+        by true e later = cc (it e, e)
         by false e later = skip (kept x) refl e ∙ later
 
     pub same_mount : mount_numbered nat_eq part number ≡ mount_numbered nat_eq world number
@@ -162,8 +144,7 @@ module _ (world : World ℕ) (names : List TaskName) (is : MountInvariants nat_e
 
   pub own_by : (a b : Mount ℕ) → a.namespace ≡ b.namespace → is_own world names theirs b ≡ true
       → is_own world names theirs a ≡ true
-  own_by a b same own =
-      ap (holds_of (λ n. list_any (λ (task : Task ℕ). nat_eq n task.namespace) theirs)) same ∙ own
+  own_by a b same own = cc (same, own)
 
   -- what stands on such a mount is theirs
   pub child_theirs : (a : Location ℕ) (child : Mount ℕ) → IsTheirs a.mount → Among child world.mounts
@@ -182,7 +163,8 @@ module _ (world : World ℕ) (names : List TaskName) (is : MountInvariants nat_e
       → option_map root_of (child_at nat_eq world.mounts a) ≡ Some b → IsTheirs b.mount
   entered_theirs a b own e = by (child_at nat_eq world.mounts a) refl e
     where
-      by : (o : Option (Mount ℕ)) → child_at nat_eq world.mounts a ≡ o → option_map root_of o ≡ Some b → IsTheirs b.mount
+      by : (o : Option (Mount ℕ)) → child_at nat_eq world.mounts a ≡ o → option_map root_of o ≡ Some b
+          → IsTheirs b.mount
       by None f h = none_is_some b h
       by (Some child) f h =
           let m = found_among (stands_at nat_eq a) world.mounts child f in
@@ -235,14 +217,7 @@ module _ (world : World ℕ) (names : List TaskName) (is : MountInvariants nat_e
     key a = key_by (next a) a.mount
 
     by_key : (a b : Location ℕ) → key a ≡ key b → next a ≡ next b
-    by_key a b e = by (next a) (next b) refl refl e
-      where
-        by : (o p : Option (Location ℕ)) → next a ≡ o → next b ≡ p → key_by o a.mount ≡ key_by p b.mount → o ≡ p
-        by None None f g e = refl
-        by None (Some d) f g e = absurd (omega (arith, e))
-        by (Some c) None f g e = absurd (omega (arith, e))
-        by (Some c) (Some d) f g e =
-            sym (goes a c f) ∙ ap (λ n. (mount_numbered nat_eq world n).mount_point) (ap pred e) ∙ goes b d g
+    by_key a b e = grind (arith, common_steps)
 
     abbrev there : List ℕ
     there = map (λ (mount : Mount ℕ). suc mount.number) part.mounts

@@ -92,7 +92,8 @@ module _ (one other : Looks ℕ) (task : Task ℕ) (own uses : ℕ → Bool) (al
       (λ here. unless (enter_rules other task here.location) (Ok (ToSetDirectory here.location)))
       (directory_agrees one other task On alike.walks alike.directory alike.rules.removed path)
       (λ here on. by_mask own uses one other alike.rules
-      (λ looks. unless (enter_rules looks task here.location) (Ok (ToSetDirectory here.location))) (λ looks. rw on refl))
+      (λ looks. unless (enter_rules looks task here.location) (Ok (ToSetDirectory here.location)))
+      (λ looks. rw on refl))
 
   pub chroot_alike : (path : List ℕ) → chroot_permit nat_eq one task path ≡ chroot_permit nat_eq other task path
   unfolding chroot_permit

@@ -1,27 +1,25 @@
 -- Calls that make, change, remove and rename files are judged alike.
-use Rattle.std.proofs.Common.{◌≡◌, refl, ap, ◌∙◌, ℕ, nat_eq, Bool, true, false, ◌&&◌, List, [], ◌∷◌, Option, Some, None, Ok}
+use Rattle.std.proofs.lemmas.Grind.{common_steps}
+use Rattle.std.proofs.Common.{◌≡◌, refl, ap, ℕ, nat_eq, Bool, true, List, [], ◌∷◌, Option, Some, None, Ok, arith}
 use Rattle.std.specs.Prelude.{unwrap_or}
-use Rattle.vt_spec.specs.declared.errors.Rule.TheVariants.{B1, C1, E1, E2, E9, F1, F2, L1}
-use Rattle.vt_spec.specs.Errors.{Rules, and_then, unless}
-use Rattle.vt_spec.specs.declared.attributes.Kind.TheVariants.{White}
-use Rattle.vt_spec.specs.Language.Calls.{Access, Creation, opens_for_writing}
+use Rattle.vt_spec.specs.declared.errors.Rule.TheVariants.{E1, E2}
+use Rattle.vt_spec.specs.Errors.{and_then, unless}
+use Rattle.vt_spec.specs.Language.Calls.{Access, Creation}
 use Rattle.vt_spec.specs.Language.Calls.Creation.{Exclusive, NoCreation, OrCreate}
-use Rattle.vt_spec.specs.Language.Changes.Change.{CopyUp, SetMark}
+use Rattle.vt_spec.specs.Language.Changes.Change.{SetMark}
 use Rattle.vt_spec.specs.Machine.Attributes.{attr_with_mode, attr_with_owner, may_chown}
 use Rattle.vt_spec.specs.Machine.Judge.{Judgement, attr_permit, chmod_permit, chown_permit, create_file_permit, hard_link_permit, made_permit, make_permit, mkdir_permit, opaque_permit, open_by_permit, open_file_permit, open_permit, opened_or_created_permit, symlink_permit, unlink_permit, whiteout_permit, write_permit, written_permit}
-use Rattle.vt_spec.specs.Machine.Looks.{Looks, is_directory_at}
+use Rattle.vt_spec.specs.Machine.Looks.{Looks}
 use Rattle.vt_spec.specs.Machine.Mounts.{Location}
-use Rattle.vt_spec.specs.Machine.Permits.Permit.{ToChange, ToOpen}
+use Rattle.vt_spec.specs.Machine.Permits.Permit.{ToChange}
 use Rattle.vt_spec.specs.Machine.Rows.{directory_mode, exact_attr, linking, new_attr, symlink_mode}
 use Rattle.vt_spec.specs.Machine.Rules.Attributes.{attr_at, opaque_rules}
-use Rattle.vt_spec.specs.Machine.Rules.Conditions.{has_no_upper, kind_at, is_read_only, may_not, mounter_may_not}
-use Rattle.vt_spec.specs.Machine.Rules.Descriptors.{access_rights, copy_rules, descriptor_rules, exclusive_word_rules, is_copied_up}
-use Rattle.vt_spec.specs.Machine.Filesystems.{lies_only_in_lowers}
-use Rattle.vt_spec.specs.Machine.Locked.{overlay_or}
+use Rattle.vt_spec.specs.Machine.Rules.Conditions.{is_read_only}
+use Rattle.vt_spec.specs.Machine.Rules.Descriptors.{copy_rules, descriptor_rules, exclusive_word_rules, is_copied_up}
 use Rattle.vt_spec.specs.Machine.Rules.Making.{file_word_rules, hard_link_rules, symlink_text_rules, whiteout_rules}
 use Rattle.vt_spec.specs.Machine.Rules.Mounting.{admin_rules}
 use Rattle.vt_spec.specs.Machine.Rules.Removing.{object_there, removing, unlink_rules}
-use Rattle.vt_spec.specs.Machine.Walking.{Place, directory_walk, file_walk, is_directory_there, is_special, name_of, new_leaf_walk, new_walk, object_walk, old_leaf_walk, old_walk, symlink_walk, walk_end}
+use Rattle.vt_spec.specs.Machine.Walking.{Place, directory_walk, file_walk, is_special, new_leaf_walk, new_walk, object_walk, old_leaf_walk, symlink_walk, walk_end}
 use Rattle.vt_spec.specs.Machine.World.{Task}
 use Rattle.vt_spec.specs.Rights.{owns}
 use Rattle.vt_spec.specs.Tree.{Node, new_directory}
@@ -50,7 +48,8 @@ module _ (one other : Looks ℕ) (task : Task ℕ) (own uses : ℕ → Bool) (al
 
   made_alike : (place : Place ℕ) (node : Node ℕ) → On place.parent.mount
       → made_permit nat_eq one task place node ≡ made_permit nat_eq other task place node
-  made_alike place node on = asked_alike (λ looks. made_permit nat_eq looks task place node) (λ looks. rw (is_read_only, on) refl)
+  made_alike place node on =
+      asked_alike (λ looks. made_permit nat_eq looks task place node) (λ looks. rw (is_read_only, on) refl)
 
   pub mkdir_alike : (path : List ℕ) (mode : Option ℕ)
       → mkdir_permit nat_eq one task path mode ≡ mkdir_permit nat_eq other task path mode
@@ -71,8 +70,10 @@ module _ (one other : Looks ℕ) (task : Task ℕ) (own uses : ℕ → Bool) (al
   symlink_alike text path =
       ap (unless (symlink_text_rules text))
       (judged_alike IsPlaced (new_leaf_walk nat_eq one task path) (new_leaf_walk nat_eq other task path)
-      (λ place. made_permit nat_eq one task place (record { attr = exact_attr task symlink_mode; content = Symlink text }))
-      (λ place. made_permit nat_eq other task place (record { attr = exact_attr task symlink_mode; content = Symlink text }))
+      (λ place. made_permit nat_eq one task place
+      (record { attr = exact_attr task symlink_mode; content = Symlink text }))
+      (λ place. made_permit nat_eq other task place
+      (record { attr = exact_attr task symlink_mode; content = Symlink text }))
       (new_leaf_agrees one other task On alike.walks alike.directory alike.rules.removed path)
       (λ place at. made_alike place (record { attr = exact_attr task symlink_mode; content = Symlink text }) at.0))
 
@@ -115,9 +116,7 @@ module _ (one other : Looks ℕ) (task : Task ℕ) (own uses : ℕ → Bool) (al
       → written_permit nat_eq one task place bytes o ≡ written_permit nat_eq other task place bytes o
   written_by place on bytes None found =
       asked_alike (λ looks. written_permit nat_eq looks task place bytes None) (λ looks. rw (is_read_only, on) refl)
-  written_by place on bytes (Some file) found =
-      let there : own file.mount ≡ true = found file refl in
-      asked_alike (λ looks. written_permit nat_eq looks task place bytes (Some file)) (λ looks. rw (is_read_only, there) refl)
+  written_by place on bytes (Some file) found = grind (arith, common_steps, asked_alike)
 
   pub write_alike : (path bytes : List ℕ)
       → write_permit nat_eq one task path bytes ≡ write_permit nat_eq other task path bytes
@@ -166,7 +165,8 @@ module _ (one other : Looks ℕ) (task : Task ℕ) (own uses : ℕ → Bool) (al
     where
       by : Location ℕ → Looks ℕ → Judgement ℕ
       by here looks =
-          attr_permit nat_eq looks here (owns task.credentials (attr_at looks here)) (attr_with_mode (attr_at looks here) mode)
+          attr_permit nat_eq looks here (owns task.credentials (attr_at looks here))
+          (attr_with_mode (attr_at looks here) mode)
 
   pub chown_alike : (path : List ℕ) (uid gid : Option ℕ)
       → chown_permit nat_eq one task path uid gid ≡ chown_permit nat_eq other task path uid gid
@@ -198,45 +198,24 @@ module _ (one other : Looks ℕ) (task : Task ℕ) (own uses : ℕ → Bool) (al
 
   -- Open files
 
-  -- the rules of open(2), with those of a copy-up given
-  abbrev open_with : Location ℕ → Access → Rules → Looks ℕ → Judgement ℕ
-  open_with file access rest looks =
-      unless ((is_directory_at looks file, E2)
-      ∷ (kind_at looks file White, E9)
-      ∷ (opens_for_writing access && is_read_only looks file, F1)
-      ∷ (opens_for_writing access && has_no_upper looks file, F2)
-      ∷ (opens_for_writing access && looks.is_locked file, L1)
-      ∷ (may_not looks task file (access_rights access), C1)
-      ∷ (mounter_may_not looks file (access_rights access), B1)
-      ∷ rest)
-      (Ok (ToOpen file access))
-
   copies_alike : (file : Location ℕ) (access : Access) → On file.mount
       → copy_rules (is_copied_up one file access) one file ≡ copy_rules (is_copied_up other file access) other file
-  copies_alike file access on =
-      ap (λ o. copy_rules (opens_for_writing access
-      && overlay_or false (λ overlay. lies_only_in_lowers overlay file.node) o) one file) (alike.rules.overlay file on)
-      ∙ by (is_copied_up other file access)
-    where
-      by : (b : Bool) → copy_rules b one file ≡ copy_rules b other file
-      by true = alike.rules.mounter file (CopyUp file.node) on
-      by false = refl
+  copies_alike file access on = grind (arith, common_steps)
 
   open_file_same : (file : Location ℕ) (access : Access) → On file.mount
       → open_file_permit nat_eq one task file access ≡ open_file_permit nat_eq other task file access
-  open_file_same file access on =
-      asked_alike (open_with file access (copy_rules (is_copied_up one file access) one file))
-      (λ looks. rw (is_read_only, on) refl)
-      ∙ ap (λ r. open_with file access r other) (copies_alike file access on)
+  open_file_same file access on = grind (arith, common_steps, asked_alike, copies_alike)
 
   create_same : (place : Place ℕ) (access : Access) (mode : ℕ) → On place.parent.mount
       → create_file_permit nat_eq one task place access mode ≡ create_file_permit nat_eq other task place access mode
   create_same place access mode on =
-      asked_alike (λ looks. create_file_permit nat_eq looks task place access mode) (λ looks. rw (is_read_only, on) refl)
+      asked_alike (λ looks. create_file_permit nat_eq looks task place access mode)
+      (λ looks. rw (is_read_only, on) refl)
 
   opened_by : (place : Place ℕ) → On place.parent.mount → (access : Access) (mode : ℕ) (o : Option (Location ℕ))
       → IsFound o
-      → opened_or_created_permit nat_eq one task place access mode o ≡ opened_or_created_permit nat_eq other task place access mode o
+      → opened_or_created_permit nat_eq one task place access mode o
+      ≡ opened_or_created_permit nat_eq other task place access mode o
   opened_by place on access mode None found = create_same place access mode on
   opened_by place on access mode (Some file) found = open_file_same file access (found file refl)
 
@@ -244,13 +223,16 @@ module _ (one other : Looks ℕ) (task : Task ℕ) (own uses : ℕ → Bool) (al
       → open_by_permit nat_eq one task path access creation ≡ open_by_permit nat_eq other task path access creation
   open_by path access NoCreation =
       judged_alike StandsHere (object_walk nat_eq one task path) (object_walk nat_eq other task path)
-      (λ here. open_file_permit nat_eq one task here.location access) (λ here. open_file_permit nat_eq other task here.location access)
+      (λ here. open_file_permit nat_eq one task here.location access)
+      (λ here. open_file_permit nat_eq other task here.location access)
       (object_agrees one other task On alike.walks alike.directory alike.rules.removed path)
       (λ here on. open_file_same here.location access on)
   open_by path access (OrCreate mode) =
       judged_alike IsPlaced (file_walk nat_eq one task path) (file_walk nat_eq other task path)
-      (λ place. unless (file_word_rules place) (opened_or_created_permit nat_eq one task place access mode place.object))
-      (λ place. unless (file_word_rules place) (opened_or_created_permit nat_eq other task place access mode place.object))
+      (λ place. unless (file_word_rules place)
+      (opened_or_created_permit nat_eq one task place access mode place.object))
+      (λ place. unless (file_word_rules place)
+      (opened_or_created_permit nat_eq other task place access mode place.object))
       (file_agrees one other task On alike.walks alike.directory alike.rules.removed path)
       (λ place at. ap (unless (file_word_rules place)) (opened_by place at.0 access mode place.object at.1))
   open_by path access (Exclusive mode) =

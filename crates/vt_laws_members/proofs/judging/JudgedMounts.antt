@@ -32,7 +32,8 @@ module _ (one other : Looks ℕ) (task : Task ℕ) (own uses : ℕ → Bool) (al
       attach_permit (new_mount_rules nat_eq looks task here) overfills (ToMountPlain here flags)
 
   pub plain_alike : (path : List ℕ) (flags : MountFlags)
-      → mount_plain_permit nat_eq one overfills task path flags ≡ mount_plain_permit nat_eq other overfills task path flags
+      → mount_plain_permit nat_eq one overfills task path flags
+      ≡ mount_plain_permit nat_eq other overfills task path flags
   unfolding mount_plain_permit
   plain_alike path flags =
       ap (unless (admin_rules task))

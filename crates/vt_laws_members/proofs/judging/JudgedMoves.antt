@@ -1,5 +1,5 @@
 -- Unmounts and moves of mounts are judged alike.
-use Rattle.std.proofs.Common.{◌≡◌, refl, sym, ap, ◌∙◌, ℕ, nat_eq, Bool, true, false, not, List, [], ◌∷◌, Ok, is_some, ◌||◌, ◌&&◌}
+use Rattle.std.proofs.Common.{◌≡◌, refl, ap, ◌∙◌, ℕ, nat_eq, Bool, true, false, not, List, [], ◌∷◌, Ok, is_some, ◌||◌, ◌&&◌}
 use Rattle.std.specs.List.{list_any}
 use Rattle.vt_spec.specs.declared.errors.Rule.TheVariants.{M2, M4, M5, M6, M7, M8, M9, M10}
 use Rattle.vt_spec.specs.Errors.{and_then, unless}
@@ -48,11 +48,7 @@ module _ (one other : Looks ℕ) (task : Task ℕ) (own uses : ℕ → Bool) (al
 
   busy_by : (here : Location ℕ) → On here.mount → (b : Bool) → is_elsewhere nat_eq one task here ≡ b
       → unmount_by here (one.is_busy here.mount) one ≡ unmount_by here (other.is_busy here.mount) one
-  busy_by here on true e =
-      ap (λ b. unless ((b, M2) ∷ (is_no_root nat_eq one here, M7) ∷ (one.is_busy here.mount, M8)
-      ∷ (not (is_some (mount_at one here).mount_point), M10) ∷ []) (Ok (ToUnmount here.mount))) e
-      ∙ sym (ap (λ b. unless ((b, M2) ∷ (is_no_root nat_eq one here, M7) ∷ (other.is_busy here.mount, M8)
-      ∷ (not (is_some (mount_at one here).mount_point), M10) ∷ []) (Ok (ToUnmount here.mount))) e)
+  busy_by here on true e = cc (e)
   busy_by here on false e = ap (λ b. unmount_by here b one) (trees.busy here on e)
 
   pub umount_alike : (path : List ℕ) → umount_permit nat_eq one task path ≡ umount_permit nat_eq other task path
@@ -88,10 +84,12 @@ module _ (one other : Looks ℕ) (task : Task ℕ) (own uses : ℕ → Bool) (al
   move_same : (overfull : Bool) (from here : Location ℕ) → On from.mount → On here.mount
       → move_of overfull from here one one ≡ move_of overfull from here other other
   move_same overfull from here there on =
-      ap (λ b. move_by overfull from here b (one.mount_tree from.mount) one) (parents.parent from there)
-      ∙ ap (λ tree. move_by overfull from here (has_shared_parent other from) tree one) (trees.tree from there)
-      ∙ same_asked (move_of overfull from here other)
-      (λ looks. rw (is_elsewhere, is_no_root, mount_at, there, on) refl)
+      cc (
+        parents.parent from there,
+        trees.tree from there,
+        same_asked (move_of overfull from here other)
+            (λ looks. rw (is_elsewhere, is_no_root, mount_at, there, on) refl),
+      )
 
   pub move_alike : (overfills : Permit ℕ → Bool) (source path : List ℕ)
       → move_permit nat_eq one overfills task source path ≡ move_permit nat_eq other overfills task source path
@@ -99,8 +97,10 @@ module _ (one other : Looks ℕ) (task : Task ℕ) (own uses : ℕ → Bool) (al
   move_alike overfills source path =
       ap (unless (admin_rules task))
       (judged_alike StandsThere (source_walk nat_eq one task source) (source_walk nat_eq other task source)
-      (λ from. and_then (walk_end (destination_walk nat_eq one task path)) (λ here. moved from.location here.location one))
-      (λ from. and_then (walk_end (destination_walk nat_eq other task path)) (λ here. moved from.location here.location other))
+      (λ from. and_then (walk_end (destination_walk nat_eq one task path))
+      (λ here. moved from.location here.location one))
+      (λ from. and_then (walk_end (destination_walk nat_eq other task path))
+      (λ here. moved from.location here.location other))
       (source_agrees one other task On alike.walks alike.directory alike.rules.removed source)
       (λ from there.
       judged_alike StandsThere (destination_walk nat_eq one task path) (destination_walk nat_eq other task path)

@@ -27,17 +27,19 @@ use Rattle.vt_laws_members.proofs.judging.WalksLead.{destination_agrees, judged_
 -- tests that agree on a list
 pub any_same : {A : Type 0} (p q : A → Bool) (xs : List A) → Each (λ x. p x ≡ q x) xs → list_any p xs ≡ list_any q xs
 any_same p q [] same = refl
-any_same p q (x ∷ xs) same =
-    ap (λ b. b || list_any p xs) (same x (inl refl)) ∙ ap (λ b. q x || b) (any_same p q xs (λ y m. same y (inr m)))
+any_same p q (x ∷ xs) same = cc (same x (inl refl), any_same p q xs (λ y m. same y (inr m)))
 
 pair_same : {A : Type 0} (p q : A → A → Bool) (xs : List A)
     → ((x y : A) → Among x xs → Among y xs → p x y ≡ q x y) → any_pair p xs ≡ any_pair q xs
 pair_same p q [] same = refl
 pair_same p q (x ∷ xs) same =
-    ap (λ b. b || any_pair p xs) (any_same (p x) (q x) xs (λ y m. same x y (inl refl) (inr m)))
-    ∙ ap (λ b. list_any (q x) xs || b) (pair_same p q xs (λ y z m n. same y z (inr m) (inr n)))
+    cc (
+      any_same (p x) (q x) xs (λ y m. same x y (inl refl) (inr m)),
+      pair_same p q xs (λ y z m n. same y z (inr m) (inr n)),
+    )
 
-and_agree : {A B : Type 0} (Q : A → Type 0) (R : B → Type 0) (a b : Result A Deny) (f g : A → Result B Deny) → Agree Q a b
+and_agree : {A B : Type 0} (Q : A → Type 0) (R : B → Type 0) (a b : Result A Deny) (f g : A → Result B Deny)
+    → Agree Q a b
     → ((x : A) → Q x → Agree R (f x) (g x)) → Agree R (and_then a f) (and_then b g)
 and_agree Q R (Ok x) b f g (e, q) next = let n = next x q in (n.0 ∙ ap (λ r. and_then r g) e, n.1)
 and_agree Q R (Err deny) b f g (e, q) next = (ap (λ r. and_then r g) e, tt)
@@ -91,11 +93,13 @@ module _ (one other : Looks ℕ) (task : Task ℕ) (own uses : ℕ → Bool) (al
       (λ rest all. (refl, λ l m. ⊎_elim (λ first. subst At (sym first) on) (λ later. all l later) m)))
 
   given_agrees : (path : Option (List ℕ))
-      → Agree (λ o. Each At (option_to_list o)) (walked_if_given nat_eq one task path) (walked_if_given nat_eq other task path)
+      → Agree (λ o. Each At (option_to_list o)) (walked_if_given nat_eq one task path)
+      (walked_if_given nat_eq other task path)
   given_agrees None = (refl, λ l m. absurd m)
   given_agrees (Some path) =
       and_agree StandsThere (λ o. Each At (option_to_list o)) (walk_end (source_walk nat_eq one task path))
-      (walk_end (source_walk nat_eq other task path)) (λ here. Ok (Some here.location)) (λ here. Ok (Some here.location))
+      (walk_end (source_walk nat_eq other task path)) (λ here. Ok (Some here.location))
+      (λ here. Ok (Some here.location))
       (walked_one path)
       (λ here on. (refl, λ l m. ⊎_elim (λ first. subst At (sym first) on) (λ none. absurd none) m))
 
@@ -133,7 +137,8 @@ module _ (one other : Looks ℕ) (task : Task ℕ) (own uses : ℕ → Bool) (al
 
   same_layer : (here : Location ℕ) → At here → layer_at one here ≡ layer_at other here
   same_layer here on =
-      ap (λ (m : Mount ℕ). record { filesystem = m.filesystem; directory = here.node }) (alike.rules.mount here.mount on)
+      ap (λ (m : Mount ℕ). record { filesystem = m.filesystem; directory = here.node })
+      (alike.rules.mount here.mount on)
 
   same_given : (o : Option (Location ℕ)) → Each At (option_to_list o)
       → option_map (layer_at one) o ≡ option_map (layer_at other) o
@@ -173,7 +178,8 @@ module _ (one other : Looks ℕ) (task : Task ℕ) (own uses : ℕ → Bool) (al
     used_at : (l : Location ℕ) → At l → IsUsed (layer_at one l)
     used_at l on = alike.seen l.mount on
 
-    given_used : (o : Option (Location ℕ)) → Each At (option_to_list o) → Each IsUsed (option_to_list (option_map (layer_at one) o))
+    given_used : (o : Option (Location ℕ)) → Each At (option_to_list o)
+        → Each IsUsed (option_to_list (option_map (layer_at one) o))
     given_used None at layer m = absurd m
     given_used (Some l) at layer m =
         ⊎_elim (λ same. subst IsUsed (sym same) (used_at l (at l (inl refl)))) (λ none. absurd none) m
@@ -211,8 +217,10 @@ module _ (one other : Looks ℕ) (task : Task ℕ) (own uses : ℕ → Bool) (al
         )
         ∷ (lie_apart nat_eq one wanted, O2)
         ∷ (
-          any_same (one.overlaps_one_of (option_to_list wanted.work)) (other.overlaps_one_of (option_to_list wanted.work))
-              (option_to_list wanted.upper) (λ layer m. layers_alike.overlaps layer (given_used layers.upper at_upper layer m)
+          any_same (one.overlaps_one_of (option_to_list wanted.work))
+              (other.overlaps_one_of (option_to_list wanted.work))
+              (option_to_list wanted.upper)
+              (λ layer m. layers_alike.overlaps layer (given_used layers.upper at_upper layer m)
               (option_to_list wanted.work)) i,
           O2,
         )
@@ -246,7 +254,8 @@ module _ (one other : Looks ℕ) (task : Task ℕ) (own uses : ℕ → Bool) (al
       unless (layer_rules nat_eq asked layers overlay)
       (attach_permit (new_mount_rules nat_eq looks task here) overfills (ToMountOverlay here overlay flags))
 
-  permit_by : (overfills : Permit ℕ → Bool) (here : Location ℕ) → At here → (options : Option OverlayWords) (flags : MountFlags)
+  permit_by : (overfills : Permit ℕ → Bool) (here : Location ℕ) → At here
+      → (options : Option OverlayWords) (flags : MountFlags)
       → overlay_permit_by nat_eq one overfills task here options flags
       ≡ overlay_permit_by nat_eq other overfills task here options flags
   permit_by overfills here on None flags = refl

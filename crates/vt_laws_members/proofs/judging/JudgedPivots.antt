@@ -1,5 +1,5 @@
 -- A change of a mount's flags, and of the root mount, are judged alike.
-use Rattle.std.proofs.Common.{◌≡◌, refl, sym, ap, ◌∙◌, ℕ, nat_eq, Bool, true, false, not, List, [], ◌∷◌, Ok, ◌||◌, ◌&&◌}
+use Rattle.std.proofs.Common.{◌≡◌, refl, ap, ◌∙◌, ℕ, nat_eq, Bool, true, false, not, List, [], ◌∷◌, Ok, ◌||◌, ◌&&◌}
 use Rattle.std.specs.List.{list_any}
 use Rattle.vt_spec.specs.declared.errors.Rule.TheVariants.{M2, M7, M8, M11, M12}
 use Rattle.vt_spec.specs.Errors.{and_then, unless}
@@ -51,11 +51,7 @@ module _ (one other : Looks ℕ) (task : Task ℕ) (own uses : ℕ → Bool) (al
       → is_elsewhere nat_eq one task here ≡ b
       → flags_by flags here (one.is_written_through here.mount) one
       ≡ flags_by flags here (other.is_written_through here.mount) one
-  by_namespace flags here on true e =
-      ap (λ b. unless ((b, M2) ∷ (is_no_root nat_eq one here, M7)
-      ∷ (flags.read_only && one.is_written_through here.mount, M8) ∷ []) (Ok (ToSetFlags here.mount flags))) e
-      ∙ sym (ap (λ b. unless ((b, M2) ∷ (is_no_root nat_eq one here, M7)
-      ∷ (flags.read_only && other.is_written_through here.mount, M8) ∷ []) (Ok (ToSetFlags here.mount flags))) e)
+  by_namespace flags here on true e = cc (e)
   by_namespace flags here on false e = ap (λ b. flags_by flags here b one) (parents.written here on e)
 
   pub remount_alike : (path : List ℕ) (flags : MountFlags)
@@ -87,7 +83,8 @@ module _ (one other : Looks ℕ) (task : Task ℕ) (own uses : ℕ → Bool) (al
       pivot_by new put (is_on_descendant nat_eq asked task.root.mount new) (lies_under_location nat_eq asked new put)
       (has_shared_parent asked new) (has_shared_parent asked task.root) looks
 
-  pivot_same : (new put : Location ℕ) → On new.mount → On put.mount → pivot_of one new put one ≡ pivot_of other new put other
+  pivot_same : (new put : Location ℕ) → On new.mount → On put.mount
+      → pivot_of one new put one ≡ pivot_of other new put other
   pivot_same new put on_new on_put =
       let on_root : own task.root.mount ≡ true = alike.walks.root in
       same_asked (pivot_of one new put) (λ looks. rw (is_elsewhere, is_no_root, mount_at, on_root, on_new, on_put) refl)
@@ -98,7 +95,8 @@ module _ (one other : Looks ℕ) (task : Task ℕ) (own uses : ℕ → Bool) (al
       ∙ ap (λ b. pivot_by new put (is_on_descendant nat_eq other task.root.mount new)
       (lies_under_location nat_eq other new put) b (has_shared_parent one task.root) other) (parents.parent new on_new)
       ∙ ap (λ b. pivot_by new put (is_on_descendant nat_eq other task.root.mount new)
-      (lies_under_location nat_eq other new put) (has_shared_parent other new) b other) (parents.parent task.root on_root)
+      (lies_under_location nat_eq other new put) (has_shared_parent other new) b other)
+      (parents.parent task.root on_root)
 
   pub pivot_alike : (new put : List ℕ) → pivot_permit nat_eq one task new put ≡ pivot_permit nat_eq other task new put
   unfolding pivot_permit

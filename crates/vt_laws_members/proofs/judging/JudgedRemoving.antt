@@ -8,7 +8,7 @@ use Rattle.vt_spec.specs.Errors.{Rules, and_then, unless}
 use Rattle.vt_spec.specs.Lists.{holds_of}
 use Rattle.vt_spec.specs.Machine.Judge.{Judgement, rename_permit, renamed_permit, rmdir_permit}
 use Rattle.vt_spec.specs.Machine.Looks.{Looks, is_directory_at, mount_at}
-use Rattle.vt_spec.specs.Machine.Mounts.{Location, Mount}
+use Rattle.vt_spec.specs.Machine.Mounts.{Location}
 use Rattle.vt_spec.specs.Machine.Permits.Permit.{Allowed, ToRemoveDirectory, ToRename}
 use Rattle.vt_spec.specs.Machine.Rules.Conditions.{has_no_upper, is_kept, is_mount_point_anywhere, is_mount_point_in, is_read_only, may_not, mounter_may_not}
 use Rattle.vt_spec.specs.Machine.Rules.Removing.{changes_parent, is_nonempty, is_one_object, is_stuck, moving, object_there, old_word_rules, removing, rename_new_walk, rmdir_word_rules, same_filesystem, same_object_rules}
@@ -17,7 +17,6 @@ use Rattle.vt_spec.specs.Machine.World.{Task}
 use Rattle.vt_spec.specs.Rights.{write_right}
 use Rattle.vt_laws_members.proofs.judging.Judged.{JudgesAlike}
 use Rattle.vt_laws_members.proofs.judging.JudgedFiles.{IsFound, IsPlaced, there_own}
-use Rattle.vt_spec.specs.Tree.{is_directory_node}
 use Rattle.vt_spec.proofs.Lists.{any_from_among}
 use Rattle.vt_laws_members.proofs.judging.Masks.{by_both, by_mask, masked}
 use Rattle.vt_laws_members.proofs.judging.WalksLead.{judged_alike, old_agrees, old_leaf_agrees, rename_new_agrees, same_directory_there}
@@ -69,7 +68,8 @@ module _ (one other : Looks ℕ) (task : Task ℕ) (own uses : ℕ → Bool) (al
       → rmdir_by place object (is_mount_point_in nat_eq one task.namespace object) one
       ≡ rmdir_by place object (is_mount_point_in nat_eq other task.namespace object) other
   rmdir_same place object on there =
-      same_asked (rmdir_by place object (is_mount_point_in nat_eq one task.namespace object)) (λ looks. rw (is_read_only, there, on) refl)
+      same_asked (rmdir_by place object (is_mount_point_in nat_eq one task.namespace object))
+      (λ looks. rw (is_read_only, there, on) refl)
       ∙ ap (λ b. rmdir_by place object b other) (same_points object there)
 
   pub rmdir_alike : (path : List ℕ) → rmdir_permit nat_eq one task path ≡ rmdir_permit nat_eq other task path
@@ -133,7 +133,7 @@ module _ (one other : Looks ℕ) (task : Task ℕ) (own uses : ℕ → Bool) (al
   module _ (renames : RenamesAlike one other own) (from to : Place ℕ) (old : Location ℕ)
       (on_from : On from.parent.mount) (on_to : On to.parent.mount) (on_old : On old.mount) where
     used_there : uses (other.mount old.mount).filesystem ≡ true
-    used_there = ap (λ (m : Mount ℕ). uses m.filesystem) (sym (alike.rules.mount old.mount on_old)) ∙ alike.seen old.mount on_old
+    used_there = cc (alike.rules.mount old.mount on_old, alike.seen old.mount on_old)
 
     covered : (o : Option (Location ℕ)) → IsFoundAt o → (point stuck : Bool) (looks : Looks ℕ)
         → uses (looks.mount old.mount).filesystem ≡ true
@@ -144,7 +144,8 @@ module _ (one other : Looks ℕ) (task : Task ℕ) (own uses : ℕ → Bool) (al
         rw (is_read_only, on_from, on_to, on_old, on_new, used) refl
 
     points : (o : Option (Location ℕ)) → IsFoundAt o
-        → holds_of (is_mount_point_in nat_eq one task.namespace) o ≡ holds_of (is_mount_point_in nat_eq other task.namespace) o
+        → holds_of (is_mount_point_in nat_eq one task.namespace) o
+        ≡ holds_of (is_mount_point_in nat_eq other task.namespace) o
     points None found = refl
     points (Some new) found = same_points new (found new refl)
 
@@ -155,23 +156,19 @@ module _ (one other : Looks ℕ) (task : Task ℕ) (own uses : ℕ → Bool) (al
         let lock : list_any other.is_locked (from.parent ∷ to.parent ∷ old ∷ option_to_list o) ≡ true =
         any_from_among other.is_locked (from.parent ∷ to.parent ∷ old ∷ option_to_list o) old (inr (inr (inl refl)))
         (sym (alike.rules.locked old on_old) ∙ e) in
-        ap (λ l. unless (rename_front from to old o other ++ (l, L1) ∷ rename_rest from to old o (point_by one old o) stuck other)
+        ap (λ l. unless (rename_front from to old o other ++ (l, L1) ∷ rename_rest from to old o
+        (point_by one old o) stuck other)
         (Ok (ToRename from.parent (name_of from.last) to.parent (name_of to.last) old o))) lock
         ∙ stops (rename_front from to old o other) (rename_rest from to old o (point_by one old o) stuck other)
         (rename_rest from to old o (point_by other old o) stuck other) L1
         (Ok (ToRename from.parent (name_of from.last) to.parent (name_of to.last) old o))
-        ∙ ap (λ l. unless (rename_front from to old o other ++ (l, L1) ∷ rename_rest from to old o (point_by other old o) stuck other)
+        ∙ ap (λ l. unless (rename_front from to old o other ++ (l, L1) ∷ rename_rest from to old o
+        (point_by other old o) stuck other)
         (Ok (ToRename from.parent (name_of from.last) to.parent (name_of to.last) old o))) (sym lock)
-    by_lock o found stuck false e =
-        ap (λ b. rename_by from to old o (b || holds_of (is_mount_point_in nat_eq one task.namespace) o) stuck other)
-        (renames.anywhere old on_old e)
-        ∙ ap (λ b. rename_by from to old o (is_mount_point_anywhere other old || b) stuck other) (points o found)
+    by_lock o found stuck false e = cc (renames.anywhere old on_old e, points o found)
 
     stuck_same : is_stuck one from old ≡ is_stuck other from old
-    stuck_same =
-        ap (λ n. is_directory_node n && one.has_lower_directory from.parent (name_of from.last))
-        (alike.rules.node old on_old)
-        ∙ ap (λ b. is_directory_at other old && b) (renames.lower from.parent (name_of from.last) on_from)
+    stuck_same = cc (alike.rules.node old on_old, renames.lower from.parent (name_of from.last) on_from)
 
     rename_same : (o : Option (Location ℕ)) → IsFoundAt o
         → rename_by from to old o (point_by one old o) (is_stuck one from old) one
@@ -191,13 +188,11 @@ module _ (one other : Looks ℕ) (task : Task ℕ) (own uses : ℕ → Bool) (al
         same_asked nothing_by
         (λ looks. rw (is_read_only, on_from, on_to) refl)
 
-    one_object : (o : Option (Location ℕ)) → IsFoundAt o → is_one_object nat_eq one old o ≡ is_one_object nat_eq other old o
+    one_object : (o : Option (Location ℕ)) → IsFoundAt o
+        → is_one_object nat_eq one old o ≡ is_one_object nat_eq other old o
     one_object None found = refl
     one_object (Some new) found =
-        ap (λ (m : Mount ℕ). nat_eq m.filesystem (one.mount new.mount).filesystem && nat_eq old.node new.node)
-        (alike.rules.mount old.mount on_old)
-        ∙ ap (λ (m : Mount ℕ). nat_eq (other.mount old.mount).filesystem m.filesystem && nat_eq old.node new.node)
-        (alike.rules.mount new.mount (found new refl))
+        cc (alike.rules.mount old.mount on_old, alike.rules.mount new.mount (found new refl))
 
     renamed_by : IsFoundAt to.object → (b : Bool)
         → renamed_permit nat_eq b one task from to old ≡ renamed_permit nat_eq b other task from to old
@@ -207,9 +202,7 @@ module _ (one other : Looks ℕ) (task : Task ℕ) (own uses : ℕ → Bool) (al
     renamed_alike : IsFoundAt to.object
         → renamed_permit nat_eq (is_one_object nat_eq one old to.object) one task from to old
         ≡ renamed_permit nat_eq (is_one_object nat_eq other old to.object) other task from to old
-    renamed_alike found =
-        renamed_by found (is_one_object nat_eq one old to.object)
-        ∙ ap (λ b. renamed_permit nat_eq b other task from to old) (one_object to.object found)
+    renamed_alike found = cc (renamed_by found (is_one_object nat_eq one old to.object), one_object to.object found)
 
   abbrev to_rename : Place ℕ → Looks ℕ → Place ℕ → Judgement ℕ
   to_rename from looks to =
@@ -223,16 +216,20 @@ module _ (one other : Looks ℕ) (task : Task ℕ) (own uses : ℕ → Bool) (al
   rename_alike renames old new =
       judged_alike IsAt (old_leaf_walk nat_eq one task old) (old_leaf_walk nat_eq other task old)
       (λ from. unless (old_word_rules from)
-      (and_then (walk_end (rename_new_walk nat_eq one task new (is_directory_there nat_eq one from))) (to_rename from one)))
+      (and_then (walk_end (rename_new_walk nat_eq one task new (is_directory_there nat_eq one from)))
+      (to_rename from one)))
       (λ from. unless (old_word_rules from)
-      (and_then (walk_end (rename_new_walk nat_eq other task new (is_directory_there nat_eq other from))) (to_rename from other)))
+      (and_then (walk_end (rename_new_walk nat_eq other task new (is_directory_there nat_eq other from)))
+      (to_rename from other)))
       (old_leaf_agrees one other task On alike.walks alike.directory alike.rules.removed old)
       (λ from at. ap (unless (old_word_rules from))
       (judged_alike IsAt (rename_new_walk nat_eq one task new (is_directory_there nat_eq one from))
       (rename_new_walk nat_eq other task new (is_directory_there nat_eq one from))
       (to_rename from one) (to_rename from other)
-      (rename_new_agrees one other task On alike.walks alike.directory alike.rules.removed new (is_directory_there nat_eq one from))
+      (rename_new_agrees one other task On alike.walks alike.directory alike.rules.removed new
+      (is_directory_there nat_eq one from))
       (λ to stands. ap (unless (old_word_rules to))
-      (renamed_alike renames from to (object_there from) at.0 stands.0 (there_own one other task own uses alike from at) stands.1))
+      (renamed_alike renames from to (object_there from) at.0 stands.0
+      (there_own one other task own uses alike from at) stands.1))
       ∙ ap (λ b. and_then (walk_end (rename_new_walk nat_eq other task new b)) (to_rename from other))
       (same_directory_there one other task On alike.walks alike.directory alike.rules.removed from at)))

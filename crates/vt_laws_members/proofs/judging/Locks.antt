@@ -1,5 +1,6 @@
 -- What is locked in the world is locked in the part, and the other way round.
-use Rattle.std.proofs.Common.{◌≡◌, refl, sym, ap, subst, ◌∙◌, inl, inr, ⊎_elim, ℕ, nat_eq, Bool, true, false, cond, true≢false, List, [], ◌∷◌, ◌++◌, Option, Some, None, find, is_some, ◌||◌, ◌&&◌, eq-eqb, eqb-true}
+use Rattle.std.proofs.lemmas.Grind.{common_steps}
+use Rattle.std.proofs.Common.{◌≡◌, refl, sym, ap, subst, ◌∙◌, inl, ⊎_elim, ℕ, nat_eq, true, false, cond, true≢false, List, [], ◌++◌, Option, Some, None, find, is_some, ◌||◌, ◌&&◌, eq-eqb, eqb-true, arith}
 use Rattle.std.specs.Prelude.{option_to_list, unwrap_or}
 use Rattle.std.specs.List.{list_all, list_any}
 use Rattle.std.proofs.lemmas.Bool.{and_from, and_parts, or_cases, or_left, or_right}
@@ -27,12 +28,7 @@ use Rattle.vt_laws_part.proofs.seals.ByPart.{layer_directory, lower_plain, overl
 -- an overlay with one of its layers in the filesystem
 pub has_layer : (number : ℕ) (merged : Filesystem ℕ) (layer : Layer ℕ) → Among layer (of_overlay [] layers_of merged)
     → nat_eq number layer.filesystem ≡ true → has_layer_on nat_eq number merged ≡ true
-has_layer number merged layer m e = by merged.overlay m
-  where
-    by : (o : Option (Overlay ℕ)) → Among layer (overlay_or [] layers_of o)
-        → overlay_or false (λ overlay. list_any (λ layer. nat_eq number layer.filesystem) (layers_of overlay)) o ≡ true
-    by None m = absurd m
-    by (Some overlay) m = any_from_among (λ (l : Layer ℕ). nat_eq number l.filesystem) (layers_of overlay) layer m e
+has_layer number merged layer m e = grind (arith, common_steps, any_from_among)
 
 -- what counts under a layer is an object of an overlay
 pub record Counts (world : World ℕ) (number object : ℕ) (layer : Layer ℕ) (merged : Filesystem ℕ) : Type 0 where
@@ -83,8 +79,7 @@ module _ (a b : World ℕ) (number : ℕ)
     → Among merged (overlays b)) where
   pub lies_at : (object : ℕ) (layer : Layer ℕ) → lies_in_layer nat_eq a number object layer ≡ true
       → lies_in_layer nat_eq b number object layer ≡ true
-  lies_at object layer h =
-      ap (λ (f : Filesystem ℕ). nat_eq number layer.filesystem && is_under nat_eq f.files layer.directory object) same ∙ h
+  lies_at object layer h = cc (same, h)
 
   counts_at : (object : ℕ) (layer : Layer ℕ) (merged : Filesystem ℕ) → Among merged (overlays a)
       → counts_in_layer nat_eq a number object layer merged ≡ true
@@ -232,7 +227,8 @@ module _ (world : World ℕ) (names : List TaskName) (is : IsWorld nat_eq world)
       (and_parts (holds_of (λ (l : Layer ℕ). nat_eq number l.filesystem) c.overlay.upper)
       (list_any (is_real_upper nat_eq c.overlay object) merged.files.numbers) c.object_of).1 in
       let merge = is.overlays.overlays_merge merged.number c.overlay
-      (ap (λ (f : Filesystem ℕ). f.overlay) (found_filesystem world.filesystems is.files.one_filesystem merged there) ∙ c.is)
+      (ap (λ (f : Filesystem ℕ). f.overlay) (found_filesystem world.filesystems is.files.one_filesystem merged there)
+      ∙ c.is)
       in
       subst (λ n. is_some ((files_of n).tree.node object) ≡ true) (sym c.inside)
       (sym (ap (holds_of (λ (l : Layer ℕ). is_there nat_eq world l.filesystem object)) c.has)
@@ -242,15 +238,7 @@ module _ (world : World ℕ) (names : List TaskName) (is : IsWorld nat_eq world)
   pub locked_there : (number object : ℕ) → is_locked nat_eq world number object ≡ true
       → is_some ((files_of number).tree.node object) ≡ true
   locked_there number object h =
-      let at = any_among (lies_or_counts_under nat_eq world number object) (live_layers world) h in
-      let from = among-from_flat_map (of_overlay [] layers_of) (overlays world) at.0 at.1 in
-      ⊎_elim
-      (λ lies. lies_there number object at.0 from.0 from.1 from.2 lies)
-      (λ counts.
-      let by = any_among (counts_in_layer nat_eq world number object at.0) (overlays world) counts in
-      counts_there number object at.0 by.0 by.1 by.2)
-      (or_cases (lies_in_layer nat_eq world number object at.0)
-      (list_any (counts_in_layer nat_eq world number object at.0) (overlays world)) at.2)
+      grind (arith, common_steps, any_among, among-from_flat_map, lies_there, counts_there, or_cases)
 
   -- an overlay with a lower layer there
   lower_layer : (number root : ℕ) (merged : Filesystem ℕ) → is_lower_root nat_eq number root merged ≡ true
@@ -304,7 +292,8 @@ module _ (world : World ℕ) (names : List TaskName) (is : IsWorld nat_eq world)
       let directory : is_directory_node ((files_of number).tree.node (files_of number).tree.root) ≡ true =
       subst (λ n. is_directory_node ((files_of n).tree.node (files_of number).tree.root) ≡ true) (sym layer.3)
       (subst (λ d. is_directory_node ((files_of layer.0.filesystem).tree.node d) ≡ true) (sym layer.4)
-      (layer_directory world names is at.0 (among-from_filter is_overlay world.filesystems at.0 at.1).0 layer.0 layer.1)) in
+      (layer_directory world names is at.0
+      (among-from_filter is_overlay world.filesystems at.0 at.1).0 layer.0 layer.1)) in
       let tree = tree_there number (files_of number).tree.root directory in
       record {
         merged = at.0;
@@ -329,7 +318,8 @@ module _ (world : World ℕ) (names : List TaskName) (is : IsWorld nat_eq world)
 
   -- what is wholly locked is locked in the part
   wholly_in_part : (number object : ℕ) → is_among nat_eq number (used_filesystems nat_eq world names) ≡ true
-      → IsWhole number → is_some ((files_of number).tree.node object) ≡ true → is_locked nat_eq part number object ≡ true
+      → IsWhole number → is_some ((files_of number).tree.node object) ≡ true
+      → is_locked nat_eq part number object ≡ true
   wholly_in_part number object used whole there =
       let in_part : Among whole.merged (overlays part) =
       among_from_contains (overlays part) whole.merged

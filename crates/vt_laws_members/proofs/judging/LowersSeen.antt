@@ -1,11 +1,12 @@
 -- What lower layers of overlays that members reach have at a path is in the part.
-use Rattle.std.proofs.Common.{◌≡◌, refl, sym, ap, subst, ◌∙◌, inl, inr, ⊎_elim, ℕ, nat_eq, Bool, true, false, cond, not, List, [], ◌∷◌, ◌++◌, filter, find, flat_map, map, Option, Some, None, ◌||◌, ◌&&◌, eq-eqb, eqb-true}
+use Rattle.std.proofs.lemmas.Grind.{common_steps}
+use Rattle.std.proofs.Common.{◌≡◌, refl, sym, ap, subst, ◌∙◌, inl, inr, ⊎_elim, ℕ, nat_eq, Bool, true, false, cond, not, List, [], ◌∷◌, ◌++◌, filter, find, flat_map, map, Option, Some, None, ◌||◌, ◌&&◌, eq-eqb, eqb-true, arith}
 use Rattle.std.specs.Prelude.{option_to_list, unwrap_or}
 use Rattle.std.specs.List.{cons_option, filter_map, list_any}
 use Rattle.std.proofs.lemmas.Bool.{and_from}
 use Rattle.vt_spec.specs.FileTree.{FileTree, is_under, path_down}
 use Rattle.vt_spec.specs.Language.Calls.{TaskName}
-use Rattle.vt_spec.specs.Lists.{is_among, prefixes, then_some, when}
+use Rattle.vt_spec.specs.Lists.{is_among, prefixes, when}
 use Rattle.vt_spec.specs.Machine.Filesystems.{has_lower_directory_at}
 use Rattle.vt_spec.specs.Machine.Invariants.{IsWorld, ListsNumbers}
 use Rattle.vt_spec.specs.Machine.Layers.{has_lower_directory, view_of}
@@ -43,22 +44,22 @@ module _ (world : World ℕ) (names : List TaskName) (is : IsWorld nat_eq world)
   view_at layer path x = node_led (view_of (record { tree = x.files.tree; directory = layer.directory })) path
 
   module _ (layer : Layer ℕ) (low : Among layer lowers)
-      (directory : is_directory_node ((filesystem_numbered nat_eq world layer.filesystem).files.tree.node layer.directory) ≡ true)
+      (directory : is_directory_node
+      ((filesystem_numbered nat_eq world layer.filesystem).files.tree.node layer.directory) ≡ true)
     where
       module _ (x : Filesystem ℕ) (there : Among x world.filesystems) (its : layer.filesystem ≡ x.number) where
         itself : filesystem_numbered nat_eq world x.number ≡ x
         itself = found_filesystem world.filesystems is.files.one_filesystem x there
 
         top : is_directory_node (x.files.tree.node layer.directory) ≡ true
-        top =
-            sym (ap (λ (f : Filesystem ℕ). is_directory_node (f.files.tree.node layer.directory))
-            (ap (filesystem_numbered nat_eq world) its ∙ itself)) ∙ directory
+        top = cc (its, itself, directory)
 
         tree : IsTree x.files.tree
         tree = among_from_all (λ (f : Filesystem ℕ). IsTree f.files.tree) world.filesystems is.files.trees x there
 
         listed : ListsNumbers nat_eq x.files
-        listed = among_from_all (λ (f : Filesystem ℕ). ListsNumbers nat_eq f.files) world.filesystems is.files.numbers x there
+        listed = among_from_all
+            (λ (f : Filesystem ℕ). ListsNumbers nat_eq f.files) world.filesystems is.files.numbers x there
 
         abbrev cut : FileTree ℕ
         cut = (part_of_lower nat_eq world names x).files
@@ -86,14 +87,9 @@ module _ (world : World ℕ) (names : List TaskName) (is : IsWorld nat_eq world)
             led_where x.files.tree cut.tree path layer.directory (λ way inode e word.
             ap (λ (n : Option (Node ℕ)). entry_named word (entries_in n)) (same_node inode way e))
 
-        cut_view : (path : List (List ℕ)) → view_at layer path (part_of_lower nat_eq world names x) ≡ view_at layer path x
-        cut_view path =
-            ap (λ o. then_some o cut.tree.node) (leads path) ∙ by (led x.files.tree layer.directory path) refl
-          where
-            by : (o : Option ℕ) → led x.files.tree layer.directory path ≡ o
-                → then_some o cut.tree.node ≡ then_some o x.files.tree.node
-            by None e = refl
-            by (Some object) e = same_node object path e
+        cut_view : (path : List (List ℕ))
+            → view_at layer path (part_of_lower nat_eq world names x) ≡ view_at layer path x
+        cut_view path = grind (arith, common_steps, leads, same_node)
 
       abbrev shown : Filesystem ℕ → Option (Filesystem ℕ)
       shown = part_of_filesystem nat_eq world names
@@ -141,9 +137,7 @@ module _ (world : World ℕ) (names : List TaskName) (is : IsWorld nat_eq world)
           skip : (o : Option (Filesystem ℕ)) → shown x ≡ o → passes x ≡ false
               → find passes (cons_option o (filter_map shown rest)) ≡ find passes (filter_map shown rest)
           skip None e f = refl
-          skip (Some y) e f =
-              ap (λ b. cond b (Some y) (find passes (filter_map shown rest)))
-              (ap (nat_eq layer.filesystem) (shown_number x y e) ∙ f)
+          skip (Some y) e f = cc (shown_number x y e, f)
 
           by : (b : Bool) → passes x ≡ b
               → view_at layer path (unwrap_or (find passes (filter_map shown rest)) none)
@@ -153,14 +147,15 @@ module _ (world : World ℕ) (names : List TaskName) (is : IsWorld nat_eq world)
           by true e later =
               let its = kept x (all x (inl refl)) (eqb-true layer.filesystem x.number e) path in
               ap (λ o. view_at layer path (unwrap_or (find passes (cons_option o (filter_map shown rest))) none)) its.1
-              ∙ ap (λ b. view_at layer path (unwrap_or (cond b (Some its.0) (find passes (filter_map shown rest))) none))
+              ∙ ap (λ b. view_at layer path
+              (unwrap_or (cond b (Some its.0) (find passes (filter_map shown rest))) none))
               (ap (nat_eq layer.filesystem) (shown_number x its.0 its.1) ∙ e)
               ∙ its.2
-          by false e later =
-              ap (λ o. view_at layer path (unwrap_or o none)) (skip (shown x) refl e) ∙ later
+          by false e later = cc (skip (shown x) refl e, later)
 
       pub lower_view : (path : List (List ℕ))
-          → node_led (view_of (open_layer nat_eq part layer)) path ≡ node_led (view_of (open_layer nat_eq world layer)) path
+          → node_led (view_of (open_layer nat_eq part layer)) path
+          ≡ node_led (view_of (open_layer nat_eq world layer)) path
       lower_view path = search path world.filesystems (λ x m. m)
 
   -- Layers that have the same at each path
@@ -195,7 +190,8 @@ module _ (world : World ℕ) (names : List TaskName) (is : IsWorld nat_eq world)
       λ i. cut i || later i
 
   -- an overlay is there
-  pub overlay_there : (number : ℕ) (overlay : Overlay ℕ) → (filesystem_numbered nat_eq world number).overlay ≡ Some overlay
+  pub overlay_there : (number : ℕ) (overlay : Overlay ℕ)
+      → (filesystem_numbered nat_eq world number).overlay ≡ Some overlay
       → Among (filesystem_numbered nat_eq world number) world.filesystems
   overlay_there number overlay = by (find (λ (f : Filesystem ℕ). nat_eq number f.number) world.filesystems) refl
     where
@@ -275,5 +271,6 @@ module _ (world : World ℕ) (names : List TaskName) (is : IsWorld nat_eq world)
         by None e = ap (asked world name merged) e ∙ sym (ap (asked part name merged) e)
         by (Some overlay) e =
             ap (asked world name merged) e
-            ∙ all_alike overlay e (unwrap_or (path_down nat_eq merged.files merged.files.tree.root here.node) [] ++ (name ∷ []))
+            ∙ all_alike overlay e
+            (unwrap_or (path_down nat_eq merged.files merged.files.tree.root here.node) [] ++ (name ∷ []))
             ∙ sym (ap (asked part name merged) e)

@@ -1,6 +1,7 @@
 -- What two worlds show alike at some mounts is the same where the rest is covered. So a table of rules that asks for
 -- what is there alone is the same in both.
-use Rattle.std.proofs.Common.{◌≡◌, refl, sym, ap, ◌∙◌, ℕ, Bool, true, false, cond, [], None}
+use Rattle.std.proofs.lemmas.Grind.{common_steps}
+use Rattle.std.proofs.Common.{◌≡◌, refl, sym, ap, ◌∙◌, ℕ, Bool, true, false, cond, [], None, arith}
 use Rattle.vt_spec.specs.Language.Changes.{Change}
 use Rattle.vt_spec.specs.Machine.Looks.{Looks}
 use Rattle.vt_spec.specs.Machine.Mounts.{Location, no_mount}
@@ -47,30 +48,7 @@ module _ (own uses : ℕ → Bool) where
 
   module _ (one other : Looks ℕ) (alike : RulesSeeAlike one other own uses) where
     pub same_masked : masked one ≡ masked other
-    same_masked = λ i. record {
-      namespace_called = λ name. None;
-      mount = λ number. same_if (own number) (one.mount number) (other.mount number) (no_mount number) (alike.mount number) i;
-      mount_count = 0;
-      mount_tree = λ number. [];
-      mounts_over = λ here.
-          same_if (own here.mount) (one.mounts_over here) (other.mounts_over here) [] (alike.over here) i;
-      mounts_on = λ here. [];
-      is_busy = λ number. false;
-      is_written_through = λ number. false;
-      node = λ here. same_if (own here.mount) (one.node here) (other.node here) None (alike.node here) i;
-      is_removed = λ here. same_if (own here.mount) (one.is_removed here) (other.is_removed here) false (alike.removed here) i;
-      is_under = λ filesystem top directory.
-          same_if (uses filesystem) (one.is_under filesystem top directory) (other.is_under filesystem top directory) false
-          (alike.under filesystem top directory) i;
-      overlay = λ here. same_if (own here.mount) (one.overlay here) (other.overlay here) None (alike.overlay here) i;
-      mounter_rules = λ here change.
-          same_if (own here.mount) (one.mounter_rules here change) (other.mounter_rules here change) []
-          (alike.mounter here change) i;
-      has_lower_directory = λ here name. false;
-      is_locked = λ here. same_if (own here.mount) (one.is_locked here) (other.is_locked here) false (alike.locked here) i;
-      overlaps_one_of = λ others layer. false;
-      is_in_use = λ overlay. false;
-    }
+    same_masked = grind (arith, common_steps, same_if)
 
     -- what is asked of these alone is the same in both
     pub by_mask : {R : Type 0} (asked : Looks ℕ → R) → ((looks : Looks ℕ) → asked (masked looks) ≡ asked looks)

@@ -1,5 +1,6 @@
 -- Which mounts are on what members reach is the same in the part.
-use Rattle.std.proofs.Common.{◌≡◌, refl, sym, ap, subst, ◌∙◌, inl, inr, ⊎_elim, ℕ, nat_eq, Bool, true, false, true≢false, ◌⊎◌, cond, List, [], ◌∷◌, Option, Some, None, ◌||◌, ◌&&◌, eq-eqb, eqb-true}
+use Rattle.std.proofs.lemmas.Grind.{common_steps}
+use Rattle.std.proofs.Common.{◌≡◌, refl, sym, ap, subst, ◌∙◌, inl, inr, ⊎_elim, ℕ, nat_eq, Bool, true, false, true≢false, ◌⊎◌, cond, List, [], ◌∷◌, Option, Some, None, ◌||◌, ◌&&◌, eqb-true, arith}
 use Rattle.std.specs.List.{list_any}
 use Rattle.vt_spec.specs.Language.Calls.{TaskName}
 use Rattle.vt_spec.specs.Lists.{holds_of, when}
@@ -56,11 +57,10 @@ module _ (world : World ℕ) (names : List TaskName) (is : IsWorld nat_eq world)
   all_same : (mount : Mount ℕ) → Among mount world.mounts → owns mount ≡ true → (points : List (ℕ × ℕ))
       → stands_on_one part points mount ≡ stands_on_one world points mount
   all_same mount m own [] = refl
-  all_same mount m own (point ∷ points) =
-      ap (λ b. b || stands_on_one part points mount) (point_same mount m own point.0 point.1)
-      ∙ ap (λ b. is_point nat_eq world point.0 point.1 mount || b) (all_same mount m own points)
+  all_same mount m own (point ∷ points) = cc (point_same mount m own point.0 point.1, all_same mount m own points)
 
-  points_same : (here : Location ℕ) → OnTheirs world names is here → points_of nat_eq part here ≡ points_of nat_eq world here
+  points_same : (here : Location ℕ) → OnTheirs world names is here
+      → points_of nat_eq part here ≡ points_of nat_eq world here
   points_same here own =
       ap (λ (f : Filesystem ℕ). (f.number, here.node)
       ∷ of_overlay [] (λ (overlay : Overlay ℕ). upper_points world f overlay here.node) f)
@@ -71,7 +71,8 @@ module _ (world : World ℕ) (names : List TaskName) (is : IsWorld nat_eq world)
   stood_theirs l m =
       let of = among-from_flat_map (λ (t : Task ℕ). t.root ∷ t.directory ∷ []) theirs l m in
       ⊎_elim (λ root. subst (OnTheirs world names is) (sym root) (root_theirs world names is of.0 of.1))
-      (λ rest. ⊎_elim (λ directory. subst (OnTheirs world names is) (sym directory) (directory_theirs world names is of.0 of.1))
+      (λ rest. ⊎_elim (λ directory. subst (OnTheirs world names is) (sym directory)
+      (directory_theirs world names is of.0 of.1))
       (λ none. absurd none) rest)
       of.2
 
@@ -148,14 +149,7 @@ module _ (world : World ℕ) (names : List TaskName) (is : IsWorld nat_eq world)
 
   module _ (task : Task ℕ) (member : Among task theirs) where
     pub in_own : (mount : Mount ℕ) → holds_of (nat_eq task.namespace) mount.namespace ≡ true → owns mount ≡ true
-    in_own mount h = by mount.namespace h
-      where
-        by : (o : Option ℕ) → holds_of (nat_eq task.namespace) o ≡ true
-            → holds_of (λ n. list_any (λ (t : Task ℕ). nat_eq n t.namespace) theirs) o ≡ true
-        by None h = h
-        by (Some n) h =
-            any_from_among (λ (t : Task ℕ). nat_eq n t.namespace) theirs task member
-            (eq-eqb n task.namespace (sym (eqb-true task.namespace n h)))
+    in_own mount h = grind (arith, common_steps, any_from_among)
 
     pub points_alike : PointsAlike (looks_of nat_eq world) (looks_of nat_eq part) task (is_theirs world names)
     points_alike here e =

@@ -1,4 +1,5 @@
 -- Children of mounts of theirs, and trees of mounts, are the same in the part.
+use Rattle.std.proofs.lemmas.Grind.{common_steps}
 use Rattle.std.proofs.Common.{◌≡◌, refl, sym, ap, subst, ◌∙◌, inl, ⊎_elim, ℕ, zero, suc, nat_eq, Bool, true, false, true≢false, List, [], ◌∷◌, Option, Some, None, filter, flat_map, length, not, ◌⊎◌, ◌+◌, ◌≤◌, arith, eqb-true}
 use Rattle.std.specs.List.{cons_option, filter_map, list_any}
 use Rattle.std.proofs.lemmas.Bool.{or_from, or_left, or_parts}
@@ -40,11 +41,7 @@ pub child_deeper : (world : World ℕ) (one : OneNumberEach world) (all : AllSta
     → Among child (children nat_eq world.mounts mount.number)
     → rank world one all child.number ≡ suc (rank world one all mount.number)
 child_deeper world one all mount child m =
-    let from = among-from_filter (stands_on nat_eq mount.number) world.mounts child m in
-    let at = stands_where mount.number child from.1 in
-    rank_child world one all child.number at.0
-    (ap (λ (x : Mount ℕ). x.mount_point) (found_itself world.mounts one child from.0) ∙ at.1)
-    ∙ ap (λ n. suc (rank world one all n)) (sym at.2)
+    grind (arith, common_steps, among-from_filter, rank_child, found_itself, rank)
 
 module _ (world : World ℕ) (names : List TaskName) (is : IsWorld nat_eq world) where
   abbrev theirs : List (Task ℕ)
@@ -65,7 +62,8 @@ module _ (world : World ℕ) (names : List TaskName) (is : IsWorld nat_eq world)
       (or_left (owns mount) (is_at nat_eq (roots_and_directories theirs) mount) own)
 
   -- a mount of theirs, by its number
-  pub own_theirs : (mount : Mount ℕ) → Among mount world.mounts → owns mount ≡ true → IsTheirs world names is.mounts mount.number
+  pub own_theirs : (mount : Mount ℕ) → Among mount world.mounts → owns mount ≡ true
+      → IsTheirs world names is.mounts mount.number
   own_theirs mount m own = (mount, m, refl, inl own)
 
   -- Children
@@ -78,12 +76,7 @@ module _ (world : World ℕ) (names : List TaskName) (is : IsWorld nat_eq world)
 
   pub children_alike : (number : ℕ) → IsTheirs world names is.mounts number
       → children nat_eq part.mounts number ≡ children nat_eq world.mounts number
-  children_alike number own =
-      filter_both kept (stands_on nat_eq number) (stands_on nat_eq number) world.mounts
-      (λ x m h. (own_whole x (child_own number x own m h), h))
-      (λ x y m h e.
-      ⊎_elim (λ same. ap (stands_on nat_eq number) (sym same) ∙ h) (λ stub. ap (stands_on nat_eq number) (sym stub.0))
-      (kept_how world names theirs x y e))
+  children_alike number own = grind (arith, common_steps, filter_both, own_whole, child_own, kept_how)
 
   pub children_own : (number : ℕ) (child : Mount ℕ) → IsTheirs world names is.mounts number
       → Among child (children nat_eq world.mounts number) → Among child world.mounts × (owns child ≡ true)
@@ -121,7 +114,8 @@ module _ (world : World ℕ) (names : List TaskName) (is : IsWorld nat_eq world)
   pub part_one_number : OneNumberEach part
   part_one_number = apart world.mounts is.mounts.one_number
 
-  stands_too : (number : ℕ) → IsTheirs world names is.mounts number → Stands nat_eq world number → Stands nat_eq part number
+  stands_too : (number : ℕ) → IsTheirs world names is.mounts number → Stands nat_eq world number
+      → Stands nat_eq part number
   stands_too number own (at_root it e) =
       at_root it (ap (λ (m : Mount ℕ). m.mount_point) (same_mount world names is.mounts it own) ∙ e)
   stands_too number own (on_parent it point e f below) =
@@ -139,14 +133,16 @@ module _ (world : World ℕ) (names : List TaskName) (is : IsWorld nat_eq world)
       ∙ nowhere y from.0 y.mount_point refl from.1 none (kept_how world names theirs from.0 y from.2)))
       (part_mount world names is from.0 y from.1 from.2))
     where
-      nowhere : (y x : Mount ℕ) (o : Option (Location ℕ)) → y.mount_point ≡ o → Among x world.mounts → y.namespace ≡ None
+      nowhere : (y x : Mount ℕ) (o : Option (Location ℕ)) → y.mount_point ≡ o → Among x world.mounts
+          → y.namespace ≡ None
           → (x ≡ y) ⊎ ((seen_by_descriptor x ≡ y) × (owns x ≡ false)
           × (is_at nat_eq (roots_and_directories theirs) x ≡ false) × (is_at nat_eq (locations theirs) x ≡ true))
           → y.mount_point ≡ None
       nowhere y x None e m none how = e
       nowhere y x (Some point) e m none how =
           ⊎_elim
-          (λ same. absurd (nowhere_stands world names is.mounts y point (subst (λ z. Among z world.mounts) same m) none e))
+          (λ same. absurd (nowhere_stands world names is.mounts y point
+          (subst (λ z. Among z world.mounts) same m) none e))
           (λ stub. absurd (none_is_some point (ap (λ (z : Mount ℕ). z.mount_point) stub.0 ∙ e))) how
 
       by : (x y : Mount ℕ) → Among x world.mounts → kept x ≡ Some y → owns y ≡ true → Stands nat_eq part y.number
@@ -168,7 +164,8 @@ module _ (world : World ℕ) (names : List TaskName) (is : IsWorld nat_eq world)
   deep_in_part = rank part part_one_number part_stands
 
   -- at the bottom there is no child
-  none_below : (mount : Mount ℕ) → length world.mounts ≤ deep mount.number → children nat_eq world.mounts mount.number ≡ []
+  none_below : (mount : Mount ℕ) → length world.mounts ≤ deep mount.number
+      → children nat_eq world.mounts mount.number ≡ []
   none_below mount less = by (children nat_eq world.mounts mount.number) refl
     where
       by : (list : List (Mount ℕ)) → children nat_eq world.mounts mount.number ≡ list
@@ -188,7 +185,8 @@ module _ (world : World ℕ) (names : List TaskName) (is : IsWorld nat_eq world)
           → children nat_eq part.mounts mount.number ≡ []
       by [] e = e
       by (child ∷ rest) e =
-          let below = child_deeper part part_one_number part_stands mount child (subst (Among child) (sym e) (inl refl)) in
+          let below = child_deeper part part_one_number part_stands mount child
+          (subst (Among child) (sym e) (inl refl)) in
           let bound = rank_bounded part part_one_number part_stands child.number in
           absurd (omega (arith, below, bound, less))
 
@@ -196,12 +194,9 @@ module _ (world : World ℕ) (names : List TaskName) (is : IsWorld nat_eq world)
       → length world.mounts ≤ n + deep mount.number → length part.mounts ≤ k + deep_in_part mount.number
       → tree_from nat_eq k part.mounts mount ≡ tree_from nat_eq n world.mounts mount
   trees_alike zero zero mount own l m = refl
-  trees_alike zero (suc k) mount own l m =
-      ap (λ list. mount ∷ flat_map (tree_from nat_eq k part.mounts) list)
-      (children_alike mount.number own ∙ none_below mount (omega (arith, l)))
+  trees_alike zero (suc k) mount own l m = cc (children_alike mount.number own, none_below mount (omega (arith, l)))
   trees_alike (suc n) zero mount own l m =
-      ap (λ list. mount ∷ flat_map (tree_from nat_eq n world.mounts) list)
-      (sym (none_below_in_part mount (omega (arith, m))) ∙ children_alike mount.number own)
+      cc (none_below_in_part mount (omega (arith, m)), children_alike mount.number own)
   trees_alike (suc n) (suc k) mount own l m =
       ap (λ list. mount ∷ flat_map (tree_from nat_eq k part.mounts) list) (children_alike mount.number own)
       ∙ ap (λ list. mount ∷ list)
@@ -247,7 +242,8 @@ module _ (world : World ℕ) (names : List TaskName) (is : IsWorld nat_eq world)
       let below = child_deeper world is.mounts.one_number is.mounts.standing mount child at in
       let below_in_part = child_deeper part part_one_number part_stands mount child
       (subst (Among child) (sym (children_alike mount.number own)) at) in
-      bindables_alike n k child (own_theirs child it.0 it.1) (omega (arith, l, below)) (omega (arith, m, below_in_part))))
+      bindables_alike n k child (own_theirs child it.0 it.1) (omega (arith, l, below))
+      (omega (arith, m, below_in_part))))
 
   under_alike : (source : Location ℕ) → IsTheirs world names is.mounts source.mount
       → filter (stands_under nat_eq part source) (bindable_children nat_eq part.mounts source.mount)

@@ -1,22 +1,21 @@
 -- Whether an attachment at a mount of theirs leaves a namespace with too many mounts is the same in the part (M9).
-use Rattle.std.proofs.Common.{◌≡◌, refl, sym, ap, subst, ◌∙◌, ⊎_elim, ℕ, nat_eq, nat_lt, Bool, true, false, true≢false, not, List, [], ◌∷◌, ◌++◌, Option, Some, None, filter, find, is_some, length, ◌&&◌, ◌+◌, ◌*◌, ◌≤◌, arith, eqb-true}
-use Rattle.std.specs.Option.{option_or}
-use Rattle.std.specs.Prelude.{unwrap_or}
+use Rattle.std.proofs.lemmas.Grind.{common_steps}
+use Rattle.std.proofs.Common.{◌≡◌, refl, sym, ap, subst, ◌∙◌, ⊎_elim, ℕ, nat_eq, nat_lt, Bool, true, false, true≢false, not, List, [], ◌∷◌, filter, is_some, length, ◌&&◌, ◌+◌, ◌*◌, ◌≤◌, arith}
 use Rattle.std.proofs.lemmas.List.Folds.{find-append}
 use Rattle.std.specs.List.{list_any}
-use Rattle.std.proofs.lemmas.Bool.{and_parts, false_from_ne_true}
+use Rattle.std.proofs.lemmas.Bool.{false_from_ne_true}
 use Rattle.vt_spec.specs.FileTree.{is_directory_under}
 use Rattle.vt_spec.specs.Language.Calls.{MountFlags, TaskName}
 use Rattle.vt_spec.specs.Language.Limits.{most_mounts}
-use Rattle.vt_spec.specs.Lists.{Fresh, evens, holds_of, is_among, odds}
+use Rattle.vt_spec.specs.Lists.{Fresh, evens, is_among, odds}
 use Rattle.vt_spec.specs.Machine.Apply.{overfills}
 use Rattle.vt_spec.specs.Machine.Attach.{Copies, attach, attached_by, bind_tree, copies_from, has_too_many, parts_of, receivers_of, takes_part}
-use Rattle.vt_spec.specs.Machine.Invariants.{IsWorld, has_its_root}
+use Rattle.vt_spec.specs.Machine.Invariants.{IsWorld}
 use Rattle.vt_spec.specs.Machine.Mounts.{Location, Mount, mount_tree}
 use Rattle.vt_spec.specs.Machine.NewMounts.{new_mount, overlay_filesystem, plain_filesystem, with_new_filesystem}
 use Rattle.vt_spec.specs.Machine.Permits.Permit.{ToBind, ToMountOverlay, ToMountPlain, ToMove}
 use Rattle.vt_spec.specs.Machine.Sealed.{is_own_namespace, members, part_of, sealed, used_filesystems}
-use Rattle.vt_spec.specs.Machine.World.{Filesystem, Namespace, Overlay, Task, World, filesystem_numbered, mount_at, mount_numbered, no_filesystem}
+use Rattle.vt_spec.specs.Machine.World.{Filesystem, Namespace, Overlay, Task, World, filesystem_numbered, mount_at, mount_numbered}
 use Rattle.vt_spec.specs.Tree.{is_directory_node}
 use Rattle.vt_spec.proofs.Found.{filter_alike}
 use Rattle.vt_spec.proofs.Lists.{Among, among-filter_map, among-from_filter, among_from_list_all}
@@ -41,19 +40,7 @@ no_rows n = omega arith
 found_before : (world : World ℕ) (added : Filesystem ℕ) (number directory : ℕ)
     → is_directory_node ((filesystem_numbered nat_eq world number).files.tree.node directory) ≡ true
     → filesystem_numbered nat_eq (with_new_filesystem world added) number ≡ filesystem_numbered nat_eq world number
-found_before world added number directory shows =
-    by (find (λ (f : Filesystem ℕ). nat_eq number f.number) world.filesystems) refl
-  where
-    by : (o : Option (Filesystem ℕ)) → find (λ (f : Filesystem ℕ). nat_eq number f.number) world.filesystems ≡ o
-        → unwrap_or (find (λ (f : Filesystem ℕ). nat_eq number f.number) (world.filesystems ++ added ∷ [])) (no_filesystem number)
-        ≡ unwrap_or (find (λ (f : Filesystem ℕ). nat_eq number f.number) world.filesystems) (no_filesystem number)
-    by None e =
-        absurd (true≢false (sym shows
-        ∙ ap (λ o. is_directory_node ((unwrap_or o (no_filesystem number)).files.tree.node directory)) e))
-    by (Some filesystem) e =
-        ap (λ o. unwrap_or o (no_filesystem number))
-        (find-append (λ (f : Filesystem ℕ). nat_eq number f.number) world.filesystems (added ∷ [])
-        ∙ ap (λ o. option_or o (find (λ (f : Filesystem ℕ). nat_eq number f.number) (added ∷ []))) e ∙ sym e)
+found_before world added number directory shows = grind (arith, common_steps, shows, find-append, true≢false)
 
 module _ (world : World ℕ) (names : List TaskName) (is : IsWorld nat_eq world)
     (sealed_off : sealed nat_eq world names ≡ true) where
@@ -76,27 +63,15 @@ module _ (world : World ℕ) (names : List TaskName) (is : IsWorld nat_eq world)
 
   inside_own : (namespace : ℕ) → own_one namespace ≡ true → (mount : Mount ℕ) → is_in namespace mount ≡ true
       → owns mount ≡ true
-  inside_own namespace own mount h = by mount.namespace h
-    where
-      by : (o : Option ℕ) → holds_of (nat_eq namespace) o ≡ true → holds_of own_one o ≡ true
-      by None h = h
-      by (Some n) h = ap own_one (sym (eqb-true namespace n h)) ∙ own
+  inside_own namespace own mount h = grind (arith, common_steps)
 
   own_inside : (namespace : ℕ) → own_one namespace ≡ false → (mount : Mount ℕ) → owns mount ≡ true
       → is_in namespace mount ≡ false
-  own_inside namespace other mount own =
-      false_from_ne_true (is_in namespace mount) (λ h. by mount.namespace h own)
-    where
-      by : (o : Option ℕ) → holds_of (nat_eq namespace) o ≡ true → holds_of own_one o ≡ true → ⊥
-      by None h own = true≢false (sym h)
-      by (Some n) h own = true≢false (sym own ∙ ap own_one (sym (eqb-true namespace n h)) ∙ other)
+  own_inside namespace other mount own = grind (arith, common_steps, false_from_ne_true, true≢false)
 
-  count_alike : (namespace : ℕ) → own_one namespace ≡ true → count_in part.mounts namespace ≡ count_in world.mounts namespace
-  count_alike namespace own =
-      ap length (filter_kept (keep world names theirs) (is_in namespace)
-      (λ x e. own_whole world names is x (inside_own namespace own x e))
-      (λ x y e f. ⊎_elim (λ same. ap (is_in namespace) (sym same) ∙ f) (λ stub. ap (is_in namespace) (sym stub.0))
-      (kept_how world names theirs x y e)) world.mounts)
+  count_alike : (namespace : ℕ) → own_one namespace ≡ true
+      → count_in part.mounts namespace ≡ count_in world.mounts namespace
+  count_alike namespace own = grind (arith, common_steps, filter_kept, keep, own_whole, inside_own, kept_how)
 
   -- Worlds that are left by what is attached
   too_many_alike : (one other : World ℕ) → one.namespaces ≡ world.namespaces → other.namespaces ≡ part.namespaces
@@ -147,16 +122,7 @@ module _ (world : World ℕ) (names : List TaskName) (is : IsWorld nat_eq world)
 
     parts_alike : parts_of nat_eq part place ≡ parts_of nat_eq world place
     parts_alike =
-        ap (λ to. to ∷ filter (takes part place to) (receivers_of nat_eq part to)) same_destination
-        ∙ ap (λ list. destination ∷ filter (takes part place destination) list)
-        (receivers_alike world names is sealed_off destination there own)
-        ∙ ap (λ list. destination ∷ list)
-        (filter_alike (takes part place destination) (takes world place destination)
-        (receivers_of nat_eq world destination) (λ mount m.
-        let its = receivers_own world names is sealed_off destination mount there own m in
-        ap (λ (f : Filesystem ℕ). not (nat_eq place.mount mount.number) && is_some mount.namespace
-        && nat_eq destination.filesystem mount.filesystem && is_directory_under nat_eq f.files mount.root place.node)
-        (reached_alike mount its.0 its.1)))
+        grind (arith, common_steps, same_destination, receivers_alike, filter_alike, receivers_own, reached_alike)
 
     parts_own : (mount : Mount ℕ) → Among mount (parts_of nat_eq world place)
         → Among mount world.mounts × (owns mount ≡ true)
@@ -174,11 +140,10 @@ module _ (world : World ℕ) (names : List TaskName) (is : IsWorld nat_eq world)
     -- a filesystem that is added changes no parts
     shows : (mount : Mount ℕ) → Among mount world.mounts
         → is_directory_node ((filesystem_numbered nat_eq world mount.filesystem).files.tree.node mount.root) ≡ true
-    shows mount m =
-        (and_parts (is_directory_node ((filesystem_numbered nat_eq world mount.filesystem).files.tree.node mount.root)) _
-        (among_from_list_all (has_its_root nat_eq world) world.mounts is.roots mount m)).0
+    shows mount m = grind (arith, common_steps, among_from_list_all)
 
-    added_parts : (added : Filesystem ℕ) → parts_of nat_eq (with_new_filesystem world added) place ≡ parts_of nat_eq world place
+    added_parts : (added : Filesystem ℕ)
+        → parts_of nat_eq (with_new_filesystem world added) place ≡ parts_of nat_eq world place
     added_parts added =
         ap (λ list. destination ∷ list)
         (filter_alike (takes (with_new_filesystem world added) place destination) (takes world place destination)
@@ -191,7 +156,8 @@ module _ (world : World ℕ) (names : List TaskName) (is : IsWorld nat_eq world)
     added_parts_in_part : (added : Filesystem ℕ)
         → parts_of nat_eq (with_new_filesystem part added) place ≡ parts_of nat_eq part place
     added_parts_in_part added =
-        ap (λ to. to ∷ filter (takes (with_new_filesystem part added) place to) (receivers_of nat_eq part to)) same_destination
+        ap (λ to. to ∷ filter (takes (with_new_filesystem part added) place to)
+        (receivers_of nat_eq part to)) same_destination
         ∙ ap (λ list. destination ∷ filter (takes (with_new_filesystem part added) place destination) list)
         (receivers_alike world names is sealed_off destination there own)
         ∙ ap (λ list. destination ∷ list)
@@ -216,14 +182,16 @@ module _ (world : World ℕ) (names : List TaskName) (is : IsWorld nat_eq world)
         → has_too_many nat_eq (attach nat_eq base supply place false mounts)
         ≡ has_too_many nat_eq (attach nat_eq other supply_too place false mounts_too)
     copies_alike base other same listed same_too listed_too parts parts_too supply supply_too mounts mounts_too long =
-        too_many_alike (attach nat_eq base supply place false mounts) (attach nat_eq other supply_too place false mounts_too)
+        too_many_alike (attach nat_eq base supply place false mounts)
+        (attach nat_eq other supply_too place false mounts_too)
         listed listed_too
         (λ namespace its.
         added_counted base place (copies_from nat_eq supply (parts_of nat_eq base place) mounts) mounts namespace
         ∙ ap (λ list. count_in list namespace + count_in (parts_of nat_eq base place) namespace * length mounts) same
         ∙ ap (λ list. count_in world.mounts namespace + count_in list namespace * length mounts)
         (parts ∙ sym parts_alike ∙ sym parts_too)
-        ∙ ap (λ n. n + count_in (parts_of nat_eq other place) namespace * length mounts) (sym (count_alike namespace its))
+        ∙ ap (λ n. n + count_in (parts_of nat_eq other place) namespace * length mounts)
+        (sym (count_alike namespace its))
         ∙ ap (λ n. count_in part.mounts namespace + count_in (parts_of nat_eq other place) namespace * n) long
         ∙ ap (λ list. count_in list namespace + count_in (parts_of nat_eq other place) namespace * length mounts_too)
         (sym same_too)
@@ -246,7 +214,8 @@ module _ (world : World ℕ) (names : List TaskName) (is : IsWorld nat_eq world)
         copies_alike (with_new_filesystem world (plain_filesystem nat_eq fresh))
         (with_new_filesystem part (plain_filesystem nat_eq other)) refl refl refl refl
         (added_parts (plain_filesystem nat_eq fresh)) (added_parts_in_part (plain_filesystem nat_eq other))
-        (odds fresh) (odds other) (mount_of flags (plain_filesystem nat_eq fresh)) (mount_of flags (plain_filesystem nat_eq other)) refl
+        (odds fresh) (odds other) (mount_of flags (plain_filesystem nat_eq fresh))
+        (mount_of flags (plain_filesystem nat_eq other)) refl
       where
         mount_of : MountFlags → Filesystem ℕ → List (Mount ℕ)
         mount_of flags filesystem = new_mount filesystem.number filesystem.files.tree.root flags ∷ []
@@ -266,7 +235,8 @@ module _ (world : World ℕ) (names : List TaskName) (is : IsWorld nat_eq world)
         mount_of flags filesystem = new_mount filesystem.number filesystem.files.tree.root flags ∷ []
 
     -- a source on a mount of theirs
-    pub bind_overfills : (fresh other : Fresh ℕ) (task : Task ℕ) (source : Location ℕ) (recursive : Bool) → On source.mount
+    pub bind_overfills : (fresh other : Fresh ℕ) (task : Task ℕ) (source : Location ℕ) (recursive : Bool)
+        → On source.mount
         → overfills nat_eq fresh world task (ToBind source place recursive)
         ≡ overfills nat_eq other part task (ToBind source place recursive)
     bind_overfills fresh other task source recursive from =
@@ -324,9 +294,11 @@ module _ (world : World ℕ) (names : List TaskName) (is : IsWorld nat_eq world)
           (within part source_in_part) namespace
 
       pub move_overfills : (fresh other : Fresh ℕ) (task : Task ℕ)
-          → overfills nat_eq fresh world task (ToMove number place) ≡ overfills nat_eq other part task (ToMove number place)
+          → overfills nat_eq fresh world task (ToMove number place)
+          ≡ overfills nat_eq other part task (ToMove number place)
       move_overfills fresh other task =
-          too_many_alike (attached_by nat_eq world new place true tree) (attached_by nat_eq part newer place true tree_too)
+          too_many_alike (attached_by nat_eq world new place true tree)
+          (attached_by nat_eq part newer place true tree_too)
           refl refl
           (λ namespace own_too.
           let all = moved_count new namespace in
@@ -335,7 +307,8 @@ module _ (world : World ℕ) (names : List TaskName) (is : IsWorld nat_eq world)
           let at_parts : count_in (parts_of nat_eq part place) namespace * length tree_too
           ≡ count_in (parts_of nat_eq world place) namespace * length tree =
           λ i. count_in (parts_alike i) namespace * length (same_tree i) in
-          let inside : count_in tree_too namespace ≡ count_in tree namespace = ap (λ list. count_in list namespace) same_tree in
+          let inside : count_in tree_too namespace ≡ count_in tree namespace =
+          ap (λ list. count_in list namespace) same_tree in
           omega (arith, all, all_too, count, at_parts, inside))
           (λ namespace outside.
           let all = moved_count new namespace in

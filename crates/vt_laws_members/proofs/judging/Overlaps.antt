@@ -62,15 +62,18 @@ module _ (world : World ℕ) (names : List TaskName) (is : IsWorld nat_eq world)
       → merged.overlay ≡ Some overlay → (layer : Layer ℕ) → Among layer (upper_and_work overlay)
       → number ≡ layer.filesystem → ⊥
   none_written whole merged m overlay e layer its inside =
-      not_whole world names is sealed_off merged (among-from_filter is_overlay world.filesystems merged m).0 overlay e layer
+      not_whole world names is sealed_off merged
+      (among-from_filter is_overlay world.filesystems merged m).0 overlay e layer
       its (subst (λ n. wholly_locked nat_eq world names n ≡ true) inside whole)
 
   pub under_alike : (object : ℕ) (layer : Layer ℕ)
       → lies_or_counts_under nat_eq world number object layer ≡ lies_or_counts_under nat_eq part number object layer
   under_alike object layer =
-      same_truth (lies_or_counts_under nat_eq world number object layer) (lies_or_counts_under nat_eq part number object layer)
+      same_truth (lies_or_counts_under nat_eq world number object layer)
+      (lies_or_counts_under nat_eq part number object layer)
       (λ h. how
-      (λ alone. (under_at world part number same (alone_in_part world names is sealed_off number alone) object layer h).0)
+      (λ alone. (under_at world part number same
+      (alone_in_part world names is sealed_off number alone) object layer h).0)
       (λ whole. ⊎_elim
       (λ lies. or_left (lies_in_layer nat_eq part number object layer) _
       (ap (λ (f : Filesystem ℕ). nat_eq number layer.filesystem && is_under nat_eq f.files layer.directory object) same

@@ -1,5 +1,6 @@
 -- What is below a mount of theirs, and which files are open through it, is the same in the part.
-use Rattle.std.proofs.Common.{◌≡◌, refl, sym, ap, ◌∙◌, inl, inr, ℕ, nat_eq, Bool, true, false, cond, true≢false, not, List, [], ◌∷◌, filter, length, Option, Some, None, ◌||◌, ◌&&◌, eqb-true}
+use Rattle.std.proofs.lemmas.Grind.{common_steps}
+use Rattle.std.proofs.Common.{◌≡◌, refl, sym, ap, ◌∙◌, inr, ℕ, nat_eq, Bool, true, false, true≢false, not, List, [], ◌∷◌, filter, length, Option, Some, None, ◌&&◌, eqb-true, arith}
 use Rattle.std.specs.List.{list_any}
 use Rattle.std.proofs.lemmas.Bool.{and_parts, false_from_ne_true, not-true}
 use Rattle.vt_spec.specs.Language.Calls.{TaskName}
@@ -24,12 +25,7 @@ use Rattle.vt_laws_members.proofs.judging.SeenInPart.{OnTheirs, mount_alike, the
 pub any_filter : {A : Type 0} (p q : A → Bool) (xs : List A) → ((x : A) → Among x xs → q x ≡ false → p x ≡ false)
     → list_any p (filter q xs) ≡ list_any p xs
 any_filter p q [] none = refl
-any_filter {A} p q (x ∷ xs) none = by (q x) refl (any_filter p q xs (λ y m. none y (inr m)))
-  where
-    by : (b : Bool) → q x ≡ b → list_any p (filter q xs) ≡ list_any p xs
-        → list_any p (cond b (x ∷ filter q xs) (filter q xs)) ≡ (p x || list_any p xs)
-    by true e later = ap (λ b. p x || b) later
-    by false e later = later ∙ sym (ap (λ b. b || list_any p xs) (none x (inl refl) e))
+any_filter {A} p q (x ∷ xs) none = grind (arith, common_steps, any_filter p q xs (λ y m. none y (inr m)))
 
 module _ (world : World ℕ) (names : List TaskName) (is : IsWorld nat_eq world)
     (sealed_off : sealed nat_eq world names ≡ true) (task : Task ℕ) (member : Among task (members world names)) where
@@ -46,15 +42,18 @@ module _ (world : World ℕ) (names : List TaskName) (is : IsWorld nat_eq world)
   on here e = theirs_from world names is.mounts here.mount e
 
   -- the mount below
-  parent_alike : (here : Location ℕ) → OnTheirs world names is here → has_shared_parent one here ≡ has_shared_parent other here
+  parent_alike : (here : Location ℕ) → OnTheirs world names is here
+      → has_shared_parent one here ≡ has_shared_parent other here
   parent_alike here own =
       by (mount_at nat_eq world here).mount_point refl
       ∙ ap (λ (m : Mount ℕ). holds_of (λ point. is_shared (mount_at nat_eq part point).propagation) m.mount_point)
       (mount_alike world names is here own)
     where
       by : (o : Option (Location ℕ)) → (mount_at nat_eq world here).mount_point ≡ o
-          → holds_of (λ point. is_shared (mount_at nat_eq world point).propagation) (mount_at nat_eq world here).mount_point
-          ≡ holds_of (λ point. is_shared (mount_at nat_eq part point).propagation) (mount_at nat_eq world here).mount_point
+          → holds_of (λ point. is_shared (mount_at nat_eq world point).propagation)
+          (mount_at nat_eq world here).mount_point
+          ≡ holds_of (λ point. is_shared (mount_at nat_eq part point).propagation)
+          (mount_at nat_eq world here).mount_point
       by None e =
           ap (holds_of (λ point. is_shared (mount_at nat_eq world point).propagation)) e
           ∙ sym (ap (holds_of (λ point. is_shared (mount_at nat_eq part point).propagation)) e)
@@ -69,28 +68,28 @@ module _ (world : World ℕ) (names : List TaskName) (is : IsWorld nat_eq world)
   down w here = chain (length w.mounts) (λ location. (mount_at nat_eq w location).mount_point) here
 
   down_alike : (here : Location ℕ) → OnTheirs world names is here → down world here ≡ down part here
-  down_alike here own =
-      sym (up_alike world names is.mounts (λ location. (mount_at nat_eq world location).mount_point)
-      (λ location. (mount_at nat_eq part location).mount_point) (λ a b e. e)
-      (λ a theirs. ap (λ (m : Mount ℕ). m.mount_point) (same_mount world names is.mounts a.mount theirs)) here own)
+  down_alike here own = grind (arith, common_steps, up_alike, same_mount)
 
   below_alike : (top here : Location ℕ) → OnTheirs world names is top → OnTheirs world names is here
       → lies_under_location nat_eq one top here ≡ lies_under_location nat_eq other top here
   below_alike top here own there =
       ap (list_any (λ (location : Location ℕ). nat_eq top.mount location.mount
       && one.is_under (mount_at nat_eq world top).filesystem top.node location.node)) (down_alike here there)
-      ∙ (λ i. list_any (λ (location : Location ℕ). nat_eq top.mount location.mount && same location.node i) (down part here))
+      ∙ (λ i. list_any (λ (location : Location ℕ). nat_eq top.mount location.mount && same location.node i)
+      (down part here))
     where
       same : (node : ℕ) → one.is_under (mount_at nat_eq world top).filesystem top.node node
           ≡ other.is_under (mount_at nat_eq part top).filesystem top.node node
       same node =
-          under_alike world names is (mount_at nat_eq world top).filesystem (theirs_used world names is top own) top.node node
+          under_alike world names is (mount_at nat_eq world top).filesystem
+          (theirs_used world names is top own) top.node node
           ∙ ap (λ (m : Mount ℕ). other.is_under m.filesystem top.node node) (mount_alike world names is top own)
 
   -- no other task has a file open through a mount of theirs
   abbrev writes_through : ℕ → Task ℕ → Bool
   writes_through number t =
-      list_any (λ (descriptor : Descriptor ℕ). descriptor.writes && nat_eq number descriptor.location.mount) t.descriptors
+      list_any (λ (descriptor : Descriptor ℕ). descriptor.writes
+      && nat_eq number descriptor.location.mount) t.descriptors
 
   none_writes : (number : ℕ) → is_own world names (members world names) (mount_numbered nat_eq world number) ≡ true
       → (t : Task ℕ) → Among t world.tasks → is_member_task names t ≡ false → writes_through number t ≡ false
@@ -105,7 +104,8 @@ module _ (world : World ℕ) (names : List TaskName) (is : IsWorld nat_eq world)
       (among-flat_map locations_of (outsiders world names) t at.0.location
       (among-filter (λ t. not (is_member_task names t)) world.tasks t m (ap not outside))
       (inr (inr (among-map (λ (d : Descriptor ℕ). d.location) t.descriptors at.0 at.1))))) in
-      true≢false (sym own ∙ ap (λ n. is_own world names (members world names) (mount_numbered nat_eq world n)) here ∙ away))
+      true≢false (sym own ∙ ap (λ n. is_own world names (members world names) (mount_numbered nat_eq world n)) here
+      ∙ away))
 
   written_alike : (here : Location ℕ) → is_elsewhere nat_eq one task here ≡ false
       → one.is_written_through here.mount ≡ other.is_written_through here.mount

@@ -1,14 +1,15 @@
 -- What members see on the mounts that they get to is what their part shows.
-use Rattle.std.proofs.Common.{◌≡◌, refl, sym, ap, subst, ◌∙◌, inl, inr, ⊎_elim, ℕ, nat_eq, Bool, true, false, cond, List, [], ◌∷◌, Option, Some, None, map, not, ◌||◌, ◌&&◌, eq-eqb, eqb-true}
+use Rattle.std.proofs.lemmas.Grind.{common_steps}
+use Rattle.std.proofs.Common.{◌≡◌, refl, sym, ap, subst, ◌∙◌, inl, inr, ⊎_elim, ℕ, nat_eq, Bool, true, List, [], ◌∷◌, Option, Some, None, map, ◌&&◌, eq-eqb, eqb-true, arith}
 use Rattle.std.specs.Prelude.{option_to_list}
 use Rattle.std.specs.List.{list_all, list_any}
 use Rattle.std.proofs.lemmas.Bool.{and_parts}
 use Rattle.vt_spec.specs.Language.Calls.{TaskName}
-use Rattle.vt_spec.specs.FileTree.{is_directory_under, is_removed}
-use Rattle.vt_spec.specs.Lists.{chain, is_among}
+use Rattle.vt_spec.specs.FileTree.{is_directory_under}
+use Rattle.vt_spec.specs.Lists.{is_among}
 use Rattle.vt_spec.specs.Machine.Invariants.{IsWorld, is_directory_seen_in, is_located_well, is_there, stands_on_directories}
 use Rattle.vt_spec.specs.Machine.Looks.{looks_of}
-use Rattle.vt_spec.specs.Machine.Mounts.{Location, Mount, same_location}
+use Rattle.vt_spec.specs.Machine.Mounts.{Location, Mount}
 use Rattle.vt_spec.specs.Machine.Sealed.{is_at, is_member_task, is_own_mount, locations, members, own_mounts, part_of, roots_and_directories, used_directly, used_filesystems}
 use Rattle.vt_spec.specs.Machine.Walking.{hop, hops}
 use Rattle.vt_spec.specs.Machine.World.{Filesystem, Task, World, all_locations, filesystem_at, filesystem_numbered, is_directory_at, locations_of, mount_at, mount_numbered}
@@ -45,7 +46,8 @@ module _ (world : World ℕ) (names : List TaskName) (is : IsWorld nat_eq world)
       → Among (mount_at nat_eq world l).filesystem (used_directly nat_eq world names)
   located_directly l m =
       among-append_right (map (λ (mount : Mount ℕ). mount.filesystem) (own_mounts nat_eq world names))
-      (map (λ location. (mount_at nat_eq world location).filesystem) (locations theirs)) (mount_at nat_eq world l).filesystem
+      (map (λ location. (mount_at nat_eq world location).filesystem) (locations theirs))
+      (mount_at nat_eq world l).filesystem
       (among-map (λ location. (mount_at nat_eq world location).filesystem) (locations theirs) l m)
 
   pub located_used : (l : Location ℕ) → Among l (locations theirs) → uses (mount_at nat_eq world l).filesystem ≡ true
@@ -62,7 +64,8 @@ module _ (world : World ℕ) (names : List TaskName) (is : IsWorld nat_eq world)
       (λ stood.
       let at = any_among (λ (l : Location ℕ). nat_eq l.mount mount.number) (roots_and_directories theirs) stood.1 in
       let it : mount_at nat_eq world at.0 ≡ mount =
-      ap (mount_numbered nat_eq world) (eqb-true at.0.mount mount.number at.2) ∙ numbered world names is.mounts mount m in
+      ap (mount_numbered nat_eq world) (eqb-true at.0.mount mount.number at.2)
+      ∙ numbered world names is.mounts mount m in
       subst (λ (x : Mount ℕ). Among x.filesystem (used_directly nat_eq world names)) it
       (located_directly at.0 (located at.0 at.1)))
       ground
@@ -74,7 +77,8 @@ module _ (world : World ℕ) (names : List TaskName) (is : IsWorld nat_eq world)
       (sym (its_mount world names is.mounts here.mount own)) (ground_directly own.0 own.1 own.3)
 
   pub theirs_used : (here : Location ℕ) → OnTheirs here → uses (mount_at nat_eq world here).filesystem ≡ true
-  theirs_used here own = used_directly_used world names (mount_at nat_eq world here).filesystem (theirs_directly here own)
+  theirs_used here own =
+      used_directly_used world names (mount_at nat_eq world here).filesystem (theirs_directly here own)
 
   pub mount_alike : (here : Location ℕ) → OnTheirs here → mount_at nat_eq world here ≡ mount_at nat_eq part here
   mount_alike here own = sym (same_mount world names is.mounts here.mount own)
@@ -82,8 +86,7 @@ module _ (world : World ℕ) (names : List TaskName) (is : IsWorld nat_eq world)
   pub filesystem_alike : (here : Location ℕ) → OnTheirs here
       → filesystem_at nat_eq world here ≡ filesystem_at nat_eq part here
   filesystem_alike here own =
-      sym (found world names (mount_at nat_eq world here).filesystem (theirs_used here own))
-      ∙ ap (λ (m : Mount ℕ). filesystem_numbered nat_eq part m.filesystem) (mount_alike here own)
+      cc (found world names (mount_at nat_eq world here).filesystem (theirs_used here own), mount_alike here own)
 
   pub under_alike : (number : ℕ) → uses number ≡ true → (top directory : ℕ)
       → is_directory_under nat_eq (filesystem_numbered nat_eq world number).files top directory
@@ -94,11 +97,7 @@ module _ (world : World ℕ) (names : List TaskName) (is : IsWorld nat_eq world)
   lost_alike : (here : Location ℕ) → OnTheirs here
       → Rattle.vt_spec.specs.Machine.Walking.is_lost nat_eq (looks_of nat_eq world) here
       ≡ Rattle.vt_spec.specs.Machine.Walking.is_lost nat_eq (looks_of nat_eq part) here
-  lost_alike here own =
-      ap (λ (f : Filesystem ℕ). is_removed nat_eq f.files.tree here.node
-      || not (is_directory_under nat_eq f.files (mount_at nat_eq world here).root here.node)) (filesystem_alike here own)
-      ∙ ap (λ (m : Mount ℕ). is_removed nat_eq (filesystem_at nat_eq part here).files.tree here.node
-      || not (is_directory_under nat_eq (filesystem_at nat_eq part here).files m.root here.node)) (mount_alike here own)
+  lost_alike here own = cc (filesystem_alike here own, mount_alike here own)
 
   module _ (task : Task ℕ) (member : Among task theirs) where
     task_there : Among task world.tasks
@@ -134,10 +133,12 @@ module _ (world : World ℕ) (names : List TaskName) (is : IsWorld nat_eq world)
         by mount (Some n) e h stood =
             let in_it : (nat_eq task.namespace n && true) ≡ true =
             sym (ap (λ o. list_all (nat_eq task.namespace) (option_to_list o)) e) ∙ h in
-            let same : task.namespace ≡ n = eqb-true task.namespace n (and_parts (nat_eq task.namespace n) true in_it).0 in
+            let same : task.namespace ≡ n =
+            eqb-true task.namespace n (and_parts (nat_eq task.namespace n) true in_it).0 in
             inl (ap (Rattle.vt_spec.specs.Lists.holds_of
             (λ k. list_any (λ (t : Task ℕ). nat_eq k t.namespace) theirs)) e
-            ∙ any_from_among (λ (t : Task ℕ). nat_eq n t.namespace) theirs task member (eq-eqb n task.namespace (sym same)))
+            ∙ any_from_among (λ (t : Task ℕ). nat_eq n t.namespace) theirs task member
+            (eq-eqb n task.namespace (sym same)))
 
     stood : (is_directory_seen_in nat_eq world task.namespace task.root ≡ true)
         × (is_directory_seen_in nat_eq world task.namespace task.directory ≡ true)
@@ -159,19 +160,11 @@ module _ (world : World ℕ) (names : List TaskName) (is : IsWorld nat_eq world)
     -- `..` from the root of a mount
     hop_goes : (a b : Location ℕ) → hop nat_eq (looks_of nat_eq world) task a ≡ Some b
         → (mount_numbered nat_eq world a.mount).mount_point ≡ Some b
-    hop_goes a b e = by (same_location nat_eq a task.root) (nat_eq a.node (mount_at nat_eq world a).root) e
-      where
-        by : (p q : Bool) → cond p None (cond q (mount_at nat_eq world a).mount_point None) ≡ Some b
-            → (mount_at nat_eq world a).mount_point ≡ Some b
-        by true q h = none_is_some b h
-        by false true h = h
-        by false false h = none_is_some b h
+    hop_goes a b e = grind (arith, common_steps, none_is_some)
 
     hop_alike : (a : Location ℕ) → OnTheirs a
         → hop nat_eq (looks_of nat_eq part) task a ≡ hop nat_eq (looks_of nat_eq world) task a
-    hop_alike a own =
-        ap (λ (m : Mount ℕ). cond (same_location nat_eq a task.root) None (cond (nat_eq a.node m.root) m.mount_point None))
-        (sym (mount_alike a own))
+    hop_alike a own = grind (arith, common_steps, mount_alike)
 
     hops_each : (here : Location ℕ) → OnTheirs here
         → Each (λ (l : Location ℕ). OnTheirs l) (hops nat_eq (looks_of nat_eq world) task here)
@@ -202,8 +195,10 @@ members_see_alike world names task is member =
       overlay = λ here e. ap (λ (f : Filesystem ℕ). f.overlay)
           (filesystem_alike world names is here (on_from world names is here e));
       over = λ here e. sym (over_alike world names is.mounts here (on_from world names is here e));
-      entered = λ here e. are_on world names is _ (over_theirs world names is.mounts here (on_from world names is here e));
+      entered = λ here e. are_on world names is _
+          (over_theirs world names is.mounts here (on_from world names is here e));
       hops_alike = λ here e. hops_alike world names is task among here (on_from world names is here e);
-      hopped = λ here e. are_on world names is _ (hops_each world names is task among here (on_from world names is here e));
+      hopped = λ here e. are_on world names is _
+          (hops_each world names is task among here (on_from world names is here e));
       lost = λ here e. lost_alike world names is here (on_from world names is here e);
     }

@@ -1,14 +1,13 @@
 -- Every walk of a path leads alike, where two worlds show alike what it meets.
-use Rattle.std.proofs.Common.{◌≡◌, refl, ap, subst, ◌∙◌, ℕ, zero, suc, ◌+◌, ◌-◌, ◌++◌, nat_eq, Bool, true, false, cond, not, List, [], ◌∷◌, Option, Some, None, is_some, Ok, Err, Result, reverse, ◌||◌, ◌&&◌}
+use Rattle.std.proofs.lemmas.Grind.{common_steps}
+use Rattle.std.proofs.Common.{◌≡◌, refl, ap, subst, ◌∙◌, ℕ, zero, suc, ◌+◌, ◌-◌, ◌++◌, nat_eq, Bool, true, false, cond, not, List, [], ◌∷◌, Option, Some, None, is_some, Ok, Err, Result, reverse, ◌||◌, ◌&&◌, arith}
 use Rattle.std.specs.Prelude.{IfOk, flat_map, length, nat_lt, option_map, option_to_list, unwrap_or, ◌==◌}
 use Rattle.std.specs.List.{list_any}
 use Rattle.std.proofs.lemmas.Option.{same_Some}
 use Rattle.vt_spec.specs.declared.errors.Deny.{Deny}
 use Rattle.vt_spec.specs.declared.errors.Rule.TheVariants.{W2, W3, W6, W7, W8, W9}
 use Rattle.vt_spec.specs.Errors.{Rules, and_then, unless}
-use Rattle.vt_spec.specs.FileTree.{symlink_text}
 use Rattle.vt_spec.specs.Language.Limits.{longest_name, most_symlinks}
-use Rattle.vt_spec.specs.Lists.{holds_of, then_some}
 use Rattle.vt_spec.specs.Machine.Looks.{Looks, is_directory_at, topmost}
 use Rattle.vt_spec.specs.Machine.Mounts.{Location, Mount}
 use Rattle.vt_spec.specs.Machine.Rules.Mounting.{at_topmost, destination_walk, source_walk}
@@ -92,7 +91,8 @@ module _ (one other : Looks ℕ) (task : Task ℕ) (Own : ℕ → Type 0) (alike
   path_agrees path =
       text_agrees HereAt path
       (λ text. words_walked nat_eq one task (followed nat_eq one task) (walk_start task text) (reverse (words text)))
-      (λ text. words_walked nat_eq other task (followed nat_eq other task) (walk_start task text) (reverse (words text)))
+      (λ text. words_walked nat_eq other task (followed nat_eq other task) (walk_start task text)
+      (reverse (words text)))
       (λ text. words_agree one other task Own alike (followed nat_eq one task) (followed nat_eq other task) follows
       (walk_start task text) (start_at text) (reverse (words text)))
 
@@ -101,7 +101,8 @@ module _ (one other : Looks ℕ) (task : Task ℕ) (Own : ℕ → Type 0) (alike
   same_slash text here own =
       ap (λ n. (cond (ends_in_slash text) (not (is_directory_node n)) false, W3) ∷ []) (alike.node here own)
 
-  pub object_agrees : (path : List ℕ) → Agree HereAt (object_walk nat_eq one task path) (object_walk nat_eq other task path)
+  pub object_agrees : (path : List ℕ)
+      → Agree HereAt (object_walk nat_eq one task path) (object_walk nat_eq other task path)
   object_agrees path =
       then_agree HereAt HereAt (path_walked nat_eq one task path) (path_walked nat_eq other task path)
       (λ here. walk_unless here.steps (slash_rules nat_eq one path here.location) here)
@@ -122,7 +123,8 @@ module _ (one other : Looks ℕ) (task : Task ℕ) (Own : ℕ → Type 0) (alike
       (prefix_walked nat_eq other task (followed nat_eq other task) here list)
   prefix_agrees here own [] = (refl, own)
   prefix_agrees here own (word ∷ prefix) =
-      words_agree one other task Own alike (followed nat_eq one task) (followed nat_eq other task) follows here own prefix
+      words_agree one other task Own alike (followed nat_eq one task)
+      (followed nat_eq other task) follows here own prefix
 
   last_agrees : (here : Here ℕ) → HereAt here → (word : LastWord)
       → Agree HereAt (last_walked nat_eq one task here word) (last_walked nat_eq other task here word)
@@ -136,7 +138,8 @@ module _ (one other : Looks ℕ) (task : Task ℕ) (Own : ℕ → Type 0) (alike
   symlink_by true path = object_agrees path
   symlink_by false path =
       text_agrees HereAt path
-      (λ text. then_walk (prefix_walked nat_eq one task (followed nat_eq one task) (walk_start task text) (reverse (words text)))
+      (λ text. then_walk (prefix_walked nat_eq one task (followed nat_eq one task) (walk_start task text)
+      (reverse (words text)))
       (λ here. last_walked nat_eq one task here (final_word (reverse (words text)))))
       (λ text. then_walk (prefix_walked nat_eq other task (followed nat_eq other task) (walk_start task text)
       (reverse (words text))) (λ here. last_walked nat_eq other task here (final_word (reverse (words text)))))
@@ -172,7 +175,8 @@ module _ (one other : Looks ℕ) (task : Task ℕ) (Own : ℕ → Type 0) (alike
       by : (r : Result (Location ℕ) Deny) → IfOk r At → IfOk (and_then r (λ parent. Ok (Some parent))) FoundAt
       by (Ok parent) on = found_some parent on
       by (Err deny) on = tt
-  named_agrees here own (Named name) = (ap Ok (same_entry one other task Own alike here name own), entry_at here name own)
+  named_agrees here own (Named name) =
+      (ap Ok (same_entry one other task Own alike here name own), entry_at here name own)
 
   same_met_at : (here : Location ℕ) → Own here.mount → (word : LastWord)
       → met_at nat_eq one task here word ≡ met_at nat_eq other task here word
@@ -192,14 +196,17 @@ module _ (one other : Looks ℕ) (task : Task ℕ) (Own : ℕ → Type 0) (alike
       (placed_by (steps_at nat_eq one task here word) (search_rules nat_eq one task here.location)
       (object_named nat_eq one task here.location word) (at_place here word slash (steps_at nat_eq one task here word)))
       (placed_by (steps_at nat_eq other task here word) (search_rules nat_eq other task here.location)
-      (object_named nat_eq other task here.location word) (at_place here word slash (steps_at nat_eq other task here word)))
+      (object_named nat_eq other task here.location word)
+      (at_place here word slash (steps_at nat_eq other task here word)))
   place_by here own word slash =
       let named = named_agrees here.location own word in (
         ap (λ s. placed_by (s ∷ here.steps) (search_rules nat_eq one task here.location)
             (object_named nat_eq one task here.location word) (at_place here word slash (s ∷ here.steps)))
             (same_met_at here.location own word)
-            ∙ ap (λ r. placed_by (steps_at nat_eq other task here word) r (object_named nat_eq one task here.location word)
-            (at_place here word slash (steps_at nat_eq other task here word))) (same_search one other task Own alike here.location own)
+            ∙ ap (λ r. placed_by (steps_at nat_eq other task here word) r
+            (object_named nat_eq one task here.location word)
+            (at_place here word slash (steps_at nat_eq other task here word)))
+            (same_search one other task Own alike here.location own)
             ∙ ap (λ f. placed_by (steps_at nat_eq other task here word) (search_rules nat_eq other task here.location) f
             (at_place here word slash (steps_at nat_eq other task here word))) named.0,
         placed_own FoundAt PlaceAt (steps_at nat_eq one task here word) (search_rules nat_eq one task here.location)
@@ -217,10 +224,12 @@ module _ (one other : Looks ℕ) (task : Task ℕ) (Own : ℕ → Type 0) (alike
   place_agrees : (path : List ℕ) → Agree PlaceAt (place_walk nat_eq one task path) (place_walk nat_eq other task path)
   place_agrees path =
       text_agrees PlaceAt path
-      (λ text. then_walk (prefix_walked nat_eq one task (followed nat_eq one task) (walk_start task text) (reverse (words text)))
+      (λ text. then_walk (prefix_walked nat_eq one task (followed nat_eq one task) (walk_start task text)
+      (reverse (words text)))
       (λ here. placed nat_eq one task here (final_word (reverse (words text))) (ends_in_slash text)))
       (λ text. then_walk (prefix_walked nat_eq other task (followed nat_eq other task) (walk_start task text)
-      (reverse (words text))) (λ here. placed nat_eq other task here (final_word (reverse (words text))) (ends_in_slash text)))
+      (reverse (words text)))
+      (λ here. placed nat_eq other task here (final_word (reverse (words text))) (ends_in_slash text)))
       (λ text. then_agree HereAt PlaceAt
       (prefix_walked nat_eq one task (followed nat_eq one task) (walk_start task text) (reverse (words text)))
       (prefix_walked nat_eq other task (followed nat_eq other task) (walk_start task text) (reverse (words text)))
@@ -229,7 +238,8 @@ module _ (one other : Looks ℕ) (task : Task ℕ) (Own : ℕ → Type 0) (alike
       (prefix_agrees (walk_start task text) (start_at text) (reverse (words text)))
       (λ here own. placed_agrees here own (final_word (reverse (words text))) (ends_in_slash text)))
 
-  same_new_name : (place : Place ℕ) → PlaceAt place → new_name_rules nat_eq one place ≡ new_name_rules nat_eq other place
+  same_new_name : (place : Place ℕ) → PlaceAt place
+      → new_name_rules nat_eq one place ≡ new_name_rules nat_eq other place
   same_new_name place at =
       ap (λ b. (not (is_some place.object) && b, W8) ∷ []) (removed place.parent at.0)
 
@@ -259,11 +269,7 @@ module _ (one other : Looks ℕ) (task : Task ℕ) (Own : ℕ → Type 0) (alike
 
   pub same_directory_there : (place : Place ℕ) → PlaceAt place
       → is_directory_there nat_eq one place ≡ is_directory_there nat_eq other place
-  same_directory_there place at = by place.object at.1
-    where
-      by : (o : Option (Location ℕ)) → FoundAt o → holds_of (is_directory_at one) o ≡ holds_of (is_directory_at other) o
-      by None f = refl
-      by (Some object) f = ap is_directory_node (alike.node object (f object refl))
+  same_directory_there place at = grind (arith, common_steps)
 
   pub old_leaf_agrees : (path : List ℕ)
       → Agree PlaceAt (old_leaf_walk nat_eq one task path) (old_leaf_walk nat_eq other task path)
@@ -286,7 +292,8 @@ module _ (one other : Looks ℕ) (task : Task ℕ) (Own : ℕ → Type 0) (alike
 
   -- Mounts
 
-  pub source_agrees : (path : List ℕ) → Agree HereAt (source_walk nat_eq one task path) (source_walk nat_eq other task path)
+  pub source_agrees : (path : List ℕ)
+      → Agree HereAt (source_walk nat_eq one task path) (source_walk nat_eq other task path)
   source_agrees path =
       then_agree HereAt HereAt (directory_walk nat_eq one task path) (directory_walk nat_eq other task path)
       (λ here. walk_unless here.steps ((one.is_removed here.location, W8) ∷ []) here)
@@ -299,32 +306,31 @@ module _ (one other : Looks ℕ) (task : Task ℕ) (Own : ℕ → Type 0) (alike
   destination_agrees path =
       then_agree HereAt HereAt (source_walk nat_eq one task path) (source_walk nat_eq other task path)
       (λ here. walk_unless here.steps ((one.is_removed (topmost one here.location), W8) ∷ []) (at_topmost one here))
-      (λ here. walk_unless here.steps ((other.is_removed (topmost other here.location), W8) ∷ []) (at_topmost other here))
+      (λ here. walk_unless here.steps ((other.is_removed (topmost other here.location), W8) ∷ [])
+      (at_topmost other here))
       (source_agrees path)
       (λ here own.
       let top : Own (topmost one here.location).mount = own_topmost one other task Own alike here.location own in (
         ap (λ b. walk_unless here.steps ((b, W8) ∷ []) (at_topmost one here)) (removed (topmost one here.location) top)
             ∙ ap (λ l. walk_unless here.steps ((other.is_removed l, W8) ∷ []) (record here { location = l }))
             (same_topmost one other task Own alike here.location own),
-        unless_agree HereAt here.steps ((one.is_removed (topmost one here.location), W8) ∷ []) (at_topmost one here) top,
+        unless_agree HereAt here.steps ((one.is_removed (topmost one here.location), W8) ∷ [])
+            (at_topmost one here) top,
       ))
 
   -- Files that are opened or made
 
-  same_symlink_there : (place : Place ℕ) → PlaceAt place → symlink_there nat_eq one place ≡ symlink_there nat_eq other place
-  same_symlink_there place at = by place.object at.1
-    where
-      by : (o : Option (Location ℕ)) → FoundAt o
-          → then_some o (λ object. symlink_text (one.node object)) ≡ then_some o (λ object. symlink_text (other.node object))
-      by None f = refl
-      by (Some object) f = ap symlink_text (alike.node object (f object refl))
+  same_symlink_there : (place : Place ℕ) → PlaceAt place
+      → symlink_there nat_eq one place ≡ symlink_there nat_eq other place
+  same_symlink_there place at = grind (arith, common_steps)
 
   abbrev mounts_entered : Looks ℕ → Bool → Option (Location ℕ) → List (Location ℕ)
   mounts_entered looks special o = cond special [] (flat_map looks.mounts_over (option_to_list o))
 
   entered_by : (special : Bool) (o : Option (Location ℕ)) → FoundAt o
       → (option_map (topmost one) o ≡ option_map (topmost other) o)
-      × (filesystems_of nat_eq one (mounts_entered one special o) ≡ filesystems_of nat_eq other (mounts_entered other special o))
+      × (filesystems_of nat_eq one (mounts_entered one special o)
+      ≡ filesystems_of nat_eq other (mounts_entered other special o))
       × FoundAt (option_map (topmost one) o)
   entered_by true None f = (refl, refl, found_none)
   entered_by false None f = (refl, refl, found_none)
@@ -358,7 +364,8 @@ module _ (one other : Looks ℕ) (task : Task ℕ) (Own : ℕ → Type 0) (alike
           object = o;
           steps = all_met (filesystems_of nat_eq one (entered_mounts nat_eq one place)) place.steps;
         }) by.0
-            ∙ ap (λ f. record place { object = option_map (topmost other) place.object; steps = all_met f place.steps }) by.1,
+            ∙ ap (λ f. record place
+            { object = option_map (topmost other) place.object; steps = all_met f place.steps }) by.1,
         (at.0, by.2),
       )
 
@@ -394,7 +401,8 @@ module _ (one other : Looks ℕ) (task : Task ℕ) (Own : ℕ → Type 0) (alike
   )
 
   file_agrees_at : (depth : ℕ) (start : Here ℕ) → HereAt start → (text : List ℕ) (slash : Bool)
-      → Agree PlaceAt (file_walked nat_eq depth one task start text slash) (file_walked nat_eq depth other task start text slash)
+      → Agree PlaceAt (file_walked nat_eq depth one task start text slash)
+      (file_walked nat_eq depth other task start text slash)
   file_agrees_at zero start own text slash = (refl, tt)
   file_agrees_at (suc depth) start own text slash =
       then_agree HereAt PlaceAt
@@ -408,9 +416,13 @@ module _ (one other : Looks ℕ) (task : Task ℕ) (Own : ℕ → Type 0) (alike
       (at_last one here) (at_last other here)
       (placed_agrees here at (final_word (reverse (words text))) (slash || ends_in_slash text))
       (λ place stands.
-      let by = by_symlink here at place stands (λ next inner on. file_agrees_at depth next on inner (slash || ends_in_slash text))
-      (symlink_there nat_eq one place) in
-      (by.0 ∙ ap (λ o. file_or_symlink nat_eq other place o (next_text other here place)) (same_symlink_there place stands), by.1)))
+      let by = by_symlink here at place stands
+      (λ next inner on. file_agrees_at depth next on inner (slash || ends_in_slash text))
+      (symlink_there nat_eq one place) in (
+        by.0 ∙ ap (λ o. file_or_symlink nat_eq other place o (next_text other here place))
+            (same_symlink_there place stands),
+        by.1,
+      )))
     where
       next_text : Looks ℕ → Here ℕ → Place ℕ → List ℕ → Result (Place ℕ) (Stop ℕ)
       next_text looks here place inner =
@@ -419,7 +431,8 @@ module _ (one other : Looks ℕ) (task : Task ℕ) (Own : ℕ → Type 0) (alike
           (λ next. file_walked nat_eq depth looks task next inner (slash || ends_in_slash text))
 
       at_last : Looks ℕ → Here ℕ → Place ℕ → Result (Place ℕ) (Stop ℕ)
-      at_last looks here place = file_or_symlink nat_eq looks place (symlink_there nat_eq looks place) (next_text looks here place)
+      at_last looks here place =
+          file_or_symlink nat_eq looks place (symlink_there nat_eq looks place) (next_text looks here place)
 
       after : Looks ℕ → Here ℕ → Result (Place ℕ) (Stop ℕ)
       after looks here =
@@ -459,5 +472,6 @@ module _ (one other : Looks ℕ) (task : Task ℕ) (Own : ℕ → Type 0) (alike
       (λ place. walk_unless place.steps (new_name_rules nat_eq one place) place)
       (λ place. walk_unless place.steps (new_name_rules nat_eq other place) place)
       (file_agrees_at (most_symlinks + 1) (walk_start task text) (start_at text) text false)
-      (λ place at. unless_same PlaceAt place.steps (new_name_rules nat_eq one place) (new_name_rules nat_eq other place) place
+      (λ place at. unless_same PlaceAt place.steps (new_name_rules nat_eq one place)
+      (new_name_rules nat_eq other place) place
       (same_new_name place at) at))

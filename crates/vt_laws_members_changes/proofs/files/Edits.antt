@@ -1,5 +1,5 @@
 -- What calls that write and that set attributes are granted: an edit of a file on a mount of theirs.
-use Rattle.std.proofs.Common.{◌≡◌, refl, sym, ap, ◌∙◌, ℕ, nat_eq, eqb-true, Bool, true, false, cond, List, [], ◌∷◌, Option, Some, None, Ok, flat_map, length, map}
+use Rattle.std.proofs.Common.{◌≡◌, refl, ℕ, nat_eq, eqb-true, Bool, true, false, cond, List, [], ◌∷◌, Option, Some, None, Ok, flat_map, length}
 use Rattle.std.specs.Prelude.{⊤, IfOk, nat_lt}
 use Rattle.vt_spec.specs.declared.attributes.Attr.{Attr}
 use Rattle.vt_spec.specs.declared.errors.Rule.TheVariants.{E6}

@@ -4,7 +4,7 @@ use Rattle.std.specs.List.{list_all}
 use Rattle.vt_spec.specs.FileTree.{FileTree}
 use Rattle.vt_spec.specs.Lists.{is_among}
 use Rattle.vt_spec.specs.Machine.Filesystems.{with_files}
-use Rattle.vt_spec.specs.Machine.Settled.{filesystem_lives, named_in, objects_of_overlay, without_dead_filesystems}
+use Rattle.vt_spec.specs.Machine.Settled.{filesystem_lives, named_in, objects_of_overlay}
 use Rattle.vt_spec.specs.Machine.World.{Filesystem, World, is_overlay, replaced_if_numbered}
 use Rattle.vt_laws_letting_go.specs.InUse.{AllInUse, FilesystemsInUse}
 use Rattle.vt_laws_letting_go.specs.OneByOne.{AllInUseBut, FilesystemsInUseBut, GroupsInUseBut, InodesInUseBut, Losers, is_inode_among}

@@ -12,7 +12,7 @@ use Rattle.vt_spec.specs.Machine.Mounts.Propagation.{Private, Shared, Slave, Unb
 use Rattle.vt_spec.specs.Machine.Namespaces.{has_tasks, namespaces_ended}
 use Rattle.vt_spec.specs.Machine.Policy.{numbers_raised}
 use Rattle.vt_spec.specs.Machine.Outcomes.{granted}
-use Rattle.vt_spec.specs.Machine.Receives.{has_members, is_lost_group, is_member_of, lost_a_group, regrouped_by}
+use Rattle.vt_spec.specs.Machine.Receives.{has_members, is_lost_group, is_member_of, lost_a_group}
 use Rattle.vt_spec.specs.Machine.Sealed.{is_member_task, is_own_mount, members, own_mounts, part_of}
 use Rattle.vt_spec.specs.Machine.Settled.{settled}
 use Rattle.vt_spec.specs.Machine.World.{Namespace, Task, World, locations_of, task_called}

@@ -1,5 +1,5 @@
 -- What nothing uses goes, and what a set of tasks sees of that is made from its part alone.
-use Rattle.std.proofs.Common.{◌≡◌, refl, sym, ap, subst, ◌∙◌, ℕ, nat_eq, Bool, true, false, cond, List, None, is_some, not}
+use Rattle.std.proofs.Common.{◌≡◌, refl, sym, ap, subst, ℕ, nat_eq, Bool, true, false, cond, List, None, is_some, not}
 use Rattle.std.specs.List.{list_any}
 use Rattle.vt_spec.specs.Language.Calls.{TaskName}
 use Rattle.vt_spec.specs.Machine.Receives.{has_members, is_member_of}

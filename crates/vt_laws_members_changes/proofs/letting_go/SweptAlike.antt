@@ -1,5 +1,5 @@
 -- The sweep leaves a set one part in the world and in the part of a sealed set, where tasks let locations go.
-use Rattle.std.proofs.Common.{◌≡◌, sym, ap, ◌∙◌, ℕ, nat_eq, true, List, filter}
+use Rattle.std.proofs.Common.{◌≡◌, ℕ, nat_eq, true, List, filter}
 use Rattle.vt_spec.specs.Language.Calls.{TaskName}
 use Rattle.vt_spec.specs.Machine.Invariants.{IsWorld}
 use Rattle.vt_spec.specs.Machine.Sealed.{is_member_task, own_lowers, part_of, sealed, used_filesystems}
@@ -9,7 +9,7 @@ use Rattle.vt_spec.proofs.Lists.{Among}
 use Rattle.vt_laws_members_changes.proofs.letting_go.Changed.{LetsGo, sees_less}
 use Rattle.vt_laws_members_changes.proofs.letting_go.PartReady.{part_ready}
 use Rattle.vt_laws_members_changes.proofs.letting_go.SeeLess.{part_of_less}
-use Rattle.vt_laws_members_changes.proofs.letting_go.Sweep.{part_of_settled, swept_of}
+use Rattle.vt_laws_members_changes.proofs.letting_go.Sweep.{part_of_settled}
 use Rattle.vt_laws_members_changes.proofs.letting_go.WorldReady.{world_ready}
 
 module _ (world : World ℕ) (names set : List TaskName) (is : IsWorld nat_eq world)

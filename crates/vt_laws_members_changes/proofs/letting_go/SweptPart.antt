@@ -15,13 +15,14 @@ use Rattle.vt_laws_letting_go.proofs.sweeps.OfWorlds.{found_filesystem}
 use Rattle.vt_laws_mounts.specs.Mounts.Invariants.{OneNumberEach}
 use Rattle.vt_laws_part.proofs.Kept.{filter_map_map, filter_map_same}
 use Rattle.vt_laws_part.proofs.part.PartOfPart.{same_used}
-use Rattle.vt_laws_sealed.proofs.outsiders.InodesSwept.{cut_layers, cut_number, cut_overlay}
+use Rattle.vt_laws_sealed.proofs.outsiders.InodesSwept.{cut_layers, cut_overlay}
 use Rattle.vt_laws_sealed.proofs.outsiders.SeenLater.{lower_of}
 use Rattle.vt_laws_members_changes.proofs.letting_go.CutAgain.{cut_still, cut_to, lies_under, named_there}
 use Rattle.vt_laws_members_changes.proofs.letting_go.Gone.{sees_itself}
 use Rattle.vt_laws_members_changes.proofs.letting_go.Ready.{AllNamed, Alone, IsCut, OverlaysMounted, Ready}
 use Rattle.vt_laws_members_changes.proofs.letting_go.UsedAlike.{lower_plain, used, used_alike}
 use Rattle.vt_laws_members_changes.proofs.letting_go.UsedAlike.IsUsed.{as_root, by_layer, by_name}
+use Rattle.vt_spec.proofs.Worlds.{number-only_used}
 
 -- The inodes that pass a test
 abbrev only_by : Bool → (ℕ → Bool) → Filesystem ℕ → Filesystem ℕ
@@ -149,7 +150,7 @@ module _ (a : World ℕ) (set : List TaskName) (used_now : List ℕ) (lowers : L
           → g (unwrap_or (find (λ (f : Filesystem ℕ). nat_eq n f.number) (map sweep list)) (no_filesystem n))
           ≡ g (unwrap_or (find (λ (f : Filesystem ℕ). nat_eq n f.number) list) (no_filesystem n))
       search [] = refl
-      search (x ∷ rest) = cc (cut_number a (chosen x) x, by (nat_eq n x.number) (search rest))
+      search (x ∷ rest) = cc (number-only_used a (chosen x) x, by (nat_eq n x.number) (search rest))
         where
           by : (b : Bool)
               → g (unwrap_or (find (λ (f : Filesystem ℕ). nat_eq n f.number) (map sweep rest)) (no_filesystem n))
@@ -184,8 +185,8 @@ module _ (a : World ℕ) (set : List TaskName) (used_now : List ℕ) (lowers : L
   one_swept =
       pair-map (λ (x y : Filesystem ℕ). nat_eq x.number y.number) (λ (x y : Filesystem ℕ). nat_eq x.number y.number)
       sweep a.filesystems
-      (λ x y m n e. ap (λ k. nat_eq k (sweep y).number) (cut_number a (chosen x) x)
-      ∙ ap (nat_eq x.number) (cut_number a (chosen y) y) ∙ e)
+      (λ x y m n e. ap (λ k. nat_eq k (sweep y).number) (number-only_used a (chosen x) x)
+      ∙ ap (nat_eq x.number) (number-only_used a (chosen y) y) ∙ e)
       it.one_filesystem
 
   abbrev has_lower : List (Layer ℕ) → ℕ → Bool
@@ -217,7 +218,7 @@ module _ (a : World ℕ) (set : List TaskName) (used_now : List ℕ) (lowers : L
       (found_filesystem swept.filesystems one_swept (sweep x) (among-map sweep a.filesystems x m))
       ∙ ap (λ u. shown_with (sweep x).number u (own_lowers nat_eq swept set) (sweep x).files (sweep x)) used_swept
       ∙ ap (λ l. shown_with (sweep x).number used_now l (sweep x).files (sweep x)) lowers_swept
-      ∙ ap (λ n. shown_with n used_now lowers (sweep x).files (sweep x)) (cut_number a (chosen x) x)
+      ∙ ap (λ n. shown_with n used_now lowers (sweep x).files (sweep x)) (number-only_used a (chosen x) x)
 
   -- a tree that is shown by lower layers alone loses nothing that is shown
   module _ (x : Filesystem ℕ) (m : Among x a.filesystems) (unused : uses x.number ≡ false)
@@ -335,7 +336,7 @@ module _ (a : World ℕ) (set : List TaskName) (used_now : List ℕ) (lowers : L
           let none = alone.overlays from.0 from.1
           (layered_was n from.0 (subst (λ f. has_layer_on nat_eq n f ≡ true) from.2 has)) in
           let same : from.0.number ≡ y.number =
-          sym (ap (λ (f : Filesystem ℕ). f.number) from.2 ∙ cut_number a (chosen from.0) from.0) in
+          sym (ap (λ (f : Filesystem ℕ). f.number) from.2 ∙ number-only_used a (chosen from.0) from.0) in
           record {
             mounts = λ k n e. none.mounts k n (e ∙ sym same);
             locations = λ l n e. none.locations l n (e ∙ sym same);
@@ -347,7 +348,7 @@ module _ (a : World ℕ) (set : List TaskName) (used_now : List ℕ) (lowers : L
     free_swept y m u =
         let from = was y m in
         let same : y.number ≡ from.0.number =
-        ap (λ (f : Filesystem ℕ). f.number) from.2 ∙ cut_number a (chosen from.0) from.0 in
+        ap (λ (f : Filesystem ℕ). f.number) from.2 ∙ number-only_used a (chosen from.0) from.0 in
         ⊎_elim
         (λ alone. inl (subst (Alone swept set) (sym same) (alone_swept from.0.number alone)))
         (λ named. inr (subst AllNamed (sym (from.2 ∙ stays from.0 named (chosen from.0))) named))
@@ -363,7 +364,7 @@ module _ (a : World ℕ) (set : List TaskName) (used_now : List ℕ) (lowers : L
         let one = was y m in
         let two = was merged n in
         let same : y.number ≡ one.0.number =
-        ap (λ (f : Filesystem ℕ). f.number) one.2 ∙ cut_number a (chosen one.0) one.0 in
+        ap (λ (f : Filesystem ℕ). f.number) one.2 ∙ number-only_used a (chosen one.0) one.0 in
         let flat = it.plain one.0 two.0 one.1 two.1
         (layered_was one.0.number two.0 (subst (λ f. has_layer_on nat_eq one.0.number f ≡ true) two.2
         (subst (λ k. has_layer_on nat_eq k merged ≡ true) same has))) in
@@ -374,7 +375,7 @@ module _ (a : World ℕ) (set : List TaskName) (used_now : List ℕ) (lowers : L
     cut_swept y m unused low =
         let from = was y m in
         let same : y.number ≡ from.0.number =
-        ap (λ (f : Filesystem ℕ). f.number) from.2 ∙ cut_number a (chosen from.0) from.0 in
+        ap (λ (f : Filesystem ℕ). f.number) from.2 ∙ number-only_used a (chosen from.0) from.0 in
         let unused_too = ap uses (sym same) ∙ unused in
         let low_too = ap (has_lower lowers) (sym same) ∙ low in
         subst (λ (f : Filesystem ℕ). IsCut f.number lowers f.files)
@@ -400,7 +401,7 @@ module _ (a : World ℕ) (set : List TaskName) (used_now : List ℕ) (lowers : L
     swept_mounted y m over =
         let from = was y m in
         let same : y.number ≡ from.0.number =
-        ap (λ (f : Filesystem ℕ). f.number) from.2 ∙ cut_number a (chosen from.0) from.0 in
+        ap (λ (f : Filesystem ℕ). f.number) from.2 ∙ number-only_used a (chosen from.0) from.0 in
         ap (is_mounted nat_eq a) same
         ∙ mounted from.0 from.1
         (sym (cut_overlay a (chosen from.0) from.0) ∙ sym (ap is_overlay from.2) ∙ over)

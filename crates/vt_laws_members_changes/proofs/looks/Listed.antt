@@ -1,8 +1,7 @@
 -- The list of mounts of a namespace of theirs is the same in the part.
-use Rattle.std.proofs.Common.{◌≡◌, refl, sym, ap, ◌∙◌, ⊎_elim, ℕ, nat_eq, Bool, true, cond, List, ◌∷◌, Option, Some, None, map, eq-eqb}
+use Rattle.std.proofs.Common.{◌≡◌, refl, sym, ap, ◌∙◌, ⊎_elim, ℕ, nat_eq, Bool, true, List, ◌∷◌, Option, Some, None, map, eq-eqb}
 use Rattle.std.specs.Prelude.{option_map, option_to_list}
 use Rattle.vt_spec.specs.Language.Answers.{Spot}
-use Rattle.vt_spec.specs.Language.Answers.TypeLine.{SharedLine}
 use Rattle.vt_spec.specs.Language.Calls.{TaskName}
 use Rattle.vt_spec.specs.Lists.{each_once, holds_of, is_among}
 use Rattle.vt_spec.specs.Machine.Invariants.{IsWorld}
@@ -12,7 +11,7 @@ use Rattle.vt_spec.specs.Machine.Mounts.{Location, Mount, Propagation, group_of}
 use Rattle.vt_spec.specs.Machine.Mounts.Propagation.{Private, Shared, Slave, Unbindable}
 use Rattle.vt_spec.specs.Machine.Receives.{is_member_of}
 use Rattle.vt_spec.specs.Machine.Sealed.{is_own_mount, members, own_mounts, part_of, used_filesystems}
-use Rattle.vt_spec.specs.Machine.World.{Filesystem, Task, World, files_at, filesystem_numbered, is_overlay, mount_at, mounts_of}
+use Rattle.vt_spec.specs.Machine.World.{Task, World, filesystem_numbered, is_overlay, mounts_of}
 use Rattle.vt_spec.proofs.Lists.{Among, among-filter, among-from_filter, any_from_among, map_alike}
 use Rattle.vt_laws_letting_go.proofs.Lists.{flat_map_alike}
 use Rattle.vt_laws_part.proofs.Kept.{filter_kept}

@@ -15,7 +15,7 @@ use Rattle.vt_spec.specs.Machine.Permits.{Permit}
 use Rattle.vt_spec.specs.Machine.Permits.Permit.{Allowed, ToList, ToListMounts, ToRead, ToReadPart, ToStat}
 use Rattle.vt_spec.specs.Machine.Policy.{call_outcome, filesystems_changed_by, finished, finished_by, policy}
 use Rattle.vt_spec.specs.Machine.Sealed.{is_member_task, locations, members, part_of, sealed}
-use Rattle.vt_spec.specs.Machine.World.{Filesystem, Task, World, filesystem_numbered, mount_at, node_at, task_called}
+use Rattle.vt_spec.specs.Machine.World.{Task, World, mount_at, node_at, task_called}
 use Rattle.vt_spec.specs.Tree.{bytes_in, names_in}
 use Rattle.vt_spec.proofs.Found.{found_among, found_passes}
 use Rattle.vt_spec.proofs.Lists.{Among, among-filter, contains_from_among}

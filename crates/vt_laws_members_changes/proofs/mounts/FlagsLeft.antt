@@ -2,7 +2,7 @@
 use Rattle.std.proofs.Common.{◌≡◌, refl, sym, ap, subst, ◌∙◌, ⊎_elim, ℕ, nat_eq, Bool, true, false, cond, List, [], ◌∷◌, Option, Some, None, filter, map, ◌&&◌}
 use Rattle.std.specs.List.{list_any}
 use Rattle.vt_spec.specs.Language.Calls.{MountFlags, TaskName, same_name}
-use Rattle.vt_spec.specs.Lists.{holds_of, is_among, same_list, same_option, then_some}
+use Rattle.vt_spec.specs.Lists.{holds_of, is_among, same_option, then_some}
 use Rattle.vt_spec.specs.Machine.Filesystems.{raised, raised_if_changed}
 use Rattle.vt_spec.specs.Machine.Invariants.{IsWorld}
 use Rattle.vt_spec.specs.Machine.Mounts.{Mount, replaced_if_same, same_location, source_of}

@@ -1,5 +1,5 @@
 -- Calls of theirs by which a name comes or goes on a plain filesystem end in the part as in the world.
-use Rattle.std.proofs.Common.{◌≡◌, refl, sym, ap, subst, ◌∙◌, ℕ, suc, nat_eq, eqb-true, arith, Bool, true, false, List, [], ◌∷◌, Some, Ok, ◌+◌, ◌||◌, ◌≤◌}
+use Rattle.std.proofs.Common.{◌≡◌, refl, sym, ap, subst, ◌∙◌, ℕ, suc, nat_eq, eqb-true, arith, Bool, true, false, List, [], ◌∷◌, Some, Ok, ◌+◌, ◌≤◌}
 use Rattle.std.specs.Prelude.{⊤}
 use Rattle.vt_spec.specs.Language.Answers.Answer.{Done}
 use Rattle.vt_spec.specs.Language.Calls.{Call, TaskName}

@@ -1,11 +1,10 @@
 -- The sweep after one plain tree changed: of its inodes those go that nothing uses, and nothing else goes.
 use Rattle.std.proofs.Common.{◌≡◌, refl, sym, ap, subst, ◌∙◌, ℕ, nat_eq, Bool, true, false, cond, List, [], not, ◌||◌}
-use Rattle.std.specs.Prelude.{option_map}
 use Rattle.std.specs.List.{list_all}
 use Rattle.vt_spec.specs.FileTree.{FileTree}
 use Rattle.vt_spec.specs.Lists.{is_among}
 use Rattle.vt_spec.specs.Machine.Filesystems.{with_files}
-use Rattle.vt_spec.specs.Machine.Settled.{filesystem_lives, only_among, only_used, only_used_by, only_used_of, real_among, settled, used_in, without_dead_filesystems, without_dead_groups, without_dead_in, without_dead_inodes}
+use Rattle.vt_spec.specs.Machine.Settled.{filesystem_lives, only_used, only_used_by, only_used_of, settled, used_in, without_dead_filesystems, without_dead_in}
 use Rattle.vt_spec.specs.Machine.World.{Filesystem, World, is_overlay, replaced_if_numbered}
 use Rattle.vt_spec.proofs.Lists.{map_alike, map_twice}
 use Rattle.vt_laws_letting_go.specs.InUse.{AllInUse, FilesystemsInUse, is_inode_used}

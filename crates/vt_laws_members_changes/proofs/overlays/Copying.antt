@@ -8,7 +8,7 @@ use Rattle.vt_spec.specs.Language.Changes.{Change}
 use Rattle.vt_spec.specs.Language.Changes.Change.{AddName, CopyUp, Make, Move, Remove, SetAttr, SetBytes, SetMark}
 use Rattle.vt_spec.specs.Lists.{Fresh, is_among}
 use Rattle.vt_spec.specs.Machine.CopyUp.{Merge, Stack, merge_changed}
-use Rattle.vt_spec.specs.Machine.Filesystems.{changed_at, raised, raised_if_changed, filesystem_changed, numbers_of_change, numbers_over, overlay_changed, stack_of, with_change, with_files}
+use Rattle.vt_spec.specs.Machine.Filesystems.{changed_at, raised, raised_if_changed, filesystem_changed, overlay_changed, stack_of, with_change, with_files}
 use Rattle.vt_spec.specs.Machine.Invariants.{IsWorld}
 use Rattle.vt_spec.specs.Machine.Locked.{of_overlay, overlay_or}
 use Rattle.vt_spec.specs.Machine.Mounts.{Location}

@@ -9,8 +9,8 @@ use Rattle.vt_spec.specs.Machine.Invariants.{IsWorld}
 use Rattle.vt_spec.specs.Machine.Locked.{lies_in_layer, of_overlay}
 use Rattle.vt_spec.specs.Machine.Receives.{has_members, is_member_of}
 use Rattle.vt_spec.specs.Machine.Sealed.{is_own_mount, lies_in_own_lower, members, own_lowers, own_mounts, part_of, part_of_filesystem, part_of_lower, part_of_mount, sealed, used_directly, used_filesystems}
-use Rattle.vt_spec.specs.Machine.Settled.{filesystem_lives, layers_in, located_in, mount_lives, named_in, objects_of_overlay, only_used, only_used_by, only_used_of, settled, used_in, without_dead_filesystems, without_dead_groups, without_dead_in, without_dead_inodes, without_dead_mounts}
-use Rattle.vt_spec.specs.Machine.World.{Filesystem, Layer, World, filesystem_numbered, is_overlay, layers_of, with_mounts}
+use Rattle.vt_spec.specs.Machine.Settled.{filesystem_lives, layers_in, located_in, mount_lives, named_in, objects_of_overlay, only_used, only_used_by, only_used_of, settled, used_in, without_dead_filesystems, without_dead_groups, without_dead_in, without_dead_mounts}
+use Rattle.vt_spec.specs.Machine.World.{Filesystem, Layer, World, filesystem_numbered, is_overlay, layers_of}
 use Rattle.vt_spec.proofs.Lists.{Among, all_from_among, among-append_left, among-filter, among-filter_map, among-flat_map, among-from_filter, among-from_filter_map, among-map, among_from_contains, among_numbers, any_among, any_from_among, is_among_numbers, list_all_from_among, map_same}
 use Rattle.vt_laws_letting_go.specs.InUse.{AllInUse, is_inode_used}
 use Rattle.vt_laws_part.specs.Parts.{SeesTheSame, shown_of}

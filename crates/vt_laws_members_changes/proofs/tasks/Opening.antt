@@ -1,5 +1,5 @@
 -- An open of a file that is there, and is not copied up, ends in the part as in the world.
-use Rattle.std.proofs.Common.{◌≡◌, refl, sym, ap, subst, ◌∙◌, ◌⊎◌, inl, inr, ⊎_elim, ℕ, nat_eq, Bool, true, false, cond, true≢false, List, [], ◌∷◌, ◌++◌, Option, Some, None, Ok, filter, map, ◌&&◌, ◌||◌}
+use Rattle.std.proofs.Common.{◌≡◌, refl, sym, ap, subst, ◌∙◌, ◌⊎◌, inl, inr, ⊎_elim, ℕ, nat_eq, Bool, true, false, cond, true≢false, List, [], ◌∷◌, ◌++◌, Option, Some, None, Ok, filter, map, ◌||◌}
 use Rattle.std.specs.Prelude.{⊤, IfOk, nat_lt}
 use Rattle.std.specs.List.{list_any}
 use Rattle.vt_spec.specs.Errors.{unless}
@@ -10,10 +10,9 @@ use Rattle.vt_spec.specs.Language.Calls.Creation.{Exclusive, NoCreation, OrCreat
 use Rattle.vt_spec.specs.Lists.{Fresh, holds_of, is_among, when}
 use Rattle.vt_spec.specs.Machine.Apply.{changed_if}
 use Rattle.vt_spec.specs.Machine.Descriptors.{free_number, inserted, is_copied_up, opened, with_copy, with_descriptor}
-use Rattle.vt_spec.specs.Machine.Filesystems.{lies_only_in_lowers, raised}
+use Rattle.vt_spec.specs.Machine.Filesystems.{raised}
 use Rattle.vt_spec.specs.Machine.Invariants.{IsWorld}
 use Rattle.vt_spec.specs.Machine.Judge.{create_file_permit, open_by_permit, open_file_permit, open_new_permit, open_permit, opened_or_created_permit, unnumbered}
-use Rattle.vt_spec.specs.Machine.Locked.{overlay_or}
 use Rattle.vt_spec.specs.Machine.Looks.{Looks, looks_of}
 use Rattle.vt_spec.specs.Machine.Mounts.{Location, Mount}
 use Rattle.vt_spec.specs.Machine.Outcomes.{Outcome}
@@ -25,7 +24,7 @@ use Rattle.vt_spec.specs.Machine.Rules.Descriptors.{descriptor_rules, exclusive_
 use Rattle.vt_spec.specs.Machine.Rules.Making.{file_word_rules, make_rules}
 use Rattle.vt_spec.specs.Machine.Sealed.{is_at, is_member_task, locations, members, part_of, roots_and_directories, seen_by_descriptor, sealed, used_directly, used_filesystems}
 use Rattle.vt_spec.specs.Machine.Walking.{Here, Place, file_walk, new_walk, object_walk}
-use Rattle.vt_spec.specs.Machine.World.{Descriptor, Filesystem, Task, World, locations_of, mount_at, replaced_if_called, task_called}
+use Rattle.vt_spec.specs.Machine.World.{Descriptor, Task, World, locations_of, mount_at, replaced_if_called, task_called}
 use Rattle.vt_spec.proofs.Found.{found_among}
 use Rattle.vt_spec.proofs.Lists.{Among, among-append, among-append_left, among-append_right, among-flat_map, among-from_filter, among-from_flat_map, among-from_map, among-map, any_among, any_from_among, map_twice}
 use Rattle.vt_spec.proofs.Truths.{same_truth}

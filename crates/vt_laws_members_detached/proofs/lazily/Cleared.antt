@@ -1,10 +1,9 @@
 -- Worlds that differ in the masters of groups without members have the same invariants of mounts, and the same goes.
-use Rattle.std.proofs.Common.{◌≡◌, refl, sym, ap, ◌∙◌, ℕ, zero, suc, nat_eq, Bool, true, false, cond, [], ◌∷◌, Option, Some, None, length, map}
+use Rattle.std.proofs.Common.{◌≡◌, refl, sym, ap, ◌∙◌, ℕ, zero, suc, nat_eq, Bool, true, false, cond, [], ◌∷◌, Option, Some, None, length}
 use Rattle.std.specs.Prelude.{option_map, unwrap_or}
-use Rattle.std.specs.List.{filter_map}
 use Rattle.vt_spec.specs.Lists.{chain, holds_of, is_among}
 use Rattle.vt_spec.specs.Machine.Attach.{receivers_of}
-use Rattle.vt_spec.specs.Machine.Detach.{going, going_at, going_from, goes_at}
+use Rattle.vt_spec.specs.Machine.Detach.{going, going_at, going_from}
 use Rattle.vt_spec.specs.Machine.Invariants.{HasLivingGroups, Lives, MountInvariants, Stands}
 use Rattle.vt_spec.specs.Machine.Invariants.Lives.{has_master, has_no_master}
 use Rattle.vt_spec.specs.Machine.Mounts.{Location, Mount, group_of, is_shared, source_of}

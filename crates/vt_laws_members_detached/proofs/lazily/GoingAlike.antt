@@ -8,7 +8,7 @@ use Rattle.std.proofs.lemmas.Option.{same_Some}
 use Rattle.vt_spec.specs.Language.Calls.{TaskName}
 use Rattle.vt_spec.specs.Lists.{holds_of, is_among, then_some, when}
 use Rattle.vt_spec.specs.Machine.Attach.{receivers_of}
-use Rattle.vt_spec.specs.Machine.Detach.{going, going_at, going_from, goes_at, may_go, only_cover}
+use Rattle.vt_spec.specs.Machine.Detach.{going, going_at, going_from, goes_at, may_go}
 use Rattle.vt_spec.specs.Machine.Invariants.{MountInvariants, is_nowhere_or_attached, is_private}
 use Rattle.vt_spec.specs.Machine.Mounts.{Location, Mount, Propagation, child_at, children, group_of, is_shared, source_of, stands_at, stands_on}
 use Rattle.vt_spec.specs.Machine.Mounts.Propagation.{Private, Shared, Slave, Unbindable}

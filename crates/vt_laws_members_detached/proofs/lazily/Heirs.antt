@@ -1,5 +1,5 @@
 -- The heir of a group, one step up the masters at a time, and where groups that live come to an end.
-use Rattle.std.proofs.Common.{◌≡◌, refl, sym, ap, ◌∙◌, true, false, zero, suc, Bool, None, Option, Some, arith, cond, find, is_some, length, not, true≢false, ℕ, nat_eq, ◌≤◌, ◌∷◌, ◌||◌}
+use Rattle.std.proofs.Common.{◌≡◌, refl, sym, ap, ◌∙◌, true, false, zero, suc, Bool, None, Option, Some, arith, cond, find, is_some, length, not, true≢false, ℕ, nat_eq, ◌≤◌, ◌||◌}
 use Rattle.std.proofs.lemmas.Bool.{not-false, not-true, or_parts}
 use Rattle.std.specs.List.{list_any}
 use Rattle.vt_spec.specs.Lists.{chain, last_or, then_some}

@@ -3,7 +3,7 @@ use Rattle.std.proofs.Common.{◌≡◌, refl, sym, ap, subst, ◌∙◌, inl, i
 use Rattle.std.specs.Prelude.{if◌then◌else◌, nat_lt, option_map}
 use Rattle.vt_spec.specs.Language.Calls.{TaskName}
 use Rattle.vt_spec.specs.Lists.{chain, folded}
-use Rattle.vt_spec.specs.Machine.Detach.{deepest_first, depth_of, insert_deepest}
+use Rattle.vt_spec.specs.Machine.Detach.{depth_of, insert_deepest}
 use Rattle.vt_spec.specs.Machine.Invariants.{IsWorld, MountInvariants}
 use Rattle.vt_spec.specs.Machine.Mounts.{Location, Mount, children, mount_tree, stands_on, tree_from}
 use Rattle.vt_spec.specs.Machine.Sealed.{members, part_of, sealed}

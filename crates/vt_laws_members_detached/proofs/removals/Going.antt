@@ -1,16 +1,15 @@
 -- What stands on a directory of theirs goes with it: the same mounts in the world and in the part, all of them theirs.
-use Rattle.std.proofs.Common.{◌≡◌, refl, sym, ap, subst, ◌∙◌, ⊎_elim, inl, ℕ, nat_eq, eq-eqb, Bool, true, false, true≢false, List, [], ◌∷◌, Option, Some, None, filter, flat_map, length, map, ◌&&◌}
+use Rattle.std.proofs.Common.{◌≡◌, refl, sym, ap, subst, ◌∙◌, ⊎_elim, inl, ℕ, nat_eq, eq-eqb, Bool, true, false, true≢false, List, Option, Some, None, filter, flat_map, length, map, ◌&&◌}
 use Rattle.std.specs.List.{list_any}
 use Rattle.vt_spec.specs.Language.Calls.{TaskName}
 use Rattle.vt_spec.specs.Lists.{holds_of}
-use Rattle.vt_spec.specs.Machine.Detach.{is_going, is_point, mounts_on, points_of, upper_points}
+use Rattle.vt_spec.specs.Machine.Detach.{is_going, is_point, mounts_on, points_of}
 use Rattle.vt_spec.specs.Machine.Invariants.{IsWorld}
-use Rattle.vt_spec.specs.Machine.Locked.{of_overlay}
 use Rattle.vt_spec.specs.Machine.Looks.{looks_of}
 use Rattle.vt_spec.specs.Machine.Mounts.{Location, Mount, mount_tree}
 use Rattle.vt_spec.specs.Machine.Rules.Conditions.{is_mount_point_in}
 use Rattle.vt_spec.specs.Machine.Sealed.{is_own_namespace, members, part_of}
-use Rattle.vt_spec.specs.Machine.World.{Filesystem, Overlay, Task, World, mount_at, mount_numbered}
+use Rattle.vt_spec.specs.Machine.World.{Task, World, mount_at, mount_numbered}
 use Rattle.vt_spec.proofs.Lists.{Among, among-filter, among-from_filter, among-from_flat_map, among-from_map, among_numbers, any_among, any_from_among}
 use Rattle.vt_spec.proofs.Options.{none_is_some}
 use Rattle.vt_laws_letting_go.proofs.Lists.{flat_map_alike}

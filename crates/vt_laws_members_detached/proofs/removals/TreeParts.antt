@@ -16,7 +16,6 @@ use Rattle.vt_spec.specs.Machine.World.{Filesystem, Layer, Namespace, Task, Worl
 use Rattle.vt_spec.proofs.Lists.{Among, among-from_filter}
 use Rattle.vt_laws_letting_go.specs.TreesOverlays.{with_filesystems}
 use Rattle.vt_laws_part.proofs.part.PartOfPart.{is_own, same_members}
-use Rattle.vt_laws_sealed.proofs.outsiders.InodesSwept.{cut_number}
 use Rattle.vt_laws_members_changes.proofs.files.FilesChanged.{part_with_files, used_later}
 use Rattle.vt_laws_members_changes.proofs.files.FilesRaised.{swap}
 use Rattle.vt_laws_members_changes.proofs.files.OneFilesystem.{old_number, one_in_part, one_in_world}
@@ -35,6 +34,7 @@ use Rattle.vt_laws_members_changes.proofs.letting_go.SweptPart.{changes_kept}
 use Rattle.vt_laws_members_changes.proofs.letting_go.Taken.{all_last, group_lost, part_after, part_taken, set_stays, world_after, world_taken}
 use Rattle.vt_laws_members_changes.proofs.tasks.Retasked.{retasked}
 use Rattle.vt_laws_members_detached.proofs.removals.WithTree.{ready_with_tree, swap_kept, swap_numbered, swap_overlaid}
+use Rattle.vt_spec.proofs.Worlds.{number-only_used}
 
 -- a filesystem whose change number is raised is the same else
 abbrev raise : ℕ → Filesystem ℕ → Filesystem ℕ
@@ -71,9 +71,9 @@ settled_used : (w : World ℕ) (set : List TaskName) (used : List ℕ) (lowers :
     → used_filesystems nat_eq (settled nat_eq w) set ≡ used
 settled_used w set used lowers it =
     used_later merged set (λ f. only_used nat_eq merged (not (is_overlay f)) f)
-    (λ f. cut_number merged (not (is_overlay f)) f) (λ f m. changes_kept merged (not (is_overlay f)) f)
+    (λ f. number-only_used merged (not (is_overlay f)) f) (λ f m. changes_kept merged (not (is_overlay f)) f)
     ∙ used_later left set (λ f. only_used nat_eq left (is_overlay f) f)
-    (λ f. cut_number left (is_overlay f) f) (λ f m. changes_kept left (is_overlay f) f)
+    (λ f. number-only_used left (is_overlay f) f) (λ f m. changes_kept left (is_overlay f) f)
     ∙ (living_ready (without_dead_mounts nat_eq w) set used lowers it).used_are
   where
     left : World ℕ

@@ -8,7 +8,7 @@ use Rattle.vt_spec.specs.Lists.{is_among}
 use Rattle.vt_spec.specs.Machine.Filesystems.{with_files}
 use Rattle.vt_spec.specs.Machine.Locked.{overlay_or}
 use Rattle.vt_spec.specs.Machine.Settled.{has_layer_on}
-use Rattle.vt_spec.specs.Machine.World.{Filesystem, Layer, Overlay, World, layers_of}
+use Rattle.vt_spec.specs.Machine.World.{Filesystem, Layer, Overlay, World}
 use Rattle.vt_spec.proofs.Lists.{Among, among-from_map, pair-map}
 use Rattle.vt_laws_letting_go.specs.TreesOverlays.{with_filesystems}
 use Rattle.vt_laws_members_changes.proofs.files.FilesChanged.{lowers_later, used_later}

@@ -56,7 +56,8 @@ module _ (world : World ℕ) (names : List TaskName) (is : IsWorld nat_eq world)
   each_at [] = λ l m. absurd m
   each_at (path ∷ paths) =
       then_ok StandsThere (Each At) (walk_end (source_walk nat_eq (looks_of nat_eq world) task path)) _
-      (end_ok StandsThere (source_walk nat_eq (looks_of nat_eq world) task path) (at_source world names is sealed_off task member path)) (λ here on.
+      (end_ok StandsThere (source_walk nat_eq (looks_of nat_eq world) task path)
+      (at_source world names is sealed_off task member path)) (λ here on.
       then_ok (Each At) (Each At) (each_walked nat_eq (looks_of nat_eq world) task paths) _ (each_at paths)
       (λ rest all l m. ⊎_elim (λ same. subst At (sym same) on) (λ later. all l later) m))
 
@@ -66,7 +67,8 @@ module _ (world : World ℕ) (names : List TaskName) (is : IsWorld nat_eq world)
   given_at (Some path) =
       then_ok StandsThere (λ place. Each At (option_to_list place))
       (walk_end (source_walk nat_eq (looks_of nat_eq world) task path)) _
-      (end_ok StandsThere (source_walk nat_eq (looks_of nat_eq world) task path) (at_source world names is sealed_off task member path))
+      (end_ok StandsThere (source_walk nat_eq (looks_of nat_eq world) task path)
+      (at_source world names is sealed_off task member path))
       (λ here on l m. ⊎_elim (λ same. subst At (sym same) on) (λ none. absurd none) m)
 
   layers_at : (words : OverlayWords) → IfOk (layers_walked nat_eq (looks_of nat_eq world) task words) AreAt
@@ -149,7 +151,8 @@ module _ (world : World ℕ) (names : List TaskName) (is : IsWorld nat_eq world)
       → IsGranted nat_eq (looks_of nat_eq world) (overfills nat_eq fresh world task) task
       (MountOverlay path options flags) permit
       → MountsOverlay flags permit
-  mounts_overlay fresh path options flags permit (mounts_overlayfs _ words _ here places admin end walked layered passed) =
+  mounts_overlay fresh path options flags permit
+      (mounts_overlayfs _ words _ here places admin end walked layered passed) =
       let are = are_walked world task words places walked in record {
         here = here.location;
         places = places;

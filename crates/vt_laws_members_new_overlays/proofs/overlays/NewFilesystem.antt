@@ -60,7 +60,8 @@ module _ (world : World ℕ) (names : List TaskName) (is : IsWorld nat_eq world)
   unused n used = unlike n (used_unlike world names is fresh serves n used 0)
 
   abbrev pub new : Copies ℕ
-  new = copies_from nat_eq (odds fresh) (parts world names is sealed_off (new_one ∷ []) unused here here_there own) origins
+  new = copies_from nat_eq (odds fresh)
+      (parts world names is sealed_off (new_one ∷ []) unused here here_there own) origins
 
   pub shows : ShowTheirs world names is sealed_off (new_one ∷ []) unused here here_there own new false origins
   shows = record {

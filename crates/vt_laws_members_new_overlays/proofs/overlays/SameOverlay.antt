@@ -116,10 +116,12 @@ module _ (layers : List (OpenLayer ℕ)) where
       (no_names other among base (omega (arith, m)))
   paths_alike most other within among (suc n) (suc k) base l m =
       ap (λ list. base ∷ list)
-      (flat_map_alike (λ name. paths_from n layers (base ++ name ∷ [])) (λ name. paths_from k layers (base ++ name ∷ []))
+      (flat_map_alike (λ name. paths_from n layers (base ++ name ∷ []))
+      (λ name. paths_from k layers (base ++ name ∷ []))
       (names_shown layers base)
       (λ name at. let longer = length_longer base name in
-      paths_alike most other within among n k (base ++ name ∷ []) (omega (arith, l, longer)) (omega (arith, m, longer))))
+      paths_alike most other within among n k (base ++ name ∷ []) (omega (arith, l, longer))
+      (omega (arith, m, longer))))
 
   pub objects_alike : (most other : ℕ) → Bounded most → Bounded other
       → merged_objects layers most ≡ merged_objects layers other
@@ -149,7 +151,8 @@ module _ (world : World ℕ) (names : List TaskName) (is : IsWorld nat_eq world)
   in_layer layer m path object e =
       let n = layer.filesystem in
       let directory = (and_parts (not (is_overlay (filesystem_numbered nat_eq world n)))
-      (is_directory_node ((filesystem_numbered nat_eq world n).files.tree.node layer.directory)) (among_from_list_all (is_plain_layer nat_eq world) (shown_layers overlay)
+      (is_directory_node ((filesystem_numbered nat_eq world n).files.tree.node layer.directory))
+      (among_from_list_all (is_plain_layer nat_eq world) (shown_layers overlay)
       are_layers.1 layer m)).1 in
       let here = found_there world n layer.directory directory in
       let there = found_there part n layer.directory
@@ -182,7 +185,8 @@ module _ (world : World ℕ) (names : List TaskName) (is : IsWorld nat_eq world)
       by None f {layer} e l = none_is_some layer e
       by (Some plain) f {layer} e l =
           in_layer plain (slice_among (shown_layers overlay) seen.layer plain f) path seen.object
-          (ap (λ (x : OpenLayer ℕ). led x.tree x.directory path) (same_Some (open_layer nat_eq world plain) layer e) ∙ l)
+          (ap (λ (x : OpenLayer ℕ). led x.tree x.directory path) (same_Some (open_layer nat_eq world plain) layer e)
+          ∙ l)
 
   pub same_overlay : (fresh : Fresh ℕ)
       → overlay_filesystem nat_eq fresh part overlay ≡ overlay_filesystem nat_eq fresh world overlay

@@ -28,7 +28,8 @@ record LeaveAlike (set : List TaskName) (one two : Turned ℕ) : Type 0 where
   left : part_of_sched set two.sched ≡ part_of_sched set one.sched
 
 -- a set stays, where nothing is answered
-pub stays : (names : List TaskName) (name : TaskName) (first : Option Queued) → grown_after names name first None ≡ names
+pub stays : (names : List TaskName) (name : TaskName) (first : Option Queued)
+    → grown_after names name first None ≡ names
 stays names name None = refl
 stays names name (Some first) = refl
 
@@ -42,7 +43,8 @@ module _ (sched : Sched ℕ) (names : List TaskName) (name : TaskName) (is : IsW
   abbrev others : Progress ℕ → Bool
   others progress = not (same_name name progress.task)
 
-  cut : (a b : World ℕ) (queues : List Queue) (u v : List (Progress ℕ)) → part_of nat_eq b names ≡ part_of nat_eq a names
+  cut : (a b : World ℕ) (queues : List Queue) (u v : List (Progress ℕ))
+      → part_of nat_eq b names ≡ part_of nat_eq a names
       → their_calls names v ≡ their_calls names u
       → part_of_sched names (record { world = b; queues = queues; under_way = v })
       ≡ part_of_sched names (record { world = a; queues = queues; under_way = u })

@@ -20,7 +20,8 @@ module _ {A : Type 0} (kind : Mount ℕ → Propagation ℕ) (f : Mount ℕ → 
   abbrev after : Mount ℕ → Mount ℕ
   after m = record m { propagation = kind m }
 
-  kept_at : (mounts : List (Mount ℕ)) → f (mount_in nat_eq (map after mounts) number) ≡ f (mount_in nat_eq mounts number)
+  kept_at : (mounts : List (Mount ℕ))
+      → f (mount_in nat_eq (map after mounts) number) ≡ f (mount_in nat_eq mounts number)
   kept_at [] = refl
   kept_at (m ∷ rest) = by (nat_eq number m.number) (kept_at rest)
     where

@@ -1,5 +1,6 @@
 -- Events of groups of others reach no mount of a sealed set.
-use Rattle.std.proofs.Common.{◌≡◌, refl, sym, ap, subst, ◌∙◌, ◌⊎◌, inl, inr, ⊎_elim, ℕ, nat_eq, Bool, true, false, true≢false, List, Option, Some, None, is_some, length, not, ◌||◌, ◌&&◌, eq-eqb, eqb-true}
+use Rattle.std.proofs.lemmas.Grind.{common_steps}
+use Rattle.std.proofs.Common.{◌≡◌, refl, sym, ap, subst, ◌∙◌, ◌⊎◌, inl, inr, ⊎_elim, ℕ, nat_eq, Bool, true, false, true≢false, List, Option, Some, None, is_some, length, not, ◌||◌, ◌&&◌, eq-eqb, arith}
 use Rattle.std.specs.List.{list_all}
 use Rattle.std.proofs.lemmas.Bool.{and_parts, false_from_ne_true, not-true, or_left, or_right}
 use Rattle.std.proofs.lemmas.Option.{same_Some}
@@ -29,11 +30,7 @@ module _ (world : World ℕ) (names : List TaskName) (is : MountInvariants nat_e
   hears : (group : ℕ) (own member : Mount ℕ)
       → (group_of own.propagation ≡ Some group) ⊎ (master_of world own.propagation ≡ Some group)
       → is_member_of nat_eq group member ≡ true → receives_events_of nat_eq world own member ≡ true
-  hears group own member how is_in =
-      ⊎_elim
-      (λ e. or_left _ _ (ap (holds_of (λ g. is_member_of nat_eq g member)) e ∙ is_in))
-      (λ e. or_right _ _ (ap (holds_of (λ g. is_member_of nat_eq g member)) e ∙ is_in))
-      how
+  hears group own member how is_in = grind (arith, common_steps, or_left, or_right)
 
   -- no mount of another namespace is a member
   pub none_hears : (group : ℕ) (other : Mount ℕ) → Hears group → Among other (other_mounts nat_eq world names)
@@ -108,12 +105,9 @@ module _ (world : World ℕ) (names : List TaskName) (is : MountInvariants nat_e
         above_lives group lower e lives,
       )
     where
-      member_group : (g : ℕ) (mount : Mount ℕ) → is_member_of nat_eq g mount ≡ true → group_of mount.propagation ≡ Some g
-      member_group g mount h = by (group_of mount.propagation) h
-        where
-          by : (o : Option ℕ) → holds_of (nat_eq g) o ≡ true → o ≡ Some g
-          by None h = absurd (true≢false (sym h))
-          by (Some x) h = ap Some (sym (eqb-true g x h))
+      member_group : (g : ℕ) (mount : Mount ℕ) → is_member_of nat_eq g mount ≡ true
+          → group_of mount.propagation ≡ Some g
+      member_group g mount h = grind (arith, common_steps, true≢false)
 
       master_by : (kind : Propagation ℕ) → group_of kind ≡ Some lower → master_of world kind ≡ Some group
       master_by (Shared g) h = ap world.master (same_Some g lower h) ∙ e

@@ -1,7 +1,8 @@
 -- The receivers of a group of theirs are the same in the world and in the part.
-use Rattle.std.proofs.Common.{◌≡◌, refl, sym, ap, subst, ◌∙◌, ◌⊎◌, inl, inr, ⊎_elim, ℕ, suc, nat_eq, Bool, true, false, cond, true≢false, List, [], ◌∷◌, Option, Some, None, filter, is_some, length, map, not, ◌||◌, ◌&&◌, ◌≤◌, eqb-true, arith}
+use Rattle.std.proofs.lemmas.Grind.{common_steps}
+use Rattle.std.proofs.Common.{◌≡◌, refl, sym, ap, subst, ◌∙◌, ◌⊎◌, inl, inr, ⊎_elim, ℕ, nat_eq, Bool, true, false, cond, true≢false, List, [], ◌∷◌, Option, Some, None, filter, is_some, length, map, not, ◌||◌, ◌&&◌, ◌≤◌, arith}
 use Rattle.std.specs.Prelude.{unwrap_or}
-use Rattle.std.specs.List.{cons_option, filter_map, list_all, list_any}
+use Rattle.std.specs.List.{filter_map, list_all, list_any}
 use Rattle.std.proofs.lemmas.Bool.{and_parts, false_from_ne_true, not-true, or_left, or_right}
 use Rattle.std.proofs.lemmas.List.{length-map}
 use Rattle.std.proofs.lemmas.Option.{same_Some}
@@ -25,11 +26,7 @@ use Rattle.vt_laws_part.specs.Groups.{NoEventOfTheirsReachesOthers, TheirGroupsR
 use Rattle.vt_laws_part.proofs.part.PartOfPart.{is_own, keep, kept_how}
 
 pub member_group : (g : ℕ) (mount : Mount ℕ) → is_member_of nat_eq g mount ≡ true → group_of mount.propagation ≡ Some g
-member_group g mount h = by (group_of mount.propagation) h
-  where
-    by : (o : Option ℕ) → holds_of (nat_eq g) o ≡ true → o ≡ Some g
-    by None h = absurd (true≢false (sym h))
-    by (Some x) h = ap Some (sym (eqb-true g x h))
+member_group g mount h = grind (arith, common_steps, true≢false)
 
 pub master_by : (world : World ℕ) (lower group : ℕ) → world.master lower ≡ Some group → (kind : Propagation ℕ)
     → group_of kind ≡ Some lower → master_of world kind ≡ Some group
@@ -75,9 +72,11 @@ module _ (world : World ℕ) (names : List TaskName) (is : MountInvariants nat_e
       (other : Mount ℕ) × Among other others
       × ((group_of other.propagation ≡ Some group) ⊎ (master_of world other.propagation ≡ Some group))
 
-  pub none_other : (group : ℕ) (own : Mount ℕ) → OtherHears group → Among own owns → is_member_of nat_eq group own ≡ true → ⊥
+  pub none_other : (group : ℕ) (own : Mount ℕ) → OtherHears group → Among own owns
+      → is_member_of nat_eq group own ≡ true → ⊥
   none_other group own (other, m, how) there is_in =
-      let alone = among_from_list_all (λ o. list_all (λ b. not (share_events nat_eq world o b)) others) owns apart own there in
+      let alone = among_from_list_all
+      (λ o. list_all (λ b. not (share_events nat_eq world o b)) others) owns apart own there in
       let no = not-true _ (among_from_list_all (λ b. not (share_events nat_eq world own b)) others alone other m) in
       let hears : receives_events_of nat_eq world other own ≡ true =
       ⊎_elim
@@ -102,7 +101,8 @@ module _ (world : World ℕ) (names : List TaskName) (is : MountInvariants nat_e
   -- whatever receives from a group of theirs is theirs
   pub none_receives : (group : ℕ) (other : Mount ℕ) → OwnHears group → Living group → Among other others
       → Among other world.mounts → receives nat_eq world group other ≡ false
-  none_receives group other heard lives there among = false_from_ne_true _ (λ h. by (source_of other.propagation) refl h)
+  none_receives group other heard lives there among =
+      false_from_ne_true _ (λ h. by (source_of other.propagation) refl h)
     where
       by : (o : Option ℕ) → source_of other.propagation ≡ o
           → holds_of (λ source. is_among nat_eq group (groups_up world source)) o ≡ true → ⊥
@@ -112,7 +112,8 @@ module _ (world : World ℕ) (names : List TaskName) (is : MountInvariants nat_e
             (other, there, start_hears world source other.propagation e),
             among_from_all (HasLivingGroups nat_eq world) world.mounts is.groups other among source e,
           ) h in
-          let found = any_among (is_member_of nat_eq group) world.mounts (members_of world names is apart group lives) in
+          let found = any_among (is_member_of nat_eq group) world.mounts
+          (members_of world names is apart group lives) in
           ⊎_elim
           (λ own. none_other group found.0 reached.0 own found.2)
           (λ outside. none_hears world names is apart group found.0 heard outside found.2)
@@ -142,7 +143,8 @@ module _ (world : World ℕ) (names : List TaskName) (is : MountInvariants nat_e
       let own = own_member group heard lives in
       ap (λ b. cond b (world.master group) None) (any_from_among (is_member_of nat_eq group) owns own.0 own.1 own.2)
 
-  way : (group : ℕ) → OwnHears group → (lives : Living group) → Way world.master part.master (λ g. g) group_numbers group
+  way : (group : ℕ) → OwnHears group → (lives : Living group)
+      → Way world.master part.master (λ g. g) group_numbers group
   way group heard (has_no_master g members none) =
       ends g none (same_master g heard (has_no_master g members none) ∙ none)
   way group heard (has_master g above members e lives) =
@@ -152,22 +154,7 @@ module _ (world : World ℕ) (names : List TaskName) (is : MountInvariants nat_e
 
   own_fewer : (list : List (Mount ℕ)) → length (filter (is_own world names theirs) list) ≤ length (filter_map kept list)
   own_fewer [] = omega arith
-  own_fewer (x ∷ rest) = by (is_own world names theirs x) refl (own_fewer rest)
-    where
-      more : (o : Option (Mount ℕ)) → length (filter (is_own world names theirs) rest) ≤ length (filter_map kept rest)
-          → length (filter (is_own world names theirs) rest) ≤ length (cons_option o (filter_map kept rest))
-      more None l = l
-      more (Some y) l = omega (arith, l)
-
-      by : (b : Bool) → is_own world names theirs x ≡ b
-          → length (filter (is_own world names theirs) rest) ≤ length (filter_map kept rest)
-          → length (cond b (x ∷ filter (is_own world names theirs) rest) (filter (is_own world names theirs) rest))
-          ≤ length (cons_option (kept x) (filter_map kept rest))
-      by true e l =
-          subst (λ o. suc (length (filter (is_own world names theirs) rest)) ≤ length (cons_option o (filter_map kept rest)))
-          (sym (ap (λ b. cond (b || is_at nat_eq (roots_and_directories theirs) x) (Some x)
-          (when (is_at nat_eq (locations theirs) x) (seen_by_descriptor x))) e)) (omega (arith, l))
-      by false e l = more (kept x) l
+  own_fewer (x ∷ rest) = grind (arith, common_steps, is_own, own_fewer rest)
 
   -- the groups up from a group of theirs
   pub same_up : (group : ℕ) → OwnHears group → Living group → groups_up part group ≡ groups_up world group
@@ -213,12 +200,15 @@ module _ (world : World ℕ) (names : List TaskName) (is : MountInvariants nat_e
       by (Some n) e = which (is_own_namespace nat_eq world names n) refl
         where
           which : (b : Bool) → is_own_namespace nat_eq world names n ≡ b
-              → (Among x owns × (is_own world names theirs x ≡ true)) ⊎ (Among x others ⊎ (source_of x.propagation ≡ None))
+              → (Among x owns × (is_own world names theirs x ≡ true))
+              ⊎ (Among x others ⊎ (source_of x.propagation ≡ None))
           which true own =
-              let it : is_own world names theirs x ≡ true = ap (holds_of (is_own_namespace nat_eq world names)) e ∙ own in
+              let it : is_own world names theirs x ≡ true = ap (holds_of (is_own_namespace nat_eq world names)) e
+              ∙ own in
               inl (among-filter (is_own_mount nat_eq world names) world.mounts x m it, it)
           which false other =
-              inr (inl (among-filter (λ mount. holds_of (λ k. not (is_own_namespace nat_eq world names k)) mount.namespace)
+              inr (inl (among-filter
+              (λ mount. holds_of (λ k. not (is_own_namespace nat_eq world names k)) mount.namespace)
               world.mounts x m
               (ap (holds_of (λ k. not (is_own_namespace nat_eq world names k))) e ∙ ap not other)))
 
@@ -234,7 +224,8 @@ module _ (world : World ℕ) (names : List TaskName) (is : MountInvariants nat_e
       up : (group lower : ℕ) → part.master lower ≡ Some group → OtherHears lower → OtherHears group
       up group lower e other_hears = which (list_any (is_member_of nat_eq lower) owns) refl e
         where
-          which : (b : Bool) → list_any (is_member_of nat_eq lower) owns ≡ b → cond b (world.master lower) None ≡ Some group
+          which : (b : Bool) → list_any (is_member_of nat_eq lower) owns ≡ b
+              → cond b (world.master lower) None ≡ Some group
               → OtherHears group
           which true f e = let own = any_among (is_member_of nat_eq lower) owns f in
               absurd (none_other lower own.0 other_hears own.1 own.2)
@@ -268,7 +259,8 @@ module _ (world : World ℕ) (names : List TaskName) (is : MountInvariants nat_e
       ⊎_elim
       (λ same. ap (receives nat_eq part group) (sym same)
       ∙ ⊎_elim (λ own. same_receives group x own.0 m ∙ h)
-      (λ not_own. ⊎_elim (λ other. none_in_part group x heard lives other) (λ none. no_source part group x none) not_own)
+      (λ not_own. ⊎_elim (λ other. none_in_part group x heard lives other)
+      (λ none. no_source part group x none) not_own)
       (place_of x m))
       (λ stub. ap (receives nat_eq part group) (sym stub.0))
       (kept_how world names theirs x y e))

@@ -36,7 +36,8 @@ module _ (files : FileTree ℕ) (tree : IsTree files.tree) (listed : ListsNumber
   pub named_under : (object : ℕ) → Among object (named_in files) → is_under nat_eq files files.tree.root object ≡ true
   named_under object m =
       let from = among-from_flat_map (λ directory. targets_in (files.tree.node directory)) files.numbers object m in
-      let name = entry_from files.tree tree from.0 object (is_among_numbers (targets_in (files.tree.node from.0)) object from.2) in
+      let name = entry_from files.tree tree from.0 object
+      (is_among_numbers (targets_in (files.tree.node from.0)) object from.2) in
       let reached = is_reached_in files tree from.0 name.0 object name.1 in
       led_under files tree files.tree.root listed tree.root_directory object
       (led_on files tree files.tree.root from.0 name.0 object (way_to reached.0 from.0 reached.1) name.1)
@@ -64,9 +65,11 @@ module _ (world : World ℕ) (names : List TaskName) (number : ℕ)
       by (Some overlay) h =
           let found = any_among (λ (layer : Layer ℕ). nat_eq number layer.filesystem
           && nat_eq files.tree.root layer.directory) overlay.lowers h in
-          let both = and_parts (nat_eq number found.0.filesystem) (nat_eq files.tree.root found.0.directory) found.2 in (
+          let both = and_parts (nat_eq number found.0.filesystem)
+          (nat_eq files.tree.root found.0.directory) found.2 in (
             found.0,
-            among-append_right (option_to_list overlay.upper ++ option_to_list overlay.work) overlay.lowers found.0 found.1,
+            among-append_right (option_to_list overlay.upper
+                ++ option_to_list overlay.work) overlay.lowers found.0 found.1,
             both.0,
             both.1,
           )
@@ -76,10 +79,12 @@ module _ (world : World ℕ) (names : List TaskName) (number : ℕ)
       → is_some (files.tree.node object) ≡ true → is_locked nat_eq world number object ≡ true
   all_locked h object there =
       let both = and_parts
-      (list_any (λ merged. is_lower_root nat_eq number files.tree.root merged && used_alone nat_eq world names merged.number)
+      (list_any (λ merged. is_lower_root nat_eq number files.tree.root merged
+      && used_alone nat_eq world names merged.number)
       (overlays world)) (all_named nat_eq files) h in
       let found = any_among
-      (λ (merged : Filesystem ℕ). is_lower_root nat_eq number files.tree.root merged && used_alone nat_eq world names merged.number)
+      (λ (merged : Filesystem ℕ). is_lower_root nat_eq number files.tree.root merged
+      && used_alone nat_eq world names merged.number)
       (overlays world) both.0 in
       let layer = layer_there found.0 (and_true_left (is_lower_root nat_eq number files.tree.root found.0) _ found.2) in
       any_from_among (lies_or_counts_under nat_eq world number object) (live_layers world) layer.0
@@ -89,15 +94,18 @@ module _ (world : World ℕ) (names : List TaskName) (number : ℕ)
       (subst (λ d. is_under nat_eq files d object ≡ true) (eqb-true files.tree.root layer.0.directory layer.3)
       (under object there))))
     where
-      under : (object : ℕ) → is_some (files.tree.node object) ≡ true → is_under nat_eq files files.tree.root object ≡ true
+      under : (object : ℕ) → is_some (files.tree.node object) ≡ true
+          → is_under nat_eq files files.tree.root object ≡ true
       under object there =
-          let named = among_from_list_all (λ number. nat_eq number files.tree.root || is_among nat_eq number (named_in files))
+          let named = among_from_list_all
+          (λ number. nat_eq number files.tree.root || is_among nat_eq number (named_in files))
           files.numbers
           (and_parts (list_any (λ (merged : Filesystem ℕ). is_lower_root nat_eq number files.tree.root merged
           && used_alone nat_eq world names merged.number) (overlays world)) (all_named nat_eq files) h).1
           object (among_numbers files.numbers object (listed object ∙ there)) in
           ⊎_elim
-          (λ root. subst (λ o. is_under nat_eq files files.tree.root o ≡ true) (sym (eqb-true object files.tree.root root))
+          (λ root. subst (λ o. is_under nat_eq files files.tree.root o ≡ true)
+          (sym (eqb-true object files.tree.root root))
           (root_under files tree listed))
           (λ name. named_under files tree listed object (among_numbers (named_in files) object name))
           (or_cases (nat_eq object files.tree.root) (is_among nat_eq object (named_in files)) named)
@@ -107,7 +115,8 @@ module _ (world : World ℕ) (names : List TaskName) (location : Location ℕ) (
   abbrev number : ℕ
   number = (mount_at nat_eq world location).filesystem
 
-  fourth : list_all (λ filesystem. used_alone nat_eq world names filesystem || wholly_locked nat_eq world names filesystem)
+  fourth : list_all (λ filesystem. used_alone nat_eq world names filesystem
+      || wholly_locked nat_eq world names filesystem)
       (used_filesystems nat_eq world names) ≡ true
   unfolding sealed
   fourth = (and_parts _ (list_all (λ filesystem. used_alone nat_eq world names filesystem
@@ -140,7 +149,8 @@ module _ (world : World ℕ) (names : List TaskName) (location : Location ℕ) (
       let new : Filesystem ℕ = with_files (filesystem_at nat_eq world location)
       (changed nat_eq (filesystem_at nat_eq world location).files change) in
       let same : new.number ≡ number = number_of_filesystem world number in
-      ap (λ o. part_of nat_eq (filesystem_changed nat_eq fresh world (filesystem_at nat_eq world location) o change) names) plain
+      ap (λ o. part_of nat_eq
+      (filesystem_changed nat_eq fresh world (filesystem_at nat_eq world location) o change) names) plain
       ∙ unused_filesystems_may_change world names new
       (ap (λ n. is_among nat_eq n (used_filesystems nat_eq world names)) same ∙ not_used tree listed there node free)
       (ap (λ n. list_any (λ layer. nat_eq n layer.filesystem) (own_lowers nat_eq world names)) same ∙ no_lower)

@@ -1,11 +1,11 @@
 -- Without dead mounts the part is as it was.
-use Rattle.std.proofs.Common.{◌≡◌, refl, sym, ap, ◌∙◌, inl, inr, ⊎_elim, ℕ, nat_eq, Bool, true, false, cond, true≢false, List, [], ◌∷◌, Option, Some, None, is_some, filter, ◌||◌, eq-eqb, eqb-true}
-use Rattle.std.specs.List.{cons_option, filter_map, list_any}
+use Rattle.std.proofs.lemmas.Grind.{common_steps}
+use Rattle.std.proofs.Common.{◌≡◌, refl, sym, ap, ◌∙◌, inl, inr, ⊎_elim, ℕ, nat_eq, Bool, true, true≢false, List, [], ◌∷◌, Option, Some, is_some, filter, eq-eqb, eqb-true, arith}
+use Rattle.std.specs.List.{filter_map}
 use Rattle.std.proofs.lemmas.Bool.{or_left, or_right}
 use Rattle.vt_spec.specs.Language.Calls.{TaskName}
-use Rattle.vt_spec.specs.Lists.{holds_of, when}
 use Rattle.vt_spec.specs.Machine.Mounts.{Location, Mount}
-use Rattle.vt_spec.specs.Machine.Sealed.{is_at, is_member_task, locations, members, roots_and_directories, seen_by_descriptor}
+use Rattle.vt_spec.specs.Machine.Sealed.{is_at, is_member_task, locations, members, roots_and_directories}
 use Rattle.vt_spec.specs.Machine.Settled.{mount_lives, without_dead_mounts}
 use Rattle.vt_spec.specs.Machine.World.{Task, World, all_locations, locations_of}
 use Rattle.vt_spec.proofs.Lists.{Among, among-flat_map, among-from_filter, among-from_flat_map, any_among, any_from_among}
@@ -38,17 +38,13 @@ module _ (world : World ℕ) (names : List TaskName) where
       → nat_eq location.mount x.number ≡ true → lives x ≡ true
   located_lives x location m e =
       or_right (is_some x.namespace) _
-      (any_from_among (λ (l : Location ℕ). nat_eq x.number l.mount) (all_locations world) location (among_all location m)
+      (any_from_among (λ (l : Location ℕ). nat_eq x.number l.mount) (all_locations world) location
+      (among_all location m)
       (ap (λ n. nat_eq n location.mount) (sym (eqb-true location.mount x.number e))
       ∙ eq-eqb location.mount location.mount refl))
 
   own_lives : (x : Mount ℕ) → is_own world names theirs x ≡ true → lives x ≡ true
-  own_lives x e = or_left (is_some x.namespace) _ (by x.namespace e)
-    where
-      by : (n : Option ℕ) → holds_of (λ k. list_any (λ (task : Task ℕ). nat_eq k task.namespace) theirs) n ≡ true
-          → is_some n ≡ true
-      by None h = h
-      by (Some k) h = refl
+  own_lives x e = grind (arith, common_steps, or_left)
 
   at_lives : (x : Mount ℕ) → is_at nat_eq (locations theirs) x ≡ true → lives x ≡ true
   at_lives x e =
@@ -56,7 +52,8 @@ module _ (world : World ℕ) (names : List TaskName) where
       located_lives x found.0 found.1 found.2
 
   -- roots and working directories are locations
-  root_at : (x : Mount ℕ) → is_at nat_eq (roots_and_directories theirs) x ≡ true → is_at nat_eq (locations theirs) x ≡ true
+  root_at : (x : Mount ℕ) → is_at nat_eq (roots_and_directories theirs) x ≡ true
+      → is_at nat_eq (locations theirs) x ≡ true
   root_at x e =
       let found = any_among (λ (l : Location ℕ). nat_eq l.mount x.number) (roots_and_directories theirs) e in
       let task = among-from_flat_map (λ (t : Task ℕ). t.root ∷ t.directory ∷ []) theirs found.0 found.1 in
@@ -66,32 +63,11 @@ module _ (world : World ℕ) (names : List TaskName) where
       found.2
 
   kept_lives : (x y : Mount ℕ) → kept x ≡ Some y → lives x ≡ true
-  kept_lives x y e =
-      by (is_own world names theirs x) (is_at nat_eq (roots_and_directories theirs) x) (is_at nat_eq (locations theirs) x)
-      refl refl refl
-    where
-      by : (a b c : Bool) → is_own world names theirs x ≡ a → is_at nat_eq (roots_and_directories theirs) x ≡ b
-          → is_at nat_eq (locations theirs) x ≡ c → lives x ≡ true
-      by true b c f g h = own_lives x f
-      by false true c f g h = at_lives x (root_at x g)
-      by false false true f g h = at_lives x h
-      by false false false f g h =
-          none_is_some y
-          (sym (ap (λ a. cond (a || is_at nat_eq (roots_and_directories theirs) x) (Some x)
-          (when (is_at nat_eq (locations theirs) x) (seen_by_descriptor x))) f
-          ∙ ap (λ b. cond b (Some x) (when (is_at nat_eq (locations theirs) x) (seen_by_descriptor x))) g
-          ∙ ap (λ c. when c (seen_by_descriptor x)) h) ∙ e)
+  kept_lives x y e = grind (arith, common_steps, is_own, own_lives, at_lives, root_at, none_is_some)
 
   pub mounts_kept : (list : List (Mount ℕ)) → filter_map kept (filter lives list) ≡ filter_map kept list
   mounts_kept [] = refl
-  mounts_kept (x ∷ rest) = by (kept x) refl (lives x) refl (mounts_kept rest)
-    where
-      by : (o : Option (Mount ℕ)) → kept x ≡ o → (b : Bool) → lives x ≡ b
-          → filter_map kept (filter lives rest) ≡ filter_map kept rest
-          → filter_map kept (cond b (x ∷ filter lives rest) (filter lives rest)) ≡ cons_option o (filter_map kept rest)
-      by o e true f in_rest = ap (λ k. cons_option k (filter_map kept (filter lives rest))) e ∙ ap (cons_option o) in_rest
-      by None e false f in_rest = in_rest
-      by (Some y) e false f in_rest = absurd (true≢false (sym (kept_lives x y e) ∙ f))
+  mounts_kept (x ∷ rest) = grind (arith, common_steps, kept_lives, true≢false, mounts_kept rest)
 
   sees_the_same : SeesTheSame world later names
   sees_the_same = record {

@@ -1,11 +1,12 @@
 -- Flags of a mount of theirs that are set in the world are set in the part.
-use Rattle.std.proofs.Common.{◌≡◌, refl, sym, ap, ◌∙◌, ◌⊎◌, inl, inr, ⊎_elim, ℕ, nat_eq, Bool, true, false, cond, List, [], ◌∷◌, ◌++◌, Option, Some, None, flat_map, map, filter, find, ◌||◌, eq-eqb, eqb-true}
-use Rattle.std.specs.Prelude.{option_map, unwrap_or}
+use Rattle.std.proofs.lemmas.Grind.{common_steps}
+use Rattle.std.proofs.Common.{◌≡◌, refl, sym, ap, ◌∙◌, ◌⊎◌, inl, inr, ⊎_elim, ℕ, nat_eq, Bool, true, false, cond, List, [], ◌∷◌, ◌++◌, Option, Some, None, flat_map, map, filter, ◌||◌, eq-eqb, eqb-true, arith}
+use Rattle.std.specs.Prelude.{option_map}
 use Rattle.std.specs.List.{cons_option, filter_map, list_any}
 use Rattle.vt_spec.specs.Language.Calls.{MountFlags, TaskName}
 use Rattle.vt_spec.specs.Lists.{each_once, is_among, when}
 use Rattle.vt_spec.specs.Machine.Locked.{lies_in_layer, of_overlay}
-use Rattle.vt_spec.specs.Machine.Mounts.{Location, Mount, mount_in, no_mount, replaced_if_same, with_mount}
+use Rattle.vt_spec.specs.Machine.Mounts.{Location, Mount, mount_in, replaced_if_same, with_mount}
 use Rattle.vt_spec.specs.Machine.Receives.{is_member_of}
 use Rattle.vt_spec.specs.Machine.Sealed.{change_layers, is_at, locations, members, own_mounts, part_of, part_of_filesystem, part_of_master, roots_and_directories, seen_by_descriptor, used_directly}
 use Rattle.vt_spec.specs.Machine.World.{Filesystem, Layer, Overlay, Task, World, filesystem_numbered, mount_at, with_mounts}
@@ -17,7 +18,8 @@ use Rattle.vt_laws_part.specs.Parts.{OnlyTheirFlagsChangeThePart}
 use Rattle.vt_laws_part.proofs.part.PartOfPart.{is_own, keep, kept_how}
 
 module _ (world : World ℕ) (names : List TaskName) (one : OneNumberEach world) (old : Mount ℕ)
-    (there : Among old world.mounts) (own : is_own world names (members world names) old ≡ true) (flags : MountFlags) where
+    (there : Among old world.mounts) (own : is_own world names (members world names) old ≡ true)
+    (flags : MountFlags) where
   abbrev new : Mount ℕ
   new = record old { flags = flags }
 
@@ -48,7 +50,8 @@ module _ (world : World ℕ) (names : List TaskName) (one : OneNumberEach world)
           → ((x ≡ old) × (set x ≡ new)) ⊎ (nat_eq old.number x.number ≡ false)
       by true e =
           inl (
-            sym (found_itself world.mounts one x m) ∙ ap (mount_in nat_eq world.mounts) (sym (eqb-true old.number x.number e))
+            sym (found_itself world.mounts one x m)
+                ∙ ap (mount_in nat_eq world.mounts) (sym (eqb-true old.number x.number e))
                 ∙ found_itself world.mounts one old there,
             ap (λ b. cond b new x) e,
           )
@@ -72,18 +75,16 @@ module _ (world : World ℕ) (names : List TaskName) (one : OneNumberEach world)
     where
       same : nat_eq old.number x.number ≡ false → (o : Option (Mount ℕ)) → kept x ≡ o → o ≡ option_map set o
       same t None e = refl
-      same t (Some y) e =
-          ap Some (sym (apart y (ap (nat_eq old.number)
-          (⊎_elim (λ same. ap (λ (z : Mount ℕ). z.number) (sym same)) (λ stub. ap (λ (z : Mount ℕ). z.number) (sym stub.0))
-          (kept_how world names theirs x y e)) ∙ t)))
+      same t (Some y) e = grind (arith, common_steps, apart, kept_how)
 
   all_of : {B : Type 0} (f : Mount ℕ → B) → f new ≡ f old → (list : List (Mount ℕ))
       → ((x : Mount ℕ) → Among x list → Among x world.mounts) → map f (map set list) ≡ map f list
   all_of f e [] h = refl
   all_of f e (x ∷ rest) h =
-      ap (λ y. y ∷ map f (map set rest))
-      (⊎_elim (λ t. ap f t.1 ∙ e ∙ ap f (sym t.0)) (λ t. ap f (apart x t)) (which x (h x (inl refl))))
-      ∙ ap (λ l. f x ∷ l) (all_of f e rest (λ y m. h y (inr m)))
+      cc (
+        ⊎_elim (λ t. ap f t.1 ∙ e ∙ ap f (sym t.0)) (λ t. ap f (apart x t)) (which x (h x (inl refl))),
+        all_of f e rest (λ y m. h y (inr m)),
+      )
 
   own_set : (list : List (Mount ℕ)) → ((x : Mount ℕ) → Among x list → Among x world.mounts)
       → filter owns (map set list) ≡ map set (filter owns list)
@@ -96,13 +97,8 @@ module _ (world : World ℕ) (names : List TaskName) (one : OneNumberEach world)
       by : (b : Bool) → owns x ≡ b → filter owns (map set rest) ≡ map set (filter owns rest)
           → cond (owns (set x)) (set x ∷ filter owns (map set rest)) (filter owns (map set rest))
           ≡ map set (cond (owns x) (x ∷ filter owns rest) (filter owns rest))
-      by true e later =
-          ap (λ b. cond b (set x ∷ filter owns (map set rest)) (filter owns (map set rest))) (same ∙ e)
-          ∙ ap (λ l. set x ∷ l) later
-          ∙ sym (ap (λ b. map set (cond b (x ∷ filter owns rest) (filter owns rest))) e)
-      by false e later =
-          ap (λ b. cond b (set x ∷ filter owns (map set rest)) (filter owns (map set rest))) (same ∙ e)
-          ∙ later ∙ sym (ap (λ b. map set (cond b (x ∷ filter owns rest) (filter owns rest))) e)
+      by true e later = cc (same, e, later)
+      by false e later = cc (same, e, later)
 
   pub own_later : own_mounts nat_eq later names ≡ map set (own_mounts nat_eq world names)
   own_later = own_set world.mounts (λ x m. m)
@@ -115,7 +111,8 @@ module _ (world : World ℕ) (names : List TaskName) (one : OneNumberEach world)
       ∙ by (kept x) (mounts_set rest (λ y m. h y (inr m)))
     where
       by : (o : Option (Mount ℕ)) → filter_map kept (map set rest) ≡ map set (filter_map kept rest)
-          → cons_option (option_map set o) (filter_map kept (map set rest)) ≡ map set (cons_option o (filter_map kept rest))
+          → cons_option (option_map set o) (filter_map kept (map set rest))
+          ≡ map set (cons_option o (filter_map kept rest))
       by None later = later
       by (Some y) later = ap (λ l. set y ∷ l) later
 
@@ -129,29 +126,27 @@ module _ (world : World ℕ) (names : List TaskName) (one : OneNumberEach world)
   found_filesystem number [] = number
   found_filesystem number (x ∷ rest) = cond (nat_eq number x.number) x.filesystem (found_filesystem number rest)
 
-  found_so : (number : ℕ) (list : List (Mount ℕ)) → (mount_in nat_eq list number).filesystem ≡ found_filesystem number list
+  found_so : (number : ℕ) (list : List (Mount ℕ))
+      → (mount_in nat_eq list number).filesystem ≡ found_filesystem number list
   found_so number [] = refl
-  found_so number (x ∷ rest) = by (nat_eq number x.number) (found_so number rest)
-    where
-      by : (b : Bool) → (mount_in nat_eq rest number).filesystem ≡ found_filesystem number rest
-          → (unwrap_or (cond b (Some x) (find (λ (m : Mount ℕ). nat_eq number m.number) rest)) (no_mount number)).filesystem
-          ≡ cond b x.filesystem (found_filesystem number rest)
-      by true e = refl
-      by false e = e
+  found_so number (x ∷ rest) = grind (arith, common_steps, found_so number rest)
 
   found_set : (number : ℕ) (list : List (Mount ℕ)) → ((x : Mount ℕ) → Among x list → Among x world.mounts)
       → found_filesystem number (map set list) ≡ found_filesystem number list
   found_set number [] h = refl
   found_set number (x ∷ rest) h =
       ⊎_elim
-      (λ t. ap (λ (f : Mount ℕ). cond (nat_eq number f.number) f.filesystem (found_filesystem number (map set rest))) t.1
-      ∙ ap (λ (f : Mount ℕ). cond (nat_eq number f.number) f.filesystem (found_filesystem number (map set rest))) (sym t.0))
+      (λ t. ap (λ (f : Mount ℕ). cond (nat_eq number f.number) f.filesystem
+      (found_filesystem number (map set rest))) t.1
+      ∙ ap (λ (f : Mount ℕ). cond (nat_eq number f.number) f.filesystem (found_filesystem number (map set rest)))
+      (sym t.0))
       (λ t. ap (λ (f : Mount ℕ). cond (nat_eq number f.number) f.filesystem (found_filesystem number (map set rest)))
       (apart x t))
       (which x (h x (inl refl)))
       ∙ ap (cond (nat_eq number x.number) x.filesystem) (found_set number rest (λ y m. h y (inr m)))
 
-  located : (location : Location ℕ) → (mount_at nat_eq later location).filesystem ≡ (mount_at nat_eq world location).filesystem
+  located : (location : Location ℕ)
+      → (mount_at nat_eq later location).filesystem ≡ (mount_at nat_eq world location).filesystem
   located location =
       found_so location.mount (map set world.mounts) ∙ found_set location.mount world.mounts all_there
       ∙ sym (found_so location.mount world.mounts)
@@ -169,9 +164,11 @@ module _ (world : World ℕ) (names : List TaskName) (one : OneNumberEach world)
   -- filesystems are found by what is used directly
   abbrev shown_by : List ℕ → Filesystem ℕ → Option (Filesystem ℕ)
   shown_by direct x =
-      let used : List ℕ = each_once nat_eq (direct ++ flat_map (λ n. change_layers (filesystem_numbered nat_eq world n)) direct) in
+      let used : List ℕ = each_once nat_eq
+      (direct ++ flat_map (λ n. change_layers (filesystem_numbered nat_eq world n)) direct) in
       let lowers : List (Layer ℕ) =
-      flat_map (λ n. of_overlay [] (λ (overlay : Overlay ℕ). overlay.lowers) (filesystem_numbered nat_eq world n)) direct in
+      flat_map (λ n. of_overlay [] (λ (overlay : Overlay ℕ). overlay.lowers)
+      (filesystem_numbered nat_eq world n)) direct in
       cond (is_among nat_eq x.number used) (Some x)
       (when (list_any (λ layer. nat_eq x.number layer.filesystem) lowers) (record x {
         files = only_among nat_eq
@@ -199,14 +196,7 @@ module _ (world : World ℕ) (names : List TaskName) (one : OneNumberEach world)
   -- the part of the world with the flags set is the part with the flags set
   pub part_with_flags : part_of nat_eq later names
       ≡ with_mounts (part_of nat_eq world names) (with_mount nat_eq (part_of nat_eq world names).mounts new)
-  part_with_flags =
-      ap (λ m. record (part_of nat_eq later names) { mounts = m }) (mounts_set world.mounts all_there)
-      ∙ ap (λ m. record (part_of nat_eq later names) { mounts = map set (filter_map kept world.mounts); master = m })
-      same_masters
-      ∙ ap (λ f. record (part_of nat_eq world names) {
-        mounts = map set (filter_map kept world.mounts);
-        filesystems = filter_map f world.filesystems;
-      }) same_shown
+  part_with_flags = cc (mounts_set world.mounts all_there, same_masters, same_shown)
 
 pub only_their_flags_change_the_part : OnlyTheirFlagsChangeThePart
 only_their_flags_change_the_part world names mount flags is there own =

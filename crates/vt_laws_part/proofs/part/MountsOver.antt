@@ -1,6 +1,7 @@
 -- The mounts over a location on a mount of the part are those in the world.
+use Rattle.std.proofs.lemmas.Grind.{common_steps}
 use Rattle.std.proofs.Common.{◌≡◌, refl, sym, ap, subst, ◌∙◌, ◌⊎◌, inl, inr, ⊎_elim, ℕ, zero, suc, nat_eq, Bool, true, false, cond, true≢false, List, [], ◌∷◌, Option, Some, None, map, find, length, not, ◌||◌, ◌&&◌, ◌≤◌, arith, is_some}
-use Rattle.std.specs.Prelude.{option_map, pred}
+use Rattle.std.specs.Prelude.{option_map}
 use Rattle.std.specs.List.{cons_option, filter_map, list_any}
 use Rattle.std.proofs.lemmas.List.{length-map}
 use Rattle.std.proofs.lemmas.Bool.{and_parts, or_left, or_right}
@@ -84,10 +85,7 @@ module _ (world : World ℕ) (names : List TaskName) (is : MountInvariants nat_e
             → find (stands_at nat_eq here) (cons_option o (filter_map kept rest))
             ≡ find (stands_at nat_eq here) (filter_map kept rest)
         skip None e f = refl
-        skip (Some y) e f =
-            ap (λ b. cond b (Some y) (find (stands_at nat_eq here) (filter_map kept rest)))
-            (⊎_elim (λ same. ap (stands_at nat_eq here) (sym same) ∙ f) (λ stub. ap (stands_at nat_eq here) (sym stub.0))
-            (kept_how world names theirs x y e))
+        skip (Some y) e f = grind (arith, common_steps, kept_how)
 
         by : (b : Bool) → stands_at nat_eq here x ≡ b
             → find (stands_at nat_eq here) (filter_map kept rest) ≡ find (stands_at nat_eq here) rest
@@ -125,10 +123,11 @@ module _ (world : World ℕ) (names : List TaskName) (is : MountInvariants nat_e
       by None (Some d) f g e = absurd (omega (arith, e))
       by (Some c) None f g e = absurd (omega (arith, e))
       by (Some c) (Some d) f g e =
-          ap (λ x. Some (root_of x))
-          (sym (numbered c (found_among (stands_at nat_eq a) world.mounts c f))
-          ∙ ap (mount_numbered nat_eq world) (ap pred e)
-          ∙ numbered d (found_among (stands_at nat_eq b) world.mounts d g))
+          cc (
+            numbered c (found_among (stands_at nat_eq a) world.mounts c f),
+            e,
+            numbered d (found_among (stands_at nat_eq b) world.mounts d g),
+          )
 
   way : (n : ℕ) (a : Location ℕ) → IsWhole a.mount
       → up world (last_or a (chain n (up world) a)) ≡ None → Way (up world) (up part) key there a

@@ -1,12 +1,12 @@
 -- Worlds in which a set of tasks sees the same have one part for it.
-use Rattle.std.proofs.Common.{◌≡◌, sym, ap, ◌∙◌, ℕ, nat_eq, Bool, true, false, cond, refl, List, [], ◌++◌, None, flat_map, map, filter}
-use Rattle.std.specs.List.{filter_map, list_any}
+use Rattle.std.proofs.lemmas.Grind.{common_steps}
+use Rattle.std.proofs.Common.{◌≡◌, sym, ap, ◌∙◌, ℕ, nat_eq, List, [], ◌++◌, flat_map, filter, arith}
+use Rattle.std.specs.List.{filter_map}
 use Rattle.vt_spec.specs.Language.Calls.{TaskName}
 use Rattle.vt_spec.specs.Lists.{each_once}
 use Rattle.vt_spec.specs.Machine.Locked.{of_overlay}
-use Rattle.vt_spec.specs.Machine.Mounts.{Mount, mount_in}
-use Rattle.vt_spec.specs.Machine.Receives.{is_member_of}
-use Rattle.vt_spec.specs.Machine.Sealed.{change_layers, locations, members, own_lowers, own_mounts, part_of, part_of_master, used_directly, used_filesystems}
+use Rattle.vt_spec.specs.Machine.Mounts.{Mount}
+use Rattle.vt_spec.specs.Machine.Sealed.{change_layers, members, own_lowers, own_mounts, part_of, part_of_master, used_directly, used_filesystems}
 use Rattle.vt_spec.specs.Machine.World.{Overlay, Task, World, filesystem_numbered}
 use Rattle.vt_spec.proofs.Lists.{contains_from_among}
 use Rattle.vt_laws_letting_go.proofs.Lists.{flat_map_alike}
@@ -17,11 +17,6 @@ module _ (world later : World ℕ) (names : List TaskName) (same : SeesTheSame w
   -- members and mounts say which mounts are theirs, and what they use
   abbrev owned_by : List (Task ℕ) → List (Mount ℕ) → List (Mount ℕ)
   owned_by tasks mounts = filter (is_own world names tasks) mounts
-
-  abbrev directly_by : List (Task ℕ) → List (Mount ℕ) → List ℕ
-  directly_by tasks mounts =
-      map (λ (mount : Mount ℕ). mount.filesystem) (owned_by tasks mounts)
-      ++ map (λ location. (mount_in nat_eq mounts location.mount).filesystem) (locations tasks)
 
   tasks_of_parts : members (part_of nat_eq later names) names ≡ members (part_of nat_eq world names) names
   tasks_of_parts = same_members later names ∙ same.tasks ∙ sym (same_members world names)
@@ -34,18 +29,15 @@ module _ (world later : World ℕ) (names : List TaskName) (same : SeesTheSame w
       ∙ same_own world names
 
   pub directly_same : used_directly nat_eq later names ≡ used_directly nat_eq world names
-  directly_same =
-      sym (same_directly later names)
-      ∙ ap (λ tasks. directly_by tasks (part_of nat_eq later names).mounts) tasks_of_parts
-      ∙ ap (directly_by (members (part_of nat_eq world names) names)) same.mounts
-      ∙ same_directly world names
+  directly_same = grind (arith, common_steps, same_directly, tasks_of_parts)
 
   abbrev direct : List ℕ
   direct = used_directly nat_eq world names
 
   pub used_same : used_filesystems nat_eq later names ≡ used_filesystems nat_eq world names
   used_same =
-      ap (λ d. each_once nat_eq (d ++ flat_map (λ n. change_layers (filesystem_numbered nat_eq later n)) d)) directly_same
+      ap (λ d. each_once nat_eq
+      (d ++ flat_map (λ n. change_layers (filesystem_numbered nat_eq later n)) d)) directly_same
       ∙ ap (λ l. each_once nat_eq (direct ++ l))
       (flat_map_alike (λ n. change_layers (filesystem_numbered nat_eq later n))
       (λ n. change_layers (filesystem_numbered nat_eq world n)) direct
@@ -53,21 +45,17 @@ module _ (world later : World ℕ) (names : List TaskName) (same : SeesTheSame w
 
   pub lowers_same : own_lowers nat_eq later names ≡ own_lowers nat_eq world names
   lowers_same =
-      ap (λ d. flat_map (λ n. of_overlay [] (λ (overlay : Overlay ℕ). overlay.lowers) (filesystem_numbered nat_eq later n)) d)
+      ap (λ d. flat_map (λ n. of_overlay [] (λ (overlay : Overlay ℕ). overlay.lowers)
+      (filesystem_numbered nat_eq later n)) d)
       directly_same
-      ∙ flat_map_alike (λ n. of_overlay [] (λ (overlay : Overlay ℕ). overlay.lowers) (filesystem_numbered nat_eq later n))
+      ∙ flat_map_alike (λ n. of_overlay [] (λ (overlay : Overlay ℕ). overlay.lowers)
+      (filesystem_numbered nat_eq later n))
       (λ n. of_overlay [] (λ (overlay : Overlay ℕ). overlay.lowers) (filesystem_numbered nat_eq world n)) direct
-      (λ n m. ap (of_overlay [] (λ (overlay : Overlay ℕ). overlay.lowers)) (same.direct n (contains_from_among direct n m)))
+      (λ n m. ap (of_overlay [] (λ (overlay : Overlay ℕ). overlay.lowers))
+      (same.direct n (contains_from_among direct n m)))
 
   masters_same : part_of_master nat_eq later names ≡ part_of_master nat_eq world names
-  masters_same =
-      ap (λ l. λ (group : ℕ). cond (list_any (is_member_of nat_eq group) l) (later.master group) None) own_mounts_same
-      ∙ (λ i group. by group (list_any (is_member_of nat_eq group) (own_mounts nat_eq world names)) refl i)
-    where
-      by : (group : ℕ) (b : Bool) → list_any (is_member_of nat_eq group) (own_mounts nat_eq world names) ≡ b
-          → cond b (later.master group) None ≡ cond b (world.master group) None
-      by group true e = same.masters group e
-      by group false e = refl
+  masters_same = grind (arith, common_steps, own_mounts_same)
 
   pub part_same : part_of nat_eq later names ≡ part_of nat_eq world names
   part_same =

@@ -1,15 +1,14 @@
 -- The part of a part is the part.
-use Rattle.std.proofs.Common.{◌≡◌, refl, sym, ap, subst, ◌∙◌, ◌⊎◌, inl, inr, ⊎_elim, ℕ, nat_eq, Bool, true, false, cond, true≢false, List, [], ◌∷◌, ◌++◌, Option, Some, None, flat_map, map, filter, find, ◌||◌, eqb-true}
+use Rattle.std.proofs.lemmas.Grind.{common_steps}
+use Rattle.std.proofs.Common.{◌≡◌, refl, sym, ap, ◌∙◌, ◌⊎◌, inl, inr, ⊎_elim, ℕ, nat_eq, Bool, true, false, cond, true≢false, List, [], ◌∷◌, Option, Some, None, filter, find, ◌||◌, arith}
 use Rattle.std.specs.Prelude.{unwrap_or}
 use Rattle.std.specs.List.{cons_option, filter_map, list_any}
 use Rattle.std.proofs.lemmas.Option.{same_Some}
 use Rattle.vt_spec.specs.Language.Calls.{TaskName}
-use Rattle.vt_spec.specs.Lists.{each_once, holds_of, is_among, when}
-use Rattle.vt_spec.specs.Machine.Locked.{of_overlay}
+use Rattle.vt_spec.specs.Lists.{holds_of, is_among, when}
 use Rattle.vt_spec.specs.Machine.Mounts.{Location, Mount, no_mount}
-use Rattle.vt_spec.specs.Machine.Receives.{is_member_of}
-use Rattle.vt_spec.specs.Machine.Sealed.{change_layers, is_at, is_member_task, locations, members, own_lowers, own_mounts, part_of, part_of_filesystem, part_of_lower, part_of_master, part_of_mount, roots_and_directories, seen_by_descriptor, used_directly, used_filesystems}
-use Rattle.vt_spec.specs.Machine.World.{Filesystem, Namespace, Overlay, Task, World, filesystem_numbered, mount_at, no_filesystem}
+use Rattle.vt_spec.specs.Machine.Sealed.{is_at, is_member_task, locations, members, own_lowers, own_mounts, part_of, part_of_filesystem, part_of_lower, part_of_master, part_of_mount, roots_and_directories, seen_by_descriptor, used_directly, used_filesystems}
+use Rattle.vt_spec.specs.Machine.World.{Filesystem, Namespace, Task, World, filesystem_numbered, mount_at, no_filesystem}
 use Rattle.vt_spec.proofs.Lists.{map_alike, Among, among-append_left, any_from_among, is_among_numbers}
 use Rattle.vt_spec.proofs.Options.{none_is_some}
 use Rattle.vt_laws_letting_go.proofs.Lists.{flat_map_alike}
@@ -40,7 +39,8 @@ module _ (world : World ℕ) (names : List TaskName) where
       → (x ≡ y) ⊎ ((seen_by_descriptor x ≡ y) × (is_own tasks x ≡ false)
       × (is_at nat_eq (roots_and_directories tasks) x ≡ false) × (is_at nat_eq (locations tasks) x ≡ true))
   kept_how tasks x y e =
-      by (is_own tasks x) (is_at nat_eq (roots_and_directories tasks) x) (is_at nat_eq (locations tasks) x) refl refl refl e
+      by (is_own tasks x) (is_at nat_eq (roots_and_directories tasks) x)
+      (is_at nat_eq (locations tasks) x) refl refl refl e
     where
       by : (a b c : Bool) → is_own tasks x ≡ a → is_at nat_eq (roots_and_directories tasks) x ≡ b
           → is_at nat_eq (locations tasks) x ≡ c
@@ -58,12 +58,7 @@ module _ (world : World ℕ) (names : List TaskName) where
       ap (λ b. cond b (Some x) (when (is_at nat_eq (locations tasks) x) (seen_by_descriptor x))) e
 
   keeps_again : (tasks : List (Task ℕ)) (x y : Mount ℕ) → keep tasks x ≡ Some y → keep tasks y ≡ Some y
-  keeps_again tasks x y e =
-      ⊎_elim (λ same. ap (keep tasks) (sym same) ∙ e)
-      (λ stub. subst (λ z. keep tasks z ≡ Some z) stub.0
-      (ap (λ b. cond b (Some (seen_by_descriptor x)) (when (is_at nat_eq (locations tasks) x) (seen_by_descriptor x))) stub.2
-      ∙ ap (λ b. when b (seen_by_descriptor x)) stub.3))
-      (kept_how tasks x y e)
+  keeps_again tasks x y e = grind (arith, common_steps)
 
   whole_own : (x : Mount ℕ) → is_own theirs x ≡ true → keep theirs x ≡ Some x
   whole_own x e =
@@ -72,7 +67,8 @@ module _ (world : World ℕ) (names : List TaskName) where
 
   none_own : (x y : Mount ℕ) → keep theirs x ≡ Some y → is_own theirs x ≡ false → is_own theirs y ≡ false
   none_own x y e f =
-      ⊎_elim (λ same. ap (is_own theirs) (sym same) ∙ f) (λ stub. ap (is_own theirs) (sym stub.0)) (kept_how theirs x y e)
+      ⊎_elim (λ same. ap (is_own theirs) (sym same) ∙ f) (λ stub. ap (is_own theirs) (sym stub.0))
+      (kept_how theirs x y e)
 
   pub same_own : own_mounts nat_eq part names ≡ own_mounts nat_eq world names
   same_own =
@@ -117,19 +113,13 @@ module _ (world : World ℕ) (names : List TaskName) where
       → (mount_at nat_eq part location).filesystem ≡ (mount_at nat_eq world location).filesystem
   located location m =
       find_kept (keep theirs) (λ mount. nat_eq location.mount mount.number)
-      (kept_at location.mount (λ x e. any_from_among (λ (l : Location ℕ). nat_eq l.mount x.number) (locations theirs) location m e))
+      (kept_at location.mount
+      (λ x e. any_from_among (λ (l : Location ℕ). nat_eq l.mount x.number) (locations theirs) location m e))
       (λ x y e f. ap (nat_eq location.mount) (same_number x y e) ∙ f)
       ℕ (λ (mount : Mount ℕ). mount.filesystem) same_filesystem (no_mount location.mount) world.mounts
 
   pub same_directly : used_directly nat_eq part names ≡ used_directly nat_eq world names
-  same_directly =
-      ap (λ l. map (λ (mount : Mount ℕ). mount.filesystem) l
-      ++ map (λ location. (mount_at nat_eq part location).filesystem) (locations (members part names))) same_own
-      ∙ ap (λ tasks. map (λ (mount : Mount ℕ). mount.filesystem) (own_mounts nat_eq world names)
-      ++ map (λ location. (mount_at nat_eq part location).filesystem) (locations tasks)) same_members
-      ∙ ap (λ l. map (λ (mount : Mount ℕ). mount.filesystem) (own_mounts nat_eq world names) ++ l)
-      (map_alike (λ location. (mount_at nat_eq part location).filesystem)
-      (λ location. (mount_at nat_eq world location).filesystem) (locations theirs) located)
+  same_directly = grind (arith, common_steps, same_own, same_members, map_alike, located)
 
   abbrev used : List ℕ
   used = used_filesystems nat_eq world names
@@ -142,7 +132,8 @@ module _ (world : World ℕ) (names : List TaskName) where
       × (is_among nat_eq x.number used ≡ false)
       × (list_any (λ layer. nat_eq x.number layer.filesystem) (own_lowers nat_eq world names) ≡ true))
   shown_how x y e =
-      by (is_among nat_eq x.number used) (list_any (λ layer. nat_eq x.number layer.filesystem) (own_lowers nat_eq world names))
+      by (is_among nat_eq x.number used)
+      (list_any (λ layer. nat_eq x.number layer.filesystem) (own_lowers nat_eq world names))
       refl refl e
     where
       by : (a b : Bool) → is_among nat_eq x.number used ≡ a
@@ -156,9 +147,7 @@ module _ (world : World ℕ) (names : List TaskName) where
       by false false f g e = none_is_some y e
 
   shown_number : (x y : Filesystem ℕ) → shown x ≡ Some y → y.number ≡ x.number
-  shown_number x y e =
-      ⊎_elim (λ same. ap (λ (f : Filesystem ℕ). f.number) (sym same.0)) (λ low. ap (λ (f : Filesystem ℕ). f.number) (sym low.0))
-      (shown_how x y e)
+  shown_number x y e = grind (arith, common_steps)
 
   -- a filesystem that they use is whole in the part
   pub found : (number : ℕ) → is_among nat_eq number used ≡ true
@@ -168,22 +157,11 @@ module _ (world : World ℕ) (names : List TaskName) where
       step : (x : Filesystem ℕ) (rest : List (Filesystem ℕ)) (b : Bool) → nat_eq number x.number ≡ b
           → unwrap_or (find (λ f. nat_eq number f.number) (filter_map shown rest)) (no_filesystem number)
           ≡ unwrap_or (find (λ f. nat_eq number f.number) rest) (no_filesystem number)
-          → unwrap_or (find (λ f. nat_eq number f.number) (cons_option (shown x) (filter_map shown rest))) (no_filesystem number)
+          → unwrap_or (find (λ f. nat_eq number f.number) (cons_option (shown x) (filter_map shown rest)))
+          (no_filesystem number)
           ≡ unwrap_or (cond b (Some x) (find (λ f. nat_eq number f.number) rest)) (no_filesystem number)
-      step x rest true e later =
-          ap (λ o. unwrap_or (find (λ f. nat_eq number f.number) (cons_option o (filter_map shown rest))) (no_filesystem number))
-          (ap (λ b. cond b (Some x) (when (list_any (λ layer. nat_eq x.number layer.filesystem) (own_lowers nat_eq world names))
-          (part_of_lower nat_eq world names x))) (ap (λ n. is_among nat_eq n used) (sym (eqb-true number x.number e)) ∙ m))
-          ∙ ap (λ b. unwrap_or (cond b (Some x) (find (λ f. nat_eq number f.number) (filter_map shown rest))) (no_filesystem number)) e
-      step x rest false e later = by (shown x) refl
-        where
-          by : (o : Option (Filesystem ℕ)) → shown x ≡ o
-              → unwrap_or (find (λ f. nat_eq number f.number) (cons_option o (filter_map shown rest))) (no_filesystem number)
-              ≡ unwrap_or (find (λ f. nat_eq number f.number) rest) (no_filesystem number)
-          by None g = later
-          by (Some y) g =
-              ap (λ b. unwrap_or (cond b (Some y) (find (λ f. nat_eq number f.number) (filter_map shown rest))) (no_filesystem number))
-              (ap (nat_eq number) (shown_number x y g) ∙ e) ∙ later
+      step x rest true e later = grind (arith, common_steps)
+      step x rest false e later = grind (arith, common_steps, shown_number)
 
       search : (list : List (Filesystem ℕ))
           → unwrap_or (find (λ f. nat_eq number f.number) (filter_map shown list)) (no_filesystem number)
@@ -191,44 +169,22 @@ module _ (world : World ℕ) (names : List TaskName) where
       search [] = refl
       search (x ∷ rest) = step x rest (nat_eq number x.number) refl (search rest)
 
-  pub used_directly_used : (number : ℕ) → Among number (used_directly nat_eq world names) → is_among nat_eq number used ≡ true
-  used_directly_used number m =
-      is_among_numbers used number
-      (among-each_once (used_directly nat_eq world names
-      ++ flat_map (λ n. change_layers (filesystem_numbered nat_eq world n)) (used_directly nat_eq world names)) number
-      (among-append_left (used_directly nat_eq world names) _ number m))
+  pub used_directly_used : (number : ℕ) → Among number (used_directly nat_eq world names)
+      → is_among nat_eq number used ≡ true
+  used_directly_used number m = grind (arith, common_steps, is_among_numbers, among-each_once, among-append_left)
 
   pub same_used : used_filesystems nat_eq part names ≡ used
-  same_used =
-      ap (λ d. each_once nat_eq (d ++ flat_map (λ n. change_layers (filesystem_numbered nat_eq part n)) d)) same_directly
-      ∙ ap (λ l. each_once nat_eq (used_directly nat_eq world names ++ l))
-      (flat_map_alike (λ n. change_layers (filesystem_numbered nat_eq part n))
-      (λ n. change_layers (filesystem_numbered nat_eq world n)) (used_directly nat_eq world names)
-      (λ n m. ap change_layers (found n (used_directly_used n m))))
+  same_used = grind (arith, common_steps, same_directly, flat_map_alike, found, used_directly_used)
 
   pub same_lowers : own_lowers nat_eq part names ≡ own_lowers nat_eq world names
-  same_lowers =
-      ap (λ d. flat_map (λ n. of_overlay [] (λ (overlay : Overlay ℕ). overlay.lowers) (filesystem_numbered nat_eq part n)) d)
-      same_directly
-      ∙ flat_map_alike (λ n. of_overlay [] (λ (overlay : Overlay ℕ). overlay.lowers) (filesystem_numbered nat_eq part n))
-      (λ n. of_overlay [] (λ (overlay : Overlay ℕ). overlay.lowers) (filesystem_numbered nat_eq world n))
-      (used_directly nat_eq world names)
-      (λ n m. ap (of_overlay [] (λ (overlay : Overlay ℕ). overlay.lowers)) (found n (used_directly_used n m)))
+  same_lowers = grind (arith, common_steps, same_directly, flat_map_alike, found, used_directly_used)
 
   -- where each lower layer of theirs is in a filesystem that they use
   module _ (all_used : (number : ℕ)
       → list_any (λ layer. nat_eq number layer.filesystem) (own_lowers nat_eq world names) ≡ true
       → is_among nat_eq number used ≡ true) where
     shown_again : (x y : Filesystem ℕ) → shown x ≡ Some y → part_of_filesystem nat_eq part names y ≡ Some y
-    shown_again x y e =
-        ⊎_elim
-        (λ same. ap (λ u. cond (is_among nat_eq y.number u) (Some y)
-        (when (list_any (λ layer. nat_eq y.number layer.filesystem) (own_lowers nat_eq part names))
-        (part_of_lower nat_eq part names y))) same_used
-        ∙ ap (λ b. cond b (Some y) (when (list_any (λ layer. nat_eq y.number layer.filesystem) (own_lowers nat_eq part names))
-        (part_of_lower nat_eq part names y))) (ap (λ (f : Filesystem ℕ). is_among nat_eq f.number used) (sym same.0) ∙ same.1))
-        (λ low. absurd (true≢false (sym (all_used x.number low.2) ∙ low.1)))
-        (shown_how x y e)
+    shown_again x y e = grind (arith, common_steps, same_used, true≢false)
 
     same_shown : filter_map (part_of_filesystem nat_eq part names) part.filesystems ≡ part.filesystems
     same_shown = search world.filesystems
@@ -238,9 +194,7 @@ module _ (world : World ℕ) (names : List TaskName) where
             → filter_map (part_of_filesystem nat_eq part names) (cons_option o (filter_map shown rest))
             ≡ cons_option o (filter_map shown rest)
         step x rest None e later = later
-        step x rest (Some y) e later =
-            ap (λ o. cons_option o (filter_map (part_of_filesystem nat_eq part names) (filter_map shown rest))) (shown_again x y e)
-            ∙ ap (λ l. y ∷ l) later
+        step x rest (Some y) e later = cc (shown_again x y e, later)
 
         search : (list : List (Filesystem ℕ))
             → filter_map (part_of_filesystem nat_eq part names) (filter_map shown list) ≡ filter_map shown list
@@ -248,30 +202,17 @@ module _ (world : World ℕ) (names : List TaskName) where
         search (x ∷ rest) = step x rest (shown x) refl (search rest)
 
     same_masters : part_of_master nat_eq part names ≡ part_of_master nat_eq world names
-    same_masters =
-        ap (λ l. λ (group : ℕ). cond (list_any (is_member_of nat_eq group) l) (part_of_master nat_eq world names group) None) same_own
-        ∙ (λ i group. twice (list_any (is_member_of nat_eq group) (own_mounts nat_eq world names)) (world.master group) i)
-      where
-        twice : (b : Bool) (o : Option ℕ) → cond b (cond b o None) None ≡ cond b o None
-        twice true o = refl
-        twice false o = refl
+    same_masters = grind (arith, common_steps, same_own)
 
     abbrev kept_namespaces : List (Task ℕ) → List (Namespace ℕ) → List (Namespace ℕ)
     kept_namespaces tasks list =
         filter (λ (n : Namespace ℕ). list_any (λ (task : Task ℕ). nat_eq n.number task.namespace) tasks) list
 
     same_namespaces : kept_namespaces (members part names) part.namespaces ≡ part.namespaces
-    same_namespaces =
-        ap (λ tasks. kept_namespaces tasks part.namespaces) same_members
-        ∙ filter_again (λ (n : Namespace ℕ). list_any (λ (task : Task ℕ). nat_eq n.number task.namespace) theirs) world.namespaces
+    same_namespaces = grind (arith, common_steps, same_members, filter_again)
 
     pub part_of_part : part_of nat_eq part names ≡ part
-    part_of_part =
-        ap (λ m. record (part_of nat_eq part names) { mounts = m }) same_mounts
-        ∙ ap (λ m. record (part_of nat_eq part names) { mounts = part.mounts; master = m }) same_masters
-        ∙ ap (λ f. record (part_of nat_eq part names) { mounts = part.mounts; master = part.master; filesystems = f }) same_shown
-        ∙ ap (λ n. record part { namespaces = n; tasks = members part names }) same_namespaces
-        ∙ ap (λ t. record part { tasks = t }) same_members
+    part_of_part = grind (arith, common_steps, same_mounts, same_masters, same_shown, same_namespaces, same_members)
 
 pub part_of_the_part_is_the_part : PartOfThePartIsThePart
 part_of_the_part_is_the_part world names all_used = part_of_part world names all_used

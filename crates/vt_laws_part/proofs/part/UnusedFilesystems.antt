@@ -1,9 +1,10 @@
 -- A change of a filesystem that a set of tasks does not use leaves their part.
-use Rattle.std.proofs.Common.{◌≡◌, ◌≢◌, refl, sym, ap, subst, ◌∙◌, ℕ, nat_eq, Bool, true, false, cond, true≢false, List, ◌++◌, Option, Some, None, flat_map, filter, ◌&&◌, eq-eqb, eqb-true}
+use Rattle.std.proofs.lemmas.Grind.{common_steps}
+use Rattle.std.proofs.Common.{◌≡◌, ◌≢◌, refl, sym, ap, ◌∙◌, ℕ, nat_eq, Bool, true, false, cond, true≢false, List, Option, Some, None, filter, ◌&&◌, eq-eqb, eqb-true, arith}
 use Rattle.std.specs.List.{list_any}
 use Rattle.vt_spec.specs.Lists.{is_among, when}
 use Rattle.vt_spec.specs.Language.Calls.{TaskName}
-use Rattle.vt_spec.specs.Machine.Sealed.{change_layers, own_lowers, used_directly, used_filesystems}
+use Rattle.vt_spec.specs.Machine.Sealed.{own_lowers, used_directly, used_filesystems}
 use Rattle.vt_spec.specs.FileTree.{is_under}
 use Rattle.vt_spec.specs.Machine.Settled.{only_among}
 use Rattle.vt_spec.specs.Machine.World.{Filesystem, Layer, World, filesystem_numbered, replaced_if_numbered, with_filesystem}
@@ -22,12 +23,7 @@ module _ (world : World ℕ) (names : List TaskName) (new : Filesystem ℕ)
   -- what is used directly is used
   directly : (number : ℕ) → Among number (used_directly nat_eq world names) → number ≢ new.number
   directly number m e =
-      true≢false (sym (is_among_numbers (used_filesystems nat_eq world names) new.number
-      (among-each_once (used_directly nat_eq world names
-      ++ flat_map (λ n. change_layers (filesystem_numbered nat_eq world n)) (used_directly nat_eq world names))
-      new.number
-      (among-append_left (used_directly nat_eq world names) _ new.number (subst (λ n. Among n (used_directly nat_eq world names)) e m))))
-      ∙ unused)
+      grind (arith, common_steps, is_among_numbers, among-each_once, among-append_left, Among, true≢false)
 
   found : (number : ℕ) → Among number (used_directly nat_eq world names)
       → filesystem_numbered nat_eq later number ≡ filesystem_numbered nat_eq world number
@@ -54,10 +50,7 @@ module _ (world : World ℕ) (names : List TaskName) (new : Filesystem ℕ)
       (when (list_any (λ layer. nat_eq x.number layer.filesystem) lowers) (lower_by there x))
 
   none_of_it : (there x : Filesystem ℕ) → x.number ≡ new.number → part_by there x ≡ None
-  none_of_it there x e =
-      ap (λ b. cond b (Some x) (when (list_any (λ layer. nat_eq x.number layer.filesystem) lowers) (lower_by there x)))
-      (ap (λ n. is_among nat_eq n used) e ∙ unused)
-      ∙ ap (λ b. when b (lower_by there x)) (ap (λ n. list_any (λ layer. nat_eq n layer.filesystem) lowers) e ∙ no_lower)
+  none_of_it there x e = grind (arith, common_steps)
 
   each : (x : Filesystem ℕ)
       → shown_of later used lowers (replaced_if_numbered nat_eq new x) ≡ shown_of world used lowers x
@@ -70,7 +63,8 @@ module _ (world : World ℕ) (names : List TaskName) (new : Filesystem ℕ)
           ∙ sym (none_of_it (filesystem_numbered nat_eq world x.number) x (sym (eqb-true new.number x.number e)))
       by false e =
           ap (λ f. part_by f x)
-          (filesystem_elsewhere world new x.number (λ same. true≢false (sym (eq-eqb new.number x.number (sym same)) ∙ e)))
+          (filesystem_elsewhere world new x.number
+          (λ same. true≢false (sym (eq-eqb new.number x.number (sym same)) ∙ e)))
 
   pub sees_the_same : SeesTheSame world later names
   sees_the_same = record {

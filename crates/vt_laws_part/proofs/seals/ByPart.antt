@@ -1,11 +1,12 @@
 -- The part and the footholds of others decide whether a set of tasks is sealed off.
-use Rattle.std.proofs.Common.{◌≡◌, refl, sym, ap, subst, ◌∙◌, ◌⊎◌, inl, inr, ⊎_elim, ℕ, nat_eq, Bool, true, false, cond, true≢false, List, [], ◌∷◌, ◌++◌, Option, Some, None, map, find, not, is_some, ◌||◌, ◌&&◌, eq-eqb, eqb-true}
+use Rattle.std.proofs.lemmas.Grind.{common_steps}
+use Rattle.std.proofs.Common.{◌≡◌, refl, sym, ap, subst, ◌∙◌, ◌⊎◌, inl, inr, ⊎_elim, ℕ, nat_eq, Bool, true, false, cond, true≢false, List, [], ◌∷◌, ◌++◌, Option, Some, None, map, find, not, is_some, ◌||◌, ◌&&◌, eq-eqb, eqb-true, arith}
 use Rattle.std.specs.Prelude.{option_to_list, unwrap_or}
 use Rattle.std.specs.List.{list_all, list_any}
 use Rattle.std.proofs.lemmas.Bool.{and_from, and_parts, not-true, or_cases, or_left, or_right}
 use Rattle.vt_spec.specs.Language.Calls.{TaskName}
 use Rattle.vt_spec.specs.Lists.{holds_of, is_among, when}
-use Rattle.vt_spec.specs.Machine.Invariants.{IsWorld, is_plain_layer}
+use Rattle.vt_spec.specs.Machine.Invariants.{IsWorld}
 use Rattle.vt_spec.specs.Machine.Locked.{of_overlay, overlay_or, overlays}
 use Rattle.vt_spec.specs.Machine.Mounts.{Location, Mount}
 use Rattle.vt_spec.specs.Machine.Sealed.{all_named, holds_all_tasks, is_lower_root, is_member_task, is_own_mount, is_own_namespace, locations, members, no_outsider_on, no_outsider_on_mounts, other_mounts, outsiders, own_lowers, own_mounts, part_of, part_of_filesystem, part_of_lower, sealed, shares_no_events, used_alone, used_directly, used_filesystems, wholly_locked}
@@ -40,7 +41,8 @@ module _ (world : World ℕ) (names : List TaskName) (is : IsWorld nat_eq world)
           among-append_right (map (λ (m : Mount ℕ). m.filesystem) (own_mounts nat_eq world names)) _ filesystem
           (subst (λ f. Among f (map (λ (l : Location ℕ). (mount_at nat_eq world l).filesystem)
           (locations (members world names)))) here
-          (among-map (λ (l : Location ℕ). (mount_at nat_eq world l).filesystem) (locations (members world names)) location
+          (among-map (λ (l : Location ℕ). (mount_at nat_eq world l).filesystem)
+          (locations (members world names)) location
           (among-flat_map locations_of (members world names) task location
           (among-filter (is_member_task names) world.tasks task there member) at)))
       by location task there at here false member =
@@ -60,7 +62,8 @@ module _ (world : World ℕ) (names : List TaskName) (is : IsWorld nat_eq world)
     where
       by : (o : Option ℕ) → mount.namespace ≡ o → Among filesystem (used_directly nat_eq world names)
       by None none =
-          located_by mount.number filesystem mount (found_itself world.mounts is.mounts.one_number mount there) shows alone
+          located_by mount.number filesystem mount
+          (found_itself world.mounts is.mounts.one_number mount there) shows alone
           (ap (λ o. is_some o || is_located nat_eq world mount.number) (sym none)
           ∙ among_from_list_all (mount_lives nat_eq world) world.mounts (all_in_use world is).mounts mount there)
       by (Some namespace) at = which (is_own_namespace nat_eq world names namespace) refl
@@ -75,7 +78,8 @@ module _ (world : World ℕ) (names : List TaskName) (is : IsWorld nat_eq world)
               (ap (holds_of (is_own_namespace nat_eq world names)) at ∙ own))))
           which false other =
               absurd (true≢false
-              (sym (any_from_among (λ (m : Mount ℕ). nat_eq filesystem m.filesystem) (other_mounts nat_eq world names) mount
+              (sym (any_from_among (λ (m : Mount ℕ). nat_eq filesystem m.filesystem)
+              (other_mounts nat_eq world names) mount
               (among-filter (λ (m : Mount ℕ). holds_of (λ n. not (is_own_namespace nat_eq world names n)) m.namespace)
               world.mounts mount there
               (ap (holds_of (λ n. not (is_own_namespace nat_eq world names n))) at ∙ ap not other))
@@ -87,37 +91,13 @@ module _ (world : World ℕ) (names : List TaskName) (is : IsWorld nat_eq world)
   pub layer_plain : (merged : Filesystem ℕ) → Among merged world.filesystems → (layer : Layer ℕ)
       → Among layer (of_overlay [] layers_of merged)
       → is_overlay (filesystem_numbered nat_eq world layer.filesystem) ≡ false
-  layer_plain merged there layer m = by merged.overlay refl
-    where
-      by : (o : Option (Overlay ℕ)) → merged.overlay ≡ o
-          → is_overlay (filesystem_numbered nat_eq world layer.filesystem) ≡ false
-      by None e = absurd (subst (Among layer) (ap (overlay_or [] layers_of) e) m)
-      by (Some overlay) e =
-          not-true (is_overlay (filesystem_numbered nat_eq world layer.filesystem))
-          (and_parts (not (is_overlay (filesystem_numbered nat_eq world layer.filesystem))) _
-          (among_from_list_all (is_plain_layer nat_eq world) (layers_of overlay)
-          (sym (ap (overlay_or true (λ o. list_all (is_plain_layer nat_eq world) (layers_of o))) e)
-          ∙ among_from_list_all (of_overlay true (λ o. list_all (is_plain_layer nat_eq world) (layers_of o)))
-          world.filesystems is.overlays.plain_layers merged there)
-          layer (subst (Among layer) (ap (overlay_or [] layers_of) e) m))).0
+  layer_plain merged there layer m = grind (arith, common_steps, Among, not-true, among_from_list_all)
 
   -- at directories
   pub layer_directory : (merged : Filesystem ℕ) → Among merged world.filesystems → (layer : Layer ℕ)
       → Among layer (of_overlay [] layers_of merged)
       → is_directory_node ((filesystem_numbered nat_eq world layer.filesystem).files.tree.node layer.directory) ≡ true
-  layer_directory merged there layer m = by merged.overlay refl
-    where
-      by : (o : Option (Overlay ℕ)) → merged.overlay ≡ o
-          → is_directory_node ((filesystem_numbered nat_eq world layer.filesystem).files.tree.node layer.directory) ≡ true
-      by None e = absurd (subst (Among layer) (ap (overlay_or [] layers_of) e) m)
-      by (Some overlay) e =
-          (and_parts (not (is_overlay (filesystem_numbered nat_eq world layer.filesystem)))
-          (is_directory_node ((filesystem_numbered nat_eq world layer.filesystem).files.tree.node layer.directory))
-          (among_from_list_all (is_plain_layer nat_eq world) (layers_of overlay)
-          (sym (ap (overlay_or true (λ o. list_all (is_plain_layer nat_eq world) (layers_of o))) e)
-          ∙ among_from_list_all (of_overlay true (λ o. list_all (is_plain_layer nat_eq world) (layers_of o)))
-          world.filesystems is.overlays.plain_layers merged there)
-          layer (subst (Among layer) (ap (overlay_or [] layers_of) e) m))).1
+  layer_directory merged there layer m = grind (arith, common_steps, Among, among_from_list_all)
 
   -- so an overlay is no layer of another
   no_layer : (merged other : Filesystem ℕ) → Among merged world.filesystems → Among other world.filesystems
@@ -126,7 +106,8 @@ module _ (world : World ℕ) (names : List TaskName) (is : IsWorld nat_eq world)
     where
       by : (o : Option (Overlay ℕ)) → other.overlay ≡ o → ⊥
       by None e =
-          true≢false (sym has ∙ ap (overlay_or false (λ overlay. list_any (λ layer. nat_eq merged.number layer.filesystem)
+          true≢false (sym has ∙ ap
+          (overlay_or false (λ overlay. list_any (λ layer. nat_eq merged.number layer.filesystem)
           (layers_of overlay))) e)
       by (Some overlay) e =
           let at = any_among (λ (layer : Layer ℕ). nat_eq merged.number layer.filesystem) (layers_of overlay)
@@ -147,7 +128,8 @@ module _ (world : World ℕ) (names : List TaskName) (is : IsWorld nat_eq world)
       absurd (no_layer merged at.0 there at.1 overlaid
       (and_parts (has_layer_on nat_eq merged.number at.0) (is_mounted nat_eq world at.0.number) at.2).0))
       (or_cases (is_mounted nat_eq world merged.number) _
-      (among_from_list_all (filesystem_lives nat_eq world) world.filesystems (all_in_use world is).filesystems merged there))
+      (among_from_list_all (filesystem_lives nat_eq world) world.filesystems
+      (all_in_use world is).filesystems merged there))
 
   -- one on which no other is
   pub overlay_without_others : (merged : Filesystem ℕ) → Among merged (overlays world)
@@ -235,7 +217,8 @@ module _ (world : World ℕ) (names : List TaskName) (is : IsWorld nat_eq world)
           absurd (subst (λ o. Among layer (of_overlay [] (λ (overlay : Overlay ℕ). overlay.lowers)
           (unwrap_or o (no_filesystem number)))) e m)
       by number (Some merged) e layer m =
-          layer_plain merged (found_among (λ (f : Filesystem ℕ). nat_eq number f.number) world.filesystems merged e) layer
+          layer_plain merged (found_among
+          (λ (f : Filesystem ℕ). nat_eq number f.number) world.filesystems merged e) layer
           (layered merged layer (subst (λ o. Among layer (of_overlay [] (λ (overlay : Overlay ℕ). overlay.lowers)
           (unwrap_or o (no_filesystem number)))) e m))
 
@@ -260,15 +243,11 @@ module _ (world : World ℕ) (names : List TaskName) (is : IsWorld nat_eq world)
 
   locks_by_overlay : (filesystem : ℕ) (a b : Filesystem ℕ) → a.number ≡ b.number → a.overlay ≡ b.overlay
       → locks filesystem a ≡ locks filesystem b
-  locks_by_overlay filesystem a b number overlay =
-      ap (λ o. overlay_or false (λ (v : Overlay ℕ). list_any (λ layer. nat_eq filesystem layer.filesystem
-      && nat_eq (filesystem_numbered nat_eq world filesystem).files.tree.root layer.directory) v.lowers) o
-      && used_alone nat_eq world names a.number) overlay
-      ∙ ap (λ n. is_lower_root nat_eq filesystem (filesystem_numbered nat_eq world filesystem).files.tree.root b
-      && used_alone nat_eq world names n) number
+  locks_by_overlay filesystem a b number overlay = cc (overlay, number)
 
   same_locks : (filesystem : ℕ)
-      → list_any (locks filesystem) (overlays (part_of nat_eq world names)) ≡ list_any (locks filesystem) (overlays world)
+      → list_any (locks filesystem) (overlays (part_of nat_eq world names))
+      ≡ list_any (locks filesystem) (overlays world)
   same_locks filesystem =
       same_truth (list_any (locks filesystem) (overlays (part_of nat_eq world names)))
       (list_any (locks filesystem) (overlays world))
@@ -287,7 +266,8 @@ module _ (world : World ℕ) (names : List TaskName) (is : IsWorld nat_eq world)
       ≡ wholly_locked nat_eq world names filesystem
   locked_by_part filesystem m =
       ap (λ (f : Filesystem ℕ). list_any (λ merged. is_lower_root nat_eq filesystem f.files.tree.root merged
-      && used_alone nat_eq world names merged.number) (overlays (part_of nat_eq world names)) && all_named nat_eq f.files)
+      && used_alone nat_eq world names merged.number) (overlays (part_of nat_eq world names))
+      && all_named nat_eq f.files)
       (found world names filesystem (is_among_numbers (used_filesystems nat_eq world names) filesystem m))
       ∙ ap (λ b. b && all_named nat_eq (filesystem_numbered nat_eq world filesystem).files) (same_locks filesystem)
 
@@ -298,19 +278,11 @@ module _ (world : World ℕ) (names : List TaskName) (is : IsWorld nat_eq world)
   same_all : (p q : ℕ → Bool) (list : List ℕ) → ((x : ℕ) → Among x list → p x ≡ q x)
       → list_all p list ≡ list_all q list
   same_all p q [] same = refl
-  same_all p q (x ∷ rest) same =
-      ap (λ b. b && list_all p rest) (same x (inl refl))
-      ∙ ap (λ b. q x && b) (same_all p q rest (λ y m. same y (inr m)))
+  same_all p q (x ∷ rest) same = cc (same x (inl refl), same_all p q rest (λ y m. same y (inr m)))
 
   pub used_by_part : is_sealed_by (part_of nat_eq world names) names (used_alone nat_eq world names)
       ≡ list_all free_or_locked (used_filesystems nat_eq world names)
-  used_by_part =
-      ap (list_all (λ f. used_alone nat_eq world names f
-      || is_locked_whole (part_of nat_eq world names) (used_alone nat_eq world names) f)) (same_used world names)
-      ∙ same_all (λ f. used_alone nat_eq world names f
-      || is_locked_whole (part_of nat_eq world names) (used_alone nat_eq world names) f) free_or_locked
-      (used_filesystems nat_eq world names)
-      (λ f m. ap (λ b. used_alone nat_eq world names f || b) (locked_by_part f m))
+  used_by_part = grind (arith, common_steps, same_used, same_all, locked_by_part)
 
 pub their_overlays_are_in_the_part : TheirOverlaysAreInThePart
 their_overlays_are_in_the_part world names merged is there alone =
@@ -324,7 +296,8 @@ sealed_is_by_part_and_footholds world names apart =
     && list_all (free_or_locked world names apart.is) (used_filesystems nat_eq world names)) apart.tasks
     ∙ ap (λ a. a && no_outsider_on_mounts nat_eq world names
     && list_all (free_or_locked world names apart.is) (used_filesystems nat_eq world names)) apart.events
-    ∙ ap (λ a. a && list_all (free_or_locked world names apart.is) (used_filesystems nat_eq world names)) apart.locations
+    ∙ ap (λ a. a && list_all (free_or_locked world names apart.is)
+    (used_filesystems nat_eq world names)) apart.locations
     ∙ sym (used_by_part world names apart.is)
 
 -- the first three of what makes a set sealed off
@@ -353,12 +326,6 @@ used_are_free world names all number m =
     (list_all (λ f. used_alone nat_eq world names f || wholly_locked nat_eq world names f)
     (used_filesystems nat_eq world names)) all).1 number m
 
--- an overlay that locks a filesystem of a part
-abbrev locks_by : World ℕ → ℕ → (ℕ → Bool) → Filesystem ℕ → Bool
-locks_by part filesystem free merged =
-    is_lower_root nat_eq filesystem (filesystem_numbered nat_eq part filesystem).files.tree.root merged
-    && free merged.number
-
 -- fewer footholds seal too
 more_free : (part : World ℕ) (names : List TaskName) (free more : ℕ → Bool)
     → ((filesystem : ℕ) → Among filesystem (used_filesystems nat_eq part names) → free filesystem ≡ true
@@ -366,24 +333,18 @@ more_free : (part : World ℕ) (names : List TaskName) (free more : ℕ → Bool
     → ((merged : Filesystem ℕ) → Among merged (overlays part) → free merged.number ≡ true → more merged.number ≡ true)
     → is_sealed_by part names free ≡ true → is_sealed_by part names more ≡ true
 more_free part names free more used over h =
-    list_all_from_among (λ f. more f || is_locked_whole part more f) (used_filesystems nat_eq part names)
-    (λ f m.
-    ⊎_elim (λ e. or_left (more f) (is_locked_whole part more f) (used f m e))
-    (λ e. or_right (more f) (is_locked_whole part more f) (locked f e))
-    (or_cases (free f) (is_locked_whole part free f)
-    (among_from_list_all (λ f. free f || is_locked_whole part free f) (used_filesystems nat_eq part names) h f m)))
-  where
-    locked : (f : ℕ) → is_locked_whole part free f ≡ true → is_locked_whole part more f ≡ true
-    locked f e =
-        let both = and_parts (list_any (locks_by part f free) (overlays part))
-        (all_named nat_eq (filesystem_numbered nat_eq part f).files) e in
-        let at = any_among (locks_by part f free) (overlays part) both.0 in
-        let parts = and_parts (is_lower_root nat_eq f (filesystem_numbered nat_eq part f).files.tree.root at.0)
-        (free at.0.number) at.2 in
-        and_from (list_any (locks_by part f more) (overlays part)) (all_named nat_eq (filesystem_numbered nat_eq part f).files)
-        (any_from_among (locks_by part f more) (overlays part) at.0 at.1
-        (and_from (is_lower_root nat_eq f (filesystem_numbered nat_eq part f).files.tree.root at.0) (more at.0.number)
-        parts.0 (over at.0 at.1 parts.1))) both.1
+    grind (
+      arith,
+      common_steps,
+      list_all_from_among,
+      or_left,
+      or_right,
+      or_cases,
+      among_from_list_all,
+      any_among,
+      and_from,
+      any_from_among,
+    )
 
 pub fewer_footholds_seal_too : FewerFootholdsSealToo
 fewer_footholds_seal_too world other names apart other_is parts no_more other_sealed =

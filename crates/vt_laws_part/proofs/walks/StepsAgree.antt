@@ -27,7 +27,8 @@ pub record AlikeWhereSeen (one other : Looks ℕ) (task : Task ℕ) (Own : ℕ �
   -- a chain begins with its start
   pub hops_start : (here : Location ℕ) → Among here (hops nat_eq one task here)
   pub over_start : (here : Location ℕ) → Among here (one.mounts_over here)
-  pub node : (here : Location ℕ) → Own here.mount → Seen (mount_at one here).filesystem → one.node here ≡ other.node here
+  pub node : (here : Location ℕ) → Own here.mount → Seen (mount_at one here).filesystem
+      → one.node here ≡ other.node here
   pub lost : (here : Location ℕ) → Own here.mount → Seen (mount_at one here).filesystem
       → is_lost nat_eq one here ≡ is_lost nat_eq other here
 
@@ -71,7 +72,8 @@ module _ (one other : Looks ℕ) (task : Task ℕ) (Own : ℕ → Type 0) (Seen 
       ap (λ (m : Mount ℕ). same_location nat_eq here task.root || nat_eq here.node m.root) (alike.alike_mount here own)
 
   same_parent : (here : Location ℕ) → Good here → parent_location nat_eq one here ≡ parent_location nat_eq other here
-  same_parent here good = ap (λ n. record { mount = here.mount; node = parent_in here.node n }) (alike.node here good.0 good.1)
+  same_parent here good =
+      ap (λ n. record { mount = here.mount; node = parent_in here.node n }) (alike.node here good.0 good.1)
 
   up_by : (t l : Bool) (here there : Location ℕ) → Good here → (t ≡ false → Good there)
       → IfOk (cond t (Ok here) (unless ((l, W8) ∷ []) (Ok there))) Good
@@ -83,20 +85,25 @@ module _ (one other : Looks ℕ) (task : Task ℕ) (Own : ℕ → Type 0) (Seen 
       → Each Seen (filesystems_of nat_eq one (entered_upward nat_eq one task here))
       → Agree Good (up_from nat_eq one task here) (up_from nat_eq other task here)
   up_agrees here good seen = (
-    ap (λ t. cond t (Ok here) (unless ((is_lost nat_eq one here, W8) ∷ []) (Ok (topmost one (parent_location nat_eq one here)))))
+    ap (λ t. cond t (Ok here)
+        (unless ((is_lost nat_eq one here, W8) ∷ []) (Ok (topmost one (parent_location nat_eq one here)))))
         (same_top here good.0)
         ∙ ap (λ l. cond (is_top nat_eq other task here) (Ok here)
         (unless ((l, W8) ∷ []) (Ok (topmost one (parent_location nat_eq one here))))) (alike.lost here good.0 good.1)
-        ∙ ap (λ r. cond (is_top nat_eq other task here) (Ok here) (unless ((is_lost nat_eq other here, W8) ∷ []) (Ok r)))
+        ∙ ap (λ r. cond (is_top nat_eq other task here) (Ok here)
+        (unless ((is_lost nat_eq other here, W8) ∷ []) (Ok r)))
         (same_topmost (parent_location nat_eq one here) good.0 ∙ ap (topmost other) (same_parent here good)),
-    up_by (is_top nat_eq one task here) (is_lost nat_eq one here) here (topmost one (parent_location nat_eq one here)) good
+    up_by (is_top nat_eq one task here) (is_lost nat_eq one here) here
+        (topmost one (parent_location nat_eq one here)) good
         (λ e. good_over (parent_location nat_eq one here) good.0
-        (subst (λ b. Each Seen (filesystems_of nat_eq one (cond b [] (one.mounts_over (parent_location nat_eq one here))))) e seen)),
+        (subst (λ b. Each Seen
+        (filesystems_of nat_eq one (cond b [] (one.mounts_over (parent_location nat_eq one here))))) e seen)),
   )
 
   named_by : (here : Location ℕ) → Own here.mount → (o : Option ℕ)
       → Each Seen (filesystems_of nat_eq one
-      (flat_map one.mounts_over (option_to_list (option_map (λ object. record { mount = here.mount; node = object }) o))))
+      (flat_map one.mounts_over
+      (option_to_list (option_map (λ object. record { mount = here.mount; node = object }) o))))
       → Agree Good
       (ok_or (option_map (topmost one) (option_map (λ object. record { mount = here.mount; node = object }) o))
       (denial W6))
@@ -106,10 +113,12 @@ module _ (one other : Looks ℕ) (task : Task ℕ) (Own : ℕ → Type 0) (Seen 
   named_by here own (Some object) seen =
       let there : Location ℕ = record { mount = here.mount; node = object } in (
         ap Ok (same_topmost there own),
-        good_over there own (λ f m. seen f (subst (λ l. Among f (map Fs l)) (sym (append-nil (one.mounts_over there))) m)),
+        good_over there own (λ f m. seen f
+            (subst (λ l. Among f (map Fs l)) (sym (append-nil (one.mounts_over there))) m)),
       )
 
-  head_seen : (here : Location ℕ) (list : List (Location ℕ)) → Each Seen (filesystems_of nat_eq one (here ∷ list)) → Seen (Fs here)
+  head_seen : (here : Location ℕ) (list : List (Location ℕ)) → Each Seen (filesystems_of nat_eq one (here ∷ list))
+      → Seen (Fs here)
   head_seen here list h = h (Fs here) (inl refl)
 
   -- a step meets where it begins and where it leads
@@ -131,11 +140,13 @@ module _ (one other : Looks ℕ) (task : Task ℕ) (Own : ℕ → Type 0) (Seen 
             (among-map Fs way top (last_among way here (alike.hops_start here))))),
       ) in
       let up = up_agrees top good (λ f m. seen f (subst (Among f) (sym split)
-      (among-append_right (filesystems_of nat_eq one way) (filesystems_of nat_eq one (entered_upward nat_eq one task top)) f m))) in
+      (among-append_right (filesystems_of nat_eq one way)
+      (filesystems_of nat_eq one (entered_upward nat_eq one task top)) f m))) in
       (up.0 ∙ ap (λ h. up_from nat_eq other task (last_or here h)) (alike.hops_alike here own), up.1)
   stepped_agrees here own (Named name) seen =
       let by = named_by here own (entry_named name (entries_in (one.node here))) (λ f m. seen f (inr m)) in (
-        by.0 ∙ ap (λ n. ok_or (option_map (topmost other) (option_map (λ object. record { mount = here.mount; node = object })
+        by.0 ∙ ap (λ n. ok_or
+            (option_map (topmost other) (option_map (λ object. record { mount = here.mount; node = object })
             (entry_named name (entries_in n)))) (denial W6)) (alike.node here own (head_seen here _ seen)),
         by.1,
       )

@@ -1,22 +1,21 @@
 -- Two worlds that show the same through some mounts are walked alike from them.
-use Rattle.std.proofs.Common.{◌≡◌, refl, sym, ap, subst, ◌∙◌, inl, inr, ⊎_elim, ℕ, zero, suc, nat_eq, Bool, true, false, cond, List, [], ◌∷◌, ◌++◌, Option, Some, None, Ok, Err, Result, map, flat_map, not, ◌||◌, ◌-◌, reverse}
+use Rattle.std.proofs.lemmas.Grind.{common_steps}
+use Rattle.std.proofs.Common.{◌≡◌, refl, sym, ap, subst, ◌∙◌, inl, inr, ⊎_elim, ℕ, zero, suc, nat_eq, Bool, true, false, cond, List, [], ◌∷◌, ◌++◌, Option, Some, None, Ok, Err, Result, map, flat_map, not, ◌||◌, ◌-◌, reverse, arith}
 use Rattle.std.specs.Prelude.{IfOk, length, nat_lt, ok_or, option_map, option_to_list, ◌==◌}
 use Rattle.std.specs.List.{list_any}
 use Rattle.vt_spec.specs.declared.errors.Deny.{Deny}
-use Rattle.vt_spec.specs.declared.errors.Rule.TheVariants.{W2, W3, W4, W5, W6, W7, W8, W9}
+use Rattle.vt_spec.specs.declared.errors.Rule.TheVariants.{W2, W3, W6, W7, W8, W9}
 use Rattle.vt_spec.specs.Errors.{Rules, and_then, denial, unless}
 use Rattle.vt_spec.specs.FileTree.{symlink_text}
 use Rattle.vt_spec.specs.Lists.{last_or}
 use Rattle.vt_spec.specs.Machine.Looks.{Looks, mount_at, topmost}
 use Rattle.vt_spec.specs.Machine.Mounts.{Location, Mount, same_location}
 use Rattle.vt_laws_part.specs.Walks.{AreOn, ShowAlike, TextsAgree, WordsAgree}
-use Rattle.vt_spec.specs.Machine.Walking.{Follow, Here, LastWord, Stop, also_met, entered_upward, entry_location, filesystems_of, follow_rules, hops, if_symlink, is_lost, is_top, last_word, met_by, parent_location, search_rules, slash_rules, start_of, stepped, steps_with, stopped_by, symlink_start, symlink_walked, then_walk, up_from, walk_unless, word_walked, words_walked}
+use Rattle.vt_spec.specs.Machine.Walking.{Follow, Here, LastWord, Stop, entered_upward, entry_location, filesystems_of, follow_rules, hops, if_symlink, is_lost, is_top, last_word, met_by, parent_location, search_rules, slash_rules, start_of, stepped, steps_with, stopped_by, symlink_start, symlink_walked, then_walk, up_from, walk_unless, word_walked, words_walked}
 use Rattle.vt_spec.specs.Machine.Walking.LastWord.{Dot, DotDot, Named, NoWord}
 use Rattle.vt_spec.specs.Machine.World.{Task}
 use Rattle.vt_spec.specs.Language.Limits.{longest_name}
-use Rattle.vt_spec.specs.Machine.Rightful.{mounter_allows, node_allows}
 use Rattle.vt_spec.specs.PathText.{ends_in_slash, is_absolute, words}
-use Rattle.vt_spec.specs.Rights.{execute_right}
 use Rattle.vt_spec.specs.Tree.{entries_in, entry_named, is_directory_node, parent_in}
 use Rattle.vt_spec.proofs.Lists.{Among, among-append, contains_from_among}
 
@@ -48,8 +47,7 @@ last_each Q (b ∷ list) a q h = last_each Q list b (h b (inl refl)) (λ c m. h 
 pub map_each : {A B : Type 0} (Q : A → Type 0) (f g : A → B) (list : List A) → ((a : A) → Q a → f a ≡ g a) → Each Q list
     → map f list ≡ map g list
 map_each Q f g [] same h = refl
-map_each Q f g (a ∷ list) same h =
-    ap (λ x. x ∷ map f list) (same a (h a (inl refl))) ∙ ap (λ l. g a ∷ l) (map_each Q f g list same (λ c m. h c (inr m)))
+map_each Q f g (a ∷ list) same h = cc (same a (h a (inl refl)), map_each Q f g list same (λ c m. h c (inr m)))
 
 -- what two worlds have to show alike on these mounts
 pub record Alike (one other : Looks ℕ) (task : Task ℕ) (Own : ℕ → Type 0) : Type 0 where
@@ -70,13 +68,9 @@ module _ (one other : Looks ℕ) (task : Task ℕ) (Own : ℕ → Type 0) (alike
   abbrev pub HereOwn : Here ℕ → Type 0
   HereOwn here = Own here.location.mount
 
-  pub same_search : (here : Location ℕ) → Own here.mount → search_rules nat_eq one task here ≡ search_rules nat_eq other task here
-  same_search here own =
-      ap (λ n. (not (is_directory_node n), W3) ∷ (not (node_allows task.credentials execute_right n), W4)
-      ∷ (not (mounter_allows (one.overlay here) execute_right n), W5) ∷ []) (alike.node here own)
-      ∙ ap (λ o. (not (is_directory_node (other.node here)), W3)
-      ∷ (not (node_allows task.credentials execute_right (other.node here)), W4)
-      ∷ (not (mounter_allows o execute_right (other.node here)), W5) ∷ []) (alike.overlay here own)
+  pub same_search : (here : Location ℕ) → Own here.mount
+      → search_rules nat_eq one task here ≡ search_rules nat_eq other task here
+  same_search here own = cc (alike.node here own, alike.overlay here own)
 
   pub same_entry : (here : Location ℕ) (name : List ℕ) → Own here.mount
       → entry_location nat_eq one here name ≡ entry_location nat_eq other here name
@@ -84,7 +78,8 @@ module _ (one other : Looks ℕ) (task : Task ℕ) (Own : ℕ → Type 0) (alike
       ap (λ n. option_map (λ object. record { mount = here.mount; node = object }) (entry_named name (entries_in n)))
       (alike.node here own)
 
-  same_parent : (here : Location ℕ) → Own here.mount → parent_location nat_eq one here ≡ parent_location nat_eq other here
+  same_parent : (here : Location ℕ) → Own here.mount
+      → parent_location nat_eq one here ≡ parent_location nat_eq other here
   same_parent here own = ap (λ n. record { mount = here.mount; node = parent_in here.node n }) (alike.node here own)
 
   same_top : (here : Location ℕ) → Own here.mount → is_top nat_eq one task here ≡ is_top nat_eq other task here
@@ -106,13 +101,16 @@ module _ (one other : Looks ℕ) (task : Task ℕ) (Own : ℕ → Type 0) (alike
   up_agrees : (here : Location ℕ) → Own here.mount
       → Agree OnOwn (up_from nat_eq one task here) (up_from nat_eq other task here)
   up_agrees here own = (
-    ap (λ t. cond t (Ok here) (unless ((is_lost nat_eq one here, W8) ∷ []) (Ok (topmost one (parent_location nat_eq one here)))))
+    ap (λ t. cond t (Ok here)
+        (unless ((is_lost nat_eq one here, W8) ∷ []) (Ok (topmost one (parent_location nat_eq one here)))))
         (same_top here own)
         ∙ ap (λ l. cond (is_top nat_eq other task here) (Ok here)
         (unless ((l, W8) ∷ []) (Ok (topmost one (parent_location nat_eq one here))))) (alike.lost here own)
-        ∙ ap (λ r. cond (is_top nat_eq other task here) (Ok here) (unless ((is_lost nat_eq other here, W8) ∷ []) (Ok r)))
+        ∙ ap (λ r. cond (is_top nat_eq other task here) (Ok here)
+        (unless ((is_lost nat_eq other here, W8) ∷ []) (Ok r)))
         (same_topmost (parent_location nat_eq one here) own ∙ ap (topmost other) (same_parent here own)),
-    up_by (is_top nat_eq one task here) (is_lost nat_eq one here) here (topmost one (parent_location nat_eq one here)) own
+    up_by (is_top nat_eq one task here) (is_lost nat_eq one here) here
+        (topmost one (parent_location nat_eq one here)) own
         (own_topmost (parent_location nat_eq one here) own),
   )
 
@@ -138,12 +136,14 @@ module _ (one other : Looks ℕ) (task : Task ℕ) (Own : ℕ → Type 0) (alike
       (up.0 ∙ ap (λ h. up_from nat_eq other task (last_or here h)) (alike.hops_alike here own), up.1)
   stepped_agrees here own (Named name) =
       let by = named_by here own (entry_named name (entries_in (one.node here))) in (
-        by.0 ∙ ap (λ n. ok_or (option_map (topmost other) (option_map (λ object. record { mount = here.mount; node = object })
+        by.0 ∙ ap (λ n. ok_or
+            (option_map (topmost other) (option_map (λ object. record { mount = here.mount; node = object })
             (entry_named name (entries_in n)))) (denial W6)) (alike.node here own),
         by.1,
       )
 
-  pub same_filesystems : (list : List (Location ℕ)) → Each OnOwn list → filesystems_of nat_eq one list ≡ filesystems_of nat_eq other list
+  pub same_filesystems : (list : List (Location ℕ)) → Each OnOwn list
+      → filesystems_of nat_eq one list ≡ filesystems_of nat_eq other list
   same_filesystems list h =
       map_each OnOwn (λ l. (mount_at one l).filesystem) (λ l. (mount_at other l).filesystem) list
       (λ l own. ap (λ (m : Mount ℕ). m.filesystem) (alike.mount l own)) h
@@ -168,19 +168,22 @@ module _ (one other : Looks ℕ) (task : Task ℕ) (Own : ℕ → Type 0) (alike
   same_entered : (here : Location ℕ) → Own here.mount
       → entered_upward nat_eq one task here ≡ entered_upward nat_eq other task here
   same_entered here own =
-      ap (λ b. cond b [] (one.mounts_over (parent_location nat_eq one here))) (same_top here own)
-      ∙ ap (cond (is_top nat_eq other task here) [])
-      (alike.over (parent_location nat_eq one here) own ∙ ap other.mounts_over (same_parent here own))
+      cc (same_top here own, alike.over (parent_location nat_eq one here) own, same_parent here own)
 
   pub over_by : (here : Location ℕ) → Own here.mount → (o : Option ℕ)
-      → (flat_map one.mounts_over (option_to_list (option_map (λ object. record { mount = here.mount; node = object }) o))
-      ≡ flat_map other.mounts_over (option_to_list (option_map (λ object. record { mount = here.mount; node = object }) o)))
+      → (flat_map one.mounts_over
+      (option_to_list (option_map (λ object. record { mount = here.mount; node = object }) o))
+      ≡ flat_map other.mounts_over
+      (option_to_list (option_map (λ object. record { mount = here.mount; node = object }) o)))
       × Each OnOwn
-      (flat_map one.mounts_over (option_to_list (option_map (λ object. record { mount = here.mount; node = object }) o)))
+      (flat_map one.mounts_over
+      (option_to_list (option_map (λ object. record { mount = here.mount; node = object }) o)))
   over_by here own None = (refl, none_each)
   over_by here own (Some object) =
-      let there : Location ℕ = record { mount = here.mount; node = object } in
-      (ap (λ l. l ++ []) (alike.over there own), both_each (one.mounts_over there) [] (alike.entered there own) none_each)
+      let there : Location ℕ = record { mount = here.mount; node = object } in (
+        ap (λ l. l ++ []) (alike.over there own),
+        both_each (one.mounts_over there) [] (alike.entered there own) none_each,
+      )
 
   pub same_met : (here : Location ℕ) → Own here.mount → (word : LastWord)
       → met_by nat_eq one task here word ≡ met_by nat_eq other task here word
@@ -193,7 +196,8 @@ module _ (one other : Looks ℕ) (task : Task ℕ) (Own : ℕ → Type 0) (alike
       (both_each (hops nat_eq one task here) (entered_upward nat_eq one task top) (alike.hopped here own)
       (entered_each top top_own))
       ∙ ap (λ e. filesystems_of nat_eq other (hops nat_eq one task here ++ e)) (same_entered top top_own)
-      ∙ ap (λ h. filesystems_of nat_eq other (h ++ entered_upward nat_eq other task (last_or here h))) (alike.hops_alike here own)
+      ∙ ap (λ h. filesystems_of nat_eq other (h ++ entered_upward nat_eq other task (last_or here h)))
+      (alike.hops_alike here own)
   same_met here own (Named name) =
       let by = over_by here own (entry_named name (entries_in (one.node here))) in
       same_filesystems (here ∷ flat_map one.mounts_over (option_to_list (entry_location nat_eq one here name)))
@@ -221,7 +225,8 @@ module _ (one other : Looks ℕ) (task : Task ℕ) (Own : ℕ → Type 0) (alike
             (stepped nat_eq one task here.location word)) (same_met here.location own word)
             ∙ ap (λ r. word_by here.left (steps_with nat_eq other task here word) r
             (stepped nat_eq one task here.location word)) (same_search here.location own)
-            ∙ ap (word_by here.left (steps_with nat_eq other task here word) (search_rules nat_eq other task here.location)) step.0,
+            ∙ ap (word_by here.left (steps_with nat_eq other task here word)
+            (search_rules nat_eq other task here.location)) step.0,
         word_own here.left (steps_with nat_eq one task here word) (search_rules nat_eq one task here.location)
             (stepped nat_eq one task here.location word) step.1,
       )
@@ -242,7 +247,8 @@ module _ (one other : Looks ℕ) (task : Task ℕ) (Own : ℕ → Type 0) (alike
       → Agree HereOwn (words_walked nat_eq one task f here list) (words_walked nat_eq other task g here list)
   words_agree f g agree here own [] = (refl, own)
   words_agree f g agree here own (word ∷ prefix) =
-      then_agree HereOwn HereOwn (words_walked nat_eq one task f here prefix) (words_walked nat_eq other task g here prefix)
+      then_agree HereOwn HereOwn (words_walked nat_eq one task f here prefix)
+      (words_walked nat_eq other task g here prefix)
       (λ reached. then_walk (word_walked nat_eq one task reached (last_word word)) (λ next.
       if_symlink next (symlink_text (one.node next.location)) (f reached.location next)))
       (λ reached. then_walk (word_walked nat_eq other task reached (last_word word)) (λ next.
@@ -255,8 +261,10 @@ module _ (one other : Looks ℕ) (task : Task ℕ) (Own : ℕ → Type 0) (alike
       (λ next. if_symlink next (symlink_text (other.node next.location)) (g reached.location next))
       (word_agrees reached there (last_word word))
       (λ next after.
-      let by = symlink_by f g agree reached.location there next after (symlink_text (one.node next.location)) in
-      (by.0 ∙ ap (λ n. if_symlink next (symlink_text n) (g reached.location next)) (alike.node next.location after), by.1)))
+      let by = symlink_by f g agree reached.location there next after (symlink_text (one.node next.location)) in (
+        by.0 ∙ ap (λ n. if_symlink next (symlink_text n) (g reached.location next)) (alike.node next.location after),
+        by.1,
+      )))
 
   -- the texts of symlinks, however deep
   pub texts_agree : (depth : ℕ)
@@ -264,17 +272,22 @@ module _ (one other : Looks ℕ) (task : Task ℕ) (Own : ℕ → Type 0) (alike
   texts_agree zero directory symlink text from own = (refl, tt)
   texts_agree (suc depth) directory symlink text from own =
       then_agree HereOwn HereOwn
-      (walk_unless symlink.steps (follow_rules nat_eq one symlink text) (symlink_start nat_eq one task directory symlink text))
-      (walk_unless symlink.steps (follow_rules nat_eq other symlink text) (symlink_start nat_eq other task directory symlink text))
-      (λ start. then_walk (words_walked nat_eq one task (symlink_walked nat_eq depth one task) start (reverse (words text)))
+      (walk_unless symlink.steps (follow_rules nat_eq one symlink text)
+      (symlink_start nat_eq one task directory symlink text))
+      (walk_unless symlink.steps (follow_rules nat_eq other symlink text)
+      (symlink_start nat_eq other task directory symlink text))
+      (λ start. then_walk (words_walked nat_eq one task (symlink_walked nat_eq depth one task) start
+      (reverse (words text)))
       (λ reached. walk_unless reached.steps (slash_rules nat_eq one text reached.location) reached))
       (λ start. then_walk (words_walked nat_eq other task (symlink_walked nat_eq depth other task) start
-      (reverse (words text))) (λ reached. walk_unless reached.steps (slash_rules nat_eq other text reached.location) reached)) (
+      (reverse (words text)))
+      (λ reached. walk_unless reached.steps (slash_rules nat_eq other text reached.location) reached)) (
         ap (λ (m : Mount ℕ). walk_unless symlink.steps ((m.flags.nosymfollow, W9) ∷ (symlink.left == 0, W7)
             ∷ (list_any (λ word. nat_lt longest_name (length word)) (words text), W2) ∷ [])
             (symlink_start nat_eq one task directory symlink text)) (alike.mount symlink.location own)
             ∙ ap (walk_unless symlink.steps (follow_rules nat_eq other symlink text)) same_start,
-        unless_agree HereOwn symlink.steps (follow_rules nat_eq one symlink text) (symlink_start nat_eq one task directory symlink text)
+        unless_agree HereOwn symlink.steps (follow_rules nat_eq one symlink text)
+            (symlink_start nat_eq one task directory symlink text)
             start_own,
       )
       (λ start there.
@@ -287,17 +300,14 @@ module _ (one other : Looks ℕ) (task : Task ℕ) (Own : ℕ → Type 0) (alike
       start there (reverse (words text)))
       (λ reached after. (
         ap (λ n. walk_unless reached.steps
-            ((cond (ends_in_slash text) (not (is_directory_node n)) false, W3) ∷ []) reached) (alike.node reached.location after),
+            ((cond (ends_in_slash text) (not (is_directory_node n)) false, W3) ∷ []) reached)
+            (alike.node reached.location after),
         unless_agree HereOwn reached.steps (slash_rules nat_eq one text reached.location) reached after,
       )))
     where
-      same_start : symlink_start nat_eq one task directory symlink text ≡ symlink_start nat_eq other task directory symlink text
-      same_start =
-          ap (λ (m : Mount ℕ). record {
-            location = start_of task directory text;
-            left = symlink.left - 1;
-            steps = cond (is_absolute text) (also_met m.filesystem symlink.steps) symlink.steps;
-          }) (alike.mount task.root alike.root)
+      same_start : symlink_start nat_eq one task directory symlink text
+          ≡ symlink_start nat_eq other task directory symlink text
+      same_start = grind (arith, common_steps)
 
       start_own : Own (start_of task directory text).mount
       start_own = by (is_absolute text)

@@ -22,10 +22,7 @@ use Rattle.vt_laws_sealed.proofs.outsiders.FilesystemsStepped.{filesystems_stepp
 use Rattle.vt_laws_sealed.proofs.outsiders.SeenLater.{lowered_by, used_later, used_was, lower_of}
 use Rattle.vt_laws_sealed.proofs.outsiders.InodesUsed.{in_third, used_whole}
 
--- A filesystem of which inodes go keeps its number, and its layers if it is an overlay.
-pub cut_number : (world : World ℕ) (chosen : Bool) (x : Filesystem ℕ)
-    → (only_used nat_eq world chosen x).number ≡ x.number
-cut_number world chosen x = number-only_used world chosen x
+-- A filesystem of which inodes go keeps its layers if it is an overlay.
 
 pub cut_overlay : (world : World ℕ) (chosen : Bool) (x : Filesystem ℕ)
     → is_overlay (only_used nat_eq world chosen x) ≡ is_overlay x
@@ -85,7 +82,7 @@ module _ (world before : World ℕ) (names : List TaskName) (apart : IsApart wor
   sweep x = only_used nat_eq before (chosen x) x
 
   sweep_number : (x : Filesystem ℕ) → (sweep x).number ≡ x.number
-  sweep_number x = cut_number before (chosen x) x
+  sweep_number x = number-only_used before (chosen x) x
 
   -- what they use stays whole
   used_is : (x : Filesystem ℕ) → Among x before.filesystems → is_among nat_eq x.number used ≡ true → sweep x ≡ x

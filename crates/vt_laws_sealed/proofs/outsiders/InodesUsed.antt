@@ -394,17 +394,20 @@ module _ (world later : World ℕ) (names : List TaskName) (apart : IsApart worl
         (λ root. inl (eqb-true object x.files.tree.root root))
         (λ named. name_is_used object (among_numbers (named_in x.files) object named))
         (or_cases (nat_eq object x.files.tree.root) (is_among nat_eq object (named_in x.files))
-        (among_from_list_all (λ n. nat_eq n x.files.tree.root || is_among nat_eq n (named_in x.files)) x.files.numbers all
+        (among_from_list_all (λ n. nat_eq n x.files.tree.root || is_among nat_eq n
+        (named_in x.files)) x.files.numbers all
         object m))
 
-    pub inodes_used : (object : ℕ) → Among object x.files.numbers → is_among nat_eq object (used_in nat_eq later x) ≡ true
+    pub inodes_used : (object : ℕ) → Among object x.files.numbers
+        → is_among nat_eq object (used_in nat_eq later x) ≡ true
     inodes_used object m =
         is_among_numbers (used_in nat_eq later x) object
         (⊎_elim
         (λ alone. alone_used alone object
         (among_numbers (used_in nat_eq world x) object
         (among_from_list_all (λ n. is_among nat_eq n (used_in nat_eq world x)) x.files.numbers
-        (among_from_all (λ (f : Filesystem ℕ). list_all (λ n. is_among nat_eq n (used_in nat_eq world f)) f.files.numbers
+        (among_from_all (λ (f : Filesystem ℕ). list_all
+        (λ n. is_among nat_eq n (used_in nat_eq world f)) f.files.numbers
         ≡ true) world.filesystems (all_in_use world apart.is).inodes x there) object m)))
         (named_used object m)
         (or_cases (used_alone nat_eq world names x.number) (wholly_locked nat_eq world names x.number)

@@ -16,6 +16,7 @@ use Rattle.vt_laws_letting_go.proofs.Lists.{filter_less}
 use Rattle.vt_laws_part.specs.Parts.{SeesTheSame}
 use Rattle.vt_laws_part.proofs.groups.ReceiversAlike.{own_member, start_hears}
 use Rattle.vt_laws_part.proofs.part.Observed.{own_mounts_same}
+use Rattle.vt_laws_mounts.proofs.mounts.MountsPlaces.{same_location_itself}
 
 -- what is compared with itself is the same
 same_bool_itself : (b : Bool) → same_bool b b ≡ true
@@ -28,11 +29,6 @@ same_flags_itself flags =
     (same_bool flags.nosymfollow flags.nosymfollow)
     (and_from (same_bool flags.read_only flags.read_only) (same_bool flags.noexec flags.noexec)
     (same_bool_itself flags.read_only) (same_bool_itself flags.noexec)) (same_bool_itself flags.nosymfollow)
-
-same_location_itself : (location : Location ℕ) → same_location nat_eq location location ≡ true
-same_location_itself location =
-    and_from (nat_eq location.mount location.mount) (nat_eq location.node location.node)
-    (eq-eqb location.mount location.mount refl) (eq-eqb location.node location.node refl)
 
 same_point_itself : (point : Option (Location ℕ)) → same_option (same_location nat_eq) point point ≡ true
 same_point_itself None = refl

@@ -1,14 +1,14 @@
 -- A change of a tree, or of an upper layer, leaves its root, and puts new numbers before those that it had.
 use Rattle.std.proofs.Common.{◌≡◌, refl, sym, ap, ◌∙◌, ⊎_elim, ℕ, nat_eq, Bool, true, false, List, [], ◌∷◌, ◌++◌, ◌*◌, ◌+◌, append_assoc, Option, Some, None, is_some}
 use Rattle.vt_spec.specs.FileTree.{FileTree, a_name}
-use Rattle.vt_spec.specs.Language.Changes.{Change, changed, changed_node, node_with_attr, node_with_mark, with_inode, with_moved, with_name, without_parent}
+use Rattle.vt_spec.specs.Language.Changes.{Change, changed, changed_node, node_with_attr, node_with_mark, with_inode, with_moved, with_name}
 use Rattle.vt_spec.specs.Language.Changes.Change.{AddName, CopyUp, Make, Move, Remove, SetAttr, SetBytes, SetMark}
 use Rattle.vt_spec.specs.Lists.{Fresh, evens, odds}
 use Rattle.vt_spec.specs.Machine.CopyUp.{Merge, Stack, copied_content, copied_each, copied_up, copy_named, copy_of, copy_parent, hides_directory, is_in_upper, line_to, merge_changed, name_left_by, shown_in_lowers_at, upper_directory_named, upper_of, with_mark, without_contents}
-use Rattle.vt_spec.specs.Tree.{Node, entries_in, entry_named, node_with_bytes}
+use Rattle.vt_spec.specs.Tree.{Node, node_with_bytes}
 use Rattle.vt_spec.proofs.Lists.{Among, among-append}
-use Rattle.vt_spec.proofs.Worlds.{root-without_parent}
 use Rattle.vt_laws_layers.specs.Layers.ChangesUpper.{IsNewBy}
+use Rattle.vt_laws_overlays_let_go.proofs.changing.Copied.{numbers_moved, root_moved}
 
 -- a tree that has its root, and its numbers behind new ones
 pub record Grows (fresh : Fresh ℕ) (old new : FileTree ℕ) : Type 0 where
@@ -52,21 +52,6 @@ grows_by fresh supply within old new grows = record {
       let is = grows.are_new object m in let at = within is.0 in (at.0, is.1 ∙ at.1);
 }
 
-numbers-without_parent : (files : FileTree ℕ) (object : Option ℕ)
-    → (without_parent nat_eq files object).numbers ≡ files.numbers
-numbers-without_parent files None = refl
-numbers-without_parent files (Some object) = refl
-
-numbers-with_moved : (files : FileTree ℕ) (from : ℕ) (old : List ℕ) (to : ℕ) (new : List ℕ) (object : ℕ)
-    → (with_moved nat_eq files from old to new object).numbers ≡ files.numbers
-numbers-with_moved files from old to new object =
-    numbers-without_parent files (entry_named new (entries_in (files.tree.node to)))
-
-root-with_moved : (files : FileTree ℕ) (from : ℕ) (old : List ℕ) (to : ℕ) (new : List ℕ) (object : ℕ)
-    → (with_moved nat_eq files from old to new object).tree.root ≡ files.tree.root
-root-with_moved files from old to new object =
-    root-without_parent files (entry_named new (entries_in (files.tree.node to)))
-
 -- a plain tree
 abbrev pub numbers_made : Change ℕ → List ℕ
 numbers_made (Make directory name number node) = number ∷ []
@@ -83,7 +68,7 @@ pub numbers-changed : (files : FileTree ℕ) (change : Change ℕ)
 numbers-changed files (Make directory name number node) = refl
 numbers-changed files (AddName directory name object) = refl
 numbers-changed files (Remove directory name object) = refl
-numbers-changed files (Move from old to new object) = numbers-with_moved files from old to new object
+numbers-changed files (Move from old to new object) = numbers_moved files from old to new object
 numbers-changed files (SetBytes file bytes) = refl
 numbers-changed files (SetAttr object attr) = refl
 numbers-changed files (SetMark directory opaque) = refl
@@ -94,7 +79,7 @@ pub root-changed : (files : FileTree ℕ) (change : Change ℕ)
 root-changed files (Make directory name number node) = refl
 root-changed files (AddName directory name object) = refl
 root-changed files (Remove directory name object) = refl
-root-changed files (Move from old to new object) = root-with_moved files from old to new object
+root-changed files (Move from old to new object) = root_moved files from old to new object
 root-changed files (SetBytes file bytes) = refl
 root-changed files (SetAttr object attr) = refl
 root-changed files (SetMark directory opaque) = refl
@@ -154,7 +139,7 @@ move_grows : (fresh : Fresh ℕ) (upper : FileTree ℕ) (from : ℕ) (old : List
     → Grows fresh upper (with_moved nat_eq upper from old to new object)
 move_grows fresh upper from old to new object =
     grows_by_none fresh upper (with_moved nat_eq upper from old to new object)
-    (root-with_moved upper from old to new object) (numbers-with_moved upper from old to new object)
+    (root_moved upper from old to new object) (numbers_moved upper from old to new object)
 
 -- one inode more, under a name
 make_grows : (fresh : Fresh ℕ) (upper : FileTree ℕ) (directory : ℕ) (name : List ℕ) (number : ℕ) (node : Node ℕ)

@@ -16,7 +16,8 @@ use Rattle.vt_spec.proofs.Lists.{Among, among-filter, among-flat_map, among-from
 use Rattle.vt_laws_letting_go.proofs.Lists.{filter_less}
 use Rattle.vt_laws_part.proofs.part.PartOfPart.{located}
 use Rattle.vt_laws_sealed.proofs.outsiders.Staying.{OthersStayOut}
-use Rattle.vt_laws_sealed.proofs.outsiders.InodesSwept.{cut_number, cut_overlay, cut_layers}
+use Rattle.vt_laws_sealed.proofs.outsiders.InodesSwept.{cut_overlay, cut_layers}
+use Rattle.vt_spec.proofs.Worlds.{number-only_used}
 
 -- Others are where they were.
 module _ (world before : World ℕ) (names : List TaskName) (others : OthersStayOut world before names) where
@@ -181,7 +182,8 @@ module _ (world before : World ℕ) (names : List TaskName) (others : OthersStay
           (only_used nat_eq living (is_overlay f) f)
 
       number_kept : (f : Filesystem ℕ) → (twice f).number ≡ f.number
-      number_kept f = cut_number first _ (only_used nat_eq living (is_overlay f) f) ∙ cut_number living (is_overlay f) f
+      number_kept f = number-only_used first _ (only_used nat_eq living (is_overlay f) f)
+          ∙ number-only_used living (is_overlay f) f
 
       overlay_kept : (f : Filesystem ℕ) → is_overlay (twice f) ≡ is_overlay f
       overlay_kept f =

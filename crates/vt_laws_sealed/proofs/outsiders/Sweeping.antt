@@ -20,10 +20,11 @@ use Rattle.vt_laws_overlay_permits.proofs.kept.KeptOverlays.{overlays_in, trees_
 use Rattle.vt_laws_part.specs.Parts.{SeesTheSame}
 use Rattle.vt_laws_part.specs.Seals.{IsApart}
 use Rattle.vt_laws_sealed.proofs.outsiders.FilesystemsSwept.{filesystems_swept, groups_swept, mounts_swept}
-use Rattle.vt_laws_sealed.proofs.outsiders.InodesSwept.{IsLowerTree, cut_number, inodes_swept}
+use Rattle.vt_laws_sealed.proofs.outsiders.InodesSwept.{IsLowerTree, inodes_swept}
 use Rattle.vt_laws_sealed.proofs.outsiders.OthersSwept.{others_swept}
 use Rattle.vt_laws_sealed.proofs.outsiders.SeenLater.{lower_of, used_later}
 use Rattle.vt_laws_sealed.proofs.outsiders.Staying.{LeavesApart}
+use Rattle.vt_spec.proofs.Worlds.{number-only_used}
 
 -- All steps of the sweep
 module _ (world before : World ℕ) (names : List TaskName) (apart : IsApart world names)
@@ -52,8 +53,8 @@ module _ (world before : World ℕ) (names : List TaskName) (apart : IsApart wor
       pair-map (λ (a b : Filesystem ℕ). nat_eq a.number b.number) (λ (a b : Filesystem ℕ). nat_eq a.number b.number)
       (λ f. only_used nat_eq mounted (is_overlay f) f) mounted.filesystems
       (λ a b m n e. ap (λ k. nat_eq k (only_used nat_eq mounted (is_overlay b) b).number)
-      (cut_number mounted (is_overlay a) a)
-      ∙ ap (nat_eq a.number) (cut_number mounted (is_overlay b) b) ∙ e)
+      (number-only_used mounted (is_overlay a) a)
+      ∙ ap (nat_eq a.number) (number-only_used mounted (is_overlay b) b) ∙ e)
       one_each
 
   -- a lower layer of theirs is a directory of a plain tree
@@ -119,7 +120,8 @@ module _ (world before : World ℕ) (names : List TaskName) (apart : IsApart wor
       let from = among-from_map (λ f. only_used nat_eq mounted (is_overlay f) f) mounted.filesystems x m in
       let it = lower_tree from.0 (was_there from.0 from.1)
       (ap (λ n. list_any (λ (layer : Layer ℕ). nat_eq n layer.filesystem) (own_lowers nat_eq world names))
-      (sym (ap (λ (f : Filesystem ℕ). f.number) from.2 ∙ cut_number mounted (is_overlay from.0) from.0)) ∙ lower) in
+      (sym (ap (λ (f : Filesystem ℕ). f.number) from.2 ∙ number-only_used mounted (is_overlay from.0) from.0))
+      ∙ lower) in
       subst (IsLowerTree (own_lowers nat_eq world names))
       (sym (from.2 ∙ ap (λ o. only_used nat_eq mounted (is_some o) from.0) it.plain)) it
 

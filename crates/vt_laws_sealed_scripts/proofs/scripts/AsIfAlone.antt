@@ -10,7 +10,8 @@ use Rattle.vt_laws_sealed_scripts.specs.AsIfAlone.{SealedSetsAreAnsweredAsIfAlon
 use Rattle.vt_laws_sealed_scripts.proofs.footholds.Footholds.{no_call_gives_a_foothold}
 
 -- what holds of every call holds of each one of a run
-along_all : (Holds : Stand → TaskName → Call → Type 0) → ((here : Stand) (name : TaskName) (call : Call) → Holds here name call)
+along_all : (Holds : Stand → TaskName → Call → Type 0)
+    → ((here : Stand) (name : TaskName) (call : Call) → Holds here name call)
     → (others : Bool) (at : Stand) (calls : List Asked) → Along Holds others at calls
 along_all Holds all others at [] = tt
 along_all Holds all others at (call ∷ calls) = (if_asked call, along_all Holds all others (next others at call) calls)
@@ -20,8 +21,10 @@ along_all Holds all others at (call ∷ calls) = (if_asked call, along_all Holds
     if_asked (Some one) = all at one.0 one.1
 
 always : (call : Call) → AlwaysEndsAlike call
-always call world names name fresh it few serves =
-    (each_call_ends_alike world names name call it fresh serves, no_call_gives_a_foothold world names name call it few fresh serves)
+always call world names name fresh it few serves = (
+  each_call_ends_alike world names name call it fresh serves,
+  no_call_gives_a_foothold world names name call it few fresh serves,
+)
 
 pub sealed_sets_are_answered_as_if_alone : SealedSetsAreAnsweredAsIfAlone
 sealed_sets_are_answered_as_if_alone at grammar lines stands stays =

@@ -27,7 +27,8 @@ their_calls_are_overtaken_alike sched names task progress has under theirs =
     (contains_from_among progress.filesystems held m))
 
 -- turns of outsiders are fit
-pub fit_turns : (schedule : List Turn) (sched : Sched ℕ) (names : List TaskName) → AreOutsidersTurns sched names schedule
+pub fit_turns : (schedule : List Turn) (sched : Sched ℕ) (names : List TaskName)
+    → AreOutsidersTurns sched names schedule
     → AreFitTurns sched schedule
 fit_turns [] sched names of = tt
 fit_turns (given ∷ rest) sched names of = (

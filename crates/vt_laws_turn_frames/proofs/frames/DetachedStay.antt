@@ -1,5 +1,6 @@
 -- No call gives a detached mount other flags, a mount point or a namespace.
-use Rattle.std.proofs.Common.{◌≡◌, refl, sym, ap, subst, ◌∙◌, ⊎_elim, ℕ, suc, nat_eq, Bool, true, false, true≢false, cond, not, List, [], ◌∷◌, ◌||◌, ◌&&◌, Option, Some, None, Ok, filter, map, is_some, eqb-true, arith}
+use Rattle.std.proofs.lemmas.Grind.{common_steps}
+use Rattle.std.proofs.Common.{◌≡◌, refl, sym, ap, subst, ◌∙◌, ⊎_elim, ℕ, suc, nat_eq, Bool, true, false, true≢false, not, List, [], ◌∷◌, ◌||◌, ◌&&◌, Option, Some, None, Ok, filter, map, is_some, eqb-true, arith}
 use Rattle.std.specs.Prelude.{option_to_list}
 use Rattle.std.specs.List.{list_all}
 use Rattle.std.proofs.lemmas.Bool.{and_parts}
@@ -10,7 +11,7 @@ use Rattle.vt_spec.specs.Lists.{Fresh, evens, odds}
 use Rattle.vt_spec.specs.Machine.Apply.{apply, overfills}
 use Rattle.vt_spec.specs.Machine.Attach.{bind_tree}
 use Rattle.vt_spec.specs.Machine.Descriptors.{is_copied_up}
-use Rattle.vt_spec.specs.Machine.Detach.{going, is_going, taken_away, without_mounts_on, without_replaced}
+use Rattle.vt_spec.specs.Machine.Detach.{going, taken_away, without_mounts_on, without_replaced}
 use Rattle.vt_spec.specs.Machine.Invariants.{IsWorld, MountInvariants, is_nowhere_or_attached, is_private}
 use Rattle.vt_spec.specs.Machine.Judge.{judge_in}
 use Rattle.vt_spec.specs.Machine.Looks.{looks_of}
@@ -55,24 +56,11 @@ use Rattle.vt_laws_turn_frames.proofs.frames.ShownAlike.{permit_shown}
 -- what is taken away, and what stays, keeps its flags
 taken_flags : (world : World ℕ) (gone : List ℕ) (number : ℕ)
     → (mount_numbered nat_eq (taken_away nat_eq world gone) number).flags ≡ (mount_numbered nat_eq world number).flags
-taken_flags world gone number = by (is_going nat_eq gone number) refl
-  where
-    by : (b : Bool) → is_going nat_eq gone number ≡ b
-        → (mount_numbered nat_eq (taken_away nat_eq world gone) number).flags
-        ≡ (mount_numbered nat_eq world number).flags
-    by true e = ap (λ (m : Mount ℕ). m.flags) (taken_are_detached world gone number e)
-    by false e = (others_are_kept world gone number e).flags
+taken_flags world gone number = grind (arith, common_steps, taken_are_detached, others_are_kept)
 
 pivoted_flags : (root new : Mount ℕ) (put : Location ℕ) (mount : Mount ℕ)
     → (pivoted_mount nat_eq root new put mount).flags ≡ mount.flags
-pivoted_flags root new put mount = by (nat_eq mount.number new.number) (nat_eq mount.number root.number)
-  where
-    by : (a b : Bool)
-        → (cond a (record mount { mount_point = root.mount_point })
-        (cond b (record mount { mount_point = Some put }) mount)).flags ≡ mount.flags
-    by true b = refl
-    by false true = refl
-    by false false = refl
+pivoted_flags root new put mount = grind (arith, common_steps)
 
 module _ (world : World ℕ) (fresh : Fresh ℕ) (task : Task ℕ) (is : IsWorld nat_eq world) where
   abbrev left : Permit ℕ → World ℕ
@@ -219,9 +207,7 @@ module _ (world : World ℕ) (fresh : Fresh ℕ) (task : Task ℕ) (call : Call)
         ≡ (mount_numbered nat_eq world number).flags
 
   outcome : call_outcome nat_eq fresh world task call ≡ apply nat_eq fresh world task permit
-  outcome =
-      call_is_judged_then_applied fresh world task call
-      ∙ ap (λ j. after world j (apply nat_eq fresh world task)) granted
+  outcome = cc (call_is_judged_then_applied fresh world task call, granted)
 
   mounted_world : (asked : Call) → mounts_overlay asked ≡ true
       → IsWorld nat_eq (call_outcome nat_eq fresh world task asked).world

@@ -1,5 +1,6 @@
 -- A filesystem whose change number is what it was is what it was, but for what nothing uses.
-use Rattle.std.proofs.Common.{◌≡◌, ◌≢◌, refl, sym, ap, subst, ◌∙◌, inl, ℕ, nat_eq, Bool, true, false, true≢false, cond, List, ◌*◌, Option, Some, None, find, eqb-true, eq-eqb}
+use Rattle.std.proofs.lemmas.Grind.{common_steps}
+use Rattle.std.proofs.Common.{◌≡◌, ◌≢◌, refl, sym, ap, subst, ◌∙◌, inl, ℕ, nat_eq, Bool, true, false, true≢false, cond, List, ◌*◌, Option, Some, None, find, eqb-true, eq-eqb, arith}
 use Rattle.std.specs.Prelude.{option_map, unwrap_or}
 use Rattle.std.specs.List.{list_any}
 use Rattle.vt_spec.specs.Lists.{Fresh}
@@ -46,11 +47,7 @@ module _ (world : World ℕ) (fresh : Fresh ℕ) (given : IsCallIn world fresh) 
   raise = raised_if_changed nat_eq changed
 
   raise_number : (f : Filesystem ℕ) → (raise f).number ≡ f.number
-  raise_number f = by (list_any (λ n. nat_eq n f.number) changed)
-    where
-      by : (b : Bool) → (cond b (record f { change = raised f.change }) f).number ≡ f.number
-      by true = refl
-      by false = refl
+  raise_number f = grind (arith, common_steps)
 
   raise_keeps : (f : Filesystem ℕ) → KeepsFilesystem f (raise f)
   raise_keeps f = by (list_any (λ n. nat_eq n f.number) changed)
@@ -96,10 +93,7 @@ module _ (world : World ℕ) (fresh : Fresh ℕ) (given : IsCallIn world fresh) 
       before = swept.0
 
       number_is : before.number ≡ number
-      number_is =
-          sym swept.2.number
-          ∙ sym (eqb-true number left.number
-          (found_passes (λ (f : Filesystem ℕ). nat_eq number f.number) (settled nat_eq applied).filesystems left found))
+      number_is = grind (arith, common_steps, found_passes)
 
       later_is : filesystem_numbered nat_eq later number ≡ raise left
       later_is = ap (λ o. unwrap_or o (no_filesystem number)) (now_is ∙ ap (option_map raise) found)
@@ -125,10 +119,7 @@ module _ (world : World ℕ) (fresh : Fresh ℕ) (given : IsCallIn world fresh) 
           (sym raised_now ∙ sym change_now ∙ sym same_now.0 ∙ sym left_is))
         where
           left_is : left.change ≡ held
-          left_is =
-              swept.2.change ∙ same
-              ∙ ap (λ n. (filesystem_numbered nat_eq world n).change) number_is
-              ∙ ap (λ (f : Filesystem ℕ). f.change) numbered ∙ sym (ap change_in was.1)
+          left_is = grind (arith, common_steps, number_is, numbered)
 
           raised_now : (raise left).change ≡ raised left.change
           raised_now =

@@ -1,11 +1,12 @@
 -- The namespaces after a permit are those before it, or new.
-use Rattle.std.proofs.Common.{◌≡◌, refl, ap, subst, ◌∙◌, ◌⊎◌, inl, inr, ⊎_elim, ℕ, nat_eq, Bool, true, false, List, [], ◌∷◌, ◌*◌, Option, Some, None, filter, find, flat_map, map}
+use Rattle.std.proofs.lemmas.Grind.{common_steps}
+use Rattle.std.proofs.Common.{◌≡◌, refl, ap, subst, ◌∙◌, ◌⊎◌, inl, inr, ⊎_elim, ℕ, nat_eq, Bool, true, false, List, [], ◌∷◌, ◌*◌, Option, Some, None, filter, find, arith}
 use Rattle.vt_spec.specs.Language.Changes.Change.{Make, Move, Remove}
 use Rattle.vt_spec.specs.Lists.{Fresh, any_pair, evens, odds}
 use Rattle.vt_spec.specs.Machine.Apply.{apply}
 use Rattle.vt_spec.specs.Machine.Descriptors.{is_copied_up}
-use Rattle.vt_spec.specs.Machine.Detach.{mounts_on, without_mounts_on, without_replaced}
-use Rattle.vt_spec.specs.Machine.Mounts.{Location, Mount, mount_tree}
+use Rattle.vt_spec.specs.Machine.Detach.{without_mounts_on, without_replaced}
+use Rattle.vt_spec.specs.Machine.Mounts.{Location}
 use Rattle.vt_spec.specs.Machine.Namespaces.{has_tasks, unshared}
 use Rattle.vt_spec.specs.Machine.Permits.{Permit}
 use Rattle.vt_spec.specs.Machine.Permits.Permit.{ToChange, ToEnterNamespace, ToExit, ToMake, ToOpen, ToOpenNew, ToRemoveDirectory, ToRename, ToSetType, ToUnmount, ToUnmountLazily, ToUnshare, ToWritePart}
@@ -42,10 +43,7 @@ module _ (world : World ℕ) (fresh : Fresh ℕ) (task : Task ℕ) where
   some keeps namespace m = inl (among-from_filter keeps world.namespaces namespace m).0
 
   removed : (location : Location ℕ) → (without_mounts_on nat_eq world location).namespaces ≡ world.namespaces
-  removed location =
-      (all_but_mounts world
-      (map (λ (mount : Mount ℕ). mount.number)
-      (flat_map (mount_tree nat_eq world.mounts) (mounts_on nat_eq world location)))).namespaces
+  removed location = grind (arith, common_steps, all_but_mounts)
 
   replaced_same : (object : Option (Location ℕ))
       → (without_replaced nat_eq world object).namespaces ≡ world.namespaces

@@ -1,19 +1,15 @@
 -- A pivot raises the change number of its namespace, so other tasks of a namespace whose number is what it was are what
 -- they were.
-use Rattle.std.proofs.Common.{◌≡◌, refl, sym, ap, subst, ◌∙◌, ⊎_elim, ℕ, nat_eq, Bool, true, false, true≢false, cond, ◌||◌, List, [], ◌∷◌, Some, None, Ok, eqb-true, eq-eqb, is_some}
-use Rattle.std.specs.Prelude.{ok_or}
-use Rattle.vt_spec.specs.declared.errors.Rule.TheVariants.{S2}
-use Rattle.vt_spec.specs.Errors.{denial}
+use Rattle.std.proofs.lemmas.Grind.{common_steps}
+use Rattle.std.proofs.Common.{◌≡◌, refl, sym, ap, subst, ◌∙◌, ⊎_elim, ℕ, nat_eq, Bool, true, false, true≢false, cond, ◌||◌, List, [], ◌∷◌, Some, None, Ok, eqb-true, eq-eqb, is_some, arith}
 use Rattle.vt_spec.specs.Language.Calls.{Call, TaskName}
 use Rattle.vt_spec.specs.Language.Calls.Call.{PivotRoot}
 use Rattle.vt_spec.specs.Lists.{Fresh, holds_of}
-use Rattle.vt_spec.specs.Machine.Apply.{apply}
 use Rattle.vt_spec.specs.Machine.Judge.{judge_in}
 use Rattle.vt_spec.specs.Machine.Mounts.{Location, Mount, child_at, stands_at}
 use Rattle.vt_spec.specs.Machine.Namespaces.{pivoted, pivoted_mount}
-use Rattle.vt_spec.specs.Machine.Outcomes.{Outcome, after}
 use Rattle.vt_spec.specs.Machine.Permits.Permit.{ToPivot}
-use Rattle.vt_spec.specs.Machine.Policy.{call_outcome, filesystems_changed_by, finished, numbers_raised, policy}
+use Rattle.vt_spec.specs.Machine.Policy.{filesystems_changed_by, numbers_raised, policy}
 use Rattle.vt_spec.specs.Machine.Settled.{is_located, mount_lives, settled}
 use Rattle.vt_spec.specs.Machine.World.{Task, World, mount_at, mount_numbered, mounts_of, task_called}
 use Rattle.vt_spec.proofs.Lists.{Among, among-filter, among-from_filter, among-map}
@@ -73,15 +69,7 @@ module _ (world : World ℕ) (fresh : Fresh ℕ) (given : IsCallIn world fresh) 
 
   leaves : (policy nat_eq fresh world name call).world
       ≡ numbers_raised nat_eq world name changed (settled nat_eq left)
-  leaves =
-      ap (λ (o : Outcome ℕ). o.world)
-      (ap (λ o. after world (ok_or o (denial S2))
-      (λ t. finished nat_eq world name call
-      (filesystems_changed_by nat_eq world (judge_in nat_eq fresh world t call))
-      (call_outcome nat_eq fresh world t call))) found
-      ∙ ap (finished nat_eq world name call changed)
-      (call_is_judged_then_applied fresh world caller call
-      ∙ ap (λ j. after world j (apply nat_eq fresh world caller)) judged))
+  leaves = grind (arith, common_steps, call_is_judged_then_applied)
 
   abbrev moved : Mount ℕ
   moved = pivoted_mount nat_eq root_mount new_mount put root_mount

@@ -1,6 +1,7 @@
 -- What holds of a world, and of what each granted call leaves when what nothing uses is gone and the numbers that it
 -- raises are raised, holds of what the policy leaves.
-use Rattle.std.proofs.Common.{◌≡◌, refl, sym, ap, subst, ◌∙◌, ℕ, nat_eq, Bool, true, false, List, ◌||◌, not, Option, Some, None, Result, Ok, Err, is_ok, ok_or, true≢false}
+use Rattle.std.proofs.lemmas.Grind.{common_steps}
+use Rattle.std.proofs.Common.{◌≡◌, refl, sym, ap, subst, ◌∙◌, ℕ, nat_eq, Bool, true, false, List, ◌||◌, not, Option, Some, None, Result, Ok, Err, is_ok, ok_or, true≢false, arith}
 use Rattle.std.proofs.lemmas.Bool.{not-true, or_parts}
 use Rattle.vt_spec.specs.declared.errors.Deny.{Deny}
 use Rattle.vt_spec.specs.declared.errors.Rule.TheVariants.{S2}
@@ -50,10 +51,7 @@ module _ (Holds : World ℕ → Type 0) (world : World ℕ) (fresh : Fresh ℕ) 
       outcome = call_outcome nat_eq fresh world task call
 
       it_is : policy nat_eq fresh world name call ≡ finished nat_eq world name call changed outcome
-      it_is = ap (λ o. after world (ok_or o (denial S2))
-          (λ t. finished nat_eq world name call
-          (filesystems_changed_by nat_eq world (judge_in nat_eq fresh world t call))
-          (call_outcome nat_eq fresh world t call))) found
+      it_is = grind (arith, common_steps)
 
       by : (b : Bool) → (only_looks call || not (is_ok outcome.answer)) ≡ b → Left
       by true e = looking (only_looks call) refl e

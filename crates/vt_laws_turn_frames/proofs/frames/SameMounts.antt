@@ -1,4 +1,5 @@
 -- Mounts that are the same by the tests of the policy, and show what they showed, are the same records.
+use Rattle.std.proofs.lemmas.Grind.{common_steps}
 use Rattle.std.proofs.Common.{◌≡◌, ◌≢◌, refl, sym, ap, ◌∙◌, inl, inr, ℕ, nat_eq, Bool, true, false, cond, true≢false, List, [], ◌∷◌, Option, Some, None, ◌+◌, ◌&&◌, eqb-true, arith}
 use Rattle.std.specs.Prelude.{Contains, ◌==◌}
 use Rattle.std.proofs.lemmas.Bool.{and_parts}
@@ -25,25 +26,13 @@ same_truths false true e = absurd (true≢false (sym e))
 same_truths false false e = refl
 
 flags_same : (a b : MountFlags) → same_flags a b ≡ true → a ≡ b
-flags_same a b e =
-    let last = and_parts (same_bool a.read_only b.read_only && same_bool a.noexec b.noexec)
-    (same_bool a.nosymfollow b.nosymfollow) e in
-    let both = and_parts (same_bool a.read_only b.read_only) (same_bool a.noexec b.noexec) last.0 in
-    ap (λ f. record { read_only = f; noexec = a.noexec; nosymfollow = a.nosymfollow })
-    (same_truths a.read_only b.read_only both.0)
-    ∙ ap (λ f. record { read_only = b.read_only; noexec = f; nosymfollow = a.nosymfollow })
-    (same_truths a.noexec b.noexec both.1)
-    ∙ ap (λ f. record { read_only = b.read_only; noexec = b.noexec; nosymfollow = f })
-    (same_truths a.nosymfollow b.nosymfollow last.1)
+flags_same a b e = grind (arith, common_steps, same_truths)
 
 points_same : (a b : Option (Location ℕ)) → same_option (same_location nat_eq) a b ≡ true → a ≡ b
 points_same None None e = refl
 points_same None (Some b) e = absurd (true≢false (sym e))
 points_same (Some a) None e = absurd (true≢false (sym e))
-points_same (Some a) (Some b) e =
-    let parts = and_parts (nat_eq a.mount b.mount) (nat_eq a.node b.node) e in
-    ap (λ n. Some (record { mount = n; node = a.node })) (eqb-true a.mount b.mount parts.0)
-    ∙ ap (λ n. Some (record { mount = b.mount; node = n })) (eqb-true a.node b.node parts.1)
+points_same (Some a) (Some b) e = grind (arith, common_steps)
 
 kinds_same : (a b : Propagation ℕ) → same_propagation nat_eq a b ≡ true → a ≡ b
 kinds_same (Shared a) (Shared b) e = ap Shared (eqb-true a b e)
@@ -65,14 +54,7 @@ kinds_same Unbindable Private e = absurd (true≢false (sym e))
 
 pub one_record : (a b : Mount ℕ) → a.number ≡ b.number → a.namespace ≡ b.namespace → a.mount_point ≡ b.mount_point
     → a.filesystem ≡ b.filesystem → a.root ≡ b.root → a.flags ≡ b.flags → a.propagation ≡ b.propagation → a ≡ b
-one_record a b n s p f r g k =
-    ap (λ x. record a { number = x }) n
-    ∙ ap (λ x. record a { number = b.number; namespace = x }) s
-    ∙ ap (λ x. record a { number = b.number; namespace = b.namespace; mount_point = x }) p
-    ∙ ap (λ x. record a { number = b.number; namespace = b.namespace; mount_point = b.mount_point; filesystem = x }) f
-    ∙ ap (λ x. record b { root = x; flags = a.flags; propagation = a.propagation }) r
-    ∙ ap (λ x. record b { flags = x; propagation = a.propagation }) g
-    ∙ ap (λ x. record b { propagation = x }) k
+one_record a b n s p f r g k = grind (arith, common_steps)
 
 -- mounts of the two worlds that have one number show one filesystem from one root on
 abbrev pub ShowAlike : World ℕ → World ℕ → Type 0
@@ -82,11 +64,7 @@ ShowAlike before later =
 
 module _ (before later : World ℕ) (alike : ShowAlike before later) (number : ℕ) where
   namespace_of : (one : Mount ℕ) → holds_of (nat_eq number) one.namespace ≡ true → one.namespace ≡ Some number
-  namespace_of one h = by one.namespace h
-    where
-      by : (o : Option ℕ) → holds_of (nat_eq number) o ≡ true → o ≡ Some number
-      by None h = absurd (true≢false (sym h))
-      by (Some n) h = ap Some (sym (eqb-true number n h))
+  namespace_of one h = grind (arith, common_steps, true≢false)
 
   pub lists_same : (xs ys : List (Mount ℕ))
       → ((x : Mount ℕ) → Among x xs → Among x before.mounts × (holds_of (nat_eq number) x.namespace ≡ true))

@@ -77,9 +77,7 @@ module _ (world : World ℕ) (fresh : Fresh ℕ) (task : Task ℕ) (call : Call)
   mounted_world asked e = absurd (true≢false (sym e))
 
   outcome : call_outcome nat_eq fresh world task call ≡ apply nat_eq fresh world task permit
-  outcome =
-      call_is_judged_then_applied fresh world task call
-      ∙ ap (λ j. after world j (apply nat_eq fresh world task)) granted
+  outcome = cc (call_is_judged_then_applied fresh world task call, granted)
 
   mounting : (asked : Call) (given : Permit ℕ)
       → IsGranted nat_eq (looks_of nat_eq world) (overfills nat_eq fresh world task) task asked given

@@ -1,5 +1,6 @@
 -- A namespace whose change number is what it was has the mounts that it had.
-use Rattle.std.proofs.Common.{◌≡◌, ◌≢◌, refl, sym, ap, subst, ◌∙◌, ◌⊎◌, inl, inr, ⊎_elim, ℕ, nat_eq, Bool, true, false, true≢false, cond, not, List, ◌*◌, Option, Some, None, Ok, find, map, eqb-true, eq-eqb}
+use Rattle.std.proofs.lemmas.Grind.{common_steps}
+use Rattle.std.proofs.Common.{◌≡◌, ◌≢◌, refl, sym, ap, subst, ◌∙◌, ◌⊎◌, inl, inr, ⊎_elim, ℕ, nat_eq, Bool, true, false, true≢false, cond, not, List, ◌*◌, Option, Some, None, Ok, find, map, eqb-true, eq-eqb, arith}
 use Rattle.std.specs.Prelude.{option_map, unwrap_or, ◌==◌}
 use Rattle.std.proofs.lemmas.Bool.{or_parts}
 use Rattle.vt_spec.specs.Language.Calls.{Call, TaskName}
@@ -58,11 +59,7 @@ module _ (world : World ℕ) (fresh : Fresh ℕ) (given : IsCallIn world fresh) 
     raise = raised_namespace nat_eq world (settled nat_eq applied)
 
     raise_number : (n : Namespace ℕ) → (raise n).number ≡ n.number
-    raise_number n = by (same_mounts_in nat_eq world (settled nat_eq applied) n.number)
-      where
-        by : (b : Bool) → (cond b n (record n { change = raised n.change })).number ≡ n.number
-        by true = refl
-        by false = refl
+    raise_number n = grind (arith, common_steps)
 
     -- a namespace that is there later was there before, with that number
     was_there : (n : Namespace ℕ) → found_in applied.namespaces ≡ Some n

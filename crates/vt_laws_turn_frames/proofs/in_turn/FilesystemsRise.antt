@@ -1,5 +1,6 @@
 -- The change number of a filesystem stays, rises by one, or is the largest one for good.
-use Rattle.std.proofs.Common.{◌≡◌, ◌≢◌, refl, sym, ap, ◌∙◌, inl, inr, ℕ, nat_eq, Bool, true, false, cond, List, [], ◌∷◌, ◌*◌, Option, Some, None, find, eqb-true, eq-eqb}
+use Rattle.std.proofs.lemmas.Grind.{common_steps}
+use Rattle.std.proofs.Common.{◌≡◌, ◌≢◌, refl, sym, ap, ◌∙◌, inl, inr, ℕ, nat_eq, Bool, true, false, cond, List, [], ◌∷◌, ◌*◌, Option, Some, None, find, eqb-true, eq-eqb, arith}
 use Rattle.std.specs.Prelude.{option_map, unwrap_or}
 use Rattle.std.specs.List.{list_any}
 use Rattle.vt_spec.specs.Language.Calls.{TaskName}
@@ -42,11 +43,7 @@ module _ (world : World ℕ) (fresh : Fresh ℕ) (given : IsCallIn world fresh) 
   raise = raised_if_changed nat_eq changed
 
   raise_number : (f : Filesystem ℕ) → (raise f).number ≡ f.number
-  raise_number f = by (list_any (λ n. nat_eq n f.number) changed)
-    where
-      by : (b : Bool) → (cond b (record f { change = raised f.change }) f).number ≡ f.number
-      by true = refl
-      by false = refl
+  raise_number f = grind (arith, common_steps)
 
   raised_or_same : (f : Filesystem ℕ) (was now : ℕ) → f.change ≡ was → (b : Bool)
       → now ≡ (cond b (record f { change = raised f.change }) f).change → Rises was now

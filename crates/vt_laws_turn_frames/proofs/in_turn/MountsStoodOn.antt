@@ -1,14 +1,14 @@
 -- The mounts that a task stands on stay the same records, in its namespace or in none.
-use Rattle.std.proofs.Common.{◌≡◌, refl, sym, ap, subst, ◌∙◌, ⊎_elim, ℕ, nat_eq, Bool, true, List, [], ◌∷◌, Option, Some, None, eqb-true}
+use Rattle.std.proofs.lemmas.Grind.{common_steps}
+use Rattle.std.proofs.Common.{◌≡◌, refl, sym, ap, ◌∙◌, ℕ, nat_eq, true, List, [], ◌∷◌, Option, Some, None, eqb-true, arith}
 use Rattle.std.specs.Prelude.{option_to_list}
 use Rattle.std.specs.List.{list_all}
 use Rattle.std.proofs.lemmas.Bool.{and_parts}
 use Rattle.vt_spec.specs.Language.Calls.{TaskName}
-use Rattle.vt_spec.specs.Lists.{holds_of}
 use Rattle.vt_spec.specs.Machine.Invariants.{IsWorld}
-use Rattle.vt_spec.specs.Machine.Mounts.{Location, Mount}
-use Rattle.vt_spec.specs.Machine.World.{Task, World, mount_at, mount_numbered, mounts_of, task_called}
-use Rattle.vt_spec.proofs.Lists.{Among, among-filter, among-from_filter}
+use Rattle.vt_spec.specs.Machine.Mounts.{Location}
+use Rattle.vt_spec.specs.Machine.World.{Task, World, mount_at, mounts_of, task_called}
+use Rattle.vt_spec.proofs.Lists.{among-filter, among-from_filter}
 use Rattle.vt_spec.proofs.Options.{none_is_some}
 use Rattle.vt_spec.proofs.Truths.{nat_eq_itself}
 use Rattle.vt_spec.proofs.Worlds.{found_or_none, number-mount_in}
@@ -29,22 +29,17 @@ mount_stays : (world later : World ℕ) (namespace : ℕ) → IsWorld nat_eq lat
     → mounts_of nat_eq later namespace ≡ mounts_of nat_eq world namespace → (l : Location ℕ)
     → (mount_at nat_eq world l).namespace ≡ Some namespace → mount_at nat_eq later l ≡ mount_at nat_eq world l
 mount_stays world later namespace are same l e =
-    ⊎_elim
-    (λ found.
-    let there : Among mount later.mounts =
-    (among-from_filter within later.mounts mount (subst (Among mount) (sym same)
-    (among-filter within world.mounts mount found (ap (holds_of (nat_eq namespace)) e ∙ nat_eq_itself namespace)))).0
-    in
-    ap (mount_numbered nat_eq later) (sym (number-mount_in world.mounts l.mount))
-    ∙ found_itself later.mounts are.mounts.one_number mount there)
-    (λ none. none_is_some namespace (sym (ap (λ (m : Mount ℕ). m.namespace) none) ∙ e))
-    (found_or_none world.mounts l.mount)
-  where
-    mount : Mount ℕ
-    mount = mount_at nat_eq world l
-
-    within : Mount ℕ → Bool
-    within m = holds_of (nat_eq namespace) m.namespace
+    grind (
+      arith,
+      common_steps,
+      among-from_filter,
+      among-filter,
+      nat_eq_itself,
+      number-mount_in,
+      found_itself,
+      none_is_some,
+      found_or_none,
+    )
 
 -- a location on a mount that the task may stand on
 module _ (world : World ℕ) (one : CallBetween) (task : Task ℕ) (is : IsWorld nat_eq world)

@@ -1,5 +1,6 @@
 -- A change number stays, rises by one, or is the largest one for good.
-use Rattle.std.proofs.Common.{◌≡◌, ◌≢◌, refl, sym, ap, subst, ◌∙◌, ◌⊎◌, inl, inr, ⊎_elim, ℕ, nat_eq, Bool, true, false, true≢false, cond, not, ◌||◌, List, [], ◌∷◌, ◌+◌, ◌*◌, ◌≤◌, Option, Some, None, find, eqb-true, eq-eqb, ne_eqb, arith}
+use Rattle.std.proofs.lemmas.Grind.{common_steps}
+use Rattle.std.proofs.Common.{◌≡◌, ◌≢◌, refl, sym, ap, subst, ◌∙◌, ◌⊎◌, inl, inr, ⊎_elim, ℕ, nat_eq, Bool, true, false, true≢false, cond, List, [], ◌∷◌, ◌+◌, ◌*◌, ◌≤◌, Option, Some, None, find, eqb-true, eq-eqb, ne_eqb, arith}
 use Rattle.std.specs.Prelude.{option_map, ◌==◌}
 use Rattle.vt_spec.specs.Language.Calls.{Call, TaskName}
 use Rattle.vt_spec.specs.Lists.{Fresh}
@@ -91,11 +92,7 @@ module _ (world : World ℕ) (fresh : Fresh ℕ) (given : IsCallIn world fresh) 
   raise = raised_namespace nat_eq world (settled nat_eq applied)
 
   raise_number : (n : Namespace ℕ) → (raise n).number ≡ n.number
-  raise_number n = by (same_mounts_in nat_eq world (settled nat_eq applied) n.number)
-    where
-      by : (b : Bool) → (cond b n (record n { change = raised n.change })).number ≡ n.number
-      by true = refl
-      by false = refl
+  raise_number n = grind (arith, common_steps)
 
   raised_or_same : (n : Namespace ℕ) (was now : ℕ) → was ≡ n.change → (b : Bool)
       → now ≡ (cond b n (record n { change = raised n.change })).change → Rises was now

@@ -1,5 +1,6 @@
 -- Where a namespace has the mounts that it had, its mounts lead up and down as they did.
-use Rattle.std.proofs.Common.{◌≡◌, refl, sym, ap, subst, ◌∙◌, ◌⊎◌, inl, inr, ⊎_elim, ℕ, zero, suc, pred, nat_eq, Bool, true, false, cond, true≢false, List, [], ◌∷◌, Option, Some, None, map, find, filter, length, not, ◌||◌, ◌&&◌, ◌≤◌, arith, is_some}
+use Rattle.std.proofs.lemmas.Grind.{common_steps}
+use Rattle.std.proofs.Common.{◌≡◌, refl, sym, ap, subst, ◌∙◌, ◌⊎◌, inl, inr, ⊎_elim, ℕ, zero, suc, pred, nat_eq, Bool, true, cond, true≢false, List, [], ◌∷◌, Option, Some, None, map, find, filter, length, not, ◌||◌, ◌&&◌, ◌≤◌, arith, is_some}
 use Rattle.std.specs.Prelude.{option_map}
 use Rattle.std.proofs.lemmas.Bool.{and_parts, false_from_ne_true}
 use Rattle.std.proofs.lemmas.List.{length-map}
@@ -28,22 +29,12 @@ use Rattle.vt_laws_worlds.proofs.worlds.Reached.{namespace_below}
 find_where : {A : Type 0} (p q : A → Bool) (xs : List A) → ((x : A) → Among x xs → p x ≡ true → q x ≡ true)
     → find p (filter q xs) ≡ find p xs
 find_where p q [] all = refl
-find_where p q (x ∷ xs) all = by (p x) (q x) refl refl (find_where p q xs (λ y m. all y (inr m)))
-  where
-    by : (b c : Bool) → p x ≡ b → q x ≡ c → find p (filter q xs) ≡ find p xs
-        → find p (filter q (x ∷ xs)) ≡ find p (x ∷ xs)
-    by b true e f later = ap (find p) (filter_here q x xs f) ∙ ap (cond (p x) (Some x)) later
-    by true false e f later = absurd (true≢false (sym (all x (inl refl) e) ∙ f))
-    by false false e f later =
-        ap (find p) (filter_skip q x xs f) ∙ later ∙ sym (ap (λ b. cond b (Some x) (find p xs)) e)
+find_where p q (x ∷ xs) all =
+    grind (arith, common_steps, filter_here, filter_skip, true≢false, find_where p q xs (λ y m. all y (inr m)))
 
 filter_shorter : {A : Type 0} (q : A → Bool) (xs : List A) → length (filter q xs) ≤ length xs
 filter_shorter q [] = omega arith
-filter_shorter q (x ∷ xs) = by (q x) refl (filter_shorter q xs)
-  where
-    by : (b : Bool) → q x ≡ b → length (filter q xs) ≤ length xs → length (filter q (x ∷ xs)) ≤ suc (length xs)
-    by true e le = subst (λ l. length l ≤ suc (length xs)) (sym (filter_here q x xs e)) (omega (arith, le))
-    by false e le = subst (λ l. length l ≤ suc (length xs)) (sym (filter_skip q x xs e)) (omega (arith, le))
+filter_shorter q (x ∷ xs) = grind (arith, common_steps, filter_here, filter_skip, filter_shorter q xs)
 
 -- what each step of a chain keeps
 module _ {A : Type 0} (P : A → Type 0) (next : A → Option A) (step : (a b : A) → P a → next a ≡ Some b → P b) where
@@ -106,9 +97,7 @@ module _ (world later : World ℕ) (is : MountInvariants nat_eq world) (are : Mo
       (subst (Among mount) (sym same) (among-filter within world.mounts mount m (is_within mount e)))).0
 
   pub same_mount : (number : ℕ) → IsOwn number → mount_numbered nat_eq later number ≡ mount_numbered nat_eq world number
-  same_mount number own =
-      ap (mount_numbered nat_eq later) (sym own.3) ∙ numbered later are own.0 own.2
-      ∙ sym (ap (mount_numbered nat_eq world) (sym own.3) ∙ numbered world is own.0 own.1)
+  same_mount number own = cc (own.3, numbered later are own.0 own.2, numbered world is own.0 own.1)
 
   -- what stands at a location
   same_child : (here : Location ℕ) → IsOwn here.mount
@@ -159,19 +148,10 @@ module _ (world later : World ℕ) (is : MountInvariants nat_eq world) (are : Mo
   there = map (λ (mount : Mount ℕ). suc mount.number) (mounts_of nat_eq world namespace)
 
   few : length there ≤ length world.mounts
-  few =
-      let size : length there ≡ length (mounts_of nat_eq world namespace) =
-      length-map (mounts_of nat_eq world namespace) (λ (mount : Mount ℕ). suc mount.number) in
-      let less = filter_shorter within world.mounts in
-      omega (arith, size, less)
+  few = grind (arith, common_steps, length-map, filter_shorter)
 
   few_later : length there ≤ length later.mounts
-  few_later =
-      let size : length there ≡ length (mounts_of nat_eq world namespace) =
-      length-map (mounts_of nat_eq world namespace) (λ (mount : Mount ℕ). suc mount.number) in
-      let less : length (mounts_of nat_eq world namespace) ≤ length later.mounts =
-      subst (λ l. length l ≤ length later.mounts) same (filter_shorter within later.mounts) in
-      omega (arith, size, less)
+  few_later = grind (arith, common_steps, length-map, filter_shorter)
 
   by_key : (a b : Location ℕ) → key a ≡ key b → up world a ≡ up world b
   by_key a b e = by (child_at nat_eq world.mounts a) (child_at nat_eq world.mounts b) refl refl e
@@ -271,14 +251,7 @@ module _ (world later : World ℕ) (is : MountInvariants nat_eq world) (are : Mo
 
     pub hop_point : (a b : Location ℕ) → hop_in world a ≡ Some b
         → (mount_numbered nat_eq world a.mount).mount_point ≡ Some b
-    hop_point a b e =
-        by (same_location nat_eq a task.root) (nat_eq a.node (mount_numbered nat_eq world a.mount).root) e
-      where
-        by : (p q : Bool) → cond p None (cond q (mount_numbered nat_eq world a.mount).mount_point None) ≡ Some b
-            → (mount_numbered nat_eq world a.mount).mount_point ≡ Some b
-        by true q h = none_is_some b h
-        by false true h = h
-        by false false h = none_is_some b h
+    hop_point a b e = grind (arith, common_steps, none_is_some)
 
     abbrev hop_key_of : Option (Location ℕ) → ℕ → ℕ
     hop_key_of None number = 0
@@ -288,15 +261,7 @@ module _ (world later : World ℕ) (is : MountInvariants nat_eq world) (are : Mo
     hop_key a = hop_key_of (hop_in world a) a.mount
 
     by_hop_key : (a c : Location ℕ) → hop_key a ≡ hop_key c → hop_in world a ≡ hop_in world c
-    by_hop_key a c e = by (hop_in world a) (hop_in world c) refl refl e
-      where
-        by : (o p : Option (Location ℕ)) → hop_in world a ≡ o → hop_in world c ≡ p
-            → hop_key_of o a.mount ≡ hop_key_of p c.mount → o ≡ p
-        by None None f g e = refl
-        by None (Some d) f g e = absurd (omega (arith, e))
-        by (Some b) None f g e = absurd (omega (arith, e))
-        by (Some b) (Some d) f g e =
-            sym (hop_point a b f) ∙ ap (λ n. (mount_numbered nat_eq world n).mount_point) (ap pred e) ∙ hop_point c d g
+    by_hop_key a c e = grind (arith, common_steps, hop_point)
 
     hop_way : (number : ℕ) → Stands nat_eq world number → (a : Location ℕ) → a.mount ≡ number → IsOwn a.mount
         → Way (hop_in world) (hop_in later) hop_key there a

@@ -1,5 +1,5 @@
 -- Where a filesystem is what it was, but for what is gone, what is there lies where it lay.
-use Rattle.std.proofs.Common.{◌≡◌, refl, sym, ap, subst, ◌∙◌, ⊎_elim, ℕ, nat_eq, true, false, cond, true≢false, List, [], ◌∷◌, Option, Some, None, length, not, ◌||◌, ◌+◌, arith, is_some}
+use Rattle.std.proofs.Common.{◌≡◌, refl, sym, ap, subst, ◌∙◌, ⊎_elim, ℕ, nat_eq, true, false, cond, true≢false, List, [], ◌∷◌, Option, Some, None, length, ◌+◌, arith, is_some}
 use Rattle.vt_spec.specs.FileTree.{FileTree, is_directory_under, is_removed, named_parent, targets_in}
 use Rattle.vt_spec.specs.Lists.{is_among, when}
 use Rattle.vt_spec.specs.Machine.Invariants.{ListsNumbers, TreeInvariants}
@@ -86,9 +86,7 @@ module _ (world later : World ℕ) (trees : TreeInvariants nat_eq world) (later_
 
   pub removed_same : (d : ℕ) → IsDirectory after.tree d → is_removed nat_eq after.tree d
       ≡ is_removed nat_eq before.tree d
-  removed_same d is =
-      ap (λ o. not (nat_eq d after.tree.root || is_some o)) (parent_same d is)
-      ∙ ap (λ r. not (nat_eq d r || is_some (named_parent nat_eq before.tree d))) kept.root
+  removed_same d is = cc (parent_same d is, kept.root)
 
   listed_in : (w : World ℕ) → TreeInvariants nat_eq w → (d : ℕ)
       → is_some ((filesystem_numbered nat_eq w number).files.tree.node d) ≡ true

@@ -1,5 +1,6 @@
 -- One step of a walk leads where it led, if the filesystems that it meets are what they were.
-use Rattle.std.proofs.Common.{append-nil, ◌≡◌, refl, sym, ap, subst, ◌∙◌, inl, inr, ⊎_elim, ℕ, zero, suc, nat_eq, Bool, true, false, cond, List, [], ◌∷◌, ◌++◌, Option, Some, None, Ok, Err, Result, flat_map, length, not, ◌||◌, is_some}
+use Rattle.std.proofs.lemmas.Grind.{common_steps}
+use Rattle.std.proofs.Common.{append-nil, ◌≡◌, refl, sym, ap, subst, ◌∙◌, inl, inr, ⊎_elim, ℕ, zero, suc, nat_eq, Bool, true, false, cond, List, [], ◌∷◌, ◌++◌, Option, Some, None, Ok, Err, Result, flat_map, length, not, ◌||◌, is_some, arith}
 use Rattle.std.specs.Prelude.{IfOk, ok_or, option_map, option_to_list}
 use Rattle.std.proofs.lemmas.List.{map-append}
 use Rattle.vt_spec.specs.declared.errors.Deny.{Deny}
@@ -137,11 +138,7 @@ module _ (world later : World ℕ) (isw : IsWorld nat_eq world) (isl : IsWorld n
       ∙ by (is_removed nat_eq (filesystem_numbered nat_eq later (shown_at l)).files.tree l.node) refl
     where
       there : is_directory_node ((filesystem_numbered nat_eq later (shown_at l)).files.tree.node l.node) ≡ true
-      there =
-          ap is_directory_node
-          (sym (ap (λ (m : Mount ℕ). (filesystem_numbered nat_eq later m.filesystem).files.tree.node l.node)
-          (mount_same l.mount is.own)) ∙ node_is l is kept)
-          ∙ directory
+      there = cc (mount_same l.mount is.own, node_is l is kept, directory)
 
       removed : is_removed nat_eq (filesystem_numbered nat_eq later (shown_at l)).files.tree l.node
           ≡ is_removed nat_eq (filesystem_numbered nat_eq world (shown_at l)).files.tree l.node
@@ -149,16 +146,12 @@ module _ (world later : World ℕ) (isw : IsWorld nat_eq world) (isl : IsWorld n
 
       by : (b : Bool) → is_removed nat_eq (filesystem_numbered nat_eq later (shown_at l)).files.tree l.node ≡ b
           → lost_by later (mount_at one l) l.node ≡ lost_by world (mount_at one l) l.node
-      by true e =
-          ap (λ b. b || not (is_directory_under nat_eq (filesystem_numbered nat_eq later (shown_at l)).files
-          (mount_at one l).root l.node)) e
-          ∙ sym (ap (λ b. b || not (is_directory_under nat_eq (filesystem_numbered nat_eq world (shown_at l)).files
-          (mount_at one l).root l.node)) (sym removed ∙ e))
+      by true e = grind (arith, common_steps, removed)
       by false e =
-          ap (λ b. b || not (is_directory_under nat_eq (filesystem_numbered nat_eq later (shown_at l)).files
-          (mount_at one l).root l.node)) removed
-          ∙ ap (λ u. is_removed nat_eq (filesystem_numbered nat_eq world (shown_at l)).files.tree l.node || not u)
-          (under_same world later isw.files isl.files (shown_at l) kept (mount_at one l).root l.node there e)
+          cc (
+            removed,
+            under_same world later isw.files isl.files (shown_at l) kept (mount_at one l).root l.node there e,
+          )
 
   -- Where `..` goes on from
 
@@ -424,11 +417,7 @@ module _ (world later : World ℕ) (isw : IsWorld nat_eq world) (isl : IsWorld n
       found_same true e =
           ap (walked_to here.left steps (search_rules nat_eq one task here.location))
           (stepped_is here.location word is e kept).0
-      found_same false e =
-          ap (λ d. walked_to here.left steps (rules_by here.location d)
-          (stepped nat_eq other task here.location word)) e
-          ∙ sym (ap (λ d. walked_to here.left steps (rules_by here.location d)
-          (stepped nat_eq one task here.location word)) e)
+      found_same false e = cc (e)
 
       found_there : (b : Bool) → is_directory_at one here.location ≡ b
           → IfOk (walked_to here.left steps (search_rules nat_eq one task here.location)

@@ -1,19 +1,19 @@
 -- Words walked lead where they led, if what they meet is what it was.
-use Rattle.std.proofs.Common.{◌≡◌, refl, sym, ap, subst, ◌∙◌, inl, inr, ⊎_elim, ℕ, zero, suc, nat_eq, Bool, true, false, cond, true≢false, not, List, [], ◌∷◌, ◌++◌, ◌||◌, ◌&&◌, ◌-◌, ◌⊎◌, Option, Some, None, Ok, Err, Result, map, flat_map, length, eqb-true}
-use Rattle.std.specs.Prelude.{IfOk, nat_lt, option_map, option_to_list, unwrap_or, ◌==◌}
-use Rattle.std.specs.List.{list_all, list_any}
+use Rattle.std.proofs.lemmas.Grind.{common_steps}
+use Rattle.std.proofs.Common.{◌≡◌, refl, sym, ap, subst, ◌∙◌, inl, inr, ⊎_elim, ℕ, zero, suc, nat_eq, Bool, true, false, cond, true≢false, not, List, [], ◌∷◌, ◌++◌, ◌||◌, ◌&&◌, ◌-◌, ◌⊎◌, Option, Some, None, Ok, Err, Result, map, flat_map, length, eqb-true, arith}
+use Rattle.std.specs.Prelude.{IfOk, option_map, option_to_list, unwrap_or}
+use Rattle.std.specs.List.{list_all}
 use Rattle.std.proofs.lemmas.Bool.{and_parts}
 use Rattle.std.proofs.lemmas.Option.{same_Some}
 use Rattle.vt_spec.specs.declared.errors.Deny.{Deny}
-use Rattle.vt_spec.specs.declared.errors.Rule.TheVariants.{W2, W3, W7, W9}
+use Rattle.vt_spec.specs.declared.errors.Rule.TheVariants.{W3}
 use Rattle.vt_spec.specs.Errors.{Rules, and_then, unless}
 use Rattle.vt_spec.specs.FileTree.{symlink_text}
-use Rattle.vt_spec.specs.Language.Limits.{longest_name}
 use Rattle.vt_spec.specs.Lists.{is_empty_list, then_some}
 use Rattle.vt_spec.specs.Machine.Invariants.{IsWorld}
 use Rattle.vt_spec.specs.Machine.Looks.{Looks, is_directory_at, topmost}
 use Rattle.vt_spec.specs.Machine.Mounts.{Location, Mount}
-use Rattle.vt_spec.specs.Machine.Walking.{Here, LastWord, Place, Stop, all_met, also_met, entered, entry_location, filesystems_of, follow_rules, is_no_word, is_special, last_word, met_at, met_by, object_named, path_text, placed, search_rules, start_of, stepped, steps_at, stopped_by, symlink_of, symlink_start, symlink_there, then_walk, walk_start, walk_unless, word_walked}
+use Rattle.vt_spec.specs.Machine.Walking.{Here, LastWord, Place, Stop, all_met, entered, entry_location, filesystems_of, follow_rules, is_no_word, is_special, last_word, met_at, met_by, object_named, path_text, placed, search_rules, start_of, stepped, steps_at, stopped_by, symlink_of, symlink_start, symlink_there, then_walk, walk_start, walk_unless, word_walked}
 use Rattle.vt_spec.specs.Machine.Walking.LastWord.{Dot, DotDot, Named, NoWord}
 use Rattle.vt_spec.specs.Machine.World.{Task, World, mount_numbered}
 use Rattle.vt_spec.specs.PathText.{ends_in_slash, is_absolute, words}
@@ -227,19 +227,11 @@ module _ (world later : World ℕ) (isw : IsWorld nat_eq world) (isl : IsWorld n
   -- a symlink's text
   start_is : (directory : Location ℕ) (symlink : Here ℕ) (text : List ℕ)
       → symlink_start nat_eq after task directory symlink text ≡ symlink_start nat_eq before task directory symlink text
-  start_is directory symlink text =
-      ap (λ (m : Mount ℕ). record {
-        location = start_of task directory text;
-        left = symlink.left - 1;
-        steps = cond (is_absolute text) (also_met m.filesystem symlink.steps) symlink.steps;
-      }) stands.root
+  start_is directory symlink text = grind (arith, common_steps)
 
   follow_is : (symlink : Here ℕ) (text : List ℕ) → Owned symlink.location.mount
       → follow_rules nat_eq after symlink text ≡ follow_rules nat_eq before symlink text
-  follow_is symlink text own =
-      ap (λ (m : Mount ℕ). (m.flags.nosymfollow, W9) ∷ (symlink.left == 0, W7)
-      ∷ (list_any (λ word. nat_lt longest_name (length word)) (words text), W2) ∷ [])
-      (mount_is symlink.location.mount own)
+  follow_is symlink text own = grind (arith, common_steps, mount_is)
 
   followed_is : (directory : Location ℕ) → Standing directory → (symlink : Here ℕ) → Owned symlink.location.mount
       → (text : List ℕ) (pending : List Pending) (last : Last)
@@ -415,10 +407,7 @@ module _ (world later : World ℕ) (isw : IsWorld nat_eq world) (isl : IsWorld n
       found_same true e =
           ap (placed_to here word slash steps (search_rules nat_eq before task here.location))
           (object_is here.location word there e met).0
-      found_same false e =
-          ap (λ d. placed_to here word slash steps (rules_of d) (object_named nat_eq after task here.location word)) e
-          ∙ sym (ap (λ d. placed_to here word slash steps (rules_of d)
-          (object_named nat_eq before task here.location word)) e)
+      found_same false e = cc (e)
 
       found_fine : (b : Bool) → is_directory_at before here.location ≡ b
           → IfOk (placed_to here word slash steps (search_rules nat_eq before task here.location)

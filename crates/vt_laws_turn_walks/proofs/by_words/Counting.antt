@@ -1,18 +1,17 @@
 -- One word is one step, so after as many words as a walk has steps nothing is left of it.
+use Rattle.std.proofs.lemmas.Grind.{common_steps}
 use Rattle.std.proofs.Common.{◌≡◌, refl, sym, ap, ◌∙◌, cond, ℕ, suc, nat_eq, Bool, true, false, true≢false, not, List, [], ◌∷◌, ◌-◌, ◌≤◌, ◌||◌, length, reverse, Option, Some, None, Ok, Err, Result, arith}
-use Rattle.std.specs.Prelude.{codes}
-use Rattle.std.specs.Str.{bytes_eq}
 use Rattle.vt_spec.specs.declared.errors.Deny.{Deny}
 use Rattle.vt_spec.specs.Errors.{Rules, and_then, unless}
 use Rattle.vt_spec.specs.FileTree.{symlink_text}
 use Rattle.vt_spec.specs.Language.Limits.{most_symlinks}
 use Rattle.vt_spec.specs.Lists.{is_empty_list, rest_of}
-use Rattle.vt_spec.specs.Machine.Looks.{Looks, mount_at}
+use Rattle.vt_spec.specs.Machine.Looks.{Looks}
 use Rattle.vt_spec.specs.Machine.Mounts.{Location}
-use Rattle.vt_spec.specs.Machine.Walking.{Here, LastWord, Place, Stop, also_met, entered, entered_mounts, filesystems_of, final_word, follow_rules, is_no_word, last_word, object_named, placed, search_rules, stepped, steps_at, steps_with, stopped_by, symlink_of, symlink_start, symlink_there, then_walk, walk_unless, word_walked}
+use Rattle.vt_spec.specs.Machine.Walking.{Here, LastWord, Place, Stop, entered, entered_mounts, filesystems_of, final_word, follow_rules, is_no_word, last_word, object_named, placed, search_rules, stepped, steps_at, steps_with, stopped_by, symlink_of, symlink_start, symlink_there, then_walk, walk_unless, word_walked}
 use Rattle.vt_spec.specs.Machine.Walking.LastWord.{Dot, DotDot, Named, NoWord}
 use Rattle.vt_spec.specs.Machine.World.{Task}
-use Rattle.vt_spec.specs.PathText.{ends_in_slash, is_absolute, words}
+use Rattle.vt_spec.specs.PathText.{ends_in_slash, words}
 use Rattle.vt_laws_turn_walks.specs.Walkers.{Last, Pending, Walk, Walker, all_words, arrived, end_rules, ended, first_words, gone_on, has_no_word, last_of, last_step, one_word, opened, text_word}
 use Rattle.vt_laws_turn_walks.specs.Walkers.Last.{AsFile, AsName, AsOthers, NotFollowed}
 use Rattle.vt_laws_turn_walks.specs.Walkers.Walk.{Goes, Names, Reaches}
@@ -172,12 +171,7 @@ module _ (looks : Looks ℕ) (task : Task ℕ) where
 
   start_steps : (directory : Location ℕ) (symlink : Here ℕ) (text : List ℕ) (count : ℕ) → length symlink.steps ≡ count
       → length (symlink_start nat_eq looks task directory symlink text).steps ≡ count
-  start_steps directory symlink text count same = by (is_absolute text)
-    where
-      by : (b : Bool)
-          → length (cond b (also_met (mount_at looks task.root).filesystem symlink.steps) symlink.steps) ≡ count
-      by true = length-also_met (mount_at looks task.root).filesystem symlink.steps ∙ same
-      by false = same
+  start_steps directory symlink text count same = grind (arith, common_steps, length-also_met)
 
   one_less : (n : ℕ) → n ≤ most_symlinks → n - 1 ≤ most_symlinks
   one_less n few = omega (arith, few)
@@ -196,12 +190,7 @@ module _ (looks : Looks ℕ) (task : Task ℕ) where
 
   -- the last word of a text is none just where it has no words
   word_is_one : (word : List ℕ) → is_no_word (last_word word) ≡ false
-  word_is_one word = by (bytes_eq word (codes ".")) (bytes_eq word (codes ".."))
-    where
-      by : (dot dots : Bool) → is_no_word (cond dot Dot (cond dots DotDot (Named word))) ≡ false
-      by true dots = refl
-      by false true = refl
-      by false false = refl
+  word_is_one word = grind (arith, common_steps)
 
   pub first_words_steps : (text : List ℕ) (slash : Bool) (start : Here ℕ) (count : ℕ) → length start.steps ≡ count
       → start.left ≤ most_symlinks

@@ -1,6 +1,7 @@
 -- How deep symlinks may stand in one another's texts does not matter, where fewer are left to follow; and a walk has
 -- each step that it had.
-use Rattle.std.proofs.Common.{◌≡◌, refl, sym, ap, subst, ◌∙◌, cond, ℕ, zero, suc, pred, nat_eq, Bool, true, false, List, [], ◌∷◌, ◌-◌, ◌≤◌, length, reverse, Option, Some, None, Ok, Err, Result, arith}
+use Rattle.std.proofs.lemmas.Grind.{common_steps}
+use Rattle.std.proofs.Common.{◌≡◌, refl, ap, subst, ◌∙◌, ℕ, zero, suc, pred, nat_eq, Bool, true, false, List, [], ◌∷◌, ◌-◌, ◌≤◌, length, reverse, Option, Some, None, Ok, Err, Result, arith}
 use Rattle.std.specs.Prelude.{nat_lt, ◌==◌}
 use Rattle.std.specs.List.{list_any}
 use Rattle.vt_spec.specs.declared.errors.Deny.{Deny}
@@ -12,7 +13,7 @@ use Rattle.vt_spec.specs.Machine.Looks.{Looks, mount_at}
 use Rattle.vt_spec.specs.Machine.Mounts.{Location}
 use Rattle.vt_spec.specs.Machine.Walking.{Follow, Here, LastWord, Stop, also_met, follow_rules, if_symlink, last_word, search_rules, slash_rules, stepped, steps_with, stopped_by, symlink_start, symlink_walked, then_walk, walk_unless, word_walked, words_walked}
 use Rattle.vt_spec.specs.Machine.World.{Task}
-use Rattle.vt_spec.specs.PathText.{is_absolute, words}
+use Rattle.vt_spec.specs.PathText.{words}
 
 -- What comes after walks
 
@@ -150,14 +151,7 @@ module _ (looks : Looks ℕ) (task : Task ℕ) where
 
   pub start_long : (directory : Location ℕ) (symlink : Here ℕ) (text : List ℕ) (least : ℕ)
       → least ≤ length symlink.steps → least ≤ length (symlink_start nat_eq looks task directory symlink text).steps
-  start_long directory symlink text least long = by (is_absolute text)
-    where
-      met : List (List ℕ)
-      met = also_met (mount_at looks task.root).filesystem symlink.steps
-
-      by : (b : Bool) → least ≤ length (cond b met symlink.steps)
-      by true = subst (λ n. least ≤ n) (sym (length-also_met (mount_at looks task.root).filesystem symlink.steps)) long
-      by false = long
+  start_long directory symlink text least long = grind (arith, common_steps, length-also_met)
 
   -- the words of a symlink's text, and the check of a slash at its end
   abbrev pub text_walked : Follow ℕ → List ℕ → Here ℕ → Result (Here ℕ) (Stop ℕ)

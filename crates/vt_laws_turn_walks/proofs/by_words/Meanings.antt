@@ -1,4 +1,5 @@
 -- What is left of a walk after one word, as a whole, is what was left before it.
+use Rattle.std.proofs.lemmas.Grind.{common_steps}
 use Rattle.std.proofs.Common.{◌≡◌, refl, sym, ap, ◌∙◌, cond, ℕ, suc, nat_eq, Bool, true, false, true≢false, not, List, [], ◌∷◌, ◌++◌, ◌-◌, ◌≤◌, ◌||◌, length, reverse, Option, Some, None, Ok, Err, Result, arith}
 use Rattle.std.specs.Prelude.{nat_lt, ◌==◌}
 use Rattle.std.specs.List.{list_any}
@@ -8,13 +9,12 @@ use Rattle.vt_spec.specs.declared.errors.Rule.TheVariants.{W3}
 use Rattle.vt_spec.specs.Errors.{Rules, and_then, unless}
 use Rattle.vt_spec.specs.FileTree.{symlink_text}
 use Rattle.vt_spec.specs.Language.Limits.{longest_name, most_symlinks}
-use Rattle.vt_spec.specs.Lists.{rest_of}
 use Rattle.vt_spec.specs.Machine.Looks.{Looks, is_directory_at, mount_at}
 use Rattle.vt_spec.specs.Machine.Mounts.{Location}
-use Rattle.vt_spec.specs.Machine.Walking.{Follow, Here, LastWord, Place, Stop, file_or_symlink, file_walked, follow_rules, followed, if_symlink, is_no_word, last_walked, last_word, placed, prefix_walked, slash_rules, start_of, stopped_by, symlink_of, symlink_start, symlink_there, symlink_walked, then_walk, walk_unless, word_walked, words_walked}
+use Rattle.vt_spec.specs.Machine.Walking.{Follow, Here, LastWord, Place, Stop, file_walked, follow_rules, followed, if_symlink, is_no_word, last_walked, last_word, placed, prefix_walked, slash_rules, start_of, stopped_by, symlink_of, symlink_start, symlink_there, symlink_walked, then_walk, walk_unless, word_walked, words_walked}
 use Rattle.vt_spec.specs.Machine.Walking.LastWord.{Dot, DotDot, Named, NoWord}
 use Rattle.vt_spec.specs.Machine.World.{Task}
-use Rattle.vt_spec.specs.PathText.{ends_in_slash, is_absolute, words}
+use Rattle.vt_spec.specs.PathText.{ends_in_slash, words}
 use Rattle.vt_laws_worlds.proofs.worlds.Reached.{directory_no_link}
 use Rattle.vt_laws_turn_walks.specs.ByWords.{last_taken, names, reaches, rest_walked, texts_walked}
 use Rattle.vt_laws_turn_walks.specs.Walkers.{Last, Pending, Walk, Walker, all_words, arrived, end_rules, ended, first_words, gone_on, has_no_word, last_of, last_step, one_word, opened, text_word}
@@ -55,70 +55,28 @@ module _ (looks : Looks ℕ) (task : Task ℕ) where
   end_means here AsOthers quiet true e = refl
   end_means here (NotFollowed NoWord) quiet true e = refl
   end_means here (AsName NoWord slash) quiet true e = refl
-  end_means here (AsFile NoWord slash) quiet true e =
-      ap (λ o. names nat_eq (file_or_symlink nat_eq looks place o (λ text.
-      then_walk (walk_unless place.steps (follow_rules nat_eq looks (symlink_of here place) text)
-      (symlink_start nat_eq looks task here.location (symlink_of here place) text)) (λ start.
-      file_walked nat_eq most_symlinks looks task start text slash)))) (sym quiet)
-    where
-      place : Place ℕ
-      place = record {
-        parent = here.location;
-        last = NoWord;
-        object = Some here.location;
-        slash = false;
-        steps = here.steps;
-      }
+  end_means here (AsFile NoWord slash) quiet true e = grind (arith, common_steps)
   end_means here last quiet true e = absurd (true≢false (sym e))
 
   -- texts that are ended, and what is then left
   pub gone_on_means : (pending : List Pending) (here : Here ℕ) (last : Last) → IsQuiet here last
       → then_walk (gone_on nat_eq looks task here pending last) rest ≡ left_from here pending last
   gone_on_means [] here last quiet = end_means here last quiet (has_no_word last) refl
-  gone_on_means (text ∷ others) here last quiet = by text.words (gone_on_means others here last quiet)
-    where
-      end_by : (b : Bool)
-          → then_walk (gone_on nat_eq looks task here others last) rest ≡ left_from here others last
-          → then_walk (then_walk (walk_unless here.steps ((b, W3) ∷ []) here)
-          (λ reached. gone_on nat_eq looks task reached others last)) rest
-          ≡ then_walk (then_walk (walk_unless here.steps ((b, W3) ∷ []) here) (λ there. texts there others))
-          (λ there. taken there last)
-      end_by true later = refl
-      end_by false later = later
-
-      by : (list : List (List ℕ))
-          → then_walk (gone_on nat_eq looks task here others last) rest ≡ left_from here others last
-          → then_walk (gone_on nat_eq looks task here (record { words = list; slash = text.slash } ∷ others) last) rest
-          ≡ left_from here (record { words = list; slash = text.slash } ∷ others) last
-      by [] later = end_by (cond text.slash (not (is_directory_at looks here.location)) false) later
-      by (word ∷ words_left) later = refl
+  gone_on_means (text ∷ others) here last quiet = grind (arith, common_steps, gone_on_means others here last quiet)
 
   -- words walked one after the other, the first one first
   words_append : (f : Follow ℕ) (here : Here ℕ) (last first : List (List ℕ))
       → words_walked nat_eq looks task f here (last ++ first)
       ≡ then_walk (words_walked nat_eq looks task f here first) (λ r. words_walked nat_eq looks task f r last)
   words_append f here [] first = sym (then_ok (words_walked nat_eq looks task f here first))
-  words_append f here (word ∷ last) first =
-      ap (λ r. then_walk r (λ reached.
-      then_walk (word_walked nat_eq looks task reached (last_word word)) (λ next.
-      if_symlink next (symlink_text (looks.node next.location)) (f reached.location next))))
-      (words_append f here last first)
-      ∙ then_then (words_walked nat_eq looks task f here first) (λ r. words_walked nat_eq looks task f r last)
-      (λ reached.
-      then_walk (word_walked nat_eq looks task reached (last_word word)) (λ next.
-      if_symlink next (symlink_text (looks.node next.location)) (f reached.location next)))
+  words_append f here (word ∷ last) first = grind (arith, common_steps, then_then, words_append f here last first)
 
   first_word : (here : Here ℕ) (word : List ℕ) (list : List (List ℕ))
       → words_walked nat_eq looks task follow here (reverse (word ∷ list))
       ≡ then_walk (word_walked nat_eq looks task here (last_word word)) (λ next.
       then_walk (if_symlink next (symlink_text (looks.node next.location)) (follow here.location next)) (λ r.
       words_walked nat_eq looks task follow r (reverse list)))
-  first_word here word list =
-      ap (words_walked nat_eq looks task follow here) (reverse-append (word ∷ []) list)
-      ∙ words_append follow here (reverse list) (word ∷ [])
-      ∙ then_then (word_walked nat_eq looks task here (last_word word)) (λ next.
-      if_symlink next (symlink_text (looks.node next.location)) (follow here.location next)) (λ r.
-      words_walked nat_eq looks task follow r (reverse list))
+  first_word here word list = grind (arith, common_steps, reverse-append, words_append, then_then)
 
   -- what a symlink's text leads to, and then
   abbrev less : ℕ
@@ -152,10 +110,7 @@ module _ (looks : Looks ℕ) (task : Task ℕ) where
 
     left_is : (there : Here ℕ)
         → left_from there pending last ≡ then_walk (words_walked nat_eq looks task follow there (reverse left)) after
-    left_is there =
-        then_then (words_walked nat_eq looks task follow there (reverse left)) (λ reached.
-        then_walk (walk_unless reached.steps (end_rules nat_eq looks slash reached.location) reached) (λ there.
-        texts there others)) (λ there. taken there last)
+    left_is there = grind (arith, common_steps, then_then)
 
     arrived_means : (next : Here ℕ) → next.left ≤ most_symlinks → (text : Option (List ℕ))
         → then_walk (arrived nat_eq looks task here.location next pending last text) rest
@@ -218,17 +173,7 @@ module _ (looks : Looks ℕ) (task : Task ℕ) where
   pub first_words_mean : (text : List ℕ) (start : Here ℕ) (last : Last)
       → left_from start (first_words text ∷ []) last
       ≡ then_walk (prefix_walked nat_eq looks task follow start (reverse (words text))) (λ here. taken here last)
-  first_words_mean text start last =
-      ap (λ r. then_walk r (λ here. taken here last))
-      (then_ok (words_walked nat_eq looks task follow start (reverse (reverse (rest_of (reverse (words text))))))
-      ∙ ap (words_walked nat_eq looks task follow start) (reverse-reverse (rest_of (reverse (words text))))
-      ∙ by (reverse (words text)))
-    where
-      by : (list : List (List ℕ))
-          → words_walked nat_eq looks task follow start (rest_of list)
-          ≡ prefix_walked nat_eq looks task follow start list
-      by [] = refl
-      by (word ∷ prefix) = refl
+  first_words_mean text start last = grind (arith, common_steps, then_ok, reverse-reverse)
 
   pub file_means : (depth : ℕ) → depth ≤ most_symlinks → (text : List ℕ) (slash : Bool) (start : Here ℕ)
       → start.left ≤ depth → IsQuiet start (AsFile (last_of text) (slash || ends_in_slash text))
@@ -288,11 +233,7 @@ module _ (looks : Looks ℕ) (task : Task ℕ) where
   pub directory_at : is_directory_at looks task.root ≡ true → (directory : Location ℕ)
       → is_directory_at looks directory ≡ true → (text : List ℕ)
       → is_directory_at looks (start_of task directory text) ≡ true
-  directory_at root directory is text = by (is_absolute text)
-    where
-      by : (b : Bool) → is_directory_at looks (cond b task.root directory) ≡ true
-      by true = root
-      by false = is
+  directory_at root directory is text = grind (arith, common_steps)
 
   -- what was found, and then what is left
   reached_rest : (a : Result (Here ℕ) (Stop ℕ)) → then_walk (reaches nat_eq a) rest ≡ reaches nat_eq a

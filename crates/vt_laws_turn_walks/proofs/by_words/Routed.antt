@@ -1,21 +1,21 @@
 -- The rules that a call asks of where a walk ends add no word to it.
-use Rattle.std.proofs.Common.{◌≡◌, refl, sym, ap, ◌∙◌, ℕ, nat_eq, Bool, true, false, not, List, [], ◌∷◌, ◌++◌, ◌+◌, ◌&&◌, Option, Some, None, Ok, Err, Result, map, reverse, is_some}
+use Rattle.std.proofs.lemmas.Grind.{common_steps}
+use Rattle.std.proofs.Common.{◌≡◌, refl, ap, ◌∙◌, ℕ, nat_eq, Bool, true, false, not, List, [], ◌∷◌, ◌++◌, ◌+◌, ◌&&◌, Option, Some, None, Ok, Err, Result, map, reverse, is_some, arith}
 use Rattle.std.specs.Prelude.{option_to_list}
-use Rattle.vt_spec.specs.declared.errors.Rule.TheVariants.{W3, W6, W8}
+use Rattle.vt_spec.specs.declared.errors.Rule.TheVariants.{W3, W6}
 use Rattle.vt_spec.specs.Errors.{Rules}
 use Rattle.vt_spec.specs.Language.Calls.{Creation, OverlayWords}
 use Rattle.vt_spec.specs.Language.Calls.Call.{Bind, Chdir, Chmod, Chown, Chroot, Exec, Lazy, LinkTo, Ls, Lstat, MakeWhiteout, Mkdir, MountOverlay, MountPlain, MoveMount, Opaque, OpenFile, PivotRoot, Read, Readlink, Remount, Rename, Rmdir, SetType, Stat, SymlinkAt, Umount, Unlink, Write}
 use Rattle.vt_spec.specs.Language.Calls.Creation.{Exclusive, NoCreation, OrCreate}
-use Rattle.vt_spec.specs.Language.Limits.{most_symlinks}
-use Rattle.vt_spec.specs.Machine.Looks.{Looks, is_directory_at, topmost}
-use Rattle.vt_spec.specs.Machine.Rules.Mounting.{at_topmost, destination_walk, source_walk, work_walked}
+use Rattle.vt_spec.specs.Machine.Looks.{Looks, is_directory_at}
+use Rattle.vt_spec.specs.Machine.Rules.Mounting.{destination_walk, source_walk, work_walked}
 use Rattle.vt_spec.specs.Machine.Rules.Removing.{rename_new_walk}
 use Rattle.vt_spec.specs.Machine.Turns.{Route, here_route, layer_routes, open_route, place_route, rename_from_directory}
-use Rattle.vt_spec.specs.Machine.Walking.{Here, Place, Stop, directory_walk, file_walk, file_walked, is_directory_there, new_leaf_walk, new_name_rules, new_walk, object_walk, old_leaf_walk, old_walk, path_text, path_walked, place_walk, symlink_walk, then_walk, walk_start, walk_unless}
+use Rattle.vt_spec.specs.Machine.Walking.{Here, Place, Stop, directory_walk, file_walk, is_directory_there, new_leaf_walk, new_name_rules, new_walk, object_walk, old_leaf_walk, old_walk, path_walked, place_walk, symlink_walk, then_walk, walk_unless}
 use Rattle.vt_spec.specs.Machine.World.{Task}
 use Rattle.vt_laws_turn_walks.specs.ByWords.{Aim, names, reaches, steps_of, whole_walk}
 use Rattle.vt_laws_turn_walks.specs.ByWords.Aim.{File, InDirectory, Object, Symlink, Words}
-use Rattle.vt_laws_turn_walks.specs.Routes.{RoutesAreWalks, Way, layer_ways, way, ways}
+use Rattle.vt_laws_turn_walks.specs.Routes.{RoutesAreWalks, Way, layer_ways, way}
 use Rattle.vt_laws_turn_walks.proofs.by_words.Depths.{then_then}
 
 here_route_steps : (a : Result (Here ℕ) (Stop ℕ)) → (here_route a).steps ≡ reverse (steps_of (reaches nat_eq a))
@@ -68,10 +68,7 @@ module _ (looks : Looks ℕ) (task : Task ℕ) where
 
   source_kept : (path : List ℕ) → steps_of (reaches nat_eq (source_walk nat_eq looks task path))
       ≡ steps_of (whole_walk nat_eq Words looks task path)
-  source_kept path =
-      here_kept (directory_walk nat_eq looks task path) (λ here. (looks.is_removed here.location, W8) ∷ [])
-      (λ here. here) (λ here. refl)
-      ∙ directory_kept path
+  source_kept path = grind (arith, common_steps, here_kept, directory_kept)
 
   directory_met : (path : List ℕ) → (here_route (directory_walk nat_eq looks task path)).steps ≡ met_for Words path
   directory_met path = here_route_steps (directory_walk nat_eq looks task path) ∙ ap reverse (directory_kept path)
@@ -80,11 +77,7 @@ module _ (looks : Looks ℕ) (task : Task ℕ) where
   source_met path = here_route_steps (source_walk nat_eq looks task path) ∙ ap reverse (source_kept path)
 
   destination_met : (path : List ℕ) → (here_route (destination_walk nat_eq looks task path)).steps ≡ met_for Words path
-  destination_met path =
-      here_route_steps (destination_walk nat_eq looks task path)
-      ∙ ap reverse (here_kept (source_walk nat_eq looks task path)
-      (λ here. (looks.is_removed (topmost looks here.location), W8) ∷ []) (at_topmost looks) (λ here. refl)
-      ∙ source_kept path)
+  destination_met path = grind (arith, common_steps, here_route_steps, here_kept, source_kept)
 
   new_kept : (path : List ℕ) → steps_of (names nat_eq (new_walk nat_eq looks task path))
       ≡ steps_of (whole_walk nat_eq InDirectory looks task path)
@@ -120,23 +113,13 @@ module _ (looks : Looks ℕ) (task : Task ℕ) where
       (λ place. (place.slash && not from_directory, W3) ∷ []) ∙ new_kept path)
 
   file_met : (path : List ℕ) → (place_route (file_walk nat_eq looks task path)).steps ≡ met_for File path
-  file_met path =
-      place_route_steps (file_walk nat_eq looks task path)
-      ∙ ap (λ a. reverse (steps_of (names nat_eq a))) (sym (then_then (path_text path) (λ text.
-      file_walked nat_eq (most_symlinks + 1) looks task (walk_start task text) text false)
-      (λ place. walk_unless place.steps (new_name_rules nat_eq looks place) place)))
-      ∙ ap reverse (place_kept (then_walk (path_text path) (λ text.
-      file_walked nat_eq (most_symlinks + 1) looks task (walk_start task text) text false))
-      (new_name_rules nat_eq looks))
+  file_met path = grind (arith, common_steps, place_route_steps, then_then, place_kept)
 
   layers_met : (paths : List (List ℕ))
       → map (λ (route : Route ℕ). route.steps) (map (λ path. here_route (source_walk nat_eq looks task path)) paths)
       ≡ map (λ (w : Way). met_for w.aim w.path) (map (way Words) paths)
   layers_met [] = refl
-  layers_met (path ∷ paths) =
-      ap (λ s. s ∷ map (λ (route : Route ℕ). route.steps)
-      (map (λ p. here_route (source_walk nat_eq looks task p)) paths)) (source_met path)
-      ∙ ap (λ rest. met_for Words path ∷ rest) (layers_met paths)
+  layers_met (path ∷ paths) = cc (source_met path, layers_met paths)
 
   options_met : (options : Option OverlayWords)
       → map (λ (route : Route ℕ). route.steps) (layer_routes nat_eq looks task options)

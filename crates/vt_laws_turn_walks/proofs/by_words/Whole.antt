@@ -1,5 +1,6 @@
 -- Word by word each walk leads where it leads as a whole.
-use Rattle.std.proofs.Common.{◌≡◌, refl, sym, ap, subst, ◌∙◌, cond, ℕ, zero, suc, nat_eq, Bool, true, false, true≢false, not, List, [], ◌∷◌, ◌+◌, ◌≤◌, length, reverse, Ok, Err, Result, arith}
+use Rattle.std.proofs.lemmas.Grind.{common_steps}
+use Rattle.std.proofs.Common.{◌≡◌, refl, sym, ap, subst, ◌∙◌, cond, ℕ, zero, suc, nat_eq, Bool, true, false, true≢false, List, [], ◌∷◌, ◌+◌, ◌≤◌, length, reverse, Ok, Err, Result, arith}
 use Rattle.vt_spec.specs.Errors.{Rules, unless}
 use Rattle.vt_spec.specs.Language.Limits.{most_symlinks}
 use Rattle.vt_spec.specs.Machine.Looks.{Looks, is_directory_at}
@@ -9,24 +10,18 @@ use Rattle.vt_spec.specs.Machine.World.{Task}
 use Rattle.vt_spec.specs.PathText.{ends_in_slash, path_rules, words}
 use Rattle.vt_laws_turn_walks.specs.ByWords.{Aim, AllWordsAreTheWalk, FirstWordsAreOfTheWalk, StandsOnDirectories, begun, last_for, names, pending_for, reaches, steps_of, whole_walk}
 use Rattle.vt_laws_turn_walks.specs.ByWords.Aim.{File, InDirectory, Object, Symlink, Words}
-use Rattle.vt_laws_turn_walks.specs.Walkers.{Last, Pending, Walk, Walker, all_words, end_rules, first_words, gone_on, has_no_word, last_of, one_word, walked_on}
+use Rattle.vt_laws_turn_walks.specs.Walkers.{Last, Pending, Walk, Walker, all_words, end_rules, first_words, gone_on, last_of, one_word, walked_on}
 use Rattle.vt_laws_turn_walks.specs.Walkers.Last.{AsFile, AsName, AsOthers, NotFollowed}
 use Rattle.vt_laws_turn_walks.specs.Walkers.Walk.{Goes, Names, Reaches}
 use Rattle.vt_laws_turn_walks.proofs.by_words.Counting.{HasSteps, IsHalfDone, first_words_steps, gone_on_steps, has_word, is_quiet, one_word_steps}
 use Rattle.vt_laws_turn_walks.proofs.by_words.Depths.{Within, same_then, then_ok, then_same, then_then, unless_same, word_within, words_same}
 use Rattle.vt_laws_turn_walks.proofs.by_words.Files.{Longer, file_from, file_long, follow_alike, from_long, longer_place, placed_long}
-use Rattle.vt_laws_turn_walks.proofs.by_words.Meanings.{directory_at, file_means, first_words_mean, follow, gone_on_means, left_from, one_word_means, quiet_at, rest, taken, texts}
+use Rattle.vt_laws_turn_walks.proofs.by_words.Meanings.{directory_at, file_means, first_words_mean, follow, gone_on_means, one_word_means, quiet_at, rest, taken, texts}
 
 -- what comes after the text of a path
 text_then : {B : Type 0} (path : List ℕ) (f g : List ℕ → Result B (Stop ℕ)) → f path ≡ g path
     → then_walk (path_text path) f ≡ then_walk (path_text path) g
-text_then path f g same = by (path_rules path)
-  where
-    by : (rules : Rules)
-        → then_walk (stopped_by [] (unless rules (Ok path))) f ≡ then_walk (stopped_by [] (unless rules (Ok path))) g
-    by [] = same
-    by ((true, rule) ∷ rules) = refl
-    by ((false, rule) ∷ rules) = by rules
+text_then path f g same = grind (arith, common_steps)
 
 text_steps : (path : List ℕ) (f : List ℕ → Result (Walk ℕ) (Stop ℕ)) → HasSteps 0 (f path)
     → HasSteps 0 (then_walk (path_text path) f)
@@ -114,13 +109,7 @@ module _ (looks : Looks ℕ) (task : Task ℕ) where
   module _ (root : is_directory_at looks task.root ≡ true) where
     word_means : (walker : Walker ℕ) → IsHalfDone walker
         → then_walk (one_word nat_eq looks task walker) (rest looks task) ≡ rest looks task (Goes walker)
-    word_means walker half =
-        one_word_means looks task root walker half.left (is_quiet looks task walker.last half.last)
-        (λ none. turned (has_no_word walker.last) (ap (λ p. has_word p walker.last) (sym none) ∙ half.word))
-      where
-        turned : (b : Bool) → not b ≡ true → b ≡ false
-        turned true e = absurd (true≢false (sym e))
-        turned false e = refl
+    word_means walker half = grind (arith, common_steps, one_word_means, is_quiet, has_word, true≢false)
 
     -- after any number of words the rest is the same
     after_steps : (count : ℕ) (a : Result (Walk ℕ) (Stop ℕ)) (f g : Walk ℕ → Result (Walk ℕ) (Stop ℕ))
@@ -193,11 +182,7 @@ module _ (looks : Looks ℕ) (task : Task ℕ) where
         ≡ then_walk (path_text path) (λ text.
         then_walk (gone_on nat_eq looks task start (pending_for nat_eq aim path ∷ []) (last_for nat_eq aim path))
         (rest looks task))
-    begun_at aim =
-        then_then (path_text path) (λ text.
-        gone_on nat_eq looks task (walk_start task text) (pending_for nat_eq aim text ∷ []) (last_for nat_eq aim text))
-        (rest looks task)
-        ∙ text_then path _ _ refl
+    begun_at aim = grind (arith, common_steps, then_then, rest, text_then)
 
     object_means : then_walk (path_text path) (λ text.
         then_walk (gone_on nat_eq looks task start (all_words path ∷ []) AsOthers) (rest looks task))
@@ -232,13 +217,7 @@ module _ (looks : Looks ℕ) (task : Task ℕ) where
 
     begun_means : (aim : Aim) → then_walk (begun nat_eq aim looks task path) (rest looks task)
         ≡ whole_walk nat_eq aim looks task path
-    begun_means Words =
-        begun_at Words
-        ∙ text_then path _ (λ text. reaches nat_eq (words_walked nat_eq looks task (follow looks task)
-        (walk_start task text) (reverse (words text))))
-        (gone_on_means looks task (record { words = words path; slash = false } ∷ []) start AsOthers tt
-        ∙ ap (reaches nat_eq) (then_ok all))
-        ∙ sym (then_then (path_text path) _ (λ here. Ok (Reaches here)))
+    begun_means Words = grind (arith, common_steps, begun_at, text_then, follow, gone_on_means, then_ok, then_then)
     begun_means Object = begun_at Object ∙ object_means
     begun_means Symlink = begun_at Symlink ∙ symlink_means (ends_in_slash path)
     begun_means InDirectory =

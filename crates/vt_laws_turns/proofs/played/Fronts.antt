@@ -1,5 +1,6 @@
 -- Commits are fronts of queues.
-use Rattle.std.proofs.Common.{◌≡◌, refl, sym, ap, subst, ◌∙◌, ⊎_elim, ℕ, nat_eq, Bool, true, false, cond, true≢false, List, [], ◌∷◌, ◌++◌, Option, Some, None, find, map}
+use Rattle.std.proofs.lemmas.Grind.{common_steps}
+use Rattle.std.proofs.Common.{◌≡◌, refl, sym, ap, subst, ◌∙◌, ⊎_elim, ℕ, nat_eq, Bool, true, false, cond, true≢false, List, [], ◌∷◌, ◌++◌, Option, Some, find, map, arith}
 use Rattle.std.proofs.lemmas.List.{append_assoc}
 use Rattle.std.specs.Prelude.{option_map, option_to_list, unwrap_or}
 use Rattle.vt_spec.specs.Language.Script.{Who}
@@ -28,11 +29,7 @@ items o = unwrap_or (option_map (λ (q : Queue). q.items) o) []
 pub shorter : (who other : Who) (queues : List Queue)
     → queue_of (map (shortened who) queues) other
     ≡ cond (same_who other who) (rest_of (queue_of queues other)) (queue_of queues other)
-shorter who other [] = by (same_who other who)
-  where
-    by : (b : Bool) → items None ≡ cond b (rest_of (items None)) (items None)
-    by true = refl
-    by false = refl
+shorter who other [] = grind (arith, common_steps)
 shorter who other (queue ∷ queues) =
     first (same_who who queue.who) refl (same_who other queue.who) refl (shorter who other queues)
   where
@@ -89,13 +86,7 @@ step sched given other (first ∷ rest) e turned is =
 pub more_items : (who : Who) (ones others : List Commit)
     → items_of who (ones ++ others) ≡ items_of who ones ++ items_of who others
 more_items who [] others = refl
-more_items who (commit ∷ ones) others = by (same_who who commit.who) (more_items who ones others)
-  where
-    by : (b : Bool) → items_of who (ones ++ others) ≡ items_of who ones ++ items_of who others
-        → cond b (commit.queued ∷ items_of who (ones ++ others)) (items_of who (ones ++ others))
-        ≡ cond b (commit.queued ∷ items_of who ones) (items_of who ones) ++ items_of who others
-    by true rest = ap (λ l. commit.queued ∷ l) rest
-    by false rest = rest
+more_items who (commit ∷ ones) others = grind (arith, common_steps, more_items who ones others)
 
 pub commits_are_fronts : CommitsAreFronts
 commits_are_fronts sched [] who = refl

@@ -1,5 +1,6 @@
 -- The text of a schedule is that of its commits.
-use Rattle.std.proofs.Common.{◌≡◌, refl, sym, ap, ◌∙◌, ℕ, nat_eq, Bool, List, [], ◌∷◌, ◌++◌, Option, Some, None, ◌+◌}
+use Rattle.std.proofs.lemmas.Grind.{common_steps}
+use Rattle.std.proofs.Common.{◌≡◌, refl, ℕ, nat_eq, Bool, List, [], ◌∷◌, ◌++◌, Option, Some, None, ◌+◌, arith}
 use Rattle.std.proofs.lemmas.List.{append_assoc}
 use Rattle.std.specs.Prelude.{option_to_list}
 use Rattle.vt_spec.specs.Language.Printed.{reply_line}
@@ -14,16 +15,14 @@ more_texts : (ones others : List Reply)
     → text_of_replies (ones ++ others) ≡ text_of_replies ones ++ text_of_replies others
 more_texts [] others = refl
 more_texts (reply ∷ ones) others =
-    ap (λ l. reply_line reply.line reply.answer ++ l) (more_texts ones others)
-    ∙ sym (append_assoc (reply_line reply.line reply.answer) (text_of_replies ones) (text_of_replies others))
+    cc (
+      more_texts ones others,
+      append_assoc (reply_line reply.line reply.answer) (text_of_replies ones) (text_of_replies others),
+    )
 
 text_of_one : (reply : Option Reply) → reply_text reply ≡ text_of_replies (option_to_list reply)
 text_of_one None = refl
-text_of_one (Some reply) = append_nil (reply_line reply.line reply.answer)
-  where
-    append_nil : (l : List ℕ) → l ≡ l ++ []
-    append_nil [] = refl
-    append_nil (a ∷ rest) = ap (λ l. a ∷ l) (append_nil rest)
+text_of_one (Some reply) = grind (arith, common_steps)
 
 -- what is played is the text of the replies
 plays : (number : ℕ) (sched : Sched ℕ) (lines : List (List ℕ)) (refused : List Bool)

@@ -1,6 +1,7 @@
 -- How often a call restarts.
+use Rattle.std.proofs.lemmas.Grind.{common_steps}
 use Rattle.std.proofs.Common.{◌≡◌, refl, sym, ap, subst, ◌∙◌, inl, inr, ℕ, nat_eq, Bool, true, false, true≢false, cond, not, List, [], ◌∷◌, ◌++◌, ◌≤◌, ◌<◌, ◌+◌, ◌&&◌, Option, Some, None, arith}
-use Rattle.std.specs.Prelude.{is_some, nat_le, option_map, option_to_list, unwrap_or}
+use Rattle.std.specs.Prelude.{is_some, option_map, option_to_list, unwrap_or}
 use Rattle.vt_spec.specs.Language.Calls.{Call, TaskName, same_name}
 use Rattle.vt_spec.specs.Language.Limits.{most_restarts}
 use Rattle.vt_spec.specs.Language.Script.{Who}
@@ -90,12 +91,7 @@ module _ (sched : Sched ℕ) (task : Task ℕ) (line : ℕ) (call : Call) (fresh
   run_whole_then p at many (GoesOn q found current walked) =
       absurd (true≢false (sym at.numbers
       ∙ ap (is_overtaken nat_eq sched.world task) (one_found p q at.under_way found) ∙ current))
-  run_whole_then p at many (Restarts q found stale fewer walked) =
-      clash q.restarts fewer (subst (λ (r : Progress ℕ). most_restarts ≤ r.restarts)
-      (one_found p q at.under_way found) many)
-    where
-      clash : (n : ℕ) → nat_le most_restarts n ≡ false → most_restarts ≤ n → is_some turned.reply ≡ true
-      clash n e h = grind (arith, e, h)
+  run_whole_then p at many (Restarts q found stale fewer walked) = grind (arith, common_steps, one_found)
   run_whole_then p at many (Whole q found stale more is) = ap (λ (t : Turned ℕ). is_some t.reply) is
 
 pub calls_begin : CallsBegin
@@ -148,13 +144,7 @@ module _ (sched : Sched ℕ) (is : IsSched sched) (name : TaskName) where
       (under_way_of sched.under_way name)) (task_called sched.world name)
 
   none_found : under_way_of sched.under_way name ≡ None → finds ≡ false
-  none_found e = by (task_called sched.world name)
-    where
-      by : (found : Option (Task ℕ))
-          → holds_of (λ task. holds_of (λ progress. is_overtaken nat_eq sched.world task progress)
-          (under_way_of sched.under_way name)) found ≡ false
-      by None = refl
-      by (Some task) = ap (holds_of (λ progress. is_overtaken nat_eq sched.world task progress)) e
+  none_found e = grind (arith, common_steps)
 
   some_found : (task : Task ℕ) (p : Progress ℕ) (b : Bool) → task_called sched.world name ≡ Some task
       → under_way_of sched.under_way name ≡ Some p → is_overtaken nat_eq sched.world task p ≡ b → finds ≡ b
@@ -231,13 +221,7 @@ module _ (sched : Sched ℕ) (is : IsSched sched) (name : TaskName) where
       ap (λ (t : Turned ℕ). under_way_of t.sched.under_way name) e
       ∙ found_without name other sched.under_way (ap (same_who (Someone name)) (sym w) ∙ apart)
   other_turn who fresh turned apart (Further task w line call given g next before at further) =
-      let same : before.task ≡ task.name = named sched task before at in
-      let differ : same_name name before.task ≡ false =
-      ap (same_name name) same ∙ ap (same_who (Someone name)) (sym w) ∙ apart in
-      ap (λ (t : Turned ℕ). under_way_of t.sched.under_way name) further.is
-      ∙ ap (λ b. cond b (Some (one_further nat_eq sched.world further.met before))
-      (under_way_of (without_progress before.task sched.under_way) name)) differ
-      ∙ found_without name before.task sched.under_way differ
+      grind (arith, common_steps, named, found_without)
 
   one_turn : (who : Who) (fresh : Option (Fresh ℕ)) (turned : Turned ℕ) → Shape sched who fresh turned
       → items_of (Someone name) (option_to_list (commit_by who fresh (first_of_list (queue_of sched.queues who))
@@ -249,13 +233,8 @@ module _ (sched : Sched ℕ) (is : IsSched sched) (name : TaskName) where
       unanswered : (items : Option Queued) (reply : Option Reply) → first_of_list (queue_of sched.queues who) ≡ items
           → turned.reply ≡ reply → who ≡ Someone name → turned.reply ≡ None
       unanswered items None f e w = e
-      unanswered None (Some reply) f e w = idle shape
-        where
-          idle : Shape sched who fresh turned → turned.reply ≡ None
-          idle (Idle q is_idle) = ap (λ (t : Turned ℕ). t.reply) is_idle
-          idle (OtherDone first g plain outcome is_done) = none_is_some first (sym f ∙ g)
-          idle (CallDone other x line call g outcome is_done) = none_is_some _ (sym f ∙ g)
-          idle (Further task x line call given g next before at further) = cc further.is
+      unanswered None (Some reply) f e w =
+          grind (arith, common_steps, Shape, Idle, OtherDone, none_is_some, CallDone, Further)
       unanswered (Some first) (Some reply) f e w =
           absurd (not_none
           (sym (ap (λ o. items_of (Someone name) (option_to_list (commit_by who fresh o turned.reply))) f

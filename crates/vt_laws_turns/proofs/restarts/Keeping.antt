@@ -1,11 +1,12 @@
 -- Each turn keeps the conditions of a scheduler's state.
-use Rattle.std.proofs.Common.{◌≡◌, refl, sym, ap, subst, ◌∙◌, ⊎_elim, ℕ, suc, nat_eq, Bool, true, false, true≢false, cond, not, List, [], ◌∷◌, ◌≤◌, ◌+◌, Option, Some, filter, map, length, arith}
-use Rattle.std.specs.Prelude.{Contains, nat_le}
+use Rattle.std.proofs.lemmas.Grind.{common_steps}
+use Rattle.std.proofs.Common.{◌≡◌, refl, sym, ap, subst, ◌∙◌, ⊎_elim, ℕ, suc, nat_eq, Bool, true, false, true≢false, cond, not, List, [], ◌∷◌, ◌≤◌, Option, Some, filter, map, length, arith}
+use Rattle.std.specs.Prelude.{Contains}
 use Rattle.vt_spec.specs.Language.Calls.{TaskName, same_name}
 use Rattle.vt_spec.specs.Language.Limits.{most_restarts}
 use Rattle.vt_spec.specs.Language.Script.{Who}
 use Rattle.vt_spec.specs.Language.Script.Who.{Someone}
-use Rattle.vt_spec.specs.Lists.{Fresh, first_of_list, holds_of, rest_of}
+use Rattle.vt_spec.specs.Lists.{Fresh, first_of_list, holds_of}
 use Rattle.vt_spec.specs.Machine.Turns.{Progress, Queue, Queued, Sched, Turned, one_further, queue_of, same_who, shortened, turn, without_progress}
 use Rattle.vt_spec.specs.Machine.World.{Task, World}
 use Rattle.vt_spec.proofs.Found.{found_among, found_passes}
@@ -20,28 +21,12 @@ use Rattle.vt_laws_turns.proofs.played.Fronts.{same_whos, shorter}
 -- a filter makes no list longer
 shrinks : {A : Type 0} (p q : A → Bool) (xs : List A) → length (filter p (filter q xs)) ≤ length (filter p xs)
 shrinks p q [] = omega arith
-shrinks {A = A} p q (x ∷ xs) = by (q x) (p x) refl (shrinks p q xs)
-  where
-    by : (b c : Bool) → p x ≡ c → length (filter p (filter q xs)) ≤ length (filter p xs)
-        → length (filter p (cond b (x ∷ filter q xs) (filter q xs))) ≤ length (cond c (x ∷ filter p xs) (filter p xs))
-    by true true e h =
-        subst (λ t. length (cond t (x ∷ filter p (filter q xs)) (filter p (filter q xs))) ≤ suc (length (filter p xs)))
-        (sym e) (omega (arith, h))
-    by true false e h =
-        subst (λ t. length (cond t (x ∷ filter p (filter q xs)) (filter p (filter q xs))) ≤ length (filter p xs))
-        (sym e) h
-    by false true e h = omega (arith, h)
-    by false false e h = h
+shrinks {A = A} p q (x ∷ xs) = grind (arith, common_steps, shrinks p q xs)
 
 -- what does not pass is not left
 none_left : {A : Type 0} (p : A → Bool) (xs : List A) → filter p (filter (λ x. not (p x)) xs) ≡ []
 none_left p [] = refl
-none_left {A = A} p (x ∷ xs) = by (p x) refl (none_left p xs)
-  where
-    by : (b : Bool) → p x ≡ b → filter p (filter (λ y. not (p y)) xs) ≡ []
-        → filter p (cond (not b) (x ∷ filter (λ y. not (p y)) xs) (filter (λ y. not (p y)) xs)) ≡ []
-    by true e h = h
-    by false e h = cc
+none_left {A = A} p (x ∷ xs) = grind (arith, common_steps, none_left p xs)
 
 -- a queue that is not shortened has the call first that it had
 other_first : (who : Who) (queues : List Queue) (name : TaskName) → same_who (Someone name) who ≡ false
@@ -118,11 +103,7 @@ module _ (sched : Sched ℕ) (is : IsSched sched) where
   few task before (OnWay found current) =
       is.restarts before (contains_from_among sched.under_way before
       (found_among (λ (p : Progress ℕ). same_name task.name p.task) sched.under_way before found))
-  few task before (Again progress found stale fewer e) =
-      subst (λ (p : Progress ℕ). p.restarts ≤ most_restarts) (sym e) (below progress.restarts fewer)
-    where
-      below : (n : ℕ) → nat_le most_restarts n ≡ false → n + 1 ≤ most_restarts
-      below n h = grind (arith, h)
+  few task before (Again progress found stale fewer e) = grind (arith, common_steps)
 
   -- a call goes on
   goes_on : (name : TaskName) (progress : Progress ℕ) → progress.task ≡ name → progress.restarts ≤ most_restarts
@@ -150,11 +131,7 @@ module _ (sched : Sched ℕ) (is : IsSched sched) where
           ap (all_under_way_of (without_progress progress.task sched.under_way)) same
           ∙ none_left (λ (p : Progress ℕ). same_name progress.task p.task) sched.under_way in
           subst (λ l. suc (length l) ≤ 1) (sym none) (omega arith)
-      by other false f =
-          let less = shrinks (λ (p : Progress ℕ). same_name other p.task)
-          (λ (p : Progress ℕ). not (same_name progress.task p.task)) sched.under_way in
-          let most = is.one other in
-          omega (arith, less, most)
+      by other false f = grind (arith, common_steps, shrinks)
 
   by_shape : (who : Who) (fresh : Option (Fresh ℕ)) (turned : Turned ℕ) → Shape sched who fresh turned
       → IsSched turned.sched

@@ -1,10 +1,10 @@
 -- What is lent for a location, and what the definitions see there.
-use Rattle.std.proofs.Common.{◌≡◌, refl, sym, ap, ◌∙◌, ℕ, List, Option, None, Some, option_map}
+use Rattle.std.proofs.Common.{◌≡◌, refl, sym, ap, ℕ, Option, None, Some}
 use Rattle.std.proofs.lemmas.Option.{same_Some}
 use Rattle.vt_spec.proofs.Options.{none_is_some}
 use Rattle.vt_spec.specs.Machine.Rightful.{node_allows}
 use Rattle.vt_spec.specs.Rights.{Credentials, allows}
-use Rattle.vt_spec.specs.Tree.{Content, Node, bytes_in, bytes_of, kind_of}
+use Rattle.vt_spec.specs.Tree.{Content, Node, bytes_of, kind_of}
 use Rattle.vt_spec.specs.Tree.Content.{Directory, Regular, Symlink, Whiteout}
 use Rattle.vt_looks.specs.Looking.{front as shown_front, front_of as shown_front_of}
 use Rattle.vt_overlay.specs.Alike.{Front, front, front_of}
@@ -41,23 +41,6 @@ lent_as_it_is (Some seen) (Some lent) e =
       content = same_content seen.content lent.content (ap (λ (f : Front). f.kind) same)
           (ap (λ (f : Front). f.bytes) same) i;
     })
-
--- what is lent has the bytes of the inode
-pub lent_bytes : (seen lent : Option (Node ℕ)) → bytes_in (as_lent seen lent) ≡ bytes_in seen
-lent_bytes None lent = refl
-lent_bytes (Some seen) None = refl
-lent_bytes (Some seen) (Some lent) = by seen.content lent.content
-  where
-    by : (content other : Content ℕ)
-        → bytes_in (Some (record { attr = seen.attr; content = with_names content other }))
-        ≡ bytes_in (Some (record { attr = seen.attr; content = content }))
-    by (Directory parent entries opaque) (Directory slot slots mark) = refl
-    by (Directory parent entries opaque) (Regular bytes) = refl
-    by (Directory parent entries opaque) (Symlink text) = refl
-    by (Directory parent entries opaque) Whiteout = refl
-    by (Regular bytes) other = refl
-    by (Symlink text) other = refl
-    by Whiteout other = refl
 
 -- what looks alike grants the same rights
 pub allows_alike : (who : Credentials) (wanted : ℕ) (one other : Option (Node ℕ)) → shown_front one ≡ shown_front other

@@ -1,5 +1,5 @@
 -- The overlays of a store, as the world that holds it shows them.
-use Rattle.std.proofs.Common.{◌≡◌, sym, ap, ◌∙◌, ℕ, nat_eq, Option, Some, None}
+use Rattle.std.proofs.Common.{◌≡◌, sym, ap, ◌∙◌, ℕ, nat_eq, Some, None}
 use Rattle.vt_spec.specs.Machine.Merging.{real_of}
 use Rattle.vt_spec.specs.Machine.World.{Filesystem, Overlay, filesystem_numbered}
 use Rattle.vt_laws_overlays_kept.specs.Inodes.{inodes_kept}

@@ -1,9 +1,8 @@
 -- What a world shows of the overlay at a location, by who mounted it.
-use Rattle.std.proofs.Common.{◌≡◌, refl, sym, ap, subst, ◌∙◌, true≢false, ℕ, nat_eq, Bool, true, false, not, Option, Some, None, is_some, option_copied, option_map, List, [], Bor}
+use Rattle.std.proofs.Common.{◌≡◌, refl, sym, ap, subst, ◌∙◌, true≢false, ℕ, nat_eq, Bool, true, false, not, Option, Some, None, is_some, option_copied, option_map, [], Bor}
 use Rattle.std.specs.Prelude.{IfSome}
 use Rattle.vt_spec.specs.Lists.{holds_of}
 use Rattle.vt_spec.specs.Machine.Filesystems.{lies_only_in_lowers}
-use Rattle.vt_spec.specs.Machine.Invariants.{IsMerged}
 use Rattle.vt_spec.specs.Machine.Locked.{overlay_or}
 use Rattle.vt_spec.specs.Machine.Looks.{mounter_may}
 use Rattle.vt_spec.specs.Machine.Mounts as meant

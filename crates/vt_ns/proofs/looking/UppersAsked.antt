@@ -1,5 +1,5 @@
 -- What is asked of overlays that have an upper layer alone: no overlay has one, so it is asked of plain trees.
-use Rattle.std.proofs.Common.{◌≡◌, refl, sym, ap, ◌∙◌, ⊎_elim, true≢false, ℕ, nat_eq, Bool, true, false, not, List, [], Option, Some, None, is_some, map}
+use Rattle.std.proofs.Common.{◌≡◌, refl, sym, ap, ◌∙◌, ⊎_elim, true≢false, ℕ, nat_eq, false, not, List, [], Option, Some, None, is_some, map}
 use Rattle.std.specs.Prelude.{option_to_list}
 use Rattle.vt_spec.specs.Language.Changes.{Change}
 use Rattle.vt_spec.specs.Machine.Filesystems.{has_lower_directory_at, mounter_rules, overlay_rules, path_of_name}

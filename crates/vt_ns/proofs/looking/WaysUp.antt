@@ -1,5 +1,5 @@
 -- The directories above a directory are the same, in whatever order the numbers stand beside its tree.
-use Rattle.std.proofs.Common.{◌≡◌, refl, sym, ap, subst, ◌∙◌, ⊎_elim, true≢false, ◌+◌, ◌-◌, ◌≤◌, ◌<◌, arith, ℕ, zero, suc, nat_eq, Bool, true, false, not, ◌||◌, List, [], ◌∷◌, length, Option, Some, None, is_some}
+use Rattle.std.proofs.Common.{◌≡◌, refl, sym, ap, subst, ◌∙◌, ⊎_elim, true≢false, ◌+◌, ◌-◌, arith, ℕ, zero, suc, nat_eq, Bool, true, false, not, ◌||◌, List, [], ◌∷◌, length, Option, Some, None, is_some}
 use Rattle.std.proofs.lemmas.Bool.{cases_lt}
 use Rattle.vt_spec.specs.FileTree.{FileTree, ancestors, is_directory_under, is_removed, named_parent}
 use Rattle.vt_spec.specs.Lists.{chain, is_among}

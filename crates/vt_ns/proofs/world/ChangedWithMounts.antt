@@ -303,8 +303,10 @@ module _ (value : WorldValue) (held : IsHeld value) (location : Location ℕ) (c
     listed_after =
         let files = subst IsUnderWay (changed_is fresh) first_under_way in
         record {
-          tree = among_from_all (λ (f : Filesystem ℕ). IsTree f.files.tree) changed_plainly.filesystems files.files.trees changed_files changed_among;
-          numbers = among_from_all (λ (f : Filesystem ℕ). ListsNumbers nat_eq f.files) changed_plainly.filesystems files.files.numbers changed_files changed_among;
+          tree = among_from_all (λ (f : Filesystem ℕ). IsTree f.files.tree) changed_plainly.filesystems
+              files.files.trees changed_files changed_among;
+          numbers = among_from_all (λ (f : Filesystem ℕ). ListsNumbers nat_eq f.files) changed_plainly.filesystems
+              files.files.numbers changed_files changed_among;
         }
 
     -- Where the one object that loses its name is a mount point, nothing goes by the change alone.

@@ -49,7 +49,8 @@ open_there value held name permit permits file fits held_open =
     (inr (inr (subst (λ location. Among location
     (map (λ (descriptor : Descriptor ℕ). descriptor.location) permits.task.descriptors)) held_open.4
     (among-map (λ (descriptor : Descriptor ℕ). descriptor.location) permits.task.descriptors held_open.1
-    (found_among (λ (descriptor : Descriptor ℕ). nat_eq held_open.0 descriptor.number) permits.task.descriptors held_open.1 held_open.2))))))
+    (found_among (λ (descriptor : Descriptor ℕ). nat_eq held_open.0 descriptor.number) permits.task.descriptors
+    held_open.1 held_open.2))))))
 
 -- whether there are bytes, as code asks it
 

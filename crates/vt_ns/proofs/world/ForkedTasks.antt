@@ -165,7 +165,8 @@ module _ (value : WorldValue) (whole : IsHeld value) (name : TaskName) (task : T
       (with_location root false (kept_of value))
       → IsDone value name (ToFork credentials)
       (remade_in value mounts filesystems (with_task_more count value.namespaces) tasks_forked)
-  forked_done permits is_task count in_namespace root directory root_is directory_is root_few directory_few mounts filesystems overlays is_kept =
+  forked_done permits is_task count in_namespace root directory root_is directory_is root_few directory_few mounts
+      filesystems overlays is_kept =
       remains_done_in value whole tasks_forked (standing task.root ∷ standing task.directory ∷ []) [] forked_moves
       mounts filesystems overlays (with_task_more count value.namespaces)
       (is_kept ∙ seen)
@@ -227,7 +228,8 @@ pub task_is_forked : (value : WorldValue) → IsHeld value → (name : TaskName)
     → kept_with mounts filesystems overlays ≡ with_location own.directory false
     (with_location own.root false (kept_of value))
     → IsDone value name (ToFork credentials) (remade_in value mounts filesystems namespaces tasks)
-task_is_forked value whole name credentials permits own is root_few directory_few mounts filesystems overlays namespaces tasks counted_so forked_so is_kept =
+task_is_forked value whole name credentials permits own is root_few directory_few mounts filesystems overlays namespaces
+    tasks counted_so forked_so is_kept =
     let same : task_of own ≡ permits.task = same_Some (task_of own) permits.task (is ∙ permits.called) in
     subst (λ all. IsDone value name (ToFork credentials) (remade_in value mounts filesystems all tasks))
     (sym counted_so)

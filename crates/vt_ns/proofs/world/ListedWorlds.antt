@@ -4,7 +4,7 @@ use Rattle.std.specs.Map.{keys_of}
 use Rattle.vt_spec.specs.Language.Calls.{TaskName}
 use Rattle.vt_spec.specs.Machine.Mounts as meant
 use Rattle.vt_spec.specs.Machine.Permits.Permit.{ToList}
-use Rattle.vt_spec.specs.Machine.World.{Filesystem, Namespace, filesystem_numbered, node_at}
+use Rattle.vt_spec.specs.Machine.World.{Filesystem, Namespace, node_at}
 use Rattle.vt_spec.specs.Tree.{Tree}
 use Rattle.vt_spec.specs.TreeInvariant.{IsTree}
 use Rattle.vt_laws_permits.proofs.sees.SeesTasks.{given_permits_are_seen_to}

@@ -1,5 +1,5 @@
 -- A new file is made in a directory, and opened: open(2) with O_CREAT.
-use Rattle.std.proofs.Common.{◌≡◌, refl, sym, ap, subst, ◌∙◌, inl, inr, true≢false, ℕ, ◌<◌, ◌/◌, ◌&&◌, true, cond, nat_eq, eq-eqb, List, [], ◌∷◌, map, Option, Some, is_some, option_map, unwrap_or, arith}
+use Rattle.std.proofs.Common.{◌≡◌, refl, sym, ap, subst, ◌∙◌, inl, inr, true≢false, ℕ, ◌&&◌, true, cond, nat_eq, eq-eqb, List, [], ◌∷◌, map, Option, Some, is_some, option_map, unwrap_or}
 use Rattle.std.specs.List.{list_all}
 use Rattle.std.proofs.lemmas.Bool.{leb-false}
 use Rattle.std.proofs.lemmas.Option.{same_Some}

@@ -127,7 +127,9 @@ module _ (value : WorldValue) (whole : IsHeld value) (name : TaskName) (number :
             → shown filesystems ≡ unpinned_in (inode_of point.node) (shown left_files)
             → tasks ≡ map (pivoted_task nat_eq (counted held.namespace.count) (mount_of root) (mount_of new)) value.tasks
             → IsDone value name (ToPivot number (location_of put)) (remade value mounts filesystems tasks)
-        root_is_pivoted between held_mounts mounts pinned_files held_files left_files filesystems held_overlays overlays tasks put_small entered_small left_small point_small pivoted_so pinned_so held_so left_so unpinned_so tasks_so =
+        root_is_pivoted between held_mounts mounts pinned_files held_files left_files filesystems held_overlays overlays
+            tasks put_small entered_small left_small point_small pivoted_so pinned_so held_so left_so unpinned_so
+            tasks_so =
             let inside : counted held.namespace.count ≡ permits.task.namespace =
             ap (λ (one : Task ℕ). one.namespace) caller_is in
             let as_many = moved_is

@@ -279,7 +279,10 @@ module _ (world : World ℕ) (namespace : ℕ) (root new : Mount ℕ) (put : Loc
       λ i. by (nat_eq namespace task.namespace) i + writes_pivot number rest i
     where
       by : (b : Bool)
-          → writes_of_task number (cond b (record task { root = pivoted_location nat_eq root new task.root; directory = pivoted_location nat_eq root new task.directory }) task)
+          → writes_of_task number (cond b (record task {
+            root = pivoted_location nat_eq root new task.root;
+            directory = pivoted_location nat_eq root new task.directory;
+          }) task)
           ≡ writes_of_task number task
       by true = refl
       by false = refl
@@ -292,7 +295,10 @@ module _ (world : World ℕ) (namespace : ℕ) (root new : Mount ℕ) (put : Loc
       (λ task. ap (nat_eq number) (by task (nat_eq namespace task.namespace))) tasks
     where
       by : (task : Task ℕ) (b : Bool)
-          → (cond b (record task { root = pivoted_location nat_eq root new task.root; directory = pivoted_location nat_eq root new task.directory }) task).namespace
+          → (cond b (record task {
+            root = pivoted_location nat_eq root new task.root;
+            directory = pivoted_location nat_eq root new task.directory;
+          }) task).namespace
           ≡ task.namespace
       by task true = refl
       by task false = refl
@@ -352,7 +358,27 @@ module _ (world : World ℕ) (namespace : ℕ) (root new : Mount ℕ) (put : Loc
         let less = moved_uses k n (root_of root) in
         let apart = times_append (is_inode k n) (inodes_of_uses world leaving)
         (map (inode_at world) (option_to_list new.mount_point)) in
-        omega (arith, was, is, a, b, c, d, tasks_were, tasks_are, all, points_were, points_are, pivot, put_counts, left, left_weighs, more, less, apart)
+        omega (
+          arith,
+          was,
+          is,
+          a,
+          b,
+          c,
+          d,
+          tasks_were,
+          tasks_are,
+          all,
+          points_were,
+          points_are,
+          pivot,
+          put_counts,
+          left,
+          left_weighs,
+          more,
+          less,
+          apart,
+        )
 
     -- are exchanged
     pub uses_pivot : (filesystem : ℕ) → Exchanges gained lost filesystem world pivoted_world

@@ -203,7 +203,8 @@ module _ (value : WorldValue) (held : IsHeld value) (name : TaskName) (from : Lo
       changed_then_detached value held
       (location_of from) change filesystems made name permit permits gone reached named is_named applied
       (nothing_goes value held (location_of from) change filesystems made name permit permits gone reached named is_named applied
-      on.inode on.lost (record { named = sees.moves.named; in_directory = sees.moves.in_directory }) on.mount on.among on.place on.placed on.at on.shows)
+      on.inode on.lost (record { named = sees.moves.named; in_directory = sees.moves.in_directory }) on.mount on.among
+      on.place on.placed on.at on.shows)
       closed mounts groups others overlays together
 
 -- What code does with its store

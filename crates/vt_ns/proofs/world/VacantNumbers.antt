@@ -114,7 +114,8 @@ module _ (value : WorldValue) (whole : IsHeld value)
   -- no filesystem has an inode of this number
   in_none : (f : Filesystem ℕ) → Among f (world_of value).filesystems → f.files.tree.node (number_of node) ≡ None
   in_none f m =
-      ap (λ (g : Filesystem ℕ). g.files.tree.node (number_of node)) (sym (found f m)) ∙ by (nat_eq f.number (counted node.filesystem.count)) refl
+      ap (λ (g : Filesystem ℕ). g.files.tree.node (number_of node)) (sym (found f m))
+      ∙ by (nat_eq f.number (counted node.filesystem.count)) refl
     where
       by : (b : Bool) → nat_eq f.number (counted node.filesystem.count) ≡ b
           → (filesystem_numbered nat_eq (world_of value) f.number).files.tree.node (number_of node) ≡ None

@@ -28,13 +28,13 @@ returns-in-Ok-Call c =
 pub returns-in-Ok-Ask : goal.returns-in-Ok-Ask
 returns-in-Ok-Ask c =
     let asks = subst (IsReadingOf (version_of c.args.version) c.args.line.text.now) c.in-Ok-Ask.field-0-is c.in-Ok-Ask.ensures.reading in
-    always c.head.result (λ numbers.
+    always c.told_alone.result (λ numbers.
     direct_leaves (version_of c.args.version) (kernel_world c.args.kernel.now) c.args.line.text.now _ c.direct.result
     numbers asks.0 asks.1 c.direct.ensures.ok c.direct.ensures.memory)
 
 pub returns-in-Err : goal.returns-in-Err
 returns-in-Err c =
-    always c.head-in-Err.result (λ numbers.
+    always c.told_alone-in-Err.result (λ numbers.
     unread_leaves (version_of c.args.version) (kernel_world c.args.kernel.now) c.args.line.text.now c.in-Err.deny numbers
     c.in-Err.ensures.refused (λ is. c.in-Err.ensures.no_request.0 (ap Err is))
     (λ is. c.in-Err.ensures.no_memory (ap Err is)))

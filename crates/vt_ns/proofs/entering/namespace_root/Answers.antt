@@ -13,7 +13,8 @@ returns-then-is_none c =
     let entries = c.args.mounts.now in
     let namespace = counted c.args.namespace.count in
     let at = c.loop-id.id-index in
-    let from = listed_got entries namespace c.attached_in-id-items.result.now at _ c.get.result c.attached_in-id-items.ensures.order c.attached_in-id-items.ensures.are c.loop-id-test.true c.get.ensures in
+    let from = listed_got entries namespace c.attached_in-id-items.result.now at _ c.get.result
+    c.attached_in-id-items.ensures.order c.attached_in-id-items.ensures.are c.loop-id-test.true c.get.ensures in
     ap Some (c.topmost.ensures ∙ ap (topmost nat_eq (mounts_in entries)) c.root_location.ensures)
     ∙ sym (ap (option_map (λ mount. topmost nat_eq (mounts_in entries) (root_of mount)))
     (root_found entries namespace at from.0 c.in-Some.mount c.loop-id.invariant from.1
@@ -25,7 +26,8 @@ loop-id-preserved c =
     let entries = c.args.mounts.now in
     let namespace = counted c.args.namespace.count in
     let at = c.loop-id.id-index in
-    let from = listed_got entries namespace c.attached_in-id-items.result.now at _ c.get.result c.attached_in-id-items.ensures.order c.attached_in-id-items.ensures.are c.loop-id-test.true c.get.ensures in
+    let from = listed_got entries namespace c.attached_in-id-items.result.now at _ c.get.result
+    c.attached_in-id-items.ensures.order c.attached_in-id-items.ensures.are c.loop-id-test.true c.get.ensures in
     elim c.match-get.branch [
       | in-Some+else-is_none w ↦
           no_root_yet entries namespace at from.0 w.in-Some.mount c.loop-id.invariant from.1

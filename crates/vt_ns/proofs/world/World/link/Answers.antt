@@ -13,14 +13,16 @@ use Rattle.vt_ns.proofs.world.World.link.Goals as goal
 
 pub link-requires-clause-one_filesystem : goal.link-requires-clause-one_filesystem
 link-requires-clause-one_filesystem c =
-    linked_in (the_view c.self.inside) c.self.invariant c.args.name.now c.args.new.directory c.args.new.name.items c.args.new.object (omega arith) (omega arith)
+    linked_in (the_view c.self.inside) c.self.invariant c.args.name.now c.args.new.directory c.args.new.name.items
+    c.args.new.object (omega arith) (omega arith)
     (subst (λ value. Permits value c.args.name.now
     (make_permit (Link c.args.new)))
     (sym c.self.view_is) c.requires)
 
 pub link-requires-clause-there : goal.link-requires-clause-there
 link-requires-clause-there c =
-    rw c.plain_mut.ensures.value (linked_is_kept (the_view c.self.inside) c.self.invariant c.args.name.now c.args.new.directory c.args.new.name.items c.args.new.object (omega arith) (omega arith)
+    rw c.plain_mut.ensures.value (linked_is_kept (the_view c.self.inside) c.self.invariant c.args.name.now
+    c.args.new.directory c.args.new.name.items c.args.new.object (omega arith) (omega arith)
     (subst (λ value. Permits value c.args.name.now
     (make_permit (Link c.args.new)))
     (sym c.self.view_is) c.requires))

@@ -11,7 +11,8 @@ use Rattle.vt_ns.proofs.world.World.make.Goals as goal
 
 pub create-requires-clause-directory : goal.create-requires-clause-directory
 create-requires-clause-directory c =
-    rw c.plain_mut.ensures.value ((make_fits (the_view c.self.inside) c.self.invariant c.args.name.now c.args.new.directory c.args.new.name.items c.args.new.node
+    rw c.plain_mut.ensures.value ((make_fits (the_view c.self.inside) c.self.invariant c.args.name.now
+    c.args.new.directory c.args.new.name.items c.args.new.node
     (omega arith)
     (subst (λ value. Permits value c.args.name.now
     (make_permit (Node c.args.new)))
@@ -19,7 +20,8 @@ create-requires-clause-directory c =
 
 pub create-requires-clause-free : goal.create-requires-clause-free
 create-requires-clause-free c =
-    rw c.plain_mut.ensures.value ((make_fits (the_view c.self.inside) c.self.invariant c.args.name.now c.args.new.directory c.args.new.name.items c.args.new.node
+    rw c.plain_mut.ensures.value ((make_fits (the_view c.self.inside) c.self.invariant c.args.name.now
+    c.args.new.directory c.args.new.name.items c.args.new.node
     (omega arith)
     (subst (λ value. Permits value c.args.name.now
     (make_permit (Node c.args.new)))
@@ -27,7 +29,8 @@ create-requires-clause-free c =
 
 pub create-requires-clause-node : goal.create-requires-clause-node
 create-requires-clause-node c =
-    new_in_directory (the_view c.self.inside) c.self.invariant c.args.name.now c.args.new.directory c.args.new.name.items c.args.new.node (omega arith)
+    new_in_directory (the_view c.self.inside) c.self.invariant c.args.name.now c.args.new.directory
+    c.args.new.name.items c.args.new.node (omega arith)
     (subst (λ value. Permits value c.args.name.now
     (make_permit (Node c.args.new)))
     (sym c.self.view_is) c.requires)

@@ -74,7 +74,8 @@ invariant_of-self-2 c =
     let permits = subst (λ value. Permits value c.args.name.now
     (descriptor_permit (OpenNew c.args.new)))
     (sym c.self.view_is) c.requires in
-    let number = next_is_numbered (the_view c.self.inside) c.self.invariant c.args.name.now c.args.new.directory c.args.new.name.items c.args.new.node (access_of c.args.new.access) (omega arith)
+    let number = next_is_numbered (the_view c.self.inside) c.self.invariant c.args.name.now c.args.new.directory
+    c.args.new.name.items c.args.new.node (access_of c.args.new.access) (omega arith)
     permits c.next_number.result c.unwrap-file.result (rw c.plain.ensures at c.next_number.ensures.number) c.unwrap-file.ensures in
     let inside = subst (λ next. IfSome next
     (λ (node : NodeRef). node.filesystem
@@ -86,14 +87,17 @@ invariant_of-self-2 c =
     (λ inodes. changed nat_eq inodes
     (Make (number_of c.args.new.directory.node) c.args.new.name.items n
     (node_seen c.args.new.directory.node.filesystem.count c.args.new.node)))
-    c.self.inside.store.plain c.open_next.new.filesystems) (sym number) (rw c.plain_mut-filesystems.ensures.value at c.in_ok-number.ensures.made.made) in
+    c.self.inside.store.plain c.open_next.new.filesystems) (sym number)
+    (rw c.plain_mut-filesystems.ensures.value at c.in_ok-number.ensures.made.made) in
     let once = ap (λ filesystem. uses_in ((inodes_at c.open_next.new.filesystems filesystem.count).inode
     (number_of c.unwrap-file.result))) inside
-    ∙ used_once (the_view c.self.inside) c.self.invariant c.args.name.now c.args.new.directory c.args.new.name.items c.args.new.node (access_of c.args.new.access) (omega arith)
+    ∙ used_once (the_view c.self.inside) c.self.invariant c.args.name.now c.args.new.directory c.args.new.name.items
+    c.args.new.node (access_of c.args.new.access) (omega arith)
     permits c.open_next.new.filesystems c.unwrap-file.result (search rules) own inside number made in
     let room = c.mount_has_room.ensures (let room = c.if-not-mount_has_room.false in search rules) in
     let mounts = of-ok c.hold.result (c.hold.ensures.few room.0 room.1) c.hold.ensures.ok in
-    let filesystems = new_pinned c.pin.result _ (rw c.plain_mut.ensures.value at c.pin.ensures.limit).0 once (rw c.plain_mut.ensures.value at c.pin.ensures.ok) in
+    let filesystems = new_pinned c.pin.result _ (rw c.plain_mut.ensures.value at c.pin.ensures.limit).0 once
+    (rw c.plain_mut.ensures.value at c.pin.ensures.ok) in
     (done_plainly (the_view c.self.inside) c.self.inside.store c.self.invariant c.args.name.now
     (descriptor_permit (OpenNew c.args.new)) permits c.pin.new.self
     (record (the_view c.self.inside) { mounts = c.hold.new.self; tasks = c.open_next.new.tasks })
@@ -115,7 +119,8 @@ returns-clause-ok c =
     let permits = subst (λ value. Permits value c.args.name.now
     (descriptor_permit (OpenNew c.args.new)))
     (sym c.self.view_is) c.requires in
-    let number = next_is_numbered (the_view c.self.inside) c.self.invariant c.args.name.now c.args.new.directory c.args.new.name.items c.args.new.node (access_of c.args.new.access) (omega arith)
+    let number = next_is_numbered (the_view c.self.inside) c.self.invariant c.args.name.now c.args.new.directory
+    c.args.new.name.items c.args.new.node (access_of c.args.new.access) (omega arith)
     permits c.next_number.result c.unwrap-file.result (rw c.plain.ensures at c.next_number.ensures.number) c.unwrap-file.ensures in
     let inside = subst (λ next. IfSome next
     (λ (node : NodeRef). node.filesystem
@@ -127,14 +132,17 @@ returns-clause-ok c =
     (λ inodes. changed nat_eq inodes
     (Make (number_of c.args.new.directory.node) c.args.new.name.items n
     (node_seen c.args.new.directory.node.filesystem.count c.args.new.node)))
-    c.self.inside.store.plain c.open_next.new.filesystems) (sym number) (rw c.plain_mut-filesystems.ensures.value at c.in_ok-number.ensures.made.made) in
+    c.self.inside.store.plain c.open_next.new.filesystems) (sym number)
+    (rw c.plain_mut-filesystems.ensures.value at c.in_ok-number.ensures.made.made) in
     let once = ap (λ filesystem. uses_in ((inodes_at c.open_next.new.filesystems filesystem.count).inode
     (number_of c.unwrap-file.result))) inside
-    ∙ used_once (the_view c.self.inside) c.self.invariant c.args.name.now c.args.new.directory c.args.new.name.items c.args.new.node (access_of c.args.new.access) (omega arith)
+    ∙ used_once (the_view c.self.inside) c.self.invariant c.args.name.now c.args.new.directory c.args.new.name.items
+    c.args.new.node (access_of c.args.new.access) (omega arith)
     permits c.open_next.new.filesystems c.unwrap-file.result (search rules) own inside number made in
     let room = c.mount_has_room.ensures (let room = c.if-not-mount_has_room.false in search rules) in
     let mounts = of-ok c.hold.result (c.hold.ensures.few room.0 room.1) c.hold.ensures.ok in
-    let filesystems = new_pinned c.pin.result _ (rw c.plain_mut.ensures.value at c.pin.ensures.limit).0 once (rw c.plain_mut.ensures.value at c.pin.ensures.ok) in
+    let filesystems = new_pinned c.pin.result _ (rw c.plain_mut.ensures.value at c.pin.ensures.limit).0 once
+    (rw c.plain_mut.ensures.value at c.pin.ensures.ok) in
     subst (λ value. Becomes value c.args.name.now
     (descriptor_permit (OpenNew c.args.new))
     (with_store (record c.self.inside.store { plain = c.pin.new.self })

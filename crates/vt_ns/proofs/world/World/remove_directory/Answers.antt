@@ -11,7 +11,8 @@ use Rattle.vt_ns.proofs.world.World.remove_directory.Goals.{then-not-is_empty, e
 
 pub unlink-requires-clause-one_filesystem : goal.unlink-requires-clause-one_filesystem
 unlink-requires-clause-one_filesystem c =
-    removed_in (the_view c.self.inside) c.self.invariant c.args.name.now c.args.removed.parent c.args.removed.name.items c.args.removed.directory
+    removed_in (the_view c.self.inside) c.self.invariant c.args.name.now c.args.removed.parent c.args.removed.name.items
+    c.args.removed.directory
     (omega arith) (omega arith)
     (subst (λ value. Permits value c.args.name.now
     (remove_permit (Directory c.args.removed)))
@@ -19,7 +20,8 @@ unlink-requires-clause-one_filesystem c =
 
 pub unlink-requires-clause-there : goal.unlink-requires-clause-there
 unlink-requires-clause-there c =
-    rw c.plain_mut.ensures.value (removed_is_kept (the_view c.self.inside) c.self.invariant c.args.name.now c.args.removed.parent c.args.removed.name.items c.args.removed.directory
+    rw c.plain_mut.ensures.value (removed_is_kept (the_view c.self.inside) c.self.invariant c.args.name.now
+    c.args.removed.parent c.args.removed.name.items c.args.removed.directory
     (omega arith) (omega arith)
     (subst (λ value. Permits value c.args.name.now
     (remove_permit (Directory c.args.removed)))
@@ -27,14 +29,16 @@ unlink-requires-clause-there c =
 
 pub unlink-requires-clause-named : goal.unlink-requires-clause-named
 unlink-requires-clause-named c =
-    rw c.plain_mut.ensures.value (rw c.as_slice.ensures.value ((removal_fits (the_view c.self.inside) c.self.invariant c.args.name.now c.args.removed.parent c.args.removed.name.items c.args.removed.directory (omega arith) (omega arith)
+    rw c.plain_mut.ensures.value (rw c.as_slice.ensures.value ((removal_fits (the_view c.self.inside) c.self.invariant
+    c.args.name.now c.args.removed.parent c.args.removed.name.items c.args.removed.directory (omega arith) (omega arith)
     (subst (λ value. Permits value c.args.name.now
     (remove_permit (Directory c.args.removed)))
     (sym c.self.view_is) c.requires)).0))
 
 pub unlink-requires-clause-empty : goal.unlink-requires-clause-empty
 unlink-requires-clause-empty c =
-    rw c.plain_mut.ensures.value ((removal_fits (the_view c.self.inside) c.self.invariant c.args.name.now c.args.removed.parent c.args.removed.name.items c.args.removed.directory (omega arith) (omega arith)
+    rw c.plain_mut.ensures.value ((removal_fits (the_view c.self.inside) c.self.invariant c.args.name.now
+    c.args.removed.parent c.args.removed.name.items c.args.removed.directory (omega arith) (omega arith)
     (subst (λ value. Permits value c.args.name.now
     (remove_permit (Directory c.args.removed)))
     (sym c.self.view_is) c.requires)).1)

@@ -11,43 +11,57 @@ use Rattle.vt_ns.proofs.world.World.rename.Goals.{then-not-is_empty, else-not-is
 
 pub rename-requires-clause-one_filesystem : goal.rename-requires-clause-one_filesystem
 rename-requires-clause-one_filesystem c =
-    renamed_to (the_view c.self.inside) c.self.invariant c.args.name.now c.args.renamed.from c.args.renamed.old.items c.args.renamed.to c.args.renamed.new.items c.args.renamed.object c.args.renamed.replaced (omega arith) (omega arith) (omega arith)
+    renamed_to (the_view c.self.inside) c.self.invariant c.args.name.now c.args.renamed.from c.args.renamed.old.items
+    c.args.renamed.to c.args.renamed.new.items c.args.renamed.object c.args.renamed.replaced (omega arith) (omega arith)
+    (omega arith)
     (subst (λ value. Permits value c.args.name.now
     (remove_permit (Rename c.args.renamed))) (sym c.self.view_is) c.requires)
 
 pub rename-requires-clause-of_object : goal.rename-requires-clause-of_object
 rename-requires-clause-of_object c =
-    renamed_object (the_view c.self.inside) c.self.invariant c.args.name.now c.args.renamed.from c.args.renamed.old.items c.args.renamed.to c.args.renamed.new.items c.args.renamed.object c.args.renamed.replaced (omega arith) (omega arith) (omega arith)
+    renamed_object (the_view c.self.inside) c.self.invariant c.args.name.now c.args.renamed.from
+    c.args.renamed.old.items c.args.renamed.to c.args.renamed.new.items c.args.renamed.object c.args.renamed.replaced
+    (omega arith) (omega arith) (omega arith)
     (subst (λ value. Permits value c.args.name.now
     (remove_permit (Rename c.args.renamed))) (sym c.self.view_is) c.requires)
 
 pub rename-requires-clause-there : goal.rename-requires-clause-there
 rename-requires-clause-there c =
-    rw c.plain_mut.ensures.value (renamed_is_kept (the_view c.self.inside) c.self.invariant c.args.name.now c.args.renamed.from c.args.renamed.old.items c.args.renamed.to c.args.renamed.new.items c.args.renamed.object c.args.renamed.replaced (omega arith) (omega arith) (omega arith)
+    rw c.plain_mut.ensures.value (renamed_is_kept (the_view c.self.inside) c.self.invariant c.args.name.now
+    c.args.renamed.from c.args.renamed.old.items c.args.renamed.to c.args.renamed.new.items c.args.renamed.object
+    c.args.renamed.replaced (omega arith) (omega arith) (omega arith)
     (subst (λ value. Permits value c.args.name.now
     (remove_permit (Rename c.args.renamed))) (sym c.self.view_is) c.requires))
 
 pub rename-requires-clause-named : goal.rename-requires-clause-named
 rename-requires-clause-named c =
-    rw c.plain_mut.ensures.value (rw c.as_slice.ensures.value ((rename_fits (the_view c.self.inside) c.self.invariant c.args.name.now c.args.renamed.from c.args.renamed.old.items c.args.renamed.to c.args.renamed.new.items c.args.renamed.object c.args.renamed.replaced (omega arith) (omega arith) (omega arith)
+    rw c.plain_mut.ensures.value (rw c.as_slice.ensures.value ((rename_fits (the_view c.self.inside) c.self.invariant
+    c.args.name.now c.args.renamed.from c.args.renamed.old.items c.args.renamed.to c.args.renamed.new.items
+    c.args.renamed.object c.args.renamed.replaced (omega arith) (omega arith) (omega arith)
     (subst (λ value. Permits value c.args.name.now
     (remove_permit (Rename c.args.renamed))) (sym c.self.view_is) c.requires)).0))
 
 pub rename-requires-clause-directory : goal.rename-requires-clause-directory
 rename-requires-clause-directory c =
-    rw c.plain_mut.ensures.value ((rename_fits (the_view c.self.inside) c.self.invariant c.args.name.now c.args.renamed.from c.args.renamed.old.items c.args.renamed.to c.args.renamed.new.items c.args.renamed.object c.args.renamed.replaced (omega arith) (omega arith) (omega arith)
+    rw c.plain_mut.ensures.value ((rename_fits (the_view c.self.inside) c.self.invariant c.args.name.now
+    c.args.renamed.from c.args.renamed.old.items c.args.renamed.to c.args.renamed.new.items c.args.renamed.object
+    c.args.renamed.replaced (omega arith) (omega arith) (omega arith)
     (subst (λ value. Permits value c.args.name.now
     (remove_permit (Rename c.args.renamed))) (sym c.self.view_is) c.requires)).1)
 
 pub rename-requires-clause-replaced : goal.rename-requires-clause-replaced
 rename-requires-clause-replaced c =
-    rw c.plain_mut.ensures.value ((rename_fits (the_view c.self.inside) c.self.invariant c.args.name.now c.args.renamed.from c.args.renamed.old.items c.args.renamed.to c.args.renamed.new.items c.args.renamed.object c.args.renamed.replaced (omega arith) (omega arith) (omega arith)
+    rw c.plain_mut.ensures.value ((rename_fits (the_view c.self.inside) c.self.invariant c.args.name.now
+    c.args.renamed.from c.args.renamed.old.items c.args.renamed.to c.args.renamed.new.items c.args.renamed.object
+    c.args.renamed.replaced (omega arith) (omega arith) (omega arith)
     (subst (λ value. Permits value c.args.name.now
     (remove_permit (Rename c.args.renamed))) (sym c.self.view_is) c.requires)).2)
 
 pub rename-requires-clause-outside : goal.rename-requires-clause-outside
 rename-requires-clause-outside c =
-    rw c.plain_mut.ensures.value ((rename_fits (the_view c.self.inside) c.self.invariant c.args.name.now c.args.renamed.from c.args.renamed.old.items c.args.renamed.to c.args.renamed.new.items c.args.renamed.object c.args.renamed.replaced (omega arith) (omega arith) (omega arith)
+    rw c.plain_mut.ensures.value ((rename_fits (the_view c.self.inside) c.self.invariant c.args.name.now
+    c.args.renamed.from c.args.renamed.old.items c.args.renamed.to c.args.renamed.new.items c.args.renamed.object
+    c.args.renamed.replaced (omega arith) (omega arith) (omega arith)
     (subst (λ value. Permits value c.args.name.now
     (remove_permit (Rename c.args.renamed))) (sym c.self.view_is) c.requires)).3)
 

@@ -1,4 +1,4 @@
-use Rattle.std.proofs.Common.{ap, nat_eq, subst, ◌∙◌}
+use Rattle.std.proofs.Common.{ap, nat_eq, ◌∙◌}
 use Rattle.vt_spec.specs.FileTree.{ancestors}
 use Rattle.vt_spec.specs.Machine.World.{filesystem_numbered, is_overlay}
 use Rattle.vt_location.specs.Numbers.{counted}

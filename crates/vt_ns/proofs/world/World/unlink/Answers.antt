@@ -13,21 +13,24 @@ use Rattle.vt_ns.proofs.world.World.unlink.Goals as goal
 
 pub unlink-requires-clause-one_filesystem : goal.unlink-requires-clause-one_filesystem
 unlink-requires-clause-one_filesystem c =
-    unlinked_in (the_view c.self.inside) c.self.invariant c.args.name.now c.args.gone.directory c.args.gone.name.items c.args.gone.object (omega arith) (omega arith)
+    unlinked_in (the_view c.self.inside) c.self.invariant c.args.name.now c.args.gone.directory c.args.gone.name.items
+    c.args.gone.object (omega arith) (omega arith)
     (subst (λ value. Permits value c.args.name.now
     (remove_permit (Unlink c.args.gone)))
     (sym c.self.view_is) c.requires)
 
 pub unlink-requires-clause-there : goal.unlink-requires-clause-there
 unlink-requires-clause-there c =
-    rw c.plain_mut.ensures.value (unlinked_is_kept (the_view c.self.inside) c.self.invariant c.args.name.now c.args.gone.directory c.args.gone.name.items c.args.gone.object (omega arith) (omega arith)
+    rw c.plain_mut.ensures.value (unlinked_is_kept (the_view c.self.inside) c.self.invariant c.args.name.now
+    c.args.gone.directory c.args.gone.name.items c.args.gone.object (omega arith) (omega arith)
     (subst (λ value. Permits value c.args.name.now
     (remove_permit (Unlink c.args.gone)))
     (sym c.self.view_is) c.requires))
 
 pub unlink-requires-clause-named : goal.unlink-requires-clause-named
 unlink-requires-clause-named c =
-    rw c.plain_mut.ensures.value (rw c.as_slice.ensures.value ((change_fits (the_view c.self.inside) c.self.invariant c.args.name.now c.args.gone.directory (omega arith)
+    rw c.plain_mut.ensures.value (rw c.as_slice.ensures.value ((change_fits (the_view c.self.inside) c.self.invariant
+    c.args.name.now c.args.gone.directory (omega arith)
     (Remove (number_of c.args.gone.directory.node) c.args.gone.name.items (number_of c.args.gone.object))
     (subst (λ value. Permits value c.args.name.now
     (remove_permit (Unlink c.args.gone)))

@@ -18,14 +18,16 @@ returns-then-is_empty-clause-ok c =
 
 pub write_at-requires-clause-file : goal.write_at-requires-clause-file
 write_at-requires-clause-file c =
-    rw c.plain_mut.ensures.value ((write_part_fits (the_view c.self.inside) c.self.invariant c.args.name.now c.args.part.file c.args.part.offset c.args.part.bytes.items (omega arith)
+    rw c.plain_mut.ensures.value ((write_part_fits (the_view c.self.inside) c.self.invariant c.args.name.now
+    c.args.part.file c.args.part.offset c.args.part.bytes.items (omega arith)
     (subst (λ value. Permits value c.args.name.now
     (write_permit (Part c.args.part))) (sym c.self.view_is) c.requires)
     (some_bytes c.args.part.bytes.items c.is_empty.result (rw c.as_slice-bytes.ensures.value at c.is_empty.ensures) c.if-is_empty.false)).0)
 
 pub write_at-requires-clause-size : goal.write_at-requires-clause-size
 write_at-requires-clause-size c =
-    rw c.as_slice-bytes.ensures.value ((write_part_fits (the_view c.self.inside) c.self.invariant c.args.name.now c.args.part.file c.args.part.offset c.args.part.bytes.items (omega arith)
+    rw c.as_slice-bytes.ensures.value ((write_part_fits (the_view c.self.inside) c.self.invariant c.args.name.now
+    c.args.part.file c.args.part.offset c.args.part.bytes.items (omega arith)
     (subst (λ value. Permits value c.args.name.now
     (write_permit (Part c.args.part))) (sym c.self.view_is) c.requires)
     (some_bytes c.args.part.bytes.items c.is_empty.result (rw c.as_slice-bytes.ensures.value at c.is_empty.ensures) c.if-is_empty.false)).1)

@@ -4,12 +4,8 @@ use Rattle.vt_propagate.proofs.Places.{place_within}
 use Rattle.vt_propagate.proofs.numbering.Copying.tree_index.Goals as goal
 
 pub returns-clause-value : goal.returns-clause-value
-returns-clause-value c =
-    c.unwrap_or.ensures ∙ ap (λ o. unwrap_or o 0) (c.copied.ensures ∙ c.get.ensures.value)
-    ∙ c.requires.indexed.tree c.args.origin
+returns-clause-value c = c.unwrap_or.ensures ∙ ap (λ o. unwrap_or o 0) c.place_in.ensures
 
 pub returns-clause-within : goal.returns-clause-within
 returns-clause-within c some =
-    place_within _ _ c.unwrap_or.result
-    (c.unwrap_or.ensures ∙ ap (λ o. unwrap_or o 0) (c.copied.ensures ∙ c.get.ensures.value)
-    ∙ c.requires.indexed.tree c.args.origin) some
+    place_within _ _ c.unwrap_or.result (c.unwrap_or.ensures ∙ ap (λ o. unwrap_or o 0) c.place_in.ensures) some

@@ -2,7 +2,7 @@ use Rattle.std.proofs.Common.{◌≡◌, ◌+◌, ℕ, true, false, arith}
 use Rattle.vt_line.specs.Versions.{version_of}
 use Rattle.vt_lines.specs.Refused.{is_refused, refused_in}
 use Rattle.vt_lines.proofs.LineLemmas.{refused_in-line}
-use Rattle.vt_check.proofs.report.report_of.Goals as goal
+use Rattle.vt_check.proofs.report.Scan.take_all.Goals as goal
 
 pub loop-line-preserved-then-branch : goal.loop-line-preserved-then-branch
 loop-line-preserved-then-branch c =

@@ -1,7 +1,7 @@
 use Rattle.std.proofs.Common.{◌≡◌, ◌+◌, ℕ, length}
 use Rattle.vt_line.specs.Versions.{version_of}
 use Rattle.vt_lines.specs.Refused.{refused_in}
-use Rattle.vt_check.proofs.report.report_of.Given as goal
+use Rattle.vt_check.proofs.report.Scan.take_all.Given as goal
 
 abbrev pub invariant-loop-line : goal.invariant-loop-line
 invariant-loop-line l = l.errors + refused_in (version_of l.fn.version) l.rest ≡ refused_in (version_of l.fn.version) l.fn.text

@@ -5,8 +5,8 @@ use Rattle.vt_spec.specs.Machine.Receives.{is_member_of}
 use Rattle.vt_location.specs.Numbers.{counted, group_number}
 use Rattle.vt_mount.proofs.EntryLemmas.{same_count}
 use Rattle.vt_propagate.proofs.Places.{or_none, place_noted}
-use Rattle.vt_propagate.proofs.indexes.group_places.Goals as goal
-use Rattle.vt_propagate.proofs.indexes.group_places.Goals.{in-Some+in_ok-note_group, in_default}
+use Rattle.vt_propagate.proofs.indexes.all_group_places.Goals as goal
+use Rattle.vt_propagate.proofs.indexes.all_group_places.Goals.{in-Some+in_ok-note_group, in_default}
 use Rattle.vt_group.specs.Sets.{same_group}
 
 pub loop-index-preserved : goal.loop-index-preserved

@@ -1,0 +1,83 @@
+-- What lies in a layer by a name: the names are looked through once, and the layers for each.
+use Rattle.std.proofs.Common.{Bool, List, [], ap, false, refl, sym, true, ◌&&◌, ◌||◌, ◌∙◌, ◌∷◌, ◌≡◌}
+use Rattle.std.specs.List.{list_any}
+use Rattle.vt_fs.specs.FilesystemsValue.{Filesystems, files_at}
+use Rattle.vt_location.specs.Locations.{inode_of}
+use Rattle.vt_merge.specs.declared.layers.LayerRef.{LayerRef}
+use Rattle.vt_spec.proofs.Truths.{or_false_left, or_false_right}
+use Rattle.vt_spec.specs.FileTree.{has_entry_to, is_directory_under, is_file_under}
+use Rattle.std.specs.Prelude.{nat_eq, ℕ}
+use Rattle.vt_store.specs.Locks.{directory_lies_in, directory_lies_in_overlay, file_lies_in, file_lies_in_overlay, names_in_layer, overlay_stands_in, stands_in}
+use Rattle.vt_store.specs.OverlaysValue.{OverlayEntry}
+
+-- a test that passes for no more elements than another
+any-fewer : {X : Type 0} (p q : X → Bool) → ((x : X) → p x ≡ false → q x ≡ false) → (xs : List X)
+    → list_any p xs ≡ false → list_any q xs ≡ false
+any-fewer p q less [] none = refl
+any-fewer p q less (x ∷ xs) none =
+    ap (λ b. b || list_any q xs) (less x (or_false_left (p x) (list_any p xs) none))
+    ∙ any-fewer p q less xs (or_false_right (p x) (list_any p xs) none)
+
+module _ {D : Type 0} (has : D → Bool) where
+  each_or : (h p q m n : Bool) → ((h && p || m) || (h && q || n)) ≡ (h && (p || q) || (m || n))
+  each_or false p q m n = refl
+  each_or true true q m n = refl
+  each_or true false true true n = refl
+  each_or true false true false n = refl
+  each_or true false false m n = refl
+
+  any-or : (p q : D → Bool) (ds : List D) → (list_any (λ d. has d && p d) ds || list_any (λ d. has d && q d) ds)
+      ≡ list_any (λ d. has d && (p d || q d)) ds
+  any-or p q [] = refl
+  any-or p q (d ∷ ds) =
+      each_or (has d) (p d) (q d) (list_any (λ d. has d && p d) ds) (list_any (λ d. has d && q d) ds)
+      ∙ ap (λ b. has d && (p d || q d) || b) (any-or p q ds)
+
+  never : (ds : List D) → list_any (λ d. has d && false) ds ≡ false
+  never [] = refl
+  never (d ∷ ds) = by (has d) (never ds)
+    where
+      by : (h : Bool) → list_any (λ d. has d && false) ds ≡ false
+          → (h && false || list_any (λ d. has d && false) ds) ≡ false
+      by true rest = rest
+      by false rest = rest
+
+  -- what does not depend on the element
+  any-and : (b : Bool) (p : D → Bool) (ds : List D)
+      → (b && list_any (λ d. has d && p d) ds) ≡ list_any (λ d. has d && (b && p d)) ds
+  any-and true p ds = refl
+  any-and false p ds = sym (never ds)
+
+  -- two lists, in the other order
+  any-swapped : {X : Type 0} (test : X → D → Bool) (xs : List X) (ds : List D)
+      → list_any (λ x. list_any (λ d. has d && test x d) ds) xs ≡ list_any (λ d. has d && list_any (λ x. test x d) xs) ds
+  any-swapped test [] ds = sym (never ds)
+  any-swapped test (x ∷ xs) ds =
+      ap (λ b. list_any (λ d. has d && test x d) ds || b) (any-swapped test xs ds)
+      ∙ any-or (test x) (λ d. list_any (λ x. test x d) xs) ds
+
+module _ (plain : Filesystems) (count file : ℕ) where
+  abbrev names_it : ℕ → Bool
+  names_it directory = has_entry_to nat_eq (files_at plain count).tree directory file
+
+  pub named_in_one : (overlays : List OverlayEntry)
+      → list_any (file_lies_in_overlay plain count file) overlays
+      ≡ list_any (names_in_layer plain overlays count file) (files_at plain count).numbers
+  named_in_one overlays =
+      (λ i. list_any (λ (entry : OverlayEntry). list_any (λ (layer : LayerRef).
+      any-and names_it (nat_eq count layer.directory.filesystem.count)
+      (is_directory_under nat_eq (files_at plain count) (inode_of layer.directory))
+      (files_at plain count).numbers i) entry.overlay.lowers) overlays)
+      ∙ (λ i. list_any (λ (entry : OverlayEntry).
+      any-swapped names_it (λ layer directory. directory_lies_in plain count directory layer) entry.overlay.lowers
+      (files_at plain count).numbers i) overlays)
+      ∙ any-swapped names_it (λ entry directory. directory_lies_in_overlay plain count directory entry) overlays
+      (files_at plain count).numbers
+
+  pub none_stands : (overlays : List OverlayEntry) → list_any (overlay_stands_in count) overlays ≡ false
+      → list_any (file_lies_in_overlay plain count file) overlays ≡ false
+  none_stands =
+      any-fewer (overlay_stands_in count) (file_lies_in_overlay plain count file)
+      (λ entry. any-fewer (stands_in count) (file_lies_in plain count file)
+      (λ layer none. ap (λ b. b && is_file_under nat_eq (files_at plain count) (inode_of layer.directory) file) none)
+      entry.overlay.lowers)
