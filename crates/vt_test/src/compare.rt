@@ -141,8 +141,10 @@ impl<'a> Rest<'a> {
     // The first line that has an answer, with its answers, and what follows them.
     fn split(self) -> Option<(Difference<'a>, Rest<'a>)> {
         let number = next_number(self.wanted, self.given)?;
-        let (wanted, more_wanted) = self.wanted.split_at(wanted_for(self.wanted, number));
-        let (given, more_given) = self.given.split_at(given_for(self.given, number));
+        let wanted_count = wanted_for(self.wanted, number);
+        let (wanted, more_wanted) = self.wanted.split_at_checked(wanted_count)?;
+        let given_count = given_for(self.given, number);
+        let (given, more_given) = self.given.split_at_checked(given_count)?;
         let line = Difference {
             number,
             wanted,
