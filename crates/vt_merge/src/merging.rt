@@ -12,6 +12,7 @@ use crate::layers::{LayerRef, MergedDirectory};
 use crate::ways::Way;
 use arrayvec::ArrayVec;
 use vt_fs::Filesystems;
+use vt_location::InodeRef;
 
 /// The most layers of an overlay: an upper one, and 128 lower ones.
 pub const MOST_LAYERS: usize = 129;
@@ -26,26 +27,58 @@ struct Under {
     hides: bool,
 }
 
-/// The directories that are merged under a name of merged directories: those that have one there, from the top to the
-/// first that is opaque or that has something else there. At each path with a name these show what the given ones show
-/// at the name and then that path. It does not allocate.
-pub fn merged_dirs(trees: &Filesystems, above: &[MergedDirectory], name: &[u8]) -> MergedDirectories
-    requires { length above.now ≤ MOST_LAYERS }
-    ensures value { placed_layers trees.now result.items
-        ≡ directories_under (placed_layers trees.now above.now) name.now }
+/// Replaces merged directories by those that are merged under a name of them: those that have one there, from the top
+/// to the first that is opaque or that has something else there. At each path with a name these show what the given ones
+/// show at the name and then that path. It does not allocate, and moves each directory at most once.
+pub fn narrow(trees: &Filesystems, merged: &mut MergedDirectories, name: &[u8])
+    ensures value { placed_layers trees.now merged.new.items
+        ≡ directories_under (placed_layers trees.now merged.old.items) name.now }
     ensures shows { (path : List (List ℕ)) → path ≢ []
-        → shown_in (placed_views trees.now result.items) path
-        ≡ shown_in (placed_views trees.now above.now) (name.now ∷ path) }
+        → shown_in (placed_views trees.now merged.new.items) path
+        ≡ shown_in (placed_views trees.now merged.old.items) (name.now ∷ path) }
 {
-    let mut merged = MergedDirectories::new();
-    for top in above {
-        let found = look_under(trees, *top, name);
-        push_some(&mut merged, found.directory);
+    let mut kept = 0;
+    for index in 0..merged.len() {
+        let found = look_under(trees, merged.as_slice()[index], name);
+        if let Some(directory) = found.directory {
+            merged.as_mut_slice()[kept] = directory;
+            kept += 1;
+        }
         if found.hides {
-            return merged;
+            break;
         }
     }
-    merged
+    merged.truncate(kept);
+}
+
+/// An entry of the first of some merged directories that has one under a name. It may be a whiteout.
+#[derive(Clone, Copy, Debug)]
+pub struct FirstEntry {
+    pub layer: usize,
+    pub directory: InodeRef,
+    pub object: InodeRef,
+}
+
+/// What a directory has under a name.
+pub fn entry_in(trees: &Filesystems, top: MergedDirectory, name: &[u8]) -> Option<FirstEntry> {
+    let tree = trees.get(top.directory.filesystem);
+    let object = entry(tree, top.directory, name)?;
+    Some(FirstEntry {
+        layer: top.layer,
+        directory: top.directory,
+        object,
+    })
+}
+
+/// What the first of merged directories has that has something under a name.
+pub fn first_entry(trees: &Filesystems, merged: &[MergedDirectory], name: &[u8]) -> Option<FirstEntry> {
+    for top in merged {
+        let found = entry_in(trees, *top, name);
+        if found.is_some() {
+            return found;
+        }
+    }
+    None
 }
 
 // What one directory has under a name.
@@ -65,17 +98,6 @@ fn look_under(trees: &Filesystems, top: MergedDirectory, name: &[u8]) -> Under
     Under {
         directory: directory_at(tree, top.layer, object),
         hides: hides(tree, object),
-    }
-}
-
-// One directory more, if there is one.
-fn push_some(merged: &mut MergedDirectories, directory: Option<MergedDirectory>)
-    requires { array_vec_len merged.old < MOST_LAYERS }
-    ensures items { merged.new.items ≡ merged.old.items ++ option_to_list directory }
-    ensures len { array_vec_len merged.new ≤ array_vec_len merged.old + 1 }
-{
-    if let Some(directory) = directory {
-        merged.push(directory);
     }
 }
 
@@ -108,7 +130,7 @@ pub fn merged_dirs_at<W: Way>(
 {
     let mut merged = directories_of(layers);
     for index in 0..path.len() {
-        merged = merged_dirs(trees, merged.as_slice(), path.name(index));
+        narrow(trees, &mut merged, path.name(index));
     }
     merged
 }

@@ -17,8 +17,11 @@ ghost use Rattle.vt_overlay.specs.MergedTree.{AreLayers, birth_at, born_below, b
 use crate::overlays::{Overlay, inode_in};
 use vt_fs::Filesystems;
 use vt_location::{Birth, FilesystemId, InodeRef, NodeRef};
-use vt_merge::{Front, Real, Way, led_to, real_of, shown, slot_of, way_down};
-use vt_node::Node;
+use vt_merge::{
+    FirstEntry, Front, MergedDirectory, Real, Way, entry_in, first_entry, is_whiteout, led_to,
+    merged_dirs_at, real_of, shown, slot_of, way_down,
+};
+use vt_node::{Kind, Node};
 
 impl Overlay {
     /// The root: the highest layer's directory.
@@ -108,24 +111,94 @@ impl Overlay {
         let node = trees.node(above.node_ref())?;
         let object = inode_in(lower, slot);
         let name = node.name_ranked(slot_of(object), rank)?;
-        let real = shown(trees, self.lowers.as_slice(), &way.under(name))?;
-        if real.layer != usize::from(layer) {
+        let place = usize::from(layer);
+        if place != 0 && self.is_hidden(trees, place, &way, name) {
             return None;
         }
-        Some(real)
+        real_at(trees, place, object)
     }
 
-    /// The node to which a name of a directory leads; anything else has no names. It does not allocate. For a name of a
-    /// file it passes over the entries of one layer's directory.
-    pub fn entry(&self, trees: &Filesystems, node: NodeRef, name: &[u8]) -> Option<NodeRef>
+    // Whether something in a higher layer hides what a layer has under a name of the directory at a path, or a directory
+    // above does.
+    fn is_hidden<W: Way>(&self, trees: &Filesystems, place: usize, path: &W, name: &[u8]) -> bool {
+        let merged = merged_dirs_at(trees, &self.lowers.as_slice()[..place + 1], path);
+        match first_entry(trees, merged.as_slice(), name) {
+            Some(found) => found.layer != place,
+            None => true,
+        }
+    }
+
+    /// The node to which a name of a directory that is shown leads, and its real object; anything else has no names. It
+    /// does not allocate. If the highest layer with that directory has the name, the way to it is not looked for. For a
+    /// name of a file it passes over the entries of one layer's directory.
+    pub fn entry<'a>(
+        &self,
+        trees: &'a Filesystems,
+        node: NodeRef,
+        name: &[u8],
+    ) -> Option<(NodeRef, &'a Node)>
         requires layers { AreLayers trees.now self.now.lowers }
         requires few { length self.now.lowers ≤ MOST_LAYERS }
         requires own { node.filesystem ≡ self.now.number }
-        ensures { option_map number_of result
+        requires shown { IsSome (object_shown trees.now self.now (number_of node)) }
+        ensures node { option_map (λ found. number_of found.0) result
             ≡ entry_named name.now (entries_in ((merged_tree trees.now self.now).node (number_of node))) }
+        ensures lent { IfSome result (λ found.
+            real_lent trees.now self.now (number_of found.0) ≡ Some found.1.now) }
     {
-        let way = self.way(trees, node)?;
-        self.node_at(trees, &way.under(name))
+        let top = self.top_of(node)?;
+        let found = match entry_in(trees, top, name) {
+            Some(found) => found,
+            None => self.entry_below(trees, top, name)?,
+        };
+        self.node_found(trees, found, name)
+    }
+
+    // The real directory of a node that is shown.
+    fn top_of(&self, node: NodeRef) -> Option<MergedDirectory> {
+        let place = match node.birth {
+            Birth::Here => 0,
+            Birth::Below { layer, .. } => usize::from(layer),
+        };
+        let layer = self.layer_in(place)?;
+        Some(MergedDirectory {
+            layer: place,
+            directory: inode_in(layer, node.slot),
+        })
+    }
+
+    // What the layers have under a name of a directory that is shown, where the highest with that directory has nothing.
+    #[inline(never)]
+    fn entry_below(
+        &self,
+        trees: &Filesystems,
+        top: MergedDirectory,
+        name: &[u8],
+    ) -> Option<FirstEntry> {
+        let layer = self.layer_in(top.layer)?;
+        let way = way_down(trees, layer.directory, top.directory)?;
+        let merged = merged_dirs_at(trees, self.lowers.as_slice(), &way);
+        first_entry(trees, merged.as_slice(), name)
+    }
+
+    // The node of what a merged directory has under a name, and that, unless it is a whiteout.
+    fn node_found<'a>(
+        &self,
+        trees: &'a Filesystems,
+        found: FirstEntry,
+        name: &[u8],
+    ) -> Option<(NodeRef, &'a Node)> {
+        let object = trees.node(found.object.node_ref())?;
+        if object.kind() == Kind::White {
+            return None;
+        }
+        let rank = if object.is_directory() {
+            0
+        } else {
+            rank_of(trees, found.directory, name, found.object)
+        };
+        let birth = born_in(found.layer as u8, found.directory, rank);
+        Some((node_of(self.number, found.object, birth), object))
     }
 
     /// The parent of a directory; the root is its own. It does not allocate.
@@ -171,6 +244,15 @@ impl Overlay {
         let rank = rank_in(trees, directory, name, real.inode);
         let layer = real.layer as u8;
         Some(born_in(layer, directory, rank))
+    }
+}
+
+// The real object in a layer, unless it is a whiteout.
+fn real_at(trees: &Filesystems, layer: usize, inode: InodeRef) -> Option<Real> {
+    if is_whiteout(trees, inode) {
+        None
+    } else {
+        Some(Real { layer, inode })
     }
 }
 

@@ -123,7 +123,7 @@ impl Overlay {
         if way.len() == 0 {
             return None;
         }
-        if !self.shows_in(trees, &way, layer) {
+        if layer != 0 && !self.shows_in(trees, &way, layer) {
             return None;
         }
         Some(way)

@@ -5,11 +5,11 @@ ghost use Rattle.vt_permits.specs.Memory.{JudgesAlike};
 ghost use Rattle.vt_tasks.specs.TaskValue.{task_of};
 
 use crate::paths::{directory_at, object_at, symlink_at};
-use vt_cred::Rights;
+use vt_cred::{Rights, allows};
 use vt_looks::Look;
 use vt_node::Kind;
 use vt_permits::{Grant, LookGrant};
-use vt_rules::{is_directory, is_kind, is_noexec, may};
+use vt_rules::{is_kind, is_noexec, may};
 use vt_spec::errors::{Deny, Rule};
 use vt_tasks::Task;
 
@@ -66,16 +66,21 @@ pub fn read<L: Look>(world: &L, who: &Task, path: &[u8]) -> Result<Grant, Deny>
     ensures { JudgesAlike (task_of who.now) (read_permit nat_eq (L.looks world.now) (task_of who.now) path.now) result }
 {
     let file = object_at(world, who, path)?;
-    if is_directory(world, file) {
+    let ground = world.ground(file.mount);
+    // The object is looked for once: in an overlay that is a walk through its layers.
+    let Some(object) = world.node_on(ground, file) else {
+        return Err(Rule::C1.denial());
+    };
+    if object.is_directory() {
         return Err(Rule::E2.denial());
     }
-    if is_kind(world, file, Kind::White) {
+    if object.kind() == Kind::White {
         return Err(Rule::E9.denial());
     }
-    if !may(world, who, file, Rights::READ) {
+    if !allows(&who.cred, &object.attr(), object.kind(), Rights::READ) {
         return Err(Rule::C1.denial());
     }
-    if !world.mounter_may(file, Rights::READ) {
+    if !world.mounter_may_on(ground, file, object, Rights::READ) {
         return Err(Rule::B1.denial());
     }
     Ok(Grant::Look(LookGrant::Read { file }))

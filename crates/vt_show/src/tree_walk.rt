@@ -112,7 +112,8 @@ impl<'a> TreeWalk<'a> {
     fn entry(&self, directory: NodeRef, name: &[u8]) -> Option<NodeRef> {
         let store = self.world.store();
         let object = store.object(directory)?;
-        store.entry(directory, object, name)
+        let (node, _object) = store.entry(directory, object, name)?;
+        Some(node)
     }
 
     // What a name leads to waits.

@@ -53,37 +53,51 @@ impl Store {
         }
     }
 
-    /// The node to which a name of a directory leads, of which this is the real object. It does not allocate.
+    /// The node to which a name of a directory leads, of which this is the real object, and the real object of that
+    /// node. It does not allocate.
     #[inline(always)]
-    pub fn entry(&self, directory: NodeRef, object: &Node, name: &[u8]) -> Option<NodeRef>
+    pub fn entry(
+        &self,
+        directory: NodeRef,
+        object: &Node,
+        name: &[u8],
+    ) -> Option<(NodeRef, Option<&Node>)>
         requires standing { StandOnLayers self.now }
         requires object { lent_in self.now directory.filesystem.count (number_of directory) ≡ Some object.now }
-        ensures { option_map number_of result ≡ entry_named name.now
+        ensures node { option_map (λ found. number_of found.0) result ≡ entry_named name.now
             (entries_in ((files_in self.now directory.filesystem.count).tree.node (number_of directory))) }
+        ensures object { IfSome result (λ found. option_copied found.1
+            ≡ lent_in self.now directory.filesystem.count (number_of found.0)) }
     {
         if self.has_overlays() {
-            let found = self.any_entry(copied(directory), object, name)?;
-            Some(copied(found))
+            let (node, found) = self.any_entry(copied(directory), object, name)?;
+            Some((copied(node), found))
         } else {
-            let entry = object.entry(name)?;
-            Some(NodeRef::new(directory.filesystem, entry))
+            plain_entry(&self.plain, directory, object, name)
         }
     }
 
     // The same where there are overlays.
     #[inline(never)]
-    fn any_entry(&self, directory: NodeRef, object: &Node, name: &[u8]) -> Option<NodeRef>
+    fn any_entry(
+        &self,
+        directory: NodeRef,
+        object: &Node,
+        name: &[u8],
+    ) -> Option<(NodeRef, Option<&Node>)>
         requires standing { StandOnLayers self.now }
         requires object { lent_in self.now directory.filesystem.count (number_of directory) ≡ Some object.now }
-        ensures { option_map number_of result ≡ entry_named name.now
+        ensures node { option_map (λ found. number_of found.0) result ≡ entry_named name.now
             (entries_in ((files_in self.now directory.filesystem.count).tree.node (number_of directory))) }
+        ensures object { IfSome result (λ found. option_copied found.1
+            ≡ lent_in self.now directory.filesystem.count (number_of found.0)) }
     {
         match self.overlay(directory.filesystem) {
-            Some(overlay) => overlay.entry(&self.plain, directory, name),
-            None => {
-                let entry = object.entry(name)?;
-                Some(NodeRef::new(directory.filesystem, entry))
+            Some(overlay) => {
+                let (node, found) = overlay.entry(&self.plain, directory, name)?;
+                Some((node, Some(found)))
             }
+            None => plain_entry(&self.plain, directory, object, name),
         }
     }
 
@@ -182,6 +196,19 @@ impl Store {
             None => self.plain.list(directory),
         }
     }
+}
+
+// The same in a plain tree.
+#[inline(always)]
+fn plain_entry<'a>(
+    plain: &'a Filesystems,
+    directory: NodeRef,
+    object: &Node,
+    name: &[u8],
+) -> Option<(NodeRef, Option<&'a Node>)> {
+    let entry = object.entry(name)?;
+    let node = NodeRef::new(directory.filesystem, entry);
+    Some((node, plain.node(node)))
 }
 
 // Whether it is a directory with entries.

@@ -53,7 +53,10 @@ fn found_by_hash(
 ) -> Option<&KeptOverlay>
     ensures { option_copied result ≡ lookup (λ other. nat_eq id.count other.count) by_number.now.entries }
 {
-    by_number.get(&id)
+    match by_number.first() {
+        Some((first, found)) if *first == id => Some(found),
+        _ => by_number.get(&id),
+    }
 }
 
 impl Model for Overlays {

@@ -65,35 +65,37 @@ pub(crate) fn searched<'a, L: Look>(
 
 // The entry that a name has in a directory, on the same mount.
 #[inline(always)]
-fn entry_location<L: Look>(
-    world: &L,
+fn entry_location<'a, L: Look>(
+    world: &'a L,
     here: Location,
     directory: &Node,
     name: &[u8],
-) -> Option<Location>
+) -> Option<(Location, Option<&'a Node>)>
     requires { IsNodeAt (L.real world.now) here (Some directory.now) }
-    ensures { option_map location_of result
+    ensures object { IfSome result (λ entry. IsNodeAt (L.real world.now) entry.0 (option_copied entry.1)) }
+    ensures location { option_map (λ entry. location_of entry.0) result
         ≡ option_map (λ object. record { mount = mount_number here.mount; node = object })
         (entry_named name.now (entries_in ((L.looks world.now).node (location_of here)))) }
 {
-    let node = world.entry(here, directory, name)?;
-    Some(Location {
+    let entry = world.entry(here, directory, name)?;
+    let location = Location {
         mount: here.mount,
-        node,
-    })
+        node: entry.node,
+    };
+    Some((location, entry.object))
 }
 
 // Where a word leads from a directory: a name through the mounts over the entry. W6: a missing name. W8: `..` of a lost
 // directory.
 #[inline(always)]
-fn stepped<L: Look>(
-    world: &L,
+fn stepped<'a, L: Look>(
+    world: &'a L,
     who: &Task,
-    from: Step,
+    from: Step<'a>,
     ground: Ground,
     directory: &Node,
     word: LastWord,
-) -> Result<Step, Deny>
+) -> Result<Step<'a>, Deny>
     requires ground { IsGround (L.looks world.now) from.location.mount ground }
     requires directory { IsNodeAt (L.real world.now) from.location (Some directory.now) }
     requires found { from.is_found ≡ true → is_lost nat_eq (L.looks world.now) (location_of from.location) ≡ false }
@@ -105,15 +107,16 @@ fn stepped<L: Look>(
         LastWord::NoWord | LastWord::Dot => Ok(from),
         LastWord::DotDot => step_up(world, who, from.location, from.is_found),
         LastWord::Named(name) => match entry_location(world, from.location, directory, name) {
-            Some(entry) => {
+            Some((entry, object)) => {
                 world.ways_stay_found();
                 if ground.is_bare {
                     return Ok(Step {
                         location: entry,
                         is_found: from.is_found,
+                        lent: Some(object),
                     });
                 }
-                Ok(entered(world, entry, from.is_found))
+                Ok(entered(world, entry, from.is_found, Some(object)))
             }
             None => Err(Rule::W6.denial()),
         },
@@ -135,20 +138,23 @@ pub(crate) fn object_named<L: Look>(
     match last {
         LastWord::NoWord | LastWord::Dot => Ok(Some(here)),
         LastWord::DotDot => Ok(Some(step_up(world, who, here, false)?.location)),
-        LastWord::Named(name) => Ok(entry_location(world, here, directory, name)),
+        LastWord::Named(name) => match entry_location(world, here, directory, name) {
+            Some((entry, _object)) => Ok(Some(entry)),
+            None => Ok(None),
+        },
     }
 }
 
 // Where one word leads, with no symlink followed, from a location with this inode.
 #[inline(always)]
-fn word_led<L: Look>(
-    world: &L,
+fn word_led<'a, L: Look>(
+    world: &'a L,
     who: &Task,
-    from: Step,
+    from: Step<'a>,
     ground: Ground,
     node: Option<&Node>,
     word: LastWord,
-) -> Result<Step, Deny>
+) -> Result<Step<'a>, Deny>
     requires ground { IsGround (L.looks world.now) from.location.mount ground }
     requires node { IsNodeAt (L.real world.now) from.location (option_copied node) }
     requires found { IsFound (L.looks world.now) from.location from.is_found }
@@ -178,6 +184,7 @@ pub(crate) fn last_walked<L: Look>(
             let from = Step {
                 location: here.location,
                 is_found: false,
+                lent: Some(node),
             };
             let next = word_led(world, who, from, ground, node, last)?;
             Ok(here.moved(next.location))
@@ -273,6 +280,7 @@ fn words_walked_to_link<'a, L: Look>(
         let from = Step {
             location: directory,
             is_found,
+            lent: Some(node),
         };
         let next = word_led(world, who, from, ground, node, LastWord::of(word))?;
         here = here.moved(next.location);
@@ -280,7 +288,10 @@ fn words_walked_to_link<'a, L: Look>(
         if next.location.mount != directory.mount {
             ground = world.ground(next.location.mount);
         }
-        node = world.node_on(ground, next.location);
+        node = match next.lent {
+            Some(object) => object,
+            None => world.node_on(ground, next.location),
+        };
         if let Some(text) = symlink_text(node) {
             let link = LinkMet {
                 directory,

@@ -11,14 +11,17 @@ ghost use Rattle.vt_walk.specs.WalkValue.{IsFound, step_result};
 
 use vt_location::{Location, NodeRef};
 use vt_looks::Look;
+use vt_node::Node;
 use vt_spec::errors::{Deny, Rule};
 use vt_tasks::Task;
 
-// Where a word led, and whether that is known to be found if it is a directory: then `..` of it is not lost.
+// Where a word led, and whether that is known to be found if it is a directory: then `..` of it is not lost. And its real
+// object, where an entry led there, so that it is not looked for again.
 #[derive(Clone, Copy, Debug)]
-pub(crate) struct Step {
+pub(crate) struct Step<'a> {
     pub(crate) location: Location,
     pub(crate) is_found: bool,
+    pub(crate) lent: Option<Option<&'a Node>>,
 }
 
 // Where `..` goes on from the root of a mount: its mount point. It stays at the task's root.
@@ -87,7 +90,12 @@ fn is_lost<L: Look>(world: &L, here: Location, start: Location, is_found: bool) 
 
 // Through the mounts over a place. A directory stays found if there are none.
 #[inline(always)]
-pub(crate) fn entered<L: Look>(world: &L, place: Location, is_found: bool) -> Step
+pub(crate) fn entered<'a, L: Look>(
+    world: &L,
+    place: Location,
+    is_found: bool,
+    lent: Option<Option<&'a Node>>,
+) -> Step<'a>
     requires { IsFound (L.looks world.now) place is_found }
     ensures location { location_of result.location ≡ topmost (L.looks world.now) (location_of place) }
     ensures found { IsFound (L.looks world.now) result.location result.is_found }
@@ -97,18 +105,19 @@ pub(crate) fn entered<L: Look>(world: &L, place: Location, is_found: bool) -> St
     Step {
         location,
         is_found: is_found && same,
+        lent: if same { lent } else { None },
     }
 }
 
 // Where `..` leads from a location: to the topmost mount over the parent. W8: the directory is lost.
 //
 // The parent of a directory that is not lost is not lost either, so that a walk asks once on each mount that it comes to.
-pub(crate) fn step_up<L: Look>(
-    world: &L,
+pub(crate) fn step_up<'a, L: Look>(
+    world: &'a L,
     who: &Task,
     start: Location,
     is_found: bool,
-) -> Result<Step, Deny>
+) -> Result<Step<'a>, Deny>
     requires { is_found ≡ true → is_lost nat_eq (L.looks world.now) (location_of start) ≡ false }
     ensures value { step_result result
         ≡ stepped nat_eq (L.looks world.now) (task_of who.now) (location_of start) DotDot }
@@ -119,11 +128,12 @@ pub(crate) fn step_up<L: Look>(
         return Ok(Step {
             location: here,
             is_found: false,
+            lent: None,
         });
     }
     if is_lost(world, here, start, is_found) {
         return Err(Rule::W8.denial());
     }
     world.ways_stay_found();
-    Ok(entered(world, parent_location(world, here), true))
+    Ok(entered(world, parent_location(world, here), true, None))
 }
