@@ -60,7 +60,7 @@ impl World {
         ensures ok { IfOk result (λ bytes. bytes.items
             ≡ bytes_in (node_at nat_eq (world_of self.now) (location_of file))) }
     {
-        match self.node(file) {
+        match self.store.object_there(file.node) {
             Some(node) => { copied_bytes(self.alloc, node.bytes()) }
             None => Ok(Vec::new(self.alloc)),
         }

@@ -68,6 +68,19 @@ impl Overlay {
         real_of(trees, real)
     }
 
+    /// As `inode`, of a node that the overlay shows: its real object is where the node was born, so that no way is looked
+    /// for.
+    pub fn inode_shown<'a>(&self, trees: &'a Filesystems, node: NodeRef) -> Option<&'a Node>
+        requires layers { AreLayers trees.now self.now.lowers }
+        requires few { length self.now.lowers ≤ MOST_LAYERS }
+        requires own { node.filesystem ≡ self.now.number }
+        requires shown { IsSome (object_shown trees.now self.now (number_of node)) }
+        ensures lent { option_copied result ≡ real_lent trees.now self.now (number_of node) }
+    {
+        let top = self.top_of(node)?;
+        trees.node(top.directory.node_ref())
+    }
+
     // The real object of the root, if that is in this slot.
     fn root_object(&self, trees: &Filesystems, slot: usize) -> Option<Real>
         requires layers { AreLayers trees.now self.now.lowers }

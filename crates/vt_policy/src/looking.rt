@@ -4,7 +4,7 @@ ghost use Rattle.vt_spec.specs.Machine.Judge.{exec_permit, list_permit, lstat_pe
 ghost use Rattle.vt_permits.specs.Memory.{JudgesAlike};
 ghost use Rattle.vt_tasks.specs.TaskValue.{task_of};
 
-use crate::paths::{directory_at, object_at, symlink_at};
+use crate::paths::{directory_at, object_at, object_found_at, symlink_at};
 use vt_cred::{Rights, allows};
 use vt_looks::Look;
 use vt_node::Kind;
@@ -65,10 +65,15 @@ pub fn readlink<L: Look>(world: &L, who: &Task, path: &[u8]) -> Result<Grant, De
 pub fn read<L: Look>(world: &L, who: &Task, path: &[u8]) -> Result<Grant, Deny>
     ensures { JudgesAlike (task_of who.now) (read_permit nat_eq (L.looks world.now) (task_of who.now) path.now) result }
 {
-    let file = object_at(world, who, path)?;
+    let found = object_found_at(world, who, path)?;
+    let file = found.location;
     let ground = world.ground(file.mount);
     // The object is looked for once: in an overlay that is a walk through its layers.
-    let Some(object) = world.node_on(ground, file) else {
+    let lent = match found.lent {
+        Some(lent) => lent,
+        None => world.node_on(ground, file),
+    };
+    let Some(object) = lent else {
         return Err(Rule::C1.denial());
     };
     if object.is_directory() {

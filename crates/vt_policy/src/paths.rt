@@ -12,6 +12,7 @@ use vt_looks::{Look, OldPlace, Place};
 use vt_spec::errors::Deny;
 use vt_tasks::Task;
 use vt_text::path::PathText;
+use vt_walk::ObjectFound;
 
 /// The object that a path leads to, a final symlink followed.
 pub(crate) fn object_at<L: Look>(world: &L, who: &Task, path: &[u8]) -> Result<Location, Deny>
@@ -21,6 +22,15 @@ pub(crate) fn object_at<L: Look>(world: &L, who: &Task, path: &[u8]) -> Result<L
         ≡ Err deny) }
 {
     vt_walk::object_walk(world, who, &PathText::parse(path)?)
+}
+
+/// The same, with the real object that was found.
+pub(crate) fn object_found_at<'a, L: Look>(
+    world: &'a L,
+    who: &Task,
+    path: &'a [u8],
+) -> Result<ObjectFound<'a>, Deny> {
+    vt_walk::object_found_walk(world, who, &PathText::parse(path)?)
 }
 
 /// The directory that a path leads to.

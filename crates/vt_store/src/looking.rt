@@ -53,6 +53,19 @@ impl Store {
         }
     }
 
+    /// As `object`, of a node that is there: in an overlay it is then known where.
+    #[inline(always)]
+    pub fn object_there(&self, node: NodeRef) -> Option<&Node>
+        requires standing { StandOnLayers self.now }
+        requires there { IsSome (lent_in self.now node.filesystem.count (number_of node)) }
+        ensures { option_copied result ≡ lent_in self.now node.filesystem.count (number_of node) }
+    {
+        match self.overlay(node.filesystem) {
+            Some(overlay) => overlay.inode_shown(&self.plain, node),
+            None => self.plain.node(node),
+        }
+    }
+
     /// The node to which a name of a directory leads, of which this is the real object, and the real object of that
     /// node. It does not allocate.
     #[inline(always)]

@@ -13,7 +13,8 @@ ghost use Rattle.vt_walk.specs.WalkValue.{IsFilePlace, IsPlace, old_place_result
 
 use crate::here::{Here, MOST_LINKS};
 use crate::steps::{
-    is_directory_at, link_begun, object_named, searched, symlink_text, words_walked,
+    Walked, is_directory_at, lent_there, link_begun, object_named, searched, symlink_text,
+    words_walked,
 };
 use crate::words::front_and_last;
 use vt_location::Location;
@@ -29,7 +30,7 @@ use vt_text::path::PathText;
 fn placed<'a, L: Look>(
     world: &L,
     who: &Task,
-    here: Location,
+    walked: Walked<'_>,
     last: LastWord<'a>,
     slash: bool,
 ) -> Result<Place<'a>, Deny>
@@ -37,6 +38,7 @@ fn placed<'a, L: Look>(
         ≡ placed (L.looks world.now) (task_of who.now) (location_of here) (last_of last.entry) slash }
     ensures place { IfOk result (λ place. IsPlace (L.looks world.now) (task_of who.now) place) }
 {
+    let here = walked.here.location;
     if last.is_no_word() {
         return Ok(Place {
             parent: here,
@@ -46,7 +48,8 @@ fn placed<'a, L: Look>(
         });
     }
     let ground = world.ground(here.mount);
-    let directory = searched(world, who, ground, here, world.node_on(ground, here))?;
+    let node = lent_there(world, ground, here, walked.lent);
+    let directory = searched(world, who, ground, here, node)?;
     let object = object_named(world, who, here, directory, last)?;
     Ok(Place {
         parent: here,
@@ -74,8 +77,8 @@ pub fn place_walk<'a, L: Look>(
 {
     let text = path.as_bytes();
     let (front, last) = front_and_last(text);
-    let here = words_walked(world, who, Here::at_start(who, text), front)?;
-    placed(world, who, here.location, last, path.ends_in_slash())
+    let walked = words_walked(world, who, Here::at_start(who, text), front)?;
+    placed(world, who, walked, last, path.ends_in_slash())
 }
 
 // Whether a name is missing in a removed directory, which takes no new name.
@@ -220,8 +223,9 @@ fn file_walked<'a, L: Look>(
     for _link in 0..MOST_LINKS + 1 {
         slash = asks_for_directory(slash, text);
         let (front, last) = front_and_last(text);
-        let here = words_walked(world, who, start, front)?;
-        let place = placed(world, who, here.location, last, slash)?;
+        let walked = words_walked(world, who, start, front)?;
+        let here = walked.here;
+        let place = placed(world, who, walked, last, slash)?;
         let Some((link, inner)) = symlink_there(world, &place) else {
             return Ok(entered(world, place));
         };

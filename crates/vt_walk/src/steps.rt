@@ -167,20 +167,21 @@ fn word_led<'a, L: Look>(
 }
 
 // The last word of a path walked; a final symlink is not followed.
-pub(crate) fn last_walked<L: Look>(
-    world: &L,
+pub(crate) fn last_walked<'a, L: Look>(
+    world: &'a L,
     who: &Task,
-    here: Here,
+    walked: Walked<'a>,
     last: LastWord,
 ) -> Result<Here, Deny>
     ensures { here_result result
         ≡ last_walked (L.looks world.now) (task_of who.now) (here_of here) (last_of last.entry) }
 {
+    let Walked { here, lent } = walked;
     match last {
         LastWord::NoWord => Ok(here),
         _ => {
             let ground = world.ground(here.location.mount);
-            let node = world.node_on(ground, here.location);
+            let node = lent_there(world, ground, here.location, lent);
             let from = Step {
                 location: here.location,
                 is_found: false,
@@ -252,11 +253,35 @@ struct LinkMet<'a> {
     behind: Words<'a>,
 }
 
-// Where words lead, as far as the first symlink.
+// Where words lead, as far as the first symlink, and the real object there, where it is already lent.
 #[derive(Debug, Drop)]
 struct Reached<'a> {
     here: Here,
+    lent: Option<Option<&'a Node>>,
     link: Option<LinkMet<'a>>,
+}
+
+// Where words lead, and the real object there, where it is already lent.
+#[derive(Clone, Copy, Debug)]
+pub(crate) struct Walked<'a> {
+    pub(crate) here: Here,
+    pub(crate) lent: Option<Option<&'a Node>>,
+}
+
+// The real object at a location, looked for where it is not lent yet.
+#[inline(always)]
+pub(crate) fn lent_there<'a, L: Look>(
+    world: &'a L,
+    ground: Ground,
+    here: Location,
+    lent: Option<Option<&'a Node>>,
+) -> Option<&'a Node>
+    requires ground { IsGround (L.looks world.now) here.mount ground }
+{
+    match lent {
+        Some(object) => object,
+        None => world.node_on(ground, here),
+    }
 }
 
 // As `walked_to_link`, of some words.
@@ -288,10 +313,7 @@ fn words_walked_to_link<'a, L: Look>(
         if next.location.mount != directory.mount {
             ground = world.ground(next.location.mount);
         }
-        node = match next.lent {
-            Some(object) => object,
-            None => world.node_on(ground, next.location),
-        };
+        node = lent_there(world, ground, next.location, next.lent);
         if let Some(text) = symlink_text(node) {
             let link = LinkMet {
                 directory,
@@ -300,11 +322,16 @@ fn words_walked_to_link<'a, L: Look>(
             };
             return Ok(Reached {
                 here,
+                lent: Some(node),
                 link: Some(link),
             });
         }
     }
-    Ok(Reached { here, link: None })
+    Ok(Reached {
+        here,
+        lent: Some(node),
+        link: None,
+    })
 }
 
 // The words walked as far as the first that leads to a symlink. After a symlink there are often none: then nothing is
@@ -323,6 +350,7 @@ fn walked_to_link<'a, L: Look>(
     if words.is_empty() {
         return Ok(Reached {
             here: start,
+            lent: None,
             link: None,
         });
     }
@@ -360,7 +388,15 @@ impl<'a> Default for Pending<'a> {
 pub(crate) fn is_directory_at<L: Look>(world: &L, here: Location) -> bool
     ensures { result ≡ is_directory_at (L.looks world.now) (location_of here) }
 {
-    match world.node(here) {
+    is_directory(world.node(here))
+}
+
+// Whether it is a directory.
+#[inline(always)]
+pub(crate) fn is_directory(node: Option<&Node>) -> bool
+    ensures { result ≡ is_directory_node (option_copied node.entry) }
+{
+    match node {
         Some(node) => node.is_directory(),
         None => false,
     }
@@ -382,14 +418,14 @@ pub(crate) fn words_walked<'a, L: Look>(
     who: &Task,
     start: Here,
     words: Words<'a>,
-) -> Result<Here, Deny>
+) -> Result<Walked<'a>, Deny>
     ensures { here_result result ≡ words_walked (L.looks world.now) (task_of who.now)
         (followed (L.looks world.now) (task_of who.now)) (here_of start) (reverse words.entry) }
 {
-    let Reached { here, link } = walked_to_link(world, who, start, words)?;
+    let Reached { here, lent, link } = walked_to_link(world, who, start, words)?;
     match link {
         Some(link) => symlink_walked(world, who, here, link),
-        None => Ok(here),
+        None => Ok(Walked { here, lent }),
     }
 }
 
@@ -400,11 +436,12 @@ fn symlink_walked<'a, L: Look>(
     who: &Task,
     met: Here,
     link: LinkMet<'a>,
-) -> Result<Here, Deny>
+) -> Result<Walked<'a>, Deny>
     ensures { here_result result ≡ link_passed (L.looks world.now) (task_of who.now)
         (followed (L.looks world.now) (task_of who.now)) (here_of met) (Some link.entry) }
 {
     let mut here = link_begun(world, who, link.directory, met, link.text)?;
+    let mut lent = None;
     let mut pending = ArrayVec::<Pending, MOST_TEXTS>::new();
     // A slash at the end of the words themselves is checked by the caller.
     pending.push(Pending {
@@ -415,6 +452,7 @@ fn symlink_walked<'a, L: Look>(
     while let Some(Pending { text, words }) = pending.pop() {
         let Reached {
             here: reached,
+            lent: last,
             link,
         } = walked_to_link(world, who, here, words)?;
         here = match link {
@@ -432,6 +470,7 @@ fn symlink_walked<'a, L: Look>(
                 reached
             }
         };
+        lent = last;
     }
-    Ok(here)
+    Ok(Walked { here, lent })
 }

@@ -8,10 +8,13 @@ ghost use Rattle.vt_tasks.specs.TaskValue.{task_of};
 ghost use Rattle.vt_walk.specs.WalkValue.{location_end, location_result};
 
 use crate::here::Here;
-use crate::steps::{asked_by_slash, is_directory_at, last_walked, words_walked};
+use crate::steps::{
+    Walked, asked_by_slash, is_directory, is_directory_at, last_walked, words_walked,
+};
 use crate::words::front_and_last;
 use vt_location::Location;
 use vt_looks::Look;
+use vt_node::Node;
 use vt_spec::errors::{Deny, Rule};
 use vt_tasks::Task;
 use vt_text::path::PathText;
@@ -26,10 +29,32 @@ pub fn object_walk<L: Look>(world: &L, who: &Task, path: &PathText) -> Result<Lo
     ensures { location_result result
         ≡ location_end (walk_end (object_walk nat_eq (L.looks world.now) (task_of who.now) path.now)) }
 {
+    let found = object_found_walk(world, who, path)?;
+    Ok(found.location)
+}
+
+/// Where a walk ended, and the real object there, where the walk has looked for it.
+#[derive(Clone, Copy, Debug)]
+pub struct ObjectFound<'a> {
+    pub location: Location,
+    pub lent: Option<Option<&'a Node>>,
+}
+
+/// As `object_walk`, with the real object that was found.
+pub fn object_found_walk<'a, L: Look>(
+    world: &'a L,
+    who: &Task,
+    path: &PathText<'a>,
+) -> Result<ObjectFound<'a>, Deny>
+{
     let text = path.as_bytes();
-    let here = words_walked(world, who, Here::at_start(who, text), path.words())?;
+    let Walked { here, lent } =
+        words_walked(world, who, Here::at_start(who, text), path.words())?;
     asked_by_slash(world, text, here.location)?;
-    Ok(here.location)
+    Ok(ObjectFound {
+        location: here.location,
+        lent,
+    })
 }
 
 /// The directory that a path leads to, a final symlink followed. No search permission is needed on the directory
@@ -42,8 +67,12 @@ pub fn directory_walk<L: Look>(world: &L, who: &Task, path: &PathText) -> Result
     ensures directory { IfOk result (λ directory. is_directory_at (L.looks world.now) (location_of directory) ≡ true) }
 {
     let start = Here::at_start(who, path.as_bytes());
-    let here = words_walked(world, who, start, path.words())?;
-    if !is_directory_at(world, here.location) {
+    let Walked { here, lent } = words_walked(world, who, start, path.words())?;
+    let is_directory = match lent {
+        Some(object) => is_directory(object),
+        None => is_directory_at(world, here.location),
+    };
+    if !is_directory {
         return Err(Rule::W3.denial());
     }
     Ok(here.location)
@@ -61,8 +90,8 @@ pub fn symlink_walk<L: Look>(world: &L, who: &Task, path: &PathText) -> Result<L
     }
     let text = path.as_bytes();
     let (front, last) = front_and_last(text);
-    let here = words_walked(world, who, Here::at_start(who, text), front)?;
-    Ok(last_walked(world, who, here, last)?.location)
+    let walked = words_walked(world, who, Here::at_start(who, text), front)?;
+    Ok(last_walked(world, who, walked, last)?.location)
 }
 
 /// The source of a mount, or a layer: as `directory_walk`, and the directory is not removed, else W8 (ENOENT):
