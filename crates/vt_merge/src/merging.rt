@@ -60,7 +60,12 @@ pub struct FirstEntry {
 }
 
 /// What a directory has under a name.
-pub fn entry_in(trees: &Filesystems, top: MergedDirectory, name: &[u8]) -> Option<FirstEntry> {
+pub fn entry_in(trees: &Filesystems, top: MergedDirectory, name: &[u8]) -> Option<FirstEntry>
+    ensures object { option_map (λ found. inode_of found.object) result
+        ≡ entry_at (opened trees.now top.directory).tree (inode_of top.directory) name.now }
+    ensures filesystem { IfSome result (λ found. found.object.filesystem ≡ top.directory.filesystem) }
+    ensures place { IfSome result (λ found. directory_of found ≡ top) }
+{
     let tree = trees.get(top.directory.filesystem);
     let object = entry(tree, top.directory, name)?;
     Some(FirstEntry {
@@ -71,7 +76,16 @@ pub fn entry_in(trees: &Filesystems, top: MergedDirectory, name: &[u8]) -> Optio
 }
 
 /// What the first of merged directories has that has something under a name.
-pub fn first_entry(trees: &Filesystems, merged: &[MergedDirectory], name: &[u8]) -> Option<FirstEntry> {
+pub fn first_entry(
+    trees: &Filesystems,
+    merged: &[MergedDirectory],
+    name: &[u8],
+) -> Option<FirstEntry>
+    ensures shows { shown_in (placed_views trees.now merged.now) (name.now ∷ [])
+        ≡ then_some result (entry_shown trees.now) }
+    ensures filesystem { IfSome result (λ found. found.object.filesystem ≡ found.directory.filesystem) }
+    ensures place { IfSome result (λ found. IsIn merged.now (directory_of found)) }
+{
     for top in merged {
         let found = entry_in(trees, *top, name);
         if found.is_some() {
@@ -124,9 +138,12 @@ pub fn merged_dirs_at<W: Way>(
     path: &W,
 ) -> MergedDirectories
     requires { length layers.now ≤ MOST_LAYERS }
-    ensures { (rest : List (List ℕ)) → rest ≢ []
+    ensures shows { (rest : List (List ℕ)) → rest ≢ []
         → shown_in (placed_views trees.now result.items) rest
         ≡ shown (layers_of trees.now layers.now) (W.names path.now ++ rest) }
+    ensures led { (top : MergedDirectory) → IsIn result.items top
+        → then_some (slice_get layers.now top.layer) (λ layer.
+        at_path (opened trees.now layer.directory) (W.names path.now)) ≡ Some (inode_of top.directory) }
 {
     let mut merged = directories_of(layers);
     for index in 0..path.len() {

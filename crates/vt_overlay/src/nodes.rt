@@ -133,7 +133,13 @@ impl Overlay {
 
     // Whether something in a higher layer hides what a layer has under a name of the directory at a path, or a directory
     // above does.
-    fn is_hidden<W: Way>(&self, trees: &Filesystems, place: usize, path: &W, name: &[u8]) -> bool {
+    fn is_hidden<W: Way>(&self, trees: &Filesystems, place: usize, path: &W, name: &[u8]) -> bool
+        requires layers { AreLayers trees.now self.now.lowers }
+        requires few { length self.now.lowers ≤ MOST_LAYERS }
+        requires place { place < length self.now.lowers }
+        ensures { result ≡ not (holds_of (λ (seen : Shown ℕ). nat_eq seen.layer place)
+            (shown (layers_of trees.now self.now.lowers) (W.names path.now ++ name.now ∷ []))) }
+    {
         let merged = merged_dirs_at(trees, &self.lowers.as_slice()[..place + 1], path);
         match first_entry(trees, merged.as_slice(), name) {
             Some(found) => found.layer != place,
@@ -168,7 +174,11 @@ impl Overlay {
     }
 
     // The real directory of a node that is shown.
-    fn top_of(&self, node: NodeRef) -> Option<MergedDirectory> {
+    fn top_of(&self, node: NodeRef) -> Option<MergedDirectory>
+        ensures { (trees : Trees) → IsSome (object_shown trees self.now (number_of node))
+            → option_map (λ top. record { layer = top.layer; object = inode_of top.directory }) result
+            ≡ object_shown trees self.now (number_of node) }
+    {
         let place = match node.birth {
             Birth::Here => 0,
             Birth::Below { layer, .. } => usize::from(layer),

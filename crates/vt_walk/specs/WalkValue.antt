@@ -13,7 +13,9 @@ use Rattle.vt_looks.specs.declared.places.OldPlace.{OldPlace}
 use Rattle.vt_looks.specs.declared.places.Place.{Place}
 use Rattle.vt_looks.specs.Places.{as_place, last_of}
 use Rattle.vt_walk.specs.declared.here.Here.{Here}
+use Rattle.vt_walk.specs.declared.steps.Walked.{Walked}
 use Rattle.vt_walk.specs.declared.upward.Step.{Step}
+use Rattle.vt_walk.specs.declared.walks.ObjectFound.{ObjectFound}
 use Rattle.vt_walk.specs.PlainWalks.{standing}
 
 -- Code keeps no record of the filesystems that a walk meets.
@@ -24,6 +26,10 @@ here_of here = standing (location_of here.location) here.left
 abbrev pub here_result : Result Here Deny → Result (HereMeant ℕ) Deny
 here_result (Ok here) = Ok (here_of here)
 here_result (Err deny) = Err deny
+
+abbrev pub walked_result : Result Walked Deny → Result (HereMeant ℕ) Deny
+walked_result (Ok walked) = Ok (here_of walked.here)
+walked_result (Err deny) = Err deny
 
 abbrev pub place_of : Place → PlaceMeant ℕ
 place_of place = record {
@@ -45,6 +51,10 @@ old_place_result (Err deny) = Err deny
 abbrev pub location_result : Result Location Deny → Result (LocationMeant ℕ) Deny
 location_result (Ok location) = Ok (location_of location)
 location_result (Err deny) = Err deny
+
+abbrev pub object_found_result : Result ObjectFound Deny → Result (LocationMeant ℕ) Deny
+object_found_result (Ok found) = Ok (location_of found.location)
+object_found_result (Err deny) = Err deny
 
 abbrev pub named_result : Result (Option Location) Deny → Result (Option (LocationMeant ℕ)) Deny
 named_result (Ok object) = Ok (option_map location_of object)
@@ -75,6 +85,10 @@ place_end (Err deny) = Err deny
 -- this is what is lent for a location
 abbrev pub IsNodeAt : (LocationMeant ℕ → Option (Node ℕ)) → Location → Option (Node ℕ) → Type 0
 IsNodeAt real location node = node ≡ real (location_of location)
+
+-- what is lent already for a location, if it is
+abbrev pub IsLent : (LocationMeant ℕ → Option (Node ℕ)) → Location → Option (Option (Node ℕ)) → Type 0
+IsLent real location lent = (node : Option (Node ℕ)) → lent ≡ Some node → IsNodeAt real location node
 
 -- What a place always is: its object is what the last word names in its parent, which is a directory where the last
 -- word is a name.

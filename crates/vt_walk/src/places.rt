@@ -1,5 +1,5 @@
 //! Walks to a parent, and what the last word names there.
-ghost use Rattle.std.specs.Prelude.{◌≡◌, ◌+◌, nat_eq, false, not, is_some, ◌&&◌, ◌||◌, option_map, IfOk, IfSome, Some};
+ghost use Rattle.std.specs.Prelude.{◌≡◌, ◌+◌, nat_eq, false, not, is_some, ◌&&◌, ◌||◌, option_copied, option_map, IfOk, IfSome, Some};
 ghost use Rattle.vt_spec.specs.Machine.Rules.Removing.{rename_new_walk};
 ghost use Rattle.vt_spec.specs.Machine.Walking.{file_walk, new_leaf_walk, new_walk, old_leaf_walk, old_walk, place_walk, symlink_there, walk_end, walk_start};
 ghost use Rattle.vt_spec.specs.Language.Limits.{most_symlinks};
@@ -9,7 +9,7 @@ ghost use Rattle.vt_tasks.specs.TaskValue.{task_of};
 ghost use Rattle.vt_text.specs.Walkable.{IsWalkable};
 ghost use Rattle.vt_walk.specs.PlainWalks.{entered, file_walked, placed};
 ghost use Rattle.vt_looks.specs.Places.{as_place, last_of};
-ghost use Rattle.vt_walk.specs.WalkValue.{IsFilePlace, IsPlace, old_place_result, place_end, place_of, place_result};
+ghost use Rattle.vt_walk.specs.WalkValue.{IsFilePlace, IsLent, IsPlace, old_place_result, place_end, place_of, place_result};
 
 use crate::here::{Here, MOST_LINKS};
 use crate::steps::{
@@ -34,8 +34,9 @@ fn placed<'a, L: Look>(
     last: LastWord<'a>,
     slash: bool,
 ) -> Result<Place<'a>, Deny>
-    ensures value { place_result result
-        ≡ placed (L.looks world.now) (task_of who.now) (location_of here) (last_of last.entry) slash }
+    requires { IsLent (L.real world.now) walked.entry.here.location (option_map option_copied walked.entry.lent) }
+    ensures value { place_result result ≡ placed (L.looks world.now) (task_of who.now)
+        (location_of walked.entry.here.location) (last_of last.entry) slash }
     ensures place { IfOk result (λ place. IsPlace (L.looks world.now) (task_of who.now) place) }
 {
     let here = walked.here.location;

@@ -1,11 +1,11 @@
 //! Words walked one after the other, and symlinks followed.
-ghost use Rattle.std.specs.Prelude.{◌≡◌, ℕ, nat_eq, false, true, option_copied, option_map, reverse, Ok, Some, OnOk, IfOk};
+ghost use Rattle.std.specs.Prelude.{◌≡◌, ℕ, nat_eq, false, true, option_copied, option_map, reverse, Ok, Some, OnOk, IfOk, IfSome};
 ghost use Rattle.vt_spec.specs.Errors.{and_then, unless};
 ghost use Rattle.vt_spec.specs.FileTree.{symlink_text};
 ghost use Rattle.vt_spec.specs.Machine.Looks.{is_directory_at, mount_at};
 ghost use Rattle.vt_spec.specs.Machine.Walking.{follow_rules, is_lost, object_named, search_rules, slash_rules, stepped};
 ghost use Rattle.vt_spec.specs.PathText.{words};
-ghost use Rattle.vt_spec.specs.Tree.{entries_in, entry_named};
+ghost use Rattle.vt_spec.specs.Tree.{entries_in, entry_named, is_directory_node};
 ghost use Rattle.vt_location.specs.Locations.{location_of};
 ghost use Rattle.vt_location.specs.Numbers.{mount_number};
 ghost use Rattle.vt_looks.specs.Looking.{IsGround};
@@ -13,7 +13,7 @@ ghost use Rattle.vt_tasks.specs.TaskValue.{task_of};
 ghost use Rattle.vt_walk.specs.PendingTexts.{link_passed, walked_on_from};
 ghost use Rattle.vt_walk.specs.PlainWalks.{Follow, followed, last_walked, symlink_start, word_led, words_walked};
 ghost use Rattle.vt_looks.specs.Places.{last_of};
-ghost use Rattle.vt_walk.specs.WalkValue.{IsFound, IsNodeAt, here_of, here_result, named_result, step_result};
+ghost use Rattle.vt_walk.specs.WalkValue.{IsFound, IsLent, IsNodeAt, here_of, here_result, named_result, step_result, walked_result};
 
 use crate::here::{Here, MOST_TEXTS, start_of};
 use crate::upward::{Step, entered, step_up};
@@ -97,11 +97,14 @@ fn stepped<'a, L: Look>(
     word: LastWord,
 ) -> Result<Step<'a>, Deny>
     requires ground { IsGround (L.looks world.now) from.location.mount ground }
+    requires lent { IsLent (L.real world.now) from.location (option_map option_copied from.lent) }
     requires directory { IsNodeAt (L.real world.now) from.location (Some directory.now) }
     requires found { from.is_found ≡ true → is_lost nat_eq (L.looks world.now) (location_of from.location) ≡ false }
     ensures value { step_result result
         ≡ stepped nat_eq (L.looks world.now) (task_of who.now) (location_of from.location) (last_of word.entry) }
     ensures found { IfOk result (λ step. IsFound (L.looks world.now) step.location step.is_found) }
+    ensures lent { IfOk result (λ step.
+        IsLent (L.real world.now) step.location (option_map option_copied step.lent)) }
 {
     match word {
         LastWord::NoWord | LastWord::Dot => Ok(from),
@@ -156,11 +159,14 @@ fn word_led<'a, L: Look>(
     word: LastWord,
 ) -> Result<Step<'a>, Deny>
     requires ground { IsGround (L.looks world.now) from.location.mount ground }
+    requires lent { IsLent (L.real world.now) from.location (option_map option_copied from.lent) }
     requires node { IsNodeAt (L.real world.now) from.location (option_copied node) }
     requires found { IsFound (L.looks world.now) from.location from.is_found }
     ensures value { step_result result
         ≡ word_led (L.looks world.now) (task_of who.now) (location_of from.location) (last_of word.entry) }
     ensures found { IfOk result (λ step. IsFound (L.looks world.now) step.location step.is_found) }
+    ensures lent { IfOk result (λ step.
+        IsLent (L.real world.now) step.location (option_map option_copied step.lent)) }
 {
     let directory = searched(world, who, ground, from.location, node)?;
     stepped(world, who, from, ground, directory, word)
@@ -173,8 +179,9 @@ pub(crate) fn last_walked<'a, L: Look>(
     walked: Walked<'a>,
     last: LastWord,
 ) -> Result<Here, Deny>
+    requires { IsLent (L.real world.now) walked.entry.here.location (option_map option_copied walked.entry.lent) }
     ensures { here_result result
-        ≡ last_walked (L.looks world.now) (task_of who.now) (here_of here) (last_of last.entry) }
+        ≡ last_walked (L.looks world.now) (task_of who.now) (here_of walked.entry.here) (last_of last.entry) }
 {
     let Walked { here, lent } = walked;
     match last {
@@ -277,6 +284,8 @@ pub(crate) fn lent_there<'a, L: Look>(
     lent: Option<Option<&'a Node>>,
 ) -> Option<&'a Node>
     requires ground { IsGround (L.looks world.now) here.mount ground }
+    requires lent { IsLent (L.real world.now) here (option_map option_copied lent.entry) }
+    ensures { IsNodeAt (L.real world.now) here (option_copied result) }
 {
     match lent {
         Some(object) => object,
@@ -295,6 +304,8 @@ fn words_walked_to_link<'a, L: Look>(
     ensures value { (follow : Follow) → and_then result (walked_on_from (L.looks world.now) (task_of who.now) follow)
         ≡ words_walked (L.looks world.now) (task_of who.now) follow (here_of start) (reverse words.entry) }
     ensures left { IfOk result (λ reached. reached.here.left ≡ start.left) }
+    ensures lent { IfOk result (λ reached.
+        IsLent (L.real world.now) reached.here.location (option_map option_copied reached.lent)) }
 {
     let mut here = start;
     let mut ground = world.ground(start.location.mount);
@@ -346,6 +357,8 @@ fn walked_to_link<'a, L: Look>(
     ensures value { (follow : Follow) → and_then result (walked_on_from (L.looks world.now) (task_of who.now) follow)
         ≡ words_walked (L.looks world.now) (task_of who.now) follow (here_of start) (reverse words.entry) }
     ensures left { IfOk result (λ reached. reached.here.left ≡ start.left) }
+    ensures lent { IfOk result (λ reached.
+        IsLent (L.real world.now) reached.here.location (option_map option_copied reached.lent)) }
 {
     if words.is_empty() {
         return Ok(Reached {
@@ -419,8 +432,10 @@ pub(crate) fn words_walked<'a, L: Look>(
     start: Here,
     words: Words<'a>,
 ) -> Result<Walked<'a>, Deny>
-    ensures { here_result result ≡ words_walked (L.looks world.now) (task_of who.now)
+    ensures value { walked_result result ≡ words_walked (L.looks world.now) (task_of who.now)
         (followed (L.looks world.now) (task_of who.now)) (here_of start) (reverse words.entry) }
+    ensures lent { IfOk result (λ walked.
+        IsLent (L.real world.now) walked.here.location (option_map option_copied walked.lent)) }
 {
     let Reached { here, lent, link } = walked_to_link(world, who, start, words)?;
     match link {
@@ -437,8 +452,10 @@ fn symlink_walked<'a, L: Look>(
     met: Here,
     link: LinkMet<'a>,
 ) -> Result<Walked<'a>, Deny>
-    ensures { here_result result ≡ link_passed (L.looks world.now) (task_of who.now)
+    ensures value { walked_result result ≡ link_passed (L.looks world.now) (task_of who.now)
         (followed (L.looks world.now) (task_of who.now)) (here_of met) (Some link.entry) }
+    ensures lent { IfOk result (λ walked.
+        IsLent (L.real world.now) walked.here.location (option_map option_copied walked.lent)) }
 {
     let mut here = link_begun(world, who, link.directory, met, link.text)?;
     let mut lent = None;

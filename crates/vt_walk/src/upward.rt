@@ -1,5 +1,5 @@
 //! Where `..` leads: path_resolution(7), and mount_namespaces(7) for the roots of mounts.
-ghost use Rattle.std.specs.Prelude.{◌≡◌, nat_eq, option_map, false, true, IfOk};
+ghost use Rattle.std.specs.Prelude.{◌≡◌, nat_eq, option_copied, option_map, false, true, IfOk, None};
 ghost use Rattle.vt_spec.specs.Lists.{last_or};
 ghost use Rattle.vt_spec.specs.Machine.Mounts.{same_location};
 ghost use Rattle.vt_spec.specs.Machine.Looks.{topmost};
@@ -7,7 +7,7 @@ ghost use Rattle.vt_spec.specs.Machine.Walking.{hop, hops, is_lost, is_top, pare
 ghost use Rattle.vt_spec.specs.Machine.Walking.LastWord.{DotDot};
 ghost use Rattle.vt_location.specs.Locations.{location_of, number_of};
 ghost use Rattle.vt_tasks.specs.TaskValue.{task_of};
-ghost use Rattle.vt_walk.specs.WalkValue.{IsFound, step_result};
+ghost use Rattle.vt_walk.specs.WalkValue.{IsFound, IsLent, step_result};
 
 use vt_location::{Location, NodeRef};
 use vt_looks::Look;
@@ -96,9 +96,11 @@ pub(crate) fn entered<'a, L: Look>(
     is_found: bool,
     lent: Option<Option<&'a Node>>,
 ) -> Step<'a>
-    requires { IsFound (L.looks world.now) place is_found }
+    requires found { IsFound (L.looks world.now) place is_found }
+    requires lent { IsLent (L.real world.now) place (option_map option_copied lent.entry) }
     ensures location { location_of result.location ≡ topmost (L.looks world.now) (location_of place) }
     ensures found { IsFound (L.looks world.now) result.location result.is_found }
+    ensures lent { IsLent (L.real world.now) result.location (option_map option_copied result.lent) }
 {
     let location = world.topmost(place);
     let same = location.is_same(place);
@@ -122,6 +124,7 @@ pub(crate) fn step_up<'a, L: Look>(
     ensures value { step_result result
         ≡ stepped nat_eq (L.looks world.now) (task_of who.now) (location_of start) DotDot }
     ensures found { IfOk result (λ step. IsFound (L.looks world.now) step.location step.is_found) }
+    ensures none { IfOk result (λ step. step.lent ≡ None) }
 {
     let here = hopped(world, who, start);
     if is_top(world, who, here) {

@@ -1,11 +1,11 @@
 //! Walks to an object.
-ghost use Rattle.std.specs.Prelude.{◌≡◌, nat_eq, false, true, IfOk};
+ghost use Rattle.std.specs.Prelude.{◌≡◌, nat_eq, option_copied, option_map, false, true, IfOk};
 ghost use Rattle.vt_spec.specs.Machine.Looks.{is_directory_at};
 ghost use Rattle.vt_spec.specs.Machine.Rules.Mounting.{destination_walk, source_walk};
 ghost use Rattle.vt_spec.specs.Machine.Walking.{directory_walk, object_walk, symlink_walk, walk_end};
 ghost use Rattle.vt_location.specs.Locations.{location_of};
 ghost use Rattle.vt_tasks.specs.TaskValue.{task_of};
-ghost use Rattle.vt_walk.specs.WalkValue.{location_end, location_result};
+ghost use Rattle.vt_walk.specs.WalkValue.{IsLent, location_end, location_result, object_found_result};
 
 use crate::here::Here;
 use crate::steps::{
@@ -46,6 +46,10 @@ pub fn object_found_walk<'a, L: Look>(
     who: &Task,
     path: &PathText<'a>,
 ) -> Result<ObjectFound<'a>, Deny>
+    ensures value { object_found_result result
+        ≡ location_end (walk_end (object_walk nat_eq (L.looks world.now) (task_of who.now) path.now)) }
+    ensures lent { IfOk result (λ found.
+        IsLent (L.real world.now) found.location (option_map option_copied found.lent)) }
 {
     let text = path.as_bytes();
     let Walked { here, lent } =
