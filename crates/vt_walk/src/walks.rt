@@ -52,8 +52,7 @@ pub fn object_found_walk<'a, L: Look>(
         IsLent (L.real world.now) found.location (option_map option_copied found.lent)) }
 {
     let text = path.as_bytes();
-    let Walked { here, lent } =
-        words_walked(world, who, Here::at_start(who, text), path.words())?;
+    let Walked { here, lent } = words_walked(world, who, Here::at_start(who, text), path.words())?;
     asked_by_slash(world, text, here.location)?;
     Ok(ObjectFound {
         location: here.location,
