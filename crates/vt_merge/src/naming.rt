@@ -31,11 +31,75 @@ pub fn merged_names<W: Way>(
 {
     let merged = merged_dirs_at(trees, layers, path);
     let directories = merged.as_slice();
-    let mut names = all_names(alloc, trees, directories)?;
-    names.retain(|name| shows(trees, directories, name.as_slice()));
-    names.sort_unstable();
-    names.dedup();
+    let mut had = names_had(alloc, trees, directories)?;
+    had.sort_unstable();
+    let mut names = Vec::with_capacity(alloc, had.len())?;
+    for index in 0..had.len() {
+        let one = had[index];
+        if is_first(had.as_slice(), index) && is_shown_in(trees, directories[one.place], one.name) {
+            names.push(copied(alloc, one.name)?)?;
+        }
+    }
     Ok(names)
+}
+
+// A name that a merged directory has, and the place of the directory among these: of equal names the highest comes
+// first.
+#[derive(Clone, Copy, Debug, PartialEq, Eq, PartialOrd, Ord)]
+struct NameHad<'a> {
+    name: &'a [u8],
+    place: usize,
+}
+
+// Whether a name differs from the one before it.
+fn is_first(had: &[NameHad<'_>], index: usize) -> bool {
+    index == 0 || had[index - 1].name != had[index].name
+}
+
+// The names of all these directories, one directory after the other.
+fn names_had<'a>(
+    alloc: Global,
+    trees: &'a Filesystems,
+    merged: &[MergedDirectory],
+) -> Result<Vec<NameHad<'a>>, AllocError> {
+    let mut all = Vec::new(alloc);
+    for (place, top) in merged.iter().enumerate() {
+        if let Some(node) = trees.node(top.directory.node_ref()) {
+            push_names(&mut all, place, node.kept_names())?;
+        }
+    }
+    Ok(all)
+}
+
+// The names of one directory more.
+fn push_names<'a>(
+    all: &mut Vec<NameHad<'a>>,
+    place: usize,
+    names: &'a [Vec<u8>],
+) -> Result<(), AllocError> {
+    all.reserve(names.len())?;
+    for name in names {
+        all.push(NameHad {
+            name: name.as_slice(),
+            place,
+        })?;
+    }
+    Ok(())
+}
+
+// Whether what the highest directory with a name has there is shown: it is no whiteout.
+fn is_shown_in(trees: &Filesystems, top: MergedDirectory, name: &[u8]) -> bool {
+    match entry(trees.get(top.directory.filesystem), top.directory, name) {
+        Some(object) => !is_whiteout(trees, object),
+        None => false,
+    }
+}
+
+// A copy of a name.
+fn copied(alloc: Global, name: &[u8]) -> Result<Vec<u8>, AllocError> {
+    let mut copy = Vec::with_capacity(alloc, name.len())?;
+    copy.extend_from_slice(name)?;
+    Ok(copy)
 }
 
 /// Whether layers show a name in the directory at a path: ENOTEMPTY of rmdir(2). It does not allocate.
@@ -76,37 +140,6 @@ fn shows_one(trees: &Filesystems, merged: &[MergedDirectory], names: &[Vec<u8>])
         }
     }
     false
-}
-
-// The names of all these directories, one directory after the other.
-fn all_names(
-    alloc: Global,
-    trees: &Filesystems,
-    merged: &[MergedDirectory],
-) -> Result<Vec<Vec<u8>>, AllocError>
-    ensures { IfOk result (λ names. map (λ name. name.items) names.items ≡ names_had trees.now merged.now) }
-{
-    let mut all = Vec::new(alloc);
-    for top in merged {
-        let mut names = names_of(alloc, trees, top.directory)?;
-        all.append(&mut names)?;
-    }
-    Ok(all)
-}
-
-// The names of a directory.
-fn names_of(
-    alloc: Global,
-    trees: &Filesystems,
-    directory: InodeRef,
-) -> Result<Vec<Vec<u8>>, AllocError>
-    ensures { IfOk result (λ names. map (λ name. name.items) names.items
-        ≡ names_in ((files_at trees.now directory.filesystem.count).tree.node (inode_of directory))) }
-{
-    match trees.node(directory.node_ref()) {
-        Some(node) => node.names(alloc),
-        None => Ok(Vec::new(alloc)),
-    }
 }
 
 // Whether merged directories show something under a name.
