@@ -70,7 +70,7 @@ pub fn read<L: Look>(world: &L, who: &Task, path: &[u8]) -> Result<Grant, Deny>
     let ground = world.ground(file.mount);
     // The object is looked for once: in an overlay that is a walk through its layers.
     let lent = match found.lent {
-        Some(lent) => lent,
+        Some(_) => found.lent,
         None => world.node_on(ground, file),
     };
     let Some(object) = lent else {

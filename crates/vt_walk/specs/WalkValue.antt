@@ -86,9 +86,9 @@ place_end (Err deny) = Err deny
 abbrev pub IsNodeAt : (LocationMeant ℕ → Option (Node ℕ)) → Location → Option (Node ℕ) → Type 0
 IsNodeAt real location node = node ≡ real (location_of location)
 
--- what is lent already for a location, if it is
-abbrev pub IsLent : (LocationMeant ℕ → Option (Node ℕ)) → Location → Option (Option (Node ℕ)) → Type 0
-IsLent real location lent = (node : Option (Node ℕ)) → lent ≡ Some node → IsNodeAt real location node
+-- if something is lent for a location, it is this
+abbrev pub IsLent : (LocationMeant ℕ → Option (Node ℕ)) → Location → Option (Node ℕ) → Type 0
+IsLent real location lent = (node : Node ℕ) → lent ≡ Some node → IsNodeAt real location lent
 
 -- What a place always is: its object is what the last word names in its parent, which is a directory where the last
 -- word is a name.

@@ -5,7 +5,7 @@ ghost use Rattle.vt_spec.specs.FileTree.{symlink_text};
 ghost use Rattle.vt_spec.specs.Machine.Looks.{is_directory_at, mount_at};
 ghost use Rattle.vt_spec.specs.Machine.Walking.{follow_rules, is_lost, object_named, search_rules, slash_rules, stepped};
 ghost use Rattle.vt_spec.specs.PathText.{words};
-ghost use Rattle.vt_spec.specs.Tree.{entries_in, entry_named, is_directory_node};
+ghost use Rattle.vt_spec.specs.Tree.{entries_in, entry_named};
 ghost use Rattle.vt_location.specs.Locations.{location_of};
 ghost use Rattle.vt_location.specs.Numbers.{mount_number};
 ghost use Rattle.vt_looks.specs.Looking.{IsGround};
@@ -97,14 +97,14 @@ fn stepped<'a, L: Look>(
     word: LastWord,
 ) -> Result<Step<'a>, Deny>
     requires ground { IsGround (L.looks world.now) from.location.mount ground }
-    requires lent { IsLent (L.real world.now) from.location (option_map option_copied from.lent) }
+    requires lent { IsLent (L.real world.now) from.location (option_copied from.lent) }
     requires directory { IsNodeAt (L.real world.now) from.location (Some directory.now) }
     requires found { from.is_found ≡ true → is_lost nat_eq (L.looks world.now) (location_of from.location) ≡ false }
     ensures value { step_result result
         ≡ stepped nat_eq (L.looks world.now) (task_of who.now) (location_of from.location) (last_of word.entry) }
     ensures found { IfOk result (λ step. IsFound (L.looks world.now) step.location step.is_found) }
     ensures lent { IfOk result (λ step.
-        IsLent (L.real world.now) step.location (option_map option_copied step.lent)) }
+        IsLent (L.real world.now) step.location (option_copied step.lent)) }
 {
     match word {
         LastWord::NoWord | LastWord::Dot => Ok(from),
@@ -116,10 +116,10 @@ fn stepped<'a, L: Look>(
                     return Ok(Step {
                         location: entry,
                         is_found: from.is_found,
-                        lent: Some(object),
+                        lent: object,
                     });
                 }
-                Ok(entered(world, entry, from.is_found, Some(object)))
+                Ok(entered(world, entry, from.is_found, object))
             }
             None => Err(Rule::W6.denial()),
         },
@@ -159,14 +159,14 @@ fn word_led<'a, L: Look>(
     word: LastWord,
 ) -> Result<Step<'a>, Deny>
     requires ground { IsGround (L.looks world.now) from.location.mount ground }
-    requires lent { IsLent (L.real world.now) from.location (option_map option_copied from.lent) }
+    requires lent { IsLent (L.real world.now) from.location (option_copied from.lent) }
     requires node { IsNodeAt (L.real world.now) from.location (option_copied node) }
     requires found { IsFound (L.looks world.now) from.location from.is_found }
     ensures value { step_result result
         ≡ word_led (L.looks world.now) (task_of who.now) (location_of from.location) (last_of word.entry) }
     ensures found { IfOk result (λ step. IsFound (L.looks world.now) step.location step.is_found) }
     ensures lent { IfOk result (λ step.
-        IsLent (L.real world.now) step.location (option_map option_copied step.lent)) }
+        IsLent (L.real world.now) step.location (option_copied step.lent)) }
 {
     let directory = searched(world, who, ground, from.location, node)?;
     stepped(world, who, from, ground, directory, word)
@@ -179,7 +179,7 @@ pub(crate) fn last_walked<'a, L: Look>(
     walked: Walked<'a>,
     last: LastWord,
 ) -> Result<Here, Deny>
-    requires { IsLent (L.real world.now) walked.entry.here.location (option_map option_copied walked.entry.lent) }
+    requires { IsLent (L.real world.now) walked.entry.here.location (option_copied walked.entry.lent) }
     ensures { here_result result
         ≡ last_walked (L.looks world.now) (task_of who.now) (here_of walked.entry.here) (last_of last.entry) }
 {
@@ -192,7 +192,7 @@ pub(crate) fn last_walked<'a, L: Look>(
             let from = Step {
                 location: here.location,
                 is_found: false,
-                lent: Some(node),
+                lent: node,
             };
             let next = word_led(world, who, from, ground, node, last)?;
             Ok(here.moved(next.location))
@@ -264,7 +264,7 @@ struct LinkMet<'a> {
 #[derive(Debug, Drop)]
 struct Reached<'a> {
     here: Here,
-    lent: Option<Option<&'a Node>>,
+    lent: Option<&'a Node>,
     link: Option<LinkMet<'a>>,
 }
 
@@ -272,7 +272,7 @@ struct Reached<'a> {
 #[derive(Clone, Copy, Debug)]
 pub(crate) struct Walked<'a> {
     pub(crate) here: Here,
-    pub(crate) lent: Option<Option<&'a Node>>,
+    pub(crate) lent: Option<&'a Node>,
 }
 
 // The real object at a location, looked for where it is not lent yet.
@@ -281,14 +281,14 @@ pub(crate) fn lent_there<'a, L: Look>(
     world: &'a L,
     ground: Ground,
     here: Location,
-    lent: Option<Option<&'a Node>>,
+    lent: Option<&'a Node>,
 ) -> Option<&'a Node>
     requires ground { IsGround (L.looks world.now) here.mount ground }
-    requires lent { IsLent (L.real world.now) here (option_map option_copied lent.entry) }
+    requires lent { IsLent (L.real world.now) here (option_copied lent.entry) }
     ensures { IsNodeAt (L.real world.now) here (option_copied result) }
 {
     match lent {
-        Some(object) => object,
+        Some(_) => lent,
         None => world.node_on(ground, here),
     }
 }
@@ -305,7 +305,7 @@ fn words_walked_to_link<'a, L: Look>(
         ≡ words_walked (L.looks world.now) (task_of who.now) follow (here_of start) (reverse words.entry) }
     ensures left { IfOk result (λ reached. reached.here.left ≡ start.left) }
     ensures lent { IfOk result (λ reached.
-        IsLent (L.real world.now) reached.here.location (option_map option_copied reached.lent)) }
+        IsLent (L.real world.now) reached.here.location (option_copied reached.lent)) }
 {
     let mut here = start;
     let mut ground = world.ground(start.location.mount);
@@ -316,7 +316,7 @@ fn words_walked_to_link<'a, L: Look>(
         let from = Step {
             location: directory,
             is_found,
-            lent: Some(node),
+            lent: node,
         };
         let next = word_led(world, who, from, ground, node, LastWord::of(word))?;
         here = here.moved(next.location);
@@ -333,14 +333,14 @@ fn words_walked_to_link<'a, L: Look>(
             };
             return Ok(Reached {
                 here,
-                lent: Some(node),
+                lent: node,
                 link: Some(link),
             });
         }
     }
     Ok(Reached {
         here,
-        lent: Some(node),
+        lent: node,
         link: None,
     })
 }
@@ -358,7 +358,7 @@ fn walked_to_link<'a, L: Look>(
         ≡ words_walked (L.looks world.now) (task_of who.now) follow (here_of start) (reverse words.entry) }
     ensures left { IfOk result (λ reached. reached.here.left ≡ start.left) }
     ensures lent { IfOk result (λ reached.
-        IsLent (L.real world.now) reached.here.location (option_map option_copied reached.lent)) }
+        IsLent (L.real world.now) reached.here.location (option_copied reached.lent)) }
 {
     if words.is_empty() {
         return Ok(Reached {
@@ -401,15 +401,7 @@ impl<'a> Default for Pending<'a> {
 pub(crate) fn is_directory_at<L: Look>(world: &L, here: Location) -> bool
     ensures { result ≡ is_directory_at (L.looks world.now) (location_of here) }
 {
-    is_directory(world.node(here))
-}
-
-// Whether it is a directory.
-#[inline(always)]
-pub(crate) fn is_directory(node: Option<&Node>) -> bool
-    ensures { result ≡ is_directory_node (option_copied node.entry) }
-{
-    match node {
+    match world.node(here) {
         Some(node) => node.is_directory(),
         None => false,
     }
@@ -435,7 +427,7 @@ pub(crate) fn words_walked<'a, L: Look>(
     ensures value { walked_result result ≡ words_walked (L.looks world.now) (task_of who.now)
         (followed (L.looks world.now) (task_of who.now)) (here_of start) (reverse words.entry) }
     ensures lent { IfOk result (λ walked.
-        IsLent (L.real world.now) walked.here.location (option_map option_copied walked.lent)) }
+        IsLent (L.real world.now) walked.here.location (option_copied walked.lent)) }
 {
     let Reached { here, lent, link } = walked_to_link(world, who, start, words)?;
     match link {
@@ -455,7 +447,7 @@ fn symlink_walked<'a, L: Look>(
     ensures value { walked_result result ≡ link_passed (L.looks world.now) (task_of who.now)
         (followed (L.looks world.now) (task_of who.now)) (here_of met) (Some link.entry) }
     ensures lent { IfOk result (λ walked.
-        IsLent (L.real world.now) walked.here.location (option_map option_copied walked.lent)) }
+        IsLent (L.real world.now) walked.here.location (option_copied walked.lent)) }
 {
     let mut here = link_begun(world, who, link.directory, met, link.text)?;
     let mut lent = None;

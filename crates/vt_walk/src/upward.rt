@@ -21,7 +21,7 @@ use vt_tasks::Task;
 pub(crate) struct Step<'a> {
     pub(crate) location: Location,
     pub(crate) is_found: bool,
-    pub(crate) lent: Option<Option<&'a Node>>,
+    pub(crate) lent: Option<&'a Node>,
 }
 
 // Where `..` goes on from the root of a mount: its mount point. It stays at the task's root.
@@ -94,13 +94,13 @@ pub(crate) fn entered<'a, L: Look>(
     world: &L,
     place: Location,
     is_found: bool,
-    lent: Option<Option<&'a Node>>,
+    lent: Option<&'a Node>,
 ) -> Step<'a>
     requires found { IsFound (L.looks world.now) place is_found }
-    requires lent { IsLent (L.real world.now) place (option_map option_copied lent.entry) }
+    requires lent { IsLent (L.real world.now) place (option_copied lent.entry) }
     ensures location { location_of result.location ≡ topmost (L.looks world.now) (location_of place) }
     ensures found { IsFound (L.looks world.now) result.location result.is_found }
-    ensures lent { IsLent (L.real world.now) result.location (option_map option_copied result.lent) }
+    ensures lent { IsLent (L.real world.now) result.location (option_copied result.lent) }
 {
     let location = world.topmost(place);
     let same = location.is_same(place);

@@ -8,9 +8,7 @@ ghost use Rattle.vt_tasks.specs.TaskValue.{task_of};
 ghost use Rattle.vt_walk.specs.WalkValue.{IsLent, location_end, location_result, object_found_result};
 
 use crate::here::Here;
-use crate::steps::{
-    Walked, asked_by_slash, is_directory, is_directory_at, last_walked, words_walked,
-};
+use crate::steps::{Walked, asked_by_slash, is_directory_at, last_walked, words_walked};
 use crate::words::front_and_last;
 use vt_location::Location;
 use vt_looks::Look;
@@ -37,7 +35,7 @@ pub fn object_walk<L: Look>(world: &L, who: &Task, path: &PathText) -> Result<Lo
 #[derive(Clone, Copy, Debug)]
 pub struct ObjectFound<'a> {
     pub location: Location,
-    pub lent: Option<Option<&'a Node>>,
+    pub lent: Option<&'a Node>,
 }
 
 /// As `object_walk`, with the real object that was found.
@@ -49,7 +47,7 @@ pub fn object_found_walk<'a, L: Look>(
     ensures value { object_found_result result
         ≡ location_end (walk_end (object_walk nat_eq (L.looks world.now) (task_of who.now) path.now)) }
     ensures lent { IfOk result (λ found.
-        IsLent (L.real world.now) found.location (option_map option_copied found.lent)) }
+        IsLent (L.real world.now) found.location (option_copied found.lent)) }
 {
     let text = path.as_bytes();
     let Walked { here, lent } = words_walked(world, who, Here::at_start(who, text), path.words())?;
@@ -72,7 +70,7 @@ pub fn directory_walk<L: Look>(world: &L, who: &Task, path: &PathText) -> Result
     let start = Here::at_start(who, path.as_bytes());
     let Walked { here, lent } = words_walked(world, who, start, path.words())?;
     let is_directory = match lent {
-        Some(object) => is_directory(object),
+        Some(object) => object.is_directory(),
         None => is_directory_at(world, here.location),
     };
     if !is_directory {
