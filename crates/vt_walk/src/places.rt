@@ -34,7 +34,7 @@ fn placed<'a, L: Look>(
     last: LastWord<'a>,
     slash: bool,
 ) -> Result<Place<'a>, Deny>
-    requires { IsLent (L.real world.now) walked.entry.here.location (option_copied walked.entry.lent) }
+    requires { IsLent (L.real world.now) walked.here.location (option_copied walked.lent) }
     ensures value { place_result result ≡ placed (L.looks world.now) (task_of who.now)
         (location_of walked.entry.here.location) (last_of last.entry) slash }
     ensures place { IfOk result (λ place. IsPlace (L.looks world.now) (task_of who.now) place) }

@@ -101,7 +101,7 @@ fn stepped<'a, L: Look>(
     requires directory { IsNodeAt (L.real world.now) from.location (Some directory.now) }
     requires found { from.is_found ≡ true → is_lost nat_eq (L.looks world.now) (location_of from.location) ≡ false }
     ensures value { step_result result
-        ≡ stepped nat_eq (L.looks world.now) (task_of who.now) (location_of from.location) (last_of word.entry) }
+        ≡ stepped nat_eq (L.looks world.now) (task_of who.now) (location_of from.entry.location) (last_of word.entry) }
     ensures found { IfOk result (λ step. IsFound (L.looks world.now) step.location step.is_found) }
     ensures lent { IfOk result (λ step.
         IsLent (L.real world.now) step.location (option_copied step.lent)) }
@@ -163,7 +163,7 @@ fn word_led<'a, L: Look>(
     requires node { IsNodeAt (L.real world.now) from.location (option_copied node) }
     requires found { IsFound (L.looks world.now) from.location from.is_found }
     ensures value { step_result result
-        ≡ word_led (L.looks world.now) (task_of who.now) (location_of from.location) (last_of word.entry) }
+        ≡ word_led (L.looks world.now) (task_of who.now) (location_of from.entry.location) (last_of word.entry) }
     ensures found { IfOk result (λ step. IsFound (L.looks world.now) step.location step.is_found) }
     ensures lent { IfOk result (λ step.
         IsLent (L.real world.now) step.location (option_copied step.lent)) }
@@ -179,7 +179,7 @@ pub(crate) fn last_walked<'a, L: Look>(
     walked: Walked<'a>,
     last: LastWord,
 ) -> Result<Here, Deny>
-    requires { IsLent (L.real world.now) walked.entry.here.location (option_copied walked.entry.lent) }
+    requires { IsLent (L.real world.now) walked.here.location (option_copied walked.lent) }
     ensures { here_result result
         ≡ last_walked (L.looks world.now) (task_of who.now) (here_of walked.entry.here) (last_of last.entry) }
 {
@@ -284,7 +284,7 @@ pub(crate) fn lent_there<'a, L: Look>(
     lent: Option<&'a Node>,
 ) -> Option<&'a Node>
     requires ground { IsGround (L.looks world.now) here.mount ground }
-    requires lent { IsLent (L.real world.now) here (option_copied lent.entry) }
+    requires lent { IsLent (L.real world.now) here (option_copied lent) }
     ensures { IsNodeAt (L.real world.now) here (option_copied result) }
 {
     match lent {

@@ -97,7 +97,7 @@ pub(crate) fn entered<'a, L: Look>(
     lent: Option<&'a Node>,
 ) -> Step<'a>
     requires found { IsFound (L.looks world.now) place is_found }
-    requires lent { IsLent (L.real world.now) place (option_copied lent.entry) }
+    requires lent { IsLent (L.real world.now) place (option_copied lent) }
     ensures location { location_of result.location ≡ topmost (L.looks world.now) (location_of place) }
     ensures found { IsFound (L.looks world.now) result.location result.is_found }
     ensures lent { IsLent (L.real world.now) result.location (option_copied result.lent) }
