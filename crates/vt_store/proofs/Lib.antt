@@ -15,3 +15,4 @@ pub mod Scanned
 pub mod Locked
 pub mod AnyOverlay
 pub mod AnyNamed
+pub mod AloneNamed

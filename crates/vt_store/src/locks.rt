@@ -47,8 +47,28 @@ fn file_lies_in_any(plain: &Filesystems, overlays: &Overlays, file: InodeRef) ->
     overlays.have_layer_in(file.filesystem) && has_name_in_layer(plain, overlays, file)
 }
 
-// Whether a directory in a layer of one of the overlays has a name for a file. It looks at each slot of the tree.
+// Whether a directory in a layer of one of the overlays has a name for a file. Where one directory alone has a name for
+// it, the tree mostly knows which.
 fn has_name_in_layer(plain: &Filesystems, overlays: &Overlays, file: InodeRef) -> bool
+    requires { ParentsAreNamed (files_at plain.now file.filesystem.count).tree }
+    ensures { result
+        ≡ list_any (names_in_layer plain.now overlays.now file.filesystem.count (inode_of file))
+        (files_at plain.now file.filesystem.count).numbers }
+{
+    let Some(tree) = plain.get(file.filesystem) else {
+        return false;
+    };
+    tree.numbers_fit();
+    match tree.directory_of(file.node()) {
+        Some(directory) => {
+            overlays.have_layer_over(plain, InodeRef::new(file.filesystem, directory))
+        }
+        None => finds_name_in_layer(plain, overlays, file),
+    }
+}
+
+// Whether a directory in a layer of one of the overlays has a name for a file. It looks at each slot of the tree.
+fn finds_name_in_layer(plain: &Filesystems, overlays: &Overlays, file: InodeRef) -> bool
     requires { ParentsAreNamed (files_at plain.now file.filesystem.count).tree }
     ensures { result
         ≡ list_any (names_in_layer plain.now overlays.now file.filesystem.count (inode_of file))
