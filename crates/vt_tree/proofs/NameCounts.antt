@@ -4,7 +4,7 @@ use Rattle.std.proofs.lemmas.Bool.{and_parts}
 use Rattle.std.proofs.lemmas.Bool.Decides.{eqb_tells}
 use Rattle.std.specs.Cmp.Lexicographic.{nat_list_cmp_total, texts_ties, bytes_decides}
 use Rattle.std.specs.FinMap.Entries.{below_all, by_order, is_sorted}
-use Rattle.std.specs.Ordering.{is_eq, is_lt}
+use Rattle.std.specs.Ordering.{eq_by_cmp, is_eq, is_lt}
 use Rattle.std.specs.Str.{bytes_eq}
 use Rattle.std.specs.declared.cmp.Ordering.{Ordering}
 use Rattle.std.specs.declared.cmp.Ordering.TheVariants.{Less, Equal, Greater}
@@ -13,6 +13,7 @@ use Rattle.vt_spec.specs.FileTree.{targets_in}
 use Rattle.vt_spec.specs.Lists.{is_among}
 use Rattle.vt_spec.specs.Tree.{Content, Entries, Node, Tree, entries_in, entries_of, entry_named, name_cmp, node_with_entry, with_entries, with_entry}
 use Rattle.vt_spec.specs.Tree.Content.{Directory, Regular, Symlink, Whiteout}
+use Rattle.vt_spec.proofs.Nodes.{entry_named-with_entry}
 use Rattle.vt_spec.proofs.NodeChanges.{entries-node_without_entry, entry_named-below}
 use Rattle.vt_tree.specs.Names.{NamesAtMost, how_often, names_at, names_below}
 
@@ -72,30 +73,20 @@ often_put number name object (entry ∷ rest) sorted =
     by Greater e later = omega arith
 
 -- an entry less
-pub often_without : (number : ℕ) (name : List ℕ) (entries : Entries ℕ) → is_sorted name_cmp entries ≡ true
+pub often_without : (number : ℕ) (name : List ℕ) (entries : Entries ℕ)
     → how_often number (targets (without_entry name entries)) + one_if_some number (entry_named name entries)
-    ≡ how_often number (targets entries)
-often_without number name [] sorted = omega arith
-often_without number name (entry ∷ rest) sorted =
-    by (bytes_eq entry.0 name) refl (is_eq (name_cmp name entry.0)) refl (often_without number name rest parts.1)
+    ≤ how_often number (targets entries)
+often_without number name [] = omega arith
+often_without number name (entry ∷ rest) =
+    by (bytes_eq entry.0 name) refl (is_eq (name_cmp name entry.0)) refl (often_without number name rest)
   where
-    parts : (below_all name_cmp entry.0 rest ≡ true) × (is_sorted name_cmp rest ≡ true)
-    parts = and_parts (below_all name_cmp entry.0 rest) (is_sorted name_cmp rest) sorted
-
     by : (b : Bool) → bytes_eq entry.0 name ≡ b → (c : Bool) → is_eq (name_cmp name entry.0) ≡ c
         → how_often number (targets (without_entry name rest)) + one_if_some number (entry_named name rest)
-        ≡ how_often number (targets rest)
+        ≤ how_often number (targets rest)
         → how_often number (targets (cond (not b) (entry ∷ without_entry name rest) (without_entry name rest)))
         + one_if_some number (cond c (Some entry.1) (entry_named name rest))
-        ≡ one_if number entry.1 + how_often number (targets rest)
-    by true e true f later =
-        let same : entry.0 ≡ name = (bytes_decides entry.0 name).0 e in
-        let none : entry_named name rest ≡ None =
-        entry_named-below name rest (subst (λ n. below_all name_cmp n rest ≡ true) same parts.0) in
-        let all : how_often number (targets (without_entry name rest)) + 0 ≡ how_often number (targets rest) =
-        subst (λ o. how_often number (targets (without_entry name rest)) + one_if_some number o ≡ how_often number
-        (targets rest)) none later in
-        omega arith
+        ≤ one_if number entry.1 + how_often number (targets rest)
+    by true e true f later = omega arith
     by true e false f later =
         let same : name ≡ entry.0 = sym ((bytes_decides entry.0 name).0 e) in
         absurd (true≢false (sym (sym (texts_ties name entry.0) ∙ (bytes_decides name entry.0).1 same) ∙ f))
@@ -124,14 +115,34 @@ put_in_node number name object (Some node) sorted = by node.content sorted
     by Whiteout sorted = omega arith
 
 pub taken_from_node : (number : ℕ) (name : List ℕ) (node : Option (Node ℕ))
-    → is_sorted name_cmp (entries_in node) ≡ true
     → how_often number (targets_in (node_without_entry name node))
     + one_if_some number (entry_named name (entries_in node))
-    ≡ how_often number (targets_in node)
-taken_from_node number name node sorted =
-    ap (λ entries. how_often number (targets entries) + one_if_some number (entry_named name (entries_in node)))
-    (entries-node_without_entry name node)
-    ∙ often_without number name (entries_in node) sorted
+    ≤ how_often number (targets_in node)
+taken_from_node number name node =
+    subst (λ entries. how_often number (targets entries) + one_if_some number (entry_named name (entries_in node))
+    ≤ how_often number (targets_in node))
+    (sym (entries-node_without_entry name node)) (often_without number name (entries_in node))
+
+-- the entry that leads to an object leads to it still, once another entry does
+pub named_in_node : (name other : List ℕ) (object : ℕ) (node : Option (Node ℕ))
+    → entry_named name (entries_in node) ≡ Some object
+    → entry_named name (entries_in (node_with_entry other object node)) ≡ Some object
+named_in_node name other object None named = named
+named_in_node name other object (Some node) named = by node.content named
+  where
+    either : (b : Bool) (o : Option ℕ) → o ≡ Some object → cond b (Some object) o ≡ Some object
+    either true o e = refl
+    either false o e = e
+
+    by : (content : Content ℕ) → entry_named name (entries_of content) ≡ Some object
+        → entry_named name (entries_of (with_entries content (with_entry other object (entries_of content))))
+        ≡ Some object
+    by (Directory parent entries opaque) e =
+        entry_named-with_entry name other object entries
+        ∙ either (eq_by_cmp name_cmp name other) (entry_named name entries) e
+    by (Regular bytes) e = e
+    by (Symlink text) e = e
+    by Whiteout e = e
 
 -- a name is one at least
 pub among_often : (number : ℕ) (list : List ℕ) → is_among nat_eq number list ≡ true → 1 ≤ how_often number list

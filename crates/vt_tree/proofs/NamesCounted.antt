@@ -17,7 +17,7 @@ count_kept items object none within = get_or-map (λ (named : Named). named.coun
 pub count_past : (items : List Named) (object : ℕ) → length items ≤ object → count_of (counts items) object ≡ 0
 count_past items object past =
     let long : length (counts items) ≤ object =
-    let same : length (counts items) ≡ length items = length-map (λ (named : Named). named.count) items in
+    let same : length (counts items) ≡ length items = length-map items (λ (named : Named). named.count) in
     omega (arith, same, past) in
     get_or_past (counts items) object 0 long
 
@@ -54,7 +54,7 @@ count_written items object named within = λ i other. at other i
   where
     long : object < length (counts items)
     long =
-        let same : length (counts items) ≡ length items = length-map (λ (named : Named). named.count) items in
+        let same : length (counts items) ≡ length items = length-map items (λ (named : Named). named.count) in
         omega (arith, same, within)
 
     written : counts (slice_set items object named) ≡ slice_set (counts items) object named.count

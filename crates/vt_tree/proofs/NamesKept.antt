@@ -1,14 +1,16 @@
 -- Counts of names, once a tree has changed.
-use Rattle.std.proofs.Common.{◌≡◌, ◌≢◌, refl, sym, ap, subst, ◌∙◌, ⊎_elim, ℕ, ◌+◌, ◌-◌, ◌≤◌, nat_eq, nat_le, eq-eqb, ne_eqb, Bool, true, false, cond, List, [], Option, Some, None, arith}
+use Rattle.std.proofs.Common.{◌≡◌, ◌≢◌, refl, sym, ap, subst, ◌∙◌, ⊎_elim, ◌⊎◌, inl, inr, ℕ, zero, suc, ◌+◌, ◌-◌, ◌≤◌, nat_eq, nat_le, eq-eqb, ne_eqb, Bool, true, false, cond, List, [], Option, Some, None, arith}
 use Rattle.std.proofs.lemmas.Bool.Decides.{eqb_tells}
 use Rattle.std.specs.FinMap.Entries.{is_sorted}
 use Rattle.vt_spec.specs.FileTree.{targets_in}
 use Rattle.vt_spec.specs.Inodes.{Inode, Inodes, inode_with_node, node_in, pinned, tree_of, unpinned, used_once_less, used_once_more, with_changed, with_inode, without_replaced}
 use Rattle.vt_spec.specs.Language.Changes.{node_with_parent, node_without_entry}
-use Rattle.vt_spec.specs.Tree.{Node, Tree, entries_in, entries_of, entry_named, name_cmp, node_with_entry}
+use Rattle.vt_spec.specs.Rights.{is_directory}
+use Rattle.vt_spec.specs.Tree.Content.{Directory, Regular, Symlink, Whiteout}
+use Rattle.vt_spec.specs.Tree.{Content, Node, Tree, kind_of, new_directory, entries_in, entries_of, entry_named, name_cmp, node_with_entry}
 use Rattle.vt_spec.proofs.NodeChanges.{entries-node_with_parent}
-use Rattle.vt_tree.proofs.NameCounts.{most_changed, most_kept, most_weaker, one_if, one_if_some, put_in_node, taken_from_node, targets}
-use Rattle.vt_tree.specs.Names.{NamesAtMost, how_often, names_at}
+use Rattle.vt_tree.proofs.NameCounts.{most_changed, most_kept, most_weaker, named_in_node, one_if, one_if_some, put_in_node, taken_from_node, targets}
+use Rattle.vt_tree.specs.Names.{NamesAtMost, how_often, names_at, names_below}
 use Rattle.vt_tree.specs.Slots.{put_at}
 
 -- What one more and one less are
@@ -145,40 +147,91 @@ name_more inodes directory name object most sorted counted =
 
 -- an entry less
 taken_from_inode : (name : List ℕ) (number : ℕ) (inode : Option (Inode ℕ))
-    → is_sorted name_cmp (entries_in (node_in inode)) ≡ true
     → how_often number (targets_in (node_in (inode_with_node (node_without_entry name (node_in inode)) inode)))
     + one_if_some number (entry_named name (entries_in (node_in inode)))
     ≤ how_often number (targets_in (node_in inode)) + 0
-taken_from_inode name number None sorted = omega arith
-taken_from_inode name number (Some inode) sorted =
-    let same = taken_from_node number name (Some inode.node) sorted in omega arith
+taken_from_inode name number None = omega arith
+taken_from_inode name number (Some inode) =
+    let fewer = taken_from_node number name (Some inode.node) in omega arith
 
 pub entry_less : (inodes : Inodes ℕ) (directory : ℕ) (name : List ℕ) (object : ℕ) (most : ℕ → ℕ)
-    → is_sorted name_cmp (entries_in (node_in (inodes.inode directory))) ≡ true
     → entry_named name (entries_in (node_in (inodes.inode directory))) ≡ Some object
     → NamesAtMost (tree_of inodes) most
     → NamesAtMost (tree_of (with_changed nat_eq inodes directory (node_without_entry name)))
     (λ other. most other - one_if other object)
-entry_less inodes directory name object most sorted named counted =
+entry_less inodes directory name object most named counted =
     most_weaker (tree_of (with_changed nat_eq inodes directory (node_without_entry name))) _ _
     (inode_changes inodes directory _ most (λ other. 0)
     (λ other. one_if_some other (entry_named name (entries_in (node_in (inodes.inode directory))))) counted
-    (λ other. taken_from_inode name other (inodes.inode directory) sorted))
+    (λ other. taken_from_inode name other (inodes.inode directory)))
     (λ other.
     let one : one_if_some other (entry_named name (entries_in (node_in (inodes.inode directory)))) ≡ one_if other object =
     ap (one_if_some other) named in
     omega arith)
 
 pub name_less : (inodes : Inodes ℕ) (directory : ℕ) (name : List ℕ) (object : ℕ) (most : ℕ → ℕ)
-    → is_sorted name_cmp (entries_in (node_in (inodes.inode directory))) ≡ true
     → entry_named name (entries_in (node_in (inodes.inode directory))) ≡ Some object
     → NamesAtMost (tree_of inodes) most
     → NamesAtMost (tree_of (with_changed nat_eq inodes directory (node_without_entry name)))
     (put_at most object (most object - 1))
-name_less inodes directory name object most sorted named counted =
+name_less inodes directory name object most named counted =
     most_weaker (tree_of (with_changed nat_eq inodes directory (node_without_entry name))) _ _
-    (entry_less inodes directory name object most sorted named counted)
+    (entry_less inodes directory name object most named counted)
     (λ other. less_counted most object other)
+
+-- a name that an object keeps while it gets another
+named_inode : (name other : List ℕ) (object : ℕ) (inode : Option (Inode ℕ))
+    → entry_named name (entries_in (node_in inode)) ≡ Some object
+    → entry_named name (entries_in (node_in (inode_with_node (node_with_entry other object (node_in inode)) inode)))
+    ≡ Some object
+named_inode name other object None named = named
+named_inode name other object (Some inode) named = named_in_node name other object (Some inode.node) named
+
+named_still : (inodes : Inodes ℕ) (from to : ℕ) (name other : List ℕ) (object : ℕ)
+    → entry_named name (entries_in (node_in (inodes.inode from))) ≡ Some object
+    → entry_named name (entries_in (node_in ((with_changed nat_eq inodes to (node_with_entry other object)).inode from)))
+    ≡ Some object
+named_still inodes from to name other object named =
+    ⊎_elim
+    (λ t.
+    ap (λ b. entry_named name (entries_in (node_in (cond b
+    (inode_with_node (node_with_entry other object (node_in (inodes.inode to))) (inodes.inode to)) (inodes.inode from)))))
+    t.0
+    ∙ named_inode name other object (inodes.inode to)
+    (ap (λ n. entry_named name (entries_in (node_in (inodes.inode n)))) (sym t.1) ∙ named))
+    (λ t.
+    ap (λ b. entry_named name (entries_in (node_in (cond b
+    (inode_with_node (node_with_entry other object (node_in (inodes.inode to))) (inodes.inode to)) (inodes.inode from)))))
+    t.0
+    ∙ named)
+    (eqb_tells from to)
+
+-- an object with another name for one that it had, where another object may lose one
+pub name_moved : (inodes : Inodes ℕ) (from to : ℕ) (name other : List ℕ) (object : ℕ) (most : ℕ → ℕ)
+    → is_sorted name_cmp (entries_in (node_in (inodes.inode to))) ≡ true
+    → entry_named name (entries_in (node_in (inodes.inode from))) ≡ Some object
+    → NamesAtMost (tree_of inodes) most
+    → NamesAtMost (tree_of (with_changed nat_eq
+    (with_changed nat_eq (with_changed nat_eq inodes to (node_with_entry other object)) from (node_without_entry name))
+    object (node_with_parent to)))
+    (λ number. most number - one_if_some number (entry_named other (entries_in (node_in (inodes.inode to)))))
+name_moved inodes from to name other object most sorted named counted =
+    let entered = with_changed nat_eq inodes to (node_with_entry other object) in
+    let taken = with_changed nat_eq entered from (node_without_entry name) in
+    change_keeps taken object (node_with_parent to) _ (entries-node_with_parent to)
+    (most_weaker (tree_of taken) _ _
+    (entry_less entered from name object _ (named_still inodes from to name other object named)
+    (entry_more inodes to other object most sorted counted))
+    (λ number. omega arith))
+
+-- what had the new name has one less
+pub replaced_counted : (most : ℕ → ℕ) (found : Option ℕ) (other number : ℕ) → found ≡ Some other
+    → most number - one_if_some number found ≤ put_at most other (most other - 1) number
+replaced_counted most found other number is =
+    let one : one_if_some number found ≡ one_if number other = ap (one_if_some number) is in
+    let less : most number - one_if number other ≤ put_at most other (most other - 1) number =
+    less_counted most other number in
+    omega arith
 
 -- uses alone
 pub pin_keeps : (inodes : Inodes ℕ) (object : ℕ) (most : ℕ → ℕ)
@@ -228,3 +281,24 @@ new_keeps inodes new made node most inserted empty counted =
     let none : how_often object (targets_in (Some node)) ≡ 0 =
     ap (λ entries. how_often object (targets entries)) empty in
     omega arith))
+
+-- a tree without names
+pub none_named : (tree : Tree ℕ) (most : ℕ → ℕ) → ((number : ℕ) → tree.node number ≡ None) → NamesAtMost tree most
+none_named tree most none object bound =
+    let few : names_below tree object bound ≤ 0 = by bound in omega arith
+  where
+    by : (bound : ℕ) → names_below tree object bound ≤ 0
+    by zero = omega arith
+    by (suc bound) =
+        let rest : names_below tree object bound ≤ 0 = by bound in
+        let last : names_at tree object bound ≡ 0 = ap (λ o. how_often object (targets_in o)) (none bound) in
+        omega arith
+
+-- a new node has no entries
+pub no_entries : (directory : ℕ) (content : Content ℕ)
+    → (content ≡ new_directory directory) ⊎ (is_directory (kind_of content) ≡ false) → entries_of content ≡ []
+no_entries directory (Directory parent entries opaque) (inl e) = ap entries_of e
+no_entries directory (Directory parent entries opaque) (inr e) = cc
+no_entries directory (Regular bytes) e = refl
+no_entries directory (Symlink text) e = refl
+no_entries directory Whiteout e = refl

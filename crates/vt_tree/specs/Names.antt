@@ -13,7 +13,7 @@ abbrev pub HasRoom : List ℕ → ℕ → Type 0
 HasRoom counts object = (object < length counts) × (count_of counts object < most_uses)
 
 -- how often an object stands among those that names lead to
-pub how_often : ℕ → List ℕ → ℕ
+abbrev pub how_often : ℕ → List ℕ → ℕ
 how_often object [] = 0
 how_often object (other ∷ rest) = (if nat_eq object other then 1 else 0) + how_often object rest
 
@@ -22,7 +22,7 @@ abbrev pub names_at : Tree ℕ → ℕ → ℕ → ℕ
 names_at tree object directory = how_often object (targets_in (tree.node directory))
 
 -- how many names do in all directories whose numbers are below a bound
-pub names_below : Tree ℕ → ℕ → ℕ → ℕ
+abbrev pub names_below : Tree ℕ → ℕ → ℕ → ℕ
 names_below tree object zero = 0
 names_below tree object (suc bound) = names_below tree object bound + names_at tree object bound
 
