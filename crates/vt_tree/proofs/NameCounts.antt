@@ -4,10 +4,12 @@ use Rattle.std.proofs.lemmas.Bool.{and_parts}
 use Rattle.std.proofs.lemmas.Bool.Decides.{eqb_tells}
 use Rattle.std.specs.Cmp.Lexicographic.{nat_list_cmp_total, texts_ties, bytes_decides}
 use Rattle.std.specs.FinMap.Entries.{below_all, by_order, is_sorted}
+use Rattle.std.specs.Prelude.{find, is_some, option_map}
 use Rattle.std.specs.Ordering.{eq_by_cmp, is_eq, is_lt}
 use Rattle.std.specs.Str.{bytes_eq}
 use Rattle.std.specs.declared.cmp.Ordering.{Ordering}
 use Rattle.std.specs.declared.cmp.Ordering.TheVariants.{Less, Equal, Greater}
+use Rattle.vt_node.specs.Ranks.{has_rank, rank_among}
 use Rattle.vt_spec.specs.Language.Changes.{node_without_entry, without_entry}
 use Rattle.vt_spec.specs.FileTree.{targets_in}
 use Rattle.vt_spec.specs.Lists.{is_among}
@@ -191,11 +193,18 @@ below_changed old new object place more less (suc bound) below others here =
 -- more directories have no fewer names
 pub below_grows : (tree : Tree ℕ) (object bound more : ℕ)
     → names_below tree object bound ≤ names_below tree object (more + bound)
-below_grows tree object bound zero = omega arith
+below_grows tree object bound zero =
+    let sum : 0 + bound ≡ bound = omega arith in
+    let same : names_below tree object (0 + bound) ≡ names_below tree object bound = ap (names_below tree object) sum in
+    omega (arith, same)
 below_grows tree object bound (suc more) =
     let rest : names_below tree object bound ≤ names_below tree object (more + bound) =
     below_grows tree object bound more in
-    omega arith
+    let sum : suc more + bound ≡ suc (more + bound) = omega arith in
+    let next : names_below tree object (suc more + bound)
+    ≡ names_below tree object (more + bound) + names_at tree object (more + bound) =
+    ap (names_below tree object) sum in
+    omega (arith, rest, next)
 
 -- a directory has no more of them than all
 pub at_below : (tree : Tree ℕ) (object directory bound : ℕ) → directory < bound
@@ -290,3 +299,20 @@ alone tree most object directory other counted one first second =
     let all : names_below tree object bound ≤ most object = counted object bound in
     absurd (omega arith))
     (eqb_tells other directory)
+
+-- a name of a rank is an entry
+pub ranked_among : (all : Entries ℕ) (id rank : ℕ) (entries : Entries ℕ)
+    → is_some (option_map (λ (entry : List ℕ × ℕ). entry.0) (find (has_rank all id rank) entries)) ≡ true
+    → is_among nat_eq id (targets entries) ≡ true
+ranked_among all id rank [] some = absurd (true≢false (sym some))
+ranked_among all id rank (entry ∷ rest) some =
+    by (nat_eq id entry.1) (nat_eq rank (rank_among all entry.0 id)) some (ranked_among all id rank rest)
+  where
+    by : (b c : Bool)
+        → is_some (option_map (λ (entry : List ℕ × ℕ). entry.0)
+        (cond (b && c) (Some entry) (find (has_rank all id rank) rest))) ≡ true
+        → (is_some (option_map (λ (entry : List ℕ × ℕ). entry.0) (find (has_rank all id rank) rest)) ≡ true
+        → is_among nat_eq id (targets rest) ≡ true)
+        → (b || is_among nat_eq id (targets rest)) ≡ true
+    by true c some later = refl
+    by false c some later = later some

@@ -1,11 +1,29 @@
 use Rattle.std.proofs.Common.{arith, ap, option_copied, sym, ◌<◌, ◌∙◌, ◌≡◌}
 use Rattle.std.specs.List.{list_any}
 use Rattle.vt_location.proofs.NumberLemmas.{exchanged_slot}
-use Rattle.vt_location.specs.Numbers.{inode_number}
+use Rattle.vt_location.specs.Locations.{inode_of}
 use Rattle.vt_location.specs.declared.locations.InodeRef.{InodeRef}
+use Rattle.vt_spec.specs.Inodes.{node_in}
 use Rattle.vt_store.proofs.AloneNamed.{alone_decides, alone_small}
 use Rattle.vt_store.proofs.locks.has_name_in_layer.Goals as goal
 use Rattle.vt_store.specs.Locks.{directory_lies_in_overlay}
 
+-- the directory that alone has a name for the file
 pub returns-in-Some : goal.returns-in-Some
-returns-in-Some c = ?
+returns-in-Some c =
+    let plain = c.args.plain.now in
+    let overlays = c.args.overlays.now in
+    let count = c.args.file.filesystem.count in
+    let tree = c.in-Some.tree.now in
+    let directory = c.in-Some-2.directory in
+    let is = sym (ap option_copied c.in-Some.is) ∙ c.get.ensures in
+    let file : c.node.result < 18446744073709551616 = let h = c.node.type_inv in omega (arith, h) in
+    let alone = c.in-Some-2.ensures in
+    let small : directory < 18446744073709551616 =
+    alone_small plain overlays count tree is c.node.result file directory alone
+    (λ id large. ap node_in (c.numbers_fit.ensures.numbers id large)) in
+    c.have_layer_over.ensures
+    ∙ (λ i. list_any (directory_lies_in_overlay plain (c.new.ensures i).filesystem.count (inode_of (c.new.ensures i)))
+    overlays)
+    ∙ ap (λ n. list_any (directory_lies_in_overlay plain count n) overlays) (sym (exchanged_slot count directory small))
+    ∙ alone_decides plain overlays count tree is c.node.result file directory alone

@@ -63,12 +63,14 @@ counted : (c : After-set_parent) → NamesAtMost (nodes_of (inodes_in c.self.ins
 counted c =
     let before = inodes_in c.self.inside.root c.self.inside.slots in
     let named = ap (λ value. entry_at (tree_of value) c.args.from c.args.old.now) c.self.view_is ∙ c.requires.named in
-    subst (λ inodes. NamesAtMost (nodes_of inodes) _) (sym (c.set_parent.ensures.set c.self.inside.root))
-    (subst (λ inodes. NamesAtMost (nodes_of (with_changed nat_eq inodes c.args.object (node_with_parent c.args.to))) _)
+    let left : ℕ → ℕ = λ number. count_of c.self.inside.names number
+    - one_if_some number (entry_at (tree_of c.args.self.now) c.args.to c.args.new.items) in
+    subst (λ inodes. NamesAtMost (nodes_of inodes) left) (sym (c.set_parent.ensures.set c.self.inside.root))
+    (subst (λ inodes. NamesAtMost (nodes_of (with_changed nat_eq inodes c.args.object (node_with_parent c.args.to))) left)
     (sym (c.remove_entry.ensures.removed c.self.inside.root))
     (subst (λ inodes. NamesAtMost (nodes_of (with_changed nat_eq
     (with_changed nat_eq inodes c.args.from (node_without_entry c.args.old.now)) c.args.object
-    (node_with_parent c.args.to))) _)
+    (node_with_parent c.args.to))) left)
     (sym (c.in_ok-insert_entry.ensures.ok c.self.inside.root))
     (subst (λ value. NamesAtMost (nodes_of (with_changed nat_eq
     (with_changed nat_eq (with_changed nat_eq before c.args.to (node_with_entry c.args.new.items c.args.object))
@@ -84,7 +86,8 @@ invariant_of-self-in-Some c =
     subst (λ most. NamesAtMost (nodes_of (inodes_in c.self.inside.root c.remove_object.new.slots)) most)
     (sym (c.take.ensures ∙ ap (λ counts. put_at (count_of counts) c.in-Some.other (count_of counts c.in-Some.other - 1))
     c.move_to.ensures))
-    (subst (λ inodes. NamesAtMost (nodes_of inodes) _) (sym (c.remove_object.ensures.removed c.self.inside.root))
+    (subst (λ inodes. NamesAtMost (nodes_of inodes) (put_at (count_of c.self.inside.names) c.in-Some.other
+    (count_of c.self.inside.names c.in-Some.other - 1))) (sym (c.remove_object.ensures.removed c.self.inside.root))
     (replaced_keeps (inodes_in c.self.inside.root c.set_parent.new.slots) c.in-Some.other _
     (most_weaker (nodes_of (inodes_in c.self.inside.root c.set_parent.new.slots)) _ _ (counted path)
     (λ number. replaced_counted (count_of c.self.inside.names) _ c.in-Some.other number
