@@ -22,6 +22,8 @@ returns c =
     ap (λ o. is_among nat_eq c.args.object (targets_in o))
     (sym c.get.ensures ∙ ap option_copied c.in_ok-get.was)
     ∙ ranked_among (entries_of node.content) c.args.object 0 (entries_of node.content) ranked in
-    subst (λ value. AloneNames (tree_of value) c.args.object c.in_ok-directory.directory) c.self.view_is
-    (named, λ other also. alone tree (count_of c.self.inside.names) c.args.object c.in_ok-directory.directory other
-    c.self.invariant c.in_ok-directory.ensures named also)
+    subst (λ value. AloneNames (tree_of value) c.args.object c.in_ok-directory.directory) c.self.view_is (
+      named,
+      λ other also. alone tree (count_of c.self.inside.names) c.args.object c.in_ok-directory.directory other
+          c.self.invariant c.in_ok-directory.ensures named also,
+    )
