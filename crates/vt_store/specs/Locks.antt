@@ -29,6 +29,14 @@ stands_in count layer = nat_eq count layer.directory.filesystem.count
 abbrev pub overlay_stands_in : ℕ → OverlayEntry → Bool
 overlay_stands_in count entry = list_any (stands_in count) entry.overlay.lowers
 
+-- a directory is that of a layer
+abbrev pub stands_at : ℕ → ℕ → LayerRef → Bool
+stands_at count directory layer =
+    nat_eq count layer.directory.filesystem.count && nat_eq (inode_of layer.directory) directory
+
+abbrev pub overlay_stands_at : ℕ → ℕ → OverlayEntry → Bool
+overlay_stands_at count directory entry = list_any (stands_at count directory) entry.overlay.lowers
+
 -- a directory is that of a layer, or lies under it
 abbrev pub directory_lies_in : Filesystems → ℕ → ℕ → LayerRef → Bool
 directory_lies_in plain count directory layer =

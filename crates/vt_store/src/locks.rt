@@ -1,11 +1,10 @@
 //! What lies in layers of overlays, and is locked: the kernel's overlayfs document, "changes to underlying filesystems".
-ghost use Rattle.std.specs.Prelude.{◌≡◌, nat_eq};
+ghost use Rattle.std.specs.Prelude.{◌≡◌};
 ghost use Rattle.std.specs.List.{list_any};
-ghost use Rattle.vt_spec.specs.FileTree.{is_directory_under};
 ghost use Rattle.vt_location.specs.Locations.{inode_of};
 ghost use Rattle.vt_fs.specs.FilesystemsValue.{files_at};
 ghost use Rattle.vt_fs.specs.Laws.{ParentsAreNamed};
-ghost use Rattle.vt_store.specs.Locks.{directory_lies_in, file_lies_in_overlay, is_in_layer, lies_in_overlay, names_in_layer, stands_in};
+ghost use Rattle.vt_store.specs.Locks.{file_lies_in_overlay, is_in_layer, lies_in_overlay, names_in_layer, stands_at, stands_in};
 
 use crate::overlays::Overlays;
 use crate::store::Store;
@@ -130,32 +129,9 @@ pub(crate) fn one_stands_in(layers: &[LayerRef], filesystem: FilesystemId) -> bo
         .any(|layer| filesystem == layer.directory.filesystem)
 }
 
-/// Whether a directory lies in one of these layers.
-pub(crate) fn lies_in_one(plain: &Filesystems, layers: &[LayerRef], directory: InodeRef) -> bool
-    requires { ParentsAreNamed (files_at plain.now directory.filesystem.count).tree }
-    ensures { result
-        ≡ list_any (directory_lies_in plain.now directory.filesystem.count (inode_of directory)) layers.now }
+/// Whether a directory is that of one of these layers.
+pub(crate) fn one_stands_at(layers: &[LayerRef], directory: InodeRef) -> bool
+    ensures { result ≡ list_any (stands_at directory.filesystem.count (inode_of directory)) layers.now }
 {
-    layers.iter().any(|layer| lies_in(plain, *layer, directory))
-}
-
-// Whether a directory lies in a layer.
-fn lies_in(plain: &Filesystems, layer: LayerRef, directory: InodeRef) -> bool
-    requires { ParentsAreNamed (files_at plain.now directory.filesystem.count).tree }
-    ensures { result
-        ≡ directory_lies_in plain.now directory.filesystem.count (inode_of directory) layer }
-{
-    directory.filesystem == layer.directory.filesystem
-        && lies_under(plain, layer.directory, directory)
-}
-
-// Whether a directory is at or under another.
-fn lies_under(plain: &Filesystems, top: InodeRef, directory: InodeRef) -> bool
-    requires named { ParentsAreNamed (files_at plain.now directory.filesystem.count).tree }
-    requires one_filesystem { top.filesystem ≡ directory.filesystem }
-    ensures { result
-        ≡ is_directory_under nat_eq (files_at plain.now directory.filesystem.count) (inode_of top)
-        (inode_of directory) }
-{
-    plain.is_under(top.node_ref(), directory.node_ref())
+    layers.iter().any(|layer| directory == layer.directory)
 }

@@ -7,7 +7,7 @@ ghost use Rattle.vt_fs.specs.FilesystemsValue.{files_at};
 ghost use Rattle.vt_fs.specs.Laws.{ParentsAreNamed};
 ghost use Rattle.vt_tree.specs.Slots.{most_uses};
 
-use crate::locks::{lies_in_one, one_stands_in};
+use crate::locks::{one_stands_at, one_stands_in};
 use indexmap::IndexMap;
 use std::alloc::{AllocError, Global};
 use std::marker::Model;
@@ -68,7 +68,7 @@ impl Model for Overlays {
 
 impl Overlays {
     ghost use Rattle.vt_store.specs.LayersHeld.{new_overlay};
-    ghost use Rattle.vt_store.specs.Locks.{directory_lies_in_overlay, overlay_stands_in};
+    ghost use Rattle.vt_store.specs.Locks.{directory_lies_in_overlay, overlay_stands_at, overlay_stands_in};
     ghost use Rattle.vt_store.specs.OverlaysValue.{entry_kept, overlay_of, with_overlay_changed, without_overlay};
 
     /// No overlays. It does not allocate.
@@ -170,15 +170,38 @@ impl Overlays {
         false
     }
 
-    /// Whether a directory of a plain tree lies in a layer of one of them.
+    /// Whether a directory of a plain tree lies in a layer of one of them: it or a directory above it is that of a layer.
     pub fn have_layer_over(&self, plain: &Filesystems, directory: InodeRef) -> bool
         requires { ParentsAreNamed (files_at plain.now directory.filesystem.count).tree }
         ensures { result
             ≡ list_any (directory_lies_in_overlay plain.now directory.filesystem.count (inode_of directory)) self.now }
     {
+        let filesystem = directory.filesystem;
+        let Some(tree) = plain.get(filesystem) else {
+            return self.have_layer_at(directory);
+        };
+        let mut here = directory.node();
+        let mut left = tree.len();
+        while left > 0 {
+            if self.have_layer_at(InodeRef::new(filesystem, here)) {
+                return true;
+            }
+            if here == tree.root() {
+                return false;
+            }
+            here = tree.parent(here);
+            left -= 1;
+        }
+        self.have_layer_at(InodeRef::new(filesystem, here))
+    }
+
+    // Whether a directory is that of a layer of one of them.
+    fn have_layer_at(&self, directory: InodeRef) -> bool
+        ensures { result ≡ list_any (overlay_stands_at directory.filesystem.count (inode_of directory)) self.now }
+    {
         for index in 0..self.by_number.len() {
             if let Some((_, kept)) = self.by_number.get_index(index) {
-                if lies_in_one(plain, kept.overlay.lowers(), directory) {
+                if one_stands_at(kept.overlay.lowers(), directory) {
                     return true;
                 }
             }
