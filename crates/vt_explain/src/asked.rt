@@ -165,7 +165,10 @@ pub fn paths_of(call: &Call) -> Paths<'_> {
 /// The overlay that a call is to mount, if it is such a call.
 pub fn overlay_of(call: &Call) -> Option<OverlayAsked<'_>> {
     match call {
-        Call::Mount(MountCall::Overlay { path, options, .. }) => Some(OverlayAsked { path, options }),
+        Call::Mount(MountCall::Overlay { path, options, .. }) => Some(OverlayAsked {
+            path,
+            options,
+        }),
         _ => None,
     }
 }

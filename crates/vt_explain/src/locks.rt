@@ -42,7 +42,13 @@ impl Locked<'_> {
             return false;
         }
         let mut path = Draft::new(self.alloc);
-        let lies = push_path_to(self.alloc, self.look.world, directory, self.at.node, &mut path);
+        let lies = push_path_to(
+            self.alloc,
+            self.look.world,
+            directory,
+            self.at.node,
+            &mut path,
+        );
         // That an allocation failed is told.
         table.text.push_part(&path, 0, 0);
         drop(path);
@@ -80,7 +86,12 @@ impl Locked<'_> {
     fn add_lock(self, table: &mut Table, lock: Lock, mount: &Mount) {
         self.look.places.push(self.at, &mut table.text);
         table.end_word();
-        push_filesystem(&mut table.text, self.look.mounts, true, mount.root.filesystem);
+        push_filesystem(
+            &mut table.text,
+            self.look.mounts,
+            true,
+            mount.root.filesystem,
+        );
         table.end_word();
         self.push_layer(&mut table.text, lock, mount);
         table.end_word();

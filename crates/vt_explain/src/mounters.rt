@@ -12,7 +12,14 @@ use vt_show::names;
 pub static HEADS: Heads = Heads {
     title: "WHO MOUNTED IT",
     section: "mounter",
-    words: &["OVERLAY", "MOUNTED BY", "IDS", "CAPABILITIES", "AT", "MOUNTER"],
+    words: &[
+        "OVERLAY",
+        "MOUNTED BY",
+        "IDS",
+        "CAPABILITIES",
+        "AT",
+        "MOUNTER",
+    ],
     members: &["overlay", "by", "ids", "capabilities", "at", "mounter"],
 };
 
