@@ -69,13 +69,13 @@ const WRITE_HELP: &str = "Puts the given answers into the files";
 
 const NO_INPUT: &str = "`--write` takes files, and not the standard input";
 
-const VERSIONS: [&str; 2] = ["1", "2"];
+static VERSIONS: [&str; 2] = ["1", "2"];
 
-const CHECK_FORMS: [&str; 2] = ["text", "json"];
+static CHECK_FORMS: [&str; 2] = ["text", "json"];
 
-const TEST_FORMS: [&str; 3] = ["text", "json", "junit"];
+static TEST_FORMS: [&str; 3] = ["text", "json", "junit"];
 
-const SHOW_FORMS: [&str; 3] = ["text", "json", "dot"];
+static SHOW_FORMS: [&str; 3] = ["text", "json", "dot"];
 
 const STATUSES: &str = "Exit status:
   0  all is well; of run: all was read and answered, denials included
@@ -106,6 +106,16 @@ pub(crate) fn out_of_memory<E: Drop>(_error: E) -> Fault
     Fault::Run(RunFault::Memory)
 }
 
+// The words are refused for this.
+fn refusal(alloc: Global, why: &str) -> Fault
+    ensures { IsOfWords result }
+{
+    match String::from_str(alloc, why) {
+        Ok(why) => Fault::Words(why),
+        Err(error) => out_of_memory(error),
+    }
+}
+
 // An option that is one of several words.
 fn format_option<'a>(alloc: Global, forms: &'a [&'a str]) -> Arg<'a> {
     Arg::new(alloc, "format")
@@ -134,41 +144,17 @@ fn files<'a>(alloc: Global) -> Arg<'a> {
         .help(FILES_HELP)
 }
 
-// `vtree run [--script VERSION] FILE`
-fn run_line<'a>(alloc: Global) -> Result<Command<'a>, AllocError> {
-    let file = Arg::new(alloc, "FILE").required(true).help(FILE_HELP);
-    Command::new(alloc, "run")
-        .about(RUN_ABOUT)
-        .arg(script_option(alloc))?
-        .arg(file)
+// A word that has to be given.
+fn word<'a>(alloc: Global, name: &'static str, help: &'static str) -> Arg<'a> {
+    Arg::new(alloc, name).required(true).help(help)
 }
 
-// `vtree check [-W] [--script VERSION] [--format FORM] FILE..`
-fn check_line<'a>(alloc: Global) -> Result<Command<'a>, AllocError> {
-    let strict = Arg::new(alloc, "warnings")
-        .short('W')
+// An option that takes no word.
+fn flag<'a>(alloc: Global, name: &'static str, help: &'static str) -> Arg<'a> {
+    Arg::new(alloc, name)
+        .long(name)
         .action(ArgAction::SetTrue)
-        .help(WARNINGS_HELP);
-    Command::new(alloc, "check")
-        .about(CHECK_ABOUT)
-        .arg(strict)?
-        .arg(script_option(alloc))?
-        .arg(format_option(alloc, CHECK_FORMS.as_slice()))?
-        .arg(files(alloc))
-}
-
-// `vtree test [--write] [--script VERSION] [--format FORM] FILE..`
-fn test_line<'a>(alloc: Global) -> Result<Command<'a>, AllocError> {
-    let write = Arg::new(alloc, "write")
-        .long("write")
-        .action(ArgAction::SetTrue)
-        .help(WRITE_HELP);
-    Command::new(alloc, "test")
-        .about(TEST_ABOUT)
-        .arg(write)?
-        .arg(script_option(alloc))?
-        .arg(format_option(alloc, TEST_FORMS.as_slice()))?
-        .arg(files(alloc))
+        .help(help)
 }
 
 // An option that takes one word.
@@ -181,66 +167,107 @@ fn word_option<'a>(
     Arg::new(alloc, name).long(name).value_name(word).help(help)
 }
 
+// A command that takes nothing yet. From here on a failed allocation is handed on, so that nothing between has a `?`.
+fn line<'a>(
+    alloc: Global,
+    name: &'static str,
+    about: &'static str,
+) -> Result<Command<'a>, AllocError> {
+    Ok(Command::new(alloc, name).about(about))
+}
+
+// A command that takes one more word or option.
+fn with<'a>(
+    line: Result<Command<'a>, AllocError>,
+    arg: Arg<'a>,
+) -> Result<Command<'a>, AllocError> {
+    line?.arg(arg)
+}
+
+// The command line with one more command.
+fn or<'a>(
+    line: Result<Command<'a>, AllocError>,
+    other: Result<Command<'a>, AllocError>,
+) -> Result<Command<'a>, AllocError> {
+    line?.subcommand(other?)
+}
+
+// `vtree run [--script VERSION] FILE`
+fn run_line<'a>(alloc: Global) -> Result<Command<'a>, AllocError> {
+    let run = line(alloc, "run", RUN_ABOUT);
+    let run = with(run, script_option(alloc));
+    with(run, word(alloc, "FILE", FILE_HELP))
+}
+
+// `vtree check [-W] [--script VERSION] [--format FORM] FILE..`
+fn check_line<'a>(alloc: Global) -> Result<Command<'a>, AllocError> {
+    let strict = Arg::new(alloc, "warnings")
+        .short('W')
+        .action(ArgAction::SetTrue)
+        .help(WARNINGS_HELP);
+    let check = with(line(alloc, "check", CHECK_ABOUT), strict);
+    let check = with(check, script_option(alloc));
+    let check = with(check, format_option(alloc, CHECK_FORMS.as_slice()));
+    with(check, files(alloc))
+}
+
+// `vtree test [--write] [--script VERSION] [--format FORM] FILE..`
+fn test_line<'a>(alloc: Global) -> Result<Command<'a>, AllocError> {
+    let test = line(alloc, "test", TEST_ABOUT);
+    let test = with(test, flag(alloc, "write", WRITE_HELP));
+    let test = with(test, script_option(alloc));
+    let test = with(test, format_option(alloc, TEST_FORMS.as_slice()));
+    with(test, files(alloc))
+}
+
 // `vtree show [--at LINE] [--task TASK] [--files] [--script VERSION] [--format FORM] FILE`
 fn show_line<'a>(alloc: Global) -> Result<Command<'a>, AllocError> {
-    let trees = Arg::new(alloc, "files")
-        .long("files")
-        .action(ArgAction::SetTrue)
-        .help(TREES_HELP);
-    Command::new(alloc, "show")
-        .about(SHOW_ABOUT)
-        .arg(word_option(alloc, "at", "LINE", AT_HELP))?
-        .arg(word_option(alloc, "task", "TASK", TASK_HELP))?
-        .arg(trees)?
-        .arg(script_option(alloc))?
-        .arg(format_option(alloc, SHOW_FORMS.as_slice()))?
-        .arg(Arg::new(alloc, "FILE").required(true).help(FILE_HELP))
+    let show = line(alloc, "show", SHOW_ABOUT);
+    let show = with(show, word_option(alloc, "at", "LINE", AT_HELP));
+    let show = with(show, word_option(alloc, "task", "TASK", TASK_HELP));
+    let show = with(show, flag(alloc, "files", TREES_HELP));
+    let show = with(show, script_option(alloc));
+    let show = with(show, format_option(alloc, SHOW_FORMS.as_slice()));
+    with(show, word(alloc, "FILE", FILE_HELP))
 }
 
 // `vtree explain [--script VERSION] [--format FORM] FILE LINE`
 fn explain_line<'a>(alloc: Global) -> Result<Command<'a>, AllocError> {
-    Command::new(alloc, "explain")
-        .about(EXPLAIN_ABOUT)
-        .arg(script_option(alloc))?
-        .arg(format_option(alloc, CHECK_FORMS.as_slice()))?
-        .arg(Arg::new(alloc, "FILE").required(true).help(FILE_HELP))?
-        .arg(Arg::new(alloc, "LINE").required(true).help(LINE_HELP))
+    let explain = line(alloc, "explain", EXPLAIN_ABOUT);
+    let explain = with(explain, script_option(alloc));
+    let explain = with(explain, format_option(alloc, CHECK_FORMS.as_slice()));
+    let explain = with(explain, word(alloc, "FILE", FILE_HELP));
+    with(explain, word(alloc, "LINE", LINE_HELP))
 }
 
 // `vtree new [NAME]`
 fn new_line<'a>(alloc: Global) -> Result<Command<'a>, AllocError> {
-    Command::new(alloc, "new")
-        .about(NEW_ABOUT)
-        .arg(Arg::new(alloc, "NAME").help(NAME_HELP))
+    let new = line(alloc, "new", NEW_ABOUT);
+    with(new, Arg::new(alloc, "NAME").help(NAME_HELP))
 }
 
 // `vtree rules [--markdown] [WORD]`
 fn rules_line<'a>(alloc: Global) -> Result<Command<'a>, AllocError> {
-    let page = Arg::new(alloc, "markdown")
-        .long("markdown")
-        .action(ArgAction::SetTrue)
-        .help(MARKDOWN_HELP);
-    Command::new(alloc, "rules")
-        .about(RULES_ABOUT)
-        .arg(page)?
-        .arg(Arg::new(alloc, "WORD").help(WORD_HELP))
+    let rules = line(alloc, "rules", RULES_ABOUT);
+    let rules = with(rules, flag(alloc, "markdown", MARKDOWN_HELP));
+    with(rules, Arg::new(alloc, "WORD").help(WORD_HELP))
 }
 
 // The command line.
 fn command_line<'a>(alloc: Global) -> Result<Command<'a>, AllocError> {
-    Command::new(alloc, "vtree")
+    let vtree = Command::new(alloc, "vtree")
         .version(VERSION)
         .about(ABOUT)
         .after_help(STATUSES)
         .subcommand_required(true)
-        .arg_required_else_help(true)
-        .subcommand(run_line(alloc)?)?
-        .subcommand(check_line(alloc)?)?
-        .subcommand(test_line(alloc)?)?
-        .subcommand(show_line(alloc)?)?
-        .subcommand(explain_line(alloc)?)?
-        .subcommand(rules_line(alloc)?)?
-        .subcommand(new_line(alloc)?)
+        .arg_required_else_help(true);
+    let vtree = or(Ok(vtree), run_line(alloc));
+    let vtree = or(vtree, check_line(alloc));
+    let vtree = or(vtree, test_line(alloc));
+    let vtree = or(vtree, show_line(alloc));
+    let vtree = or(vtree, explain_line(alloc));
+    let vtree = or(vtree, rules_line(alloc));
+    or(vtree, new_line(alloc))
 }
 
 // The first paragraph of the error as one line, where all that is missing is named, and what is like the words.
@@ -284,18 +311,18 @@ fn refused(alloc: Global, error: &Error) -> Result<Fault, AllocError>
 }
 
 /// What the words ask for.
-#[derive(Drop)]
-pub(crate) enum Asked<'a> {
+#[derive(Clone, Copy)]
+pub(crate) enum Asked<'m, 'a> {
     Run {
         file: &'a str,
         version: Version,
     },
     Check {
-        files: Vec<&'a str>,
+        files: &'m [&'a str],
         options: check::Options,
     },
     Test {
-        files: Vec<&'a str>,
+        files: &'m [&'a str],
         version: Version,
         format: test::Format,
         /// Whether the given answers are put into the files.
@@ -322,15 +349,6 @@ pub(crate) enum Asked<'a> {
     },
 }
 
-// The files that a command is given.
-fn files_of<'a>(alloc: Global, given: &ArgMatches<'a>) -> Result<Vec<&'a str>, AllocError> {
-    let mut files = Vec::new(alloc);
-    for file in given.get_strs("FILE").unwrap_or_default() {
-        files.push(*file)?;
-    }
-    Ok(files)
-}
-
 // The version of the scripts' language that is asked for.
 fn version_asked(given: &ArgMatches<'_>) -> Version {
     match given.get_str("script") {
@@ -339,160 +357,176 @@ fn version_asked(given: &ArgMatches<'_>) -> Version {
     }
 }
 
+// The file that a command is given.
+fn file_asked<'a>(given: &ArgMatches<'a>) -> &'a str {
+    given.get_str("FILE").unwrap_or_default()
+}
+
 // `vtree check`
-fn check_asked<'a>(alloc: Global, given: &ArgMatches<'a>) -> Result<Asked<'a>, AllocError> {
+fn check_asked<'m, 'a>(given: &'m ArgMatches<'a>) -> Asked<'m, 'a> {
     let format = match given.get_str("format") {
         Some("json") => check::Format::Json,
         _ => check::Format::Text,
     };
-    Ok(Asked::Check {
-        files: files_of(alloc, given)?,
+    Asked::Check {
+        files: given.get_strs("FILE").unwrap_or_default(),
         options: check::Options {
             version: version_asked(given),
             format,
             strict: given.get_flag("warnings"),
         },
-    })
+    }
 }
 
-// `vtree test`
-fn test_asked<'a>(alloc: Global, given: &ArgMatches<'a>) -> Result<Asked<'a>, AllocError> {
+// Whether the standard input is one of these files.
+fn have_input(files: &[&str]) -> bool {
+    for file in files {
+        if *file == "-" {
+            return true;
+        }
+    }
+    false
+}
+
+// `vtree test`: answers are not put into the standard input.
+fn test_asked<'m, 'a>(alloc: Global, given: &'m ArgMatches<'a>) -> Result<Asked<'m, 'a>, Fault>
+    ensures { IfErr result IsOfWords }
+{
     let format = match given.get_str("format") {
         Some("json") => test::Format::Json,
         Some("junit") => test::Format::Junit,
         _ => test::Format::Text,
     };
+    let files = given.get_strs("FILE").unwrap_or_default();
+    let writes = given.get_flag("write");
+    if writes && have_input(files) {
+        return Err(refusal(alloc, NO_INPUT));
+    }
     Ok(Asked::Test {
-        files: files_of(alloc, given)?,
+        files,
         version: version_asked(given),
         format,
-        writes: given.get_flag("write"),
+        writes,
     })
 }
 
-// The number of a line, or why the word is none.
-fn number_of(alloc: Global, word: &str, refused: &str) -> Result<u64, Fault>
-    ensures { IfErr result IsOfWords }
-{
+// The number of a line, if a word is one.
+fn number_of(word: &str) -> Option<u64> {
     match word.parse::<u64>() {
-        Ok(line) if line > 0 => Ok(line),
-        _ => {
-            let text = String::from_str(alloc, refused).map_err(out_of_memory)?;
-            Err(Fault::Words(text))
-        }
-    }
-}
-
-// The number of a line that is asked for, if there is one.
-fn line_asked(alloc: Global, given: &ArgMatches<'_>) -> Result<Option<u64>, Fault>
-    ensures { IfErr result IsOfWords }
-{
-    match given.get_str("at") {
-        Some(word) => Ok(Some(number_of(alloc, word, NO_LINE)?)),
-        None => Ok(None),
+        Ok(line) if line > 0 => Some(line),
+        _ => None,
     }
 }
 
 // `vtree explain`
-fn explain_asked<'a>(alloc: Global, given: &ArgMatches<'a>) -> Result<Asked<'a>, Fault>
+fn explain_asked<'m, 'a>(alloc: Global, given: &'m ArgMatches<'a>) -> Result<Asked<'m, 'a>, Fault>
     ensures { IfErr result IsOfWords }
 {
     let format = match given.get_str("format") {
         Some("json") => Format::Json,
         _ => Format::Text,
     };
-    let word = given.get_str("LINE").unwrap_or_default();
-    let options = Options {
-        version: version_asked(given),
-        line: number_of(alloc, word, NO_NUMBER)?,
-        format,
+    let Some(line) = number_of(given.get_str("LINE").unwrap_or_default()) else {
+        return Err(refusal(alloc, NO_NUMBER));
     };
     Ok(Asked::Explain {
-        file: given.get_str("FILE").unwrap_or_default(),
-        options,
+        file: file_asked(given),
+        options: Options {
+            version: version_asked(given),
+            line,
+            format,
+        },
     })
 }
 
-// `vtree show`
-fn show_asked<'a>(alloc: Global, given: &ArgMatches<'a>) -> Result<Asked<'a>, Fault>
-    ensures { IfErr result IsOfWords }
-{
+// `vtree show` of the world before a line, or at the end.
+fn show_at<'m, 'a>(given: &'m ArgMatches<'a>, line: Option<u64>) -> Asked<'m, 'a> {
     let format = match given.get_str("format") {
         Some("json") => show::Format::Json,
         Some("dot") => show::Format::Dot,
         _ => show::Format::Text,
     };
-    Ok(Asked::Show {
-        file: given.get_str("FILE").unwrap_or_default(),
+    Asked::Show {
+        file: file_asked(given),
         version: version_asked(given),
-        line: line_asked(alloc, given)?,
+        line,
         options: show::Options {
             format,
             files: given.get_flag("files"),
             task: given.get_str("task"),
         },
-    })
+    }
 }
 
-// Refuses to put answers into the standard input.
-fn without_input<'a>(alloc: Global, asked: Asked<'a>) -> Result<Asked<'a>, Fault>
+// `vtree show`
+fn show_asked<'m, 'a>(alloc: Global, given: &'m ArgMatches<'a>) -> Result<Asked<'m, 'a>, Fault>
     ensures { IfErr result IsOfWords }
 {
-    let is_input = match &asked {
-        Asked::Test {
-            files,
-            writes: true,
-            ..
-        } => files.iter().any(|file| *file == "-"),
-        _ => false,
+    let Some(word) = given.get_str("at") else {
+        return Ok(show_at(given, None));
     };
-    if is_input {
-        let text = String::from_str(alloc, NO_INPUT).map_err(out_of_memory)?;
-        return Err(Fault::Words(text));
+    match number_of(word) {
+        Some(line) => Ok(show_at(given, Some(line))),
+        None => Err(refusal(alloc, NO_LINE)),
     }
-    Ok(asked)
 }
 
 // What the words of a command ask for.
-fn asked_of<'a>(alloc: Global, matches: &ArgMatches<'a>) -> Result<Asked<'a>, Fault>
+fn asked_of<'m, 'a>(
+    alloc: Global,
+    command: &str,
+    given: &'m ArgMatches<'a>,
+) -> Result<Asked<'m, 'a>, Fault>
     ensures { IfErr result IsOfWords }
 {
-    match matches.subcommand() {
-        Some(("run", given)) => match given.get_str("FILE") {
-            Some(file) => Ok(Asked::Run {
-                file,
-                version: version_asked(given),
-            }),
-            None => Err(Fault::Words(String::new(alloc))),
-        },
-        Some(("check", given)) => check_asked(alloc, given).map_err(out_of_memory),
-        Some(("test", given)) => {
-            let asked = test_asked(alloc, given).map_err(out_of_memory)?;
-            without_input(alloc, asked)
-        }
-        Some(("show", given)) => show_asked(alloc, given),
-        Some(("explain", given)) => explain_asked(alloc, given),
-        Some(("new", given)) => Ok(Asked::New {
+    match command {
+        "run" => Ok(Asked::Run {
+            file: file_asked(given),
+            version: version_asked(given),
+        }),
+        "check" => Ok(check_asked(given)),
+        "test" => test_asked(alloc, given),
+        "show" => show_asked(alloc, given),
+        "explain" => explain_asked(alloc, given),
+        "new" => Ok(Asked::New {
             name: given.get_str("NAME"),
         }),
-        Some(("rules", given)) => Ok(Asked::Rules {
+        "rules" => Ok(Asked::Rules {
             word: given.get_str("WORD"),
             page: given.get_flag("markdown"),
         }),
-        _ => Err(Fault::Words(String::new(alloc))),
+        _ => Err(refusal(alloc, "")),
     }
 }
 
-/// What the words ask for.
+/// What words ask for that were read.
+///
+/// `Words`: they are not those of a command. `Run` with `Memory`: an allocation failed.
+pub(crate) fn asked_by<'m, 'a>(
+    alloc: Global,
+    words: &'m ArgMatches<'a>,
+) -> Result<Asked<'m, 'a>, Fault>
+    ensures { IfErr result IsOfWords }
+{
+    match words.subcommand() {
+        Some((command, given)) => asked_of(alloc, command, given),
+        None => Err(refusal(alloc, "")),
+    }
+}
+
+/// The words, read.
 ///
 /// `Words`: they are not those of a command. `Help`: they ask for help or the version. `Run` with
 /// `Memory`: an allocation failed.
-pub(crate) fn asked_by<'a>(alloc: Global, words: &'a [String]) -> Result<Asked<'a>, Fault>
+pub(crate) fn read<'a>(alloc: Global, words: &'a [String]) -> Result<ArgMatches<'a>, Fault>
     ensures { IfErr result IsOfWords }
 {
-    let command = command_line(alloc).map_err(out_of_memory)?;
-    match command.try_get_matches_from(words) {
-        Ok(matches) => asked_of(alloc, &matches),
+    let line = match command_line(alloc) {
+        Ok(line) => line,
+        Err(error) => return Err(out_of_memory(error)),
+    };
+    match line.try_get_matches_from(words) {
+        Ok(words) => Ok(words),
         Err(error) => Err(refused(alloc, &error).unwrap_or_else(out_of_memory)),
     }
 }

@@ -6,9 +6,10 @@ ghost use Rattle.vt_line.specs.Versions.{version_of};
 ghost use Rattle.vt_commands.specs.Answered.{AnswersKnown, IsFresh};
 ghost use Rattle.vt_commands.specs.Status.{comes_before_output};
 
-use crate::command::{Asked, asked_by, out_of_memory};
+use crate::command::{Asked, asked_by, out_of_memory, read};
 use crate::fault::Fault;
 use crate::{cookbook, explaining, rules, showing, tools};
+use clap::ArgMatches;
 use std::alloc::Global;
 use std::fs::File;
 use std::io::{self, BufWriter, Read, Write};
@@ -164,6 +165,57 @@ fn run_named<R: Files + Input + AllocGlobal, W: Write>(
     }
 }
 
+// Carries out what is asked for.
+fn carry_out<R: Files + Input + Eprint + AllocGlobal, W: Write>(
+    rt: &R,
+    asked: Asked<'_, '_>,
+    pace: Pace,
+    output: &mut W,
+) -> Result<(), Fault>
+    ensures { IfErr result (λ fault. comes_before_output fault ≡ true → output.new ≡ output.old) }
+{
+    match asked {
+        Asked::Run { file, version } => run_named(rt, version, file, pace, output),
+        Asked::Check { files, options } => tools::check(rt, files, options, output),
+        Asked::Test {
+            files,
+            version,
+            writes: true,
+            ..
+        } => tools::write(rt, version, files, output),
+        Asked::Test {
+            files,
+            version,
+            format,
+            ..
+        } => tools::test(rt, version, files, format, output),
+        Asked::Show {
+            file,
+            version,
+            line,
+            options,
+        } => showing::show(rt, version, file, line, options, output),
+        Asked::Explain { file, options } => explaining::explain(rt, file, options, output),
+        Asked::New { name } => cookbook::write(rt, name, output),
+        Asked::Rules { word, page } => rules::tell(rt.alloc(), word, page, output),
+    }
+}
+
+// Does what words say that were read.
+fn obey_read<R: Files + Input + Eprint + AllocGlobal, W: Write>(
+    rt: &R,
+    words: &ArgMatches<'_>,
+    pace: Pace,
+    output: &mut W,
+) -> Result<(), Fault>
+    ensures { IfErr result (λ fault. comes_before_output fault ≡ true → output.new ≡ output.old) }
+{
+    match asked_by(rt.alloc(), words) {
+        Ok(asked) => carry_out(rt, asked, pace, output),
+        Err(fault) => Err(fault),
+    }
+}
+
 /// Does what the words say: `run FILE` answers the script in that file, or on the standard input where FILE is `-`;
 /// `check FILE..` and `test FILE..` tell what they find in each file, `show FILE` shows a world, `explain FILE LINE`
 /// explains a line, `rules` tells of rules, and `new NAME` writes an example.
@@ -178,29 +230,8 @@ pub fn obey<R: Files + Input + Eprint + AllocGlobal, W: Write>(
 ) -> Result<(), Fault>
     ensures { IfErr result (λ fault. comes_before_output fault ≡ true → output.new ≡ output.old) }
 {
-    match asked_by(rt.alloc(), words)? {
-        Asked::Run { file, version } => run_named(rt, version, file, pace, output),
-        Asked::Check { files, options } => tools::check(rt, files.as_slice(), options, output),
-        Asked::Test {
-            files,
-            version,
-            format,
-            writes,
-        } => {
-            if writes {
-                tools::write(rt, version, files.as_slice(), output)
-            } else {
-                tools::test(rt, version, files.as_slice(), format, output)
-            }
-        }
-        Asked::Show {
-            file,
-            version,
-            line,
-            options,
-        } => showing::show(rt, version, file, line, options, output),
-        Asked::Explain { file, options } => explaining::explain(rt, file, options, output),
-        Asked::New { name } => cookbook::write(rt, name, output),
-        Asked::Rules { word, page } => rules::tell(rt.alloc(), word, page, output),
-    }
+    let words = read(rt.alloc(), words)?;
+    let outcome = obey_read(rt, &words, pace, output);
+    drop(words);
+    outcome
 }
