@@ -1,8 +1,8 @@
 -- The counts of names, as they are kept.
-use Rattle.std.proofs.Common.{List, ap, arith, cond, length, map, nat_eq, slice_index_or, slice_set, sym, ⊎_elim, ℕ, ◌<◌, ◌∙◌, ◌≡◌, ◌≤◌}
+use Rattle.std.proofs.Common.{List, [], ap, arith, cond, length, map, nat_eq, refl, slice_index_or, slice_set, suc, sym, zero, ⊎_elim, ℕ, ◌++◌, ◌-◌, ◌<◌, ◌∙◌, ◌∷◌, ◌≡◌, ◌≤◌}
 use Rattle.std.proofs.lemmas.Bool.{cases_lt}
 use Rattle.std.proofs.lemmas.Bool.Decides.{eqb_tells}
-use Rattle.std.proofs.lemmas.List.{get_or-map, get_or-set_other, get_or-set_same, get_or_past, length-map, map-set}
+use Rattle.std.proofs.lemmas.List.{get_or-map, get_or-set_other, get_or-set_same, get_or_append_left, get_or-append_right, get_or_past, length-map, map-append, map-set}
 use Rattle.vt_tree.specs.Names.{count_of}
 use Rattle.vt_tree.specs.Slots.{put_at}
 use Rattle.vt_tree.specs.declared.names.Named.{Named}
@@ -10,80 +10,77 @@ use Rattle.vt_tree.specs.declared.names.Named.{Named}
 abbrev pub counts : List Named → List ℕ
 counts items = map (λ (named : Named). named.count) items
 
-pub count_kept : (items : List Named) (object : ℕ) (none : Named) → object < length items
-    → count_of (counts items) object ≡ (slice_index_or items object none).count
-count_kept items object none within = get_or-map (λ (named : Named). named.count) items object none 0 within
+-- a count is written
+count_written : (all : List ℕ) (object value : ℕ) → object < length all
+    → count_of (slice_set all object value) ≡ put_at (count_of all) object value
+count_written all object value within = λ i other. at other i
+  where
+    at : (other : ℕ) → count_of (slice_set all object value) other ≡ put_at (count_of all) object value other
+    at other =
+        ⊎_elim
+        (λ t.
+        ap (count_of (slice_set all object value)) t.1
+        ∙ get_or-set_same all object value 0 within
+        ∙ ap (λ b. cond b value (count_of all other)) (sym t.0))
+        (λ t.
+        get_or-set_other all object other value 0 t.1
+        ∙ ap (λ b. cond b value (count_of all other)) (sym t.0))
+        (eqb_tells other object)
 
-pub count_past : (items : List Named) (object : ℕ) → length items ≤ object → count_of (counts items) object ≡ 0
-count_past items object past =
-    let long : length (counts items) ≤ object =
-    let same : length (counts items) ≡ length items = length-map items (λ (named : Named). named.count) in
-    omega (arith, same, past) in
-    get_or_past (counts items) object 0 long
+-- where none is kept it is 0
+pub count_absent : (all : List ℕ) (object : ℕ) → length all ≤ object
+    → count_of all ≡ put_at (count_of all) object (count_of all object - 1)
+count_absent all object past = λ i other. at other i
+  where
+    none : count_of all object ≡ count_of all object - 1
+    none = let missing = get_or_past all object 0 past in omega (arith, missing)
+
+    at : (other : ℕ) → count_of all other ≡ put_at (count_of all) object (count_of all object - 1) other
+    at other =
+        ⊎_elim
+        (λ t.
+        ap (count_of all) t.1 ∙ none ∙ ap (λ b. cond b (count_of all object - 1) (count_of all other)) (sym t.0))
+        (λ t. ap (λ b. cond b (count_of all object - 1) (count_of all other)) (sym t.0))
+        (eqb_tells other object)
 
 -- room is made with counts of 0
-pub counts_resized : (old new : List Named) (len : ℕ) (none : Named) → none.count ≡ 0 → length new ≡ len
-    → ((k : ℕ) (d : Named) → k < len → k < length old → slice_index_or new k d ≡ slice_index_or old k d)
-    → ((k : ℕ) (d : Named) → length old ≤ k → k < len → slice_index_or new k d ≡ none)
-    → length old ≤ len
-    → count_of (counts new) ≡ count_of (counts old)
-counts_resized old new len none zero long kept filled longer = λ i object. at object i
+pub count_pushed : (items : List Named) (none : Named) → none.count ≡ 0
+    → count_of (counts (items ++ none ∷ [])) ≡ count_of (counts items)
+count_pushed items none empty = λ i object. at object i
   where
-    at : (object : ℕ) → count_of (counts new) object ≡ count_of (counts old) object
+    pushed : counts (items ++ none ∷ []) ≡ counts items ++ none.count ∷ []
+    pushed = map-append (λ (named : Named). named.count) items (none ∷ [])
+
+    at_zero : (place : ℕ) → slice_index_or (none.count ∷ []) place 0 ≡ 0
+    at_zero zero = empty
+    at_zero (suc place) = refl
+
+    at : (object : ℕ) → count_of (counts (items ++ none ∷ [])) object ≡ count_of (counts items) object
     at object =
-        ⊎_elim
-        (λ within.
-        count_kept new object none (omega (arith, within, long, longer))
-        ∙ ap (λ (named : Named). named.count) (kept object none (omega (arith, within, longer)) within)
-        ∙ sym (count_kept old object none within))
-        (λ past.
-        ⊎_elim
-        (λ less.
-        count_kept new object none (omega (arith, less, long))
-        ∙ ap (λ (named : Named). named.count) (filled object none past less) ∙ zero
-        ∙ sym (count_past old object past))
-        (λ more.
-        count_past new object (omega (arith, more, long)) ∙ sym (count_past old object past))
-        (cases_lt object len))
-        (cases_lt object (length old))
-
--- one count is written
-pub count_written : (items : List Named) (object : ℕ) (named : Named) → object < length items
-    → count_of (counts (slice_set items object named)) ≡ put_at (count_of (counts items)) object named.count
-count_written items object named within = λ i other. at other i
-  where
-    long : object < length (counts items)
-    long =
-        let same : length (counts items) ≡ length items = length-map items (λ (named : Named). named.count) in
-        omega (arith, same, within)
-
-    written : counts (slice_set items object named) ≡ slice_set (counts items) object named.count
-    written = map-set (λ (named : Named). named.count) items object named
-
-    at : (other : ℕ) → count_of (counts (slice_set items object named)) other
-        ≡ put_at (count_of (counts items)) object named.count other
-    at other =
-        ap (λ list. slice_index_or list other 0) written
+        ap (λ all. count_of all object) pushed
         ∙ ⊎_elim
-        (λ t.
-        ap (λ n. slice_index_or (slice_set (counts items) object named.count) n 0) t.1
-        ∙ get_or-set_same (counts items) object named.count 0 long
-        ∙ ap (λ b. cond b named.count (count_of (counts items) other)) (sym t.0))
-        (λ t.
-        get_or-set_other (counts items) object other named.count 0 t.1
-        ∙ ap (λ b. cond b named.count (count_of (counts items) other)) (sym t.0))
-        (eqb_tells other object)
+        (λ within. get_or_append_left (counts items) (none.count ∷ []) 0 object within)
+        (λ past.
+        get_or-append_right (counts items) (none.count ∷ []) (length (counts items)) object 0 refl past
+        ∙ at_zero (object - length (counts items))
+        ∙ sym (get_or_past (counts items) object 0 past))
+        (cases_lt object (length (counts items)))
 
--- nothing is written where nothing is kept
-pub count_absent : (items : List Named) (object : ℕ) (value : ℕ) → length items ≤ object → value ≡ 0
-    → count_of (counts items) ≡ put_at (count_of (counts items)) object value
-count_absent items object value past zero = λ i other. at other i
+-- the count of one object is another
+pub count_changed : (items : List Named) (object slot count directory : ℕ) (named : Named) (change : ℕ → ℕ)
+    → slot ≡ object → slot < length items → named ≡ slice_index_or items slot named → count ≡ change named.count
+    → count_of (counts (slice_set items slot (record { count = count; directory = directory })))
+    ≡ put_at (count_of (counts items)) object (change (count_of (counts items) object))
+count_changed items object slot count directory named change at within is changed =
+    ap count_of (map-set (λ (named : Named). named.count) items slot (record { count = count; directory = directory }))
+    ∙ count_written (counts items) slot count long
+    ∙ (λ i. put_at (count_of (counts items)) (at i) ((changed ∙ ap change kept) i))
   where
-    at : (other : ℕ) → count_of (counts items) other ≡ put_at (count_of (counts items)) object value other
-    at other =
-        ⊎_elim
-        (λ t.
-        ap (count_of (counts items)) t.1 ∙ count_past items object past ∙ sym zero
-        ∙ ap (λ b. cond b value (count_of (counts items) other)) (sym t.0))
-        (λ t. ap (λ b. cond b value (count_of (counts items) other)) (sym t.0))
-        (eqb_tells other object)
+    long : slot < length (counts items)
+    long = let same = length-map items (λ (named : Named). named.count) in omega (arith, same, within)
+
+    kept : named.count ≡ count_of (counts items) object
+    kept =
+        ap (λ (named : Named). named.count) is
+        ∙ sym (get_or-map (λ (named : Named). named.count) items slot named 0 within)
+        ∙ ap (count_of (counts items)) at

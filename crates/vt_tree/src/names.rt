@@ -45,15 +45,11 @@ impl Names {
         ensures ok { OnOk result (HasRoom self.new object) }
         ensures counts { count_of self.new ≡ count_of self.old }
     {
-        let Some(len) = object.index().checked_add(1) else {
-            return Err(AllocError);
-        };
-        if self.named.len() < len {
-            let none = Named {
+        while self.named.len() <= object.index() {
+            self.named.push(Named {
                 count: 0,
                 directory: object,
-            };
-            self.named.resize(len, none)?;
+            })?;
         }
         if self.named[object.index()].count == u64::MAX {
             return Err(AllocError);
@@ -66,11 +62,9 @@ impl Names {
         requires { HasRoom self.old object }
         ensures { count_of self.new ≡ put_at (count_of self.old) object (count_of self.old object + 1) }
     {
-        let count = self.named[object.index()].count;
-        self.named[object.index()] = Named {
-            count: count + 1,
-            directory,
-        };
+        let named = &mut self.named[object.index()];
+        named.count += 1;
+        named.directory = directory;
     }
 
     /// Counts one name less of an object; a count of 0 stays 0. It does not allocate.

@@ -4,13 +4,13 @@ use Rattle.vt_spec.specs.Inodes.{Inodes, with_changed, without_replaced}
 use Rattle.vt_spec.specs.Language.Changes.{node_with_parent, node_without_entry}
 use Rattle.vt_spec.specs.Tree.{entries_in, name_cmp, node_with_entry}
 use Rattle.vt_spec.specs.TreeInvariant.{entry_at}
-use Rattle.vt_tree.specs.Slots.{inodes_in, put_at}
+use Rattle.vt_tree.specs.Slots.{Slots, inodes_in, put_at}
 use Rattle.vt_tree.specs.TreeValue.{inodes_of, tree_of}
 use Rattle.vt_tree.proofs.MoveLemmas.{moved, replaced_other}
 use Rattle.vt_spec.specs.Inodes.{tree_of as nodes_of}
 use Rattle.vt_tree.proofs.NamesKept.{name_moved, replaced_counted, replaced_keeps}
 use Rattle.vt_tree.proofs.NameCounts.{most_weaker, one_if_some}
-use Rattle.vt_tree.specs.Names.{NamesAtMost, count_of}
+use Rattle.vt_tree.specs.Names.{AreCounted, NamesAtMost, count_of}
 use Rattle.vt_tree.proofs.trees.Tree.rename.Goals as goal
 use Rattle.vt_tree.proofs.trees.Tree.rename.Goals.{After-set_parent}
 
@@ -55,6 +55,12 @@ pub returns-in_default-clause-ok : goal.returns-in_default-clause-ok
 returns-in_default-clause-ok c =
     let path = (goal.at.returns-in_default-clause-ok c).After-set_parent in
     placed path ∙ ap (without_replaced nat_eq (with_entries_moved path)) (sym c.in_default.is ∙ replaced path)
+
+-- without room all stays
+pub invariant_of-self : goal.invariant_of-self
+invariant_of-self c =
+    subst (λ (slots : Slots). AreCounted (nodes_of (inodes_in c.self.inside.root slots)) c.self.inside.names)
+    (sym c.in_err-insert_entry.ensures.err) c.self.invariant
 
 -- the object keeps its count, and what had the new name has one less
 counted : (c : After-set_parent) → NamesAtMost (nodes_of (inodes_in c.self.inside.root c.set_parent.new.slots))
