@@ -1,5 +1,5 @@
 -- The counts of names, as they are kept.
-use Rattle.std.proofs.Common.{List, [], ap, arith, cond, length, map, nat_eq, refl, slice_index_or, slice_set, suc, sym, zero, ⊎_elim, ℕ, ◌++◌, ◌-◌, ◌<◌, ◌∙◌, ◌∷◌, ◌≡◌, ◌≤◌}
+use Rattle.std.proofs.Common.{List, [], ap, arith, cond, length, map, refl, slice_index_or, slice_set, suc, sym, zero, ⊎_elim, ℕ, ◌++◌, ◌-◌, ◌<◌, ◌∙◌, ◌∷◌, ◌≡◌, ◌≤◌}
 use Rattle.std.proofs.lemmas.Bool.{cases_lt}
 use Rattle.std.proofs.lemmas.Bool.Decides.{eqb_tells}
 use Rattle.std.proofs.lemmas.List.{get_or-map, get_or-set_other, get_or-set_same, get_or_append_left, get_or-append_right, get_or_past, length-map, map-append, map-set}

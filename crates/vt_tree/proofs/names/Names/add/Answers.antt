@@ -1,4 +1,4 @@
-use Rattle.std.proofs.Common.{ap, arith, length, refl, subst, sym, ◌+◌, ◌<◌, ◌∙◌, ◌≡◌}
+use Rattle.std.proofs.Common.{ap, arith, length, refl, subst, sym, ◌+◌, ◌<◌, ◌∙◌}
 use Rattle.std.proofs.lemmas.List.{length-map}
 use Rattle.vt_tree.proofs.NamesCounted.{count_changed, counts}
 use Rattle.vt_tree.proofs.names.Names.add.Goals as goal

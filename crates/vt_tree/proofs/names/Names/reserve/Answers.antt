@@ -1,8 +1,7 @@
-use Rattle.std.proofs.Common.{ap, arith, length, refl, sym, rules, ◌++◌, ◌∙◌, ◌≡◌}
+use Rattle.std.proofs.Common.{ap, refl, ◌∙◌}
 use Rattle.vt_tree.proofs.NamesCounted.{count_pushed, counts}
 use Rattle.vt_tree.proofs.names.Names.reserve.Goals as goal
 use Rattle.vt_tree.specs.Names.{count_of}
-use Rattle.vt_tree.specs.declared.names.Named.{Named}
 
 pub loop-self-init : goal.loop-self-init
 loop-self-init c = ap count_of c.self.view_is

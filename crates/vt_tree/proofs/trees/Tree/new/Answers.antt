@@ -5,7 +5,6 @@ use Rattle.vt_tree.specs.Slots.{Slots, slot_at, slots_len}
 use Rattle.vt_tree.proofs.InodeLemmas.{inodes-root}
 use Rattle.vt_spec.specs.Inodes.{tree_of as nodes_of}
 use Rattle.vt_tree.proofs.NamesKept.{new_keeps, none_named}
-use Rattle.vt_tree.specs.Names.{NamesAtMost, count_of}
 use Rattle.vt_tree.specs.Slots.{inodes_in}
 use Rattle.vt_spec.specs.Inodes.{node_in}
 use Rattle.vt_tree.proofs.trees.Tree.new.Goals as goal
