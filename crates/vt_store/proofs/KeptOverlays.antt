@@ -2,12 +2,15 @@
 use Rattle.std.proofs.Common.{◌≡◌, ◌<◌, refl, sym, ap, subst, ◌∙◌, ℕ, Bool, true, false, cond, ◌&&◌, nat_eq, nat_lt, List, [], ◌∷◌, ◌++◌, map, filter, not, Option, Some, None, option_map, is_some}
 use Rattle.std.specs.Prelude.{IfSome, IsSome, length}
 use Rattle.std.specs.List.{list_all}
+use Rattle.std.specs.FinMap.Entries.{by_order, put}
 use Rattle.std.specs.Map.{lookup}
+use Rattle.std.specs.declared.cmp.Ordering.{Ordering}
+use Rattle.std.specs.declared.cmp.Ordering.TheVariants.{Less, Equal, Greater}
 use Rattle.std.proofs.lemmas.Bool.{eqb-true}
 use Rattle.std.proofs.lemmas.List.{nil_from_length}
 use Rattle.indexmap.specs.IndexMap.{IndexMap, WritesThrough, get_by}
 use Rattle.vt_location.specs.declared.numbers.FilesystemId.{FilesystemId}
-use Rattle.vt_location.specs.InOrder.{in_order_by}
+use Rattle.vt_location.specs.InOrder.{cmp_by, in_order_by}
 use Rattle.vt_location.proofs.OrderLemmas.{IsChanged, change_kept, changed-by, in_order-changed, in_order-last, in_order-removed, is_above, looked-in_order}
 use Rattle.vt_overlay.specs.MergedTree.{OverlayValue}
 use Rattle.vt_store.specs.declared.overlays.KeptOverlay.{KeptOverlay}
@@ -46,6 +49,23 @@ none_found f es none = sym (ap (lookup (is_key f)) (nil_from_length es none))
 
 pub none_kept : (es : List (FilesystemId × KeptOverlay)) → length es ≡ 0 → kept_overlays es ≡ []
 none_kept es none = ap kept_overlays (nil_from_length es none)
+
+-- where contracts see no overlays, nothing is kept
+some_put : (kept : FilesystemId × KeptOverlay) (es : List (FilesystemId × KeptOverlay))
+    → ¬ (entries_kept (put (cmp_by count_of) kept.0 kept.1 es) ≡ [])
+some_put kept [] none = cc
+some_put kept (e ∷ es) none = by (cmp_by count_of kept.0 e.0) none
+  where
+    by : (o : Ordering)
+        → ¬ (entries_kept (by_order o (kept ∷ e ∷ es) ((e.0, kept.1) ∷ es)
+        (e ∷ put (cmp_by count_of) kept.0 kept.1 es)) ≡ [])
+    by Less none = cc
+    by Equal none = cc
+    by Greater none = cc
+
+pub none_under : (es : List (FilesystemId × KeptOverlay)) → kept_overlays es ≡ [] → length es ≡ 0
+none_under [] none = refl
+none_under (e ∷ es) none = absurd (some_put e (in_order es) none)
 
 module _ (f : ℕ) where
   -- a count finds the overlay that it is the key of

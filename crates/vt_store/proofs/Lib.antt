@@ -6,8 +6,7 @@ pub mod Looked
 pub mod MountsCounted
 pub mod NodesAlike
 pub mod OverlaysAlike
-pub mod OverlaysCome
-pub mod TreesStay
+pub mod OverlaysGo
 pub mod Woven
 pub mod WovenLast
 pub mod Ranked

@@ -1,59 +1,17 @@
-//! Overlays that come and go, with their layers: overlayfs. A layer pins its directory, and counts as a mount of its
-//! filesystem.
-ghost use Rattle.std.specs.Prelude.{◌≡◌, ◌≢◌, ◌-◌, ◌++◌, ◌∷◌, ◌↔◌, ◌≤◌, ◌<◌, [], ℕ, All, None, OnErr, OnOk, length, nat_lt, true};
-ghost use Rattle.std.specs.List.{list_all};
+//! Layers of overlays, held and let go: overlayfs. A layer pins its directory, and counts as a mount of its filesystem.
+ghost use Rattle.std.specs.Prelude.{◌≡◌, ◌-◌, ◌↔◌, All, None, length, true};
 ghost use Rattle.vt_fs.specs.FilesystemsValue.{shown};
-ghost use Rattle.vt_merge.specs.declared.merging.TheConstants.{MOST_LAYERS};
-ghost use Rattle.vt_overlay.specs.MergedTree.{AreLayers};
 ghost use Rattle.vt_store.specs.Laws.{IsSameTree};
-ghost use Rattle.vt_store.specs.LayersHeld.{HasRoomFor, HaveRoomFor, lowers_in, new_overlay, with_layer, with_layers, without_layer, without_layers, without_unmounted, mounts_changed};
+ghost use Rattle.vt_store.specs.LayersHeld.{HasRoomFor, HaveRoomFor, lowers_in, with_layer, with_layers, without_layer, without_layers, without_unmounted, mounts_changed};
 ghost use Rattle.vt_store.specs.OverlaysValue.{without_overlay};
-ghost use Rattle.vt_store.specs.StoreValue.{StandOnLayers, files_in, overlay_in};
+ghost use Rattle.vt_store.specs.StoreValue.{StandOnLayers, overlay_in};
 
 use crate::store::Store;
-use std::alloc::AllocError;
-use vt_cred::Cred;
 use vt_fs::Filesystems;
 use vt_location::FilesystemId;
 use vt_merge::LayerRef;
 
 impl Store {
-    /// Makes an overlay of these lower layers, the highest first, which no mount shows yet. Each layer pins its
-    /// directory, and counts as a mount of its filesystem. Its number must be above those of all other overlays, and no
-    /// plain filesystem's.
-    ///
-    /// It fails if an allocation does. It fails too if a directory cannot have as many more uses as there are layers,
-    /// or a filesystem as many more mounts.
-    pub fn add_overlay(
-        &mut self,
-        filesystem: FilesystemId,
-        lowers: Vec<LayerRef>,
-        mounter: Cred,
-    ) -> Result<(), AllocError>
-        requires standing { StandOnLayers self.old }
-        requires above { list_all (λ entry. nat_lt entry.count filesystem.count) self.old.overlays ≡ true }
-        requires layers { AreLayers self.old.plain lowers.items }
-        requires some { 0 < length lowers.items }
-        requires few { length lowers.items ≤ MOST_LAYERS }
-        ensures ok { OnOk result
-            (self.new.overlays ≡ self.old.overlays ++ new_overlay filesystem lowers.items mounter ∷ []) }
-        ensures held { OnOk result
-            (shown self.new.plain ≡ with_layers lowers.items (shown self.old.plain)) }
-        // the trees of plain filesystems and of other overlays stay as they were
-        ensures trees { OnOk result ((count : ℕ) → count ≢ filesystem.count
-            → (files_in self.new count).tree ≡ (files_in self.old count).tree) }
-        ensures stands { OnOk result (StandOnLayers self.new) }
-        ensures err { OnErr result (self.new ≡ self.old) }
-    {
-        if !has_room_for(&self.plain, lowers.as_slice()) {
-            return Err(AllocError);
-        }
-        self.overlays.add(filesystem, lowers, mounter)?;
-        let overlay = self.overlays.get(filesystem).unwrap();
-        hold_layers(&mut self.plain, overlay.lowers());
-        Ok(())
-    }
-
     /// Takes an overlay out, whatever mounts show it, and lets its layers go: each is a use less of its directory and a
     /// mount less of its filesystem, which goes with the last. It does not allocate.
     pub fn remove_overlay(&mut self, filesystem: FilesystemId)

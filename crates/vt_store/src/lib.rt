@@ -5,12 +5,10 @@ mod counting;
 mod entering;
 mod laws;
 mod layers;
-mod leaving;
 mod locks;
 mod looking;
 mod overlays;
 mod paths;
-mod pinning;
 mod store;
 
 pub use store::Store;

@@ -1,5 +1,5 @@
 //! `Overlays`: the overlays by their numbers, and how many mounts show each.
-ghost use Rattle.std.specs.Prelude.{◌≡◌, ◌<◌, ◌+◌, ◌-◌, ◌++◌, ◌∷◌, [], IfSome, OnErr, OnOk, nat_eq, nat_lt, option_copied, option_map, true};
+ghost use Rattle.std.specs.Prelude.{◌≡◌, ◌<◌, ◌+◌, ◌-◌, ◌++◌, ◌∷◌, ◌↔◌, [], IfSome, OnErr, OnOk, nat_eq, nat_lt, option_copied, option_map, true};
 ghost use Rattle.std.specs.List.{list_all, list_any};
 ghost use Rattle.std.specs.Map.{lookup};
 ghost use Rattle.vt_location.specs.Locations.{inode_of};
@@ -83,7 +83,7 @@ impl Overlays {
     /// Whether there are none.
     #[inline(always)]
     pub fn is_empty(&self) -> bool
-        ensures { result ≡ true → self.now ≡ [] }
+        ensures { (result ≡ true) ↔ (self.now ≡ []) }
     {
         self.by_number.is_empty()
     }

@@ -1,5 +1,5 @@
 //! `Store`: the plain filesystems, and the overlays.
-ghost use Rattle.std.specs.Prelude.{◌≡◌, [], IfSome, false, is_some, option_copied};
+ghost use Rattle.std.specs.Prelude.{◌≡◌, ◌↔◌, [], IfSome, false, is_some, option_copied};
 ghost use Rattle.std.specs.Borrow.{sem};
 
 use crate::overlays::Overlays;
@@ -59,7 +59,7 @@ impl Store {
     /// Whether there are overlays.
     #[inline(always)]
     pub fn has_overlays(&self) -> bool
-        ensures { result ≡ false → self.now.overlays ≡ [] }
+        ensures { (result ≡ false) ↔ (self.now.overlays ≡ []) }
     {
         !self.overlays.is_empty()
     }

@@ -7,7 +7,7 @@ pub returns-then-not-has_overlays : goal.returns-then-not-has_overlays
 returns-then-not-has_overlays c =
     sym (all_unlocked (the_view c.self.inside) c.self.inside.store c.self.invariant c.args.self.now c.self.view_is
     c.args.at (search rules)
-    (c.has_overlays.ensures c.if-not-has_overlays.true))
+    (c.has_overlays.ensures.0 c.if-not-has_overlays.true))
 
 pub is_in_layer-requires : goal.is_in_layer-requires
 is_in_layer-requires c =

@@ -10,7 +10,7 @@ returns-then-not-has_overlays c =
     ap not c.if-not-has_overlays.true
     ∙ nobody_is c.args.self.now (location_of c.args._at)
     (nobody_mounted (the_view c.self.inside) c.self.inside.store c.args.self.now c.self.view_is c.self.invariant
-    (c.has_overlays.ensures c.if-not-has_overlays.true) c.args._at.mount.count)
+    (c.has_overlays.ensures.0 c.if-not-has_overlays.true) c.args._at.mount.count)
     (right_bits c.args.wanted)
 
 pub returns-else-not-has_overlays : goal.returns-else-not-has_overlays

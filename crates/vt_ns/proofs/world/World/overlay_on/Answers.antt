@@ -14,4 +14,4 @@ returns-then-has_overlays-clause-mounter c =
 pub returns-else-has_overlays-clause-mounter : goal.returns-else-has_overlays-clause-mounter
 returns-else-has_overlays-clause-mounter c =
     sym (nobody_mounted (the_view c.self.inside) c.self.inside.store c.args.self.now c.self.view_is c.self.invariant
-    (c.has_overlays.ensures c.if-has_overlays.false) c.args.mount.count)
+    (c.has_overlays.ensures.0 c.if-has_overlays.false) c.args.mount.count)

@@ -13,7 +13,7 @@ returns-in_err-entry c =
     let f = c.args.directory.filesystem.count in
     let seen = (files_in c.args.self.now f).tree.node (number_of c.args.directory) in
     let lent = plain_seen c.args.self.now c.args.self.now.plain refl f
-    (ap (λ overlays. overlay_of overlays f) (c.has_overlays.ensures c.if-has_overlays.false))
+    (ap (λ overlays. overlay_of overlays f) (c.has_overlays.ensures.0 c.if-has_overlays.false))
     (number_of c.args.directory) ∙ c.requires.object in
     ap (option_map number_of) c.from_residual-in_err-entry.ensures
     ∙ ap (option_map (exchanged f)) (sym c.in_err-entry.was ∙ c.entry.ensures)
@@ -24,7 +24,7 @@ returns-in_ok-entry c =
     let f = c.args.directory.filesystem.count in
     let seen = (files_in c.args.self.now f).tree.node (number_of c.args.directory) in
     let lent = plain_seen c.args.self.now c.args.self.now.plain refl f
-    (ap (λ overlays. overlay_of overlays f) (c.has_overlays.ensures c.if-has_overlays.false))
+    (ap (λ overlays. overlay_of overlays f) (c.has_overlays.ensures.0 c.if-has_overlays.false))
     (number_of c.args.directory) ∙ c.requires.object in
     ap (λ node. Some (number_of node)) c.new.ensures
     ∙ ap Some (sym (exchanged_slot f c.in_ok-entry.entry (omega arith)))

@@ -7,6 +7,8 @@ is_true true is = refl
 is_true false is = absurd cc
 
 pub returns : goal.returns
-returns c is =
-    ap (λ (store : StoreValue). store.overlays) (sym c.self.view_is)
-    ∙ c.is_empty.ensures (is_true c.is_empty.result is)
+returns c = (
+  λ is. ap (λ (store : StoreValue). store.overlays) (sym c.self.view_is)
+      ∙ c.is_empty.ensures.0 (is_true c.is_empty.result is),
+  λ none. ap not (c.is_empty.ensures.1 (ap (λ (store : StoreValue). store.overlays) c.self.view_is ∙ none)),
+)

@@ -20,5 +20,5 @@ returns-else-has_overlays c =
     ∙ ap (option_map (node_seen node.filesystem.count)) c.node.ensures
     ∙ plain_lent c.args.self.now c.self.inside.plain (ap (λ (store : StoreValue). store.plain) c.self.view_is)
     node.filesystem.count
-    (ap (λ overlays. overlay_of overlays node.filesystem.count) (c.has_overlays.ensures c.if-has_overlays.false))
+    (ap (λ overlays. overlay_of overlays node.filesystem.count) (c.has_overlays.ensures.0 c.if-has_overlays.false))
     (number_of node)

@@ -1,7 +1,7 @@
 use Rattle.std.proofs.Common.{ap, sym, ◌∙◌, ◌≡◌}
 use Rattle.vt_store.specs.OverlaysValue.{Overlays, without_overlay}
 use Rattle.vt_store.specs.StoreValue.{StoreValue}
-use Rattle.vt_store.proofs.OverlaysCome.{absent_removed, stand_without}
+use Rattle.vt_store.proofs.OverlaysGo.{absent_removed, stand_without}
 use Rattle.vt_store.proofs.store.Store.remove_overlay.Goals as goal
 
 pub returns-in-Some-clause-standing : goal.returns-in-Some-clause-standing
