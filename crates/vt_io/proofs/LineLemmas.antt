@@ -1,5 +1,5 @@
 -- More bytes of the line that is being read.
-use Rattle.std.proofs.Common.{◌≡◌, ℕ, ◌+◌, ◌-◌, ◌≤◌, Bool, true, false, not, eqb, leb, ltb, ◌||◌, List, [], ◌++◌, length, min, take, drop, refl, sym, ◌∙◌, ap, arith, length-take, length-append}
+use Rattle.std.proofs.Common.{◌≡◌, ℕ, ◌+◌, ◌-◌, ◌≤◌, Bool, true, false, not, eqb, leb, ltb, ◌||◌, List, ◌++◌, length, min, take, refl, sym, ◌∙◌, ap, arith, length-take, length-append}
 use Rattle.std.proofs.Math.Seq.{take-append-add}
 use Rattle.std.proofs.lemmas.List.{take_all, take_min, take-append-le}
 use Rattle.std.proofs.lemmas.Bool.Decides.{nat_tests}

@@ -8,8 +8,8 @@
 -- WroteFront-item g.W.Sink _ c.args.items.now _ c.item-item.result c.loop-item.invariant
 --   c.loop-item-test.true c.in_err-CALL.ensures.printed cc
 -- in the list, in place of the set.
-use Rattle.std.proofs.Common.{◌≡◌, ℕ, Result, Ok, Err, ◌+◌, ◌<◌, get_or, List, [], ◌++◌, length, take, drop, subst, refl, sym, ap, ◌∙◌, arith, append_assoc}
-use Rattle.std.proofs.lemmas.List.{append-nil, take-append-drop, drop_more}
+use Rattle.std.proofs.Common.{◌≡◌, ℕ, Result, Ok, Err, ◌+◌, ◌<◌, get_or, List, [], ◌∷◌, ◌++◌, length, take, drop, subst, refl, sym, ap, ◌∙◌, arith, append_assoc}
+use Rattle.std.proofs.lemmas.List.{append-nil, take-append-drop, take_more, drop_more}
 use Rattle.std.proofs.lemmas.Grind.{common_steps, flat_map-append}
 use Rattle.std.specs.List.{flat_map}
 use Rattle.vt_io.specs.declared.output.Sink.{Ghosts}
@@ -23,6 +23,14 @@ flat_map_at f xs i d h =
     ap (λ t. flat_map f t) (sym (take-append-drop i xs))
     ∙ flat_map-append f (take i xs) (drop i xs)
     ∙ ap (λ t. flat_map f (take i xs) ++ flat_map f t) (drop_more xs i d h)
+
+-- one more item
+pub flat_map_more :
+    {X : Type 0} (f : X → List ℕ) (xs : List X) (i : ℕ) (d : X) → i < length xs →
+    flat_map f (take (i + 1) xs) ≡ flat_map f (take i xs) ++ f (get_or xs i d)
+flat_map_more f xs i d h =
+    ap (flat_map f) (take_more xs i d h) ∙ flat_map-append f (take i xs) (get_or xs i d ∷ [])
+    ∙ ap (λ last. flat_map f (take i xs) ++ last) (append-nil (f (get_or xs i d)))
 
 module _ {W : Type 0} (sink : Ghosts W) where
   -- nothing, before the first write
@@ -70,6 +78,17 @@ module _ {W : Type 0} (sink : Ghosts W) where
   WroteFront-item {y} {z} f xs i d p h q e =
       WroteFront-part (flat_map f (drop (i + 1) xs)) p (subst (λ t. WroteFront sink y z t) e q)
       (sym (flat_map_at f xs i d h))
+
+  -- the items so far, of which the last were held back, and then a front of these
+  pub WroteFront-held :
+      {X : Type 0} {x y z : W} {written held : List ℕ} (f : X → List ℕ) (xs : List X) (i : ℕ) →
+      Wrote sink x y written → WroteFront sink y z held → written ++ held ≡ flat_map f (take i xs) →
+      WroteFront sink x z (flat_map f xs)
+  WroteFront-held {written} {held} f xs i p q e =
+      let after = flat_map f (drop i xs) in
+      WroteFront-part after p q
+      (sym (append_assoc written held after) ∙ ap (λ before. before ++ after) e
+      ∙ sym (flat_map-append f (take i xs) (drop i xs)) ∙ ap (flat_map f) (take-append-drop i xs))
 
 -- For `search`: what a function did that calls others which print, one after another.
 pub ruleset printing = (Wrote-append, WroteFront-append, WroteFront-longer, Prints-append)

@@ -1,4 +1,4 @@
-use Rattle.std.proofs.Common.{◌≡◌, ◌++◌, ◌≤◌, ◌+◌, ◌-◌, cond, length, min, take, sym, ap, ◌∙◌, subst, arith, rules, length-take}
+use Rattle.std.proofs.Common.{◌≡◌, ◌++◌, ◌≤◌, ◌-◌, cond, length, min, take, sym, ap, ◌∙◌, subst, arith, rules}
 use Rattle.vt_io.specs.LineBuffer.{Holds}
 use Rattle.vt_io.proofs.LineLemmas.{Holds-extended, front-extended}
 use Rattle.vt_io.proofs.line.LineBuffer.extend.Goals as goal
