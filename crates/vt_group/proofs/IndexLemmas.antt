@@ -1,26 +1,20 @@
 -- What an index lists, once a part of it changed.
 use Rattle.std.proofs.Common.{◌≡◌, ℕ, Bool, true, false, List, [], ◌∷◌, ◌||◌, filter, nat_eq, Option, Some, is_some, refl, sym, ap, subst, ◌∙◌, true≢false, ne_eqb, eq-eqb, flat_map}
-use Rattle.std.proofs.lemmas.Bool.{and_from, and_parts, eqb-true}
+use Rattle.std.proofs.lemmas.Bool.{eqb-true}
 use Rattle.std.proofs.lemmas.Map.Views.{any-filter_same}
 use Rattle.std.proofs.lemmas.List.Folds.{list_any-append}
 use Rattle.std.specs.List.{list_any}
-use Rattle.std.specs.Prelude.{◌&&◌}
 use Rattle.vt_location.specs.declared.mounts.Propagation.{Propagation}
 use Rattle.vt_location.specs.declared.mounts.Propagation.TheVariants.{Private, Shared, Slave, Unbindable}
 use Rattle.vt_location.specs.declared.numbers.GroupId.{GroupId}
 use Rattle.vt_location.specs.declared.numbers.MountId.{MountId}
 use Rattle.vt_group.specs.declared.index.Index.{Index}
 use Rattle.vt_group.specs.declared.sets.Sets.{Sets}
-use Rattle.vt_group.specs.Indexed.{group_of_kind, has_source, is_listed, is_relative, source_of_kind}
+use Rattle.vt_group.specs.Indexed.{has_source, is_listed, is_relative, source_of_kind}
 use Rattle.vt_group.specs.Names.{KeepsNames, Named, is_under, names_of}
-use Rattle.vt_group.specs.Sets.{has, same_group, same_id}
+use Rattle.vt_group.specs.Sets.{has, same_group}
 use Rattle.vt_group.proofs.SetsLemmas.{same_id as same_number}
 use Rattle.std.proofs.Math.Bool.{or-true}
-
--- two tests that hold together hold also where weaker ones stand for them
-pub and_weaker : (a b c d : Bool) → (a ≡ true → c ≡ true) → (b ≡ true → d ≡ true) → (a && b) ≡ true → (c && d) ≡ true
-and_weaker a b c d first second is =
-    let parts = and_parts a b is in and_from c d (first parts.0) (second parts.1)
 
 module _ {A : Type 0} (p q : A → Bool) where
   one_more : (x : A) (xs : List A) → (p x ≡ true → q x ≡ true) → (list_any p xs ≡ true → list_any q xs ≡ true)
@@ -66,18 +60,15 @@ module _ {T : Type 0} (eq : T → T → Bool) (names now : Named) (old new : Set
       (any_still (λ name. has eq name one old) (λ name. has eq name one new) sets (names_of names group) under)
 
 module _ (old new : Index) (mount : MountId) where
-  -- a mount that is listed under its type stays so where it stays among relatives and members
+  -- a mount that is listed under its type stays so where it stays among relatives
   pub listed_still : (kind : Propagation)
       → ((group : GroupId) → has_source group kind ≡ true → is_relative old mount group ≡ true
       → is_relative new mount group ≡ true)
-      → ((group : GroupId) → group_of_kind kind ≡ Some group → has same_id group mount old.members ≡ true
-      → has same_id group mount new.members ≡ true)
       → is_listed old mount kind ≡ true → is_listed new mount kind ≡ true
-  listed_still (Shared group) relatives members =
-      and_weaker _ _ _ _ (relatives group (itself group)) (members group refl)
-  listed_still (Slave master) relatives members = relatives master (itself master)
-  listed_still Private relatives members = λ listed. refl
-  listed_still Unbindable relatives members = λ listed. refl
+  listed_still (Shared group) relatives = relatives group (itself group)
+  listed_still (Slave master) relatives = relatives master (itself master)
+  listed_still Private relatives = λ listed. refl
+  listed_still Unbindable relatives = λ listed. refl
 
 -- numbers of which one is taken and the other is free are not one
 pub apart_by : {A : Type 0} (at : ℕ → Option A) (a b : ℕ) → is_some (at a) ≡ false → is_some (at b) ≡ true
@@ -98,7 +89,7 @@ any-kept count at number ids left is some there =
 pub relative_of_source : (index : Index) (mount : MountId) (kind : Propagation) (group : GroupId)
     → has_source group kind ≡ true → is_listed index mount kind ≡ true → is_relative index mount group ≡ true
 relative_of_source index mount (Shared own) group source listed =
-    ap (is_relative index mount) (sym (same_number group own source)) ∙ (and_parts _ _ listed).0
+    ap (is_relative index mount) (sym (same_number group own source)) ∙ listed
 relative_of_source index mount (Slave master) group source listed =
     ap (is_relative index mount) (sym (same_number group master source)) ∙ listed
 relative_of_source index mount Private group source listed = absurd (true≢false (sym source))

@@ -23,3 +23,4 @@ pub mod Adding
 pub mod Sharing
 pub mod Typed
 pub mod FewLemmas
+pub mod Counted

@@ -1,5 +1,5 @@
 -- What is under groups, once one set of them changed.
-use Rattle.std.proofs.Common.{◌≡◌, Bool, true, false, cond, List, [], Option, None, option_map, refl, sym, ap, ◌∙◌, eq-eqb, true≢false}
+use Rattle.std.proofs.Common.{◌≡◌, Bool, true, false, cond, List, [], Option, None, option_map, refl, sym, ap, ◌∙◌}
 use Rattle.std.proofs.lemmas.Bool.{eqb-true}
 use Rattle.std.specs.List.{list_any}
 use Rattle.std.specs.Map.{lookup}
@@ -28,25 +28,6 @@ module _ {T : Type 0} (eq : T → T → Bool) (old new : Sets T) (group : GroupI
       by true = refl
       by false = refl
 
-  -- one more or less in it
-  has-changed : (was now : List T) (one : T) (there : Bool)
-      → ((at : GroupId) → kept_in at new ≡ (if same_group group at then now else kept_in at old))
-      → kept_in group old ≡ was
-      → ((other : T) → list_any (eq other) now ≡ cond (eq one other) there (list_any (eq other) was))
-      → (at : GroupId) (other : T) → has eq at other new
-      ≡ (if same_group group at then (if eq one other then there else has eq at other old) else has eq at other old)
-  has-changed was now one there keeps is changes at other =
-      ap (list_any (eq other)) (keeps at) ∙ by (same_group group at) refl
-    where
-      by : (b : Bool) → same_group group at ≡ b
-          → list_any (eq other) (if b then now else kept_in at old)
-          ≡ (if b then (if eq one other then there else has eq at other old) else has eq at other old)
-      by true same =
-          changes other
-          ∙ ap (λ list. if eq one other then there else list_any (eq other) list)
-          (sym is ∙ ap (λ id. kept_in id old) (sym (same_id group at same)))
-      by false apart = refl
-
   -- what is kept in the set is kept
   pub has-onto : (was now : List T)
       → ((at : GroupId) → kept_in at new ≡ (if same_group group at then now else kept_in at old))
@@ -59,48 +40,22 @@ module _ {T : Type 0} (eq : T → T → Bool) (old new : Sets T) (group : GroupI
       by true same = stays (ap (list_any (eq other)) (sym is ∙ ap (λ id. kept_in id old) (sym (same_id group at same))) ∙ there)
       by false apart = there
 
-  -- a set in which one was put has it, and what it had
-  pub has-put : (was now : List T) (one : T)
-      → ((at : GroupId) → kept_in at new ≡ (if same_group group at then now else kept_in at old))
-      → kept_in group old ≡ was
-      → ((other : T) → list_any (eq other) now ≡ cond (eq one other) true (list_any (eq other) was))
-      → eq one one ≡ true → has eq group one new ≡ true
-  has-put was now one keeps is changes itself =
-      has-changed was now one true keeps is changes group one
-      ∙ (λ i. if eq-eqb group.count group.count refl i then (if itself i then true else has eq group one old)
-      else has eq group one old)
-
-  -- every set keeps what it had where one was put in
-  pub has-kept : (was now : List T) (one : T)
-      → ((at : GroupId) → kept_in at new ≡ (if same_group group at then now else kept_in at old))
-      → kept_in group old ≡ was
-      → ((other : T) → list_any (eq other) now ≡ cond (eq one other) true (list_any (eq other) was))
-      → (at : GroupId) (other : T) → has eq at other old ≡ true → has eq at other new ≡ true
-  has-kept was now one keeps is changes at other there =
-      has-changed was now one true keeps is changes at other
-      ∙ by (same_group group at) (eq one other)
-    where
-      by : (a b : Bool) → (if a then (if b then true else has eq at other old) else has eq at other old) ≡ true
-      by true true = refl
-      by true false = there
-      by false b = there
-
-  -- and what it had but the one that was removed
+  -- and all but the one that was removed
   pub has-left : (was now : List T) (one : T)
       → ((at : GroupId) → kept_in at new ≡ (if same_group group at then now else kept_in at old))
       → kept_in group old ≡ was
-      → ((other : T) → list_any (eq other) now ≡ cond (eq one other) false (list_any (eq other) was))
+      → ((other : T) → eq one other ≡ false → list_any (eq other) was ≡ true → list_any (eq other) now ≡ true)
       → (at : GroupId) (other : T) → (same_group group at && eq one other) ≡ false
       → has eq at other old ≡ true → has eq at other new ≡ true
-  has-left was now one keeps is changes at other apart there =
-      has-changed was now one false keeps is changes at other
-      ∙ by (same_group group at) (eq one other) apart
+  has-left was now one keeps is stays at other apart there =
+      ap (list_any (eq other)) (keeps at) ∙ by (same_group group at) refl apart
     where
-      by : (a b : Bool) → (a && b) ≡ false
-          → (if a then (if b then false else has eq at other old) else has eq at other old) ≡ true
-      by true true apart = absurd (true≢false apart)
-      by true false apart = there
-      by false b apart = there
+      by : (b : Bool) → same_group group at ≡ b → (b && eq one other) ≡ false
+          → list_any (eq other) (if b then now else kept_in at old) ≡ true
+      by true same apart =
+          stays other apart
+          (ap (list_any (eq other)) (sym is ∙ ap (λ id. kept_in id old) (sym (same_id group at same))) ∙ there)
+      by false differ apart = there
 
 -- an entry that is dropped is not found
 pub dropped-empty : {A : Type 0} (b : Bool) (found rest : Option A) → cond b None (cond b found rest) ≡ cond b None rest

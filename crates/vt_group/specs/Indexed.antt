@@ -1,5 +1,5 @@
 -- The lists by which the groups find mounts and groups.
-use Rattle.std.specs.Prelude.{Bool, IsSome, None, Option, Some, false, true, ℕ, ◌&&◌, ◌≡◌}
+use Rattle.std.specs.Prelude.{Bool, IsSome, None, Option, Some, false, true, ℕ, ◌≡◌}
 use Rattle.vt_location.specs.declared.mounts.Propagation.{Propagation}
 use Rattle.vt_location.specs.declared.mounts.Propagation.TheVariants.{Private, Shared, Slave, Unbindable}
 use Rattle.vt_location.specs.declared.numbers.GroupId.{GroupId}
@@ -7,7 +7,7 @@ use Rattle.vt_location.specs.declared.numbers.MountId.{MountId}
 use Rattle.vt_group.specs.declared.index.Index.{Index}
 use Rattle.vt_group.specs.Handing.{group_handed, kind_handed}
 use Rattle.vt_group.specs.Names.{is_under}
-use Rattle.vt_group.specs.Sets.{has, same_group, same_id}
+use Rattle.vt_group.specs.Sets.{same_group, same_id}
 use Rattle.vt_group.specs.ByNumber.{IsAscending, Numbered, value_at}
 
 abbrev pub group_of_kind : Propagation → Option GroupId
@@ -39,7 +39,7 @@ is_lower index lower upper = is_under same_group index.names index.lowers lower 
 
 -- a mount of this type is where it has to be
 abbrev pub is_listed : Index → MountId → Propagation → Bool
-is_listed index mount (Shared group) = is_relative index mount group && has same_id group mount index.members
+is_listed index mount (Shared group) = is_relative index mount group
 is_listed index mount (Slave master) = is_relative index mount master
 is_listed index mount Private = true
 is_listed index mount Unbindable = true

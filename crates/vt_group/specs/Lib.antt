@@ -11,3 +11,4 @@ pub mod Listing
 pub mod Receiving
 pub mod Sets
 pub mod Additions
+pub mod Types

@@ -17,8 +17,7 @@ same_id a b = nat_eq a.count b.count
 -- what is in a set
 abbrev pub elements : {T : Type 0} → Set T → List T
 elements (Set.One only) = option_to_list only
-elements (Set.Few few) = few.items
-elements (Set.Many set) = set.keys
+elements (Set.Many many) = many.items
 
 abbrev pub kept_in : {T : Type 0} → GroupId → Sets T → List T
 kept_in group sets = unwrap_or (option_map elements (lookup (same_group group) sets.sets.entries)) []

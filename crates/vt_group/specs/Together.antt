@@ -105,10 +105,6 @@ Shares old new pairs =
     → map (λ mount. (mount.number, group mount.number)) named ≡ pairs → ((number : ℕ) → LacksGroup world (group number))
     → Has (retyped nat_eq world group ToShared named) new
 
--- a mount with its type by the groups that there are
-abbrev pub type_before : Grouping → ℕ → ℕ × Propagation ℕ
-type_before groups mount = (mount, propagation_in groups mount)
-
 -- the type of a mount that becomes shared, by the groups that there are, and its group with the master that it gets
 abbrev pub shared_type : Grouping → ℕ × ℕ → ℕ × Propagation ℕ
 shared_type groups pair = (pair.0, type_after pair.1 ToShared (propagation_in groups pair.0))

@@ -4,11 +4,13 @@ ghost use Rattle.vt_spec.specs.Lists.{folded};
 ghost use Rattle.vt_group.specs.Additions.{FitsMaster, FitsType, typed_pair};
 ghost use Rattle.vt_group.specs.ByNumber.{IsAscending, has_room};
 ghost use Rattle.vt_group.specs.Steps.{numbered_master, numbered_peer};
+ghost use Rattle.vt_group.specs.Types.{KeepsRoom};
 ghost use Rattle.vt_group.specs.Together.{new_group, typed, with_master_of, with_type_of};
 
 use crate::by_number::ByNumber;
 use crate::groups::NewGroup;
 use crate::propagation::source;
+use crate::types::Types;
 use std::alloc::{AllocError, Global};
 use vt_location::{GroupId, Mount, MountId, Propagation};
 
@@ -28,12 +30,12 @@ pub(crate) fn types_of(
 
 /// Reserves room for these types and masters. None changes.
 pub(crate) fn reserve_all(
-    types: &mut ByNumber<Propagation>,
+    types: &mut Types,
     above: &mut ByNumber<GroupId>,
     mounts: &[(MountId, Propagation)],
     new: &[NewGroup],
 ) -> Result<(), AllocError>
-    ensures types { types.new.entries ≡ types.old.entries }
+    ensures types { types.new.kinds.entries ≡ types.old.kinds.entries }
     ensures masters { above.new.entries ≡ above.old.entries }
     ensures room { OnOk result (All (FitsType types.new) mounts.now) }
     ensures room_above { OnOk result (All (FitsMaster above.new) new.now) }
@@ -42,11 +44,8 @@ pub(crate) fn reserve_all(
     reserve_masters(above, new)
 }
 
-fn reserve_types(
-    types: &mut ByNumber<Propagation>,
-    mounts: &[(MountId, Propagation)],
-) -> Result<(), AllocError>
-    ensures entries { types.new.entries ≡ types.old.entries }
+fn reserve_types(types: &mut Types, mounts: &[(MountId, Propagation)]) -> Result<(), AllocError>
+    ensures entries { types.new.kinds.entries ≡ types.old.kinds.entries }
     ensures room { OnOk result (All (FitsType types.new) mounts.now) }
 {
     for pair in mounts {
@@ -55,19 +54,15 @@ fn reserve_types(
     Ok(())
 }
 
-fn reserve_type(
-    types: &mut ByNumber<Propagation>,
-    mount: MountId,
-    kind: Propagation,
-) -> Result<(), AllocError>
-    ensures entries { types.new.entries ≡ types.old.entries }
+fn reserve_type(types: &mut Types, mount: MountId, kind: Propagation) -> Result<(), AllocError>
+    ensures entries { types.new.kinds.entries ≡ types.old.kinds.entries }
     ensures room { OnOk result (FitsType types.new (mount, kind)) }
-    ensures kept { (other : ℕ) → has_room types.old other ≡ true → has_room types.new other ≡ true }
+    ensures kept { KeepsRoom types.old types.new }
 {
     if source(kind).is_none() {
         return Ok(());
     }
-    types.reserve(mount.count)
+    types.reserve(mount.count, kind)
 }
 
 fn reserve_masters(above: &mut ByNumber<GroupId>, new: &[NewGroup]) -> Result<(), AllocError>
@@ -93,16 +88,16 @@ fn reserve_master(above: &mut ByNumber<GroupId>, new: NewGroup) -> Result<(), Al
 
 /// Gives up the room that is left without a type or a master. None changes, and it does not allocate.
 pub(crate) fn release_all(
-    types: &mut ByNumber<Propagation>,
+    types: &mut Types,
     above: &mut ByNumber<GroupId>,
     mounts: &[(MountId, Propagation)],
     new: &[NewGroup],
 )
-    ensures types { types.new.entries ≡ types.old.entries }
+    ensures types { types.new.kinds.entries ≡ types.old.kinds.entries }
     ensures masters { above.new.entries ≡ above.old.entries }
 {
     for pair in mounts {
-        types.release(pair.0.count);
+        types.release(pair.0.count, pair.1);
     }
     release_masters(above, new);
 }
@@ -118,18 +113,18 @@ fn release_masters(above: &mut ByNumber<GroupId>, new: &[NewGroup])
 /// Mounts get types, and groups get masters or lose them, one after another. There is room, so that it does not
 /// allocate.
 pub(crate) fn set_all(
-    types: &mut ByNumber<Propagation>,
+    types: &mut Types,
     above: &mut ByNumber<GroupId>,
     mounts: &[(MountId, Propagation)],
     new: &[NewGroup],
 )
     requires room { All (FitsType types.old) mounts.now }
     requires room_above { All (FitsMaster above.old) new.now }
-    ensures types { map numbered_peer types.new.entries
-        ≡ folded with_type_of (map numbered_peer types.old.entries) (map typed_pair mounts.now) }
+    ensures types { map numbered_peer types.new.kinds.entries
+        ≡ folded with_type_of (map numbered_peer types.old.kinds.entries) (map typed_pair mounts.now) }
     ensures masters { map numbered_master above.new.entries
         ≡ folded with_master_of (map numbered_master above.old.entries) (map new_group new.now) }
-    ensures ordered { IsAscending types.old → IsAscending types.new }
+    ensures ordered { IsAscending types.old.kinds → IsAscending types.new.kinds }
     ensures ordered_above { IsAscending above.old → IsAscending above.new }
 {
     set_types(types, mounts);
@@ -138,23 +133,23 @@ pub(crate) fn set_all(
     release_masters(above, new);
 }
 
-fn set_types(types: &mut ByNumber<Propagation>, mounts: &[(MountId, Propagation)])
+fn set_types(types: &mut Types, mounts: &[(MountId, Propagation)])
     requires { All (FitsType types.old) mounts.now }
-    ensures entries { map numbered_peer types.new.entries
-        ≡ folded with_type_of (map numbered_peer types.old.entries) (map typed_pair mounts.now) }
-    ensures ordered { IsAscending types.old → IsAscending types.new }
+    ensures entries { map numbered_peer types.new.kinds.entries
+        ≡ folded with_type_of (map numbered_peer types.old.kinds.entries) (map typed_pair mounts.now) }
+    ensures ordered { IsAscending types.old.kinds → IsAscending types.new.kinds }
 {
     for pair in mounts {
         set_type(types, pair.0, pair.1);
     }
 }
 
-fn set_type(types: &mut ByNumber<Propagation>, mount: MountId, kind: Propagation)
+fn set_type(types: &mut Types, mount: MountId, kind: Propagation)
     requires { FitsType types.old (mount, kind) }
-    ensures entries { map numbered_peer types.new.entries
-        ≡ with_type_of (map numbered_peer types.old.entries) (typed_pair (mount, kind)) }
-    ensures kept { (other : ℕ) → has_room types.old other ≡ true → has_room types.new other ≡ true }
-    ensures ordered { IsAscending types.old → IsAscending types.new }
+    ensures entries { map numbered_peer types.new.kinds.entries
+        ≡ with_type_of (map numbered_peer types.old.kinds.entries) (typed_pair (mount, kind)) }
+    ensures kept { KeepsRoom types.old types.new }
+    ensures ordered { IsAscending types.old.kinds → IsAscending types.new.kinds }
 {
     if source(kind).is_some() {
         types.set(mount.count, kind);
@@ -181,7 +176,9 @@ fn set_master(above: &mut ByNumber<GroupId>, new: NewGroup)
     ensures ordered { IsAscending above.old → IsAscending above.new }
 {
     match new.master {
-        Some(master) => above.set(new.group.count, master),
+        Some(master) => {
+            above.set(new.group.count, master);
+        }
         None => above.clear(new.group.count),
     }
 }

@@ -1,5 +1,5 @@
 //! A map by numbers in which room can be reserved.
-ghost use Rattle.std.specs.Prelude.{◌≡◌, ℕ, [], None, Some, OnOk, if◌then◌else◌, is_some, true};
+ghost use Rattle.std.specs.Prelude.{◌≡◌, ◌≤◌, ℕ, length, [], None, Some, OnOk, if◌then◌else◌, is_some, true};
 ghost use Rattle.std.specs.BTreeMap.{insert_entry, is_at};
 ghost use Rattle.std.specs.Map.{remove_entry};
 ghost use Rattle.std.specs.Ordering.{nat_cmp};
@@ -54,22 +54,31 @@ impl<V: Copy + Clone + Drop> ByNumber<V> {
         self.get(number).is_some()
     }
 
+    /// No fewer than there are values.
+    pub(crate) fn len(&self) -> usize
+        ensures { length self.now.entries ≤ result }
+    {
+        self.places.len()
+    }
+
     /// Reserves room for the value of a number. No value changes.
     pub(crate) fn reserve(&mut self, number: u64) -> Result<(), AllocError>
         ensures room { OnOk result (has_room self.new number ≡ true) }
         ensures kept { (other : ℕ) → has_room self.old other ≡ true → has_room self.new other ≡ true }
         ensures entries { self.new.entries ≡ self.old.entries }
     {
-        if self.places.contains_key(&number) {
+        let was = self.places.insert(number, None)?;
+        let Some(value) = was.flatten() else {
             return Ok(());
-        }
-        self.places.insert(number, None)?;
+        };
+        self.places.insert(number, Some(value))?;
         Ok(())
     }
 
-    /// Gives a number a value, for which there is room. It does not allocate.
-    pub(crate) fn set(&mut self, number: u64, value: V)
+    /// Gives a number a value, for which there is room, and returns the value that it had. It does not allocate.
+    pub(crate) fn set(&mut self, number: u64, value: V) -> Option<V>
         requires { has_room self.old number ≡ true }
+        ensures value { result ≡ value_at self.old number }
         ensures entries { self.new.entries ≡ insert_entry nat_cmp self.old.entries number value }
         ensures updates { (other : ℕ) → value_at self.new other
             ≡ (if is_at (nat_cmp number) other then Some value else value_at self.old other) }
@@ -77,9 +86,11 @@ impl<V: Copy + Clone + Drop> ByNumber<V> {
         ensures ordered { IsAscending self.new }
     {
         let Some(place) = self.places.get_mut(&number) else {
-            return;
+            return None;
         };
+        let was = *place;
         *place = Some(value);
+        was
     }
 
     /// Takes the value of a number, if any, and leaves room for one. It does not allocate.

@@ -11,7 +11,7 @@ ghost use Rattle.vt_location.specs.Numbers.{counted, group_number, mount_number}
 ghost use Rattle.vt_group.specs.Grouping.{Follows, Has, HasGroup, HasMount, LacksGroup, below, master_in, no_groups, propagation_in, with_propagation};
 ghost use Rattle.vt_group.specs.Additions.{typed_pair};
 ghost use Rattle.vt_group.specs.Together.{GrowsTo, Shares, is_ordered, new_group, pair_of};
-ghost use Rattle.vt_group.specs.Together.{shared_group, shared_type, type_before, typed};
+ghost use Rattle.vt_group.specs.Together.{shared_group, shared_type, typed};
 ghost use Rattle.vt_group.specs.Leaving.{is_member_of, lone_group, lost_group, master_after_end, type_after_end, type_once_ended, type_once_left, type_once_retyped, type_once_slave};
 ghost use Rattle.std.specs.List.Sorted.{IsStrictlySortedBy};
 ghost use Rattle.std.specs.Ordering.{nat_cmp};
@@ -27,11 +27,15 @@ use crate::by_number::ByNumber;
 use crate::handing::{hand_groups, hand_mounts};
 use crate::index::Index;
 use crate::listed::Listed;
-use crate::propagation::{has_source, is_in, own_group};
+use crate::propagation::{has_source, own_group};
+use crate::types::Types;
 use indexmap::IndexSet;
 use std::alloc::{AllocError, Global};
 use std::marker::Model;
 use vt_location::{GroupId, Mount, MountId, Propagation};
+
+/// For how many receivers there is room at first.
+const SOME: usize = 32;
 
 /// A new group, and its master.
 #[derive(Clone, Copy, Debug, PartialEq, Eq)]
@@ -44,7 +48,7 @@ pub struct NewGroup {
 #[derive(Debug, Drop)]
 pub struct Groups {
     // By the counts of the mounts, so that they stand in order of attachment.
-    mounts: ByNumber<Propagation>,
+    mounts: Types,
     // By the counts of the groups.
     above: ByNumber<GroupId>,
     index: Index,
@@ -57,11 +61,11 @@ impl Model for Groups {
 
     ghost Value = { Grouping };
 
-    ghost view = { λ g. record { peers = map numbered_peer g.mounts.entries; masters = map numbered_master g.above.entries } };
+    ghost view = { λ g. record { peers = map numbered_peer g.mounts.kinds.entries; masters = map numbered_master g.above.entries } };
 
     ghost use Rattle.vt_group.specs.Indexed.{Lists};
 
-    ghost invariant = { λ g. Lists g.index g.mounts g.above };
+    ghost invariant = { λ g. Lists g.index g.mounts.kinds g.above };
 }
 
 impl Groups {
@@ -70,7 +74,7 @@ impl Groups {
         ensures { result ≡ no_groups }
     {
         Groups {
-            mounts: ByNumber::new(alloc),
+            mounts: Types::new(alloc),
             above: ByNumber::new(alloc),
             index: Index::new(alloc),
         }
@@ -95,40 +99,10 @@ impl Groups {
         ensures { option_map group_number result ≡ lone_group self.now (mount_number mount) }
     {
         let group = own_group(self.propagation_of(mount)?)?;
-        for other in self.members(group) {
-            if self.is_other_member(*other, mount, group) {
-                return None;
-            }
+        if self.mounts.has_others(group, mount.count) {
+            return None;
         }
         Some(group)
-    }
-
-    // Whether a mount is a member of a group, and another one than this.
-    fn is_other_member(&self, other: MountId, mount: MountId, group: GroupId) -> bool
-        ensures { result ≡ (not (nat_eq (mount_number other) (mount_number mount))
-            && is_member_of (group_number group) self.now (mount_number other)) }
-    {
-        other != mount && self.is_member(other, group)
-    }
-
-    // Mounts among which each member of a group is.
-    fn members(&self, group: GroupId) -> &[MountId]
-        ensures members { (mount : ℕ) → is_member_of (group_number group) self.now mount ≡ true
-            → is_among nat_eq mount (map mount_number result.now) ≡ true }
-        // each mount has one type
-        ensures order { is_ordered self.now ≡ true }
-    {
-        self.index.members(group)
-    }
-
-    // Whether a mount is a member of a group.
-    fn is_member(&self, mount: MountId, group: GroupId) -> bool
-        ensures { result ≡ is_member_of (group_number group) self.now (mount_number mount) }
-    {
-        match self.propagation_of(mount) {
-            Some(kind) => is_in(kind, group),
-            None => false,
-        }
     }
 
     /// Mounts among which each member and each slave of a group is; others may be among them too.
@@ -176,7 +150,7 @@ impl Groups {
             × (map mount_number mounts.items ≡ receivers_from found self.now.peers)) }
     {
         let _ = &self.mounts;
-        let mut mounts = Vec::new(alloc);
+        let mut mounts = Vec::with_capacity(alloc, SOME)?;
         self.add_relatives(&mut mounts, group)?;
         put_in_order(&mut mounts);
         Ok(mounts)
@@ -189,7 +163,7 @@ impl Groups {
             × (map mount_number mounts.items ≡ receivers_from found self.now.peers)) }
     {
         let _ = &self.mounts;
-        let mut mounts = Vec::new(alloc);
+        let mut mounts = Vec::with_capacity(alloc, SOME)?;
         let mut found = IndexSet::new(alloc);
         found.insert(group)?;
         let mut next = 0;
@@ -364,7 +338,8 @@ impl Groups {
         }
         // From here on nothing can fail.
         set_all(&mut self.mounts, &mut self.above, types, new);
-        self.index.unlist_all(before.as_slice(), &self.mounts);
+        self.index
+            .unlist_all(before.as_slice(), self.mounts.kinds());
         Ok(())
     }
 
@@ -380,7 +355,7 @@ impl Groups {
         let types = types.as_slice();
         let new = new.as_slice();
         let before = self.types_before(alloc, types)?;
-        if self.index.share(named, &self.mounts).is_err()
+        if self.index.share(named, self.mounts.kinds()).is_err()
             || reserve_all(&mut self.mounts, &mut self.above, types, new).is_err()
         {
             self.drop_plan(types, new);
@@ -388,7 +363,8 @@ impl Groups {
         }
         // From here on nothing can fail.
         set_all(&mut self.mounts, &mut self.above, types, new);
-        self.index.unlist_all(before.as_slice(), &self.mounts);
+        self.index
+            .unlist_all(before.as_slice(), self.mounts.kinds());
         Ok(())
     }
 
@@ -397,31 +373,24 @@ impl Groups {
         ensures { self.new ≡ self.old }
     {
         release_all(&mut self.mounts, &mut self.above, types, new);
-        self.index.unlist_all(types, &self.mounts);
+        self.index.unlist_all(types, self.mounts.kinds());
         self.index.part_all(new, &self.above);
     }
 
-    // The types of mounts that get others, so that the mounts can be taken out of where they were listed for them.
+    // The types of those of these mounts that have one, so that they can be taken out of where they were listed for it.
+    // Nothing rests on it: what is left out stays listed.
     fn types_before(
         &self,
         alloc: Global,
         mounts: &[(MountId, Propagation)],
-    ) -> Result<Vec<(MountId, Propagation)>, AllocError>
-        ensures { IfOk result (λ types. map typed_pair types.items
-            ≡ map (λ pair. type_before self.now (mount_number pair.0)) mounts.now) }
-    {
-        let mut types = Vec::with_capacity(alloc, mounts.len())?;
+    ) -> Result<Vec<(MountId, Propagation)>, AllocError> {
+        let mut types = Vec::new(alloc);
         for pair in mounts {
-            types.push((pair.0, self.type_before(pair.0)))?;
+            if let Some(kind) = self.propagation_of(pair.0) {
+                types.push((pair.0, kind))?;
+            }
         }
         Ok(types)
-    }
-
-    // The type of a mount. One that is unbindable is taken for private, since neither is listed.
-    fn type_before(&self, mount: MountId) -> Propagation
-        ensures { (mount_number mount, propagation_of result) ≡ type_before self.now (mount_number mount) }
-    {
-        self.propagation_of(mount).unwrap_or(Propagation::Private)
     }
 
     // The types of mounts that become shared.
@@ -508,7 +477,8 @@ impl Groups {
         self.index.list(mount, Propagation::Shared(group))?;
         self.index.join(group, master)?;
         self.above.reserve(group.count)?;
-        if self.mounts.reserve(mount.count).is_err() {
+        let kind = Propagation::Shared(group);
+        if self.mounts.reserve(mount.count, kind).is_err() {
             self.above.release(group.count);
             return Err(AllocError);
         }
@@ -530,7 +500,7 @@ impl Groups {
         ensures err { OnErr result (self.new ≡ self.old) }
     {
         self.index.list(mount, kind)?;
-        self.mounts.reserve(mount.count)?;
+        self.mounts.reserve(mount.count, kind)?;
         let old = self.mounts.get(mount.count);
         self.mounts.set(mount.count, kind);
         self.index.leave(mount, old, Some(kind));
@@ -556,15 +526,11 @@ impl Groups {
         self.end(group);
     }
 
+    // Whether a group has members.
     fn has_members(&self, group: GroupId) -> bool
         ensures { result ≡ has_peers (group_number group) self.now }
     {
-        for mount in self.members(group) {
-            if self.is_member(*mount, group) {
-                return true;
-            }
-        }
-        false
+        self.mounts.has_members(group)
     }
 
     // A group has no members left: its slaves and lower groups get its master.
@@ -577,11 +543,13 @@ impl Groups {
         ensures masters { (other : ℕ) → master_in self.new other
             ≡ master_after_end (group_number group) (master_in self.old (group_number group)) self.old other }
     {
+        self.mounts.forget(group);
         let heir = self.above.get(group.count);
         hand_mounts(&mut self.mounts, self.index.relatives(group), group, heir);
         hand_groups(&mut self.above, self.index.lowers(group), group, heir);
         self.above.remove(group.count);
-        self.index.end(group, heir, &self.mounts, &self.above);
+        self.index
+            .end(group, heir, self.mounts.kinds(), &self.above);
     }
 }
 

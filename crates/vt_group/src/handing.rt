@@ -7,43 +7,39 @@ ghost use Rattle.vt_group.specs.Handing.{group_handed, kind_handed};
 
 use crate::by_number::ByNumber;
 use crate::listed::Listed;
-use crate::propagation::{handed, handed_master};
+use crate::propagation::handed_master;
+use crate::types::Types;
 use vt_location::{GroupId, MountId, Propagation};
 
 /// The slaves of a lost group that are among these mounts get its heir, or no type if there is none.
 pub(crate) fn hand_mounts(
-    types: &mut ByNumber<Propagation>,
+    types: &mut Types,
     mounts: Listed<'_, MountId>,
     lost: GroupId,
     heir: Option<GroupId>,
 )
-    ensures ordered { IsAscending types.old → IsAscending types.new }
-    ensures each { (mount : ℕ) → value_at types.new mount
+    ensures ordered { IsAscending types.old.kinds → IsAscending types.new.kinds }
+    ensures each { (mount : ℕ) → value_at types.new.kinds mount
         ≡ (if list_any (λ id. nat_eq mount id.count) mounts.entry
-        then then_some (value_at types.old mount) (kind_handed lost heir) else value_at types.old mount) }
+        then then_some (value_at types.old.kinds mount) (kind_handed lost heir) else value_at types.old.kinds mount) }
 {
     for mount in mounts {
         hand_mount(types, mount, lost, heir);
     }
 }
 
-fn hand_mount(
-    types: &mut ByNumber<Propagation>,
-    mount: MountId,
-    lost: GroupId,
-    heir: Option<GroupId>,
-)
-    ensures ordered { IsAscending types.old → IsAscending types.new }
-    ensures each { (other : ℕ) → value_at types.new other
+fn hand_mount(types: &mut Types, mount: MountId, lost: GroupId, heir: Option<GroupId>)
+    ensures ordered { IsAscending types.old.kinds → IsAscending types.new.kinds }
+    ensures each { (other : ℕ) → value_at types.new.kinds other
         ≡ (if nat_eq other mount.count
-        then then_some (value_at types.old mount.count) (kind_handed lost heir) else value_at types.old other) }
+        then then_some (value_at types.old.kinds mount.count) (kind_handed lost heir) else value_at types.old.kinds other) }
 {
-    let Some(kind) = types.get(mount.count) else {
+    let Some(Propagation::Slave(master)) = types.get(mount.count) else {
         return;
     };
-    match handed(kind, lost, heir) {
-        Some(kind) => {
-            types.set(mount.count, kind);
+    match handed_master(master, lost, heir) {
+        Some(master) => {
+            types.set(mount.count, Propagation::Slave(master));
         }
         None => {
             types.remove(mount.count);

@@ -1,5 +1,5 @@
 //! The lists by which the groups find mounts and groups without passing over all of them.
-ghost use Rattle.std.specs.Prelude.{◌≡◌, ◌≢◌, ℕ, None, Some, OnErr, OnOk, IfSome, IsSome, false, true};
+ghost use Rattle.std.specs.Prelude.{◌≡◌, ◌≢◌, ◌&&◌, ℕ, None, Some, OnErr, OnOk, IfSome, IsSome, false, true};
 ghost use Rattle.vt_group.specs.ByNumber.{value_at};
 ghost use Rattle.std.specs.List.{list_any};
 ghost use Rattle.vt_location.specs.declared.mounts.Propagation.{Propagation as TypeKept};
@@ -16,9 +16,9 @@ ghost use Rattle.vt_group.specs.Sets.{has, same_group, same_id};
 use crate::by_number::ByNumber;
 use crate::groups::NewGroup;
 use crate::listed::Listed;
-use crate::names::Names;
-use crate::places::{Places, forget_lower, forget_untyped};
-use crate::propagation::{own_group, source};
+use crate::names::{Left, Names};
+use crate::places::{Noted, Place, Places, forget_lower, forget_untyped};
+use crate::propagation::source;
 use crate::set::Element;
 use crate::sets::{Sets, keep_lower, keep_typed};
 use std::alloc::{AllocError, Global};
@@ -33,9 +33,7 @@ pub(crate) struct Index {
     // By names: the mounts of groups, and the groups below them.
     mounts: Sets<MountId>,
     lowers: Sets<GroupId>,
-    // By groups.
-    members: Sets<MountId>,
-    // The name that each of these is under, or was first put under.
+    // Where each of these is listed.
     mount_places: Places<MountId>,
     lower_places: Places<GroupId>,
 }
@@ -47,7 +45,6 @@ impl Index {
             names: Names::new(alloc),
             mounts: Sets::new(alloc),
             lowers: Sets::new(alloc),
-            members: Sets::new(alloc),
             mount_places: Places::new(alloc),
             lower_places: Places::new(alloc),
         }
@@ -74,14 +71,6 @@ impl Index {
         Listed::new(self.names.of(group), &self.lowers)
     }
 
-    /// Mounts among which each member of a group is.
-    pub(crate) fn members(&self, group: GroupId) -> &[MountId]
-        ensures { (mount : MountNumber) → is_listed self.now mount (SharedIn group) ≡ true
-            → list_any (same_id mount) result.now ≡ true }
-    {
-        self.members.get(group)
-    }
-
     /// Lists a mount, before it gets a type.
     pub(crate) fn list(&mut self, mount: MountId, kind: Propagation) -> Result<(), AllocError>
         ensures ok { OnOk result (is_listed self.new mount kind ≡ true) }
@@ -90,25 +79,15 @@ impl Index {
         ensures lower { (lower upper : GroupNumber) → is_lower self.old lower upper ≡ true
             → is_lower self.new lower upper ≡ true }
     {
-        match kind {
-            Propagation::Shared(group) => {
-                put(
-                    &mut self.names,
-                    &mut self.mounts,
-                    &mut self.mount_places,
-                    group,
-                    mount,
-                )?;
-                self.members.insert(group, mount)
-            }
-            Propagation::Slave(master) => put(
+        match source(kind) {
+            Some(group) => put(
                 &mut self.names,
                 &mut self.mounts,
                 &mut self.mount_places,
-                master,
+                group,
                 mount,
             ),
-            Propagation::Private | Propagation::Unbindable => Ok(()),
+            None => Ok(()),
         }
     }
 
@@ -248,24 +227,24 @@ impl Index {
         ensures lower { (lower upper : GroupNumber) → is_lower self.old lower upper ≡ true
             → is_lower self.new lower upper ≡ true }
     {
-        take_out_of_one(&mut self.members, mount, group_in(was), group_in(is));
-        let now = source_in(is);
         let Some(group) = source_in(was) else {
             return;
         };
+        let now = source_in(is);
         if now == Some(group) {
             return;
         }
         let stays = self.names.of_any(now);
-        let name = take_out(
+        let left = take_out(
             &mut self.mounts,
             &mut self.mount_places,
-            self.names.of(group),
+            &self.names,
+            group,
             stays,
             mount,
         );
         self.names
-            .prune_left(group, name, &self.mounts, &self.lowers);
+            .prune_left(group, left, &self.mounts, &self.lowers);
     }
 
     /// Takes out a group that had this master, once it has that one, or none. It does not allocate.
@@ -278,14 +257,15 @@ impl Index {
             → is_lower self.new lower upper ≡ true }
     {
         let stays = self.names.of_any(is);
-        let name = take_out(
+        let left = take_out(
             &mut self.lowers,
             &mut self.lower_places,
-            self.names.of(was),
+            &self.names,
+            was,
             stays,
             lower,
         );
-        self.names.prune_left(was, name, &self.mounts, &self.lowers);
+        self.names.prune_left(was, left, &self.mounts, &self.lowers);
     }
 
     /// Takes mounts out of where they are listed for these types, unless they have them. It does not allocate.
@@ -397,63 +377,82 @@ fn put<T: Element>(
     ensures sets { (at : GroupNumber) (other : T) → has T.eq at other sets.old ≡ true
         → has T.eq at other sets.new ≡ true }
 {
+    if let Some(place) = places.of(one) {
+        if is_listed_at(names, sets, group, one, place) {
+            return Ok(());
+        }
+    }
     let name = names.name(group)?;
-    sets.insert(name, one)?;
-    places.put(one, name)
+    let index = sets.push(name, one)?;
+    places.put(one, Place { name, index })
 }
 
-// Takes one out from under a name of its group, unless it stays there. It returns that name.
+// Whether one is listed at this place, under a name of a group.
+fn is_listed_at<T: Element>(
+    names: &Names,
+    sets: &Sets<T>,
+    group: GroupId,
+    one: T,
+    place: Place,
+) -> bool
+    ensures { result ≡ true → is_under T.eq names.now sets.now one group ≡ true }
+{
+    names.of(group).contains(&place.name) && sets.is_at(place.name, place.index, &one)
+}
+
+// Takes one out from under a name of its group, unless it stays there.
 fn take_out<T: Element>(
     sets: &mut Sets<T>,
     places: &mut Places<T>,
-    names: &LinkedList<GroupId>,
+    names: &Names,
+    group: GroupId,
     stays: &LinkedList<GroupId>,
     one: T,
-) -> Option<GroupId>
+) -> Option<Left>
     ensures others { (at : GroupNumber) (other : T) → T.eq one other ≡ false → has T.eq at other sets.old ≡ true
         → has T.eq at other sets.new ≡ true }
     ensures own { (at : GroupNumber) (other : T) → list_any (λ name. same_group name at) stays.now ≡ true
         → has T.eq at other sets.old ≡ true → has T.eq at other sets.new ≡ true }
 {
-    if let Some(name) = take_out_noted(sets, places, stays, one) {
-        return Some(name);
+    if let Some(left) = take_out_noted(sets, places, stays, one) {
+        return Some(left);
     }
-    take_out_found(sets, places, names, stays, one)
+    take_out_found(sets, places, names.of(group), stays, one)
 }
 
-// The same from under the name that is noted for it, if it is there.
+// The same at the place that is noted for it, if it is there.
 fn take_out_noted<T: Element>(
     sets: &mut Sets<T>,
     places: &mut Places<T>,
     stays: &LinkedList<GroupId>,
     one: T,
-) -> Option<GroupId>
+) -> Option<Left>
     ensures others { (at : GroupNumber) (other : T) → T.eq one other ≡ false → has T.eq at other sets.old ≡ true
         → has T.eq at other sets.new ≡ true }
     ensures own { (at : GroupNumber) (other : T) → list_any (λ name. same_group name at) stays.now ≡ true
         → has T.eq at other sets.old ≡ true → has T.eq at other sets.new ≡ true }
 {
-    let name = noted_name(places, stays, one)?;
-    if !sets.remove(name, one) {
-        return None;
-    }
-    places.leave(one, name, stays.front().copied());
-    Some(name)
+    let place = left_place(places, stays, one)?;
+    take_out_at(sets, places, one, place)
 }
 
-// The name that is noted for one, unless it stays there.
-fn noted_name<T: Element>(
-    places: &Places<T>,
+// The place that is noted for one, unless it stays there. It is forgotten, and one that is noted beside it is not.
+fn left_place<T: Element>(
+    places: &mut Places<T>,
     stays: &LinkedList<GroupId>,
     one: T,
-) -> Option<GroupId>
-    ensures { IfSome result (λ name. list_any (λ other. same_group other name) stays.now ≡ false) }
+) -> Option<Place>
+    ensures { IfSome result (λ place. list_any (λ other. same_group other place.name) stays.now ≡ false) }
 {
-    let name = places.of(one)?;
-    if stays.contains(&name) {
+    let noted = places.take(one)?;
+    if stays.contains(&noted.first.name) {
+        places.put_back(one, noted);
         return None;
     }
-    Some(name)
+    if let Some(first) = noted.next {
+        places.put_back(one, Noted { first, next: None });
+    }
+    Some(noted.first)
 }
 
 // The same from under the first of these names under which it is.
@@ -463,16 +462,35 @@ fn take_out_found<T: Element>(
     names: &LinkedList<GroupId>,
     stays: &LinkedList<GroupId>,
     one: T,
-) -> Option<GroupId>
+) -> Option<Left>
     ensures others { (at : GroupNumber) (other : T) → T.eq one other ≡ false → has T.eq at other sets.old ≡ true
         → has T.eq at other sets.new ≡ true }
     ensures own { (at : GroupNumber) (other : T) → list_any (λ name. same_group name at) stays.now ≡ true
         → has T.eq at other sets.old ≡ true → has T.eq at other sets.new ≡ true }
 {
     let name = name_over(sets, names, stays, one)?;
-    sets.remove(name, one);
-    places.leave(one, name, stays.front().copied());
-    Some(name)
+    take_out_at(sets, places, one, Place { name, index: 0 })
+}
+
+// Takes one out from under a name, where it may be at this index.
+fn take_out_at<T: Element>(
+    sets: &mut Sets<T>,
+    places: &mut Places<T>,
+    one: T,
+    place: Place,
+) -> Option<Left>
+    ensures { (at : GroupNumber) (other : T) → (same_group place.name at && T.eq one other) ≡ false
+        → has T.eq at other sets.old ≡ true → has T.eq at other sets.new ≡ true }
+{
+    let removed = sets.remove(place.name, place.index, one)?;
+    if let Some(next) = removed.next {
+        let index = removed.index;
+        places.shift(next, Place { index, ..place });
+    }
+    Some(Left {
+        name: place.name,
+        was_last: removed.was_last,
+    })
 }
 
 // The name that one is to be taken out from under: the first of these under which it is.
@@ -532,33 +550,6 @@ fn keep_under(
         keep_typed(mounts, *name, types);
         keep_lower(lowers, *name, above);
     }
-}
-
-// Takes out a mount from under a group, unless it stays there.
-fn take_out_of_one(
-    sets: &mut Sets<MountId>,
-    mount: MountId,
-    was: Option<GroupId>,
-    is: Option<GroupId>,
-)
-    ensures others { (at : GroupNumber) (other : MountNumber) → same_id mount other ≡ false
-        → has same_id at other sets.old ≡ true → has same_id at other sets.new ≡ true }
-    ensures own { (at : GroupNumber) → is ≡ Some at → has same_id at mount sets.old ≡ true
-        → has same_id at mount sets.new ≡ true }
-{
-    let Some(group) = was else {
-        return;
-    };
-    if is != Some(group) {
-        sets.remove(group, mount);
-    }
-}
-
-// The group that a mount of a type is in.
-fn group_in(kind: Option<Propagation>) -> Option<GroupId>
-    ensures { result ≡ then_some kind group_of_kind }
-{
-    own_group(kind?)
 }
 
 // The group that a mount of a type receives from.

@@ -3,6 +3,7 @@
 
 mod additions;
 mod by_number;
+mod counts;
 mod groups;
 mod handing;
 mod index;
@@ -13,6 +14,7 @@ mod places;
 mod propagation;
 mod set;
 mod sets;
+mod types;
 mod unused;
 
 pub use groups::{Groups, NewGroup};

@@ -6,19 +6,18 @@ use crate::set::Element;
 use crate::sets::Sets;
 use std::collections::LinkedList;
 use std::collections::linked_list::Iter;
-use std::hash::Hash;
 use std::marker::Model;
 use vt_location::GroupId;
 
 /// The mounts or groups that are still to come.
 #[derive(Drop)]
-pub struct Listed<'a, T: Eq + Hash> {
+pub struct Listed<'a, T> {
     here: &'a [T],
     names: Iter<'a, GroupId>,
     sets: &'a Sets<T>,
 }
 
-impl<'a, T: Eq + Hash> Model for Listed<'a, T> {
+impl<'a, T> Model for Listed<'a, T> {
     ghost use Rattle.std.specs.Prelude.{◌++◌, List, flat_map};
     ghost use Rattle.vt_group.specs.Sets.{kept_in};
 

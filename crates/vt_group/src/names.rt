@@ -18,6 +18,13 @@ use vt_location::{GroupId, MountId};
 // As many names as a list has room for.
 const MOST_NAMES: usize = 0x7fff_ffff_ffff_ffff;
 
+/// From under which name one was taken out, and whether nothing of its kind is left there.
+#[derive(Clone, Copy, Debug)]
+pub(crate) struct Left {
+    pub(crate) name: GroupId,
+    pub(crate) was_last: bool,
+}
+
 /// The names of each group. When a group ends its heir takes over its names, and with them all that is kept under them,
 /// of which nothing has to be moved.
 #[derive(Debug, Drop)]
@@ -107,12 +114,12 @@ impl Names {
         Ok(group)
     }
 
-    /// Drops the names of a group under which nothing is kept, once one was taken out from under this name. It passes
+    /// Drops the names of a group under which nothing is kept, once one was taken out there. It passes
     /// over the names only where half of them may have fallen out of use since it last did. It does not allocate.
     pub(crate) fn prune_left(
         &mut self,
         group: GroupId,
-        name: Option<GroupId>,
+        left: Option<Left>,
         mounts: &Sets<MountId>,
         lowers: &Sets<GroupId>,
     )
@@ -121,26 +128,26 @@ impl Names {
         ensures lowers { (lower at : GroupNumber) → is_under same_group self.old lowers.now lower at ≡ true
             → is_under same_group self.new lowers.now lower at ≡ true }
     {
-        if self.notes_unused(group, name, mounts, lowers) {
+        if self.notes_unused(group, left, mounts, lowers) {
             return;
         }
         self.prune(group, mounts, lowers);
     }
 
-    // Notes that one was taken out from under a name of a group. Returns whether the names of the group stay.
+    // Notes that one was taken out from under a name of a group, if it was. Returns whether the names of the group stay.
     fn notes_unused(
         &mut self,
         group: GroupId,
-        name: Option<GroupId>,
+        left: Option<Left>,
         mounts: &Sets<MountId>,
         lowers: &Sets<GroupId>,
     ) -> bool
         ensures { self.new ≡ self.old }
     {
-        let Some(name) = name else {
+        let Some(left) = left else {
             return false;
         };
-        if is_used(name, mounts, lowers) {
+        if !left.was_last || is_used(left.name, mounts, lowers) {
             return true;
         }
         let names = self.of(group).len();

@@ -1,4 +1,4 @@
-//! The names that mounts and lower groups were put under.
+//! Where mounts and lower groups are listed.
 use crate::by_number::ByNumber;
 use indexmap::IndexMap;
 use std::alloc::{AllocError, Global};
@@ -6,12 +6,25 @@ use std::hash::Hash;
 use std::marker::Model;
 use vt_location::{GroupId, MountId, Propagation};
 
-/// The name that each mount or group was put under, so that it is found there without passing over the other names of
-/// its group. Nothing rests on it: where it does not hold, all names of the group are passed over, and contracts see
-/// nothing of it.
+/// A name, and an index in the list of what is under it.
+#[derive(Clone, Copy, Debug)]
+pub(crate) struct Place {
+    pub(crate) name: GroupId,
+    pub(crate) index: usize,
+}
+
+/// Where one is listed; and where it is listed too, if it is to be taken out of the first place.
+#[derive(Clone, Copy, Debug)]
+pub(crate) struct Noted {
+    pub(crate) first: Place,
+    pub(crate) next: Option<Place>,
+}
+
+/// Where each mount or group is listed, so that it is found there without passing over the other names of its group.
+/// Nothing rests on it: where it does not hold, all names of the group are passed over, and contracts see nothing of it.
 #[derive(Debug, Drop)]
 pub(crate) struct Places<T: Eq + Hash> {
-    names: IndexMap<T, GroupId>,
+    noted: IndexMap<T, Noted>,
 }
 
 impl<T: Eq + Hash> Model for Places<T> {
@@ -21,45 +34,66 @@ impl<T: Eq + Hash> Model for Places<T> {
 }
 
 impl<T: Eq + Hash + Copy + Clone + Drop> Places<T> {
-    /// No names. It does not allocate.
+    /// No places. It does not allocate.
     pub(crate) fn new(alloc: Global) -> Self {
         Places {
-            names: IndexMap::new(alloc),
+            noted: IndexMap::new(alloc),
         }
     }
 
-    /// The name that one was put under.
-    pub(crate) fn of(&self, one: T) -> Option<GroupId> {
-        self.names.get(&one).copied()
+    /// Where one is listed.
+    pub(crate) fn of(&self, one: T) -> Option<Place> {
+        match self.noted.get(&one) {
+            Some(noted) => Some(noted.first),
+            None => None,
+        }
     }
 
-    /// One is put under a name. If it is under another name too, that name is kept: it is taken out there first.
-    pub(crate) fn put(&mut self, one: T, name: GroupId) -> Result<(), AllocError> {
-        self.names.entry(one)?.or_insert(name);
+    /// One is listed. If it is listed elsewhere already, it is to be taken out there first.
+    pub(crate) fn put(&mut self, one: T, place: Place) -> Result<(), AllocError> {
+        let noted = Noted {
+            first: place,
+            next: None,
+        };
+        if let Some(was) = self.noted.insert(one, noted)? {
+            let noted = Noted {
+                first: was.first,
+                next: Some(place),
+            };
+            self.noted.insert(one, noted)?;
+        }
         Ok(())
     }
 
-    /// One was taken out from under a name, and is under that one then, if any. It does not allocate.
-    pub(crate) fn leave(&mut self, one: T, name: GroupId, next: Option<GroupId>) {
-        let Some(next) = next else {
-            self.forget(one);
+    /// What is noted for one, which is forgotten. It does not allocate.
+    pub(crate) fn take(&mut self, one: T) -> Option<Noted> {
+        self.noted.swap_remove(&one)
+    }
+
+    /// Notes again what was taken. There is room for it, so that it does not allocate.
+    pub(crate) fn put_back(&mut self, one: T, noted: Noted) {
+        let _ = self.noted.insert(one, noted);
+    }
+
+    /// One has another index in its list. It does not allocate.
+    pub(crate) fn shift(&mut self, one: T, place: Place) {
+        let Some(noted) = self.noted.get_mut(&one) else {
             return;
         };
-        let Some(place) = self.names.get_mut(&one) else {
-            return;
-        };
-        if *place == name {
-            *place = next;
+        if noted.first.name == place.name {
+            noted.first = place;
+        } else {
+            noted.next = Some(place);
         }
     }
 
-    /// One is under no name any more. It does not allocate.
+    /// One is not listed any more. It does not allocate.
     pub(crate) fn forget(&mut self, one: T) {
-        self.names.swap_remove(&one);
+        self.noted.swap_remove(&one);
     }
 }
 
-/// The mounts among these that have no type are under no name any more. It does not allocate.
+/// The mounts among these that have no type are not listed any more. It does not allocate.
 pub(crate) fn forget_untyped(
     places: &mut Places<MountId>,
     mounts: &[MountId],
@@ -72,7 +106,7 @@ pub(crate) fn forget_untyped(
     }
 }
 
-/// The groups among these that have no master are under no name any more. It does not allocate.
+/// The groups among these that have no master are not listed any more. It does not allocate.
 pub(crate) fn forget_lower(
     places: &mut Places<GroupId>,
     lowers: &[GroupId],

@@ -1,6 +1,5 @@
-//! One set of mounts or groups. It does not allocate while it has at most one, and has no table while
-//! it has at most four.
-ghost use Rattle.std.specs.Prelude.{◌≡◌, cond, false, true, IsSome, IsTrue, OnOk, IfOk, OnErr, option_map, unwrap_or, ◌∷◌, []};
+//! One set of mounts or groups, as a list. It does not allocate while it has at most one.
+ghost use Rattle.std.specs.Prelude.{◌≡◌, ◌<◌, cond, false, true, get_or, length, IfSome, IsSome, IsTrue, OnOk, IfOk, ◌∷◌, []};
 ghost use Rattle.std.specs.List.{list_any};
 ghost use Rattle.vt_location.specs.declared.numbers.GroupId.{GroupId as GroupNumber};
 ghost use Rattle.vt_location.specs.declared.numbers.MountId.{MountId as MountNumber};
@@ -8,13 +7,12 @@ ghost use Rattle.vt_group.specs.ByNumber.{value_at};
 ghost use Rattle.vt_group.specs.Sets.{elements, same_group, same_id};
 
 use crate::by_number::ByNumber;
-use indexmap::IndexSet;
 use std::alloc::{AllocError, Global};
 use std::hash::Hash;
 use std::slice;
 use vt_location::{GroupId, MountId, Propagation};
 
-/// How many a set has in a list, before it gets a table.
+/// For how many a list has room at first.
 const FEW: usize = 4;
 
 /// What a set may have.
@@ -36,14 +34,12 @@ impl Element for GroupId {
     }
 }
 
-/// A set.
+/// A set, as a list.
 #[derive(Debug, Drop)]
-pub(crate) enum Set<T: Eq + Hash> {
+pub(crate) enum Set<T> {
     /// At most one.
     One(Option<T>),
-    /// A few, in a list that is searched from its front.
-    Few(Vec<T>),
-    Many(IndexSet<T>),
+    Many(Vec<T>),
 }
 
 impl<T: Element> Set<T> {
@@ -54,20 +50,7 @@ impl<T: Element> Set<T> {
         match self {
             Set::One(Some(only)) => only.alone(),
             Set::One(None) => &[],
-            Set::Few(few) => few.as_slice(),
-            Set::Many(set) => set.as_slice(),
-        }
-    }
-
-    /// Whether one is in the set.
-    pub(crate) fn contains(&self, one: &T) -> bool
-        ensures { result ≡ list_any (T.eq one.now) (elements self.now) }
-    {
-        match self {
-            Set::One(Some(only)) => *one == *only,
-            Set::One(None) => false,
-            Set::Few(few) => is_among(few, one),
-            Set::Many(set) => set.contains(one),
+            Set::Many(many) => many.as_slice(),
         }
     }
 
@@ -77,13 +60,12 @@ impl<T: Element> Set<T> {
     {
         match self {
             Set::One(only) => only.is_none(),
-            Set::Few(few) => few.is_empty(),
-            Set::Many(set) => set.is_empty(),
+            Set::Many(many) => many.is_empty(),
         }
     }
 
-    /// Adds one.
-    pub(crate) fn insert(&mut self, alloc: Global, one: T) -> Result<(), AllocError>
+    /// Adds one, and returns its index in the list.
+    pub(crate) fn push(&mut self, alloc: Global, one: T) -> Result<usize, AllocError>
         ensures added { OnOk result ((other : T) → list_any (T.eq other) (elements self.new)
             ≡ cond (T.eq one other) true (list_any (T.eq other) (elements self.old))) }
         ensures kept { (other : T) → list_any (T.eq other) (elements self.old) ≡ true
@@ -92,48 +74,35 @@ impl<T: Element> Set<T> {
         match self {
             Set::One(None) => {
                 *self = Set::One(Some(one));
-                Ok(())
+                Ok(0)
             }
-            Set::One(Some(only)) if *only == one => Ok(()),
             Set::One(Some(only)) => {
-                *self = Set::Few(pair(alloc, *only, one)?);
-                Ok(())
+                *self = Set::Many(pair(alloc, *only, one)?);
+                Ok(1)
             }
-            Set::Few(few) => {
-                if let Some(all) = add(alloc, few, one)? {
-                    *self = Set::Many(all);
-                }
-                Ok(())
-            }
-            Set::Many(set) => {
-                set.insert(one)?;
-                Ok(())
+            Set::Many(many) => {
+                let index = many.len();
+                many.push(one)?;
+                Ok(index)
             }
         }
     }
 
-    /// Takes one out, and returns whether it was there. It does not allocate.
-    pub(crate) fn remove(&mut self, one: &T) -> bool
-        ensures { (other : T) → list_any (T.eq other) (elements self.new)
-            ≡ cond (T.eq one.now other) false (list_any (T.eq other) (elements self.old)) }
+    /// Takes one out, which may be at this index of the list, and returns the index where it was. The last of the list
+    /// is there then. It does not allocate.
+    pub(crate) fn remove(&mut self, index: usize, one: &T) -> Option<usize>
+        ensures { (other : T) → T.eq one.now other ≡ false → list_any (T.eq other) (elements self.old) ≡ true
+            → list_any (T.eq other) (elements self.new) ≡ true }
     {
         match self {
             Set::One(Some(only)) if *only == *one => {
                 *self = Set::One(None);
-                true
+                Some(0)
             }
-            Set::One(_) => false,
-            Set::Few(few) => take_out(few, one),
-            Set::Many(set) => set.swap_remove(one),
+            Set::One(_) => None,
+            Set::Many(many) => take_out(many, index, one),
         }
     }
-}
-
-// Whether one is among a few.
-fn is_among<T: Element>(few: &[T], one: &T) -> bool
-    ensures { result ≡ list_any (T.eq one.now) few.now }
-{
-    few.contains(one)
 }
 
 // A list of two.
@@ -147,49 +116,31 @@ fn pair<T: Element>(alloc: Global, first: T, second: T) -> Result<Vec<T>, AllocE
     Ok(few)
 }
 
-// Adds one to a few, or returns the set of all if there is no room for it.
-fn add<T: Element>(
-    alloc: Global,
-    few: &mut Vec<T>,
-    one: T,
-) -> Result<Option<IndexSet<T>>, AllocError>
-    ensures added { IfOk result (λ all. (other : T)
-        → list_any (T.eq other) (unwrap_or (option_map (λ set. set.keys) all) few.new.items)
-        ≡ cond (T.eq one other) true (list_any (T.eq other) few.old.items)) }
-    ensures err { OnErr result (few.new.items ≡ few.old.items) }
+// Takes one out of a list, where it may be at this index, and returns its index. The last of the list comes in its
+// place.
+fn take_out<T: Element>(list: &mut Vec<T>, index: usize, one: &T) -> Option<usize>
+    ensures { (other : T) → T.eq one.now other ≡ false → list_any (T.eq other) list.old.items ≡ true
+        → list_any (T.eq other) list.new.items ≡ true }
 {
-    if is_among(few, &one) {
-        return Ok(None);
-    }
-    if few.len() < FEW {
-        few.push(one)?;
-        return Ok(None);
-    }
-    let all = spread(alloc, few, one)?;
-    Ok(Some(all))
+    let index = index_of(list, index, one)?;
+    list.swap_remove(index);
+    Some(index)
 }
 
-// The set of a few and one more.
-fn spread<T: Element>(alloc: Global, few: &[T], one: T) -> Result<IndexSet<T>, AllocError>
-    ensures { IfOk result (λ set. (other : T) → list_any (T.eq other) set.keys
-        ≡ cond (T.eq one other) true (list_any (T.eq other) few.now)) }
+// The index of one in a list, where it may be at this index.
+fn index_of<T: Element>(list: &[T], index: usize, one: &T) -> Option<usize>
+    ensures within { IfSome result (λ i. i < length list.now) }
+    ensures there { IfSome result (λ i. (d : T) → T.eq (get_or list.now i d) one.now ≡ true) }
 {
-    let mut set = IndexSet::with_capacity(alloc, 2 * FEW)?;
-    for other in few {
-        set.insert(*other)?;
+    if index < list.len() && list[index] == *one {
+        return Some(index);
     }
-    set.insert(one)?;
-    Ok(set)
-}
-
-// Takes one out of a few, and returns whether it was there.
-fn take_out<T: Element>(few: &mut Vec<T>, one: &T) -> bool
-    ensures { (other : T) → list_any (T.eq other) few.new.items
-        ≡ cond (T.eq one.now other) false (list_any (T.eq other) few.old.items) }
-{
-    let before = few.len();
-    few.retain(|other| *other != *one);
-    few.len() < before
+    for other in 0..list.len() {
+        if list[other] == *one {
+            return Some(other);
+        }
+    }
+    None
 }
 
 /// Takes out the mounts that have no type. It does not allocate.
@@ -200,7 +151,6 @@ pub(crate) fn keep_typed(set: &mut Set<MountId>, types: &ByNumber<Propagation>)
     match set {
         Set::One(Some(only)) if types.has(only.count) => {}
         Set::One(_) => *set = Set::One(None),
-        Set::Few(few) => few.retain(|mount| types.has(mount.count)),
         Set::Many(many) => many.retain(|mount| types.has(mount.count)),
     }
 }
@@ -214,7 +164,6 @@ pub(crate) fn keep_lower(set: &mut Set<GroupId>, above: &ByNumber<GroupId>)
     match set {
         Set::One(Some(only)) if above.has(only.count) => {}
         Set::One(_) => *set = Set::One(None),
-        Set::Few(few) => few.retain(|lower| above.has(lower.count)),
         Set::Many(many) => many.retain(|lower| above.has(lower.count)),
     }
 }

@@ -9,12 +9,11 @@ use crate::by_number::ByNumber;
 use crate::set::{self, Element, Set};
 use indexmap::IndexMap;
 use std::alloc::{AllocError, Global};
-use std::hash::Hash;
 use vt_location::{GroupId, MountId, Propagation};
 
 /// Sets, each under a group. None is empty.
 #[derive(Debug, Drop)]
-pub(crate) struct Sets<T: Eq + Hash> {
+pub(crate) struct Sets<T> {
     sets: IndexMap<GroupId, Set<T>>,
 }
 
@@ -40,42 +39,67 @@ impl<T: Element> Sets<T> {
     pub(crate) fn contains(&self, group: GroupId, one: &T) -> bool
         ensures { result ≡ has T.eq group one.now self.now }
     {
-        match self.sets.get(&group) {
-            Some(set) => set.contains(one),
+        self.get(group).contains(one)
+    }
+
+    /// Whether one is under a group, at this index.
+    pub(crate) fn is_at(&self, group: GroupId, index: usize, one: &T) -> bool
+        ensures { result ≡ true → has T.eq group one.now self.now ≡ true }
+    {
+        match self.get(group).get(index) {
+            Some(other) => *one == *other,
             None => false,
         }
     }
 
-    /// Adds one under a group.
-    pub(crate) fn insert(&mut self, group: GroupId, one: T) -> Result<(), AllocError>
+    /// Adds one under a group, and returns its index there.
+    pub(crate) fn push(&mut self, group: GroupId, one: T) -> Result<usize, AllocError>
         ensures there { OnOk result (has T.eq group one self.new ≡ true) }
         ensures kept { (at : GroupNumber) (other : T) → has T.eq at other self.old ≡ true
             → has T.eq at other self.new ≡ true }
     {
         let alloc = *self.sets.allocator();
         match self.sets.get_mut(&group) {
-            Some(set) => set.insert(alloc, one),
+            Some(set) => set.push(alloc, one),
             None => {
                 self.sets.insert(group, Set::One(Some(one)))?;
-                Ok(())
+                Ok(0)
             }
         }
     }
 
-    /// Takes out one from under a group, and returns whether it was there. It does not allocate.
-    pub(crate) fn remove(&mut self, group: GroupId, one: T) -> bool
+    /// Takes one out from under a group, where it may be at this index. It does not allocate.
+    pub(crate) fn remove(&mut self, group: GroupId, index: usize, one: T) -> Option<Removed<T>>
         ensures { (at : GroupNumber) (other : T) → (same_group group at && T.eq one other) ≡ false
             → has T.eq at other self.old ≡ true → has T.eq at other self.new ≡ true }
     {
         let Some(set) = self.sets.get_mut(&group) else {
-            return false;
+            return None;
         };
-        let was_there = set.remove(&one);
+        let index = set.remove(index, &one)?;
         if set.is_empty() {
             self.sets.swap_remove(&group);
+            return Some(Removed {
+                index,
+                next: None,
+                was_last: true,
+            });
         }
-        was_there
+        let next = set.as_slice().get(index).copied();
+        Some(Removed {
+            index,
+            next,
+            was_last: false,
+        })
     }
+}
+
+/// What was taken out of a list: where it was, which came there in its place, and whether it was the last in the list.
+#[derive(Clone, Copy, Debug)]
+pub(crate) struct Removed<T> {
+    pub(crate) index: usize,
+    pub(crate) next: Option<T>,
+    pub(crate) was_last: bool,
 }
 
 /// Takes out the mounts under a group that have no type. It does not allocate.

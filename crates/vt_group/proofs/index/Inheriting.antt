@@ -12,8 +12,8 @@ use Rattle.vt_group.specs.declared.index.Index.{Index}
 use Rattle.vt_group.specs.Handing.{group_handed, kind_handed}
 use Rattle.vt_group.specs.Indexed.{is_listed, is_lower, is_relative}
 use Rattle.vt_group.specs.Names.{Named, names_of}
-use Rattle.vt_group.specs.Sets.{has, same_group, same_id}
-use Rattle.vt_group.proofs.IndexLemmas.{and_weaker}
+use Rattle.vt_group.specs.Sets.{same_group}
+use Rattle.vt_group.proofs.IndexLemmas.{}
 use Rattle.vt_group.proofs.SetsLemmas.{same_id as same_number}
 use Rattle.vt_spec.proofs.Truths.{nat_eq-swapped}
 
@@ -53,13 +53,12 @@ module _ (lost heir : GroupId) where
       → ((group : GroupId) → same_group lost group ≡ false → is_relative old mount group ≡ true
       → is_relative new mount group ≡ true)
       → (is_relative old mount lost ≡ true → is_relative new mount heir ≡ true)
-      → ((group : GroupId) → has same_id group mount old.members ≡ true → has same_id group mount new.members ≡ true)
       → (was kind : Propagation) → (was ≡ Shared lost → ⊥) → kind_handed lost (Some heir) was ≡ Some kind
       → is_listed old mount was ≡ true → is_listed new mount kind ≡ true
-  handed_kind old new mount kept own members (Shared group) kind apart handed listed =
+  handed_kind old new mount kept own (Shared group) kind apart handed listed =
       ap (is_listed new mount) (sym (same_Some (Shared group) kind handed))
-      ∙ and_weaker _ _ _ _ (kept group (apart_from lost group apart)) (members group) listed
-  handed_kind old new mount kept own members (Slave master) kind apart handed listed =
+      ∙ kept group (apart_from lost group apart) listed
+  handed_kind old new mount kept own (Slave master) kind apart handed listed =
       slave (group_handed lost (Some heir) master) refl handed
     where
       slave : (found : Option GroupId) → group_handed lost (Some heir) master ≡ found
@@ -69,9 +68,9 @@ module _ (lost heir : GroupId) where
           ap (is_listed new mount) (sym (same_Some (Slave upper) kind is))
           ∙ by_handed (λ group. is_relative new mount group ≡ true) (λ group. is_relative old mount group ≡ true)
           master upper own kept at listed
-  handed_kind old new mount kept own members Private kind apart handed listed =
+  handed_kind old new mount kept own Private kind apart handed listed =
       ap (is_listed new mount) (sym (same_Some Private kind handed))
-  handed_kind old new mount kept own members Unbindable kind apart handed listed =
+  handed_kind old new mount kept own Unbindable kind apart handed listed =
       ap (is_listed new mount) (sym (same_Some Unbindable kind handed))
 
   -- and a group where its master is

@@ -8,7 +8,7 @@ pub loop-pair-preserved : goal.loop-pair-preserved
 loop-pair-preserved c = (
   c.reserve_type.ensures.entries ∙ c.loop-pair.invariant.0,
   All-more (FitsType c.reserve_type.new.types) c.args.mounts.now c.loop-pair.pair-index _ c.loop-pair-test.true
-      (λ k d inside sourced. c.reserve_type.ensures.kept _ (c.loop-pair.invariant.1 k d inside sourced))
+      (λ k d inside sourced. c.reserve_type.ensures.kept _ _ (c.loop-pair.invariant.1 k d inside sourced))
       c.in_ok-reserve_type.ensures.room,
 )
 

@@ -4,4 +4,4 @@ use Rattle.vt_group.proofs.additions.reserve_types.Given as goal
 
 abbrev pub invariant-loop-pair : goal.invariant-loop-pair
 invariant-loop-pair l =
-    (l.types.entries ≡ l.fn.types.entries) × All (FitsType l.types) (take l.pair-index l.mounts)
+    (l.types.kinds.entries ≡ l.fn.types.kinds.entries) × All (FitsType l.types) (take l.pair-index l.mounts)

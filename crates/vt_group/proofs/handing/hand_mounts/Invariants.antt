@@ -9,8 +9,8 @@ use Rattle.vt_group.proofs.handing.hand_mounts.Given as goal
 -- what is left to be handed leads to what is wanted
 abbrev pub invariant-loop-mount : goal.invariant-loop-mount
 invariant-loop-mount l =
-    (IsAscending l.fn.types → IsAscending l.types) ×
+    (IsAscending l.fn.types.kinds → IsAscending l.types.kinds) ×
     ((number : ℕ) → (if list_any (λ id. nat_eq number id.count) l.mount-iterator
-    then then_some (value_at l.types number) (kind_handed l.lost l.heir) else value_at l.types number)
+    then then_some (value_at l.types.kinds number) (kind_handed l.lost l.heir) else value_at l.types.kinds number)
     ≡ (if list_any (λ id. nat_eq number id.count) l.initial.mount-iterator
-    then then_some (value_at l.fn.types number) (kind_handed l.lost l.heir) else value_at l.fn.types number))
+    then then_some (value_at l.fn.types.kinds number) (kind_handed l.lost l.heir) else value_at l.fn.types.kinds number))

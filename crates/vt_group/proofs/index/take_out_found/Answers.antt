@@ -7,10 +7,10 @@ use Rattle.vt_spec.proofs.Truths.{and_false_right}
 
 pub returns-clause-others : goal.returns-clause-others
 returns-clause-others g c at other apart there =
-    c.remove.ensures at other (and_false_right (same_group c.in_ok-name.name at) _ apart) there
+    c.take_out_at.ensures at other (and_false_right (same_group c.in_ok-name.name at) _ apart) there
 
 pub returns-clause-own : goal.returns-clause-own
 returns-clause-own g c at other stays there =
-    c.remove.ensures at other
+    c.take_out_at.ensures at other
     (ap (λ b. b && g.T.PartialEq.eq c.args.one other)
     (apart_from_each c.in_ok-name.name at c.args.stays.now c.in_ok-name.ensures stays)) there

@@ -9,15 +9,7 @@ use Rattle.vt_group.proofs.set.keep_lower.Goals as goal
 
 pub returns-in-Many : goal.returns-in-Many
 returns-in-Many c lower some was =
-    any-kept (λ (id : GroupId). id.count) (value_at c.args.above.now) lower.count c.in-Many.many.keys
-    c.retain-in-Many.new.self.keys
-    (filter_same _ (λ (id : GroupId). is_some (value_at c.args.above.now id.count)) _
-    (λ x b f' k. search rules) _ _ c.retain-in-Many.ensures.filtered) some
-    (sym (ap (λ set. list_any (same_group lower) (elements set)) c.in-Many.is) ∙ was)
-
-pub returns-in-Few : goal.returns-in-Few
-returns-in-Few c lower some was =
-    any-kept (λ (id : GroupId). id.count) (value_at c.args.above.now) lower.count c.in-Few.few.items c.retain.new.self.items
+    any-kept (λ (id : GroupId). id.count) (value_at c.args.above.now) lower.count c.in-Many.many.items c.retain.new.self.items
     (filter_same _ (λ (id : GroupId). is_some (value_at c.args.above.now id.count)) _
     (λ x b f' k. search rules) _ _ c.retain.ensures.filtered) some
-    (sym (ap (λ set. list_any (same_group lower) (elements set)) c.in-Few.is) ∙ was)
+    (sym (ap (λ set. list_any (same_group lower) (elements set)) c.in-Many.is) ∙ was)

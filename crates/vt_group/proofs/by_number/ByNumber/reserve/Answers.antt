@@ -1,31 +1,56 @@
-use Rattle.std.proofs.Common.{None, Some, ap, is_some, nat_eq, sym, ◌∙◌}
-use Rattle.std.specs.Map.{lookup}
+use Rattle.std.proofs.Common.{◌≡◌, Bool, None, Some, ap, cond, false, is_some, nat_eq, refl, sym, true, true≢false, ◌∙◌}
 use Rattle.std.specs.Option.{option_flatten}
-use Rattle.vt_spec.proofs.Options.{none_from_not_some}
 use Rattle.vt_group.specs.ByNumber.{has_room}
 use Rattle.vt_group.proofs.Reserving.{room_found, room_stays, values_kept}
 use Rattle.vt_group.proofs.by_number.ByNumber.reserve.Goals as goal
 
-pub returns-then-contains_key-clause-room : goal.returns-then-contains_key-clause-room
-returns-then-contains_key-clause-room g c =
-    sym (ap (λ map. has_room map c.args.number) c.self.view_is)
-    ∙ room_found c.args.number c.self.inside.places.entries
-    ∙ sym c.contains_key.ensures ∙ c.if-contains_key.true
+pub returns-in_default-clause-room : goal.returns-in_default-clause-room
+returns-in_default-clause-room g c =
+    room_found c.args.number c.insert.new.self.entries ∙ ap is_some c.in_ok-was.ensures.updates.1
+
+pub returns-in_default-clause-kept : goal.returns-in_default-clause-kept
+returns-in_default-clause-kept g c other room =
+    room_stays c.args.number c.self.inside.places.entries c.insert.new.self.entries (Some None)
+    c.in_ok-was.ensures.updates.0 refl other (ap (λ map. has_room map other) c.self.view_is ∙ room)
+
+pub returns-in_default-clause-entries : goal.returns-in_default-clause-entries
+returns-in_default-clause-entries g c =
+    values_kept c.args.number c.self.inside.places.entries c.insert.new.self.entries (Some None)
+    c.in_ok-was.ensures.updates.0
+    (sym c.in_default.is ∙ c.flatten.ensures ∙ ap option_flatten c.in_ok-was.ensures.old)
+    ∙ ap (λ map. map.entries) c.self.view_is
+
+-- a value that was there is put back
+
+written_again : {A : Type 0} (b : Bool) (last first rest : A) → cond b last (cond b first rest) ≡ cond b last rest
+written_again true last first rest = refl
+written_again false last first rest = refl
 
 pub returns-clause-room : goal.returns-clause-room
 returns-clause-room g c =
-    room_found c.args.number c.insert.new.self.entries ∙ ap is_some c.in_ok-insert.ensures.updates.1
+    room_found c.args.number c.insert-2.new.self.entries ∙ ap is_some c.in_ok-insert.ensures.updates.1
 
 pub returns-clause-kept : goal.returns-clause-kept
 returns-clause-kept g c other room =
-    room_stays c.args.number c.self.inside.places.entries c.insert.new.self.entries (Some None)
-    c.in_ok-insert.ensures.updates.0 Rattle.std.proofs.Common.refl other
-    (ap (λ map. has_room map other) c.self.view_is ∙ room)
+    room_stays c.args.number c.self.inside.places.entries c.insert-2.new.self.entries (Some (Some c.in-Some.value))
+    (λ q. c.in_ok-insert.ensures.updates.0 q
+    ∙ ap (cond (nat_eq c.args.number q) (Some (Some c.in-Some.value))) (c.in_ok-was.ensures.updates.0 q)
+    ∙ written_again (nat_eq c.args.number q) _ _ _)
+    refl other (ap (λ map. has_room map other) c.self.view_is ∙ room)
 
 pub returns-clause-entries : goal.returns-clause-entries
 returns-clause-entries g c =
-    values_kept c.args.number c.self.inside.places.entries c.insert.new.self.entries (Some None)
-    c.in_ok-insert.ensures.updates.0
-    (sym (ap option_flatten (none_from_not_some (lookup (nat_eq c.args.number) c.self.inside.places.entries)
-    (sym c.contains_key.ensures ∙ c.if-contains_key.false))))
+    values_kept c.args.number c.self.inside.places.entries c.insert-2.new.self.entries (Some (Some c.in-Some.value))
+    (λ q. c.in_ok-insert.ensures.updates.0 q
+    ∙ ap (cond (nat_eq c.args.number q) (Some (Some c.in-Some.value))) (c.in_ok-was.ensures.updates.0 q)
+    ∙ written_again (nat_eq c.args.number q) _ _ _)
+    (sym c.in-Some.is ∙ c.flatten.ensures ∙ ap option_flatten c.in_ok-was.ensures.old)
     ∙ ap (λ map. map.entries) c.self.view_is
+
+pub returns-in_err-insert-clause-kept : goal.returns-in_err-insert-clause-kept
+returns-in_err-insert-clause-kept g c other room =
+    absurd (true≢false (ap is_some (sym c.in_ok-was.ensures.updates.1 ∙ c.in_err-insert.ensures.absent)))
+
+pub returns-in_err-insert-clause-entries : goal.returns-in_err-insert-clause-entries
+returns-in_err-insert-clause-entries g c =
+    absurd (true≢false (ap is_some (sym c.in_ok-was.ensures.updates.1 ∙ c.in_err-insert.ensures.absent)))

@@ -1,10 +1,16 @@
 use Rattle.std.proofs.Common.{Some, ap, cond, is_some, refl, sym, true≢false, ◌∙◌}
 use Rattle.std.specs.BTreeMap.{insert_entry, is_at}
-use Rattle.std.specs.Option.{option_copied_mut}
+use Rattle.std.specs.Option.{option_copied_mut, option_flatten}
 use Rattle.std.specs.Ordering.{nat_cmp}
 use Rattle.vt_group.specs.ByNumber.{has_room, value_at}
-use Rattle.vt_group.proofs.Reserving.{room_found, room_stays, values_ascend, values_set, values_updated}
+use Rattle.vt_group.proofs.Reserving.{room_found, room_stays, value_found, values_ascend, values_set, values_updated}
 use Rattle.vt_group.proofs.by_number.ByNumber.set.Goals as goal
+
+pub returns-clause-value : goal.returns-clause-value
+returns-clause-value g c =
+    ap option_flatten (sym (ap option_copied_mut c.in-Some.is) ∙ c.get_mut.ensures.value)
+    ∙ sym (value_found c.args.number c.self.inside.places.entries)
+    ∙ ap (λ map. value_at map c.args.number) c.self.view_is
 
 pub returns-clause-entries : goal.returns-clause-entries
 returns-clause-entries g c =
@@ -34,6 +40,12 @@ pub returns-clause-ordered : goal.returns-clause-ordered
 returns-clause-ordered g c = values_ascend (c.get_mut.follows.lender (Some c.args.value)).entries
 
 -- there is room
+
+pub returns-in_default-clause-value : goal.returns-in_default-clause-value
+returns-in_default-clause-value g c =
+    let found = sym (room_found c.args.number c.self.inside.places.entries)
+    ∙ ap (λ map. has_room map c.args.number) c.self.view_is ∙ c.requires in
+    absurd (true≢false (sym found ∙ ap is_some (sym c.get_mut.ensures.value ∙ ap option_copied_mut c.in_default.is)))
 
 pub returns-in_default-clause-entries : goal.returns-in_default-clause-entries
 returns-in_default-clause-entries g c =

@@ -22,7 +22,7 @@ use Rattle.vt_group.proofs.groups.Groups.leave.Goals as goal
 
 pub returns-clause-left : goal.returns-clause-left
 returns-clause-left c world has live is =
-    let es = c.self.inside.mounts.entries in
+    let es = c.self.inside.mounts.kinds.entries in
     let count = c.args.mount.count in
     let old = shown-type count es _ c.args.self.now c.self.view_is c.remove-old.result c.remove-old.ensures.value in
     let removed = ap (map numbered_peer) c.remove-old.ensures.entries ∙ removed-numbered propagation_of count es
@@ -34,7 +34,7 @@ returns-clause-left c world has live is =
 
 pub returns-clause-types : goal.returns-clause-types
 returns-clause-types c other =
-    let es = c.self.inside.mounts.entries in
+    let es = c.self.inside.mounts.kinds.entries in
     let count = c.args.mount.count in
     let old = shown-type count es _ c.args.self.now c.self.view_is c.remove-old.result c.remove-old.ensures.value in
     let removed = ap (map numbered_peer) c.remove-old.ensures.entries ∙ removed-numbered propagation_of count es
@@ -44,12 +44,12 @@ returns-clause-types c other =
     type_once_ended now (lost_group now (group_of (old i))) (propagation_in now other))
     ∙ types-left c.args.self.now (counted count)
     (ap (λ groups. are_rising (keys groups.peers)) (sym c.self.view_is)
-    ∙ rising_numbers propagation_of c.self.inside.mounts.entries c.self.invariant.ordered) other
+    ∙ rising_numbers propagation_of c.self.inside.mounts.kinds.entries c.self.invariant.ordered) other
 
 pub invariant_of-self : goal.invariant_of-self
 invariant_of-self c = record {
   listed = left_each (λ mount kind. is_listed c.leave.new.self (mount_at mount) kind ≡ true)
-      (value_at c.self.inside.mounts) (value_at c.remove-old.new.self) c.args.mount.count
+      (value_at c.self.inside.mounts.kinds) (value_at c.remove-old.new.self.kinds) c.args.mount.count
       c.remove-old.ensures.updates
       (λ mount kind apart at. c.leave.ensures.others (mount_at mount) kind apart
       (c.self.invariant.listed mount kind at));

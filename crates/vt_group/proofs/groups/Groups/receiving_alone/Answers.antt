@@ -21,12 +21,12 @@ returns c =
         lower = λ one upper is inside. absurd (c.requires one (is ∙ ap Some (sym (eqb-true group upper inside))));
         reaches = λ one is. subst (Reaches groups group) (eqb-true group one is) (reaches_first groups group);
       },
-      receivers_noted found c.self.inside.mounts.entries c.put_in_order.new.mounts.items
+      receivers_noted found c.self.inside.mounts.kinds.entries c.put_in_order.new.mounts.items
           c.self.invariant.ordered c.put_in_order.ensures.ordered
           (λ count.
           c.put_in_order.ensures.same count
           ∙ c.in_ok-add_relatives.ensures count
-          ∙ ap (λ list. receives_from groups found (counted count) || is_noted list count) c.new-mounts.ensures.items
+          ∙ ap (λ list. receives_from groups found (counted count) || is_noted list count) c.in_ok-mounts.ensures.items
           ∙ or_none (receives_from groups found (counted count))
           ∙ ap (λ groups. receives_from groups found (counted count)) (sym c.self.view_is))
           ∙ ap (λ groups. receivers_from found groups.peers) c.self.view_is,

@@ -60,7 +60,7 @@ returns c =
         lower = λ one upper is inside. known.lower one upper is (ap (λ list. is_in list upper) all ∙ inside);
         reaches = known.reaches;
       },
-      receivers_noted found c.self.inside.mounts.entries c.put_in_order.new.mounts.items
+      receivers_noted found c.self.inside.mounts.kinds.entries c.put_in_order.new.mounts.items
           c.self.invariant.ordered c.put_in_order.ensures.ordered
           (λ count.
           c.put_in_order.ensures.same count ∙ known.each count

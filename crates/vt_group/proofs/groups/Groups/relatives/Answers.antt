@@ -12,7 +12,7 @@ use Rattle.vt_group.proofs.groups.Groups.relatives.Goals as goal
 pub returns : goal.returns
 returns c mount sourced =
     let group = counted c.args.group.count in
-    let at = found_kind mount c.self.inside.mounts.entries
+    let at = found_kind mount c.self.inside.mounts.kinds.entries
     (ap (λ groups. is_some (lookup (nat_eq mount) groups.peers)) c.self.view_is
     ∙ sourced_found group (lookup (nat_eq mount) c.args.self.now.peers) sourced) in
     let source = ap source_of (sym at.3 ∙ ap (λ groups. propagation_in groups mount) c.self.view_is) ∙ sourced in

@@ -18,7 +18,7 @@ use Rattle.vt_group.proofs.groups.Groups.set.Goals as goal
 
 pub returns-clause-ok : goal.returns-clause-ok
 returns-clause-ok c =
-    let es = c.self.inside.mounts.entries in
+    let es = c.self.inside.mounts.kinds.entries in
     let count = c.args.mount.count in
     let old = shown-type count es _ c.args.self.now c.self.view_is c.get-old.result
     (c.get-old.ensures ∙ ap (lookup (is_at (nat_cmp count))) c.in_ok-reserve.ensures.entries) in
@@ -31,7 +31,7 @@ returns-clause-ok c =
 
 pub returns-clause-types : goal.returns-clause-types
 returns-clause-types c other =
-    let es = c.self.inside.mounts.entries in
+    let es = c.self.inside.mounts.kinds.entries in
     let count = c.args.mount.count in
     let old = shown-type count es _ c.args.self.now c.self.view_is c.get-old.result
     (c.get-old.ensures ∙ ap (lookup (is_at (nat_cmp count))) c.in_ok-reserve.ensures.entries) in
@@ -46,7 +46,7 @@ returns-clause-types c other =
 pub invariant_of-self-2 : goal.invariant_of-self-2
 invariant_of-self-2 c = record {
   listed = put_each (λ mount kind. is_listed c.leave.new.self (mount_at mount) kind ≡ true)
-      (value_at c.self.inside.mounts) (value_at c.set.new.self) c.args.mount.count c.args.kind
+      (value_at c.self.inside.mounts.kinds) (value_at c.set.new.self.kinds) c.args.mount.count c.args.kind
       (λ other. c.set.ensures.updates other
       ∙ ap (λ es. cond (is_at (nat_cmp c.args.mount.count) other) (Some c.args.kind)
       (lookup (is_at (nat_cmp other)) es)) c.in_ok-reserve.ensures.entries)

@@ -1,5 +1,4 @@
 use Rattle.std.proofs.Common.{◌≡◌, ap, is_some, map, refl, sym, true, ◌||◌, ◌∙◌}
-use Rattle.std.proofs.lemmas.Bool.{and_parts}
 use Rattle.std.specs.BTreeMap.{insert_entry, is_at}
 use Rattle.std.specs.List.{list_any}
 use Rattle.std.specs.Ordering.{nat_cmp}
@@ -22,7 +21,7 @@ use Rattle.vt_group.proofs.groups.Groups.set_slave.Goals as goal
 
 pub returns-clause-new : goal.returns-clause-new
 returns-clause-new c =
-    let es = c.self.inside.mounts.entries in
+    let es = c.self.inside.mounts.kinds.entries in
     let count = c.args.mount.count in
     let inserted = ap (map numbered_peer) c.set.ensures.entries
     ∙ inserted-numbered propagation_of count (Slave c.args.group) es
@@ -32,7 +31,7 @@ returns-clause-new c =
 
 pub returns-clause-types : goal.returns-clause-types
 returns-clause-types c other =
-    let es = c.self.inside.mounts.entries in
+    let es = c.self.inside.mounts.kinds.entries in
     let count = c.args.mount.count in
     let inserted = ap (map numbered_peer) c.set.ensures.entries
     ∙ inserted-numbered propagation_of count (Slave c.args.group) es
@@ -47,15 +46,15 @@ returns-clause-types c other =
 
 pub invariant_of-self : goal.invariant_of-self
 invariant_of-self c =
-    let es = c.self.inside.mounts.entries in
+    let es = c.self.inside.mounts.kinds.entries in
     let count = c.args.mount.count in
     let found = kept_shared es count c.args.group
     (ap (λ groups. propagation_in groups (counted count)) c.self.view_is ∙ c.requires) in
     record {
       listed = put_each (λ mount kind. is_listed c.leave.new.self (mount_at mount) kind ≡ true)
-          (value_at c.self.inside.mounts) (value_at c.set.new.self) count (Slave c.args.group) c.set.ensures.updates
+          (value_at c.self.inside.mounts.kinds) (value_at c.set.new.self.kinds) count (Slave c.args.group) c.set.ensures.updates
           (c.leave.ensures.own (Slave c.args.group) refl
-          (and_parts _ _ (c.self.invariant.listed count (Shared c.args.group) found)).0)
+          (c.self.invariant.listed count (Shared c.args.group) found))
           (λ mount kind apart at. c.leave.ensures.others (mount_at mount) kind apart
           (c.self.invariant.listed mount kind at));
       lower = λ lower upper at. c.leave.ensures.lower (group_at lower) upper (c.self.invariant.lower lower upper at);
@@ -66,6 +65,6 @@ invariant_of-self c =
 pub set-requires : goal.set-requires
 set-requires c =
     let count = c.args.mount.count in
-    let found = kept_shared c.self.inside.mounts.entries count c.args.group
+    let found = kept_shared c.self.inside.mounts.kinds.entries count c.args.group
     (ap (λ groups. propagation_in groups (counted count)) c.self.view_is ∙ c.requires) in
-    ap (λ value. is_some value || list_any (is_at (nat_cmp count)) c.self.inside.mounts.room) found
+    (ap (λ value. is_some value || list_any (is_at (nat_cmp count)) c.self.inside.mounts.kinds.room) found, tt)

@@ -56,7 +56,7 @@ pub returns-clause-ok : goal.returns-clause-ok
 returns-clause-ok c world has live is =
     let count = c.args.mount.count in
     let group = counted c.args.group.count in
-    let es = c.self.inside.mounts.entries in
+    let es = c.self.inside.mounts.kinds.entries in
     let old = shown-type count es _ c.args.self.now c.self.view_is c.get-old.result
     (c.get-old.ensures ∙ ap (lookup (is_at (nat_cmp count))) c.reserve-2.ensures.entries) in
     let peers = ap (map numbered_peer) c.set-3.ensures.entries
@@ -87,7 +87,7 @@ invariant_of-self-2 c =
     let master = c.in-Some.master in
     record {
       listed = put_each (λ mount kind. is_listed c.leave.new.self (mount_at mount) kind ≡ true)
-          (value_at c.self.inside.mounts) (value_at c.set-3.new.self) count (SharedIn group)
+          (value_at c.self.inside.mounts.kinds) (value_at c.set-3.new.self.kinds) count (SharedIn group)
           (λ other. c.set-3.ensures.updates other ∙ ap (λ es. cond (is_at (nat_cmp count) other) (Some (SharedIn group))
           (lookup (is_at (nat_cmp other)) es)) c.reserve-2.ensures.entries)
           (c.leave.ensures.own (SharedIn group) refl (c.in_ok-join.ensures.kept c.args.mount (SharedIn group) c.in_ok-list.ensures.ok))

@@ -18,7 +18,6 @@ returns-clause-kept c mount kind typed apart =
     (apart_source c.args.lost group kind apart source)
     (any_still (λ name. has same_id name mount old.mounts) (λ name. has same_id name mount new.mounts)
     (λ at. c.keep_under.ensures.mounts at mount typed) (names_of old.names group) under))
-    (λ group is among. among)
 
 pub returns-clause-lower : goal.returns-clause-lower
 returns-clause-lower c lower upper has_master apart under =

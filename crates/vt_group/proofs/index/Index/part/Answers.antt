@@ -9,13 +9,13 @@ pub returns-clause-others : goal.returns-clause-others
 returns-clause-others c other upper apart under =
     let old : Index = c.args.self.now in
     c.prune_left.ensures.lowers other upper
-    (any_still (λ name. has same_group name other old.lowers) (λ name. has same_group name other c.take_out-name.new.sets)
-    (λ at. c.take_out-name.ensures.others at other apart) (names_of old.names upper) under)
+    (any_still (λ name. has same_group name other old.lowers) (λ name. has same_group name other c.take_out-left.new.sets)
+    (λ at. c.take_out-left.ensures.others at other apart) (names_of old.names upper) under)
 
 pub returns-clause-own : goal.returns-clause-own
 returns-clause-own c upper is under =
     let old : Index = c.args.self.now in
     c.prune_left.ensures.lowers c.args.lower upper
-    (stays_under same_group old.names old.lowers c.take_out-name.new.sets c.args.lower upper c.of_any-stays.result.now
+    (stays_under same_group old.names old.lowers c.take_out-left.new.sets c.args.lower upper c.of_any-stays.result.now
     (c.of_any-stays.ensures ∙ ap (names_of_any old.names) is)
-    (λ at. c.take_out-name.ensures.own at c.args.lower) under)
+    (λ at. c.take_out-left.ensures.own at c.args.lower) under)

@@ -15,7 +15,7 @@ returns-then-eq-clause-mounts c mount was kind lower apart handed listed =
     let heir = c.args.heir in
     handed_kind lost heir old old mount (λ group apart under. under)
     (λ under. ap (is_relative old mount) (sym (same_number heir lost (sym c.eq.ensures ∙ c.if-eq.true))) ∙ under)
-    (λ group among. among) was kind apart handed listed
+    was kind apart handed listed
 
 pub returns-clause-mounts : goal.returns-clause-mounts
 returns-clause-mounts c mount was kind lower apart handed listed =
@@ -29,7 +29,7 @@ returns-clause-mounts c mount was kind lower apart handed listed =
     handed_kind lost heir old new mount
     (λ group. c.inherit.ensures.kept group (λ name. has same_id name mount old.mounts))
     (c.inherit.ensures.own differ named (λ name. has same_id name mount old.mounts))
-    (λ group among. among) was kind apart handed listed
+    was kind apart handed listed
 
 pub returns-clause-lowers : goal.returns-clause-lowers
 returns-clause-lowers c lower was upper is_lower handed under =
