@@ -1,5 +1,5 @@
 //! Mounts under keys, in the order of their numbers.
-ghost use Rattle.std.specs.Prelude.{◌≡◌, ◌+◌, ◌-◌, ◌<◌, [], filter, if◌then◌else◌, not, OnOk};
+ghost use Rattle.std.specs.Prelude.{◌≡◌, ◌+◌, ◌-◌, ◌<◌, [], filter, if◌then◌else◌, not, OnErr, OnOk};
 ghost use Rattle.vt_mount.specs.Listed.{reserved, listed};
 ghost use Rattle.vt_mount.specs.Rising.{inserted, same_id};
 
@@ -51,6 +51,20 @@ impl<K: Eq + Hash + Copy + Drop> MountsBy<K> {
         let mut list = Ascending::new();
         list.reserve_one(alloc)?;
         self.lists.insert(key, list)?;
+        Ok(())
+    }
+
+    /// Adds a mount under a key, in the order of numbers.
+    pub(crate) fn add(&mut self, key: K, mount: MountId) -> Result<(), AllocError>
+        ensures ok { OnOk result ((q : K) → listed K.eq q self.new
+            ≡ (if K.eq q key then inserted mount (listed K.eq q self.old) else listed K.eq q self.old)) }
+        ensures err { OnErr result ((q : K) → listed K.eq q self.new ≡ listed K.eq q self.old) }
+    {
+        let alloc = *self.lists.allocator();
+        if let Some(list) = self.lists.get_mut(&key) {
+            return list.add(alloc, mount);
+        }
+        self.lists.insert(key, Ascending::of(mount))?;
         Ok(())
     }
 
