@@ -61,11 +61,8 @@ impl<K: Eq + Hash + Copy + Drop> MountsBy<K> {
         ensures err { OnErr result ((q : K) → listed K.eq q self.new ≡ listed K.eq q self.old) }
     {
         let alloc = *self.lists.allocator();
-        if let Some(list) = self.lists.get_mut(&key) {
-            return list.add(alloc, mount);
-        }
-        self.lists.insert(key, Ascending::of(mount))?;
-        Ok(())
+        let list = self.lists.entry(key)?.or_insert(Ascending::new());
+        list.add(alloc, mount)
     }
 
     /// Inserts a mount under a key, where room is reserved, in the order of numbers. It does not allocate.
@@ -125,12 +122,15 @@ impl<K: Eq + Hash + Copy + Drop> MountsBy<K> {
             ≡ (if K.eq q key.now then filter (λ other. not (same_id other mount)) (listed K.eq q self.old)
             else listed K.eq q self.old) }
     {
-        let Some(list) = self.lists.get_mut(key) else {
+        let Some(place) = self.lists.get_index_of(key) else {
+            return;
+        };
+        let Some(list) = self.lists.get_index_mut(place) else {
             return;
         };
         list.remove(mount);
         if list.is_empty() {
-            self.lists.swap_remove(key);
+            self.lists.swap_remove_index(place);
         }
     }
 }

@@ -1,22 +1,19 @@
-use Rattle.std.proofs.Common.{Some, ap, is_some, sym, ◌∙◌}
-use Rattle.std.specs.Option.{option_copied_mut}
+use Rattle.std.proofs.Common.{Some, rules}
 use Rattle.vt_mount.specs.Rising.{inserted}
 use Rattle.vt_mount.proofs.KeptLemmas.{on-err, on-ok}
-use Rattle.vt_mount.proofs.ListedLemmas.{list_changed, list_kept}
+use Rattle.vt_mount.proofs.ListedLemmas.{listed_changed, listed_kept, listed_or}
 use Rattle.vt_mount.proofs.lists.MountsBy.add.Goals as goal
 
-pub returns-in-Some-clause-ok : goal.returns-in-Some-clause-ok
-returns-in-Some-clause-ok g c =
-    let found = sym c.get_mut.ensures.value ∙ ap option_copied_mut c.in-Some.is in
+pub returns-clause-ok : goal.returns-clause-ok
+returns-clause-ok g c =
     on-ok c.add.result c.add.ensures.ok (λ added.
-    list_changed g.met.K.Eq.laws c.args.self.now.lists.entries (c.get_mut.follows.lender c.add.new.self).entries
-    c.args.key c.in-Some.list.now found (Some c.add.new.self)
-    ((c.get_mut.follows.holds c.add.new.self).3 (ap is_some found)).0 (inserted c.args.mount) added)
+    listed_changed g.met.K.Eq.laws c.args.self.now.lists.entries _ c.args.key _
+    (listed_or _ c.new.result c.or_insert-list.result.now c.new.ensures.items (search rules))
+    (Some c.add.new.self) (λ q. search rules) (inserted c.args.mount) added)
 
-pub returns-in-Some-clause-err : goal.returns-in-Some-clause-err
-returns-in-Some-clause-err g c =
-    let found = sym c.get_mut.ensures.value ∙ ap option_copied_mut c.in-Some.is in
+pub returns-clause-err : goal.returns-clause-err
+returns-clause-err g c =
     on-err c.add.result c.add.ensures.err (λ same.
-    list_kept g.met.K.Eq.laws c.args.self.now.lists.entries (c.get_mut.follows.lender c.add.new.self).entries
-    c.args.key c.in-Some.list.now found (Some c.add.new.self)
-    ((c.get_mut.follows.holds c.add.new.self).3 (ap is_some found)).0 same)
+    listed_kept g.met.K.Eq.laws c.args.self.now.lists.entries _ c.args.key _
+    (listed_or _ c.new.result c.or_insert-list.result.now c.new.ensures.items (search rules))
+    (Some c.add.new.self) (λ q. search rules) same)
