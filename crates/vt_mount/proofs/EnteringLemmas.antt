@@ -11,7 +11,8 @@ use Rattle.vt_location.specs.MountValue.{mount_of}
 use Rattle.vt_location.specs.Numbers.{counted}
 use Rattle.vt_mount.specs.declared.moving.NewPoint.{NewPoint}
 use Rattle.vt_mount.specs.Moving.{placed_entry, with_points}
-use Rattle.vt_mount.specs.MountsValue.{MountEntry, are_ascending, changed, mounts_in, unused_entry}
+use Rattle.vt_mount.specs.MountsValue.{MountEntry, are_ascending, changed, mounts_in, unused_entry, without}
+use Rattle.vt_mount.proofs.KeptLemmas.{without-last}
 use Rattle.vt_spec.specs.Machine.Mounts as meant
 
 pub mounts_entered : (old : List MountEntry) (new : List Mount)
@@ -75,6 +76,40 @@ may_enter_at old entries new i d less is so_far =
     (all_before (old ++ map unused_entry (take i new)) (mount_of mount) (map mount_of (drop (i + 1) new))
     (ap are_ascending (numbers_around old (take i new) (mount ∷ drop (i + 1) new))
     ∙ ap (λ all. are_ascending (mounts_in old ++ map mount_of all)) (sym (at_index new i d less)) ∙ is))
+
+-- those in front ascend too
+ascending-front : (front rest : List (meant.Mount ℕ)) → are_ascending (front ++ rest) ≡ true
+    → are_ascending front ≡ true
+ascending-front [] rest is = refl
+ascending-front (mount ∷ front) rest is =
+    let later = λ (other : meant.Mount ℕ). nat_lt mount.number other.number in
+    let parts = and_parts (list_all later (front ++ rest)) (are_ascending (front ++ rest)) is in
+    let ends = and_parts (list_all later front) (list_all later rest)
+    (sym (list_all-append later front rest) ∙ parts.0) in
+    λ i. ends.0 i && ascending-front front rest parts.1 i
+
+pub ascending-taken : (old : List MountEntry) (new : List Mount) (i : ℕ)
+    → are_ascending (mounts_in old ++ map mount_of new) ≡ true
+    → are_ascending (mounts_in old ++ map mount_of (take i new)) ≡ true
+ascending-taken old new i is =
+    ascending-front (mounts_in old ++ map mount_of (take i new)) (map mount_of (drop i new))
+    (ap are_ascending (append_assoc (mounts_in old) (map mount_of (take i new)) (map mount_of (drop i new))
+    ∙ ap (λ all. mounts_in old ++ all)
+    (sym (map-append mount_of (take i new) (drop i new)) ∙ ap (map mount_of) (take-append-drop i new)))
+    ∙ is)
+
+-- the last of those that came goes again
+pub withdrawn : (old entries : List MountEntry) (rest back : List Mount) (mount : Mount)
+    → are_ascending (mounts_in old ++ map mount_of (rest ++ mount ∷ back)) ≡ true
+    → entries ≡ old ++ map unused_entry (rest ++ mount ∷ [])
+    → without (counted mount.number.count) entries ≡ old ++ map unused_entry rest
+withdrawn old entries rest back mount is so_far =
+    ap (without (counted mount.number.count))
+    (so_far ∙ ap (λ come. old ++ come) (map-append unused_entry rest (mount ∷ []))
+    ∙ sym (append_assoc old (map unused_entry rest) (unused_entry mount ∷ [])))
+    ∙ without-last (counted mount.number.count) (unused_entry mount) (old ++ map unused_entry rest)
+    (all_before (old ++ map unused_entry rest) (mount_of mount) (map mount_of back)
+    (ap are_ascending (numbers_around old rest (mount ∷ back)) ∙ is)) refl
 
 -- Moves keep the numbers
 

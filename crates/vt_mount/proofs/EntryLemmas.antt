@@ -1,16 +1,17 @@
 -- The entries that contracts see of what is kept.
-use Rattle.std.proofs.Common.{◌≡◌, ℕ, suc, Bool, true, false, cond, ◌&&◌, List, [], ◌∷◌, ◌++◌, map, length, not, nat_eq, nat_lt, Option, None, Some, option_map, slice_get, refl, sym, ap, ◌∙◌, eq-eqb}
+use Rattle.std.proofs.Common.{◌≡◌, ℕ, suc, Bool, true, false, cond, ◌&&◌, List, [], ◌∷◌, ◌++◌, map, length, not, nat_eq, nat_lt, Option, None, Some, is_some, option_map, slice_get, refl, sym, ap, ◌∙◌, ◌<◌, ◌⊎◌, inl, inr, arith, eq-eqb, ne_eqb}
 use Rattle.std.specs.Prelude.{find as seek}
 use Rattle.std.proofs.lemmas.Bool.{eqb-true}
 use Rattle.std.specs.List.{IsDistinct, list_all}
 use Rattle.std.specs.Map.{keys_of, lookup}
 use Rattle.vt_spec.specs.Machine.Mounts as meant
 use Rattle.vt_location.specs.declared.numbers.MountId.{MountId}
+use Rattle.vt_location.specs.declared.numbers.NamespaceId.{NamespaceId}
 use Rattle.vt_location.specs.MountValue.{mount_of}
 use Rattle.vt_location.specs.Numbers.{counted}
 use Rattle.vt_mount.specs.declared.mounted.Mounted.{Mounted}
 use Rattle.vt_mount.specs.Listed.{same_id}
-use Rattle.vt_mount.specs.MountsValue.{MountEntry, changed, entries_of, entry_numbered, entry_of, in_order, mount_kept, mounts_in, without}
+use Rattle.vt_mount.specs.MountsValue.{MountEntry, changed, entries_of, entry_numbered, entry_of, in_order, is_unused, mount_kept, mounts_in, without}
 use Rattle.vt_mount.proofs.IndexLemmas.{same_mount_id}
 use Rattle.vt_mount.proofs.OrderLemmas.{change_kept, found, found-in_order, in_order-changed, in_order-last, in_order-removed, is_above, length-in_order, tied, without_kept}
 use Rattle.vt_location.proofs.NumberLemmas.{counted_test, counted_less}
@@ -167,3 +168,29 @@ module _ (number : MountId) (one : Mounted) (es new : List (MountId × Mounted))
   pub kept-last : entries_of new ≡ entries_of es ++ entry_of (number, one) ∷ []
   kept-last = ap entries (in_order-last number one es new (above-entries number (in_order es) above) is)
       ∙ entries-last (number, one) (in_order es)
+
+-- One that is in a namespace or in use, and one that is not
+
+pub is_some_mapped : {A B : Type 0} (f : A → B) (o : Option A) → is_some (option_map f o) ≡ is_some o
+is_some_mapped f None = refl
+is_some_mapped f (Some a) = refl
+
+module _ (id : MountId) (kept : Mounted) where
+  abbrev unused_in : Option NamespaceId → Bool
+  unused_in o = not (is_some (option_map (λ (namespace : NamespaceId). counted namespace.count) o))
+      && nat_eq kept.uses 0
+
+  pub used_kept : (is_some kept.namespace ≡ true) ⊎ (0 < kept.uses) → is_unused (entry_of (id, kept)) ≡ false
+  used_kept used = by kept.namespace used
+    where
+      by : (o : Option NamespaceId) → (is_some o ≡ true) ⊎ (0 < kept.uses) → unused_in o ≡ false
+      by (Some namespace) used = refl
+      by None (inl there) = absurd cc
+      by None (inr some) = ne_eqb kept.uses 0 (λ none. omega (arith, some, none))
+
+  pub unused_kept : is_some kept.namespace ≡ false → kept.uses ≡ 0 → is_unused (entry_of (id, kept)) ≡ true
+  unused_kept nowhere none = by kept.namespace nowhere
+    where
+      by : (o : Option NamespaceId) → is_some o ≡ false → unused_in o ≡ true
+      by (Some namespace) nowhere = absurd cc
+      by None nowhere = eq-eqb kept.uses 0 none

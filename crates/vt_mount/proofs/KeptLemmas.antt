@@ -12,12 +12,14 @@ use Rattle.vt_location.specs.declared.numbers.NamespaceId.{NamespaceId}
 use Rattle.vt_mount.specs.declared.indexes.Indexes.{Indexes}
 use Rattle.vt_mount.specs.declared.mounted.Mounted.{Mounted}
 use Rattle.vt_mount.specs.Indexed.{IsIndexed, is_kept_small, numbers_where}
-use Rattle.vt_mount.specs.Indexes.{is_at, is_in, is_on, is_over, listed_at, listed_in, listed_on, listed_over, pushed, taken}
+use Rattle.vt_mount.specs.Indexes.{is_at, is_in, is_on, is_over, listed_at, listed_in, listed_on, listed_over, pushed, put_in_place, taken}
 use Rattle.vt_mount.specs.Listed.{same_id}
 use Rattle.vt_mount.specs.MountsValue.{MountEntry, mount_kept, without}
 use Rattle.vt_mount.proofs.ListLemmas.{others}
-use Rattle.vt_mount.proofs.IndexLemmas.{numbers-last, numbers-left, numbers-without, others-taken}
-use Rattle.vt_mount.proofs.OrderLemmas.{change_kept, found, rises, without_kept}
+use Rattle.vt_mount.specs.Rising.{comes_last}
+use Rattle.vt_mount.proofs.RisingLemmas.{put_in_place-last, taken-last}
+use Rattle.vt_mount.proofs.IndexLemmas.{last-above, numbers-last, numbers-left, numbers-without, others-taken}
+use Rattle.vt_mount.proofs.OrderLemmas.{change_kept, found, is_above, rises, without_kept}
 use Rattle.vt_spec.proofs.Truths.{and_true_left, and_true_right}
 
 -- what is kept of a mount that is detached
@@ -123,6 +125,48 @@ module _ (mount : Mount) (one : Mounted) (kept : List (MountId × Mounted))
     slots = slots-last (mount.number, one) kept slot indexed.slots;
   }
 
+-- Lists that a mount whose number is above all others is put in, and leaves again
+
+module _ (mount : Mount) (kept : List (MountId × Mounted)) (above : is_above mount.number kept ≡ true) where
+  -- in the lists it comes last
+  pub put_behind : (test : Mount → Bool) (here : Bool) (list : List MountId) → list ≡ numbers_where test kept
+      → put_in_place here mount.number list ≡ pushed here mount.number list
+  put_behind test here list is =
+      put_in_place-last here mount.number list
+      (ap (comes_last mount.number) is ∙ last-above test mount.number kept above)
+
+  restored_one : (test : Mount → Bool) (old now left : List MountId) → old ≡ numbers_where test kept
+      → taken (test mount) mount.number now ≡ taken (test mount) mount.number old
+      → left ≡ taken (test mount) mount.number now
+      → left ≡ numbers_where test kept
+  restored_one test old now left was rest taken_out =
+      taken_out ∙ rest
+      ∙ taken-last (test mount) mount.number old
+      (ap (comes_last mount.number) was ∙ last-above test mount.number kept above)
+      ∙ was
+
+  pub indexed-restored : (old now left : Indexes)
+      → ((q : NamespaceId) → taken (is_in q mount) mount.number (listed_in now q)
+      ≡ taken (is_in q mount) mount.number (listed_in old q))
+      → ((q : MountId) → taken (is_on q mount) mount.number (listed_on now q)
+      ≡ taken (is_on q mount) mount.number (listed_on old q))
+      → ((q : Location) → taken (is_at q mount) mount.number (listed_at now q)
+      ≡ taken (is_at q mount) mount.number (listed_at old q))
+      → ((q : NodeRef) → taken (is_over q mount) mount.number (listed_over now q)
+      ≡ taken (is_over q mount) mount.number (listed_over old q))
+      → ((q : NamespaceId) → listed_in left q ≡ taken (is_in q mount) mount.number (listed_in now q))
+      → ((q : MountId) → listed_on left q ≡ taken (is_on q mount) mount.number (listed_on now q))
+      → ((q : Location) → listed_at left q ≡ taken (is_at q mount) mount.number (listed_at now q))
+      → ((q : NodeRef) → listed_over left q ≡ taken (is_over q mount) mount.number (listed_over now q))
+      → IsIndexed old kept → IsIndexed left kept
+  indexed-restored old now left in_rest on_rest at_rest over_rest in_left on_left at_left over_left indexed = record {
+    namespace = λ q. restored_one (is_in q) _ _ _ (indexed.namespace q) (in_rest q) (in_left q);
+    parent = λ q. restored_one (is_on q) _ _ _ (indexed.parent q) (on_rest q) (on_left q);
+    place = λ q. restored_one (is_at q) _ _ _ (indexed.place q) (at_rest q) (at_left q);
+    inode = λ q. restored_one (is_over q) _ _ _ (indexed.inode q) (over_rest q) (over_left q);
+    slots = indexed.slots;
+  }
+
 -- What is attached and taken out again
 
 without-above : (number : ℕ) (entries : List MountEntry)
@@ -160,3 +204,11 @@ is-refused (Err e) refused p = p
 pub on-ok : {A E P Q : Type 0} (r : Result A E) → OnOk r P → (P → Q) → OnOk r Q
 on-ok (Ok a) p more = more p
 on-ok (Err e) p more = tt
+
+pub on-err : {A E P Q : Type 0} (r : Result A E) → OnErr r P → (P → Q) → OnErr r Q
+on-err (Ok a) p more = tt
+on-err (Err e) p more = more p
+
+pub either-way : {A E P Q R : Type 0} (r : Result A E) → OnOk r P → OnErr r Q → (P → R) → (Q → R) → R
+either-way (Ok a) p q fine refused = fine p
+either-way (Err e) p q fine refused = refused q

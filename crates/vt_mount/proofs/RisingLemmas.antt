@@ -1,12 +1,14 @@
 -- Mounts in the order of their numbers: what a binary search finds among them, and what an edit there does.
-use Rattle.std.proofs.Common.{◌≡◌, ◌<◌, ◌≤◌, ℕ, zero, suc, Bool, true, false, cond, ◌&&◌, List, [], ◌∷◌, ◌++◌, filter, get_or, length, nat_eq, nat_lt, not, refl, sym, ap, subst, ◌∙◌, arith}
-use Rattle.std.specs.List.{AllWithin, insert, remove}
+use Rattle.std.proofs.Common.{◌≡◌, ◌<◌, ◌≤◌, ◌-◌, ℕ, zero, suc, Bool, true, false, cond, ◌&&◌, List, [], ◌∷◌, ◌++◌, Option, Some, filter, get_or, leb, length, nat_eq, nat_lt, not, refl, sym, ap, eq-eqb, subst, ◌∙◌, arith}
+use Rattle.std.specs.List.{AllWithin, insert, remove, slice_get}
 use Rattle.std.specs.List.Sorted.{IsNonDecreasingBy, IsPartitionPoint, IsPartitionedBy}
 use Rattle.std.proofs.lemmas.Bool.{ltb-true, ltb-false, not-true}
 use Rattle.std.proofs.lemmas.Bool.Decides.{nat_tests}
+use Rattle.std.proofs.lemmas.Option.{get_or_from_slice_get}
 use Rattle.vt_location.specs.declared.numbers.MountId.{MountId}
-use Rattle.vt_mount.specs.Indexes.{pushed, put_in_place}
+use Rattle.vt_mount.specs.Indexes.{pushed, put_in_place, taken}
 use Rattle.vt_mount.specs.Rising.{comes_last, inserted, none_below, rises, same_id}
+use Rattle.vt_spec.specs.Lists.{holds_of}
 use Rattle.vt_spec.proofs.Truths.{and_true_left, and_true_right}
 
 both : (a b : Bool) → a ≡ true → b ≡ true → (a && b) ≡ true
@@ -65,6 +67,31 @@ pub put_in_place-last : (here : Bool) (id : MountId) (list : List MountId) → c
 put_in_place-last true id list last = inserted-last id list last
 put_in_place-last false id list last = refl
 
+-- behind all, where none has a greater number
+inserted-greatest : (id : MountId) (list : List MountId)
+    → ((k : ℕ) (d : MountId) → k < length list → (get_or list k d).count ≤ id.count)
+    → inserted id list ≡ list ++ id ∷ []
+inserted-greatest id [] least = refl
+inserted-greatest id (x ∷ list) least =
+    ap (λ b. cond b (id ∷ x ∷ list) (x ∷ inserted id list)) (apart (least 0 x (omega arith)))
+    ∙ ap (λ rest. x ∷ rest) (inserted-greatest id list (λ k d within. least (suc k) d (omega (arith, within))))
+  where
+    apart : x.count ≤ id.count → nat_lt id.count x.count ≡ false
+    apart le = grind (arith, nat_tests)
+
+pub inserted-behind : (id last : MountId) (list : List MountId) → rises list ≡ true
+    → slice_get list (length list - 1) ≡ Some last → leb last.count id.count ≡ true
+    → inserted id list ≡ list ++ id ∷ []
+inserted-behind id last list rising is least =
+    inserted-greatest id list (λ k d within.
+    let le = counts_rise list rising k (length list - 1) d (omega (arith, within)) (omega (arith, within)) in
+    let at : (get_or list (length list - 1) d).count ≡ last.count =
+    ap (λ one. one.count) (get_or_from_slice_get list (length list - 1) last d is) in
+    most _ _ le at)
+  where
+    most : (m n : ℕ) → m ≤ n → n ≡ last.count → m ≤ id.count
+    most m n le at = grind (arith, nat_tests, least)
+
 lower : (id y : MountId) (list : List MountId) → id.count < y.count → none_below y list ≡ true
     → none_below id list ≡ true
 lower id y [] less below = refl
@@ -121,6 +148,36 @@ inserted-there id (x ∷ list) (suc place) within front rest =
     ∙ ap (λ b. cond b (id ∷ x ∷ list) (x ∷ inserted id list))
     (sym (not-true _ (front 0 x (omega arith) (omega arith))))
 
+-- one that is put in, and taken out again
+
+abbrev pub others : MountId → List MountId → List MountId
+others id list = filter (λ other. not (same_id other id)) list
+
+itself : (id : MountId) (list : List MountId) → others id (id ∷ list) ≡ others id list
+itself id list = ap (λ b. cond (not b) (id ∷ others id list) (others id list)) (eq-eqb id.count id.count refl)
+
+pub others-inserted : (id : MountId) (list : List MountId) → others id (inserted id list) ≡ others id list
+others-inserted id [] = itself id []
+others-inserted id (x ∷ list) = by (nat_lt id.count x.count) (others-inserted id list)
+  where
+    by : (b : Bool) → others id (inserted id list) ≡ others id list
+        → others id (cond b (id ∷ x ∷ list) (x ∷ inserted id list)) ≡ others id (x ∷ list)
+    by true rest = itself id (x ∷ list)
+    by false rest = ap (λ rest. cond (not (same_id x id)) (x ∷ rest) rest) rest
+
+pub taken-put : (here : Bool) (id : MountId) (list : List MountId)
+    → taken here id (put_in_place here id list) ≡ taken here id list
+taken-put true id list = others-inserted id list
+taken-put false id list = refl
+
+-- the same where the place is known at which it is put in
+pub rest_there : {A : Type 0} (test : A → Bool) (place : Option A) (there : A) → place ≡ Some there
+    → (id : MountId) (old now : List MountId) → now ≡ put_in_place (test there) id old
+    → taken (holds_of test place) id now ≡ taken (holds_of test place) id old
+rest_there test place there is id old now put =
+    subst (λ place. taken (holds_of test place) id now ≡ taken (holds_of test place) id old) (sym is)
+    (ap (taken (test there) id) put ∙ taken-put (test there) id old)
+
 -- one that is taken out
 
 none_below-remove : (id : MountId) (list : List MountId) (place : ℕ) → none_below id list ≡ true
@@ -138,9 +195,6 @@ rises-remove (x ∷ list) zero rising = and_true_right _ _ rising
 rises-remove (x ∷ list) (suc place) rising =
     both _ _ (none_below-remove x list place (and_true_left _ _ rising))
     (rises-remove list place (and_true_right _ _ rising))
-
-abbrev pub others : MountId → List MountId → List MountId
-others id list = filter (λ other. not (same_id other id)) list
 
 -- it is no other, so that the others are those that are left
 pub others-remove : (id : MountId) (list : List MountId) (place : ℕ) → place < length list
@@ -230,6 +284,11 @@ others-last id (x ∷ list) last =
   where
     apart : (n : ℕ) → nat_lt n id.count ≡ true → nat_eq n id.count ≡ false
     apart n is = let less = ltb-true n id.count is in grind (arith, nat_tests)
+
+pub taken-last : (here : Bool) (id : MountId) (list : List MountId) → comes_last id list ≡ true
+    → taken here id list ≡ list
+taken-last true id list last = others-last id list last
+taken-last false id list last = refl
 
 -- what searches answer, where the slice that they go over is the list
 

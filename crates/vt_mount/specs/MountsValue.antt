@@ -1,5 +1,5 @@
 -- What the definitions see of the mounts that are kept.
-use Rattle.std.specs.Prelude.{Bool, List, Option, [], filter, find, if◌then◌else◌, map, nat_eq, nat_lt, not, option_map, true, unwrap_or, ℕ, ◌&&◌, ◌+◌, ◌-◌, ◌∷◌}
+use Rattle.std.specs.Prelude.{Bool, List, Option, [], filter, find, if◌then◌else◌, is_some, map, nat_eq, nat_lt, not, option_map, true, unwrap_or, ℕ, ◌&&◌, ◌+◌, ◌-◌, ◌∷◌}
 use Rattle.std.specs.List.{list_all}
 use Rattle.std.specs.FinMap.Entries.{put}
 use Rattle.std.specs.Ordering.{nat_cmp}
@@ -53,6 +53,10 @@ held writes entry = record entry { uses = entry.uses + 1; writers = entry.writer
 
 abbrev pub released : Bool → MountEntry → MountEntry
 released writes entry = record entry { uses = entry.uses - 1; writers = entry.writers - (if writes then 1 else 0) }
+
+-- a mount in no namespace that nothing uses
+abbrev pub is_unused : MountEntry → Bool
+is_unused entry = not (is_some entry.mount.namespace) && nat_eq entry.uses 0
 
 -- the mount's mount point is on the inode with this number, through whatever mount
 abbrev pub stands_over : ℕ → meant.Mount ℕ → Bool

@@ -1,7 +1,7 @@
 //! Mounts in the order of their numbers.
 #![tactic(auto, unfolding(crate::specs::Rising::held))]
 
-ghost use Rattle.std.specs.Prelude.{None, Some, ◌≡◌, ◌==◌, ◌+◌, ◌<◌, ◌≤◌, [], IfOk, IsTrue, OnOk, filter, length, not, option_to_list, true, vec_capacity, vec_len};
+ghost use Rattle.std.specs.Prelude.{None, Some, ◌≡◌, ◌==◌, ◌+◌, ◌++◌, ◌∷◌, ◌<◌, ◌≤◌, [], IfOk, IsTrue, OnErr, OnOk, filter, length, not, option_to_list, true, vec_capacity, vec_len};
 ghost use Rattle.vt_mount.specs.Rising.{HasRoom, held, inserted, rises, same_id};
 
 use std::alloc::{AllocError, Global};
@@ -87,6 +87,16 @@ impl Ascending {
         Ok(())
     }
 
+    /// Adds a mount.
+    pub(crate) fn add(&mut self, alloc: Global, mount: MountId) -> Result<(), AllocError>
+        ensures ok { OnOk result (held self.new.one self.new.many ≡ inserted mount (held self.old.one self.old.many)) }
+        ensures err { OnErr result (held self.new.one self.new.many ≡ held self.old.one self.old.many) }
+    {
+        self.reserve_one(alloc)?;
+        self.insert(mount);
+        Ok(())
+    }
+
     /// Inserts a mount, for which room is reserved. It does not allocate.
     pub(crate) fn insert(&mut self, mount: MountId)
         requires { 0 < self.old.reserved }
@@ -145,9 +155,24 @@ fn insert_into(ids: &mut Vec<MountId>, mount: MountId)
     ensures len { vec_len ids.new ≡ vec_len ids.old + 1 }
     ensures capacity { vec_capacity ids.old ≤ vec_capacity ids.new }
 {
-    let place = ids.partition_point(|other| other.count <= mount.count);
-    // It cannot fail: there is room.
-    let _ = ids.insert(place, mount);
+    // Neither fails: there is room. Mostly a mount comes after all others.
+    if goes_last(ids, mount) {
+        let _ = ids.push(mount);
+    } else {
+        let place = ids.partition_point(|other| other.count <= mount.count);
+        let _ = ids.insert(place, mount);
+    }
+}
+
+// Whether no mount of a list has a greater number.
+fn goes_last(ids: &[MountId], mount: MountId) -> bool
+    requires { rises ids.now ≡ true }
+    ensures { result ≡ true → inserted mount ids.now ≡ ids.now ++ mount ∷ [] }
+{
+    match ids.last() {
+        Some(last) => last.count <= mount.count,
+        None => true,
+    }
 }
 
 // Removes a mount from a list.

@@ -14,7 +14,7 @@ ghost use Rattle.vt_mount.specs.declared.mounted.Mounted.{Mounted};
 ghost use Rattle.vt_mount.specs.Reserved.{Reserves, mount_points_of, moved_places, namespaces_of};
 ghost use Rattle.vt_mount.specs.Indexed.{IsIndexed};
 ghost use Rattle.vt_mount.specs.Moving.{all_moves, is_small, move_of, with_points};
-ghost use Rattle.vt_mount.specs.MountsValue.{are_ascending, entries_of, in_order, mounts_in, unused_entry, without};
+ghost use Rattle.vt_mount.specs.MountsValue.{MountEntry, are_ascending, entries_of, in_order, mounts_in, unused_entry, without};
 
 use crate::indexes::Indexes;
 use crate::mounted::Mounted;
@@ -33,16 +33,64 @@ impl Mounts {
         ensures undone { OnOk result (without (mount_number mount.number) self.new ≡ self.old) }
         ensures err { OnErr result (self.new ≡ self.old) }
     {
-        if self.by_number.reserve(1).is_err()
+        if self.indexes.add(&mount).is_err()
             || self
-                .indexes
-                .reserve(mount.namespace, mount.mount_point)
+                .by_number
+                .insert(mount.number, Mounted::unused(mount))
                 .is_err()
         {
-            self.indexes.release(mount.namespace, mount.mount_point);
+            self.indexes.leave(&mount);
             return Err(AllocError);
         }
-        enter(&mut self.by_number, &mut self.indexes, mount);
+        Ok(())
+    }
+
+    // Attaches mounts after all others, with no uses yet.
+    fn attach_all(&mut self, new: &[Mount]) -> Result<(), AllocError>
+        requires { are_ascending (mounts_in self.old ++ map mount_of new.now) ≡ true }
+        ensures ok { OnOk result (self.new ≡ self.old ++ map unused_entry new.now) }
+        ensures err { OnErr result (self.new ≡ self.old) }
+    {
+        for (index, mount) in new.iter().enumerate() {
+            if self.attach(*mount).is_err() {
+                self.withdraw(&new[..index]);
+                return Err(AllocError);
+            }
+        }
+        Ok(())
+    }
+
+    // Takes out the mounts that came last, with no uses yet. It does not allocate.
+    fn withdraw(&mut self, new: &[Mount])
+        ensures { (old : List MountEntry) → are_ascending (mounts_in old ++ map mount_of new.now) ≡ true
+            → self.old ≡ old ++ map unused_entry new.now → self.new ≡ old }
+    {
+        for mount in new.iter().rev() {
+            self.remove(mount.number);
+        }
+    }
+
+    // Attaches mounts after all others, with no uses yet, and takes one more step, which may fail and change something
+    // else.
+    fn attach_then<S, F: FnOnce(&mut S) -> Result<(), AllocError>>(
+        &mut self,
+        new: &[Mount],
+        other: &mut S,
+        last: F,
+    ) -> Result<(), AllocError>
+        requires callable { F.IsAlwaysCallable last }
+        requires order { are_ascending (mounts_in self.old ++ map mount_of new.now) ≡ true }
+        ensures ok { OnOk result (self.new ≡ self.old ++ map unused_entry new.now) }
+        ensures last_ok { OnOk result (FnOnceReturnsAtMut F.FnOnce last other.old (Ok tt) other.new) }
+        ensures last_err { IfErr result (λ refused. (other.new ≡ other.old)
+            ⊎ FnOnceReturnsAtMut F.FnOnce last other.old (Err refused) other.new) }
+        ensures err { OnErr result (self.new ≡ self.old) }
+    {
+        self.attach_all(new)?;
+        if let Err(error) = last(other) {
+            self.withdraw(new);
+            return Err(error);
+        }
         Ok(())
     }
 
@@ -70,6 +118,11 @@ impl Mounts {
         ensures err { OnErr result (self.new ≡ self.old) }
     {
         let mut moved = Vec::new(*self.by_number.allocator());
+        // Where nothing moves, each list is looked for once, not for its room before.
+        if points.is_empty() {
+            self.attach_then(new, other, last)?;
+            return Ok(moved);
+        }
         if make_room(
             &mut self.by_number,
             &mut self.indexes,

@@ -1,12 +1,13 @@
 //! Mounts are moved, detached and removed: mount(2), umount(2).
-ghost use Rattle.std.specs.Prelude.{Some, ◌≡◌, filter, find, nat_eq, not, option_map, OnErr, OnOk};
+ghost use Rattle.std.specs.Prelude.{Some, ◌≡◌, filter, find, if◌then◌else◌, is_some, nat_eq, not, option_map, IfSome, OnErr, OnOk};
+ghost use Rattle.vt_spec.specs.Lists.{holds_of};
 ghost use Rattle.vt_spec.specs.Machine.Mounts.{detached};
 ghost use Rattle.vt_location.specs.Locations.{location_of};
 ghost use Rattle.vt_location.specs.MountValue.{mount_of};
 ghost use Rattle.vt_location.specs.Numbers.{mount_number};
-ghost use Rattle.vt_mount.specs.MountsValue.{changed, mounts_in, without};
+ghost use Rattle.vt_mount.specs.MountsValue.{changed, entry_numbered, is_unused, mounts_in, without};
 
-use crate::mounts::Mounts;
+use crate::mounts::{Mounts, kept_under};
 use std::alloc::AllocError;
 use vt_location::{Location, Mount, MountId, Propagation};
 
@@ -21,6 +22,21 @@ impl Mounts {
         let mount = kept.mount(id);
         self.indexes.leave(&mount);
         Some(mount)
+    }
+
+    /// Removes a mount that is in no namespace and that nothing uses, and returns it. Mounts on it keep their mount
+    /// points. It does not allocate.
+    pub fn remove_unused(&mut self, id: MountId) -> Option<Mount>
+        ensures value { IfSome result (λ mount. find (λ mount. nat_eq (mount_number id) mount.number) (mounts_in self.old)
+            ≡ Some (mount_of mount)) }
+        ensures unused { is_some result ≡ holds_of is_unused (entry_numbered self.old (mount_number id)) }
+        ensures rest { self.new ≡ (if is_some result then without (mount_number id) self.old else self.old) }
+    {
+        let kept = kept_under(&self.by_number, id)?;
+        if kept.namespace.is_some() || kept.uses > 0 {
+            return None;
+        }
+        self.remove(id)
     }
 
     /// Moves a mount to another mount point: mount(2) with `MS_MOVE`. The order of the mounts stays.

@@ -9,6 +9,7 @@ ghost use Rattle.vt_mount.specs.Indexes.{has_small_point, is_at, is_in, is_on, i
 ghost use Rattle.vt_location.specs.Locations.{is_small_node};
 ghost use Rattle.vt_location.specs.SameNodes.{same_node};
 ghost use Rattle.vt_mount.specs.Indexes.{listed_over, put_in_place, relisted, same_namespace, same_place};
+ghost use Rattle.vt_mount.specs.Moving.{is_small_point};
 ghost use Rattle.vt_mount.specs.Indexes.{stood_at, stood_on, stood_over, taken};
 ghost use Rattle.vt_mount.specs.Rising.{same_id};
 ghost use Rattle.vt_spec.specs.Lists.{holds_of};
@@ -129,6 +130,71 @@ impl Indexes {
             self.by_location.release(&place);
             self.by_inode.release(&place.node);
         }
+    }
+
+    /// Adds a mount to its lists. If an allocation fails, it may be in some of them.
+    pub(crate) fn add(&mut self, mount: &Mount) -> Result<(), AllocError>
+        ensures slot { OnOk result (has_small_point mount.now ≡ true) }
+        ensures namespace_ok { OnOk result ((q : NamespaceId) → listed_in self.new q
+            ≡ put_in_place (is_in q mount.now) mount.now.number (listed_in self.old q)) }
+        ensures parent_ok { OnOk result ((q : MountId) → listed_on self.new q
+            ≡ put_in_place (is_on q mount.now) mount.now.number (listed_on self.old q)) }
+        ensures place_ok { OnOk result ((q : Location) → listed_at self.new q
+            ≡ put_in_place (is_at q mount.now) mount.now.number (listed_at self.old q)) }
+        ensures inode_ok { OnOk result ((q : NodeRef) → listed_over self.new q
+            ≡ put_in_place (is_over q mount.now) mount.now.number (listed_over self.old q)) }
+        // without the mount, the lists are as they were
+        ensures namespace_rest { (q : NamespaceId) → taken (is_in q mount.now) mount.now.number (listed_in self.new q)
+            ≡ taken (is_in q mount.now) mount.now.number (listed_in self.old q) }
+        ensures parent_rest { (q : MountId) → taken (is_on q mount.now) mount.now.number (listed_on self.new q)
+            ≡ taken (is_on q mount.now) mount.now.number (listed_on self.old q) }
+        ensures place_rest { (q : Location) → taken (is_at q mount.now) mount.now.number (listed_at self.new q)
+            ≡ taken (is_at q mount.now) mount.now.number (listed_at self.old q) }
+        ensures inode_rest { (q : NodeRef) → taken (is_over q mount.now) mount.now.number (listed_over self.new q)
+            ≡ taken (is_over q mount.now) mount.now.number (listed_over self.old q) }
+    {
+        self.add_in(mount.namespace, mount.number)?;
+        self.add_at(mount.mount_point, mount.number)
+    }
+
+    // Adds a mount to the list of its namespace.
+    fn add_in(&mut self, namespace: Option<NamespaceId>, mount: MountId) -> Result<(), AllocError>
+        ensures namespace_ok { OnOk result ((q : NamespaceId) → listed_in self.new q
+            ≡ put_in_place (holds_of (same_namespace q) namespace) mount (listed_in self.old q)) }
+        ensures namespace_err { OnErr result ((q : NamespaceId) → listed_in self.new q ≡ listed_in self.old q) }
+        ensures parent { self.new.by_parent ≡ self.old.by_parent }
+        ensures place { self.new.by_location ≡ self.old.by_location }
+        ensures inode { self.new.by_inode ≡ self.old.by_inode }
+    {
+        match namespace {
+            Some(namespace) => self.by_namespace.add(namespace, mount),
+            None => Ok(()),
+        }
+    }
+
+    // Adds a mount to the lists of its mount point. If an allocation fails, it may be in some of them.
+    fn add_at(&mut self, place: Option<Location>, mount: MountId) -> Result<(), AllocError>
+        ensures slot { is_small_point place ≡ true }
+        ensures namespace { self.new.by_namespace ≡ self.old.by_namespace }
+        ensures parent_ok { OnOk result ((q : MountId) → listed_on self.new q
+            ≡ put_in_place (stood_on q place) mount (listed_on self.old q)) }
+        ensures place_ok { OnOk result ((q : Location) → listed_at self.new q
+            ≡ put_in_place (stood_at q place) mount (listed_at self.old q)) }
+        ensures inode_ok { OnOk result ((q : NodeRef) → listed_over self.new q
+            ≡ put_in_place (stood_over q place) mount (listed_over self.old q)) }
+        ensures parent_rest { (q : MountId) → taken (stood_on q place) mount (listed_on self.new q)
+            ≡ taken (stood_on q place) mount (listed_on self.old q) }
+        ensures place_rest { (q : Location) → taken (stood_at q place) mount (listed_at self.new q)
+            ≡ taken (stood_at q place) mount (listed_at self.old q) }
+        ensures inode_rest { (q : NodeRef) → taken (stood_over q place) mount (listed_over self.new q)
+            ≡ taken (stood_over q place) mount (listed_over self.old q) }
+    {
+        let Some(place) = place else {
+            return Ok(());
+        };
+        self.by_parent.add(place.mount, mount)?;
+        self.by_location.add(place, mount)?;
+        self.by_inode.add(place.node, mount)
     }
 
     /// Adds a mount to its lists, in which room is reserved. It does not allocate.

@@ -1,5 +1,5 @@
 //! Mounts under keys, in the order of their numbers.
-ghost use Rattle.std.specs.Prelude.{◌≡◌, ◌+◌, ◌-◌, ◌<◌, [], filter, if◌then◌else◌, not, OnOk};
+ghost use Rattle.std.specs.Prelude.{◌≡◌, ◌+◌, ◌-◌, ◌<◌, [], filter, if◌then◌else◌, not, OnErr, OnOk};
 ghost use Rattle.vt_mount.specs.Listed.{reserved, listed};
 ghost use Rattle.vt_mount.specs.Rising.{inserted, same_id};
 
@@ -52,6 +52,17 @@ impl<K: Eq + Hash + Copy + Drop> MountsBy<K> {
         list.reserve_one(alloc)?;
         self.lists.insert(key, list)?;
         Ok(())
+    }
+
+    /// Adds a mount under a key, in the order of numbers.
+    pub(crate) fn add(&mut self, key: K, mount: MountId) -> Result<(), AllocError>
+        ensures ok { OnOk result ((q : K) → listed K.eq q self.new
+            ≡ (if K.eq q key then inserted mount (listed K.eq q self.old) else listed K.eq q self.old)) }
+        ensures err { OnErr result ((q : K) → listed K.eq q self.new ≡ listed K.eq q self.old) }
+    {
+        let alloc = *self.lists.allocator();
+        let list = self.lists.entry(key)?.or_insert(Ascending::new());
+        list.add(alloc, mount)
     }
 
     /// Inserts a mount under a key, where room is reserved, in the order of numbers. It does not allocate.
@@ -111,12 +122,15 @@ impl<K: Eq + Hash + Copy + Drop> MountsBy<K> {
             ≡ (if K.eq q key.now then filter (λ other. not (same_id other mount)) (listed K.eq q self.old)
             else listed K.eq q self.old) }
     {
-        let Some(list) = self.lists.get_mut(key) else {
+        let Some(place) = self.lists.get_index_of(key) else {
+            return;
+        };
+        let Some(list) = self.lists.get_index_mut(place) else {
             return;
         };
         list.remove(mount);
         if list.is_empty() {
-            self.lists.swap_remove(key);
+            self.lists.swap_remove_index(place);
         }
     }
 }
