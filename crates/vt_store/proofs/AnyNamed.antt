@@ -5,9 +5,10 @@ use Rattle.vt_fs.specs.FilesystemsValue.{Filesystems, files_at}
 use Rattle.vt_location.specs.Locations.{inode_of}
 use Rattle.vt_merge.specs.declared.layers.LayerRef.{LayerRef}
 use Rattle.vt_spec.proofs.Truths.{or_false_left, or_false_right}
-use Rattle.vt_spec.specs.FileTree.{has_entry_to, is_directory_under, is_file_under}
+use Rattle.vt_spec.specs.FileTree.{has_entry_to, is_directory_under, is_file_under, is_under}
 use Rattle.std.specs.Prelude.{nat_eq, ℕ}
-use Rattle.vt_store.specs.Locks.{directory_lies_in, directory_lies_in_overlay, file_lies_in, file_lies_in_overlay, names_in_layer, overlay_stands_in, stands_in}
+use Rattle.vt_store.specs.LayerTests.{stands_in}
+use Rattle.vt_store.specs.Locks.{directory_lies_in, directory_lies_in_overlay, lies_in, lies_in_overlay, names_in_layer, overlay_stands_in}
 use Rattle.vt_store.specs.OverlaysValue.{OverlayEntry}
 
 -- a test that passes for no more elements than another
@@ -43,25 +44,41 @@ module _ {D : Type 0} (has : D → Bool) where
       by false rest = rest
 
   -- what does not depend on the element
-  any-and : (b : Bool) (p : D → Bool) (ds : List D)
+  pub any-and : (b : Bool) (p : D → Bool) (ds : List D)
       → (b && list_any (λ d. has d && p d) ds) ≡ list_any (λ d. has d && (b && p d)) ds
   any-and true p ds = refl
   any-and false p ds = sym (never ds)
 
   -- two lists, in the other order
-  any-swapped : {X : Type 0} (test : X → D → Bool) (xs : List X) (ds : List D)
+  pub any-swapped : {X : Type 0} (test : X → D → Bool) (xs : List X) (ds : List D)
       → list_any (λ x. list_any (λ d. has d && test x d) ds) xs ≡ list_any (λ d. has d && list_any (λ x. test x d) xs) ds
   any-swapped test [] ds = sym (never ds)
   any-swapped test (x ∷ xs) ds =
       ap (λ b. list_any (λ d. has d && test x d) ds || b) (any-swapped test xs ds)
       ∙ any-or (test x) (λ d. list_any (λ x. test x d) xs) ds
 
+-- nothing lies in a layer of a filesystem that has none
+pub none_stands : (plain : Filesystems) (count number : ℕ) (overlays : List OverlayEntry)
+    → list_any (overlay_stands_in count) overlays ≡ false
+    → list_any (lies_in_overlay plain count number) overlays ≡ false
+none_stands plain count number =
+    any-fewer (overlay_stands_in count) (lies_in_overlay plain count number)
+    (λ entry. any-fewer (stands_in count) (lies_in plain count number)
+    (λ layer none. ap (λ b. b && is_under nat_eq (files_at plain count) (inode_of layer.directory) number) none)
+    entry.overlay.lowers)
+
 module _ (plain : Filesystems) (count file : ℕ) where
   abbrev names_it : ℕ → Bool
   names_it directory = has_entry_to nat_eq (files_at plain count).tree directory file
 
+  -- a file has a name in the directory of a layer, or under it
+  abbrev pub file_lies_in : LayerRef → Bool
+  file_lies_in layer =
+      nat_eq count layer.directory.filesystem.count
+      && is_file_under nat_eq (files_at plain count) (inode_of layer.directory) file
+
   pub named_in_one : (overlays : List OverlayEntry)
-      → list_any (file_lies_in_overlay plain count file) overlays
+      → list_any (λ (entry : OverlayEntry). list_any file_lies_in entry.overlay.lowers) overlays
       ≡ list_any (names_in_layer plain overlays count file) (files_at plain count).numbers
   named_in_one overlays =
       (λ i. list_any (λ (entry : OverlayEntry). list_any (λ (layer : LayerRef).
@@ -73,11 +90,3 @@ module _ (plain : Filesystems) (count file : ℕ) where
       (files_at plain count).numbers i) overlays)
       ∙ any-swapped names_it (λ entry directory. directory_lies_in_overlay plain count directory entry) overlays
       (files_at plain count).numbers
-
-  pub none_stands : (overlays : List OverlayEntry) → list_any (overlay_stands_in count) overlays ≡ false
-      → list_any (file_lies_in_overlay plain count file) overlays ≡ false
-  none_stands =
-      any-fewer (overlay_stands_in count) (file_lies_in_overlay plain count file)
-      (λ entry. any-fewer (stands_in count) (file_lies_in plain count file)
-      (λ layer none. ap (λ b. b && is_file_under nat_eq (files_at plain count) (inode_of layer.directory) file) none)
-      entry.overlay.lowers)

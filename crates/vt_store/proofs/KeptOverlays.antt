@@ -26,14 +26,14 @@ is_key f id = nat_eq f id.count
 abbrev pub count_of : FilesystemId → ℕ
 count_of id = id.count
 
-abbrev id_of : ℕ → FilesystemId
+abbrev pub id_of : ℕ → FilesystemId
 id_of f = record { count = f }
 
 whole : (x y : FilesystemId) → x.count ≡ y.count → x ≡ y
 whole x y is = ap (λ n. record { count = n }) is
 
 -- what is kept, in the order of the counts
-abbrev in_order : List (FilesystemId × KeptOverlay) → List (FilesystemId × KeptOverlay)
+abbrev pub in_order : List (FilesystemId × KeptOverlay) → List (FilesystemId × KeptOverlay)
 in_order es = in_order_by count_of es
 
 -- an entry of this count
@@ -69,7 +69,7 @@ none_under (e ∷ es) none = absurd (some_put e (in_order es) none)
 
 module _ (f : ℕ) where
   -- a count finds the overlay that it is the key of
-  entry_kept-entries : (es : List (FilesystemId × KeptOverlay))
+  pub entry_kept-entries : (es : List (FilesystemId × KeptOverlay))
       → entry_kept (entries_kept es) f ≡ option_map (of_count f) (lookup (is_key f) es)
   entry_kept-entries [] = refl
   entry_kept-entries (e ∷ es) = by (nat_eq f e.0.count) (same f e.0.count) (entry_kept-entries es)

@@ -12,5 +12,8 @@ pub mod WovenLast
 pub mod Ranked
 pub mod Scanned
 pub mod Locked
-pub mod AnyOverlay
+pub mod LayersTallied
+pub mod LayersAbove
+pub mod LayersKept
+pub mod LayersOver
 pub mod AnyNamed

@@ -1,3 +1,6 @@
+pub mod Tallies
+pub mod LayerTests
+pub mod LayersAt
 pub mod OverlaysValue
 pub mod StoreValue
 pub mod Counts

@@ -1,10 +1,11 @@
 -- What lies in layers of overlays, and is locked: the kernel's overlayfs document, "changes to underlying filesystems".
 use Rattle.std.specs.Prelude.{Bool, List, nat_eq, ℕ, ◌&&◌}
 use Rattle.std.specs.List.{list_any}
-use Rattle.vt_spec.specs.FileTree.{has_entry_to, is_directory_under, is_file_under, is_under}
+use Rattle.vt_spec.specs.FileTree.{has_entry_to, is_directory_under, is_under}
 use Rattle.vt_location.specs.Locations.{inode_of}
 use Rattle.vt_fs.specs.FilesystemsValue.{Filesystems, files_at}
 use Rattle.vt_merge.specs.declared.layers.LayerRef.{LayerRef}
+use Rattle.vt_store.specs.LayerTests.{stands_in}
 use Rattle.vt_store.specs.OverlaysValue.{OverlayEntry}
 use Rattle.vt_store.specs.StoreValue.{StoreValue}
 
@@ -22,10 +23,7 @@ lies_in_overlay plain count number entry = list_any (lies_in plain count number)
 abbrev pub is_in_layer : StoreValue → ℕ → ℕ → Bool
 is_in_layer store count number = list_any (lies_in_overlay store.plain count number) store.overlays
 
--- the directory of a layer is in a filesystem
-abbrev pub stands_in : ℕ → LayerRef → Bool
-stands_in count layer = nat_eq count layer.directory.filesystem.count
-
+-- a layer of an overlay is in a filesystem
 abbrev pub overlay_stands_in : ℕ → OverlayEntry → Bool
 overlay_stands_in count entry = list_any (stands_in count) entry.overlay.lowers
 
@@ -38,15 +36,6 @@ directory_lies_in plain count directory layer =
 abbrev pub directory_lies_in_overlay : Filesystems → ℕ → ℕ → OverlayEntry → Bool
 directory_lies_in_overlay plain count directory entry =
     list_any (directory_lies_in plain count directory) entry.overlay.lowers
-
--- a file has a name in the directory of a layer, or under it
-abbrev pub file_lies_in : Filesystems → ℕ → ℕ → LayerRef → Bool
-file_lies_in plain count file layer =
-    nat_eq count layer.directory.filesystem.count
-    && is_file_under nat_eq (files_at plain count) (inode_of layer.directory) file
-
-abbrev pub file_lies_in_overlay : Filesystems → ℕ → ℕ → OverlayEntry → Bool
-file_lies_in_overlay plain count file entry = list_any (file_lies_in plain count file) entry.overlay.lowers
 
 -- a directory has a name for a file, and lies in some layer
 abbrev pub names_in_layer : Filesystems → List OverlayEntry → ℕ → ℕ → ℕ → Bool

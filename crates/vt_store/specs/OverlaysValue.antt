@@ -1,10 +1,14 @@
 -- What contracts see of the overlays that are kept.
 use Rattle.std.specs.Prelude.{List, Option, Some, filter, find, if◌then◌else◌, map, nat_eq, not, option_map, ℕ, ◌≡◌}
+use Rattle.std.specs.List.{flat_map}
 use Rattle.std.specs.Map.{lookup}
 use Rattle.vt_location.specs.declared.numbers.FilesystemId.{FilesystemId}
 use Rattle.vt_location.specs.InOrder.{in_order_by}
+use Rattle.vt_merge.specs.declared.layers.LayerRef.{LayerRef}
 use Rattle.vt_overlay.specs.MergedTree.{OverlayValue}
+use Rattle.vt_store.specs.declared.layer_counts.LayerCounts.{LayerCounts}
 use Rattle.vt_store.specs.declared.overlays.KeptOverlay.{KeptOverlay}
+use Rattle.vt_store.specs.LayersAt.{AreCounted}
 
 -- an overlay, the count of its filesystem, and how many mounts show it
 pub record OverlayEntry : Type 0 where
@@ -32,6 +36,15 @@ abbrev pub AreOwn : List (FilesystemId × KeptOverlay) → Type 0
 AreOwn kept =
     (id : FilesystemId) (one : KeptOverlay) → lookup (λ other. nat_eq id.count other.count) kept ≡ Some one
     → one.overlay.number ≡ id
+
+-- the layers of all overlays
+abbrev pub all_layers : Overlays → List LayerRef
+all_layers overlays = flat_map (λ entry. entry.overlay.lowers) overlays
+
+-- each overlay is kept under its own number, and their layers are counted
+pub record AreKept (kept : List (FilesystemId × KeptOverlay)) (counts : LayerCounts) : Type 0 where
+  pub own : AreOwn kept
+  pub layers : AreCounted (all_layers (kept_overlays kept)) counts
 
 abbrev pub entry_kept : Overlays → ℕ → Option OverlayEntry
 entry_kept overlays count = find (λ entry. nat_eq count entry.count) overlays

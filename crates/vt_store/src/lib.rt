@@ -4,11 +4,13 @@
 mod counting;
 mod entering;
 mod laws;
+mod layer_counts;
 mod layers;
 mod locks;
 mod looking;
 mod overlays;
 mod paths;
 mod store;
+mod tally;
 
 pub use store::Store;

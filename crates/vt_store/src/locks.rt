@@ -1,23 +1,22 @@
 //! What lies in layers of overlays, and is locked: the kernel's overlayfs document, "changes to underlying filesystems".
-ghost use Rattle.std.specs.Prelude.{◌≡◌, nat_eq};
+ghost use Rattle.std.specs.Prelude.{◌≡◌};
 ghost use Rattle.std.specs.List.{list_any};
-ghost use Rattle.vt_spec.specs.FileTree.{is_directory_under};
 ghost use Rattle.vt_location.specs.Locations.{inode_of};
 ghost use Rattle.vt_fs.specs.FilesystemsValue.{files_at};
 ghost use Rattle.vt_fs.specs.Laws.{ParentsAreNamed};
-ghost use Rattle.vt_store.specs.Locks.{directory_lies_in, file_lies_in_overlay, is_in_layer, lies_in_overlay, names_in_layer, stands_in};
+ghost use Rattle.vt_store.specs.Locks.{is_in_layer, lies_in_overlay, names_in_layer};
 
 use crate::overlays::Overlays;
 use crate::store::Store;
 use vt_fs::Filesystems;
-use vt_location::{FilesystemId, InodeRef, NodeRef};
-use vt_merge::LayerRef;
+use vt_location::InodeRef;
 use vt_node::NodeId;
 
 impl Store {
     /// Whether an inode of a plain tree lies in a layer of an overlay: it is the layer's directory, a directory under
     /// that, or has a name in one of these. A file is looked for once in all directories of its tree, if a layer is
-    /// there. Directories must be named in their parents, as in every tree of a world. It does not allocate.
+    /// there. A directory costs a look-up for each directory above it, however many overlays there are. Directories must
+    /// be named in their parents, as in every tree of a world. It does not allocate.
     pub fn is_in_layer(&self, inode: InodeRef) -> bool
         requires { ParentsAreNamed (files_at self.now.plain inode.filesystem.count).tree }
         ensures { result ≡ is_in_layer self.now inode.filesystem.count (inode_of inode) }
@@ -26,25 +25,19 @@ impl Store {
     }
 }
 
-// Whether an inode lies in a layer of one of the overlays.
+// Whether an inode lies in a layer of one of the overlays. In a filesystem that has no layer it is not looked for.
 fn lies_in_any(plain: &Filesystems, overlays: &Overlays, inode: InodeRef) -> bool
     requires { ParentsAreNamed (files_at plain.now inode.filesystem.count).tree }
     ensures { result
         ≡ list_any (lies_in_overlay plain.now inode.filesystem.count (inode_of inode)) overlays.now }
 {
+    if !overlays.have_layer_in(inode.filesystem) {
+        return false;
+    }
     match plain.node(inode.node_ref()) {
         Some(node) if node.is_directory() => overlays.have_layer_over(plain, inode),
-        _ => file_lies_in_any(plain, overlays, inode),
+        _ => has_name_in_layer(plain, overlays, inode),
     }
-}
-
-// Whether a file has a name in a layer of one of the overlays. Where no layer is in its filesystem, no slot is looked at.
-fn file_lies_in_any(plain: &Filesystems, overlays: &Overlays, file: InodeRef) -> bool
-    requires { ParentsAreNamed (files_at plain.now file.filesystem.count).tree }
-    ensures { result
-        ≡ list_any (file_lies_in_overlay plain.now file.filesystem.count (inode_of file)) overlays.now }
-{
-    overlays.have_layer_in(file.filesystem) && has_name_in_layer(plain, overlays, file)
 }
 
 // Whether a directory in a layer of one of the overlays has a name for a file. It looks at each slot of the tree.
@@ -99,43 +92,4 @@ fn names_in_layer(
         }
         None => false,
     }
-}
-
-/// Whether the directory of one of these layers is in a filesystem.
-pub(crate) fn one_stands_in(layers: &[LayerRef], filesystem: FilesystemId) -> bool
-    ensures { result ≡ list_any (stands_in filesystem.count) layers.now }
-{
-    layers
-        .iter()
-        .any(|layer| filesystem == layer.directory.filesystem)
-}
-
-/// Whether a directory lies in one of these layers.
-pub(crate) fn lies_in_one(plain: &Filesystems, layers: &[LayerRef], directory: InodeRef) -> bool
-    requires { ParentsAreNamed (files_at plain.now directory.filesystem.count).tree }
-    ensures { result
-        ≡ list_any (directory_lies_in plain.now directory.filesystem.count (inode_of directory)) layers.now }
-{
-    layers.iter().any(|layer| lies_in(plain, *layer, directory))
-}
-
-// Whether a directory lies in a layer.
-fn lies_in(plain: &Filesystems, layer: LayerRef, directory: InodeRef) -> bool
-    requires { ParentsAreNamed (files_at plain.now directory.filesystem.count).tree }
-    ensures { result
-        ≡ directory_lies_in plain.now directory.filesystem.count (inode_of directory) layer }
-{
-    directory.filesystem == layer.directory.filesystem
-        && lies_under(plain, layer.directory, directory)
-}
-
-// Whether a directory is at or under another.
-fn lies_under(plain: &Filesystems, top: InodeRef, directory: InodeRef) -> bool
-    requires named { ParentsAreNamed (files_at plain.now directory.filesystem.count).tree }
-    requires one_filesystem { top.filesystem ≡ directory.filesystem }
-    ensures { result
-        ≡ is_directory_under nat_eq (files_at plain.now directory.filesystem.count) (inode_of top)
-        (inode_of directory) }
-{
-    plain.is_under(top.node_ref(), directory.node_ref())
 }

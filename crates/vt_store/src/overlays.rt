@@ -1,4 +1,4 @@
-//! `Overlays`: the overlays by their numbers, and how many mounts show each.
+//! `Overlays`: the overlays by their numbers, how many mounts show each, and where their layers are.
 ghost use Rattle.std.specs.Prelude.{◌≡◌, ◌<◌, ◌+◌, ◌-◌, ◌++◌, ◌∷◌, ◌↔◌, [], IfSome, OnErr, OnOk, nat_eq, nat_lt, option_copied, option_map, true};
 ghost use Rattle.std.specs.List.{list_all, list_any};
 ghost use Rattle.std.specs.Map.{lookup};
@@ -7,7 +7,7 @@ ghost use Rattle.vt_fs.specs.FilesystemsValue.{files_at};
 ghost use Rattle.vt_fs.specs.Laws.{ParentsAreNamed};
 ghost use Rattle.vt_tree.specs.Slots.{most_uses};
 
-use crate::locks::{lies_in_one, one_stands_in};
+use crate::layer_counts::LayerCounts;
 use indexmap::IndexMap;
 use std::alloc::{AllocError, Global};
 use std::marker::Model;
@@ -24,10 +24,12 @@ struct KeptOverlay {
     mounts: u64,
 }
 
-/// The overlays, each under its own number. They are kept by hash, in no order.
+/// The overlays, each under its own number. They are kept by hash, in no order. Their layers are counted by directory,
+/// so that whether a directory is in a layer costs a look-up for each directory above it, however many overlays there are.
 #[derive(Debug, Drop)]
 pub(crate) struct Overlays {
     by_number: IndexMap<FilesystemId, KeptOverlay>,
+    layers: LayerCounts,
 }
 
 // The overlay of a number. Mostly there are none, and then no hash is taken.
@@ -57,13 +59,13 @@ fn found_by_hash(
 }
 
 impl Model for Overlays {
-    ghost use Rattle.vt_store.specs.OverlaysValue.{AreOwn, Overlays as Entries, kept_overlays};
+    ghost use Rattle.vt_store.specs.OverlaysValue.{AreKept, Overlays as Entries, kept_overlays};
 
     ghost Value = { Entries };
 
     ghost view = { λ overlays. kept_overlays overlays.by_number.entries };
 
-    ghost invariant = { λ overlays. AreOwn overlays.by_number.entries };
+    ghost invariant = { λ overlays. AreKept overlays.by_number.entries overlays.layers };
 }
 
 impl Overlays {
@@ -77,6 +79,7 @@ impl Overlays {
     {
         Overlays {
             by_number: IndexMap::new(alloc),
+            layers: LayerCounts::new(alloc),
         }
     }
 
@@ -109,9 +112,14 @@ impl Overlays {
         ensures ok { OnOk result (self.new ≡ self.old ++ new_overlay id lowers.items mounter ∷ []) }
         ensures err { OnErr result (self.new ≡ self.old) }
     {
+        self.layers.reserve(lowers.len())?;
+        self.by_number.reserve(1)?;
+        self.layers.add(lowers.as_slice());
         let overlay = Overlay::new(id, lowers, mounter);
-        self.by_number
-            .insert(id, KeptOverlay { overlay, mounts: 0 })?;
+        // It cannot fail: there is room.
+        let _ = self
+            .by_number
+            .insert(id, KeptOverlay { overlay, mounts: 0 });
         Ok(())
     }
 
@@ -124,6 +132,7 @@ impl Overlays {
             overlay,
             mounts: _mounts,
         } = self.by_number.swap_remove(&id)?;
+        self.layers.take(overlay.lowers());
         Some(overlay)
     }
 
@@ -160,29 +169,19 @@ impl Overlays {
     pub fn have_layer_in(&self, filesystem: FilesystemId) -> bool
         ensures { result ≡ list_any (overlay_stands_in filesystem.count) self.now }
     {
-        for index in 0..self.by_number.len() {
-            if let Some((_, found)) = self.by_number.get_index(index) {
-                if one_stands_in(found.overlay.lowers(), filesystem) {
-                    return true;
-                }
-            }
-        }
-        false
+        self.layers.has_in(filesystem)
     }
 
-    /// Whether a directory of a plain tree lies in a layer of one of them.
+    /// Whether a directory of a plain tree lies in a layer of one of them: it or one above it is the layer's directory.
     pub fn have_layer_over(&self, plain: &Filesystems, directory: InodeRef) -> bool
         requires { ParentsAreNamed (files_at plain.now directory.filesystem.count).tree }
         ensures { result
             ≡ list_any (directory_lies_in_overlay plain.now directory.filesystem.count (inode_of directory)) self.now }
     {
-        for index in 0..self.by_number.len() {
-            if let Some((_, kept)) = self.by_number.get_index(index) {
-                if lies_in_one(plain, kept.overlay.lowers(), directory) {
-                    return true;
-                }
-            }
+        let node = directory.node();
+        match plain.get(directory.filesystem) {
+            Some(tree) => self.layers.has_above(directory.filesystem, tree, node),
+            None => self.layers.has_at(directory.filesystem, node),
         }
-        false
     }
 }

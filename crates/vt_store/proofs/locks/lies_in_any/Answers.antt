@@ -7,6 +7,7 @@ use Rattle.vt_merge.specs.declared.layers.LayerRef.{LayerRef}
 use Rattle.vt_spec.specs.FileTree.{is_directory_under, is_file_under}
 use Rattle.vt_spec.specs.Rights.{is_directory}
 use Rattle.vt_spec.specs.Tree.{is_directory_node, kind_of}
+use Rattle.vt_store.proofs.AnyNamed.{named_in_one, none_stands}
 use Rattle.vt_store.proofs.Locked.{directory_seen}
 use Rattle.vt_store.proofs.locks.lies_in_any.Goals.{in_default-via-in-Some+else-is_directory, in_default-via-in_default}
 use Rattle.vt_store.proofs.locks.lies_in_any.Goals as goal
@@ -25,6 +26,11 @@ by_kind plain count number overlays b kind =
     nat_eq count layer.directory.filesystem.count
     && cond b (is_directory_under nat_eq (files_at plain count) (inode_of layer.directory) number)
     (is_file_under nat_eq (files_at plain count) (inode_of layer.directory) number)) entry.overlay.lowers) overlays) kind
+
+pub returns-then-not-have_layer_in : goal.returns-then-not-have_layer_in
+returns-then-not-have_layer_in c =
+    sym (none_stands c.args.plain.now c.args.inode.filesystem.count (inode_of c.args.inode) c.args.overlays.now
+    (sym c.have_layer_in.ensures ∙ c.if-not-have_layer_in.true))
 
 pub returns-in-Some : goal.returns-in-Some
 returns-in-Some c =
@@ -61,4 +67,5 @@ returns-in_default c =
           (sym (ap (λ o. option_map (node_seen c.node_ref.result.filesystem.count) (option_copied o)) w.in_default.is)
           ∙ found))
     ] in
-    c.file_lies_in_any.ensures ∙ sym (by_kind plain count (inode_of c.args.inode) c.args.overlays.now false other)
+    c.has_name_in_layer.ensures ∙ sym (named_in_one plain count (inode_of c.args.inode) c.args.overlays.now)
+    ∙ sym (by_kind plain count (inode_of c.args.inode) c.args.overlays.now false other)

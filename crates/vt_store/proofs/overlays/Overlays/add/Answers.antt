@@ -1,16 +1,51 @@
-use Rattle.std.proofs.Common.{[], ap, ◌∙◌, ◌++◌, ◌∷◌}
+use Rattle.std.proofs.Common.{Err, Ok, Result, [], ap, arith, nat_lt, subst, sym, ◌++◌, ◌<◌, ◌∙◌, ◌∷◌}
+use Rattle.std.specs.List.{list_all}
+use Rattle.std.specs.Prelude.{IsOk, OnOk}
+use Rattle.indexmap.specs.IndexMap.{spare}
 use Rattle.vt_overlay.specs.MergedTree.{OverlayValue}
-use Rattle.vt_store.proofs.KeptOverlays.{added, own_added}
+use Rattle.vt_store.proofs.KeptOverlays.{added}
+use Rattle.vt_store.proofs.LayersKept.{kept_added}
 use Rattle.vt_store.proofs.overlays.Overlays.add.Goals as goal
+use Rattle.vt_store.specs.LayersAt.{AreCounted}
+use Rattle.vt_store.specs.OverlaysValue.{AreKept, OverlayEntry, kept_overlays}
+
+pub invariant_of-self : goal.invariant_of-self
+invariant_of-self c = record {
+  own = c.self.invariant.own;
+  layers = c.reserve.ensures.same _ c.self.invariant.layers;
+}
+
+pub invariant_of-self-in_err-reserve-2 : goal.invariant_of-self-in_err-reserve-2
+invariant_of-self-in_err-reserve-2 c =
+    subst (λ entries. AreKept entries c.reserve.new.self) (sym c.reserve-2.ensures.entries)
+    (record { own = c.self.invariant.own; layers = c.reserve.ensures.same _ c.self.invariant.layers })
+
+-- what holds where it is put in, once there is room
+where_ok : {T E P : Type 0} (r : Result T E) → IsOk r → OnOk r P → P
+where_ok (Ok value) is p = p
+where_ok (Err error) is p = absurd cc
 
 pub invariant_of-self-2 : goal.invariant_of-self-2
 invariant_of-self-2 c =
-    own_added c.self.inside.by_number.entries _ c.args.id _ c.self.invariant
-    (ap (λ (overlay : OverlayValue). overlay.number) c.new-overlay.ensures) c.in_ok-insert.ensures.updates.0
+    let room : 0 < spare c.reserve-2.new.self = omega (arith, c.in_ok-reserve-2.ensures.ok) in
+    let updates = where_ok c.insert.result (c.insert.ensures.succeeds room) c.insert.ensures.updates in
+    kept_added c.reserve-2.new.self.entries c.insert.new.self.entries c.args.id _ c.args.lowers.items
+    c.reserve.new.self c.add.new.self
+    (subst (λ entries. AreKept entries c.reserve.new.self) (sym c.reserve-2.ensures.entries)
+    (record { own = c.self.invariant.own; layers = c.reserve.ensures.same _ c.self.invariant.layers }))
+    (ap (λ (overlay : OverlayValue). overlay.number) c.new-overlay.ensures)
+    (ap (λ (overlay : OverlayValue). overlay.lowers) c.new-overlay.ensures)
+    (ap (λ all. list_all (λ (entry : OverlayEntry). nat_lt entry.count c.args.id.count) all)
+    (ap kept_overlays c.reserve-2.ensures.entries ∙ c.self.view_is) ∙ c.requires)
+    updates.0
+    (λ all counted. subst (λ lowers. AreCounted (all ++ lowers) c.add.new.self) c.as_slice.ensures.value
+    (c.add.ensures all counted))
 
 pub returns-clause-ok : goal.returns-clause-ok
 returns-clause-ok c =
-    added c.self.inside.by_number.entries _ c.args.self.now c.args.id _ c.self.view_is c.requires
-    c.in_ok-insert.ensures.updates.0
+    let room : 0 < spare c.reserve-2.new.self = omega (arith, c.in_ok-reserve-2.ensures.ok) in
+    let updates = where_ok c.insert.result (c.insert.ensures.succeeds room) c.insert.ensures.updates in
+    added c.reserve-2.new.self.entries _ c.args.self.now c.args.id _
+    (ap kept_overlays c.reserve-2.ensures.entries ∙ c.self.view_is) c.requires updates.0
     ∙ ap (λ overlay. c.args.self.now ++ record { count = c.args.id.count; overlay = overlay; mounts = 0 } ∷ [])
     c.new-overlay.ensures

@@ -15,5 +15,5 @@ returns-clause-value c =
 
 pub returns-clause-own : goal.returns-clause-own
 returns-clause-own c =
-    is_own c.args.id c.self.inside.by_number.entries c.self.invariant c.in_ok-found.found.now
+    is_own c.args.id c.self.inside.by_number.entries c.self.invariant.own c.in_ok-found.found.now
     (sym (ap option_copied c.in_ok-found.was) ∙ c.found_under.ensures)

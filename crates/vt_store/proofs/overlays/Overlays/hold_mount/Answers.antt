@@ -1,7 +1,8 @@
 use Rattle.std.proofs.Common.{◌+◌, ap, arith, refl, subst, sym, ◌∙◌}
 use Rattle.std.specs.Option.{option_copied_mut}
-use Rattle.vt_store.specs.OverlaysValue.{AreOwn, kept_overlays}
-use Rattle.vt_store.proofs.KeptOverlays.{mounts_below, own_written, writes, writes_none}
+use Rattle.vt_store.specs.OverlaysValue.{AreKept, kept_overlays}
+use Rattle.vt_store.proofs.KeptOverlays.{mounts_below, writes, writes_none}
+use Rattle.vt_store.proofs.LayersKept.{kept_written}
 use Rattle.vt_store.proofs.overlays.Overlays.hold_mount.Goals.{in-Some, in_default}
 use Rattle.vt_store.proofs.overlays.Overlays.hold_mount.Goals as goal
 
@@ -9,12 +10,14 @@ pub invariant_of-self : goal.invariant_of-self
 invariant_of-self c =
     elim c.match-get_mut.branch [
       | in-Some w ↦
-          subst (λ inside. AreOwn inside.by_number.entries) (sym w.self-inside-is)
-          (own_written c.args.id.count c.self.inside.by_number _ w.in-Some.found.now _ c.self.invariant
-          (sym c.get_mut.ensures.value ∙ ap option_copied_mut w.in-Some.is) refl (c.get_mut.follows.holds _))
+          subst (λ inside. AreKept inside.by_number.entries inside.layers) (sym w.self-inside-is)
+          (kept_written c.args.id.count (λ mounts. mounts + 1) c.self.inside.by_number _ w.in-Some.found.now _
+          c.self.inside.layers c.self.invariant (sym c.get_mut.ensures.value ∙ ap option_copied_mut w.in-Some.is)
+          refl (c.get_mut.follows.holds _))
       | in_default w ↦
-          subst AreOwn (sym (ap (λ inside. inside.by_number.entries) w.self-inside-is
-          ∙ ap (λ map. map.entries) c.get_mut.follows.holds-at-none)) c.self.invariant
+          subst (λ inside. AreKept inside.by_number.entries inside.layers) (sym w.self-inside-is)
+          (subst (λ entries. AreKept entries c.self.inside.layers)
+          (sym (ap (λ map. map.entries) c.get_mut.follows.holds-at-none)) c.self.invariant)
     ]
 
 pub returns : goal.returns

@@ -1,4 +1,4 @@
-use Rattle.std.proofs.Common.{[], ap, length, sym, ◌∙◌}
+use Rattle.std.proofs.Common.{sym, ◌∙◌}
 use Rattle.vt_store.proofs.KeptOverlays.{none_kept, none_under}
 use Rattle.vt_store.proofs.overlays.Overlays.is_empty.Goals as goal
 

@@ -1,6 +1,8 @@
-use Rattle.std.proofs.Common.{None, Some, ap, sym, ◌∙◌}
-use Rattle.vt_store.specs.OverlaysValue.{without_overlay}
-use Rattle.vt_store.proofs.KeptOverlays.{overlay_of-kept, own_removed, removed}
+use Rattle.std.proofs.Common.{None, Some, ap, subst, sym, ◌++◌, ◌∙◌}
+use Rattle.vt_store.specs.LayersAt.{AreCounted}
+use Rattle.vt_store.specs.OverlaysValue.{AreKept, without_overlay}
+use Rattle.vt_store.proofs.KeptOverlays.{overlay_of-kept, removed}
+use Rattle.vt_store.proofs.LayersKept.{kept_removed}
 use Rattle.vt_store.proofs.overlays.Overlays.remove.Goals as goal
 
 pub returns-in_err-overlay-clause-value : goal.returns-in_err-overlay-clause-value
@@ -14,9 +16,17 @@ returns-in_err-overlay-clause-removed c =
     removed c.args.id.count c.self.inside.by_number.entries _ c.swap_remove.ensures.updates.0
     ∙ ap (without_overlay c.args.id.count) c.self.view_is
 
+pub invariant_of-self : goal.invariant_of-self
+invariant_of-self c =
+    subst (λ entries. AreKept entries c.self.inside.layers) (sym c.in_err-overlay.ensures.unchanged) c.self.invariant
+
 pub invariant_of-self-2 : goal.invariant_of-self-2
 invariant_of-self-2 c =
-    own_removed c.args.id.count c.self.inside.by_number.entries _ c.self.invariant c.swap_remove.ensures.updates.0
+    kept_removed c.args.id.count c.self.inside.by_number.entries _ c.in_ok-overlay.field-0 c.self.inside.layers
+    c.take.new.self c.self.invariant (sym c.in_ok-overlay.was ∙ c.swap_remove.ensures.value)
+    c.swap_remove.ensures.updates.0
+    (λ left counted. c.take.ensures left (subst (λ lowers. AreCounted (lowers ++ left) c.self.inside.layers)
+    (sym c.lowers.ensures) counted))
 
 pub returns-clause-value : goal.returns-clause-value
 returns-clause-value c =

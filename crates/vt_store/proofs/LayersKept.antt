@@ -1,0 +1,159 @@
+-- The layers of all overlays, as overlays come, change and go.
+use Rattle.std.proofs.Common.{◌≡◌, ◌<◌, ◌^◌, refl, sym, ap, ◌∙◌, ℕ, Bool, true, false, cond, not, ◌||◌, nat_eq, List, [], ◌∷◌, ◌++◌, append-nil, append_assoc, None, Some, option_map, T, subst}
+use Rattle.std.specs.List.{AllByRecursion, list_all, list_any}
+use Rattle.std.specs.Map.{keys_of, lookup}
+use Rattle.std.specs.Prelude.{IsPermutation, count_by, nat_lt}
+use Rattle.std.proofs.lemmas.Bool.{eqb-true}
+use Rattle.std.proofs.lemmas.List.Concat.{flat_map-append}
+use Rattle.std.proofs.lemmas.List.Folds.{list_any-append}
+use Rattle.std.proofs.lemmas.List.Sorted.{All-permutation, IsPermutation-append_comm, IsPermutation-append_left, IsPermutation-append_right, IsPermutation-refl, IsPermutation-trans, sum_by-IsPermutation}
+use Rattle.std.proofs.lemmas.Option.{same_Some}
+use Rattle.indexmap.specs.IndexMap.{IndexMap, WritesThrough, get_by}
+use Rattle.vt_location.proofs.OrderLemmas.{apart-below, rises, rises-in_order, same_by}
+use Rattle.vt_location.specs.declared.numbers.FilesystemId.{FilesystemId}
+use Rattle.vt_merge.specs.declared.layers.LayerRef.{LayerRef}
+use Rattle.vt_spec.proofs.Truths.{T_and_left, T_and_right}
+use Rattle.vt_store.proofs.KeptOverlays.{added, count_of, entry_kept-entries, entry_kept-kept, in_order, is_key, key_eq, of_count, own_added, own_removed, own_written, removed, writes}
+use Rattle.vt_store.proofs.OverlaysGo.{absent_removed}
+use Rattle.vt_store.specs.LayerTests.{stands_at, stands_in}
+use Rattle.vt_store.specs.LayersAt.{AreCounted}
+use Rattle.vt_store.specs.OverlaysValue.{AreKept, OverlayEntry, Overlays, all_layers, entries_kept, entry_kept, kept_overlay, kept_overlays, overlay_of, with_overlay_changed, without_overlay}
+use Rattle.vt_store.specs.declared.layer_counts.LayerCounts.{LayerCounts}
+use Rattle.vt_store.specs.declared.overlays.KeptOverlay.{KeptOverlay}
+
+-- some layer of all passes where one of some overlay does
+pub any_layers : (test : LayerRef → Bool) (overlays : Overlays)
+    → list_any test (all_layers overlays)
+    ≡ list_any (λ (entry : OverlayEntry). list_any test entry.overlay.lowers) overlays
+any_layers test [] = refl
+any_layers test (entry ∷ rest) =
+    list_any-append test entry.overlay.lowers (all_layers rest)
+    ∙ ap (λ b. list_any test entry.overlay.lowers || b) (any_layers test rest)
+
+-- a new overlay is the last
+pub layers_with : (overlays : Overlays) (entry : OverlayEntry)
+    → all_layers (overlays ++ entry ∷ []) ≡ all_layers overlays ++ entry.overlay.lowers
+layers_with overlays entry =
+    flat_map-append (λ (one : OverlayEntry). one.overlay.lowers) overlays (entry ∷ [])
+    ∙ ap (λ layers. all_layers overlays ++ layers) (append-nil entry.overlay.lowers)
+
+-- an overlay that changes keeps its layers
+pub layers_changed : (f : ℕ) (change : OverlayEntry → OverlayEntry)
+    → ((entry : OverlayEntry) → (change entry).overlay ≡ entry.overlay) → (overlays : Overlays)
+    → all_layers (with_overlay_changed f change overlays) ≡ all_layers overlays
+layers_changed f change keeps [] = refl
+layers_changed f change keeps (entry ∷ rest) =
+    λ i. by (nat_eq f entry.count) i ++ layers_changed f change keeps rest i
+  where
+    by : (b : Bool) → (cond b (change entry) entry).overlay.lowers ≡ entry.overlay.lowers
+    by true = ap (λ overlay. overlay.lowers) (keeps entry)
+    by false = refl
+
+-- Where one goes, its layers go
+
+no_key : (k : FilesystemId) (kept : List (FilesystemId × KeptOverlay))
+    → AllByRecursion (λ other. same_by count_of k other ≡ false) (keys_of kept) → lookup (is_key k.count) kept ≡ None
+no_key k [] apart = refl
+no_key k (e ∷ kept) apart =
+    ap (λ b. cond b (Some e.1) (lookup (is_key k.count) kept)) apart.0 ∙ no_key k kept apart.1
+
+module _ (f : ℕ) (entry : OverlayEntry) where
+  entries_without : (kept : List (FilesystemId × KeptOverlay)) → T (rises count_of kept)
+      → entry_kept (entries_kept kept) f ≡ Some entry
+      → IsPermutation (all_layers (entries_kept kept))
+      (entry.overlay.lowers ++ all_layers (without_overlay f (entries_kept kept)))
+  entries_without [] risen found = absurd cc
+  entries_without (e ∷ kept) risen found =
+      by (nat_eq f e.0.count) (eqb-true f e.0.count) found (entries_without kept (T_and_right _ _ risen))
+    where
+      rest : Overlays
+      rest = entries_kept kept
+
+      by : (b : Bool) → (b ≡ true → f ≡ e.0.count)
+          → cond b (Some (kept_overlay e)) (entry_kept rest f) ≡ Some entry
+          → (entry_kept rest f ≡ Some entry
+          → IsPermutation (all_layers rest) (entry.overlay.lowers ++ all_layers (without_overlay f rest)))
+          → IsPermutation (e.1.overlay.lowers ++ all_layers rest)
+          (entry.overlay.lowers
+          ++ all_layers (cond (not b) (kept_overlay e ∷ without_overlay f rest) (without_overlay f rest)))
+      by true here there later =
+          let none : overlay_of rest f ≡ None =
+          ap (option_map (λ (one : OverlayEntry). one.overlay))
+          (ap (entry_kept rest) (here refl) ∙ entry_kept-entries e.0.count kept
+          ∙ ap (option_map _) (no_key e.0 kept (apart-below count_of e.0 kept (T_and_left _ _ risen)))) in
+          subst (λ layers. IsPermutation (e.1.overlay.lowers ++ all_layers rest) layers)
+          (λ i. (same_Some (kept_overlay e) entry there i).overlay.lowers
+          ++ all_layers (sym (absent_removed f rest none) i))
+          (IsPermutation-refl (e.1.overlay.lowers ++ all_layers rest))
+      by false here there later =
+          let own = e.1.overlay.lowers in
+          let its = entry.overlay.lowers in
+          let left = all_layers (without_overlay f rest) in
+          IsPermutation-trans (own ++ all_layers rest) (own ++ (its ++ left)) (its ++ (own ++ left))
+          (IsPermutation-append_right own (all_layers rest) (its ++ left) (later there))
+          (subst (λ layers. IsPermutation layers (its ++ (own ++ left))) (append_assoc own its left)
+          (subst (λ layers. IsPermutation ((own ++ its) ++ left) layers) (append_assoc its own left)
+          (IsPermutation-append_left left (own ++ its) (its ++ own) (IsPermutation-append_comm own its))))
+
+  pub layers_without : (es : List (FilesystemId × KeptOverlay)) → entry_kept (kept_overlays es) f ≡ Some entry
+      → IsPermutation (all_layers (kept_overlays es))
+      (entry.overlay.lowers ++ all_layers (without_overlay f (kept_overlays es)))
+  layers_without es found = entries_without (in_order es) (rises-in_order count_of es) found
+
+-- layers are counted in any order
+pub counted_in_any_order : (old new : List LayerRef) (counts : LayerCounts) → IsPermutation old new
+    → AreCounted old counts → AreCounted new counts
+counted_in_any_order old new counts same is = record {
+  filesystems = λ q. is.filesystems q ∙ sym (counts_same (stands_in q.count));
+  directories = λ q. is.directories q ∙ sym (counts_same (stands_at q));
+  small = All-permutation (λ (layer : LayerRef). layer.directory.slot < 2 ^ 64) old new same is.small;
+}
+  where
+    counts_same : (test : LayerRef → Bool) → count_by test new ≡ count_by test old
+    counts_same test = sum_by-IsPermutation (λ layer. cond (test layer) 1 0) old new same
+
+-- What is kept is so still where an overlay is put in,
+pub kept_added : (es new : List (FilesystemId × KeptOverlay)) (k : FilesystemId) (x : KeptOverlay)
+    (lowers : List LayerRef) (before after : LayerCounts) → AreKept es before
+    → x.overlay.number ≡ k → x.overlay.lowers ≡ lowers
+    → list_all (λ (entry : OverlayEntry). nat_lt entry.count k.count) (kept_overlays es) ≡ true
+    → ((q : FilesystemId) → lookup (key_eq q) new ≡ cond (key_eq k q) (Some x) (lookup (key_eq q) es))
+    → ((all : List LayerRef) → AreCounted all before → AreCounted (all ++ lowers) after) → AreKept new after
+kept_added es new k x lowers before after is number layers above comes counts = record {
+  own = own_added es new k x is.own number comes;
+  layers = subst (λ all. AreCounted all after)
+      (ap (λ more. all_layers (kept_overlays es) ++ more) (sym layers)
+      ∙ sym (layers_with (kept_overlays es) (kept_overlay (k, x)))
+      ∙ sym (ap all_layers (added es new (kept_overlays es) k x refl above comes)))
+      (counts (all_layers (kept_overlays es)) is.layers);
+}
+
+-- where one is taken out,
+pub kept_removed : (f : ℕ) (es new : List (FilesystemId × KeptOverlay)) (x : KeptOverlay)
+    (before after : LayerCounts) → AreKept es before → Some x ≡ lookup (is_key f) es
+    → ((q : FilesystemId) → lookup (key_eq q) new ≡ cond (nat_eq f q.count) None (lookup (key_eq q) es))
+    → ((left : List LayerRef) → AreCounted (x.overlay.lowers ++ left) before → AreCounted left after)
+    → AreKept new after
+kept_removed f es new x before after is there goes counts = record {
+  own = own_removed f es new is.own goes;
+  layers = subst (λ all. AreCounted (all_layers all) after) (sym (removed f es new goes))
+      (counts (all_layers (without_overlay f (kept_overlays es)))
+      (counted_in_any_order (all_layers (kept_overlays es))
+      (x.overlay.lowers ++ all_layers (without_overlay f (kept_overlays es))) before
+      (layers_without f (of_count f x) es (entry_kept-kept f es ∙ ap (option_map (of_count f)) (sym there)))
+      is.layers));
+}
+
+-- and where the mounts of one change
+pub kept_written : {S : Type 0} (f : ℕ) (change : ℕ → ℕ) (m n : IndexMap FilesystemId KeptOverlay S)
+    (x w : KeptOverlay) (counts : LayerCounts) → AreKept m.entries counts → get_by (is_key f) m ≡ Some x
+    → w ≡ record x { mounts = change x.mounts } → WritesThrough key_eq (is_key f) m w n → AreKept n.entries counts
+kept_written f change m n x w counts is there so through = record {
+  own = own_written f m n x w is.own there (ap (λ (one : KeptOverlay). one.overlay) so) through;
+  layers = subst (λ layers. AreCounted layers counts)
+      (sym (ap all_layers (writes f (λ one. record one { mounts = change one.mounts })
+      (λ entry. record entry { mounts = change entry.mounts }) m n (kept_overlays m.entries) x w refl there so
+      (λ k one. refl) through)
+      ∙ layers_changed f (λ entry. record entry { mounts = change entry.mounts }) (λ entry. refl)
+      (kept_overlays m.entries))) is.layers;
+}

@@ -1,0 +1,31 @@
+use Rattle.std.proofs.Common.{ap, arith, cond, count_by, sym, [], ◌+◌, ◌<◌, ◌^◌, ◌∙◌, ◌∷◌}
+use Rattle.std.proofs.lemmas.Bool.Decides.{nat_tests}
+use Rattle.std.proofs.lemmas.List.Elements.{All-append, All-cons, All-nil}
+use Rattle.vt_merge.specs.declared.layers.LayerRef.{LayerRef}
+use Rattle.vt_store.specs.LayerTests.{layer_at, same_filesystem, same_inode, stands_at, stands_in}
+use Rattle.vt_store.proofs.LayersTallied.{counted_more}
+use Rattle.vt_store.proofs.layer_counts.LayerCounts.add_one.Goals as goal
+
+pub invariant_of-self : goal.invariant_of-self
+invariant_of-self c = record {
+  few_in = λ q. grind (arith, nat_tests, c.add.ensures.times q, c.args.self.now.few_in q);
+  few_at = λ q. grind (arith, nat_tests, c.add-2.ensures.times q, c.args.self.now.few_at q);
+}
+
+pub returns-clause-counted : goal.returns-clause-counted
+returns-clause-counted c = λ before is.
+    let added = layer_at c.args.filesystem c.args.directory in
+    let small : c.args.directory < 18446744073709551616 = omega arith in
+    record {
+      filesystems = λ q.
+          c.add.ensures.times q ∙ ap (λ n. cond (same_filesystem q c.args.filesystem) (n + 1) n) (is.filesystems q)
+          ∙ sym (counted_more (stands_in q.count) before added);
+      directories = λ q.
+          c.add-2.ensures.times q ∙ ap (λ n. cond (same_inode q c.new.result) (n + 1) n) (is.directories q)
+          ∙ ap (λ inode. cond (same_inode q inode) (count_by (stands_at q) before + 1) (count_by (stands_at q) before))
+          c.new.ensures
+          ∙ sym (counted_more (stands_at q) before added);
+      small = All-append (λ (layer : LayerRef). layer.directory.slot < 2 ^ 64) before (added ∷ []) is.small
+          (All-cons (λ (layer : LayerRef). layer.directory.slot < 2 ^ 64) added [] small
+          (All-nil (λ (layer : LayerRef). layer.directory.slot < 2 ^ 64)));
+    }

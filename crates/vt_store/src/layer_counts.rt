@@ -1,0 +1,129 @@
+//! `LayerCounts`: how many layers of overlays are in each filesystem, and how many are at each directory.
+ghost use Rattle.std.specs.Prelude.{◌≡◌, ◌+◌, ◌++◌, ◌∷◌, [], ℕ, List, OnOk, length, nat_eq};
+ghost use Rattle.std.specs.List.{list_any};
+ghost use Rattle.vt_spec.specs.Inodes.{ancestors};
+ghost use Rattle.vt_tree.specs.TreeValue.{inodes_of};
+ghost use Rattle.vt_merge.specs.declared.layers.LayerRef.{LayerRef};
+ghost use Rattle.vt_store.specs.LayerTests.{layer_at, same_filesystem, same_inode};
+ghost use Rattle.vt_store.specs.Tallies.{HasFew};
+
+use crate::tally::Tally;
+use std::alloc::{AllocError, Global};
+use vt_location::{FilesystemId, InodeRef};
+use vt_merge::LayerRef;
+use vt_node::NodeId;
+use vt_tree::Tree;
+
+/// How many layers are in each filesystem, and how many are at each directory: so whether one is there costs a look-up,
+/// however many there are.
+#[derive(Debug, Drop)]
+pub(crate) struct LayerCounts {
+    // How many were ever counted: no count is above it.
+    ever: u64,
+    in_filesystem: Tally<FilesystemId>,
+    at_directory: Tally<InodeRef>,
+    ghost few_in: { HasFew same_filesystem ever in_filesystem },
+    ghost few_at: { HasFew same_inode ever at_directory },
+}
+
+impl LayerCounts {
+    ghost use Rattle.vt_store.specs.LayersAt.{AreCounted, HasRoomForLayers, has_layer_at, has_layer_in};
+
+    /// No layers. It does not allocate.
+    pub(crate) fn new(alloc: Global) -> Self
+        ensures { AreCounted [] result }
+    {
+        LayerCounts {
+            ever: 0,
+            in_filesystem: Tally::new(alloc),
+            at_directory: Tally::new(alloc),
+        }
+    }
+
+    /// Whether a layer is in a filesystem.
+    pub(crate) fn has_in(&self, filesystem: FilesystemId) -> bool
+        ensures { result ≡ has_layer_in self.now filesystem }
+    {
+        self.in_filesystem.has(&filesystem)
+    }
+
+    /// Whether a layer is at a directory of a filesystem.
+    #[inline(always)]
+    pub(crate) fn has_at(&self, filesystem: FilesystemId, directory: NodeId) -> bool
+        ensures { result ≡ has_layer_at self.now (record { filesystem = filesystem; slot = directory }) }
+    {
+        self.at_directory.has(&InodeRef::new(filesystem, directory))
+    }
+
+    /// Whether a layer is at a directory of this tree or at one above it. It goes up once, however many layers there are.
+    pub(crate) fn has_above(&self, filesystem: FilesystemId, tree: &Tree, directory: NodeId) -> bool
+        ensures { result
+            ≡ list_any (λ slot. has_layer_at self.now (record { filesystem = filesystem; slot = slot }))
+            (ancestors nat_eq (inodes_of tree.now) directory) }
+    {
+        let mut here = directory;
+        let mut left = tree.len();
+        while left > 0 {
+            if self.has_at(filesystem, here) {
+                return true;
+            }
+            if here == tree.root() {
+                return false;
+            }
+            here = tree.parent(here);
+            left -= 1;
+        }
+        self.has_at(filesystem, here)
+    }
+
+    /// Makes room for so many layers more. It fails if an allocation does, or 2^64 - 1 layers would ever be counted.
+    pub(crate) fn reserve(&mut self, more: usize) -> Result<(), AllocError>
+        ensures same { (layers : List LayerRef) → AreCounted layers self.old → AreCounted layers self.new }
+        ensures ok { OnOk result (HasRoomForLayers more self.new) }
+    {
+        if u64::MAX - self.ever < more as u64 {
+            return Err(AllocError);
+        }
+        self.in_filesystem.reserve(more)?;
+        self.at_directory.reserve(more)
+    }
+
+    /// Counts layers more, for a caller that has made room. It does not allocate.
+    pub(crate) fn add(&mut self, layers: &[LayerRef])
+        requires { HasRoomForLayers (length layers.now) self.old }
+        ensures { (before : List LayerRef) → AreCounted before self.old → AreCounted (before ++ layers.now) self.new }
+    {
+        for layer in layers {
+            self.add_one(layer.directory.filesystem, layer.directory.node());
+        }
+    }
+
+    // Counts one layer more, whose directory is this one.
+    fn add_one(&mut self, filesystem: FilesystemId, directory: NodeId)
+        requires { HasRoomForLayers 1 self.old }
+        ensures counted { (before : List LayerRef)
+            → AreCounted before self.old → AreCounted (before ++ layer_at filesystem directory ∷ []) self.new }
+        ensures room { (more : ℕ) → HasRoomForLayers (more + 1) self.old → HasRoomForLayers more self.new }
+    {
+        self.ever += 1;
+        self.in_filesystem.add(filesystem);
+        self.at_directory.add(InodeRef::new(filesystem, directory));
+    }
+
+    /// Takes back layers that were counted. It does not allocate.
+    pub(crate) fn take(&mut self, layers: &[LayerRef])
+        ensures { (left : List LayerRef) → AreCounted (layers.now ++ left) self.old → AreCounted left self.new }
+    {
+        for layer in layers {
+            self.take_one(*layer);
+        }
+    }
+
+    // Takes back one.
+    fn take_one(&mut self, layer: LayerRef)
+        ensures { (left : List LayerRef) → AreCounted (layer ∷ left) self.old → AreCounted left self.new }
+    {
+        self.in_filesystem.take(&layer.directory.filesystem);
+        self.at_directory.take(&layer.directory);
+    }
+}
