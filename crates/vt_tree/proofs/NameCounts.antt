@@ -1,6 +1,6 @@
 -- How many names lead to an object, once a directory has changed.
 use Rattle.std.proofs.Common.{◌≡◌, ◌≢◌, refl, sym, ap, subst, ◌∙◌, ⊎_elim, ℕ, zero, suc, ◌+◌, ◌-◌, ◌≤◌, ◌<◌, nat_eq, Bool, true, false, true≢false, cond, not, ◌&&◌, ◌||◌, List, [], ◌∷◌, map, Option, Some, None, arith}
-use Rattle.std.proofs.lemmas.Bool.{and_parts}
+use Rattle.std.proofs.lemmas.Bool.{and_parts, cases_lt}
 use Rattle.std.proofs.lemmas.Bool.Decides.{eqb_tells}
 use Rattle.std.specs.Cmp.Lexicographic.{nat_list_cmp_total, texts_ties, bytes_decides}
 use Rattle.std.specs.FinMap.Entries.{below_all, by_order, is_sorted}
@@ -65,12 +65,7 @@ often_put number name object (entry ∷ rest) sorted =
         + one_if_some number (cond (is_eq o) (Some entry.1) (entry_named name rest))
         ≡ how_often number (targets (entry ∷ rest)) + one_if number object
     by Less e later =
-        let none : entry_named name rest ≡ None = entry_named-below name rest
-        (below_less name entry.0 rest e parts.0) in
-        ap (λ o. (one_if number object +
-        (one_if number entry.1 + how_often number (targets rest))) + one_if_some number o) none
-        ∙ (let aside : (one_if number object + (one_if number entry.1 + how_often number (targets rest))) + 0 ≡
-        (one_if number entry.1 + how_often number (targets rest)) + one_if number object = omega arith in aside)
+        omega (arith, ap (one_if_some number) (entry_named-below name rest (below_less name entry.0 rest e parts.0)))
     by Equal e later = omega arith
     by Greater e later = omega arith
 
@@ -155,111 +150,58 @@ among_often number (other ∷ rest) e = by (nat_eq number other) e (among_often 
         → (is_among nat_eq number rest ≡ true → 1 ≤ how_often number rest)
         → 1 ≤ cond b 1 0 + how_often number rest
     by true e later = omega arith
-    by false e later = let h : 1 ≤ how_often number rest = later e in omega arith
+    by false e later = omega (arith, later e)
 
 -- Of all directories below a bound
 
-pub below_kept : (old new : Tree ℕ) (object bound : ℕ)
+below_kept : (old new : Tree ℕ) (object bound : ℕ)
     → ((directory : ℕ) → directory < bound → names_at new object directory ≤ names_at old object directory)
     → names_below new object bound ≤ names_below old object bound
 below_kept old new object zero fewer = omega arith
 below_kept old new object (suc bound) fewer =
-    let rest : names_below new object bound ≤ names_below old object bound =
-    below_kept old new object bound (λ directory below. fewer directory (omega arith)) in
-    let last : names_at new object bound ≤ names_at old object bound = fewer bound (omega arith) in
-    omega arith
+    omega (
+      arith,
+      fewer bound (omega arith),
+      below_kept old new object bound (λ directory within. fewer directory (omega (arith, within))),
+    )
 
-pub below_changed : (old new : Tree ℕ) (object place more less bound : ℕ) → place < bound
+below_changed : (old new : Tree ℕ) (object place more less bound : ℕ) → place < bound
     → ((directory : ℕ) → directory ≢ place → names_at new object directory ≤ names_at old object directory)
     → names_at new object place + less ≤ names_at old object place + more
     → names_below new object bound + less ≤ names_below old object bound + more
-below_changed old new object place more less zero below others here = absurd (omega arith)
-below_changed old new object place more less (suc bound) below others here =
+below_changed old new object place more less zero within others here = absurd (omega (arith, within))
+below_changed old new object place more less (suc bound) within others here =
     ⊎_elim
-    (λ t.
-    let last : names_at new object bound + less ≤ names_at old object bound + more =
-    subst (λ n. names_at new object n + less ≤ names_at old object n + more) t.1 here in
-    let rest : names_below new object bound ≤ names_below old object bound =
-    below_kept old new object bound (λ directory within. others directory (λ same. (let e : directory ≡ bound = same ∙ t.1 in absurd (omega arith)))) in
-    omega arith)
-    (λ t.
-    let last : names_at new object bound ≤ names_at old object bound = others bound (λ same. t.1 (sym same)) in
-    let apart : place ≢ bound = t.1 in
-    let rest : names_below new object bound + less ≤ names_below old object bound + more =
-    below_changed old new object place more less bound (omega (arith, below, apart)) others here in
-    omega arith)
+    (λ t. omega (
+      arith,
+      subst (λ n. names_at new object n + less ≤ names_at old object n + more) t.1 here,
+      below_kept old new object bound
+          (λ directory smaller. others directory (λ same. absurd (omega (arith, smaller, same, t.1)))),
+    ))
+    (λ t. omega (
+      arith,
+      others bound (λ same. t.1 (sym same)),
+      below_changed old new object place more less bound (omega (arith, within, t.1)) others here,
+    ))
     (eqb_tells place bound)
 
 -- more directories have no fewer names
-pub below_grows : (tree : Tree ℕ) (object bound more : ℕ)
-    → names_below tree object bound ≤ names_below tree object (more + bound)
-below_grows tree object bound zero =
-    let sum : 0 + bound ≡ bound = omega arith in
-    let same : names_below tree object (0 + bound) ≡ names_below tree object bound = ap (names_below tree object) sum in
-    omega (arith, same)
-below_grows tree object bound (suc more) =
-    let rest : names_below tree object bound ≤ names_below tree object (more + bound) =
-    below_grows tree object bound more in
-    let sum : suc more + bound ≡ suc (more + bound) = omega arith in
-    let next : names_below tree object (suc more + bound)
-    ≡ names_below tree object (more + bound) + names_at tree object (more + bound) =
-    ap (names_below tree object) sum in
-    omega (arith, rest, next)
+below_grows : (tree : Tree ℕ) (object bound more : ℕ) → bound ≤ more
+    → names_below tree object bound ≤ names_below tree object more
+below_grows tree object bound zero smaller =
+    let none : bound ≡ 0 = omega (arith, smaller) in omega (arith, ap (names_below tree object) none)
+below_grows tree object bound (suc more) smaller =
+    ⊎_elim (λ t. omega (arith, ap (names_below tree object) t.1))
+    (λ t. omega (arith, below_grows tree object bound more (omega (arith, smaller, t.1))))
+    (eqb_tells bound (suc more))
 
 -- a directory has no more of them than all
-pub at_below : (tree : Tree ℕ) (object directory bound : ℕ) → directory < bound
+at_below : (tree : Tree ℕ) (object directory bound : ℕ) → directory < bound
     → names_at tree object directory ≤ names_below tree object bound
-at_below tree object directory zero below = absurd (omega arith)
-at_below tree object directory (suc bound) below =
-    ⊎_elim
-    (λ t.
-    let last : names_at tree object directory ≡ names_at tree object bound = ap (names_at tree object) t.1 in
-    omega arith)
-    (λ t.
-    let apart : directory ≢ bound = t.1 in
-    let rest : names_at tree object directory ≤ names_below tree object bound =
-    at_below tree object directory bound (omega (arith, below, apart)) in
-    omega arith)
-    (eqb_tells directory bound)
-
--- two directories have no more of them than all
-pub two_below : (tree : Tree ℕ) (object one other bound : ℕ) → one ≢ other → one < bound → other < bound
-    → names_at tree object one + names_at tree object other ≤ names_below tree object bound
-two_below tree object one other zero apart first second = absurd (omega arith)
-two_below tree object one other (suc bound) apart first second =
-    ⊎_elim
-    (λ t.
-    let last : names_at tree object one ≡ names_at tree object bound = ap (names_at tree object) t.1 in
-    let rest : names_at tree object other ≤ names_below tree object bound =
-    at_below tree object other bound (let e : one ≡ bound = t.1 in omega (arith, second, apart, e)) in
-    omega arith)
-    (λ t.
-    ⊎_elim
-    (λ u.
-    let last : names_at tree object other ≡ names_at tree object bound = ap (names_at tree object) u.1 in
-    let rest : names_at tree object one ≤ names_below tree object bound =
-    at_below tree object one bound (let e : one ≢ bound = t.1 in omega (arith, first, e)) in
-    omega arith)
-    (λ u.
-    let one_apart : one ≢ bound = t.1 in
-    let other_apart : other ≢ bound = u.1 in
-    let rest : names_at tree object one + names_at tree object other ≤ names_below tree object bound =
-    two_below tree object one other bound apart (omega (arith, first, one_apart)) (omega (arith, second, other_apart)) in
-    omega arith)
-    (eqb_tells other bound))
-    (eqb_tells one bound)
+at_below tree object directory bound within =
+    omega (arith, below_grows tree object (suc directory) bound (omega (arith, within)))
 
 -- At most so many names
-
--- no directory has more
-pub most_kept : (old new : Tree ℕ) (most : ℕ → ℕ) → NamesAtMost old most
-    → ((object directory : ℕ) → names_at new object directory ≤ names_at old object directory)
-    → NamesAtMost new most
-most_kept old new most counted fewer object bound =
-    let here : names_below new object bound ≤ names_below old object bound =
-    below_kept old new object bound (λ directory below. fewer object directory) in
-    let all : names_below old object bound ≤ most object = counted object bound in
-    omega arith
 
 -- one directory has more and less
 pub most_changed : (old new : Tree ℕ) (most more less : ℕ → ℕ) (place : ℕ) → NamesAtMost old most
@@ -267,38 +209,45 @@ pub most_changed : (old new : Tree ℕ) (most more less : ℕ → ℕ) (place : 
     → ((object : ℕ) → names_at new object place + less object ≤ names_at old object place + more object)
     → NamesAtMost new (λ object. most object + more object - less object)
 most_changed old new most more less place counted others here object bound =
-    let wide : names_below new object bound ≤ names_below new object (suc place + bound) =
-    below_grows new object bound (suc place) in
-    let changes : names_below new object (suc place + bound) + less object
-    ≤ names_below old object (suc place + bound) + more object =
-    below_changed old new object place (more object) (less object) (suc place + bound) (omega arith) (others object)
-    (here object) in
-    let all : names_below old object (suc place + bound) ≤ most object = counted object (suc place + bound) in
-    omega arith
+    let wide = suc place + bound in
+    omega (
+      arith,
+      below_grows new object bound wide (omega arith),
+      below_changed old new object place (more object) (less object) wide (omega arith) (others object) (here object),
+      counted object wide,
+    )
 
 -- more may be counted
 pub most_weaker : (tree : Tree ℕ) (most other : ℕ → ℕ) → NamesAtMost tree most
     → ((object : ℕ) → most object ≤ other object) → NamesAtMost tree other
-most_weaker tree most other counted fewer object bound =
-    let all : names_below tree object bound ≤ most object = counted object bound in
-    let less : most object ≤ other object = fewer object in
-    omega arith
+most_weaker tree most other counted fewer object bound = omega (arith, counted object bound, fewer object)
 
 -- where one name is counted, two directories do not both have one
+not_both : (tree : Tree ℕ) (most : ℕ → ℕ) (object one other : ℕ) → NamesAtMost tree most → most object ≤ 1
+    → is_among nat_eq object (targets_in (tree.node one)) ≡ true
+    → is_among nat_eq object (targets_in (tree.node other)) ≡ true → other ≤ one
+not_both tree most object one other counted single first second =
+    ⊎_elim
+    (λ less. absurd (omega (
+      arith,
+      single,
+      counted object (suc other),
+      at_below tree object one other less,
+      among_often object (targets_in (tree.node one)) first,
+      among_often object (targets_in (tree.node other)) second,
+    )))
+    (λ not_less. not_less)
+    (cases_lt one other)
+
 pub alone : (tree : Tree ℕ) (most : ℕ → ℕ) (object directory other : ℕ) → NamesAtMost tree most → most object ≤ 1
     → is_among nat_eq object (targets_in (tree.node directory)) ≡ true
     → is_among nat_eq object (targets_in (tree.node other)) ≡ true → other ≡ directory
-alone tree most object directory other counted one first second =
-    ⊎_elim (λ t. t.1)
-    (λ t.
-    let bound = suc other + suc directory in
-    let has : 1 ≤ names_at tree object directory = among_often object (targets_in (tree.node directory)) first in
-    let also : 1 ≤ names_at tree object other = among_often object (targets_in (tree.node other)) second in
-    let both : names_at tree object other + names_at tree object directory ≤ names_below tree object bound =
-    two_below tree object other directory bound t.1 (omega arith) (omega arith) in
-    let all : names_below tree object bound ≤ most object = counted object bound in
-    absurd (omega arith))
-    (eqb_tells other directory)
+alone tree most object directory other counted single first second =
+    omega (
+      arith,
+      not_both tree most object directory other counted single first second,
+      not_both tree most object other directory counted single second first,
+    )
 
 -- a name of a rank is an entry
 pub ranked_among : (all : Entries ℕ) (id rank : ℕ) (entries : Entries ℕ)

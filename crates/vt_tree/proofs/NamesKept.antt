@@ -1,7 +1,7 @@
 -- Counts of names, once a tree has changed.
-use Rattle.std.proofs.Common.{◌≡◌, ◌≢◌, refl, sym, ap, subst, ◌∙◌, ⊎_elim, ◌⊎◌, inl, inr, ℕ, zero, suc, ◌+◌, ◌-◌, ◌≤◌, nat_eq, nat_le, eq-eqb, ne_eqb, Bool, true, false, cond, List, [], Option, Some, None, arith}
-use Rattle.std.proofs.lemmas.Bool.Decides.{eqb_tells}
+use Rattle.std.proofs.Common.{◌≡◌, ◌≢◌, refl, sym, ap, subst, ◌⊎◌, inl, inr, ℕ, zero, suc, ◌+◌, ◌-◌, ◌≤◌, nat_eq, nat_le, eq-eqb, ne_eqb, eqb-true, Bool, true, false, cond, List, [], Option, Some, None, arith}
 use Rattle.std.specs.FinMap.Entries.{is_sorted}
+use Rattle.std.specs.Prelude.{Err, Ok, OnErr, OnOk, Result}
 use Rattle.vt_spec.specs.FileTree.{targets_in}
 use Rattle.vt_spec.specs.Inodes.{Inode, Inodes, inode_with_node, node_in, pinned, tree_of, unpinned, used_once_less, used_once_more, with_changed, with_inode, without_replaced}
 use Rattle.vt_spec.specs.Language.Changes.{node_with_parent, node_without_entry}
@@ -9,44 +9,47 @@ use Rattle.vt_spec.specs.Rights.{is_directory}
 use Rattle.vt_spec.specs.Tree.Content.{Directory, Regular, Symlink, Whiteout}
 use Rattle.vt_spec.specs.Tree.{Content, Node, Tree, kind_of, new_directory, entries_in, entries_of, entry_named, name_cmp, node_with_entry}
 use Rattle.vt_spec.proofs.NodeChanges.{entries-node_with_parent}
-use Rattle.vt_tree.proofs.NameCounts.{most_changed, most_kept, most_weaker, named_in_node, one_if, one_if_some, put_in_node, taken_from_node, targets}
+use Rattle.vt_tree.proofs.NameCounts.{most_changed, most_weaker, named_in_node, one_if, one_if_some, put_in_node, taken_from_node, targets}
 use Rattle.vt_tree.specs.Names.{NamesAtMost, how_often, names_at, names_below}
-use Rattle.vt_tree.specs.Slots.{put_at}
+use Rattle.vt_tree.specs.Slots.{Slots, inodes_in, put_at}
+
+-- Counts of the same inodes
+
+pub counted_as : (inodes new : Inodes ℕ) (most counts : ℕ → ℕ) → new ≡ inodes → counts ≡ most
+    → NamesAtMost (tree_of inodes) most → NamesAtMost (tree_of new) counts
+counted_as inodes new most counts same counted_same counted =
+    subst (λ counts. NamesAtMost (tree_of new) counts) (sym counted_same)
+    (subst (λ inodes. NamesAtMost (tree_of inodes) most) (sym same) counted)
+
+-- slots that change, or stay with an error
+pub either_counted : {V E : Type 0} (result : Result V E) (root : ℕ) (old new : Slots) (changed : Inodes ℕ)
+    (most : ℕ → ℕ)
+    → OnOk result (inodes_in root new ≡ changed) → OnErr result (new ≡ old)
+    → NamesAtMost (tree_of changed) most → NamesAtMost (tree_of (inodes_in root old)) most
+    → NamesAtMost (tree_of (inodes_in root new)) most
+either_counted (Ok value) root old new changed most ok err then_counted counted =
+    counted_as changed (inodes_in root new) most most ok refl then_counted
+either_counted (Err error) root old new changed most ok err then_counted counted =
+    counted_as (inodes_in root old) (inodes_in root new) most most (ap (inodes_in root) err) refl counted
 
 -- What one more and one less are
 
 more_counted : (most : ℕ → ℕ) (object less other : ℕ)
     → most other + one_if other object - less ≤ put_at most object (most object + 1) other
-more_counted most object less other =
-    ⊎_elim
-    (λ t.
-    let one : one_if other object ≡ 1 = ap (λ b. cond b 1 0) t.0 in
-    let counted : put_at most object (most object + 1) other ≡ most object + 1 =
-    ap (λ b. cond b (most object + 1) (most other)) t.0 in
-    let same : most other ≡ most object = ap most t.1 in
-    omega arith)
-    (λ t.
-    let none : one_if other object ≡ 0 = ap (λ b. cond b 1 0) t.0 in
-    let counted : put_at most object (most object + 1) other ≡ most other =
-    ap (λ b. cond b (most object + 1) (most other)) t.0 in
-    omega arith)
-    (eqb_tells other object)
+more_counted most object less other = by (nat_eq other object) (eqb-true other object)
+  where
+    by : (b : Bool) → (b ≡ true → other ≡ object)
+        → most other + cond b 1 0 - less ≤ cond b (most object + 1) (most other)
+    by true same = omega (arith, ap most (same refl))
+    by false same = omega arith
 
 less_counted : (most : ℕ → ℕ) (object other : ℕ)
     → most other - one_if other object ≤ put_at most object (most object - 1) other
-less_counted most object other =
-    ⊎_elim
-    (λ t.
-    let one : one_if other object ≡ 1 = ap (λ b. cond b 1 0) t.0 in
-    let counted : put_at most object (most object - 1) other ≡ most object - 1 =
-    ap (λ b. cond b (most object - 1) (most other)) t.0 in
-    let same : most other ≡ most object = ap most t.1 in
-    omega arith)
-    (λ t.
-    let counted : put_at most object (most object - 1) other ≡ most other =
-    ap (λ b. cond b (most object - 1) (most other)) t.0 in
-    omega arith)
-    (eqb_tells other object)
+less_counted most object other = by (nat_eq other object) (eqb-true other object)
+  where
+    by : (b : Bool) → (b ≡ true → other ≡ object) → most other - cond b 1 0 ≤ cond b (most object - 1) (most other)
+    by true same = omega (arith, ap most (same refl))
+    by false same = omega arith
 
 -- One inode that changes
 
@@ -57,42 +60,33 @@ module _ (inodes : Inodes ℕ) (place : ℕ) (inode : Option (Inode ℕ)) where
   apart : (object directory : ℕ) → directory ≢ place
       → names_at (tree_of with_it) object directory ≤ names_at (tree_of inodes) object directory
   apart object directory differ =
-      let same : names_at (tree_of with_it) object directory ≡ names_at (tree_of inodes) object directory =
-      ap (λ b. how_often object (targets_in (node_in (cond b inode (inodes.inode directory)))))
-      (ne_eqb directory place differ) in
-      omega arith
+      omega (
+        arith,
+        ap (λ b. how_often object (targets_in (node_in (cond b inode (inodes.inode directory)))))
+            (ne_eqb directory place differ),
+      )
 
   here : (object : ℕ) → names_at (tree_of with_it) object place ≡ how_often object (targets_in (node_in inode))
   here object =
       ap (λ b. how_often object (targets_in (node_in (cond b inode (inodes.inode place))))) (eq-eqb place place refl)
 
-  -- with no more names
-  pub inode_keeps : (most : ℕ → ℕ) → NamesAtMost (tree_of inodes) most
-      → ((object : ℕ) → how_often object (targets_in (node_in inode)) ≤ names_at (tree_of inodes) object place)
-      → NamesAtMost (tree_of with_it) most
-  inode_keeps most counted fewer =
-      most_kept (tree_of inodes) (tree_of with_it) most counted
-      (λ object directory.
-      ⊎_elim
-      (λ t.
-      let now = here object in
-      let few = fewer object in
-      let no_more : names_at (tree_of with_it) object place ≤ names_at (tree_of inodes) object place = omega arith in
-      subst (λ d. names_at (tree_of with_it) object d ≤ names_at (tree_of inodes) object d) (sym t.1) no_more)
-      (λ t. apart object directory t.1)
-      (eqb_tells directory place))
-
-  -- with more of them and less
+  -- with more names and less
   pub inode_changes : (most more less : ℕ → ℕ) → NamesAtMost (tree_of inodes) most
       → ((object : ℕ) → how_often object (targets_in (node_in inode)) + less object
       ≤ names_at (tree_of inodes) object place + more object)
       → NamesAtMost (tree_of with_it) (λ object. most object + more object - less object)
   inode_changes most more less counted changes =
       most_changed (tree_of inodes) (tree_of with_it) most more less place counted apart
-      (λ object.
-      let now = here object in
-      let change = changes object in
-      omega arith)
+      (λ object. omega (arith, here object, changes object))
+
+  -- with no more names
+  pub inode_keeps : (most : ℕ → ℕ) → NamesAtMost (tree_of inodes) most
+      → ((object : ℕ) → how_often object (targets_in (node_in inode)) ≤ names_at (tree_of inodes) object place)
+      → NamesAtMost (tree_of with_it) most
+  inode_keeps most counted fewer =
+      most_weaker (tree_of with_it) _ most
+      (inode_changes most (λ object. 0) (λ object. 0) counted (λ object. omega (arith, fewer object)))
+      (λ object. omega arith)
 
 -- Changes of a tree
 
@@ -108,12 +102,11 @@ pub change_keeps : (inodes : Inodes ℕ) (place : ℕ) (change : Option (Node �
     → NamesAtMost (tree_of inodes) most → NamesAtMost (tree_of (with_changed nat_eq inodes place change)) most
 change_keeps inodes place change most same counted =
     inode_keeps inodes place _ most counted
-    (λ object.
-    let is : how_often object (targets_in (node_in (inode_with_node (change (node_in (inodes.inode place))) (inodes.inode place))))
-    ≡ names_at (tree_of inodes) object place =
-    ap (λ entries. how_often object (targets entries))
-    (same_entries (change (node_in (inodes.inode place))) (inodes.inode place) (same (node_in (inodes.inode place)))) in
-    omega arith)
+    (λ object. omega (
+      arith,
+      ap (λ entries. how_often object (targets entries))
+          (same_entries (change (node_in (inodes.inode place))) (inodes.inode place) (same (node_in (inodes.inode place)))),
+    ))
 
 -- an entry more
 put_in_inode : (name : List ℕ) (object number : ℕ) (inode : Option (Inode ℕ))
@@ -151,8 +144,7 @@ taken_from_inode : (name : List ℕ) (number : ℕ) (inode : Option (Inode ℕ))
     + one_if_some number (entry_named name (entries_in (node_in inode)))
     ≤ how_often number (targets_in (node_in inode)) + 0
 taken_from_inode name number None = omega arith
-taken_from_inode name number (Some inode) =
-    let fewer = taken_from_node number name (Some inode.node) in omega arith
+taken_from_inode name number (Some inode) = omega (arith, taken_from_node number name (Some inode.node))
 
 pub entry_less : (inodes : Inodes ℕ) (directory : ℕ) (name : List ℕ) (object : ℕ) (most : ℕ → ℕ)
     → entry_named name (entries_in (node_in (inodes.inode directory))) ≡ Some object
@@ -164,10 +156,7 @@ entry_less inodes directory name object most named counted =
     (inode_changes inodes directory _ most (λ other. 0)
     (λ other. one_if_some other (entry_named name (entries_in (node_in (inodes.inode directory))))) counted
     (λ other. taken_from_inode name other (inodes.inode directory)))
-    (λ other.
-    let one : one_if_some other (entry_named name (entries_in (node_in (inodes.inode directory)))) ≡ one_if other object =
-    ap (one_if_some other) named in
-    omega arith)
+    (λ other. omega (arith, ap (one_if_some other) named))
 
 pub name_less : (inodes : Inodes ℕ) (directory : ℕ) (name : List ℕ) (object : ℕ) (most : ℕ → ℕ)
     → entry_named name (entries_in (node_in (inodes.inode directory))) ≡ Some object
@@ -189,22 +178,18 @@ named_inode name other object (Some inode) named = named_in_node name other obje
 
 named_still : (inodes : Inodes ℕ) (from to : ℕ) (name other : List ℕ) (object : ℕ)
     → entry_named name (entries_in (node_in (inodes.inode from))) ≡ Some object
-    → entry_named name (entries_in (node_in ((with_changed nat_eq inodes to (node_with_entry other object)).inode from)))
-    ≡ Some object
-named_still inodes from to name other object named =
-    ⊎_elim
-    (λ t.
-    ap (λ b. entry_named name (entries_in (node_in (cond b
-    (inode_with_node (node_with_entry other object (node_in (inodes.inode to))) (inodes.inode to)) (inodes.inode from)))))
-    t.0
-    ∙ named_inode name other object (inodes.inode to)
-    (ap (λ n. entry_named name (entries_in (node_in (inodes.inode n)))) (sym t.1) ∙ named))
-    (λ t.
-    ap (λ b. entry_named name (entries_in (node_in (cond b
-    (inode_with_node (node_with_entry other object (node_in (inodes.inode to))) (inodes.inode to)) (inodes.inode from)))))
-    t.0
-    ∙ named)
-    (eqb_tells from to)
+    → entry_named name
+    (entries_in (node_in ((with_changed nat_eq inodes to (node_with_entry other object)).inode from))) ≡ Some object
+named_still inodes from to name other object named = by (nat_eq from to) (eqb-true from to)
+  where
+    by : (b : Bool) → (b ≡ true → from ≡ to)
+        → entry_named name (entries_in (node_in (cond b (inode_with_node
+        (node_with_entry other object (node_in (inodes.inode to))) (inodes.inode to)) (inodes.inode from))))
+        ≡ Some object
+    by true same =
+        named_inode name other object (inodes.inode to)
+        (subst (λ n. entry_named name (entries_in (node_in (inodes.inode n))) ≡ Some object) (same refl) named)
+    by false same = named
 
 -- an object with another name for one that it had, where another object may lose one
 pub name_moved : (inodes : Inodes ℕ) (from to : ℕ) (name other : List ℕ) (object : ℕ) (most : ℕ → ℕ)
@@ -228,10 +213,7 @@ name_moved inodes from to name other object most sorted named counted =
 pub replaced_counted : (most : ℕ → ℕ) (found : Option ℕ) (other number : ℕ) → found ≡ Some other
     → most number - one_if_some number found ≤ put_at most other (most other - 1) number
 replaced_counted most found other number is =
-    let one : one_if_some number found ≡ one_if number other = ap (one_if_some number) is in
-    let less : most number - one_if number other ≤ put_at most other (most other - 1) number =
-    less_counted most other number in
-    omega arith
+    omega (arith, ap (one_if_some number) is, less_counted most other number)
 
 -- uses alone
 pub pin_keeps : (inodes : Inodes ℕ) (object : ℕ) (most : ℕ → ℕ)
@@ -241,7 +223,8 @@ pin_keeps inodes object most counted =
     (λ number. by number (inodes.inode object))
   where
     by : (number : ℕ) (inode : Option (Inode ℕ))
-        → how_often number (targets_in (node_in (used_once_more inode))) ≤ how_often number (targets_in (node_in inode))
+        → how_often number (targets_in (node_in (used_once_more inode)))
+        ≤ how_often number (targets_in (node_in inode))
     by number None = omega arith
     by number (Some inode) = omega arith
 
@@ -258,7 +241,8 @@ unpin_keeps inodes object most counted =
     goes number inode false = omega arith
 
     by : (number : ℕ) (inode : Option (Inode ℕ))
-        → how_often number (targets_in (node_in (used_once_less inode))) ≤ how_often number (targets_in (node_in inode))
+        → how_often number (targets_in (node_in (used_once_less inode)))
+        ≤ how_often number (targets_in (node_in inode))
     by number None = omega arith
     by number (Some inode) = goes number inode (nat_le inode.uses 1)
 
@@ -277,22 +261,15 @@ new_keeps inodes new made node most inserted empty counted =
     subst (λ inode. NamesAtMost (tree_of (record { root = new.root; inode = inode; count = new.count })) most)
     (sym inserted)
     (inode_keeps inodes made (Some (record { node = node; uses = 1 })) most counted
-    (λ object.
-    let none : how_often object (targets_in (Some node)) ≡ 0 =
-    ap (λ entries. how_often object (targets entries)) empty in
-    omega arith))
+    (λ object. omega (arith, ap (λ entries. how_often object (targets entries)) empty)))
 
 -- a tree without names
 pub none_named : (tree : Tree ℕ) (most : ℕ → ℕ) → ((number : ℕ) → tree.node number ≡ None) → NamesAtMost tree most
-none_named tree most none object bound =
-    let few : names_below tree object bound ≤ 0 = by bound in omega arith
+none_named tree most none object bound = omega (arith, by bound)
   where
     by : (bound : ℕ) → names_below tree object bound ≤ 0
     by zero = omega arith
-    by (suc bound) =
-        let rest : names_below tree object bound ≤ 0 = by bound in
-        let last : names_at tree object bound ≡ 0 = ap (λ o. how_often object (targets_in o)) (none bound) in
-        omega arith
+    by (suc bound) = omega (arith, by bound, ap (λ o. how_often object (targets_in o)) (none bound))
 
 -- a new node has no entries
 pub no_entries : (directory : ℕ) (content : Content ℕ)

@@ -16,7 +16,8 @@ struct Named {
 
 /// How many names lead to the object of each number, and which directory got the last of them.
 ///
-/// A contract sees the counts alone: the directory is where a search may begin.
+/// A contract sees the counts alone: the directory is a hint, which whoever uses it has to test. A count may be too
+/// high, and is never too low. It stays when its object goes, since a tree does not know that no name leads there.
 #[derive(Debug, Drop)]
 pub struct Names {
     named: Vec<Named>,

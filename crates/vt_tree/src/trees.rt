@@ -320,8 +320,8 @@ impl Tree {
         release(&mut self.slots, object);
     }
 
-    /// The directory that alone has a name for an object, if that is known: an object of several names is to be looked
-    /// for in all directories, and so is one that has one name left of several.
+    /// The directory that alone has names for an object, if the tree knows it. It never does for an object of several
+    /// names, and may not for one that had several.
     pub fn directory_of(&self, object: NodeId) -> Option<NodeId>
         ensures { IfSome result (λ directory. AloneNames (tree_of self.now) object directory) }
     {

@@ -23,7 +23,9 @@ returns c =
       | in_default w ↦
           ap (λ inside. count_of (counts inside.named.items)) w.self-inside-is
           ∙ count_absent (counts items) c.args.object
-          (⊎_elim (λ less. absurd (true≢false (sym (w.in_default.ensures.variant.1 (omega (arith, less, c.index.ensures, c.self.inside.named.ok.0))))))
+          (⊎_elim
+          (λ less. absurd (true≢false (sym (w.in_default.ensures.variant.1
+          (omega (arith, less, c.index.ensures, c.self.inside.named.ok.0))))))
           (λ past. let long = length-map items (λ (named : Named). named.count) in omega (arith, long, past))
           (cases_lt c.args.object (length items)))
     ] in

@@ -26,8 +26,9 @@ pub invariant_of-result : goal.invariant_of-result
 invariant_of-result c =
     let empty = c.in_ok-reserve.ensures.rest_kept
     ∙ ap (λ (slots : Slots). record slots { room = c.reserve.new.self.room }) c.new-slots.ensures in
-    new_keeps (inodes_in c.next-root.result c.reserve.new.self) (inodes_in c.next-root.result c.insert_reserved.new.self)
+    let inodes = inodes_in c.next-root.result in
+    new_keeps (inodes c.reserve.new.self) (inodes c.insert_reserved.new.self)
     c.insert_reserved.result c.new_directory.result _ c.insert_reserved.ensures.inserted
     (ap (λ (node : Node ℕ). entries_of node.content) c.new_directory.ensures)
-    (none_named (nodes_of (inodes_in c.next-root.result c.reserve.new.self)) _
+    (none_named (nodes_of (inodes c.reserve.new.self)) _
     (λ number. ap (λ (slots : Slots). node_in (slot_at slots number)) empty))

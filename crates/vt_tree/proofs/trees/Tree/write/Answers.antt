@@ -1,11 +1,9 @@
-use Rattle.std.proofs.Common.{nat_eq, ap, subst, sym, ◌∙◌}
+use Rattle.std.proofs.Common.{nat_eq, ap, refl, ◌∙◌}
 use Rattle.vt_spec.specs.Inodes.{with_changed}
 use Rattle.vt_spec.specs.Tree.{node_with_bytes}
 use Rattle.vt_tree.specs.TreeValue.{inodes_of}
 use Rattle.vt_spec.proofs.Nodes.{entries-node_with_bytes}
-use Rattle.vt_tree.proofs.NamesKept.{change_keeps}
-use Rattle.vt_tree.specs.Names.{NamesAtMost, count_of}
-use Rattle.vt_spec.specs.Inodes.{tree_of as nodes_of}
+use Rattle.vt_tree.proofs.NamesKept.{change_keeps, counted_as}
 use Rattle.vt_tree.specs.Slots.{inodes_in}
 use Rattle.vt_tree.proofs.trees.Tree.write.Goals as goal
 
@@ -17,7 +15,6 @@ returns c =
 
 pub invariant_of-self : goal.invariant_of-self
 invariant_of-self c =
-    subst (λ inodes. NamesAtMost (nodes_of inodes) (count_of c.self.inside.names))
-    (sym (c.set_bytes.ensures.set c.self.inside.root))
-    (change_keeps (inodes_in c.self.inside.root c.self.inside.slots) c.args.file (node_with_bytes c.args.bytes.items) (count_of c.self.inside.names)
+    counted_as _ _ _ _ (c.set_bytes.ensures.set c.self.inside.root) refl
+    (change_keeps (inodes_in c.self.inside.root c.self.inside.slots) c.args.file (node_with_bytes c.args.bytes.items) _
     (entries-node_with_bytes c.args.bytes.items) c.self.invariant)
