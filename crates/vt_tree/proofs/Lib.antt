@@ -2,3 +2,6 @@ pub mod InodeLemmas
 pub mod PathLemmas
 pub mod MoveLemmas
 pub mod SlotLemmas
+pub mod NameCounts
+pub mod NamesKept
+pub mod NamesCounted

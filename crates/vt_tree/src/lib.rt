@@ -2,6 +2,7 @@
 #![tactic(auto)]
 
 mod changes;
+mod names;
 mod paths;
 mod slots;
 mod trees;

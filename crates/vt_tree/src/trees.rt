@@ -1,5 +1,5 @@
 //! `Tree`, and what its calls change.
-ghost use Rattle.std.specs.Prelude.{◌≡◌, ℕ, ◌^◌, ◌≤◌, ◌+◌, ◌<◌, ◌↔◌, nat_eq, false, [], map, length, drop, take, None, Some, IfOk, OnOk, OnErr, IsOk, IsTrue, option_copied, IsErr};
+ghost use Rattle.std.specs.Prelude.{◌≡◌, ℕ, ◌^◌, ◌≤◌, ◌+◌, ◌<◌, ◌↔◌, nat_eq, false, [], map, length, drop, take, None, Some, IfOk, IfSome, OnOk, OnErr, IsOk, IsTrue, option_copied, IsErr};
 ghost use Rattle.vt_spec.specs.declared.attributes.Kind.TheVariants.{File};
 ghost use Rattle.vt_spec.specs.FileTree.{is_kind_in};
 ghost use Rattle.vt_spec.specs.Fits.{MayReplace, StaysOutside};
@@ -11,12 +11,14 @@ ghost use Rattle.vt_spec.specs.Machine.Descriptors.{overwritten};
 ghost use Rattle.vt_spec.specs.Tree.{is_directory_node, parent_in, entries_in, names_in, bytes_in};
 ghost use Rattle.vt_spec.specs.TreeInvariant.{IsDirectory, entry_at};
 ghost use Rattle.vt_tree.specs.TreeValue.{inodes_of, tree_of, next_number};
+ghost use Rattle.vt_tree.specs.Names.{AloneNames};
 ghost use Rattle.vt_tree.specs.Slots.{most_uses};
 
 use crate::changes::{
     insert_entry, release, remove_entry, remove_object, set_attr, set_bytes, set_opaque,
     set_parent, write_bytes,
 };
+use crate::names::Names;
 use crate::slots::Slots;
 use std::alloc::{AllocError, Global};
 use std::marker::Model;
@@ -27,6 +29,7 @@ use vt_node::{Attr, Node, NodeId, copied_bytes};
 #[derive(Debug, Drop)]
 pub struct Tree {
     slots: Slots,
+    names: Names,
     root: NodeId,
     alloc: Global,
 }
@@ -37,6 +40,12 @@ impl Model for Tree {
     ghost Value = { TreeValue };
 
     ghost view = { λ t. record { root = t.root; slots = t.slots.slots; next = t.slots.next } };
+
+    ghost use Rattle.vt_spec.specs.Inodes.{tree_of as nodes_of};
+    ghost use Rattle.vt_tree.specs.Names.{AreCounted};
+    ghost use Rattle.vt_tree.specs.Slots.{inodes_in};
+
+    ghost invariant = { λ t. AreCounted (nodes_of (inodes_in t.root t.slots)) t.names };
 }
 
 impl Tree {
@@ -48,7 +57,12 @@ impl Tree {
         slots.reserve(1)?;
         let root = slots.next();
         slots.insert_reserved(Node::new_directory(alloc, attr, root));
-        Ok(Tree { slots, root, alloc })
+        Ok(Tree {
+            slots,
+            names: Names::new(alloc),
+            root,
+            alloc,
+        })
     }
 
     /// The number of its root directory.
@@ -171,7 +185,9 @@ impl Tree {
     {
         self.slots.reserve(1)?;
         let id = self.slots.next();
+        self.names.reserve(id)?;
         insert_entry(&mut self.slots, directory, name, id)?;
+        self.names.add(id, directory);
         Ok(self.slots.insert_reserved(node))
     }
 
@@ -194,7 +210,9 @@ impl Tree {
         if self.slots.uses(object) == u64::MAX {
             return Err(AllocError);
         }
+        self.names.reserve(object)?;
         insert_entry(&mut self.slots, directory, name, object)?;
+        self.names.add(object, directory);
         self.slots.count_use(object);
         Ok(())
     }
@@ -208,6 +226,7 @@ impl Tree {
             ≡ changed nat_eq (inodes_of self.old) (Remove directory name.now object) }
     {
         remove_entry(&mut self.slots, directory, name);
+        self.names.take(object);
         remove_object(&mut self.slots, object);
     }
 
@@ -235,7 +254,9 @@ impl Tree {
         insert_entry(&mut self.slots, to, new, object)?;
         remove_entry(&mut self.slots, from, old);
         set_parent(&mut self.slots, object, to);
+        self.names.move_to(object, to);
         if let Some(other) = &replaced {
+            self.names.take(*other);
             remove_object(&mut self.slots, *other);
         }
         Ok(())
@@ -297,6 +318,16 @@ impl Tree {
         ensures { inodes_of self.new ≡ unpinned nat_eq (inodes_of self.old) object }
     {
         release(&mut self.slots, object);
+    }
+
+    /// The directory that alone has names for an object, if the tree knows it. `None` says nothing: an object that has
+    /// several names, or has one left of several, is to be looked for in all directories.
+    pub fn directory_of(&self, object: NodeId) -> Option<NodeId>
+        ensures { IfSome result (λ directory. AloneNames (tree_of self.now) object directory) }
+    {
+        let directory = self.names.last_of_one(object)?;
+        self.slots.get(directory)?.name_ranked(object, 0)?;
+        Some(directory)
     }
 
     // The number that a name of a directory leads to.

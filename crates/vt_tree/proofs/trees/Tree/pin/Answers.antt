@@ -3,6 +3,8 @@ use Rattle.std.proofs.lemmas.Result.{on_ok_weaker}
 use Rattle.vt_spec.specs.Inodes.{pinned}
 use Rattle.vt_tree.specs.TreeValue.{inodes_of}
 use Rattle.vt_tree.proofs.InodeLemmas.{inodes-acquired}
+use Rattle.vt_tree.proofs.NamesKept.{either_counted, pin_keeps}
+use Rattle.vt_tree.specs.Slots.{inodes_in}
 use Rattle.vt_tree.proofs.trees.Tree.pin.Goals as goal
 
 pub returns-clause-ok : goal.returns-clause-ok
@@ -11,3 +13,13 @@ returns-clause-ok c =
     (λ acquired. inodes-acquired c.self.inside.root c.self.inside.slots c.acquire.new.self c.args.object acquired c.acquire.ensures.len
     ∙ ap (λ value. pinned nat_eq (inodes_of value) c.args.object) c.self.view_is)
     c.acquire.ensures.acquired
+
+-- it is pinned, or stays as it is
+pub invariant_of-self : goal.invariant_of-self
+invariant_of-self c =
+    either_counted c.acquire.result c.self.inside.root c.self.inside.slots c.acquire.new.self _ _
+    (on_ok_weaker c.acquire.result
+    (λ acquired. inodes-acquired c.self.inside.root c.self.inside.slots c.acquire.new.self c.args.object acquired
+    c.acquire.ensures.len) c.acquire.ensures.acquired)
+    c.acquire.ensures.err
+    (pin_keeps (inodes_in c.self.inside.root c.self.inside.slots) c.args.object _ c.self.invariant) c.self.invariant

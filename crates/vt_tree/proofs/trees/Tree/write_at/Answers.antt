@@ -4,6 +4,9 @@ use Rattle.vt_spec.specs.Machine.Descriptors.{overwritten}
 use Rattle.vt_spec.specs.Inodes.{with_changed}
 use Rattle.vt_spec.specs.Tree.{bytes_in, node_with_bytes}
 use Rattle.vt_tree.specs.TreeValue.{inodes_of, tree_of}
+use Rattle.vt_spec.proofs.Nodes.{entries-node_with_bytes}
+use Rattle.vt_tree.proofs.NamesKept.{change_keeps, either_counted}
+use Rattle.vt_tree.specs.Slots.{inodes_in, node_at}
 use Rattle.vt_tree.proofs.trees.Tree.write_at.Goals as goal
 
 pub returns-clause-ok : goal.returns-clause-ok
@@ -14,3 +17,14 @@ returns-clause-ok c =
     (node_with_bytes (overwritten c.args.offset c.args.bytes.now
     (bytes_in ((tree_of value).node c.args.file))))) c.self.view_is)
     (c.write_bytes.ensures.ok c.self.inside.root)
+
+-- it is written, or stays as it is
+pub invariant_of-self : goal.invariant_of-self
+invariant_of-self c =
+    let slots = c.self.inside.slots in
+    let bytes = overwritten c.args.offset c.args.bytes.now (bytes_in (node_at slots c.args.file)) in
+    either_counted c.write_bytes.result c.self.inside.root slots c.write_bytes.new.slots _ _
+    (c.write_bytes.ensures.ok c.self.inside.root) c.write_bytes.ensures.err
+    (change_keeps (inodes_in c.self.inside.root slots) c.args.file (node_with_bytes bytes) _
+    (entries-node_with_bytes bytes) c.self.invariant)
+    c.self.invariant
