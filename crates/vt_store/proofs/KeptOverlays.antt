@@ -1,5 +1,5 @@
 -- The overlays as the map keeps them, and as contracts see them.
-use Rattle.std.proofs.Common.{◌≡◌, ◌<◌, refl, sym, ap, subst, ◌∙◌, ℕ, Bool, true, false, cond, ◌&&◌, nat_eq, nat_lt, List, [], ◌∷◌, ◌++◌, map, filter, not, Option, Some, None, option_map, is_some}
+use Rattle.std.proofs.Common.{◌≡◌, ◌<◌, refl, sym, ap, subst, ◌∙◌, ℕ, Bool, true, false, cond, ◌&&◌, nat_eq, nat_lt, List, [], ◌∷◌, ◌++◌, map, filter, not, slice_get, eq-eqb, Option, Some, None, option_map, is_some}
 use Rattle.std.specs.Prelude.{IfSome, IsSome, length}
 use Rattle.std.specs.List.{list_all}
 use Rattle.std.specs.FinMap.Entries.{by_order, put}
@@ -46,6 +46,16 @@ same a b e = sym (eqb-true a b e)
 -- where nothing is kept, nothing is found, and contracts see no overlays
 pub none_found : (f : ℕ) (es : List (FilesystemId × KeptOverlay)) → length es ≡ 0 → None ≡ lookup (is_key f) es
 none_found f es none = sym (ap (lookup (is_key f)) (nil_from_length es none))
+
+-- the first overlay is found under its count
+pub first_found : (id first : FilesystemId) (x : KeptOverlay) (es : List (FilesystemId × KeptOverlay))
+    → Some (first, x) ≡ slice_get es 0 → key_eq first id ≡ true → Some x ≡ lookup (is_key id.count) es
+first_found id first x [] at is = absurd cc
+first_found id first x (e ∷ es) at is =
+    let here : e ≡ (first, x) = cc in
+    sym (ap (λ e. lookup (is_key id.count) (e ∷ es)) here
+    ∙ ap (λ b. cond b (Some x) (lookup (is_key id.count) es))
+    (eq-eqb id.count first.count (sym (eqb-true first.count id.count is))))
 
 pub none_kept : (es : List (FilesystemId × KeptOverlay)) → length es ≡ 0 → kept_overlays es ≡ []
 none_kept es none = ap kept_overlays (nil_from_length es none)

@@ -1,9 +1,9 @@
 -- The layers of all overlays, as overlays come, change and go.
-use Rattle.std.proofs.Common.{◌≡◌, ◌<◌, ◌^◌, refl, sym, ap, ◌∙◌, ℕ, Bool, true, false, cond, not, ◌||◌, nat_eq, List, [], ◌∷◌, ◌++◌, append-nil, append_assoc, None, Some, option_map, T, subst}
+use Rattle.std.proofs.Common.{Option, ◌≡◌, ◌<◌, ◌^◌, arith, is_some, lt-ltb, ne_eqb, refl, sym, ap, ◌∙◌, ℕ, Bool, true, false, cond, not, ◌||◌, nat_eq, List, [], ◌∷◌, ◌++◌, append-nil, append_assoc, None, Some, option_map, T, subst}
 use Rattle.std.specs.List.{AllByRecursion, list_all, list_any}
 use Rattle.std.specs.Map.{keys_of, lookup}
-use Rattle.std.specs.Prelude.{IsPermutation, count_by, nat_lt}
-use Rattle.std.proofs.lemmas.Bool.{eqb-true}
+use Rattle.std.specs.Prelude.{IsPermutation, count_by, min, nat_lt}
+use Rattle.std.proofs.lemmas.Bool.{eqb-true, ltb-true}
 use Rattle.std.proofs.lemmas.List.Concat.{flat_map-append}
 use Rattle.std.proofs.lemmas.List.Folds.{list_any-append}
 use Rattle.std.proofs.lemmas.List.Sorted.{All-permutation, IsPermutation-append_comm, IsPermutation-append_left, IsPermutation-append_right, IsPermutation-refl, IsPermutation-trans, sum_by-IsPermutation}
@@ -12,6 +12,7 @@ use Rattle.indexmap.specs.IndexMap.{IndexMap, WritesThrough, get_by}
 use Rattle.vt_location.proofs.OrderLemmas.{apart-below, rises, rises-in_order, same_by}
 use Rattle.vt_location.specs.declared.numbers.FilesystemId.{FilesystemId}
 use Rattle.vt_merge.specs.declared.layers.LayerRef.{LayerRef}
+use Rattle.vt_spec.proofs.Options.{none_is_some}
 use Rattle.vt_spec.proofs.Truths.{T_and_left, T_and_right}
 use Rattle.vt_store.proofs.KeptOverlays.{added, count_of, entry_kept-entries, entry_kept-kept, in_order, is_key, key_eq, of_count, own_added, own_removed, own_written, removed, writes}
 use Rattle.vt_store.proofs.OverlaysGo.{absent_removed}
@@ -114,13 +115,19 @@ counted_in_any_order old new counts same is = record {
 
 -- What is kept is so still where an overlay is put in,
 pub kept_added : (es new : List (FilesystemId × KeptOverlay)) (k : FilesystemId) (x : KeptOverlay)
-    (lowers : List LayerRef) (before after : LayerCounts) → AreKept es before
+    (lowers : List LayerRef) (before after : LayerCounts) (oldest : ℕ) → AreKept es before oldest
     → x.overlay.number ≡ k → x.overlay.lowers ≡ lowers
     → list_all (λ (entry : OverlayEntry). nat_lt entry.count k.count) (kept_overlays es) ≡ true
     → ((q : FilesystemId) → lookup (key_eq q) new ≡ cond (key_eq k q) (Some x) (lookup (key_eq q) es))
-    → ((all : List LayerRef) → AreCounted all before → AreCounted (all ++ lowers) after) → AreKept new after
-kept_added es new k x lowers before after is number layers above comes counts = record {
+    → ((all : List LayerRef) → AreCounted all before → AreCounted (all ++ lowers) after)
+    → AreKept new after (min oldest k.count)
+kept_added es new k x lowers before after oldest is number layers above comes counts = record {
   own = own_added es new k x is.own number comes;
+  older = λ q less.
+      let below : q.count < min oldest k.count = ltb-true q.count (min oldest k.count) less in
+      comes q
+      ∙ (λ i. cond (ne_eqb k.count q.count (λ same. omega (arith, same, below)) i) (Some x)
+      (is.older q (lt-ltb q.count oldest (omega (arith, below))) i));
   layers = subst (λ all. AreCounted all after)
       (ap (λ more. all_layers (kept_overlays es) ++ more) (sym layers)
       ∙ sym (layers_with (kept_overlays es) (kept_overlay (k, x)))
@@ -130,12 +137,13 @@ kept_added es new k x lowers before after is number layers above comes counts = 
 
 -- where one is taken out,
 pub kept_removed : (f : ℕ) (es new : List (FilesystemId × KeptOverlay)) (x : KeptOverlay)
-    (before after : LayerCounts) → AreKept es before → Some x ≡ lookup (is_key f) es
+    (before after : LayerCounts) (oldest : ℕ) → AreKept es before oldest → Some x ≡ lookup (is_key f) es
     → ((q : FilesystemId) → lookup (key_eq q) new ≡ cond (nat_eq f q.count) None (lookup (key_eq q) es))
     → ((left : List LayerRef) → AreCounted (x.overlay.lowers ++ left) before → AreCounted left after)
-    → AreKept new after
-kept_removed f es new x before after is there goes counts = record {
+    → AreKept new after oldest
+kept_removed f es new x before after oldest is there goes counts = record {
   own = own_removed f es new is.own goes;
+  older = λ q less. goes q ∙ nothing (nat_eq f q.count) (lookup (key_eq q) es) (is.older q less);
   layers = subst (λ all. AreCounted (all_layers all) after) (sym (removed f es new goes))
       (counts (all_layers (without_overlay f (kept_overlays es)))
       (counted_in_any_order (all_layers (kept_overlays es))
@@ -143,13 +151,20 @@ kept_removed f es new x before after is there goes counts = record {
       (layers_without f (of_count f x) es (entry_kept-kept f es ∙ ap (option_map (of_count f)) (sym there)))
       is.layers));
 }
+  where
+    nothing : (b : Bool) (o : Option KeptOverlay) → o ≡ None → cond b None o ≡ None
+    nothing true o e = refl
+    nothing false o e = e
 
 -- and where the mounts of one change
 pub kept_written : {S : Type 0} (f : ℕ) (change : ℕ → ℕ) (m n : IndexMap FilesystemId KeptOverlay S)
-    (x w : KeptOverlay) (counts : LayerCounts) → AreKept m.entries counts → get_by (is_key f) m ≡ Some x
-    → w ≡ record x { mounts = change x.mounts } → WritesThrough key_eq (is_key f) m w n → AreKept n.entries counts
-kept_written f change m n x w counts is there so through = record {
+    (x w : KeptOverlay) (counts : LayerCounts) (oldest : ℕ) → AreKept m.entries counts oldest → get_by (is_key f) m ≡ Some x
+    → w ≡ record x { mounts = change x.mounts } → WritesThrough key_eq (is_key f) m w n
+    → AreKept n.entries counts oldest
+kept_written f change m n x w counts oldest is there so through = record {
   own = own_written f m n x w is.own there (ap (λ (one : KeptOverlay). one.overlay) so) through;
+  older = λ q less.
+      by q less (nat_eq f q.count) (eqb-true f q.count) (((through.3 (ap is_some there)).0 q));
   layers = subst (λ layers. AreCounted layers counts)
       (sym (ap all_layers (writes f (λ one. record one { mounts = change one.mounts })
       (λ entry. record entry { mounts = change entry.mounts }) m n (kept_overlays m.entries) x w refl there so
@@ -157,3 +172,10 @@ kept_written f change m n x w counts is there so through = record {
       ∙ layers_changed f (λ entry. record entry { mounts = change entry.mounts }) (λ entry. refl)
       (kept_overlays m.entries))) is.layers;
 }
+  where
+    by : (q : FilesystemId) → nat_lt q.count oldest ≡ true → (b : Bool) → (b ≡ true → f ≡ q.count)
+        → lookup (is_key q.count) n.entries ≡ cond b (Some w) (lookup (is_key q.count) m.entries)
+        → lookup (is_key q.count) n.entries ≡ None
+    by q less true here written =
+        none_is_some x (sym (is.older q less) ∙ ap (λ count. lookup (is_key count) m.entries) (sym (here refl)) ∙ there)
+    by q less false here written = written ∙ is.older q less

@@ -17,3 +17,4 @@ pub mod LayersAbove
 pub mod LayersKept
 pub mod LayersOver
 pub mod AnyNamed
+pub mod AloneNamed

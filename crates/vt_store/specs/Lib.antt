@@ -1,3 +1,4 @@
+pub mod Numbered
 pub mod Tallies
 pub mod LayerTests
 pub mod LayersAt

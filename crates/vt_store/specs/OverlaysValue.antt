@@ -9,6 +9,7 @@ use Rattle.vt_overlay.specs.MergedTree.{OverlayValue}
 use Rattle.vt_store.specs.declared.layer_counts.LayerCounts.{LayerCounts}
 use Rattle.vt_store.specs.declared.overlays.KeptOverlay.{KeptOverlay}
 use Rattle.vt_store.specs.LayersAt.{AreCounted}
+use Rattle.vt_store.specs.Numbered.{AreNotOlder}
 
 -- an overlay, the count of its filesystem, and how many mounts show it
 pub record OverlayEntry : Type 0 where
@@ -41,9 +42,10 @@ AreOwn kept =
 abbrev pub all_layers : Overlays → List LayerRef
 all_layers overlays = flat_map (λ entry. entry.overlay.lowers) overlays
 
--- each overlay is kept under its own number, and their layers are counted
-pub record AreKept (kept : List (FilesystemId × KeptOverlay)) (counts : LayerCounts) : Type 0 where
+-- each overlay is kept under its own number, none is older than this number, and their layers are counted
+pub record AreKept (kept : List (FilesystemId × KeptOverlay)) (counts : LayerCounts) (oldest : ℕ) : Type 0 where
   pub own : AreOwn kept
+  pub older : AreNotOlder oldest kept
   pub layers : AreCounted (all_layers (kept_overlays kept)) counts
 
 abbrev pub entry_kept : Overlays → ℕ → Option OverlayEntry

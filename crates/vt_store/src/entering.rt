@@ -24,7 +24,7 @@ impl Store {
     /// Puts in an overlay of these lower layers, the highest first, which no mount shows yet. Its layers are not held:
     /// `hold_layers_of` holds them. Its number must be above those of all other overlays.
     ///
-    /// It fails if an allocation does.
+    /// It fails if an allocation does, or after 2^64 - 1 layers in all.
     pub fn enter_overlay(
         &mut self,
         filesystem: FilesystemId,

@@ -14,9 +14,10 @@ use vt_node::NodeId;
 
 impl Store {
     /// Whether an inode of a plain tree lies in a layer of an overlay: it is the layer's directory, a directory under
-    /// that, or has a name in one of these. A file is looked for once in all directories of its tree, if a layer is
-    /// there. A directory costs a look-up for each directory above it, however many overlays there are. Directories must
-    /// be named in their parents, as in every tree of a world. It does not allocate.
+    /// that, or has a name in one of these. If a layer is in its filesystem, it costs a look-up for each directory above
+    /// it, however many overlays there are; but a file of several names, or with one name left of several, is looked for
+    /// in all directories of its tree. Directories must be named in their parents, as in every tree of a world. It does
+    /// not allocate.
     pub fn is_in_layer(&self, inode: InodeRef) -> bool
         requires { ParentsAreNamed (files_at self.now.plain inode.filesystem.count).tree }
         ensures { result ≡ is_in_layer self.now inode.filesystem.count (inode_of inode) }
@@ -40,8 +41,28 @@ fn lies_in_any(plain: &Filesystems, overlays: &Overlays, inode: InodeRef) -> boo
     }
 }
 
-// Whether a directory in a layer of one of the overlays has a name for a file. It looks at each slot of the tree.
+// Whether a directory in a layer of one of the overlays has a name for a file. Where one directory alone has a name for
+// it, the tree mostly knows which.
 fn has_name_in_layer(plain: &Filesystems, overlays: &Overlays, file: InodeRef) -> bool
+    requires { ParentsAreNamed (files_at plain.now file.filesystem.count).tree }
+    ensures { result
+        ≡ list_any (names_in_layer plain.now overlays.now file.filesystem.count (inode_of file))
+        (files_at plain.now file.filesystem.count).numbers }
+{
+    let Some(tree) = plain.get(file.filesystem) else {
+        return false;
+    };
+    tree.numbers_fit();
+    match tree.directory_of(file.node()) {
+        Some(directory) => {
+            overlays.have_layer_over(plain, InodeRef::new(file.filesystem, directory))
+        }
+        None => finds_name_in_layer(plain, overlays, file),
+    }
+}
+
+// Whether a directory in a layer of one of the overlays has a name for a file. It looks at each slot of the tree.
+fn finds_name_in_layer(plain: &Filesystems, overlays: &Overlays, file: InodeRef) -> bool
     requires { ParentsAreNamed (files_at plain.now file.filesystem.count).tree }
     ensures { result
         ≡ list_any (names_in_layer plain.now overlays.now file.filesystem.count (inode_of file))

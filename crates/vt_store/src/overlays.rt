@@ -5,6 +5,7 @@ ghost use Rattle.std.specs.Map.{lookup};
 ghost use Rattle.vt_location.specs.Locations.{inode_of};
 ghost use Rattle.vt_fs.specs.FilesystemsValue.{files_at};
 ghost use Rattle.vt_fs.specs.Laws.{ParentsAreNamed};
+ghost use Rattle.vt_store.specs.Numbered.{AreNotOlder};
 ghost use Rattle.vt_tree.specs.Slots.{most_uses};
 
 use crate::layer_counts::LayerCounts;
@@ -30,24 +31,29 @@ struct KeptOverlay {
 pub(crate) struct Overlays {
     by_number: IndexMap<FilesystemId, KeptOverlay>,
     layers: LayerCounts,
+    // No overlay has a smaller number.
+    oldest: u64,
 }
 
-// The overlay of a number. Mostly there are none, and then no hash is taken.
+// The overlay of a number. Mostly a filesystem is looked at that is older than all overlays, and then no hash is taken.
 #[inline(always)]
 fn found_under(
     by_number: &IndexMap<FilesystemId, KeptOverlay>,
+    oldest: u64,
     id: FilesystemId,
 ) -> Option<&KeptOverlay>
+    requires { AreNotOlder oldest by_number.now.entries }
     ensures { option_copied result ≡ lookup (λ other. nat_eq id.count other.count) by_number.now.entries }
 {
-    if by_number.is_empty() {
+    if id.count < oldest {
         None
     } else {
         found_by_hash(by_number, id)
     }
 }
 
-// The same where there are some. It is a call of its own, so that looks at plain trees stay small.
+// The same of a filesystem that may be an overlay. It is a call of its own, so that looks at plain trees stay small.
+// Mostly there is one overlay: the first one is compared before a hash is taken.
 #[inline(never)]
 fn found_by_hash(
     by_number: &IndexMap<FilesystemId, KeptOverlay>,
@@ -55,7 +61,10 @@ fn found_by_hash(
 ) -> Option<&KeptOverlay>
     ensures { option_copied result ≡ lookup (λ other. nat_eq id.count other.count) by_number.now.entries }
 {
-    by_number.get(&id)
+    match by_number.first() {
+        Some((first, found)) if *first == id => Some(found),
+        _ => by_number.get(&id),
+    }
 }
 
 impl Model for Overlays {
@@ -65,7 +74,7 @@ impl Model for Overlays {
 
     ghost view = { λ overlays. kept_overlays overlays.by_number.entries };
 
-    ghost invariant = { λ overlays. AreKept overlays.by_number.entries overlays.layers };
+    ghost invariant = { λ overlays. AreKept overlays.by_number.entries overlays.layers overlays.oldest };
 }
 
 impl Overlays {
@@ -80,6 +89,7 @@ impl Overlays {
         Overlays {
             by_number: IndexMap::new(alloc),
             layers: LayerCounts::new(alloc),
+            oldest: u64::MAX,
         }
     }
 
@@ -91,13 +101,13 @@ impl Overlays {
         self.by_number.is_empty()
     }
 
-    /// The overlay of this number, if there is one. Where there are none, no hash is taken.
+    /// The overlay of this number, if there is one. No hash is taken for one older than all.
     #[inline(always)]
     pub fn get(&self, id: FilesystemId) -> Option<&Overlay>
         ensures value { option_copied result ≡ overlay_of self.now id.count }
         ensures own { IfSome result (λ overlay. overlay.now.number ≡ id) }
     {
-        let found = found_under(&self.by_number, id)?;
+        let found = found_under(&self.by_number, self.oldest, id)?;
         Some(&found.overlay)
     }
 
@@ -115,6 +125,7 @@ impl Overlays {
         self.layers.reserve(lowers.len())?;
         self.by_number.reserve(1)?;
         self.layers.add(lowers.as_slice());
+        self.oldest = self.oldest.min(id.count);
         let overlay = Overlay::new(id, lowers, mounter);
         // It cannot fail: there is room.
         let _ = self
@@ -140,7 +151,7 @@ impl Overlays {
     pub fn mounts(&self, id: FilesystemId) -> Option<u64>
         ensures { result ≡ option_map (λ entry. entry.mounts) (entry_kept self.now id.count) }
     {
-        let found = found_under(&self.by_number, id)?;
+        let found = found_under(&self.by_number, self.oldest, id)?;
         Some(found.mounts)
     }
 

@@ -1,6 +1,5 @@
-use Rattle.vt_store.proofs.KeptOverlays.{none_found}
+use Rattle.std.proofs.Common.{lt-ltb, sym}
 use Rattle.vt_store.proofs.overlays.found_under.Goals as goal
 
-pub returns-then-is_empty : goal.returns-then-is_empty
-returns-then-is_empty c =
-    none_found c.args.id.count c.args.by_number.now.entries (c.is_empty.ensures.0 c.if-is_empty.true)
+pub returns-then-id-oldest : goal.returns-then-id-oldest
+returns-then-id-oldest c = sym (c.requires c.args.id (lt-ltb c.args.id.count c.args.oldest c.if-id-oldest.true))

@@ -12,13 +12,14 @@ use Rattle.vt_store.specs.OverlaysValue.{AreKept, OverlayEntry, kept_overlays}
 pub invariant_of-self : goal.invariant_of-self
 invariant_of-self c = record {
   own = c.self.invariant.own;
+  older = c.self.invariant.older;
   layers = c.reserve.ensures.same _ c.self.invariant.layers;
 }
 
 pub invariant_of-self-in_err-reserve-2 : goal.invariant_of-self-in_err-reserve-2
 invariant_of-self-in_err-reserve-2 c =
-    subst (λ entries. AreKept entries c.reserve.new.self) (sym c.reserve-2.ensures.entries)
-    (record { own = c.self.invariant.own; layers = c.reserve.ensures.same _ c.self.invariant.layers })
+    subst (λ entries. AreKept entries c.reserve.new.self c.self.inside.oldest) (sym c.reserve-2.ensures.entries)
+    (record { own = c.self.invariant.own; older = c.self.invariant.older; layers = c.reserve.ensures.same _ c.self.invariant.layers })
 
 -- what holds where it is put in, once there is room
 where_ok : {T E P : Type 0} (r : Result T E) → IsOk r → OnOk r P → P
@@ -29,17 +30,18 @@ pub invariant_of-self-2 : goal.invariant_of-self-2
 invariant_of-self-2 c =
     let room : 0 < spare c.reserve-2.new.self = omega (arith, c.in_ok-reserve-2.ensures.ok) in
     let updates = where_ok c.insert.result (c.insert.ensures.succeeds room) c.insert.ensures.updates in
-    kept_added c.reserve-2.new.self.entries c.insert.new.self.entries c.args.id _ c.args.lowers.items
-    c.reserve.new.self c.add.new.self
-    (subst (λ entries. AreKept entries c.reserve.new.self) (sym c.reserve-2.ensures.entries)
-    (record { own = c.self.invariant.own; layers = c.reserve.ensures.same _ c.self.invariant.layers }))
+    subst (λ oldest. AreKept c.insert.new.self.entries c.add.new.self oldest) (sym c.min-self-inside.ensures)
+    (kept_added c.reserve-2.new.self.entries c.insert.new.self.entries c.args.id _ c.args.lowers.items
+    c.reserve.new.self c.add.new.self c.self.inside.oldest
+    (subst (λ entries. AreKept entries c.reserve.new.self c.self.inside.oldest) (sym c.reserve-2.ensures.entries)
+    (record { own = c.self.invariant.own; older = c.self.invariant.older; layers = c.reserve.ensures.same _ c.self.invariant.layers }))
     (ap (λ (overlay : OverlayValue). overlay.number) c.new-overlay.ensures)
     (ap (λ (overlay : OverlayValue). overlay.lowers) c.new-overlay.ensures)
     (ap (λ all. list_all (λ (entry : OverlayEntry). nat_lt entry.count c.args.id.count) all)
     (ap kept_overlays c.reserve-2.ensures.entries ∙ c.self.view_is) ∙ c.requires)
     updates.0
     (λ all counted. subst (λ lowers. AreCounted (all ++ lowers) c.add.new.self) c.as_slice.ensures.value
-    (c.add.ensures all counted))
+    (c.add.ensures all counted)))
 
 pub returns-clause-ok : goal.returns-clause-ok
 returns-clause-ok c =

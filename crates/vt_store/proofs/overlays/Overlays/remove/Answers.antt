@@ -18,12 +18,12 @@ returns-in_err-overlay-clause-removed c =
 
 pub invariant_of-self : goal.invariant_of-self
 invariant_of-self c =
-    subst (λ entries. AreKept entries c.self.inside.layers) (sym c.in_err-overlay.ensures.unchanged) c.self.invariant
+    subst (λ entries. AreKept entries c.self.inside.layers c.self.inside.oldest) (sym c.in_err-overlay.ensures.unchanged) c.self.invariant
 
 pub invariant_of-self-2 : goal.invariant_of-self-2
 invariant_of-self-2 c =
     kept_removed c.args.id.count c.self.inside.by_number.entries _ c.in_ok-overlay.field-0 c.self.inside.layers
-    c.take.new.self c.self.invariant (sym c.in_ok-overlay.was ∙ c.swap_remove.ensures.value)
+    c.take.new.self c.self.inside.oldest c.self.invariant (sym c.in_ok-overlay.was ∙ c.swap_remove.ensures.value)
     c.swap_remove.ensures.updates.0
     (λ left counted. c.take.ensures left (subst (λ lowers. AreCounted (lowers ++ left) c.self.inside.layers)
     (sym c.lowers.ensures) counted))

@@ -4,7 +4,7 @@ use Rattle.std.specs.Prelude.{count_by, is_some}
 use Rattle.vt_fs.specs.FilesystemsValue.{files_at, filled_from}
 use Rattle.vt_location.specs.Locations.{inode_of}
 use Rattle.vt_location.specs.Numbers.{exchanged}
-use Rattle.vt_store.proofs.locks.has_name_in_layer.Given as goal
+use Rattle.vt_store.proofs.locks.finds_name_in_layer.Given as goal
 use Rattle.vt_store.specs.Locks.{names_in_layer}
 
 -- the slots that are left have as many inodes as are left, and a directory in a layer has a name for the file where one
