@@ -33,6 +33,17 @@ impl Ascending {
         }
     }
 
+    /// A single mount. It does not allocate.
+    pub(crate) fn of(mount: MountId) -> Self
+        ensures { held result.one result.many ≡ mount ∷ [] }
+    {
+        Ascending {
+            one: Some(mount),
+            many: None,
+            reserved: 0,
+        }
+    }
+
     /// The mounts, in order.
     pub(crate) fn as_slice(&self) -> &[MountId]
         ensures { result.now ≡ held self.now.one self.now.many }

@@ -5,6 +5,7 @@ ghost use Rattle.vt_mount.specs.Rising.{inserted, same_id};
 
 use crate::ascending::Ascending;
 use indexmap::IndexMap;
+use indexmap::map::Entry;
 use std::alloc::{AllocError, Global};
 use std::hash::Hash;
 use vt_location::MountId;
@@ -61,8 +62,13 @@ impl<K: Eq + Hash + Copy + Drop> MountsBy<K> {
         ensures err { OnErr result ((q : K) → listed K.eq q self.new ≡ listed K.eq q self.old) }
     {
         let alloc = *self.lists.allocator();
-        let list = self.lists.entry(key)?.or_insert(Ascending::new());
-        list.add(alloc, mount)
+        match self.lists.entry(key)? {
+            Entry::Occupied(entry) => entry.into_mut().add(alloc, mount),
+            Entry::Vacant(entry) => {
+                entry.insert(Ascending::of(mount));
+                Ok(())
+            }
+        }
     }
 
     /// Inserts a mount under a key, where room is reserved, in the order of numbers. It does not allocate.
