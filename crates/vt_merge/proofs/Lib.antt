@@ -1,4 +1,5 @@
 pub mod Cuts
+pub mod EntriesFound
 pub mod EntriesSeen
 pub mod GoingUp
 pub mod LayersLeft
@@ -7,6 +8,7 @@ pub mod NamesHad
 pub mod NamesSorted
 pub mod NamesTaken
 pub mod NamesThere
+pub mod Narrowed
 pub mod TreesLent
 pub mod UnderNames
 pub mod PathEnds

@@ -1,28 +1,22 @@
 -- The names of directories that are merged, and what they show under a name.
-use Rattle.std.proofs.Common.{◌≡◌, ◌∙◌, ◌+◌, ◌++◌, ◌∷◌, ◌<◌, ◌||◌, [], Bool, List, None, Option, Some, ap, append_assoc, drop, false, get_or, is_some, length, map, not, option_and_then, option_map, refl, sym, true, true≢false, ℕ}
+use Rattle.std.proofs.Common.{◌≡◌, ◌∙◌, ◌+◌, ◌++◌, ◌∷◌, ◌<◌, ◌||◌, [], Bool, List, None, Option, Some, ap, append_assoc, drop, false, get_or, is_some, length, map, option_and_then, refl, sym, true, true≢false, ℕ}
 use Rattle.std.proofs.lemmas.List.{drop_more}
 use Rattle.std.specs.FinMap.Entries.{is_some-find}
 use Rattle.std.specs.List.{list_any}
 use Rattle.std.specs.Ordering.{eq_by_cmp}
-use Rattle.vt_spec.specs.declared.attributes.Kind.TheVariants.{White}
-use Rattle.vt_spec.specs.FileTree.{is_kind_in}
 use Rattle.vt_spec.specs.Lists.{then_some, when}
 use Rattle.vt_spec.specs.Machine.Layers.{view_of}
 use Rattle.vt_spec.specs.Machine.Renaming.{renamed_entry, renamed_node}
 use Rattle.vt_spec.specs.Machine.Views.{Shown, View, hides, shown_over}
-use Rattle.vt_spec.specs.Tree.{Content, Entries, Node, Tree, entries_in, name_cmp, names_in}
+use Rattle.vt_spec.specs.Tree.{Content, Entries, Node, entries_in, name_cmp, names_in}
 use Rattle.vt_spec.specs.Tree.Content.{Directory, Regular, Symlink, Whiteout}
 use Rattle.vt_spec.specs.TreeInvariant.{entry_at}
 use Rattle.vt_laws_layers.specs.Layers.Directories.{shown_in}
-use Rattle.vt_location.specs.declared.locations.InodeRef.{InodeRef}
-use Rattle.vt_location.specs.declared.numbers.FilesystemId.{FilesystemId}
 use Rattle.vt_location.specs.Locations.{inode_of}
 use Rattle.vt_location.specs.Numbers.{exchanged}
-use Rattle.vt_tree.specs.TreeValue.{TreeValue}
-use Rattle.vt_fs.specs.FilesystemsValue.{FilesystemEntry, Filesystems, entry_of, files_at, node_seen}
-use Rattle.vt_merge.specs.LayerValue.{names_had, opened, placed_views, tree_seen}
+use Rattle.vt_fs.specs.FilesystemsValue.{Filesystems, files_at, node_seen}
+use Rattle.vt_merge.specs.LayerValue.{names_had, opened, placed_views}
 use Rattle.vt_merge.specs.declared.layers.MergedDirectory.{MergedDirectory}
-use Rattle.vt_merge.proofs.TreesLent.{tree_lent}
 
 -- a node has the same names by slots and by numbers
 names-renamed : (there back : ℕ → ℕ) (entries : Entries ℕ)
@@ -57,55 +51,14 @@ names_more fs merged index default all names new within so_far is grown =
     ∙ so_far
 
 -- what one directory shows under a name, and those below it
-abbrev own_shows : View ℕ → ℕ → Option ℕ → Option (Shown ℕ) → Option (Shown ℕ)
+abbrev pub own_shows : View ℕ → ℕ → Option ℕ → Option (Shown ℕ) → Option (Shown ℕ)
 own_shows view layer found lower =
     shown_over view layer (option_and_then (λ next. Some next) found)
     (hides (then_some (option_and_then (λ next. Some next) found) view.node) || false) lower
 
-when_is_some : {A : Type 0} (b : Bool) (a : A) → is_some (when b a) ≡ b
+pub when_is_some : {A : Type 0} (b : Bool) (a : A) → is_some (when b a) ≡ b
 when_is_some true a = refl
 when_is_some false a = refl
-
--- of directories that are looked through one after the other
-module _ (fs : Filesystems) (merged : List MergedDirectory) (index : ℕ) (default : MergedDirectory) (name : List ℕ)
-    (lent : Option TreeValue) (within : index < length merged)
-    (is : lent ≡ option_map (λ (entry : FilesystemEntry). entry.tree)
-    (entry_of fs (get_or merged index default).directory.filesystem.count)) where
-  abbrev here : MergedDirectory
-  here = get_or merged index default
-
-  abbrev tree : Tree ℕ
-  tree = (files_at fs here.directory.filesystem.count).tree
-
-  abbrev lower : Option (Shown ℕ)
-  lower = shown_in (placed_views fs (drop (index + 1) merged)) (name ∷ [])
-
-  step : (found : Option ℕ) → found ≡ entry_at (tree_seen here.directory.filesystem.count lent)
-      (inode_of here.directory) name
-      → shown_in (placed_views fs (drop index merged)) (name ∷ [])
-      ≡ own_shows (view_of (opened fs here.directory)) here.layer found lower
-  step found at =
-      ap (λ l. shown_in (placed_views fs l) (name ∷ [])) (drop_more merged index default within)
-      ∙ ap (λ o. own_shows (view_of (opened fs here.directory)) here.layer o lower)
-      (sym (at ∙ ap (λ t. entry_at t (inode_of here.directory) name)
-      (tree_lent fs here.directory.filesystem.count lent is)))
-
-  pub goes_lower : None ≡ entry_at (tree_seen here.directory.filesystem.count lent) (inode_of here.directory) name
-      → shown_in (placed_views fs (drop index merged)) (name ∷ []) ≡ lower
-  goes_lower none = step None none
-
-  pub first_shows : (object : InodeRef) (white : Bool)
-      → Some (inode_of object) ≡ entry_at (tree_seen here.directory.filesystem.count lent)
-      (inode_of here.directory) name
-      → object.filesystem ≡ here.directory.filesystem
-      → white ≡ is_kind_in White ((files_at fs object.filesystem.count).tree.node (inode_of object))
-      → not white ≡ is_some (shown_in (placed_views fs (drop index merged)) (name ∷ []))
-  first_shows object white at same is_white =
-      ap not (is_white ∙ ap (λ (id : FilesystemId). is_kind_in White ((files_at fs id.count).tree.node
-      (inode_of object))) same)
-      ∙ sym (ap is_some (step (Some (inode_of object)) at)
-      ∙ when_is_some (not (is_kind_in White (tree.node (inode_of object))))
-      (record { layer = here.layer; object = inode_of object }))
 
 -- what they show has a name there
 abbrev pub is_name : List ℕ → List ℕ → Bool

@@ -1,2 +1,3 @@
 pub mod LayerValue
 pub mod Climbed
+pub mod EntryValue

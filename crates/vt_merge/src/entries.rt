@@ -79,8 +79,8 @@ pub(crate) fn directory_at(
     }
 }
 
-// Whether it is a whiteout.
-pub(crate) fn is_whiteout(trees: &Filesystems, inode: InodeRef) -> bool
+/// Whether it is a whiteout.
+pub fn is_whiteout(trees: &Filesystems, inode: InodeRef) -> bool
     ensures { result
         ≡ is_kind_in White ((files_at trees.now inode.filesystem.count).tree.node (inode_of inode)) }
 {

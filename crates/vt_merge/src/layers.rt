@@ -35,3 +35,10 @@ impl Default for MergedDirectory {
         }
     }
 }
+
+/// An entry of a directory of a layer, and the inode to which it leads, which may be a whiteout.
+#[derive(Clone, Copy, Debug)]
+pub struct LayerEntry {
+    pub above: MergedDirectory,
+    pub object: InodeRef,
+}

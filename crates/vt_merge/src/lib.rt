@@ -12,10 +12,10 @@ mod showing;
 mod ways;
 
 pub use climbing::{Under, WayDown, way_down};
-pub use entries::slot_of;
+pub use entries::{is_whiteout, slot_of};
 pub use following::led_to;
-pub use layers::{LayerRef, MergedDirectory, Real};
-pub use merging::{MOST_LAYERS, MergedDirectories, merged_dirs, merged_dirs_at};
+pub use layers::{LayerEntry, LayerRef, MergedDirectory, Real};
+pub use merging::{MOST_LAYERS, entry_in, first_entry};
 pub use naming::{has_names, merged_names};
 pub use showing::{real_of, shown};
 pub use ways::{Front, Names, Way, starts_with};

@@ -9,13 +9,17 @@ ghost use Rattle.vt_location.specs.Locations.{inode_of};
 ghost use Rattle.vt_fs.specs.FilesystemsValue.{files_at};
 ghost use Rattle.vt_merge.specs.LayerValue.{layers_of, names_had, placed_views};
 
-use crate::entries::{entry, is_whiteout};
+use crate::entries::is_whiteout;
 use crate::layers::{LayerRef, MergedDirectory};
-use crate::merging::{MOST_LAYERS, merged_dirs_at};
+use crate::merging::{MOST_LAYERS, first_of, merge_at};
 use crate::ways::Way;
+use arrayvec::ArrayVec;
 use std::alloc::{AllocError, Global};
 use vt_fs::Filesystems;
 use vt_location::InodeRef;
+
+// Directories of all layers that are merged, the highest first.
+type MergedDirectories = ArrayVec<MergedDirectory, MOST_LAYERS>;
 
 /// The names that layers show in the directory at a path, each once, in the order of their bytes: readdir(3). What is no
 /// directory has none. It fails only if an allocation does.
@@ -29,7 +33,8 @@ pub fn merged_names<W: Way>(
     ensures { IfOk result (λ names. map (λ name. name.items) names.items
         ≡ names_shown (layers_of trees.now layers.now) (W.names path.now)) }
 {
-    let merged = merged_dirs_at(trees, layers, path);
+    let mut merged = MergedDirectories::new();
+    merge_at(trees, layers, path, &mut merged);
     let directories = merged.as_slice();
     let mut names = all_names(alloc, trees, directories)?;
     names.retain(|name| shows(trees, directories, name.as_slice()));
@@ -44,7 +49,8 @@ pub fn has_names<W: Way>(trees: &Filesystems, layers: &[LayerRef], path: &W) -> 
     ensures { result
         ≡ not (is_empty_list (names_shown (layers_of trees.now layers.now) (W.names path.now))) }
 {
-    let merged = merged_dirs_at(trees, layers, path);
+    let mut merged = MergedDirectories::new();
+    merge_at(trees, layers, path, &mut merged);
     let directories = merged.as_slice();
     for top in directories {
         if shows_any_of(trees, directories, top.directory) {
@@ -113,10 +119,8 @@ fn names_of(
 fn shows(trees: &Filesystems, merged: &[MergedDirectory], name: &[u8]) -> bool
     ensures { result ≡ is_some (shown_in (placed_views trees.now merged.now) (name.now ∷ [])) }
 {
-    for top in merged {
-        if let Some(object) = entry(trees.get(top.directory.filesystem), top.directory, name) {
-            return !is_whiteout(trees, object);
-        }
+    match first_of(trees, merged, name) {
+        Some(found) => !is_whiteout(trees, found.object),
+        None => false,
     }
-    false
 }

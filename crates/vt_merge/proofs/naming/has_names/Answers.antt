@@ -16,7 +16,7 @@ returns-then-shows_any_of g c =
     sym (has_names_if trees directories layers path
     (λ rest some.
     ap (λ items. shown_in (placed_views trees items) rest) c.as_slice-directories.ensures.value
-    ∙ c.merged_dirs_at-merged.ensures rest some)
+    ∙ c.merge_at.ensures.shows rest some)
     (list_any_at (shows_own trees directories) directories c.loop-top.top-index _ c.loop-top-test.true
     (sym (c.if-shows_any_of.ensures {u = tt}))))
 
@@ -29,6 +29,6 @@ returns g c =
     sym (has_none_if trees directories layers path
     (λ rest some.
     ap (λ items. shown_in (placed_views trees items) rest) c.as_slice-directories.ensures.value
-    ∙ c.merged_dirs_at-merged.ensures rest some)
+    ∙ c.merge_at.ensures.shows rest some)
     (ap (list_any (shows_own trees directories))
     (sym (take_all c.loop-top.top-index directories c.loop-top-test.false)) ∙ c.loop-top.invariant))

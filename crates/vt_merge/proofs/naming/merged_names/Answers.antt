@@ -18,4 +18,4 @@ returns g c =
     c.sort_unstable.ensures.permutation c.sort_unstable.ensures.sorted (dedup_is _ _ _ c.dedup.ensures.filtered)
     (λ rest some.
     ap (λ items. shown_in (placed_views trees items) rest) c.as_slice-directories.ensures.value
-    ∙ c.merged_dirs_at-merged.ensures rest some)
+    ∙ c.merge_at.ensures.shows rest some)

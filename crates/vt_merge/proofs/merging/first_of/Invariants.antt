@@ -1,7 +1,7 @@
 use Rattle.std.proofs.Common.{◌≡◌, ◌∷◌, [], drop}
 use Rattle.vt_laws_layers.specs.Layers.Directories.{shown_in}
 use Rattle.vt_merge.specs.LayerValue.{placed_views}
-use Rattle.vt_merge.proofs.naming.shows.Given as goal
+use Rattle.vt_merge.proofs.merging.first_of.Given as goal
 
 abbrev pub invariant-loop-top : goal.invariant-loop-top
 invariant-loop-top l =
