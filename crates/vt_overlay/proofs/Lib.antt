@@ -2,10 +2,13 @@ pub mod BirthsFound
 pub mod BornNamed
 pub mod DirectoriesSeen
 pub mod DirectoriesUnder
+pub mod EntriesNumbered
+pub mod EntriesShown
 pub mod NamesFound
 pub mod NodesShown
 pub mod PathsDown
 pub mod ObjectsAlike
+pub mod ObjectsPlaced
 pub mod RanksSeen
 pub mod RootFound
 pub mod TreeFound

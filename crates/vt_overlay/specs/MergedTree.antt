@@ -23,6 +23,7 @@ use Rattle.vt_location.specs.Numbers.{counted, exchanged, is_inode_of}
 use Rattle.vt_fs.specs.FilesystemsValue.{Filesystems, files_at, filesystems_seen, inodes_at}
 use Rattle.vt_merge.specs.LayerValue.{layer_of, layers_of}
 use Rattle.vt_merge.specs.declared.layers.LayerRef.{LayerRef}
+use Rattle.vt_merge.specs.declared.layers.Real.{Real as Object}
 
 -- an overlay: its number, its lower layers from the top, and who mounted it
 pub record OverlayValue : Type 0 where
@@ -148,3 +149,8 @@ born_here number slot = record { filesystem = number; slot = slot; birth = Here 
 abbrev pub born_below : FilesystemId → ℕ → ℕ → ℕ → ℕ → NodeRef
 born_below number layer directory rank slot =
     record { filesystem = number; slot = slot; birth = Below layer directory rank }
+
+-- the object in a slot of a layer's tree, with the place of the layer
+abbrev pub real_in : ℕ → ℕ → LayerRef → Object
+real_in place slot layer =
+    record { layer = place; inode = record { filesystem = layer.directory.filesystem; slot = slot } }

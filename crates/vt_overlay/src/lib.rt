@@ -8,4 +8,5 @@ mod overlays;
 mod paths;
 
 pub use laws::nodes_are_like_their_real_objects;
+pub use nodes::Entry;
 pub use overlays::Overlay;

@@ -1,13 +1,16 @@
 -- An inode of a plain tree as the tree keeps it, and as the definitions see it.
-use Rattle.std.proofs.Common.{◌≡◌, ◌∙◌, ◌∷◌, [], ap, Bool, cond, false, List, map, None, option_map, Option, refl, Some, sym, true, true≢false, ℕ}
+use Rattle.std.proofs.Common.{◌≡◌, ◌∙◌, ◌∷◌, [], ap, Bool, cond, false, List, map, None, option_copied, option_map, Option, refl, Some, sym, true, true≢false, ℕ}
 use Rattle.std.specs.Ordering.{eq_by_cmp}
+use Rattle.std.specs.Prelude.{IfSome}
 use Rattle.vt_spec.specs.Lists.{is_empty_list}
 use Rattle.vt_spec.specs.Machine.Renaming.{renamed_content, renamed_entry}
 use Rattle.vt_spec.specs.Tree.{Content, Entries, Node, entries_in, entries_of, entry_named, is_directory_node, name_cmp, parent_in}
 use Rattle.vt_spec.specs.Tree.Content.{Directory, Regular, Symlink, Whiteout}
+use Rattle.vt_location.specs.Locations.{number_of}
 use Rattle.vt_location.specs.Numbers.{exchanged}
 use Rattle.vt_fs.specs.FilesystemsValue.{node_seen}
 use Rattle.vt_overlay.proofs.ObjectsAlike.{seen_twice}
+use Rattle.vt_overlay.specs.declared.nodes.Entry.{Entry}
 
 module _ (f : ℕ) where
   entry-seen_in : (name : List ℕ) (entries : Entries ℕ)
@@ -70,3 +73,10 @@ its_own_parent own (Some node) isnt = by node.content isnt
     by (Regular bytes) isnt = refl
     by (Symlink text) isnt = refl
     by Whiteout isnt = refl
+
+-- what is lent with an entry, by another name of what lends it
+pub lent_with : (entry : Option Entry) (lends other : ℕ → Option (Node ℕ)) → ((number : ℕ) → lends number ≡ other number)
+    → IfSome entry (λ one. option_copied one.object ≡ lends (number_of one.node))
+    → IfSome entry (λ one. option_copied one.object ≡ other (number_of one.node))
+lent_with None lends other same is = is
+lent_with (Some one) lends other same is = is ∙ same (number_of one.node)

@@ -14,3 +14,4 @@ mod store;
 mod tally;
 
 pub use store::Store;
+pub use vt_overlay::Entry;

@@ -1,10 +1,10 @@
 //! What is looked at in a filesystem, a plain tree or an overlay.
-ghost use Rattle.std.specs.Prelude.{◌≡◌, [], IfOk, IfSome, IsOk, Some, map, nat_eq, not, option_copied, option_map};
+ghost use Rattle.std.specs.Prelude.{◌≡◌, [], IfOk, IfSome, IsOk, IsSome, Some, map, nat_eq, not, option_copied, option_map};
 ghost use Rattle.vt_spec.specs.FileTree.{is_directory_under, is_removed};
 ghost use Rattle.vt_spec.specs.Lists.{is_empty_list, when};
 ghost use Rattle.vt_spec.specs.Tree.{entries_in, entry_named, is_directory_node, names_in, parent_in};
 ghost use Rattle.vt_location.specs.Locations.{number_of};
-ghost use Rattle.vt_fs.specs.FilesystemsValue.{files_at};
+ghost use Rattle.vt_fs.specs.FilesystemsValue.{files_at, node_seen};
 ghost use Rattle.vt_fs.specs.Laws.{LieUnderRoot, ParentsAreNamed, is_lost_under};
 ghost use Rattle.vt_store.specs.StoreValue.{StandOnLayers, files_in, lent_in, root_in};
 
@@ -13,6 +13,7 @@ use std::alloc::{AllocError, Global};
 use vt_fs::Filesystems;
 use vt_location::{FilesystemId, NodeRef};
 use vt_node::{Node, NodeId};
+use vt_overlay::Entry;
 
 impl Store {
     /// The root directory of a filesystem, if there is such a filesystem.
@@ -53,37 +54,54 @@ impl Store {
         }
     }
 
-    /// The node to which a name of a directory leads, of which this is the real object. It does not allocate.
+    /// As `object`, of a node that is there: in an overlay it is then known where.
     #[inline(always)]
-    pub fn entry(&self, directory: NodeRef, object: &Node, name: &[u8]) -> Option<NodeRef>
+    pub fn object_there(&self, node: NodeRef) -> Option<&Node>
+        requires standing { StandOnLayers self.now }
+        requires there { IsSome (lent_in self.now node.filesystem.count (number_of node)) }
+        ensures { option_copied result ≡ lent_in self.now node.filesystem.count (number_of node) }
+    {
+        match self.overlay(node.filesystem) {
+            Some(overlay) => overlay.inode_shown(&self.plain, node),
+            None => self.plain.node(node),
+        }
+    }
+
+    /// The node to which a name of a directory leads, of which this is the real object, and the real object of that
+    /// node. It does not allocate.
+    #[inline(always)]
+    pub fn entry(&self, directory: NodeRef, object: &Node, name: &[u8]) -> Option<Entry<'_>>
         requires standing { StandOnLayers self.now }
         requires object { lent_in self.now directory.filesystem.count (number_of directory) ≡ Some object.now }
-        ensures { option_map number_of result ≡ entry_named name.now
+        ensures node { option_map (λ entry. number_of entry.node) result ≡ entry_named name.now
             (entries_in ((files_in self.now directory.filesystem.count).tree.node (number_of directory))) }
+        ensures object { IfSome result (λ entry. option_copied entry.object
+            ≡ lent_in self.now directory.filesystem.count (number_of entry.node)) }
     {
         if self.has_overlays() {
             let found = self.any_entry(copied(directory), object, name)?;
-            Some(copied(found))
+            Some(Entry {
+                node: copied(found.node),
+                object: found.object,
+            })
         } else {
-            let entry = object.entry(name)?;
-            Some(NodeRef::new(directory.filesystem, entry))
+            plain_entry(&self.plain, directory, object, name)
         }
     }
 
     // The same where there are overlays.
     #[inline(never)]
-    fn any_entry(&self, directory: NodeRef, object: &Node, name: &[u8]) -> Option<NodeRef>
+    fn any_entry(&self, directory: NodeRef, object: &Node, name: &[u8]) -> Option<Entry<'_>>
         requires standing { StandOnLayers self.now }
         requires object { lent_in self.now directory.filesystem.count (number_of directory) ≡ Some object.now }
-        ensures { option_map number_of result ≡ entry_named name.now
+        ensures node { option_map (λ entry. number_of entry.node) result ≡ entry_named name.now
             (entries_in ((files_in self.now directory.filesystem.count).tree.node (number_of directory))) }
+        ensures object { IfSome result (λ entry. option_copied entry.object
+            ≡ lent_in self.now directory.filesystem.count (number_of entry.node)) }
     {
         match self.overlay(directory.filesystem) {
             Some(overlay) => overlay.entry(&self.plain, directory, name),
-            None => {
-                let entry = object.entry(name)?;
-                Some(NodeRef::new(directory.filesystem, entry))
-            }
+            None => plain_entry(&self.plain, directory, object, name),
         }
     }
 
@@ -182,6 +200,30 @@ impl Store {
             None => self.plain.list(directory),
         }
     }
+}
+
+// Where a name of a directory of a plain tree leads.
+#[inline(always)]
+fn plain_entry<'a>(
+    plain: &'a Filesystems,
+    directory: NodeRef,
+    object: &Node,
+    name: &[u8],
+) -> Option<Entry<'a>>
+    requires { option_map (node_seen directory.filesystem.count)
+        ((files_at plain.now directory.filesystem.count).tree.node (number_of directory)) ≡ Some object.now }
+    ensures node { option_map (λ entry. number_of entry.node) result ≡ entry_named name.now
+        (entries_in ((files_at plain.now directory.filesystem.count).tree.node (number_of directory))) }
+    ensures object { IfSome result (λ entry. option_copied entry.object
+        ≡ option_map (node_seen directory.filesystem.count)
+        ((files_at plain.now directory.filesystem.count).tree.node (number_of entry.node))) }
+{
+    let entry = object.entry(name)?;
+    let node = NodeRef::new(directory.filesystem, entry);
+    Some(Entry {
+        node,
+        object: plain.node(node),
+    })
 }
 
 // Whether it is a directory with entries.

@@ -1,11 +1,11 @@
-use Rattle.std.proofs.Common.{Some, ap, arith, option_copied, option_map, sym, ◌∙◌}
+use Rattle.std.proofs.Common.{ap, option_copied, option_map, sym, ◌∙◌, ◌≡◌}
 use Rattle.vt_spec.specs.Tree.{entries_in, entry_named}
-use Rattle.vt_location.proofs.NumberLemmas.{exchanged_slot}
 use Rattle.vt_location.specs.Locations.{number_of}
-use Rattle.vt_location.specs.Numbers.{exchanged}
-use Rattle.vt_store.specs.StoreValue.{StoreValue, files_in}
-use Rattle.vt_store.proofs.Lending.{entry_lent}
-use Rattle.vt_store.proofs.Looked.{over_few, over_layers, over_node, plain_seen}
+use Rattle.vt_overlay.proofs.EntriesShown.{lent_is_shown}
+use Rattle.vt_overlay.specs.declared.nodes.Entry.{Entry}
+use Rattle.vt_store.specs.StoreValue.{StoreValue, lent_in}
+use Rattle.vt_store.proofs.Lending.{lent_with}
+use Rattle.vt_store.proofs.Looked.{over_few, over_layers, over_lent, over_node, plain_lent, plain_node}
 use Rattle.vt_store.proofs.store.Store.any_entry.Goals as goal
 
 pub entry-requires-clause-layers : goal.entry-requires-clause-layers
@@ -22,33 +22,48 @@ entry-requires-clause-few c =
     (sym c.overlay.ensures.value ∙ ap option_copied c.in-Some.is)
     c.requires.standing
 
-pub returns-in-Some : goal.returns-in-Some
-returns-in-Some c =
-    c.entry.ensures
+pub entry-requires-clause-shown : goal.entry-requires-clause-shown
+entry-requires-clause-shown c =
+    lent_is_shown c.self.inside.plain c.in-Some.overlay.now (number_of c.args.directory) c.args.object.now
+    (over_lent c.args.self.now c.self.inside.plain (ap (λ (store : StoreValue). store.plain) c.self.view_is)
+    c.args.directory.filesystem.count c.in-Some.overlay.now
+    (sym c.overlay.ensures.value ∙ ap option_copied c.in-Some.is) (number_of c.args.directory)
+    ∙ c.requires.object)
+
+pub returns-in-Some-clause-node : goal.returns-in-Some-clause-node
+returns-in-Some-clause-node c =
+    c.entry.ensures.node
     ∙ ap (λ node. entry_named c.args.name.now (entries_in node))
     (over_node c.args.self.now c.self.inside.plain (ap (λ (store : StoreValue). store.plain) c.self.view_is)
     c.args.directory.filesystem.count c.in-Some.overlay.now
     (sym c.overlay.ensures.value ∙ ap option_copied c.in-Some.is) (number_of c.args.directory))
 
-pub returns-in_err-entry-in-None : goal.returns-in_err-entry-in-None
-returns-in_err-entry-in-None c =
-    let f = c.args.directory.filesystem.count in
-    let seen = (files_in c.args.self.now f).tree.node (number_of c.args.directory) in
-    let lent = plain_seen c.args.self.now c.self.inside.plain (ap (λ (store : StoreValue). store.plain) c.self.view_is)
-    c.args.directory.filesystem.count
-    (sym c.overlay.ensures.value ∙ ap option_copied c.in-None.is) (number_of c.args.directory) ∙ c.requires.object in
-    ap (option_map number_of) c.from_residual.ensures
-    ∙ ap (option_map (exchanged f)) (sym c.in_err-entry-in-None.was ∙ c.entry-in-None.ensures)
-    ∙ entry_lent f c.args.object.now seen lent c.args.name.now
+pub returns-in-Some-clause-object : goal.returns-in-Some-clause-object
+returns-in-Some-clause-object c =
+    lent_with c.entry.result _ (lent_in c.args.self.now c.args.directory.filesystem.count)
+    (over_lent c.args.self.now c.self.inside.plain (ap (λ (store : StoreValue). store.plain) c.self.view_is)
+    c.args.directory.filesystem.count c.in-Some.overlay.now
+    (sym c.overlay.ensures.value ∙ ap option_copied c.in-Some.is))
+    c.entry.ensures.object
 
-pub returns-in_ok-entry-in-None : goal.returns-in_ok-entry-in-None
-returns-in_ok-entry-in-None c =
-    let f = c.args.directory.filesystem.count in
-    let seen = (files_in c.args.self.now f).tree.node (number_of c.args.directory) in
-    let lent = plain_seen c.args.self.now c.self.inside.plain (ap (λ (store : StoreValue). store.plain) c.self.view_is)
-    c.args.directory.filesystem.count
-    (sym c.overlay.ensures.value ∙ ap option_copied c.in-None.is) (number_of c.args.directory) ∙ c.requires.object in
-    ap (λ node. Some (number_of node)) c.new.ensures
-    ∙ ap Some (sym (exchanged_slot f c.in_ok-entry-in-None.entry (omega arith)))
-    ∙ ap (option_map (exchanged f)) (sym c.in_ok-entry-in-None.was ∙ c.entry-in-None.ensures)
-    ∙ entry_lent f c.args.object.now seen lent c.args.name.now
+pub plain_entry-requires : goal.plain_entry-requires
+plain_entry-requires c =
+    plain_lent c.args.self.now c.self.inside.plain (ap (λ (store : StoreValue). store.plain) c.self.view_is)
+    c.args.directory.filesystem.count (sym c.overlay.ensures.value ∙ ap option_copied c.in-None.is)
+    (number_of c.args.directory)
+    ∙ c.requires.object
+
+pub returns-in-None-clause-node : goal.returns-in-None-clause-node
+returns-in-None-clause-node c =
+    c.plain_entry.ensures.node
+    ∙ ap (λ node. entry_named c.args.name.now (entries_in node))
+    (plain_node c.args.self.now c.self.inside.plain (ap (λ (store : StoreValue). store.plain) c.self.view_is)
+    c.args.directory.filesystem.count (sym c.overlay.ensures.value ∙ ap option_copied c.in-None.is)
+    (number_of c.args.directory))
+
+pub returns-in-None-clause-object : goal.returns-in-None-clause-object
+returns-in-None-clause-object c =
+    lent_with c.plain_entry.result _ (lent_in c.args.self.now c.args.directory.filesystem.count)
+    (plain_lent c.args.self.now c.self.inside.plain (ap (λ (store : StoreValue). store.plain) c.self.view_is)
+    c.args.directory.filesystem.count (sym c.overlay.ensures.value ∙ ap option_copied c.in-None.is))
+    c.plain_entry.ensures.object

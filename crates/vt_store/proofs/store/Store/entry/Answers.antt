@@ -1,32 +1,33 @@
-use Rattle.std.proofs.Common.{Some, ap, arith, option_map, refl, sym, ◌∙◌}
-use Rattle.vt_location.proofs.NumberLemmas.{exchanged_slot}
+use Rattle.std.proofs.Common.{ap, option_map, sym, ◌∙◌, ◌≡◌}
+use Rattle.vt_spec.specs.Tree.{entries_in, entry_named}
 use Rattle.vt_location.specs.Locations.{number_of}
-use Rattle.vt_location.specs.Numbers.{exchanged}
 use Rattle.vt_store.specs.OverlaysValue.{overlay_of}
-use Rattle.vt_store.specs.StoreValue.{files_in}
-use Rattle.vt_store.proofs.Lending.{entry_lent}
-use Rattle.vt_store.proofs.Looked.{plain_seen}
+use Rattle.vt_store.specs.StoreValue.{StoreValue, lent_in}
+use Rattle.vt_store.proofs.Lending.{lent_with}
+use Rattle.vt_store.proofs.Looked.{plain_lent, plain_node}
 use Rattle.vt_store.proofs.store.Store.entry.Goals as goal
 
-pub returns-in_err-entry : goal.returns-in_err-entry
-returns-in_err-entry c =
+pub plain_entry-requires : goal.plain_entry-requires
+plain_entry-requires c =
     let f = c.args.directory.filesystem.count in
-    let seen = (files_in c.args.self.now f).tree.node (number_of c.args.directory) in
-    let lent = plain_seen c.args.self.now c.args.self.now.plain refl f
+    plain_lent c.args.self.now c.self.inside.plain (ap (λ (store : StoreValue). store.plain) c.self.view_is) f
     (ap (λ overlays. overlay_of overlays f) (c.has_overlays.ensures.0 c.if-has_overlays.false))
-    (number_of c.args.directory) ∙ c.requires.object in
-    ap (option_map number_of) c.from_residual-in_err-entry.ensures
-    ∙ ap (option_map (exchanged f)) (sym c.in_err-entry.was ∙ c.entry.ensures)
-    ∙ entry_lent f c.args.object.now seen lent c.args.name.now
+    (number_of c.args.directory)
+    ∙ c.requires.object
 
-pub returns-in_ok-entry : goal.returns-in_ok-entry
-returns-in_ok-entry c =
+pub returns-else-has_overlays-clause-node : goal.returns-else-has_overlays-clause-node
+returns-else-has_overlays-clause-node c =
     let f = c.args.directory.filesystem.count in
-    let seen = (files_in c.args.self.now f).tree.node (number_of c.args.directory) in
-    let lent = plain_seen c.args.self.now c.args.self.now.plain refl f
+    c.plain_entry.ensures.node
+    ∙ ap (λ node. entry_named c.args.name.now (entries_in node))
+    (plain_node c.args.self.now c.self.inside.plain (ap (λ (store : StoreValue). store.plain) c.self.view_is) f
     (ap (λ overlays. overlay_of overlays f) (c.has_overlays.ensures.0 c.if-has_overlays.false))
-    (number_of c.args.directory) ∙ c.requires.object in
-    ap (λ node. Some (number_of node)) c.new.ensures
-    ∙ ap Some (sym (exchanged_slot f c.in_ok-entry.entry (omega arith)))
-    ∙ ap (option_map (exchanged f)) (sym c.in_ok-entry.was ∙ c.entry.ensures)
-    ∙ entry_lent f c.args.object.now seen lent c.args.name.now
+    (number_of c.args.directory))
+
+pub returns-else-has_overlays-clause-object : goal.returns-else-has_overlays-clause-object
+returns-else-has_overlays-clause-object c =
+    let f = c.args.directory.filesystem.count in
+    lent_with c.plain_entry.result _ (lent_in c.args.self.now f)
+    (plain_lent c.args.self.now c.self.inside.plain (ap (λ (store : StoreValue). store.plain) c.self.view_is) f
+    (ap (λ overlays. overlay_of overlays f) (c.has_overlays.ensures.0 c.if-has_overlays.false)))
+    c.plain_entry.ensures.object
