@@ -8,7 +8,7 @@ use crate::passed::Passed;
 use vt_cred::{MountFlags, Rights};
 use vt_layers::{LookAtLayers, Lower};
 use vt_location::{Location, Mount, MountId, NamespaceId, NodeRef};
-use vt_looks::{Asked, Ground, Look, LookAtMounts};
+use vt_looks::{Asked, Entry, Ground, Look, LookAtMounts};
 use vt_node::Node;
 use vt_permits::Attachment;
 use vt_request::TaskName;
@@ -85,7 +85,7 @@ impl<'a, L: LookAtMounts> Look for Lenient<'a, L> {
         self.world.node(at)
     }
 
-    fn entry(&self, at: Location, object: &Node, name: &[u8]) -> Option<NodeRef> {
+    fn entry(&self, at: Location, object: &Node, name: &[u8]) -> Option<Entry<'_>> {
         self.world.entry(at, object, name)
     }
 

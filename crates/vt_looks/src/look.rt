@@ -1,5 +1,5 @@
 //! The traits `Look` and `LookAtMounts`.
-ghost use Rattle.std.specs.Prelude.{◌≡◌, false, nat_eq, option_copied, option_map, Bool, IfErr, IfOk, Ok, Option, Some, ℕ};
+ghost use Rattle.std.specs.Prelude.{◌≡◌, false, nat_eq, option_copied, option_map, Bool, IfErr, IfOk, IfSome, Ok, Option, Some, ℕ};
 ghost use Rattle.vt_spec.specs.declared.errors.Rule.TheVariants.{S5};
 ghost use Rattle.vt_spec.specs.Errors.{denial, unless};
 ghost use Rattle.vt_spec.specs.Language.Changes.{Change};
@@ -34,6 +34,13 @@ pub struct Ground {
     pub filesystem: FilesystemId,
     /// Whether no mount stands on it.
     pub is_bare: bool,
+}
+
+/// What a name of a directory leads to, and its real object, as `node` lends it.
+#[derive(Clone, Copy, Debug)]
+pub struct Entry<'a> {
+    pub node: NodeRef,
+    pub object: Option<&'a Node>,
 }
 
 /// What walks, and the rules of calls on files and tasks, look at in a world. No look changes it.
@@ -75,10 +82,12 @@ pub trait Look {
         ensures { option_copied result ≡ real self.now (location_of at) };
 
     /// The entry of a name in the directory at a location, of which this is the real object.
-    fn entry(&self, at: Location, object: &Node, name: &[u8]) -> Option<NodeRef>
+    fn entry(&self, at: Location, object: &Node, name: &[u8]) -> Option<Entry<'_>>
         requires { real self.now (location_of at) ≡ Some object.now }
-        ensures { option_map number_of result
-            ≡ entry_named name.now (entries_in ((looks self.now).node (location_of at))) };
+        ensures node { option_map (λ entry. number_of entry.node) result
+            ≡ entry_named name.now (entries_in ((looks self.now).node (location_of at))) }
+        ensures object { IfSome result (λ entry. option_copied entry.object
+            ≡ real self.now (record { mount = mount_number at.mount; node = number_of entry.node })) };
 
     /// Whether the directory at a location has entries: ENOTEMPTY of rmdir(2).
     fn is_nonempty(&self, at: Location) -> bool

@@ -14,7 +14,7 @@ ghost use Rattle.vt_world.specs.WorldValue.{world_of};
 use crate::world::World;
 use vt_cred::{Cred, Rights, allows};
 use vt_location::{FilesystemId, Location, Mount, MountId, NamespaceId, NodeRef};
-use vt_looks::{Asked, Ground, Look};
+use vt_looks::{Asked, Entry, Ground, Look};
 use vt_node::Node;
 use vt_overlay::Overlay;
 use vt_request::TaskName;
@@ -105,8 +105,12 @@ impl Look for World {
     }
 
     #[inline(always)]
-    fn entry(&self, at: Location, object: &Node, name: &[u8]) -> Option<NodeRef> {
-        self.store.entry(at.node, object, name)
+    fn entry(&self, at: Location, object: &Node, name: &[u8]) -> Option<Entry<'_>> {
+        let found = self.store.entry(at.node, object, name)?;
+        Some(Entry {
+            node: found.node,
+            object: found.object,
+        })
     }
 
     fn is_nonempty(&self, at: Location) -> bool {

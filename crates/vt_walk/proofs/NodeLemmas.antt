@@ -5,7 +5,7 @@ use Rattle.std.specs.Prelude.{Option}
 use Rattle.vt_spec.specs.Machine.Looks.{Looks}
 use Rattle.vt_location.specs.declared.locations.Location.{Location as CodeLocation}
 use Rattle.vt_location.specs.Locations.{location_of}
-use Rattle.vt_walk.specs.WalkValue.{IsNodeAt}
+use Rattle.vt_walk.specs.WalkValue.{IsLent, IsNodeAt}
 use Rattle.vt_spec.specs.Machine.Mounts.{Location}
 use Rattle.vt_spec.specs.FileTree.{symlink_text}
 use Rattle.vt_spec.specs.Tree.{Node}
@@ -19,6 +19,12 @@ use Rattle.std.proofs.lemmas.Option.{same_Some}
 -- mounts of one count are one
 pub same-mount : (a b : MountId) → not (nat_eq a.count b.count) ≡ false → a ≡ b
 same-mount a b is = ap (λ n. record { count = n }) (eqb-true a.count b.count (not-false (nat_eq a.count b.count) is))
+
+-- where nothing is lent there is nothing to know of it
+pub not-lent : (real : Location ℕ → Option (Node ℕ)) (at : CodeLocation) (lent : Option (Node ℕ)) → lent ≡ None
+    → IsLent real at lent
+not-lent real at None none = tt
+not-lent real at (Some node) none = absurd cc
 
 -- a symlink's text is a matter of what an inode and its real object have in common
 symlink-alike : (one other : Option (Node ℕ)) → front one ≡ front other → symlink_text one ≡ symlink_text other

@@ -1,5 +1,5 @@
 -- What the definitions see of the code's walks.
-use Rattle.std.specs.Prelude.{Bool, Err, Ok, Option, Result, [], false, nat_eq, option_map, true, ℕ, ◌≡◌}
+use Rattle.std.specs.Prelude.{Bool, Err, IfSome, Ok, Option, Result, Some, [], false, nat_eq, option_map, true, ℕ, ◌≡◌}
 use Rattle.vt_spec.specs.declared.errors.Deny.{Deny}
 use Rattle.vt_spec.specs.Errors.{and_then}
 use Rattle.vt_spec.specs.Machine.Looks.{Looks, is_directory_at, topmost}
@@ -14,6 +14,7 @@ use Rattle.vt_looks.specs.declared.places.Place.{Place}
 use Rattle.vt_looks.specs.Places.{as_place, last_of}
 use Rattle.vt_walk.specs.declared.here.Here.{Here}
 use Rattle.vt_walk.specs.declared.upward.Step.{Step}
+use Rattle.vt_walk.specs.declared.walks.ObjectFound.{ObjectFound}
 use Rattle.vt_walk.specs.PlainWalks.{standing}
 
 -- Code keeps no record of the filesystems that a walk meets.
@@ -46,6 +47,10 @@ abbrev pub location_result : Result Location Deny → Result (LocationMeant ℕ)
 location_result (Ok location) = Ok (location_of location)
 location_result (Err deny) = Err deny
 
+abbrev pub object_found_result : Result ObjectFound Deny → Result (LocationMeant ℕ) Deny
+object_found_result (Ok found) = Ok (location_of found.location)
+object_found_result (Err deny) = Err deny
+
 abbrev pub named_result : Result (Option Location) Deny → Result (Option (LocationMeant ℕ)) Deny
 named_result (Ok object) = Ok (option_map location_of object)
 named_result (Err deny) = Err deny
@@ -75,6 +80,10 @@ place_end (Err deny) = Err deny
 -- this is what is lent for a location
 abbrev pub IsNodeAt : (LocationMeant ℕ → Option (Node ℕ)) → Location → Option (Node ℕ) → Type 0
 IsNodeAt real location node = node ≡ real (location_of location)
+
+-- if something is lent for a location, it is this
+abbrev pub IsLent : (LocationMeant ℕ → Option (Node ℕ)) → Location → Option (Node ℕ) → Type 0
+IsLent real location lent = IfSome lent (λ node. IsNodeAt real location (Some node))
 
 -- What a place always is: its object is what the last word names in its parent, which is a directory where the last
 -- word is a name.

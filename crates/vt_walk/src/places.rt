@@ -1,5 +1,5 @@
 //! Walks to a parent, and what the last word names there.
-ghost use Rattle.std.specs.Prelude.{◌≡◌, ◌+◌, nat_eq, false, not, is_some, ◌&&◌, ◌||◌, option_map, IfOk, IfSome, Some};
+ghost use Rattle.std.specs.Prelude.{◌≡◌, ◌+◌, nat_eq, false, not, is_some, ◌&&◌, ◌||◌, option_copied, option_map, IfOk, IfSome, Some};
 ghost use Rattle.vt_spec.specs.Machine.Rules.Removing.{rename_new_walk};
 ghost use Rattle.vt_spec.specs.Machine.Walking.{file_walk, new_leaf_walk, new_walk, old_leaf_walk, old_walk, place_walk, symlink_there, walk_end, walk_start};
 ghost use Rattle.vt_spec.specs.Language.Limits.{most_symlinks};
@@ -9,11 +9,11 @@ ghost use Rattle.vt_tasks.specs.TaskValue.{task_of};
 ghost use Rattle.vt_text.specs.Walkable.{IsWalkable};
 ghost use Rattle.vt_walk.specs.PlainWalks.{entered, file_walked, placed};
 ghost use Rattle.vt_looks.specs.Places.{as_place, last_of};
-ghost use Rattle.vt_walk.specs.WalkValue.{IsFilePlace, IsPlace, old_place_result, place_end, place_of, place_result};
+ghost use Rattle.vt_walk.specs.WalkValue.{IsFilePlace, IsLent, IsPlace, old_place_result, place_end, place_of, place_result};
 
 use crate::here::{Here, MOST_LINKS};
 use crate::steps::{
-    is_directory_at, link_begun, object_named, searched, symlink_text, words_walked,
+    is_directory_at, link_begun, node_here, object_named, searched, symlink_text, words_walked,
 };
 use crate::words::front_and_last;
 use vt_location::Location;
@@ -29,27 +29,29 @@ use vt_text::path::PathText;
 fn placed<'a, L: Look>(
     world: &L,
     who: &Task,
-    here: Location,
+    here: Here<'_>,
     last: LastWord<'a>,
     slash: bool,
 ) -> Result<Place<'a>, Deny>
-    ensures value { place_result result
-        ≡ placed (L.looks world.now) (task_of who.now) (location_of here) (last_of last.entry) slash }
+    requires { IsLent (L.real world.now) here.location (option_copied here.lent) }
+    ensures value { place_result result ≡ placed (L.looks world.now) (task_of who.now)
+        (location_of here.entry.location) (last_of last.entry) slash }
     ensures place { IfOk result (λ place. IsPlace (L.looks world.now) (task_of who.now) place) }
 {
     if last.is_no_word() {
         return Ok(Place {
-            parent: here,
+            parent: here.location,
             last,
-            object: Some(here),
+            object: Some(here.location),
             slash: false,
         });
     }
-    let ground = world.ground(here.mount);
-    let directory = searched(world, who, ground, here, world.node_on(ground, here))?;
-    let object = object_named(world, who, here, directory, last)?;
+    let ground = world.ground(here.location.mount);
+    let node = node_here(world, ground, here.location, here.lent);
+    let directory = searched(world, who, ground, here.location, node)?;
+    let object = object_named(world, who, here.location, directory, last)?;
     Ok(Place {
-        parent: here,
+        parent: here.location,
         last,
         object,
         slash,
@@ -75,7 +77,7 @@ pub fn place_walk<'a, L: Look>(
     let text = path.as_bytes();
     let (front, last) = front_and_last(text);
     let here = words_walked(world, who, Here::at_start(who, text), front)?;
-    placed(world, who, here.location, last, path.ends_in_slash())
+    placed(world, who, here, last, path.ends_in_slash())
 }
 
 // Whether a name is missing in a removed directory, which takes no new name.
@@ -221,11 +223,16 @@ fn file_walked<'a, L: Look>(
         slash = asks_for_directory(slash, text);
         let (front, last) = front_and_last(text);
         let here = words_walked(world, who, start, front)?;
-        let place = placed(world, who, here.location, last, slash)?;
+        let place = placed(world, who, here, last, slash)?;
         let Some((link, inner)) = symlink_there(world, &place) else {
             return Ok(entered(world, place));
         };
-        start = link_begun(world, who, here.location, here.moved(link), inner)?;
+        let met = Here {
+            location: link,
+            left: here.left,
+            lent: None,
+        };
+        start = link_begun(world, who, here.location, met, inner)?;
         text = inner;
     }
     Err(Rule::W7.denial())

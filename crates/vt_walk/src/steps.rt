@@ -1,5 +1,5 @@
 //! Words walked one after the other, and symlinks followed.
-ghost use Rattle.std.specs.Prelude.{◌≡◌, ℕ, nat_eq, false, true, option_copied, option_map, reverse, Ok, Some, OnOk, IfOk};
+ghost use Rattle.std.specs.Prelude.{◌≡◌, ℕ, nat_eq, false, true, option_copied, option_map, reverse, None, Ok, Some, OnOk, IfOk, IfSome};
 ghost use Rattle.vt_spec.specs.Errors.{and_then, unless};
 ghost use Rattle.vt_spec.specs.FileTree.{symlink_text};
 ghost use Rattle.vt_spec.specs.Machine.Looks.{is_directory_at, mount_at};
@@ -13,7 +13,7 @@ ghost use Rattle.vt_tasks.specs.TaskValue.{task_of};
 ghost use Rattle.vt_walk.specs.PendingTexts.{link_passed, walked_on_from};
 ghost use Rattle.vt_walk.specs.PlainWalks.{Follow, followed, last_walked, symlink_start, word_led, words_walked};
 ghost use Rattle.vt_looks.specs.Places.{last_of};
-ghost use Rattle.vt_walk.specs.WalkValue.{IsFound, IsNodeAt, here_of, here_result, named_result, step_result};
+ghost use Rattle.vt_walk.specs.WalkValue.{IsFound, IsLent, IsNodeAt, here_of, here_result, named_result, step_result};
 
 use crate::here::{Here, MOST_TEXTS, start_of};
 use crate::upward::{Step, entered, step_up};
@@ -63,57 +63,62 @@ pub(crate) fn searched<'a, L: Look>(
     Ok(directory)
 }
 
-// The entry that a name has in a directory, on the same mount.
+// The entry that a name has in a directory: its location, on the same mount, and its real object.
 #[inline(always)]
-fn entry_location<L: Look>(
-    world: &L,
+fn entry_there<'a, L: Look>(
+    world: &'a L,
     here: Location,
     directory: &Node,
     name: &[u8],
-) -> Option<Location>
+) -> Option<(Location, Option<&'a Node>)>
     requires { IsNodeAt (L.real world.now) here (Some directory.now) }
-    ensures { option_map location_of result
+    ensures location { option_map (λ entry. location_of entry.0) result
         ≡ option_map (λ object. record { mount = mount_number here.mount; node = object })
         (entry_named name.now (entries_in ((L.looks world.now).node (location_of here)))) }
+    ensures object { IfSome result (λ entry. IsNodeAt (L.real world.now) entry.0 (option_copied entry.1)) }
 {
-    let node = world.entry(here, directory, name)?;
-    Some(Location {
+    let entry = world.entry(here, directory, name)?;
+    let location = Location {
         mount: here.mount,
-        node,
-    })
+        node: entry.node,
+    };
+    Some((location, entry.object))
 }
 
 // Where a word leads from a directory: a name through the mounts over the entry. W6: a missing name. W8: `..` of a lost
 // directory.
 #[inline(always)]
-fn stepped<L: Look>(
-    world: &L,
+fn stepped<'a, L: Look>(
+    world: &'a L,
     who: &Task,
-    from: Step,
+    from: Step<'a>,
     ground: Ground,
     directory: &Node,
     word: LastWord,
-) -> Result<Step, Deny>
+) -> Result<Step<'a>, Deny>
     requires ground { IsGround (L.looks world.now) from.location.mount ground }
+    requires lent { IsLent (L.real world.now) from.location (option_copied from.lent) }
     requires directory { IsNodeAt (L.real world.now) from.location (Some directory.now) }
     requires found { from.is_found ≡ true → is_lost nat_eq (L.looks world.now) (location_of from.location) ≡ false }
     ensures value { step_result result
-        ≡ stepped nat_eq (L.looks world.now) (task_of who.now) (location_of from.location) (last_of word.entry) }
+        ≡ stepped nat_eq (L.looks world.now) (task_of who.now) (location_of from.entry.location) (last_of word.entry) }
     ensures found { IfOk result (λ step. IsFound (L.looks world.now) step.location step.is_found) }
+    ensures lent { IfOk result (λ step. IsLent (L.real world.now) step.location (option_copied step.lent)) }
 {
     match word {
         LastWord::NoWord | LastWord::Dot => Ok(from),
         LastWord::DotDot => step_up(world, who, from.location, from.is_found),
-        LastWord::Named(name) => match entry_location(world, from.location, directory, name) {
-            Some(entry) => {
+        LastWord::Named(name) => match entry_there(world, from.location, directory, name) {
+            Some((entry, object)) => {
                 world.ways_stay_found();
                 if ground.is_bare {
                     return Ok(Step {
                         location: entry,
                         is_found: from.is_found,
+                        lent: object,
                     });
                 }
-                Ok(entered(world, entry, from.is_found))
+                Ok(entered(world, entry, from.is_found, object))
             }
             None => Err(Rule::W6.denial()),
         },
@@ -135,52 +140,90 @@ pub(crate) fn object_named<L: Look>(
     match last {
         LastWord::NoWord | LastWord::Dot => Ok(Some(here)),
         LastWord::DotDot => Ok(Some(step_up(world, who, here, false)?.location)),
-        LastWord::Named(name) => Ok(entry_location(world, here, directory, name)),
+        LastWord::Named(name) => match entry_there(world, here, directory, name) {
+            Some((entry, _object)) => Ok(Some(entry)),
+            None => Ok(None),
+        },
     }
 }
 
-// Where one word leads, with no symlink followed, from a location with this inode.
+// Where one word leads, with no symlink followed, from a location with the object that is lent.
 #[inline(always)]
-fn word_led<L: Look>(
-    world: &L,
+fn word_led<'a, L: Look>(
+    world: &'a L,
     who: &Task,
-    from: Step,
+    from: Step<'a>,
     ground: Ground,
-    node: Option<&Node>,
     word: LastWord,
-) -> Result<Step, Deny>
+) -> Result<Step<'a>, Deny>
     requires ground { IsGround (L.looks world.now) from.location.mount ground }
-    requires node { IsNodeAt (L.real world.now) from.location (option_copied node) }
+    requires node { IsNodeAt (L.real world.now) from.location (option_copied from.lent) }
     requires found { IsFound (L.looks world.now) from.location from.is_found }
     ensures value { step_result result
-        ≡ word_led (L.looks world.now) (task_of who.now) (location_of from.location) (last_of word.entry) }
+        ≡ word_led (L.looks world.now) (task_of who.now) (location_of from.entry.location) (last_of word.entry) }
     ensures found { IfOk result (λ step. IsFound (L.looks world.now) step.location step.is_found) }
+    ensures lent { IfOk result (λ step. IsLent (L.real world.now) step.location (option_copied step.lent)) }
 {
-    let directory = searched(world, who, ground, from.location, node)?;
+    let directory = searched(world, who, ground, from.location, from.lent)?;
     stepped(world, who, from, ground, directory, word)
 }
 
+// The real object where a walk has come to, looked for if no entry led there.
+#[inline(always)]
+pub(crate) fn node_here<'a, L: Look>(
+    world: &'a L,
+    ground: Ground,
+    here: Location,
+    lent: Option<&'a Node>,
+) -> Option<&'a Node>
+    requires ground { IsGround (L.looks world.now) here.mount ground }
+    requires lent { IsLent (L.real world.now) here (option_copied lent) }
+    ensures { IsNodeAt (L.real world.now) here (option_copied result) }
+{
+    match lent {
+        Some(_) => lent,
+        None => world.node_on(ground, here),
+    }
+}
+
+// The same, on a mount that was not asked for.
+#[inline(always)]
+pub(crate) fn object_here<'a, L: Look>(world: &'a L, here: Here<'a>) -> Option<&'a Node>
+    requires { IsLent (L.real world.now) here.location (option_copied here.lent) }
+    ensures { IsNodeAt (L.real world.now) here.entry.location (option_copied result) }
+{
+    match here.lent {
+        Some(_) => here.lent,
+        None => world.node(here.location),
+    }
+}
+
 // The last word of a path walked; a final symlink is not followed.
-pub(crate) fn last_walked<L: Look>(
-    world: &L,
+pub(crate) fn last_walked<'a, L: Look>(
+    world: &'a L,
     who: &Task,
-    here: Here,
+    here: Here<'a>,
     last: LastWord,
-) -> Result<Here, Deny>
+) -> Result<Here<'a>, Deny>
+    requires { IsLent (L.real world.now) here.location (option_copied here.lent) }
     ensures { here_result result
-        ≡ last_walked (L.looks world.now) (task_of who.now) (here_of here) (last_of last.entry) }
+        ≡ last_walked (L.looks world.now) (task_of who.now) (here_of here.entry) (last_of last.entry) }
 {
     match last {
         LastWord::NoWord => Ok(here),
         _ => {
             let ground = world.ground(here.location.mount);
-            let node = world.node_on(ground, here.location);
             let from = Step {
                 location: here.location,
                 is_found: false,
+                lent: node_here(world, ground, here.location, here.lent),
             };
-            let next = word_led(world, who, from, ground, node, last)?;
-            Ok(here.moved(next.location))
+            let next = word_led(world, who, from, ground, last)?;
+            Ok(Here {
+                location: next.location,
+                left: here.left,
+                lent: next.lent,
+            })
         }
     }
 }
@@ -201,15 +244,17 @@ pub(crate) fn symlink_text(node: Option<&Node>) -> Option<&[u8]>
 // Where the walk of a symlink's text begins, if it may be walked, with one symlink less to follow: W9 before W7 before
 // W2.
 #[inline(always)]
-pub(crate) fn link_begun<L: Look>(
+pub(crate) fn link_begun<'a, L: Look>(
     world: &L,
     who: &Task,
     directory: Location,
     link: Here,
     text: &[u8],
-) -> Result<Here, Deny>
-    ensures { here_result result ≡ unless (follow_rules nat_eq (L.looks world.now) (here_of link) text.now)
-        (Ok (symlink_start (L.looks world.now) (task_of who.now) (location_of directory) (here_of link) text.now)) }
+) -> Result<Here<'a>, Deny>
+    ensures lent { IfOk result (λ here. IsLent (L.real world.now) here.location (option_copied here.lent)) }
+    ensures value { here_result result ≡ unless (follow_rules nat_eq (L.looks world.now) (here_of link.entry) text.now)
+        (Ok (symlink_start (L.looks world.now) (task_of who.now) (location_of directory)
+        (here_of link.entry) text.now)) }
 {
     if is_nosymfollow(world, link.location) {
         return Err(Rule::W9.denial());
@@ -223,6 +268,7 @@ pub(crate) fn link_begun<L: Look>(
     Ok(Here {
         location: start_of(who, directory, text),
         left: link.left - 1,
+        lent: None,
     })
 }
 
@@ -248,7 +294,7 @@ struct LinkMet<'a> {
 // Where words lead, as far as the first symlink.
 #[derive(Debug, Drop)]
 struct Reached<'a> {
-    here: Here,
+    here: Here<'a>,
     link: Option<LinkMet<'a>>,
 }
 
@@ -257,35 +303,45 @@ struct Reached<'a> {
 fn words_walked_to_link<'a, L: Look>(
     world: &'a L,
     who: &Task,
-    start: Here,
+    start: Here<'a>,
     mut words: Words<'a>,
 ) -> Result<Reached<'a>, Deny>
+    requires { IsLent (L.real world.now) start.location (option_copied start.lent) }
     ensures value { (follow : Follow) → and_then result (walked_on_from (L.looks world.now) (task_of who.now) follow)
-        ≡ words_walked (L.looks world.now) (task_of who.now) follow (here_of start) (reverse words.entry) }
-    ensures left { IfOk result (λ reached. reached.here.left ≡ start.left) }
+        ≡ words_walked (L.looks world.now) (task_of who.now) follow (here_of start.entry) (reverse words.entry) }
+    ensures left { IfOk result (λ reached. reached.here.left ≡ start.entry.left) }
+    ensures lent { IfOk result (λ reached.
+        IsLent (L.real world.now) reached.here.location (option_copied reached.here.lent)) }
 {
-    let mut here = start;
-    let mut ground = world.ground(start.location.mount);
-    let mut node = world.node_on(ground, start.location);
+    let left = start.left;
+    let mut location = start.location;
+    let mut ground = world.ground(location.mount);
+    let mut node = node_here(world, ground, location, start.lent);
     let mut is_found = false;
     while let Some(word) = words.next() {
-        let directory = here.location;
+        let directory = location;
         let from = Step {
-            location: directory,
+            location,
             is_found,
+            lent: node,
         };
-        let next = word_led(world, who, from, ground, node, LastWord::of(word))?;
-        here = here.moved(next.location);
+        let next = word_led(world, who, from, ground, LastWord::of(word))?;
+        location = next.location;
         is_found = next.is_found;
-        if next.location.mount != directory.mount {
-            ground = world.ground(next.location.mount);
+        if location.mount != directory.mount {
+            ground = world.ground(location.mount);
         }
-        node = world.node_on(ground, next.location);
+        node = node_here(world, ground, location, next.lent);
         if let Some(text) = symlink_text(node) {
             let link = LinkMet {
                 directory,
                 text,
                 behind: words,
+            };
+            let here = Here {
+                location,
+                left,
+                lent: node,
             };
             return Ok(Reached {
                 here,
@@ -293,6 +349,11 @@ fn words_walked_to_link<'a, L: Look>(
             });
         }
     }
+    let here = Here {
+        location,
+        left,
+        lent: node,
+    };
     Ok(Reached { here, link: None })
 }
 
@@ -302,12 +363,15 @@ fn words_walked_to_link<'a, L: Look>(
 fn walked_to_link<'a, L: Look>(
     world: &'a L,
     who: &Task,
-    start: Here,
+    start: Here<'a>,
     words: Words<'a>,
 ) -> Result<Reached<'a>, Deny>
+    requires { IsLent (L.real world.now) start.location (option_copied start.lent) }
     ensures value { (follow : Follow) → and_then result (walked_on_from (L.looks world.now) (task_of who.now) follow)
-        ≡ words_walked (L.looks world.now) (task_of who.now) follow (here_of start) (reverse words.entry) }
-    ensures left { IfOk result (λ reached. reached.here.left ≡ start.left) }
+        ≡ words_walked (L.looks world.now) (task_of who.now) follow (here_of start.entry) (reverse words.entry) }
+    ensures left { IfOk result (λ reached. reached.here.left ≡ start.entry.left) }
+    ensures lent { IfOk result (λ reached.
+        IsLent (L.real world.now) reached.here.location (option_copied reached.here.lent)) }
 {
     if words.is_empty() {
         return Ok(Reached {
@@ -355,11 +419,25 @@ pub(crate) fn is_directory_at<L: Look>(world: &L, here: Location) -> bool
     }
 }
 
-// A trailing slash is accepted only if a directory is here, else W3.
-pub(crate) fn asked_by_slash<L: Look>(world: &L, text: &[u8], here: Location) -> Result<(), Deny>
-    ensures { result ≡ unless (slash_rules nat_eq (L.looks world.now) text.now (location_of here)) (Ok tt) }
+// Whether a walk has come to a directory.
+pub(crate) fn is_directory_here<L: Look>(world: &L, here: Here) -> bool
+    requires { IsLent (L.real world.now) here.location (option_copied here.lent) }
+    ensures { result ≡ is_directory_at (L.looks world.now) (location_of here.entry.location) }
 {
-    if link::ends_in_slash(text) && !is_directory_at(world, here) {
+    match object_here(world, here) {
+        Some(node) => node.is_directory(),
+        None => false,
+    }
+}
+
+// A trailing slash is accepted only if a directory is here, else W3.
+#[inline(always)]
+pub(crate) fn asked_by_slash<L: Look>(world: &L, text: &[u8], here: Here) -> Result<(), Deny>
+    requires { IsLent (L.real world.now) here.location (option_copied here.lent) }
+    ensures { result
+        ≡ unless (slash_rules nat_eq (L.looks world.now) text.now (location_of here.entry.location)) (Ok tt) }
+{
+    if link::ends_in_slash(text) && !is_directory_here(world, here) {
         return Err(Rule::W3.denial());
     }
     Ok(())
@@ -369,11 +447,13 @@ pub(crate) fn asked_by_slash<L: Look>(world: &L, text: &[u8], here: Location) ->
 pub(crate) fn words_walked<'a, L: Look>(
     world: &'a L,
     who: &Task,
-    start: Here,
+    start: Here<'a>,
     words: Words<'a>,
-) -> Result<Here, Deny>
-    ensures { here_result result ≡ words_walked (L.looks world.now) (task_of who.now)
-        (followed (L.looks world.now) (task_of who.now)) (here_of start) (reverse words.entry) }
+) -> Result<Here<'a>, Deny>
+    requires { IsLent (L.real world.now) start.location (option_copied start.lent) }
+    ensures value { here_result result ≡ words_walked (L.looks world.now) (task_of who.now)
+        (followed (L.looks world.now) (task_of who.now)) (here_of start.entry) (reverse words.entry) }
+    ensures lent { IfOk result (λ here. IsLent (L.real world.now) here.location (option_copied here.lent)) }
 {
     let Reached { here, link } = walked_to_link(world, who, start, words)?;
     match link {
@@ -389,9 +469,10 @@ fn symlink_walked<'a, L: Look>(
     who: &Task,
     met: Here,
     link: LinkMet<'a>,
-) -> Result<Here, Deny>
-    ensures { here_result result ≡ link_passed (L.looks world.now) (task_of who.now)
-        (followed (L.looks world.now) (task_of who.now)) (here_of met) (Some link.entry) }
+) -> Result<Here<'a>, Deny>
+    ensures lent { IfOk result (λ here. IsLent (L.real world.now) here.location (option_copied here.lent)) }
+    ensures value { here_result result ≡ link_passed (L.looks world.now) (task_of who.now)
+        (followed (L.looks world.now) (task_of who.now)) (here_of met.entry) (Some link.entry) }
 {
     let mut here = link_begun(world, who, link.directory, met, link.text)?;
     let mut pending = ArrayVec::<Pending, MOST_TEXTS>::new();
@@ -417,7 +498,7 @@ fn symlink_walked<'a, L: Look>(
                 begun
             }
             None => {
-                asked_by_slash(world, text, reached.location)?;
+                asked_by_slash(world, text, reached)?;
                 reached
             }
         };

@@ -1,5 +1,5 @@
 //! Where `..` leads: path_resolution(7), and mount_namespaces(7) for the roots of mounts.
-ghost use Rattle.std.specs.Prelude.{◌≡◌, nat_eq, option_map, false, true, IfOk};
+ghost use Rattle.std.specs.Prelude.{◌≡◌, nat_eq, option_copied, option_map, false, true, IfOk};
 ghost use Rattle.vt_spec.specs.Lists.{last_or};
 ghost use Rattle.vt_spec.specs.Machine.Mounts.{same_location};
 ghost use Rattle.vt_spec.specs.Machine.Looks.{topmost};
@@ -7,18 +7,21 @@ ghost use Rattle.vt_spec.specs.Machine.Walking.{hop, hops, is_lost, is_top, pare
 ghost use Rattle.vt_spec.specs.Machine.Walking.LastWord.{DotDot};
 ghost use Rattle.vt_location.specs.Locations.{location_of, number_of};
 ghost use Rattle.vt_tasks.specs.TaskValue.{task_of};
-ghost use Rattle.vt_walk.specs.WalkValue.{IsFound, step_result};
+ghost use Rattle.vt_walk.specs.WalkValue.{IsFound, IsLent, step_result};
 
 use vt_location::{Location, NodeRef};
 use vt_looks::Look;
+use vt_node::Node;
 use vt_spec::errors::{Deny, Rule};
 use vt_tasks::Task;
 
-// Where a word led, and whether that is known to be found if it is a directory: then `..` of it is not lost.
+// Where a word led, and whether that is known to be found if it is a directory: then `..` of it is not lost. And the real
+// object there, where an entry led to it.
 #[derive(Clone, Copy, Debug)]
-pub(crate) struct Step {
+pub(crate) struct Step<'a> {
     pub(crate) location: Location,
     pub(crate) is_found: bool,
+    pub(crate) lent: Option<&'a Node>,
 }
 
 // Where `..` goes on from the root of a mount: its mount point. It stays at the task's root.
@@ -85,45 +88,55 @@ fn is_lost<L: Look>(world: &L, here: Location, start: Location, is_found: bool) 
     world.is_lost(here)
 }
 
-// Through the mounts over a place. A directory stays found if there are none.
+// Through the mounts over a place. A directory stays found, and the object lent, if there are none.
 #[inline(always)]
-pub(crate) fn entered<L: Look>(world: &L, place: Location, is_found: bool) -> Step
-    requires { IsFound (L.looks world.now) place is_found }
+pub(crate) fn entered<'a, L: Look>(
+    world: &L,
+    place: Location,
+    is_found: bool,
+    lent: Option<&'a Node>,
+) -> Step<'a>
+    requires found { IsFound (L.looks world.now) place is_found }
+    requires lent { IsLent (L.real world.now) place (option_copied lent) }
     ensures location { location_of result.location ≡ topmost (L.looks world.now) (location_of place) }
     ensures found { IsFound (L.looks world.now) result.location result.is_found }
+    ensures lent { IsLent (L.real world.now) result.location (option_copied result.lent) }
 {
     let location = world.topmost(place);
     let same = location.is_same(place);
     Step {
         location,
         is_found: is_found && same,
+        lent: if same { lent } else { None },
     }
 }
 
 // Where `..` leads from a location: to the topmost mount over the parent. W8: the directory is lost.
 //
 // The parent of a directory that is not lost is not lost either, so that a walk asks once on each mount that it comes to.
-pub(crate) fn step_up<L: Look>(
+pub(crate) fn step_up<'a, L: Look>(
     world: &L,
     who: &Task,
     start: Location,
     is_found: bool,
-) -> Result<Step, Deny>
+) -> Result<Step<'a>, Deny>
     requires { is_found ≡ true → is_lost nat_eq (L.looks world.now) (location_of start) ≡ false }
     ensures value { step_result result
         ≡ stepped nat_eq (L.looks world.now) (task_of who.now) (location_of start) DotDot }
     ensures found { IfOk result (λ step. IsFound (L.looks world.now) step.location step.is_found) }
+    ensures lent { IfOk result (λ step. IsLent (L.real world.now) step.location (option_copied step.lent)) }
 {
     let here = hopped(world, who, start);
     if is_top(world, who, here) {
         return Ok(Step {
             location: here,
             is_found: false,
+            lent: None,
         });
     }
     if is_lost(world, here, start, is_found) {
         return Err(Rule::W8.denial());
     }
     world.ways_stay_found();
-    Ok(entered(world, parent_location(world, here), true))
+    Ok(entered(world, parent_location(world, here), true, None))
 }

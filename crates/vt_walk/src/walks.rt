@@ -1,17 +1,18 @@
 //! Walks to an object.
-ghost use Rattle.std.specs.Prelude.{◌≡◌, nat_eq, false, true, IfOk};
+ghost use Rattle.std.specs.Prelude.{◌≡◌, nat_eq, option_copied, false, true, IfOk};
 ghost use Rattle.vt_spec.specs.Machine.Looks.{is_directory_at};
 ghost use Rattle.vt_spec.specs.Machine.Rules.Mounting.{destination_walk, source_walk};
 ghost use Rattle.vt_spec.specs.Machine.Walking.{directory_walk, object_walk, symlink_walk, walk_end};
 ghost use Rattle.vt_location.specs.Locations.{location_of};
 ghost use Rattle.vt_tasks.specs.TaskValue.{task_of};
-ghost use Rattle.vt_walk.specs.WalkValue.{location_end, location_result};
+ghost use Rattle.vt_walk.specs.WalkValue.{location_end, location_result, object_found_result};
 
 use crate::here::Here;
-use crate::steps::{asked_by_slash, is_directory_at, last_walked, words_walked};
+use crate::steps::{asked_by_slash, is_directory_here, last_walked, object_here, words_walked};
 use crate::words::front_and_last;
 use vt_location::Location;
 use vt_looks::Look;
+use vt_node::Node;
 use vt_spec::errors::{Deny, Rule};
 use vt_tasks::Task;
 use vt_text::path::PathText;
@@ -26,10 +27,35 @@ pub fn object_walk<L: Look>(world: &L, who: &Task, path: &PathText) -> Result<Lo
     ensures { location_result result
         ≡ location_end (walk_end (object_walk nat_eq (L.looks world.now) (task_of who.now) path.now)) }
 {
+    let found = object_found_walk(world, who, path)?;
+    Ok(found.location)
+}
+
+/// Where a walk ended, and the real object there.
+#[derive(Clone, Copy, Debug)]
+pub struct ObjectFound<'a> {
+    pub location: Location,
+    pub object: Option<&'a Node>,
+}
+
+/// As `object_walk`, with the real object that was found.
+pub fn object_found_walk<'a, L: Look>(
+    world: &'a L,
+    who: &Task,
+    path: &PathText<'a>,
+) -> Result<ObjectFound<'a>, Deny>
+    ensures value { object_found_result result
+        ≡ location_end (walk_end (object_walk nat_eq (L.looks world.now) (task_of who.now) path.now)) }
+    ensures object { IfOk result (λ found.
+        option_copied found.object ≡ L.real world.now (location_of found.location)) }
+{
     let text = path.as_bytes();
     let here = words_walked(world, who, Here::at_start(who, text), path.words())?;
-    asked_by_slash(world, text, here.location)?;
-    Ok(here.location)
+    asked_by_slash(world, text, here)?;
+    Ok(ObjectFound {
+        location: here.location,
+        object: object_here(world, here),
+    })
 }
 
 /// The directory that a path leads to, a final symlink followed. No search permission is needed on the directory
@@ -43,7 +69,7 @@ pub fn directory_walk<L: Look>(world: &L, who: &Task, path: &PathText) -> Result
 {
     let start = Here::at_start(who, path.as_bytes());
     let here = words_walked(world, who, start, path.words())?;
-    if !is_directory_at(world, here.location) {
+    if !is_directory_here(world, here) {
         return Err(Rule::W3.denial());
     }
     Ok(here.location)

@@ -15,7 +15,7 @@ use Rattle.vt_location.specs.declared.locations.NodeRef.{NodeRef}
 use Rattle.vt_location.specs.declared.mounts.Mount.{Mount}
 use Rattle.vt_location.specs.Locations.{is_small_node, location_of, number_of}
 use Rattle.vt_location.specs.MountValue.{mount_of}
-use Rattle.vt_location.specs.Numbers.{counted}
+use Rattle.vt_location.specs.Numbers.{counted, mount_number}
 use Rattle.vt_location.proofs.NumberLemmas.{counted_test}
 use Rattle.vt_looks.specs.declared.look.Ground.{Ground}
 use Rattle.vt_looks.specs.Looking.{IsGround}
@@ -66,15 +66,22 @@ module _ (base : WorldValue) (store : StoreValue) (value : WorldValue) (is : wit
   in_filesystem seen =
       eqb-true (mount_at nat_eq (world_of kept) (location_of at)).filesystem (counted at.node.filesystem.count) seen
 
-  -- the object at a location that is seen is lent
+  -- the object of a node on the mount of a location that is seen is lent
+  pub object_beside : (beside : ℕ) → is_seen value at ≡ true
+      → lent_in store at.node.filesystem.count beside
+      ≡ real_of_value value (record { mount = mount_number at.mount; node = beside })
+  object_beside beside =
+      subst (λ (v : WorldValue). is_seen v at ≡ true
+      → lent_in store at.node.filesystem.count beside
+      ≡ real_of_value v (record { mount = mount_number at.mount; node = beside })) is
+      (λ seen. lent_shown base store held count beside
+      ∙ ap (λ n. as_lent ((filesystem_numbered nat_eq (world_of kept) n).files.tree.node beside)
+      (lent_of_world (world_of kept) n beside)) (sym (in_filesystem seen)))
+
+  -- so is that of its own
   pub object_is : is_seen value at ≡ true
       → lent_in store at.node.filesystem.count (number_of at.node) ≡ real_of_value value (location_of at)
-  object_is =
-      subst (λ (v : WorldValue). is_seen v at ≡ true
-      → lent_in store at.node.filesystem.count (number_of at.node) ≡ real_of_value v (location_of at)) is
-      (λ seen. lent_shown base store held count number
-      ∙ ap (λ n. as_lent ((filesystem_numbered nat_eq (world_of kept) n).files.tree.node number)
-      (lent_of_world (world_of kept) n number)) (sym (in_filesystem seen)))
+  object_is = object_beside number
 
   -- and the inode is that of the world
   pub node_is : is_seen value at ≡ true

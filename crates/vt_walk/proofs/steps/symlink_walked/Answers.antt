@@ -8,13 +8,13 @@ use Rattle.vt_walk.specs.PendingTexts.{links_within}
 use Rattle.vt_walk.specs.WalkValue.{here_of}
 use Rattle.vt_walk.proofs.steps.symlink_walked.Goals as goal
 
-pub returns-in_err-here : goal.returns-in_err-here
-returns-in_err-here g c =
+pub returns-in_err-here-clause-value : goal.returns-in_err-here-clause-value
+returns-in_err-here-clause-value g c =
     let p = err_from_is_err_and c.from_residual.result c.from_residual.ensures.1 in
     rw (p.1, p.2)
     (first-denied (g.L.Look.looks c.args.world.now) (task_of c.args.who.now) (location_of c.args.link.directory)
     (here_of c.args.met)
-    c.args.link.text.now c.args.link.behind _ c.in_err-here.ensures)
+    c.args.link.text.now c.args.link.behind _ c.in_err-here.ensures.value)
 
 pub loop-text-init : goal.loop-text-init
 loop-text-init g c =
@@ -23,29 +23,30 @@ loop-text-init g c =
     let once = rw c.new-pending.ensures at c.push.ensures.items in
     let taken = begun-left looks task (location_of c.args.link.directory) (here_of c.args.met)
     (here_of c.in_ok-here.here)
-    c.args.link.text.now c.in_ok-here.ensures in
+    c.args.link.text.now c.in_ok-here.ensures.value in
     let none = ap length c.new-pending.ensures in
     let longer = c.push.ensures.len in
     let longest = c.push-2.ensures.len in
     let few = c.args.met.few in (
       first-begun looks task (location_of c.args.link.directory)
           (here_of c.args.met) c.args.link.text.now c.args.link.behind
-          (here_of c.in_ok-here.here) c.in_ok-here.ensures _ c.of.result c.push.new.self.items c.push-2.new.self.items once c.push-2.ensures.items
+          (here_of c.in_ok-here.here) c.in_ok-here.ensures.value _ c.of.result c.push.new.self.items c.push-2.new.self.items once c.push-2.ensures.items
           refl refl c.of.ensures.text c.of.ensures.words,
       omega arith,
+      c.in_ok-here.ensures.lent,
     )
 
-pub returns-in_err-reached : goal.returns-in_err-reached
-returns-in_err-reached g c =
+pub returns-in_err-reached-clause-value : goal.returns-in_err-reached-clause-value
+returns-in_err-reached-clause-value g c =
     let looks = g.L.Look.looks c.args.world.now in
     let task = task_of c.args.who.now in
     let p = err_from_is_err_and c.from_residual-in_err-reached.result c.from_residual-in_err-reached.ensures.1 in
     rw (p.1, p.2) (top-refused looks task _ (here_of c.loop-text.here) c.loop-text.pending.items c.loop-text.invariant.0
     c.pop.new.self.items c.in-Some.field-0 c.in-Some.ensures.items _ (c.in_err-reached.ensures.value _))
 
-pub returns-in_err-begun-in-Some-link :
-    goal.returns-in_err-begun-in-Some-link
-returns-in_err-begun-in-Some-link g c =
+pub returns-in_err-begun-in-Some-link-clause-value :
+    goal.returns-in_err-begun-in-Some-link-clause-value
+returns-in_err-begun-in-Some-link-clause-value g c =
     let looks = g.L.Look.looks c.args.world.now in
     let task = task_of c.args.who.now in
     let follow = links_within (41 - length (reverse c.pop.new.self.items)) looks task in
@@ -59,11 +60,11 @@ returns-in_err-begun-in-Some-link g c =
     room
     (link_passed-as looks task follow (here_of c.in_ok-reached.field-0.here) _ _ _ c.in-Some-link.is
     (c.in_ok-reached.ensures.value follow)) _
-    c.in_err-begun-in-Some-link.ensures)
+    c.in_err-begun-in-Some-link.ensures.value)
 
-pub returns-in_err-asked_by_slash-in-None :
-    goal.returns-in_err-asked_by_slash-in-None
-returns-in_err-asked_by_slash-in-None g c =
+pub returns-in_err-asked_by_slash-in-None-clause-value :
+    goal.returns-in_err-asked_by_slash-in-None-clause-value
+returns-in_err-asked_by_slash-in-None-clause-value g c =
     let looks = g.L.Look.looks c.args.world.now in
     let task = task_of c.args.who.now in
     let follow = links_within (41 - length (reverse c.pop.new.self.items)) looks task in
@@ -87,7 +88,7 @@ loop-text-preserved-in_ok-begun-in-Some-link g c =
     let left = c.in_ok-reached.ensures.left in
     let taken = begun-left looks task (location_of c.in-Some-link.link.directory) (here_of c.in_ok-reached.field-0.here)
     (here_of c.in_ok-begun-in-Some-link.begun) c.in-Some-link.link.text.now
-    c.in_ok-begun-in-Some-link.ensures in
+    c.in_ok-begun-in-Some-link.ensures.value in
     let longer = c.push-in-Some-link.ensures.len in
     let longest = c.push-in-Some-link-2.ensures.len in (
       link-begun looks task _ (here_of c.loop-text.here) c.loop-text.pending.items c.loop-text.invariant.0
@@ -96,10 +97,11 @@ loop-text-preserved-in_ok-begun-in-Some-link g c =
           room
           (link_passed-as looks task follow (here_of c.in_ok-reached.field-0.here) _ _ _ c.in-Some-link.is
           (c.in_ok-reached.ensures.value follow))
-          (here_of c.in_ok-begun-in-Some-link.begun) c.in_ok-begun-in-Some-link.ensures
+          (here_of c.in_ok-begun-in-Some-link.begun) c.in_ok-begun-in-Some-link.ensures.value
           (record { text = c.in-Some.field-0.text; words = c.in-Some-link.link.behind }) c.of-in-Some-link.result refl refl c.of-in-Some-link.ensures.text c.of-in-Some-link.ensures.words
           c.push-in-Some-link.new.self.items c.push-in-Some-link-2.new.self.items c.push-in-Some-link.ensures.items c.push-in-Some-link-2.ensures.items,
       omega arith,
+      c.in_ok-begun-in-Some-link.ensures.lent,
     )
 
 pub loop-text-preserved : goal.loop-text-preserved
@@ -116,4 +118,5 @@ loop-text-preserved g c =
           (c.in_ok-reached.ensures.value follow))
           c.in_ok-asked_by_slash-in-None.ensures,
       omega arith,
+      c.in_ok-reached.ensures.lent,
     )

@@ -1,8 +1,8 @@
 use Rattle.vt_walk.specs.PlainWalks.{followed}
-use Rattle.std.proofs.Common.{◌≡◌, ◌+◌, ◌*◌, ◌≤◌, Some, length, reverse}
+use Rattle.std.proofs.Common.{◌≡◌, ◌+◌, ◌*◌, ◌≤◌, Some, length, option_copied, reverse}
 use Rattle.vt_tasks.specs.TaskValue.{task_of}
 use Rattle.vt_walk.specs.PendingTexts.{link_passed, texts_walked}
-use Rattle.vt_walk.specs.WalkValue.{here_of}
+use Rattle.vt_walk.specs.WalkValue.{IsLent, here_of}
 use Rattle.vt_walk.proofs.steps.symlink_walked.Given as goal
 
 abbrev pub decreases-loop-text : goal.decreases-loop-text
@@ -14,3 +14,4 @@ invariant-loop-text g l =
     ≡ link_passed (g.L.Look.looks l.world) (task_of l.who) (followed (g.L.Look.looks l.world) (task_of l.who))
     (here_of l.fn.met) (Some l.fn.link))
     × (l.here.left + length l.pending.items ≤ 41)
+    × IsLent (g.L.Look.real l.world) l.here.location (option_copied l.here.lent)

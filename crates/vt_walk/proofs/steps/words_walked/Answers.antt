@@ -6,22 +6,22 @@ use Rattle.vt_walk.proofs.PendingWalked.{link_passed-as}
 use Rattle.vt_walk.specs.WalkValue.{here_of}
 use Rattle.vt_walk.proofs.steps.words_walked.Goals as goal
 
-pub returns-in_err-here : goal.returns-in_err-here
-returns-in_err-here g c =
+pub returns-in_err-here-clause-value : goal.returns-in_err-here-clause-value
+returns-in_err-here-clause-value g c =
     let p = err_from_is_err_and c.from_residual.result c.from_residual.ensures.1 in
     rw (p.1, p.2) (c.in_err-here.ensures.value (followed (g.L.Look.looks c.args.world.now) (task_of c.args.who.now)))
 
-pub returns-in-Some : goal.returns-in-Some
-returns-in-Some g c =
+pub returns-in-Some-clause-value : goal.returns-in-Some-clause-value
+returns-in-Some-clause-value g c =
     let looks = g.L.Look.looks c.args.world.now in
     let task = task_of c.args.who.now in
     let follow = followed looks task in
-    c.symlink_walked.ensures
+    c.symlink_walked.ensures.value
     ∙ link_passed-as looks task follow (here_of c.in_ok-here.field-0.here) _ _ _
     c.in-Some.is (c.in_ok-here.ensures.value follow)
 
-pub returns-in-None : goal.returns-in-None
-returns-in-None g c =
+pub returns-in-None-clause-value : goal.returns-in-None-clause-value
+returns-in-None-clause-value g c =
     let looks = g.L.Look.looks c.args.world.now in
     let task = task_of c.args.who.now in
     let follow = followed looks task in

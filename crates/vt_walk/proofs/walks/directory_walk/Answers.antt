@@ -11,26 +11,26 @@ returns-in_err-here-clause-value g c =
     let p = err_from_is_err_and c.from_residual.result c.from_residual.ensures.1 in
     rw (p.1, p.2) (directory_walk-by (g.L.Look.looks c.args.world.now)
     (task_of c.args.who.now) c.args.path.now c.words.ensures.limits c.as_bytes.result.now c.as_bytes.ensures.value
-    (here_of c.at_start-start.result) c.at_start-start.ensures
-    (Err _) c.words.result c.words.ensures.value c.in_err-here.ensures)
+    (here_of c.at_start-start.result) c.at_start-start.ensures.value
+    (Err _) c.words.result c.words.ensures.value c.in_err-here.ensures.value)
 
-pub returns-then-not-is_directory_at-clause-value : goal.returns-then-not-is_directory_at-clause-value
-returns-then-not-is_directory_at-clause-value g c =
+pub returns-then-not-is_directory_here-clause-value : goal.returns-then-not-is_directory_here-clause-value
+returns-then-not-is_directory_here-clause-value g c =
     let looks = g.L.Look.looks c.args.world.now in
     let task = task_of c.args.who.now in
     ap (λ deny. Err deny) c.denial.ensures
     ∙ directory-refused looks task (location_of c.in_ok-here.here.location)
-    (sym c.is_directory_at.ensures ∙ c.if-not-is_directory_at.true)
+    (sym c.is_directory_here.ensures ∙ c.if-not-is_directory_here.true)
     ∙ directory_walk-by looks task c.args.path.now c.words.ensures.limits c.as_bytes.result.now c.as_bytes.ensures.value
-    (here_of c.at_start-start.result) c.at_start-start.ensures
-    (Ok (here_of c.in_ok-here.here)) c.words.result c.words.ensures.value c.in_ok-here.ensures
+    (here_of c.at_start-start.result) c.at_start-start.ensures.value
+    (Ok (here_of c.in_ok-here.here)) c.words.result c.words.ensures.value c.in_ok-here.ensures.value
 
 pub returns-clause-value : goal.returns-clause-value
 returns-clause-value g c =
     let looks = g.L.Look.looks c.args.world.now in
     let task = task_of c.args.who.now in
     directory-passed looks task (location_of c.in_ok-here.here.location)
-    (sym c.is_directory_at.ensures ∙ c.if-not-is_directory_at.false)
+    (sym c.is_directory_here.ensures ∙ c.if-not-is_directory_here.false)
     ∙ directory_walk-by looks task c.args.path.now c.words.ensures.limits c.as_bytes.result.now c.as_bytes.ensures.value
-    (here_of c.at_start-start.result) c.at_start-start.ensures
-    (Ok (here_of c.in_ok-here.here)) c.words.result c.words.ensures.value c.in_ok-here.ensures
+    (here_of c.at_start-start.result) c.at_start-start.ensures.value
+    (Ok (here_of c.in_ok-here.here)) c.words.result c.words.ensures.value c.in_ok-here.ensures.value

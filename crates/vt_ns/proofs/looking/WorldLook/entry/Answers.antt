@@ -1,6 +1,8 @@
-use Rattle.std.proofs.Common.{ap, rules, ◌∙◌, ℕ}
+use Rattle.std.proofs.Common.{Some, ap, option_map, rules, sym, ◌∙◌, ℕ}
 use Rattle.std.specs.Prelude.{Option}
 use Rattle.vt_spec.specs.Tree.{Node, entries_in, entry_named}
+use Rattle.vt_location.specs.Locations.{number_of}
+use Rattle.vt_looks.specs.declared.look.Entry.{Entry}
 use Rattle.vt_detach.proofs.StoreShown.{store_stands}
 use Rattle.vt_ns.proofs.looking.LooksKept.{node_is, object_is, seen_if_lent}
 use Rattle.vt_ns.proofs.looking.WorldLook.entry.Goals as goal
@@ -17,11 +19,24 @@ entry-requires c = record {
       ∙ c.requires;
 }
 
-pub returns : goal.returns
-returns c =
-    c.entry.ensures
+pub returns-in_err-node-clause-node : goal.returns-in_err-node-clause-node
+returns-in_err-node-clause-node c =
+    ap (option_map (λ (entry : Entry). number_of entry.node)) c.from_residual.ensures
+    ∙ ap (option_map number_of) (sym c.in_err-node.was) ∙ c.entry.ensures
     ∙ ap (λ (node : Option (Node ℕ)). entry_named c.args.name.now (entries_in node))
     (node_is (the_view c.self.inside) c.self.inside.store c.args.self.now c.self.view_is c.self.invariant c.args.at
     (search rules)
     (seen_if_lent (the_view c.self.inside) c.self.inside.store c.args.self.now c.self.view_is c.self.invariant
     c.args.at (search rules) c.args.object.now c.requires))
+
+pub returns-clause-node : goal.returns-clause-node
+returns-clause-node c =
+    ap (option_map number_of) (sym c.in_ok-node.was) ∙ c.entry.ensures
+    ∙ ap (λ (node : Option (Node ℕ)). entry_named c.args.name.now (entries_in node))
+    (node_is (the_view c.self.inside) c.self.inside.store c.args.self.now c.self.view_is c.self.invariant c.args.at
+    (search rules)
+    (seen_if_lent (the_view c.self.inside) c.self.inside.store c.args.self.now c.self.view_is c.self.invariant
+    c.args.at (search rules) c.args.object.now c.requires))
+
+pub returns-clause-object : goal.returns-clause-object
+returns-clause-object c = c.object_beside.ensures
