@@ -1,20 +1,57 @@
--- What is in a list, once one was taken out of it.
-use Rattle.std.proofs.Common.{◌≡◌, ◌<◌, ℕ, Bool, true, false, List, ◌∷◌, ◌||◌, get_or, length, sym, swap_remove, ap, ◌∙◌}
-use Rattle.std.proofs.lemmas.List.Sorted.{IsPermutation-swap_remove, list_any-IsPermutation}
+-- What is in a list, once one was put into it or taken out of it.
+use Rattle.std.proofs.Common.{◌≡◌, ◌<◌, ◌+◌, ℕ, suc, Bool, true, false, List, ◌∷◌, ◌++◌, ◌||◌, drop, get_or, length, take, refl, sym, ap, ◌∙◌, arith}
+use Rattle.std.proofs.Math.Seq.{drop-cons}
+use Rattle.std.proofs.lemmas.List.{take-append-drop}
+use Rattle.std.proofs.lemmas.List.Folds.{list_any-append}
 use Rattle.std.specs.Cmp.{IsEquivalence}
 use Rattle.std.specs.List.{list_any}
 
+-- some pass a test in the parts of a list
+any-parted : {T : Type 0} (test : T → Bool) (i : ℕ) (list : List T)
+    → list_any test list ≡ (list_any test (take i list) || list_any test (drop i list))
+any-parted test i list =
+    ap (list_any test) (sym (take-append-drop i list)) ∙ list_any-append test (take i list) (drop i list)
+
 module _ {T : Type 0} {eq : T → T → Bool} (laws : IsEquivalence eq) where
-  -- the others of a list stay where the last of it comes in the place of one
-  pub any-left : (one x : T) (list now : List T) (i : ℕ) → i < length list → x ≡ get_or list i x → eq x one ≡ true
-      → now ≡ swap_remove list i x → (other : T) → eq one other ≡ false
+  -- one that was put in is there
+  pub any-put : (one : T) (list : List T) (i : ℕ) → list_any (eq one) (take i list ++ one ∷ drop i list) ≡ true
+  any-put one list i =
+      list_any-append (eq one) (take i list) (one ∷ drop i list)
+      ∙ ap (λ b. list_any (eq one) (take i list) || (b || list_any (eq one) (drop i list))) (laws.refl one)
+      ∙ by (list_any (eq one) (take i list))
+    where
+      by : (a : Bool) → (a || true) ≡ true
+      by true = refl
+      by false = refl
+
+  -- and what was there stays
+  pub any-beside : (one other : T) (list : List T) (i : ℕ) → list_any (eq other) list ≡ true
+      → list_any (eq other) (take i list ++ one ∷ drop i list) ≡ true
+  any-beside one other list i there =
+      list_any-append (eq other) (take i list) (one ∷ drop i list)
+      ∙ by (list_any (eq other) (take i list)) (eq other one) (list_any (eq other) (drop i list))
+      (sym (any-parted (eq other) i list) ∙ there)
+    where
+      by : (a b c : Bool) → (a || c) ≡ true → (a || (b || c)) ≡ true
+      by true b c any = refl
+      by false true c any = refl
+      by false false c any = any
+
+  -- the others stay where one is taken out
+  pub any-left : (one other d : T) (list now : List T) (i : ℕ) → i < length list → eq (get_or list i d) one ≡ true
+      → now ≡ take i list ++ drop (i + 1) list → eq one other ≡ false
       → list_any (eq other) list ≡ true → list_any (eq other) now ≡ true
-  any-left one x list now i within is same left other apart there =
+  any-left one other d list now i within same left apart there =
+      let next : suc i ≡ i + 1 = omega arith in
       ap (list_any (eq other)) left
-      ∙ later (eq other x) (laws.symm other x ∙ laws.congr x one other same ∙ apart)
-      (sym (list_any-IsPermutation (eq other) list (x ∷ swap_remove list i x) (IsPermutation-swap_remove list i x within is))
+      ∙ list_any-append (eq other) (take i list) (drop (i + 1) list)
+      ∙ by (list_any (eq other) (take i list)) (eq other (get_or list i d)) (list_any (eq other) (drop (i + 1) list))
+      (laws.symm other (get_or list i d) ∙ laws.congr (get_or list i d) one other same ∙ apart)
+      (sym (any-parted (eq other) i list
+      ∙ ap (λ l. list_any (eq other) (take i list) || list_any (eq other) l)
+      (drop-cons list i d within ∙ ap (λ n. get_or list i d ∷ drop n list) next))
       ∙ there)
     where
-      later : (b : Bool) → b ≡ false → (b || list_any (eq other) (swap_remove list i x)) ≡ true
-          → list_any (eq other) (swap_remove list i x) ≡ true
-      later b none any = ap (λ b. b || list_any (eq other) (swap_remove list i x)) (sym none) ∙ any
+      by : (a b c : Bool) → b ≡ false → (a || (b || c)) ≡ true → (a || c) ≡ true
+      by true b c none any = refl
+      by false b c none any = ap (λ b. b || c) (sym none) ∙ any

@@ -111,13 +111,3 @@ source_has group (Slave master) is =
     counted_same master.count group.count (same_Some (counted master.count) (counted group.count) is)
 source_has group Unshared is = absurd (true≢false (sym (ap is_some is)))
 source_has group Unbindable is = absurd (true≢false (sym (ap is_some is)))
-
--- a member of a group is shared in it
-pub member_kind : (group : GroupId) (kind : Kept)
-    → holds_of (nat_eq (counted group.count)) (group_of (propagation_of kind)) ≡ true → kind ≡ Shared group
-member_kind group (Shared own) is =
-    let same : own.count ≡ group.count = omega (arith, eqb-true (counted group.count) (counted own.count) is) in
-    λ i. Shared (record { count = same i })
-member_kind group (Slave master) is = absurd (true≢false (sym is))
-member_kind group Unshared is = absurd (true≢false (sym is))
-member_kind group Unbindable is = absurd (true≢false (sym is))

@@ -38,6 +38,7 @@ impl<V: Copy + Clone + Drop> ByNumber<V> {
     }
 
     /// The value of a number.
+    #[inline]
     pub(crate) fn get(&self, number: u64) -> Option<V>
         ensures { result ≡ value_at self.now number }
     {
@@ -48,6 +49,7 @@ impl<V: Copy + Clone + Drop> ByNumber<V> {
     }
 
     /// Whether a number has a value.
+    #[inline]
     pub(crate) fn has(&self, number: u64) -> bool
         ensures { result ≡ is_some (value_at self.now number) }
     {

@@ -35,6 +35,7 @@ impl Counts {
     }
 
     /// The count of a group.
+    #[inline]
     pub(crate) fn of(&self, group: GroupId) -> usize
         ensures { result ≡ count_of self.now group }
     {

@@ -81,6 +81,7 @@ impl Groups {
     }
 
     /// The propagation type of a mount that is in a group or a slave of one. Any other is private or unbindable.
+    #[inline]
     pub fn propagation_of(&self, mount: MountId) -> Option<Propagation>
         ensures { type_or_private result ≡ propagation_in self.now (mount_number mount) }
     {
@@ -88,6 +89,7 @@ impl Groups {
     }
 
     /// The master of a group.
+    #[inline]
     pub fn master_of(&self, group: GroupId) -> Option<GroupId>
         ensures { option_map group_number result ≡ master_in self.now (group_number group) }
     {
@@ -190,6 +192,7 @@ impl Groups {
     }
 
     // Adds a mount, if it is a member or a slave of a group.
+    #[inline]
     fn add_relative(
         &self,
         mounts: &mut Vec<MountId>,
@@ -225,6 +228,7 @@ impl Groups {
     }
 
     // Adds a group, if it has that one as its master.
+    #[inline]
     fn add_lower(
         &self,
         found: &mut IndexSet<GroupId>,

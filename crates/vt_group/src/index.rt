@@ -17,7 +17,6 @@ use crate::by_number::ByNumber;
 use crate::groups::NewGroup;
 use crate::listed::Listed;
 use crate::names::{Left, Names};
-use crate::places::{Noted, Place, Places, forget_lower, forget_untyped};
 use crate::propagation::source;
 use crate::set::Element;
 use crate::sets::{Sets, keep_lower, keep_typed};
@@ -33,9 +32,6 @@ pub(crate) struct Index {
     // By names: the mounts of groups, and the groups below them.
     mounts: Sets<MountId>,
     lowers: Sets<GroupId>,
-    // Where each of these is listed.
-    mount_places: Places<MountId>,
-    lower_places: Places<GroupId>,
 }
 
 impl Index {
@@ -45,8 +41,6 @@ impl Index {
             names: Names::new(alloc),
             mounts: Sets::new(alloc),
             lowers: Sets::new(alloc),
-            mount_places: Places::new(alloc),
-            lower_places: Places::new(alloc),
         }
     }
 
@@ -80,13 +74,7 @@ impl Index {
             → is_lower self.new lower upper ≡ true }
     {
         match source(kind) {
-            Some(group) => put(
-                &mut self.names,
-                &mut self.mounts,
-                &mut self.mount_places,
-                group,
-                mount,
-            ),
+            Some(group) => put(&mut self.names, &mut self.mounts, group, mount),
             None => Ok(()),
         }
     }
@@ -98,13 +86,7 @@ impl Index {
             → is_listed self.new mount kind ≡ true }
         ensures lower { (low up : GroupNumber) → is_lower self.old low up ≡ true → is_lower self.new low up ≡ true }
     {
-        put(
-            &mut self.names,
-            &mut self.lowers,
-            &mut self.lower_places,
-            upper,
-            lower,
-        )
+        put(&mut self.names, &mut self.lowers, upper, lower)
     }
 
     /// Lists the groups that have masters here.
@@ -235,14 +217,7 @@ impl Index {
             return;
         }
         let stays = self.names.of_any(now);
-        let left = take_out(
-            &mut self.mounts,
-            &mut self.mount_places,
-            &self.names,
-            group,
-            stays,
-            mount,
-        );
+        let left = take_out(&mut self.mounts, self.names.of(group), stays, mount);
         self.names
             .prune_left(group, left, &self.mounts, &self.lowers);
     }
@@ -257,14 +232,7 @@ impl Index {
             → is_lower self.new lower upper ≡ true }
     {
         let stays = self.names.of_any(is);
-        let left = take_out(
-            &mut self.lowers,
-            &mut self.lower_places,
-            &self.names,
-            was,
-            stays,
-            lower,
-        );
+        let left = take_out(&mut self.lowers, self.names.of(was), stays, lower);
         self.names.prune_left(was, left, &self.mounts, &self.lowers);
     }
 
@@ -350,15 +318,6 @@ impl Index {
             → is_lower self.old lower upper ≡ true → is_lower self.new lower upper ≡ true }
     {
         let names = self.names.of(lost);
-        forget_under(
-            names,
-            &self.mounts,
-            &mut self.mount_places,
-            &self.lowers,
-            &mut self.lower_places,
-            types,
-            above,
-        );
         keep_under(names, &mut self.mounts, &mut self.lowers, types, above);
         self.names.forget(lost);
     }
@@ -368,7 +327,6 @@ impl Index {
 fn put<T: Element>(
     names: &mut Names,
     sets: &mut Sets<T>,
-    places: &mut Places<T>,
     group: GroupId,
     one: T,
 ) -> Result<(), AllocError>
@@ -377,88 +335,13 @@ fn put<T: Element>(
     ensures sets { (at : GroupNumber) (other : T) → has T.eq at other sets.old ≡ true
         → has T.eq at other sets.new ≡ true }
 {
-    if let Some(place) = places.of(one) {
-        if is_listed_at(names, sets, group, one, place) {
-            return Ok(());
-        }
-    }
     let name = names.name(group)?;
-    let index = sets.push(name, one)?;
-    places.put(one, Place { name, index })
+    sets.insert(name, one)
 }
 
-// Whether one is listed at this place, under a name of a group.
-fn is_listed_at<T: Element>(
-    names: &Names,
-    sets: &Sets<T>,
-    group: GroupId,
-    one: T,
-    place: Place,
-) -> bool
-    ensures { result ≡ true → is_under T.eq names.now sets.now one group ≡ true }
-{
-    names.of(group).contains(&place.name) && sets.is_at(place.name, place.index, &one)
-}
-
-// Takes one out from under a name of its group, unless it stays there.
+// Takes one out from under the first of these names under which it is and does not stay.
 fn take_out<T: Element>(
     sets: &mut Sets<T>,
-    places: &mut Places<T>,
-    names: &Names,
-    group: GroupId,
-    stays: &LinkedList<GroupId>,
-    one: T,
-) -> Option<Left>
-    ensures others { (at : GroupNumber) (other : T) → T.eq one other ≡ false → has T.eq at other sets.old ≡ true
-        → has T.eq at other sets.new ≡ true }
-    ensures own { (at : GroupNumber) (other : T) → list_any (λ name. same_group name at) stays.now ≡ true
-        → has T.eq at other sets.old ≡ true → has T.eq at other sets.new ≡ true }
-{
-    if let Some(left) = take_out_noted(sets, places, stays, one) {
-        return Some(left);
-    }
-    take_out_found(sets, places, names.of(group), stays, one)
-}
-
-// The same at the place that is noted for it, if it is there.
-fn take_out_noted<T: Element>(
-    sets: &mut Sets<T>,
-    places: &mut Places<T>,
-    stays: &LinkedList<GroupId>,
-    one: T,
-) -> Option<Left>
-    ensures others { (at : GroupNumber) (other : T) → T.eq one other ≡ false → has T.eq at other sets.old ≡ true
-        → has T.eq at other sets.new ≡ true }
-    ensures own { (at : GroupNumber) (other : T) → list_any (λ name. same_group name at) stays.now ≡ true
-        → has T.eq at other sets.old ≡ true → has T.eq at other sets.new ≡ true }
-{
-    let place = left_place(places, stays, one)?;
-    take_out_at(sets, places, one, place)
-}
-
-// The place that is noted for one, unless it stays there. It is forgotten, and one that is noted beside it is not.
-fn left_place<T: Element>(
-    places: &mut Places<T>,
-    stays: &LinkedList<GroupId>,
-    one: T,
-) -> Option<Place>
-    ensures { IfSome result (λ place. list_any (λ other. same_group other place.name) stays.now ≡ false) }
-{
-    let noted = places.take(one)?;
-    if stays.contains(&noted.first.name) {
-        places.put_back(one, noted);
-        return None;
-    }
-    if let Some(first) = noted.next {
-        places.put_back(one, Noted { first, next: None });
-    }
-    Some(noted.first)
-}
-
-// The same from under the first of these names under which it is.
-fn take_out_found<T: Element>(
-    sets: &mut Sets<T>,
-    places: &mut Places<T>,
     names: &LinkedList<GroupId>,
     stays: &LinkedList<GroupId>,
     one: T,
@@ -467,70 +350,32 @@ fn take_out_found<T: Element>(
         → has T.eq at other sets.new ≡ true }
     ensures own { (at : GroupNumber) (other : T) → list_any (λ name. same_group name at) stays.now ≡ true
         → has T.eq at other sets.old ≡ true → has T.eq at other sets.new ≡ true }
-{
-    let name = name_over(sets, names, stays, one)?;
-    take_out_at(sets, places, one, Place { name, index: 0 })
-}
-
-// Takes one out from under a name, where it may be at this index.
-fn take_out_at<T: Element>(
-    sets: &mut Sets<T>,
-    places: &mut Places<T>,
-    one: T,
-    place: Place,
-) -> Option<Left>
-    ensures { (at : GroupNumber) (other : T) → (same_group place.name at && T.eq one other) ≡ false
-        → has T.eq at other sets.old ≡ true → has T.eq at other sets.new ≡ true }
-{
-    let removed = sets.remove(place.name, place.index, one)?;
-    if let Some(next) = removed.next {
-        let index = removed.index;
-        places.shift(next, Place { index, ..place });
-    }
-    Some(Left {
-        name: place.name,
-        was_last: removed.was_last,
-    })
-}
-
-// The name that one is to be taken out from under: the first of these under which it is.
-fn name_over<T: Element>(
-    sets: &Sets<T>,
-    names: &LinkedList<GroupId>,
-    stays: &LinkedList<GroupId>,
-    one: T,
-) -> Option<GroupId>
-    ensures { IfSome result (λ name. list_any (λ other. same_group other name) stays.now ≡ false) }
 {
     for name in names {
-        if leaves(sets, *name, stays, one) {
-            return Some(*name);
+        if let Some(left) = take_out_of(sets, *name, stays, one) {
+            return Some(left);
         }
     }
     None
 }
 
-// Whether one is under a name, and does not stay there.
-fn leaves<T: Element>(sets: &Sets<T>, name: GroupId, stays: &LinkedList<GroupId>, one: T) -> bool
-    ensures { result ≡ true → list_any (λ other. same_group other name) stays.now ≡ false }
+// Takes one out from under a name, unless it stays there.
+fn take_out_of<T: Element>(
+    sets: &mut Sets<T>,
+    name: GroupId,
+    stays: &LinkedList<GroupId>,
+    one: T,
+) -> Option<Left>
+    ensures others { (at : GroupNumber) (other : T) → T.eq one other ≡ false → has T.eq at other sets.old ≡ true
+        → has T.eq at other sets.new ≡ true }
+    ensures own { (at : GroupNumber) (other : T) → list_any (λ name. same_group name at) stays.now ≡ true
+        → has T.eq at other sets.old ≡ true → has T.eq at other sets.new ≡ true }
 {
-    sets.contains(name, &one) && !stays.contains(&name)
-}
-
-// What is under these names and has no type or no master is under no name any more.
-fn forget_under(
-    names: &LinkedList<GroupId>,
-    mounts: &Sets<MountId>,
-    mount_places: &mut Places<MountId>,
-    lowers: &Sets<GroupId>,
-    lower_places: &mut Places<GroupId>,
-    types: &ByNumber<Propagation>,
-    above: &ByNumber<GroupId>,
-) {
-    for name in names {
-        forget_untyped(mount_places, mounts.get(*name), types);
-        forget_lower(lower_places, lowers.get(*name), above);
+    if stays.contains(&name) {
+        return None;
     }
+    let was_last = sets.remove(name, one)?;
+    Some(Left { name, was_last })
 }
 
 // Takes out what is under these names and has no type or no master.

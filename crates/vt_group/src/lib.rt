@@ -9,13 +9,12 @@ mod handing;
 mod index;
 pub mod laws;
 mod listed;
+mod name_list;
 mod names;
-mod places;
 mod propagation;
 mod set;
 mod sets;
 mod types;
-mod unused;
 
 pub use groups::{Groups, NewGroup};
 pub use listed::Listed;

@@ -28,6 +28,7 @@ impl<'a, T> Model for Listed<'a, T> {
 
 impl<'a, T: Element> Listed<'a, T> {
     /// All that is kept under these names.
+    #[inline]
     pub(crate) fn new(names: &'a LinkedList<GroupId>, sets: &'a Sets<T>) -> Self
         ensures { result ≡ flat_map (λ name. kept_in name sets.now) names.now }
     {
@@ -48,6 +49,7 @@ impl<'a, T: Element> Iterator for Listed<'a, T> {
 
     ghost remaining = { item_count (λ rest. rest) };
 
+    #[inline]
     fn next(&mut self) -> Option<T> {
         loop {
             if let Some((one, rest)) = self.here.split_first() {

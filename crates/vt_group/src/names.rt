@@ -7,8 +7,8 @@ ghost use Rattle.vt_location.specs.declared.numbers.MountId.{MountId as MountNum
 ghost use Rattle.vt_group.specs.Names.{KeepsNames, is_under, names_of, names_of_any};
 ghost use Rattle.vt_group.specs.Sets.{has, kept_in, same_group, same_id};
 
+use crate::name_list::NameList;
 use crate::sets::Sets;
-use crate::unused::Unused;
 use indexmap::IndexMap;
 use std::alloc::{AllocError, Global};
 use std::collections::LinkedList;
@@ -29,12 +29,11 @@ pub(crate) struct Left {
 /// of which nothing has to be moved.
 #[derive(Debug, Drop)]
 pub(crate) struct Names {
-    lists: IndexMap<GroupId, LinkedList<GroupId>>,
+    lists: IndexMap<GroupId, NameList>,
     // The names of a group that has none.
     none: LinkedList<GroupId>,
     // How many names were made, so that two lists are known to fit into one.
     made: usize,
-    unused: Unused,
 }
 
 impl Model for Names {
@@ -56,7 +55,6 @@ impl Names {
             lists: IndexMap::new(alloc),
             none: LinkedList::new(alloc),
             made: 0,
-            unused: Unused::new(alloc),
         }
     }
 
@@ -66,16 +64,18 @@ impl Names {
     }
 
     /// The names of a group.
+    #[inline]
     pub(crate) fn of(&self, group: GroupId) -> &LinkedList<GroupId>
         ensures { result.now ≡ names_of self.now group }
     {
         match self.lists.get(&group) {
-            Some(list) => list,
+            Some(list) => list.names(),
             None => &self.none,
         }
     }
 
     /// The names of a group, if any.
+    #[inline]
     pub(crate) fn of_any(&self, group: Option<GroupId>) -> &LinkedList<GroupId>
         ensures { result.now ≡ names_of_any self.now group }
     {
@@ -106,9 +106,7 @@ impl Names {
         if self.made == MOST_NAMES {
             return Err(AllocError);
         }
-        let mut list = LinkedList::new(self.allocator());
-        list.push_back(group)?;
-        self.unused.start(group)?;
+        let list = NameList::new(self.allocator(), group)?;
         self.lists.insert(group, list)?;
         self.made += 1;
         Ok(group)
@@ -150,8 +148,10 @@ impl Names {
         if !left.was_last || is_used(left.name, mounts, lowers) {
             return true;
         }
-        let names = self.of(group).len();
-        !self.unused.add(group, names)
+        let Some(list) = self.lists.get_mut(&group) else {
+            return false;
+        };
+        !list.note_unused()
     }
 
     // Drops the names of a group under which nothing is kept.
@@ -164,8 +164,8 @@ impl Names {
         let Some(list) = self.lists.get_mut(&group) else {
             return;
         };
-        drop_unused(list, mounts, lowers);
-        if list.is_empty() {
+        list.keep_used(mounts, lowers);
+        if list.names().is_empty() {
             self.forget(group);
         }
     }
@@ -179,7 +179,6 @@ impl Names {
         ensures kept { (at : GroupNumber) (test : GroupNumber → Bool) → same_group lost at ≡ false
             → list_any test (names_of self.old at) ≡ true → list_any test (names_of self.new at) ≡ true }
     {
-        self.unused.inherit(lost, heir);
         let Some(mut list) = self.lists.swap_remove(&lost) else {
             return;
         };
@@ -194,13 +193,16 @@ impl Names {
         ensures kept { (at : GroupNumber) (test : GroupNumber → Bool) → same_group lost at ≡ false
             → list_any test (names_of self.old at) ≡ true → list_any test (names_of self.new at) ≡ true }
     {
-        self.unused.forget(lost);
         self.lists.swap_remove(&lost);
     }
 }
 
 // Drops the names under which nothing is kept. The others keep their order.
-fn drop_unused(list: &mut LinkedList<GroupId>, mounts: &Sets<MountId>, lowers: &Sets<GroupId>)
+pub(crate) fn drop_unused(
+    list: &mut LinkedList<GroupId>,
+    mounts: &Sets<MountId>,
+    lowers: &Sets<GroupId>,
+)
     ensures mounts { (mount : MountNumber) → list_any (λ name. has same_id name mount mounts.now) list.old ≡ true
         → list_any (λ name. has same_id name mount mounts.now) list.new ≡ true }
     ensures lowers { (lower : GroupNumber) → list_any (λ name. has same_group name lower lowers.now) list.old ≡ true

@@ -11,6 +11,7 @@ ghost use Rattle.vt_location.specs.Numbers.{group_number};
 use vt_location::{GroupId, Propagation};
 
 // The group that a mount of this type is in.
+#[inline]
 pub(crate) fn own_group(kind: Propagation) -> Option<GroupId>
     ensures kept { result ≡ group_of_kind kind }
     ensures number { option_map group_number result ≡ group_of (propagation_of kind) }
@@ -29,6 +30,7 @@ pub(crate) fn is_in(kind: Propagation, group: GroupId) -> bool
 }
 
 // The group that a mount of this type receives from.
+#[inline]
 pub(crate) fn source(kind: Propagation) -> Option<GroupId>
     ensures kept { result ≡ source_of_kind kind }
     ensures number { option_map group_number result ≡ source_of (propagation_of kind) }
@@ -41,6 +43,7 @@ pub(crate) fn source(kind: Propagation) -> Option<GroupId>
 }
 
 // Whether a mount of this type receives from this group.
+#[inline]
 pub(crate) fn has_source(kind: Propagation, group: GroupId) -> bool
     ensures { result ≡ holds_of (nat_eq (group_number group)) (source_of (propagation_of kind)) }
 {

@@ -1,5 +1,5 @@
-//! One set of mounts or groups, as a list. It does not allocate while it has at most one.
-ghost use Rattle.std.specs.Prelude.{◌≡◌, ◌<◌, cond, false, true, get_or, length, IfSome, IsSome, IsTrue, OnOk, IfOk, ◌∷◌, []};
+//! One set of mounts or groups, as a list in ascending order. It does not allocate while it has at most one.
+ghost use Rattle.std.specs.Prelude.{◌≡◌, ◌<◌, ◌≤◌, false, true, get_or, length, IfSome, IsSome, IsTrue, OnOk, IfOk, ◌∷◌, []};
 ghost use Rattle.std.specs.List.{list_any};
 ghost use Rattle.vt_location.specs.declared.numbers.GroupId.{GroupId as GroupNumber};
 ghost use Rattle.vt_location.specs.declared.numbers.MountId.{MountId as MountNumber};
@@ -20,11 +20,18 @@ pub trait Element: Eq + Hash + Copy + Clone + Drop {
     /// A list of this one alone.
     fn alone(&self) -> &[Self]
         ensures { result.now ≡ self.now ∷ [] };
+
+    /// By what a list of such is in order.
+    fn count(&self) -> u64;
 }
 
 impl Element for MountId {
     fn alone(&self) -> &[MountId] {
         slice::from_ref(self)
+    }
+
+    fn count(&self) -> u64 {
+        self.count
     }
 }
 
@@ -32,9 +39,13 @@ impl Element for GroupId {
     fn alone(&self) -> &[GroupId] {
         slice::from_ref(self)
     }
+
+    fn count(&self) -> u64 {
+        self.count
+    }
 }
 
-/// A set, as a list.
+/// A set, as a list in ascending order.
 #[derive(Debug, Drop)]
 pub(crate) enum Set<T> {
     /// At most one.
@@ -64,83 +75,103 @@ impl<T: Element> Set<T> {
         }
     }
 
-    /// Adds one, and returns its index in the list.
-    pub(crate) fn push(&mut self, alloc: Global, one: T) -> Result<usize, AllocError>
-        ensures added { OnOk result ((other : T) → list_any (T.eq other) (elements self.new)
-            ≡ cond (T.eq one other) true (list_any (T.eq other) (elements self.old))) }
+    /// Adds one, unless it is in the set.
+    pub(crate) fn insert(&mut self, alloc: Global, one: T) -> Result<(), AllocError>
+        ensures there { OnOk result (list_any (T.eq one) (elements self.new) ≡ true) }
         ensures kept { (other : T) → list_any (T.eq other) (elements self.old) ≡ true
             → list_any (T.eq other) (elements self.new) ≡ true }
     {
         match self {
             Set::One(None) => {
                 *self = Set::One(Some(one));
-                Ok(0)
+                Ok(())
             }
+            Set::One(Some(only)) if *only == one => Ok(()),
             Set::One(Some(only)) => {
                 *self = Set::Many(pair(alloc, *only, one)?);
-                Ok(1)
+                Ok(())
             }
-            Set::Many(many) => {
-                let index = many.len();
-                many.push(one)?;
-                Ok(index)
-            }
+            Set::Many(many) => add(many, one),
         }
     }
 
-    /// Takes one out, which may be at this index of the list, and returns the index where it was. The last of the list
-    /// is there then. It does not allocate.
-    pub(crate) fn remove(&mut self, index: usize, one: &T) -> Option<usize>
+    /// Takes one out, and returns whether it was there. It does not allocate.
+    pub(crate) fn remove(&mut self, one: &T) -> bool
         ensures { (other : T) → T.eq one.now other ≡ false → list_any (T.eq other) (elements self.old) ≡ true
             → list_any (T.eq other) (elements self.new) ≡ true }
     {
         match self {
             Set::One(Some(only)) if *only == *one => {
                 *self = Set::One(None);
-                Some(0)
+                true
             }
-            Set::One(_) => None,
-            Set::Many(many) => take_out(many, index, one),
+            Set::One(_) => false,
+            Set::Many(many) => take_out(many, one),
         }
     }
 }
 
 // A list of two.
 fn pair<T: Element>(alloc: Global, first: T, second: T) -> Result<Vec<T>, AllocError>
-    ensures { IfOk result (λ few. (other : T) → list_any (T.eq other) few.items
-        ≡ cond (T.eq second other) true (list_any (T.eq other) (first ∷ []))) }
+    ensures there { IfOk result (λ list. list_any (T.eq second) list.items ≡ true) }
+    ensures kept { IfOk result (λ list. (other : T) → list_any (T.eq other) (first ∷ []) ≡ true
+        → list_any (T.eq other) list.items ≡ true) }
 {
-    let mut few = Vec::with_capacity(alloc, FEW)?;
-    few.push(first)?;
-    few.push(second)?;
-    Ok(few)
+    let mut list = Vec::with_capacity(alloc, FEW)?;
+    list.push(first)?;
+    add(&mut list, second)?;
+    Ok(list)
 }
 
-// Takes one out of a list, where it may be at this index, and returns its index. The last of the list comes in its
-// place.
-fn take_out<T: Element>(list: &mut Vec<T>, index: usize, one: &T) -> Option<usize>
+// Adds one to a list at its place, unless it is there. Mostly it comes after all others.
+fn add<T: Element>(list: &mut Vec<T>, one: T) -> Result<(), AllocError>
+    ensures there { OnOk result (list_any (T.eq one) list.new.items ≡ true) }
+    ensures kept { (other : T) → list_any (T.eq other) list.old.items ≡ true
+        → list_any (T.eq other) list.new.items ≡ true }
+{
+    let place = place_of(list, &one);
+    if is_at(list, place, &one) {
+        return Ok(());
+    }
+    list.insert(place, one)?;
+    Ok(())
+}
+
+// Takes one out of a list, and returns whether it was there.
+fn take_out<T: Element>(list: &mut Vec<T>, one: &T) -> bool
     ensures { (other : T) → T.eq one.now other ≡ false → list_any (T.eq other) list.old.items ≡ true
         → list_any (T.eq other) list.new.items ≡ true }
 {
-    let index = index_of(list, index, one)?;
-    list.swap_remove(index);
-    Some(index)
+    let place = place_of(list, one);
+    if !is_at(list, place, one) {
+        return false;
+    }
+    list.remove(place);
+    true
 }
 
-// The index of one in a list, where it may be at this index.
-fn index_of<T: Element>(list: &[T], index: usize, one: &T) -> Option<usize>
-    ensures within { IfSome result (λ i. i < length list.now) }
-    ensures there { IfSome result (λ i. (d : T) → T.eq (get_or list.now i d) one.now ≡ true) }
+// Where one stands in a list, or is to be inserted.
+#[inline]
+fn place_of<T: Element>(list: &[T], one: &T) -> usize
+    ensures { result ≤ length list.now }
 {
-    if index < list.len() && list[index] == *one {
-        return Some(index);
+    let count = one.count();
+    match list.last() {
+        Some(last) if last.count() < count => list.len(),
+        _ => list.partition_point(|other| other.count() < count),
     }
-    for other in 0..list.len() {
-        if list[other] == *one {
-            return Some(other);
-        }
+}
+
+// Whether one stands at a place of a list.
+#[inline]
+fn is_at<T: Element>(list: &[T], place: usize, one: &T) -> bool
+    ensures within { result ≡ true → place < length list.now }
+    ensures there { result ≡ true → (d : T) → T.eq (get_or list.now place d) one.now ≡ true }
+{
+    if place >= list.len() {
+        return false;
     }
-    None
+    list[place] == *one
 }
 
 /// Takes out the mounts that have no type. It does not allocate.

@@ -26,6 +26,7 @@ impl<T: Element> Sets<T> {
     }
 
     /// What is under a group.
+    #[inline]
     pub(crate) fn get(&self, group: GroupId) -> &[T]
         ensures { result.now ≡ kept_in group self.now }
     {
@@ -42,64 +43,40 @@ impl<T: Element> Sets<T> {
         self.get(group).contains(one)
     }
 
-    /// Whether one is under a group, at this index.
-    pub(crate) fn is_at(&self, group: GroupId, index: usize, one: &T) -> bool
-        ensures { result ≡ true → has T.eq group one.now self.now ≡ true }
-    {
-        match self.get(group).get(index) {
-            Some(other) => *one == *other,
-            None => false,
-        }
-    }
-
-    /// Adds one under a group, and returns its index there.
-    pub(crate) fn push(&mut self, group: GroupId, one: T) -> Result<usize, AllocError>
+    /// Adds one under a group.
+    pub(crate) fn insert(&mut self, group: GroupId, one: T) -> Result<(), AllocError>
         ensures there { OnOk result (has T.eq group one self.new ≡ true) }
         ensures kept { (at : GroupNumber) (other : T) → has T.eq at other self.old ≡ true
             → has T.eq at other self.new ≡ true }
     {
         let alloc = *self.sets.allocator();
         match self.sets.get_mut(&group) {
-            Some(set) => set.push(alloc, one),
+            Some(set) => set.insert(alloc, one),
             None => {
                 self.sets.insert(group, Set::One(Some(one)))?;
-                Ok(0)
+                Ok(())
             }
         }
     }
 
-    /// Takes one out from under a group, where it may be at this index. It does not allocate.
-    pub(crate) fn remove(&mut self, group: GroupId, index: usize, one: T) -> Option<Removed<T>>
+    /// Takes one out from under a group. Returns whether nothing is left there, or `None` if it was not there. It does
+    /// not allocate.
+    pub(crate) fn remove(&mut self, group: GroupId, one: T) -> Option<bool>
         ensures { (at : GroupNumber) (other : T) → (same_group group at && T.eq one other) ≡ false
             → has T.eq at other self.old ≡ true → has T.eq at other self.new ≡ true }
     {
         let Some(set) = self.sets.get_mut(&group) else {
             return None;
         };
-        let index = set.remove(index, &one)?;
+        if !set.remove(&one) {
+            return None;
+        }
         if set.is_empty() {
             self.sets.swap_remove(&group);
-            return Some(Removed {
-                index,
-                next: None,
-                was_last: true,
-            });
+            return Some(true);
         }
-        let next = set.as_slice().get(index).copied();
-        Some(Removed {
-            index,
-            next,
-            was_last: false,
-        })
+        Some(false)
     }
-}
-
-/// What was taken out of a list: where it was, which came there in its place, and whether it was the last in the list.
-#[derive(Clone, Copy, Debug)]
-pub(crate) struct Removed<T> {
-    pub(crate) index: usize,
-    pub(crate) next: Option<T>,
-    pub(crate) was_last: bool,
 }
 
 /// Takes out the mounts under a group that have no type. It does not allocate.

@@ -55,6 +55,7 @@ impl Types {
     }
 
     /// The type of a mount.
+    #[inline]
     pub(crate) fn get(&self, mount: u64) -> Option<Propagation>
         ensures { result ≡ value_at self.now.kinds mount }
     {
@@ -62,6 +63,7 @@ impl Types {
     }
 
     /// Whether a group has members.
+    #[inline]
     pub(crate) fn has_members(&self, group: GroupId) -> bool
         ensures { result ≡ list_any (is_in_group group) self.now.kinds.entries }
     {
@@ -69,6 +71,7 @@ impl Types {
     }
 
     /// Whether a group has members beside this one.
+    #[inline]
     pub(crate) fn has_others(&self, group: GroupId, member: u64) -> bool
         requires { then_some (value_at self.now.kinds member) group_of_kind ≡ Some group }
         ensures { result ≡ list_any (is_in_group group)

@@ -1,16 +1,14 @@
-use Rattle.std.proofs.Common.{◌≡◌, ◌<◌, ap, get_or, length, subst, true, ◌∙◌}
+use Rattle.std.proofs.Common.{◌≡◌, ◌<◌, get_or, length, subst, true}
 use Rattle.vt_group.proofs.FewLemmas.{any-left}
 use Rattle.vt_group.proofs.set.take_out.Goals as goal
 
 pub returns : goal.returns
 returns g c other apart there =
     let eq = g.T.PartialEq.eq in
-    let index = c.in_ok-index.index in
-    let one = c.swap_remove.result in
-    any-left g.met.T.Eq.laws c.args.one.now one c.args.list.now.items c.swap_remove.new.self.items index
-    (subst (λ items. index < length items) c.deref.ensures.value c.in_ok-index.ensures.within)
-    c.swap_remove.ensures.value
-    (ap (λ x. eq x c.args.one.now) c.swap_remove.ensures.value
-    ∙ subst (λ items. eq (get_or items index one) c.args.one.now ≡ true) c.deref.ensures.value
-    (c.in_ok-index.ensures.there one))
-    c.swap_remove.ensures.items other apart there
+    let place = c.place_of-place.result in
+    let one = c.remove.result in
+    any-left g.met.T.Eq.laws c.args.one.now other one c.args.list.now.items c.remove.new.self.items place
+    (subst (λ items. place < length items) c.deref-2.ensures.value (c.is_at.ensures.within c.if-not-is_at.false))
+    (subst (λ items. eq (get_or items place one) c.args.one.now ≡ true) c.deref-2.ensures.value
+    (c.is_at.ensures.there c.if-not-is_at.false one))
+    c.remove.ensures.by_index.2 apart there

@@ -6,8 +6,8 @@ use Rattle.vt_group.specs.Sets.{elements, same_group}
 use Rattle.vt_group.proofs.SetsLemmas.{dropped-empty, has-left, kept-written}
 use Rattle.vt_group.proofs.sets.Sets.remove.Goals as goal
 
-pub returns-in_err-index : goal.returns-in_err-index
-returns-in_err-index g c =
+pub returns-then-not-remove : goal.returns-then-not-remove
+returns-then-not-remove g c =
     let found = sym c.get_mut.ensures.value ∙ ap option_copied_mut c.in-Some.is in
     let new : Sets g.row.T.Denot = record { sets = c.get_mut.follows.lender c.remove.new.self } in
     has-left g.T.PartialEq.eq c.args.self.now new c.args.group

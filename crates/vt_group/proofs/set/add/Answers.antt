@@ -1,0 +1,24 @@
+use Rattle.std.proofs.Common.{ap, subst, ◌∙◌, ◌≡◌, true}
+use Rattle.std.proofs.lemmas.List.Folds.{list_any_at}
+use Rattle.std.specs.List.{list_any}
+use Rattle.vt_group.proofs.FewLemmas.{any-beside, any-put}
+use Rattle.vt_group.proofs.set.add.Goals as goal
+
+pub returns-then-is_at-clause-there : goal.returns-then-is_at-clause-there
+returns-then-is_at-clause-there g c =
+    let eq = g.T.PartialEq.eq in
+    let laws = g.met.T.Eq.laws in
+    subst (λ items. list_any (eq c.args.one) items ≡ true) c.deref-2.ensures.value
+    (list_any_at (eq c.args.one) c.deref-2.result.now c.place_of-place.result c.args.one
+    (c.is_at.ensures.within c.if-is_at.true)
+    (laws.symm c.args.one _ ∙ c.is_at.ensures.there c.if-is_at.true c.args.one))
+
+pub returns-clause-there : goal.returns-clause-there
+returns-clause-there g c =
+    ap (list_any (g.T.PartialEq.eq c.args.one)) c.in_ok-insert.ensures.items
+    ∙ any-put g.met.T.Eq.laws c.args.one c.args.list.now.items c.place_of-place.result
+
+pub returns-clause-kept : goal.returns-clause-kept
+returns-clause-kept g c other there =
+    ap (list_any (g.T.PartialEq.eq other)) c.in_ok-insert.ensures.items
+    ∙ any-beside g.met.T.Eq.laws c.args.one other c.args.list.now.items c.place_of-place.result there
