@@ -1,12 +1,13 @@
 -- Filesystems with the uses of their inodes, as contracts of vt_fs change them.
-use Rattle.std.proofs.Common.{◌≡◌, ◌≢◌, ◌<◌, ◌⊎◌, ⊎_elim, ◌&&◌, is_some, refl, sym, ap, ◌∙◌, ℕ, nat_eq, ◌-◌, eqb-true, eq-eqb, ne_eqb, Bool, true, false, true≢false, cond, not, List, [], ◌∷◌, map, find, Option, Some, None, option_map, unwrap_or, arith}
+use Rattle.std.proofs.Common.{◌≡◌, ◌≢◌, is_some, refl, sym, ap, ◌∙◌, ℕ, nat_eq, ◌-◌, eqb-true, eq-eqb, ne_eqb, Bool, true, false, true≢false, cond, not, List, [], ◌∷◌, map, find, Option, Some, None, option_map, unwrap_or}
 use Rattle.vt_fs.specs.FilesystemsValue.{ChangesInodes, Filesystems, Shown, entry_at, entry_of, no_entry, shown, shown_entry, shown_with, with_changed, without}
 use Rattle.vt_location.specs.Numbers.{counted}
-use Rattle.vt_mount.specs.MountsValue.{MountEntry, entry_numbered, mounts_in, uses_of}
+use Rattle.vt_mount.specs.MountsValue.{MountEntry, entry_numbered, mounts_in}
 use Rattle.vt_spec.specs.Machine.Mounts.{Mount}
 use Rattle.vt_spec.specs.Inodes.{Inodes, pinned, unpinned}
 use Rattle.vt_laws_counts.specs.Using.{pinned_if, unpinned_if}
-use Rattle.vt_detach.specs.Uses.{Kept, let_go_entry, let_go_filesystem, let_go_mount, mounts_shown, pinned_in, released_in, unpinned_in, without_filesystem, without_mount}
+use Rattle.vt_spec.specs.Lists.{holds_of}
+use Rattle.vt_detach.specs.Uses.{Kept, is_unused, let_go_entry, let_go_filesystem, let_go_mount, mounts_shown, pinned_in, released_in, unpinned_in, without_filesystem, without_mount}
 use Rattle.vt_location.proofs.NumberLemmas.{counted_test}
 
 -- a comparison of counted numbers is one of the counts, turned round
@@ -163,44 +164,26 @@ module _ (number : ℕ) (k : Kept) where
       by (Some entry) e = absurd cc
 
   -- a mount that is attached or used stays
-  pub let_go_used : (mount : Mount ℕ) → found ≡ Some mount
-      → (is_some mount.namespace ≡ true) ⊎ (0 < uses_of k.mounts number) → k ≡ let_go_mount number k
-  let_go_used mount is used = by (entry_numbered k.mounts number) (sym (found_entry number k.mounts) ∙ is) used
+  pub let_go_kept : holds_of is_unused (entry_numbered k.mounts number) ≡ false → k ≡ let_go_mount number k
+  let_go_kept stays = by (entry_numbered k.mounts number) stays
     where
-      by : (o : Option MountEntry) → option_map (λ entry. entry.mount) o ≡ Some mount
-          → (is_some mount.namespace ≡ true) ⊎ (0 < unwrap_or (option_map (λ entry. entry.uses) o) 0)
-          → k ≡ let_go_entry number k o
-      by None e u = refl
-      by (Some entry) e u =
-          let same : entry.mount ≡ mount = cc in
-          ⊎_elim
-          (λ attached. ap (λ b. cond (not b && nat_eq entry.uses 0) (without_mount number entry.mount k) k)
-          (sym (ap (λ x. is_some x.namespace) same ∙ attached)))
-          (λ some. (here (is_some entry.mount.namespace)
-          (ne_eqb entry.uses 0 (λ zero. absurd (omega (arith, some, zero)))))) u
-        where
-          here : (b : Bool) → nat_eq entry.uses 0 ≡ false
-              → k ≡ cond (not b && nat_eq entry.uses 0) (without_mount number entry.mount k) k
-          here true zero = refl
-          here false zero = ap (λ z. cond z (without_mount number entry.mount k) k) (sym zero)
+      by : (o : Option MountEntry) → holds_of is_unused o ≡ false → k ≡ let_go_entry number k o
+      by None e = refl
+      by (Some entry) e = sym (ap (λ b. cond b (without_mount number entry.mount k) k) e)
 
   -- one that is neither goes
-  pub let_go_unused : (mount : Mount ℕ) → found ≡ Some mount → is_some mount.namespace ≡ false
-      → uses_of k.mounts number ≡ 0
+  pub let_go_unused : (mount : Mount ℕ) → found ≡ Some mount
+      → holds_of is_unused (entry_numbered k.mounts number) ≡ true
       → let_go_mount number k ≡ without_mount number mount k
-  let_go_unused mount is nowhere unused = by (entry_numbered k.mounts number)
+  let_go_unused mount is unused = by (entry_numbered k.mounts number)
       (sym (found_entry number k.mounts) ∙ is) unused
     where
-      by : (o : Option MountEntry) → option_map (λ entry. entry.mount) o ≡ Some mount
-          → unwrap_or (option_map (λ entry. entry.uses) o) 0 ≡ 0
+      by : (o : Option MountEntry) → option_map (λ entry. entry.mount) o ≡ Some mount → holds_of is_unused o ≡ true
           → let_go_entry number k o ≡ without_mount number mount k
       by None e u = absurd cc
       by (Some entry) e u =
           let same : entry.mount ≡ mount = cc in
-          ap (λ b. cond (not b && nat_eq entry.uses 0) (without_mount number entry.mount k) k)
-          (ap (λ x. is_some x.namespace) same ∙ nowhere)
-          ∙ ap (λ z. cond z (without_mount number entry.mount k) k) (eq-eqb entry.uses 0 u)
-          ∙ ap (λ x. without_mount number x k) same
+          ap (λ b. cond b (without_mount number entry.mount k) k) u ∙ ap (λ x. without_mount number x k) same
 
 -- what is mapped is there where it was
 pub is_some_mapped : {A B : Type 0} (f : A → B) (o : Option A) → is_some (option_map f o) ≡ is_some o

@@ -1,6 +1,6 @@
 -- Mounts and filesystems with their counts, where a use of a location comes or goes: chdir(2), open(2), close(2).
 use Rattle.std.specs.Option.{option_and_then}
-use Rattle.std.specs.Prelude.{Bool, List, None, Option, Some, filter, filter_map, find, if◌then◌else◌, is_some, map, nat_eq, not, option_map, unwrap_or, ℕ, ◌&&◌, ◌+◌, ◌++◌, ◌-◌}
+use Rattle.std.specs.Prelude.{Bool, List, None, Option, Some, filter, filter_map, find, if◌then◌else◌, map, nat_eq, not, option_map, unwrap_or, ℕ, ◌+◌, ◌++◌, ◌-◌}
 use Rattle.vt_laws_counts.specs.Using.{pinned_if, unpinned_if}
 use Rattle.vt_fs.specs.FilesystemsValue.{Filesystems, Shown, shown}
 use Rattle.vt_laws_letting_go.specs.OneByOne.{Inode}
@@ -13,7 +13,7 @@ use Rattle.vt_spec.specs.Lists.{folded}
 use Rattle.vt_spec.specs.Machine.Mounts.{Location as Place, Mount, detached}
 use Rattle.vt_mount.specs.MountsValue.{MountEntry, changed, entry_numbered, held, released, without}
 use Rattle.vt_world.specs.WorldValue.{OverlayEntry, WorldValue}
-pub use Rattle.vt_mount.specs.MountsValue.{unused_entry}
+pub use Rattle.vt_mount.specs.MountsValue.{is_unused, unused_entry}
 
 -- an overlay as it is kept: its number, how many mounts show it, and the directories of its layers
 pub record Merged : Type 0 where
@@ -126,9 +126,6 @@ without_mount number mount k =
       mounts = without number k.mounts;
       filesystems = unpinned_in (mount.filesystem, mount.root) k.filesystems;
     })
-
-abbrev pub is_unused : MountEntry → Bool
-is_unused entry = not (is_some entry.mount.namespace) && nat_eq entry.uses 0
 
 abbrev pub let_go_entry : ℕ → Kept → Option MountEntry → Kept
 let_go_entry number k None = k

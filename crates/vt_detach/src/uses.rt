@@ -55,13 +55,9 @@ pub(crate) fn let_go_mount(mounts: &mut Mounts, store: &mut Store, id: MountId)
     ensures left { kept mounts.new store.new ≡ meant.let_go_mount (mount_number id) (kept mounts.old store.old) }
     ensures overlays { OverlaysLeft store.old.overlays store.new.overlays }
 {
-    let Some(mount) = mounts.get(id) else {
+    let Some(mount) = mounts.remove_unused(id) else {
         return;
     };
-    if mount.namespace.is_some() || mounts.uses(id) > 0 {
-        return;
-    }
-    mounts.remove(id);
     store.plain_mut().unpin(mount.root);
     leave_filesystem(store, mount.root.filesystem);
 }

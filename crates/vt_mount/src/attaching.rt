@@ -1,6 +1,7 @@
 //! Mounts are attached, and others move for them, all or none: mount(2).
 //!
-//! All memory is reserved before the first change, so that no change has to be taken back.
+//! Where mounts move, all memory is reserved before the first change, so that no move has to be taken back. Where none
+//! does, mounts that came are taken out again if an allocation fails.
 ghost use Rattle.std.specs.Prelude.{List, Err, Ok, ◌≡◌, ◌+◌, ◌++◌, ◌∷◌, ◌<◌, ◌≤◌, ◌⊎◌, [], IfErr, IfOk, OnErr, OnOk, length, map, nat_lt, option_to_list, true, vec_capacity, vec_len};
 ghost use Rattle.std.specs.Fn.{FnOnceReturnsAtMut};
 ghost use Rattle.std.specs.List.{list_all};
@@ -95,9 +96,9 @@ impl Mounts {
     }
 
     /// Attaches mounts after all others, with no uses yet, and moves mounts that were there to other mount points, the
-    /// last one of that list first: of two for one mount the first one stays. Before the first change, and after all
-    /// memory is reserved, it takes one more step, which may fail and change something else. It returns what moved, in
-    /// the order of the moves. It costs what each mount costs that comes or moves, however many others there are.
+    /// last one of that list first: of two for one mount the first one stays. Once no allocation can fail any more, it
+    /// takes one more step, which may fail and change something else. It returns what moved, in the order of the moves.
+    /// It costs what each mount costs that comes or moves, however many others there are.
     ///
     /// If an allocation fails, that step has not been taken.
     pub fn attach_all_then<S, F: FnOnce(&mut S) -> Result<(), AllocError>>(
@@ -118,7 +119,7 @@ impl Mounts {
         ensures err { OnErr result (self.new ≡ self.old) }
     {
         let mut moved = Vec::new(*self.by_number.allocator());
-        // Where nothing moves, each list is looked for once, not for its room before.
+        // Each list is looked for once then, and not for its room before.
         if points.is_empty() {
             self.attach_then(new, other, last)?;
             return Ok(moved);
