@@ -320,8 +320,8 @@ impl Tree {
         release(&mut self.slots, object);
     }
 
-    /// The directory that alone has names for an object, if the tree knows it. It never does for an object of several
-    /// names, and may not for one that had several.
+    /// The directory that alone has names for an object, if the tree knows it. `None` says nothing: an object that has
+    /// several names, or has one left of several, is to be looked for in all directories.
     pub fn directory_of(&self, object: NodeId) -> Option<NodeId>
         ensures { IfSome result (λ directory. AloneNames (tree_of self.now) object directory) }
     {
