@@ -1,8 +1,7 @@
-use Rattle.std.proofs.Common.{ap, option_copied, option_map, sym, ◌∙◌, ◌≡◌}
+use Rattle.std.proofs.Common.{ap, option_copied, sym, ◌∙◌}
 use Rattle.vt_spec.specs.Tree.{entries_in, entry_named}
 use Rattle.vt_location.specs.Locations.{number_of}
 use Rattle.vt_overlay.proofs.EntriesShown.{lent_is_shown}
-use Rattle.vt_overlay.specs.declared.nodes.Entry.{Entry}
 use Rattle.vt_store.specs.StoreValue.{StoreValue, lent_in}
 use Rattle.vt_store.proofs.Lending.{lent_with}
 use Rattle.vt_store.proofs.Looked.{over_few, over_layers, over_lent, over_node, plain_lent, plain_node}
