@@ -2,5 +2,4 @@ mod ForkLemmas
 mod MountLemmas
 mod MoveLemmas
 mod PlaceLemmas
-mod ReadLemmas
 mod WalkEnds

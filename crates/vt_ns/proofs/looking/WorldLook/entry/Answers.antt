@@ -1,10 +1,12 @@
-use Rattle.std.proofs.Common.{Some, ap, option_map, rules, sym, ◌∙◌, ℕ}
-use Rattle.std.specs.Prelude.{Option}
+use Rattle.std.proofs.Common.{Some, ap, option_map, rules, subst, sym, ◌≡◌, ◌∙◌, ℕ}
+use Rattle.std.specs.Prelude.{IfSome, Option, option_copied}
 use Rattle.vt_spec.specs.Tree.{Node, entries_in, entry_named}
 use Rattle.vt_location.specs.Locations.{number_of}
 use Rattle.vt_looks.specs.declared.look.Entry.{Entry}
+use Rattle.vt_overlay.specs.declared.nodes.Entry.{Entry as Found}
+use Rattle.vt_store.specs.StoreValue.{lent_in}
 use Rattle.vt_detach.proofs.StoreShown.{store_stands}
-use Rattle.vt_ns.proofs.looking.LooksKept.{node_is, object_is, seen_if_lent}
+use Rattle.vt_ns.proofs.looking.LooksKept.{node_is, object_beside, object_is, seen_if_lent}
 use Rattle.vt_ns.proofs.looking.WorldLook.entry.Goals as goal
 use Rattle.vt_ns.specs.contracts.world.World.{the_view}
 
@@ -19,10 +21,10 @@ entry-requires c = record {
       ∙ c.requires;
 }
 
-pub returns-in_err-node-clause-node : goal.returns-in_err-node-clause-node
-returns-in_err-node-clause-node c =
+pub returns-in_err-found-clause-node : goal.returns-in_err-found-clause-node
+returns-in_err-found-clause-node c =
     ap (option_map (λ (entry : Entry). number_of entry.node)) c.from_residual.ensures
-    ∙ ap (option_map number_of) (sym c.in_err-node.was) ∙ c.entry.ensures
+    ∙ ap (option_map (λ (found : Found). number_of found.node)) (sym c.in_err-found.was) ∙ c.entry.ensures.node
     ∙ ap (λ (node : Option (Node ℕ)). entry_named c.args.name.now (entries_in node))
     (node_is (the_view c.self.inside) c.self.inside.store c.args.self.now c.self.view_is c.self.invariant c.args.at
     (search rules)
@@ -31,7 +33,7 @@ returns-in_err-node-clause-node c =
 
 pub returns-clause-node : goal.returns-clause-node
 returns-clause-node c =
-    ap (option_map number_of) (sym c.in_ok-node.was) ∙ c.entry.ensures
+    ap (option_map (λ (found : Found). number_of found.node)) (sym c.in_ok-found.was) ∙ c.entry.ensures.node
     ∙ ap (λ (node : Option (Node ℕ)). entry_named c.args.name.now (entries_in node))
     (node_is (the_view c.self.inside) c.self.inside.store c.args.self.now c.self.view_is c.self.invariant c.args.at
     (search rules)
@@ -39,4 +41,11 @@ returns-clause-node c =
     c.args.at (search rules) c.args.object.now c.requires))
 
 pub returns-clause-object : goal.returns-clause-object
-returns-clause-object c = c.object_beside.ensures
+returns-clause-object c =
+    subst (λ (result : Option Found). IfSome result (λ (found : Found). option_copied found.object
+    ≡ lent_in c.self.inside.store c.args.at.node.filesystem.count (number_of found.node))) c.in_ok-found.was
+    c.entry.ensures.object
+    ∙ object_beside (the_view c.self.inside) c.self.inside.store c.args.self.now c.self.view_is c.self.invariant
+    c.args.at (search rules) _
+    (seen_if_lent (the_view c.self.inside) c.self.inside.store c.args.self.now c.self.view_is c.self.invariant
+    c.args.at (search rules) c.args.object.now c.requires)
