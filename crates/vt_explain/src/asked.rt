@@ -154,3 +154,19 @@ pub fn paths_of(call: &Call) -> Paths<'_> {
         Call::Mount(call) => of_mount(call),
     }
 }
+
+/// The options of the overlay that a call is to mount, if it is such a call.
+pub fn overlay_options(call: &Call) -> Option<&[u8]> {
+    match call {
+        Call::Mount(MountCall::Overlay { options, .. }) => Some(options.as_slice()),
+        _ => None,
+    }
+}
+
+/// The descriptor of the file that a call is to write to.
+pub fn descriptor_of(call: &Call) -> Option<u8> {
+    match call {
+        Call::Write(WriteCall::Pwrite { descriptor, .. }) => Some(*descriptor),
+        _ => None,
+    }
+}

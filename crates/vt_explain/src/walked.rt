@@ -137,6 +137,28 @@ enum Turn {
     End(Option<Location>),
 }
 
+/// Where a walk along a path came to.
+#[derive(Clone, Copy)]
+pub struct Walked {
+    /// Where the path leads, if it leads somewhere.
+    pub end: Option<Location>,
+    /// Where its last word was looked for.
+    pub directory: Location,
+    /// The rule that stopped the walk.
+    pub stopped: Option<Rule>,
+}
+
+impl Walked {
+    /// Where a rule stopped the walk, if it did.
+    pub fn stopped_by(self, rule: Rule) -> Option<Location> {
+        if self.stopped == Some(rule) {
+            Some(self.directory)
+        } else {
+            None
+        }
+    }
+}
+
 // A walk along a path, of which some words are walked. The text of each symlink that was followed stands in its place.
 #[derive(Drop)]
 struct Walk<'a> {
@@ -148,19 +170,25 @@ struct Walk<'a> {
     walked: usize,
     links: usize,
     here: Location,
+    // Where the last of them was looked for.
+    directory: Location,
+    stopped: Option<Rule>,
     section: Section,
 }
 
 impl<'a> Walk<'a> {
     // Before the first word.
     fn new(view: View<'a>, asked: PathAsked<'_>) -> Self {
+        let start = start_of(view.who, asked.text);
         let mut walk = Walk {
             view,
             last: asked.last,
             text: Vec::new(view.alloc),
             walked: 0,
             links: 0,
-            here: start_of(view.who, asked.text),
+            here: start,
+            directory: start,
+            stopped: None,
             section: Section::new(view.alloc, &HEADS),
         };
         match copied_bytes(view.alloc, asked.text) {
@@ -236,19 +264,25 @@ impl<'a> Walk<'a> {
         }
     }
 
-    // Adds why a walk ends at a word.
-    fn stop(&mut self, why: &str, rule: &str) -> Turn {
+    // Ends the row of a word that leads nowhere.
+    fn end_at(&mut self, why: &str) -> Turn {
         self.section.table.text.push(why);
-        self.section.table.text.push(rule);
         self.section.table.end_word();
         self.section.table.end_row();
         Turn::End(None)
     }
 
-    // Adds that a symlink is not followed.
+    // Adds the rule that stops the walk at a word.
     fn stop_by(&mut self, rule: Rule) -> Turn {
+        self.stopped = Some(rule);
+        self.section.table.text.push("stopped by ");
+        self.end_at(rule.name())
+    }
+
+    // Adds the rule that keeps a symlink from being followed.
+    fn stop_at_link(&mut self, rule: Rule) -> Turn {
         self.section.table.add("");
-        self.stop("stopped by ", rule.name())
+        self.stop_by(rule)
     }
 
     // Goes on by the text of a symlink in the place of the word that named it.
@@ -276,10 +310,10 @@ impl<'a> Walk<'a> {
         self.section.table.end_word();
         self.section.table.end_row();
         if is_nosymfollow(self.view.world, at) {
-            return self.stop_by(Rule::W9);
+            return self.stop_at_link(Rule::W9);
         }
         if self.links >= MOST_LINKS {
-            return self.stop_by(Rule::W7);
+            return self.stop_at_link(Rule::W7);
         }
         self.replace(word, link)
     }
@@ -315,15 +349,16 @@ impl<'a> Walk<'a> {
         let Some(word) = self.next_word() else {
             return Turn::End(Some(self.here));
         };
+        self.directory = self.here;
         match self.reached(word) {
             Ok(Some(at)) => self.go_on(word, at),
             Ok(None) => {
                 self.add_word(word);
-                self.stop("(missing)", "")
+                self.end_at("(missing)")
             }
             Err(deny) => {
                 self.add_word(word);
-                self.stop("stopped by ", deny.rule.name())
+                self.stop_by(deny.rule)
             }
         }
     }
@@ -373,20 +408,25 @@ impl<'a> Walk<'a> {
     }
 }
 
-/// Appends where a path leads, word by word, each by the walk of the path up to it; and returns where it ends, if it leads
-/// somewhere.
+/// Appends where a path leads, word by word, each by the walk of the path up to it; and returns where it came to, if the
+/// path has words.
 pub fn push_walk(
     view: View<'_>,
     asked: PathAsked<'_>,
     format: Format,
     text: &mut Draft,
-) -> Option<Location> {
+) -> Option<Walked> {
     if asked.text.is_empty() {
         return None;
     }
     let mut walk = Walk::new(view, asked);
     let end = walk.walk_all();
+    let walked = Walked {
+        end,
+        directory: walk.directory,
+        stopped: walk.stopped,
+    };
     walk.section.write(format, asked.text, text);
     drop(walk);
-    end
+    Some(walked)
 }
