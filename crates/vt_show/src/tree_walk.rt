@@ -112,7 +112,8 @@ impl<'a> TreeWalk<'a> {
     fn entry(&self, directory: NodeRef, name: &[u8]) -> Option<NodeRef> {
         let store = self.world.store();
         let object = store.object(directory)?;
-        store.entry(directory, object, name)
+        let found = store.entry(directory, object, name)?;
+        Some(found.node)
     }
 
     // What a name leads to waits.
