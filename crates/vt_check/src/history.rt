@@ -2,6 +2,7 @@
 use crate::draft::Draft;
 use std::alloc::{AllocError, Global};
 use std::collections::BTreeMap;
+use vt_layers::LayerOptions;
 use vt_request::{Call, Creation, DescriptorCall, MakeCall, MountCall, TaskCall, TaskName};
 use vt_spec::attributes::Mode;
 
@@ -49,8 +50,12 @@ pub enum Warning<'a> {
     },
     /// No change of the working directory follows a change of the root.
     Unfollowed,
+    /// The options of an overlay stand where its path should.
+    Exchanged,
     /// The options of an overlay have an upper layer.
     Upper,
+    /// This is no option of an overlay.
+    NoOption(&'a [u8]),
     /// The options of an overlay have fewer than two layers.
     FewLayers,
 }
@@ -104,6 +109,27 @@ fn has_upper(options: &[u8]) -> bool {
     false
 }
 
+// The first of the options of an overlay that is none.
+fn no_option(options: &[u8]) -> Option<&[u8]> {
+    for item in options.split(|byte| *byte == b',') {
+        if LayerOptions::parse(item).is_none() {
+            return Some(item);
+        }
+    }
+    None
+}
+
+fn write_no_option(text: &mut Draft, item: &[u8]) {
+    if item.is_empty() {
+        text.push("an empty option");
+    } else {
+        text.push("`");
+        text.push_bytes(item);
+        text.push("` is no option of an overlay");
+    }
+    text.push(": a run refuses it");
+}
+
 impl<'a> Warning<'a> {
     // A warning where the umask takes bits of a mode.
     fn of_mode(word: usize, mode: Mode, umask: u16) -> Option<Self> {
@@ -114,14 +140,27 @@ impl<'a> Warning<'a> {
         Some(Warning::Masked { word, mode, umask })
     }
 
-    // A warning where the options of an overlay name an upper layer, or no two layers.
-    fn of_options(options: &[u8]) -> Option<Self> {
+    // A warning where the options of an overlay are none, name an upper layer, or no two layers.
+    fn of_options(options: &'a [u8]) -> Option<Self> {
         if has_upper(options) {
-            Some(Warning::Upper)
-        } else if options.contains(&b':') {
+            return Some(Warning::Upper);
+        }
+        if let Some(item) = no_option(options) {
+            return Some(Warning::NoOption(item));
+        }
+        if options.contains(&b':') {
             None
         } else {
             Some(Warning::FewLayers)
+        }
+    }
+
+    // A warning about the words of a mount of an overlay.
+    fn of_overlay(path: &[u8], options: &'a [u8]) -> Option<Self> {
+        if path.starts_with(b"lowerdir=") {
+            Some(Warning::Exchanged)
+        } else {
+            Warning::of_options(options)
         }
     }
 
@@ -131,7 +170,8 @@ impl<'a> Warning<'a> {
             Warning::Unforked(_) => 0,
             Warning::Masked { word, .. } => word,
             Warning::Renumbered { .. } | Warning::Unfollowed => 1,
-            Warning::Upper | Warning::FewLayers => 4,
+            Warning::Exchanged => 3,
+            Warning::Upper | Warning::NoOption(_) | Warning::FewLayers => 4,
         }
     }
 
@@ -148,6 +188,8 @@ impl<'a> Warning<'a> {
             Warning::Unfollowed => {
                 text.push("no `chdir` of this task follows: it stays in its old directory");
             }
+            Warning::Exchanged => text.push("options in the place of the path: a run refuses it"),
+            Warning::NoOption(item) => write_no_option(text, item),
             Warning::Upper => text.push("`upperdir` is not in this version: a run refuses it"),
             Warning::FewLayers => text.push("fewer than two layers: a run refuses it"),
         }
@@ -164,6 +206,11 @@ impl<'a> Warning<'a> {
                 "a refused line uses no number: mend it, or number the tasks anew"
             }
             Warning::Unfollowed => "`chdir /` enters the new root; until then `..` leads out of it",
+            Warning::Exchanged => "the path comes first: `mount overlay /m lowerdir=/high:/low`",
+            Warning::NoOption(_) => {
+                "options are `lowerdir=`, `workdir=`, `index=off`, `metacopy=off`, `redirect_dir=off` and `xino=off`; \
+                 flags are a word behind them"
+            }
             Warning::Upper | Warning::FewLayers => {
                 "an overlay is read here, and not written: `lowerdir=/high:/low`, the top layer first"
             }
@@ -240,7 +287,7 @@ impl History {
     }
 
     // What a call of a task leaves for later ones, if it is no fork.
-    fn apply<'a>(&mut self, line: u64, numbers: &'a [u8], call: &Call) -> Option<Warning<'a>> {
+    fn apply<'a>(&mut self, line: u64, numbers: &'a [u8], call: &'a Call) -> Option<Warning<'a>> {
         let task = self.tasks.get_mut(numbers)?;
         match call {
             Call::Task(TaskCall::Umask { mode }) => task.umask = mode.bits(),
@@ -260,8 +307,8 @@ impl History {
             ) => {
                 return Warning::of_mode(5, *mode, task.umask);
             }
-            Call::Mount(MountCall::Overlay { options, .. }) => {
-                return Warning::of_options(options.as_slice());
+            Call::Mount(MountCall::Overlay { path, options, .. }) => {
+                return Warning::of_overlay(path.as_slice(), options.as_slice());
             }
             _ => {}
         }
@@ -269,7 +316,12 @@ impl History {
     }
 
     /// Goes on by a task's call in this line, and warns of what is seldom meant.
-    pub fn call<'a>(&mut self, line: u64, name: &'a TaskName, call: &Call) -> Option<Warning<'a>> {
+    pub fn call<'a>(
+        &mut self,
+        line: u64,
+        name: &'a TaskName,
+        call: &'a Call,
+    ) -> Option<Warning<'a>> {
         let numbers = name.numbers();
         let is_new = self.meet(numbers, UMASK);
         let warning = match call {

@@ -40,6 +40,13 @@ pub struct Paths<'a> {
     pub second: Option<PathAsked<'a>>,
 }
 
+/// An overlay that a call is to mount: the path to its destination, and its options.
+#[derive(Clone, Copy)]
+pub struct OverlayAsked<'a> {
+    pub path: &'a [u8],
+    pub options: &'a [u8],
+}
+
 const NONE: Paths<'static> = Paths {
     first: None,
     second: None,
@@ -152,5 +159,24 @@ pub fn paths_of(call: &Call) -> Paths<'_> {
         Call::Descriptor(call) => of_descriptor(call),
         Call::Task(call) => of_task(call),
         Call::Mount(call) => of_mount(call),
+    }
+}
+
+/// The overlay that a call is to mount, if it is such a call.
+pub fn overlay_of(call: &Call) -> Option<OverlayAsked<'_>> {
+    match call {
+        Call::Mount(MountCall::Overlay { path, options, .. }) => Some(OverlayAsked {
+            path,
+            options,
+        }),
+        _ => None,
+    }
+}
+
+/// The descriptor of the file that a call is to write to.
+pub fn descriptor_of(call: &Call) -> Option<u8> {
+    match call {
+        Call::Write(WriteCall::Pwrite { descriptor, .. }) => Some(*descriptor),
+        _ => None,
     }
 }

@@ -8,13 +8,16 @@ ghost use Rattle.vt_answers.specs.Ends.{Ends, HasNumbers};
 ghost use Rattle.vt_script.specs.Session.{IsLeftBy};
 ghost use Rattle.vt_calls.specs.KernelValue.{kernel_world};
 
-use crate::asked::{PathAsked, paths_of};
+use crate::asked::{PathAsked, descriptor_of, overlay_of, paths_of};
 use crate::changes::{self, Sides, add_changes};
+use crate::earlier::{Earlier, earlier_lines};
 use crate::holders::{self, Look, add_holders};
 use crate::later::{Refused, later_rules, push_rules};
-use crate::opened::{Openings, openings_of};
+use crate::layers::push_refused_layer;
+use crate::locks::{self, Locked, add_locks};
+use crate::mounters::{self, add_mounter};
 use crate::report::{Format, Section};
-use crate::walked::{View, push_walk};
+use crate::walked::{View, Walked, push_walk};
 use serde_json::Value;
 use std::alloc::{AllocError, Global};
 use vt_calls::Kernel;
@@ -32,6 +35,7 @@ use vt_show::picture::{NamespaceShown, Picture, TaskShown, picture_of};
 use vt_show::places::Places;
 use vt_show::{json, text};
 use vt_spec::errors::{Deny, Rule};
+use vt_tasks::Task;
 
 /// How much of an answer is kept at a time.
 const PIECE: usize = 4096;
@@ -57,9 +61,12 @@ struct Asked<'a> {
 #[derive(Drop)]
 struct Before {
     text: Draft,
-    // Where its paths end.
-    first: Option<Location>,
-    second: Option<Location>,
+    // Where the walks along its paths came to.
+    first: Option<Walked>,
+    second: Option<Walked>,
+    // The walk to a layer that is refused: what is told of it, and where it came to.
+    layer_text: Draft,
+    layer: Option<Walked>,
     mounts: Vec<NamespaceShown>,
     groups: Vec<PeerLine>,
 }
@@ -188,6 +195,23 @@ fn push_caller(asked: Asked<'_>, shown: &TaskShown<'_>, text: &mut Draft) {
     }
 }
 
+// The open file of a task, as where a path leads.
+fn file_of(who: &Task, descriptor: u8) -> Option<Walked> {
+    let file = who.descriptors.get(descriptor)?;
+    Some(Walked {
+        end: Some(file.location),
+        directory: file.location,
+    })
+}
+
+// Where a walk ends, if its path leads somewhere.
+fn end_of(walked: Option<Walked>) -> Option<Location> {
+    match walked {
+        Some(walked) => walked.end,
+        None => None,
+    }
+}
+
 impl Before {
     // Tells who calls.
     fn tell_caller(&mut self, asked: Asked<'_>, tasks: &[TaskShown<'_>], name: &TaskName) {
@@ -204,7 +228,7 @@ impl Before {
         asked: Asked<'_>,
         view: View<'_>,
         path: Option<PathAsked<'_>>,
-    ) -> Option<Location> {
+    ) -> Option<Walked> {
         match path {
             Some(path) => push_walk(view, path, asked.format, &mut self.text),
             None => None,
@@ -216,6 +240,12 @@ impl Before {
         let paths = paths_of(call);
         self.first = self.tell_path(asked, view, paths.first);
         self.second = self.tell_path(asked, view, paths.second);
+        if let Some(descriptor) = descriptor_of(call) {
+            self.first = file_of(view.who, descriptor);
+        }
+        if let Some(overlay) = overlay_of(call) {
+            self.layer = push_refused_layer(view, overlay, asked.format, &mut self.layer_text);
+        }
     }
 
     // Tells where the paths lead of a task's call.
@@ -257,9 +287,9 @@ impl Before {
 
     // Where the last path of the call ends.
     fn end(&self) -> Option<Location> {
-        match self.second {
+        match end_of(self.second) {
             Some(end) => Some(end),
-            None => self.first,
+            None => end_of(self.first),
         }
     }
 }
@@ -270,6 +300,8 @@ fn told_before(asked: Asked<'_>, world: &World, name: &TaskName, call: &Call) ->
         text: Draft::new(asked.alloc),
         first: None,
         second: None,
+        layer_text: Draft::new(asked.alloc),
+        layer: None,
         mounts: Vec::new(asked.alloc),
         groups: Vec::new(asked.alloc),
     };
@@ -292,52 +324,103 @@ fn push_held(
     }
 }
 
-// A call that is refused since something is busy.
+// Appends which overlays lock an object: that where a path ends, or else the directory in which a name is missing.
+fn push_locks(asked: Asked<'_>, look: Look<'_>, walked: Walked, text: &mut Draft) {
+    let mut section = Section::new(asked.alloc, &locks::HEADS);
+    let locked = Locked {
+        alloc: asked.alloc,
+        look,
+        at: walked.end.unwrap_or(walked.directory),
+    };
+    add_locks(locked, &mut section);
+    section.write(asked.format, b"", text);
+}
+
+// Appends who mounted the overlay of an object.
+fn push_mounter(asked: Asked<'_>, look: Look<'_>, at: Option<Location>, text: &mut Draft) {
+    if let Some(at) = at {
+        let mut section = Section::new(asked.alloc, &mounters::HEADS);
+        add_mounter(look, &mut section, at);
+        section.write(asked.format, b"", text);
+    }
+}
+
+// Where a walk was stopped.
+fn stopped_in(walked: Walked) -> Option<Location> {
+    match walked.end {
+        Some(_) => None,
+        None => Some(walked.directory),
+    }
+}
+
+// A call that is refused by a rule of which more is told than where its paths lead.
 #[derive(Clone, Copy)]
-struct Busy<'a> {
+struct Refusal<'a> {
     world: &'a World,
     call: CallKind,
+    rule: Rule,
     before: &'a Before,
     // The namespace whose mounts alone keep a name from being removed.
     namespace: Option<NamespaceId>,
 }
 
-// Appends who holds what is busy.
-fn push_holders_by(
+// Appends what is told of a path of a refused call.
+fn push_of_path(
     asked: Asked<'_>,
-    busy: Busy<'_>,
-    places: &Places<'_>,
-    openings: &Openings,
+    refusal: Refusal<'_>,
+    look: Look<'_>,
+    walked: Option<Walked>,
     text: &mut Draft,
 ) {
-    let look = Look {
-        world: busy.world,
-        places,
-        mounts: &busy.before.mounts,
-        groups: &busy.before.groups,
-        openings,
-        line: asked.line.number,
-        namespace: busy.namespace,
+    let Some(walked) = walked else {
+        return;
     };
-    push_held(asked, look, busy.call, busy.before.first, text);
-    push_held(asked, look, busy.call, busy.before.second, text);
-    if openings.failed {
+    match refusal.rule {
+        Rule::L1 => push_locks(asked, look, walked, text),
+        Rule::W5 => push_mounter(asked, look, stopped_in(walked), text),
+        Rule::B1 => push_mounter(asked, look, walked.end, text),
+        _ => push_held(asked, look, refusal.call, walked.end, text),
+    }
+}
+
+// Appends what is told of the paths of a refused call.
+fn push_of_paths(
+    asked: Asked<'_>,
+    refusal: Refusal<'_>,
+    places: &Places<'_>,
+    earlier: &Earlier,
+    text: &mut Draft,
+) {
+    let before = refusal.before;
+    let look = Look {
+        world: refusal.world,
+        places,
+        mounts: &before.mounts,
+        groups: &before.groups,
+        earlier,
+        line: asked.line.number,
+        namespace: refusal.namespace,
+    };
+    push_of_path(asked, refusal, look, before.first, text);
+    push_of_path(asked, refusal, look, before.second, text);
+    push_of_path(asked, refusal, look, before.layer, text);
+    if earlier.failed {
         text.fail();
     }
 }
 
-// Appends who holds what is busy, by the places of mounts.
-fn push_holders_at(asked: Asked<'_>, busy: Busy<'_>, places: &Places<'_>, text: &mut Draft) {
-    let openings = openings_of(asked.version, asked.alloc, asked.line.before);
-    push_holders_by(asked, busy, places, &openings, text);
-    drop(openings);
+// Appends what is told of a refused call, by the places of mounts.
+fn push_refused_at(asked: Asked<'_>, refusal: Refusal<'_>, places: &Places<'_>, text: &mut Draft) {
+    let earlier = earlier_lines(asked.version, asked.alloc, asked.line.before);
+    push_of_paths(asked, refusal, places, &earlier, text);
+    drop(earlier);
 }
 
-// Appends who holds what is busy.
-fn push_holders(asked: Asked<'_>, busy: Busy<'_>, text: &mut Draft) {
-    match Places::new(asked.alloc, busy.world) {
+// Appends what is told of a refused call.
+fn push_refused(asked: Asked<'_>, refusal: Refusal<'_>, text: &mut Draft) {
+    match Places::new(asked.alloc, refusal.world) {
         Ok(places) => {
-            push_holders_at(asked, busy, &places, text);
+            push_refused_at(asked, refusal, &places, text);
             drop(places);
         }
         Err(_) => text.fail(),
@@ -381,10 +464,20 @@ fn push_effect(asked: Asked<'_>, world: &World, call: CallKind, before: &Before,
     drop(picture);
 }
 
-// Appends who holds what is busy, if a call was refused for that.
-fn push_refusal(asked: Asked<'_>, busy: Busy<'_>, rule: Rule, text: &mut Draft) {
-    if rule == Rule::M8 || rule == Rule::P1 {
-        push_holders(asked, busy, text);
+// Whether a rule is one of walks.
+fn is_of_walks(rule: Rule) -> bool {
+    rule.name().starts_with('W')
+}
+
+// Appends what is told of a rule that refuses a call: the walk to a layer that stops, and for some rules who holds,
+// locks or mounted what is in the way.
+fn push_refusal(asked: Asked<'_>, refusal: Refusal<'_>, text: &mut Draft) {
+    if is_of_walks(refusal.rule) {
+        text.push_draft(&refusal.before.layer_text);
+    }
+    match refusal.rule {
+        Rule::M8 | Rule::P1 | Rule::L1 | Rule::W5 | Rule::B1 => push_refused(asked, refusal, text),
+        _ => {}
     }
 }
 
@@ -440,15 +533,18 @@ fn told_after(
     let mut text = Draft::new(asked.alloc);
     push_answered(asked, world, name, outcome, &mut text);
     text.push_draft(&before.text);
-    let busy = Busy {
-        world,
-        call,
-        before,
-        namespace: blocking(world, name, call),
-    };
     match outcome {
         Ok(_) => push_effect(asked, world, call, before, &mut text),
-        Err(deny) => push_refusal(asked, busy, deny.rule, &mut text),
+        Err(deny) => {
+            let refusal = Refusal {
+                world,
+                call,
+                rule: deny.rule,
+                before,
+                namespace: blocking(world, name, call),
+            };
+            push_refusal(asked, refusal, &mut text);
+        }
     }
     text.end()
 }

@@ -1,6 +1,6 @@
 //! Who holds what is busy: tasks with roots, directories and open files on a mount, and mounts that stand there.
+use crate::earlier::Earlier;
 use crate::mounts::{find, parent};
-use crate::opened::Openings;
 use crate::receiving::receives;
 use crate::report::{Heads, Section};
 use vt_check::draft::Draft;
@@ -27,17 +27,17 @@ pub struct Look<'a> {
     pub places: &'a Places<'a>,
     pub mounts: &'a [NamespaceShown],
     pub groups: &'a [PeerLine],
-    /// What the lines before opened.
-    pub openings: &'a Openings,
+    /// What the lines before opened and mounted.
+    pub earlier: &'a Earlier,
     /// The number of the line that is explained.
     pub line: u64,
     /// The namespace whose mounts alone keep a name from being removed, or none where all do.
     pub namespace: Option<NamespaceId>,
 }
 
-// What a task has on a mount.
+/// What a task has on a mount.
 #[derive(Clone, Copy)]
-enum Held {
+pub enum Held {
     Root,
     Directory,
     File(u8, Access),
@@ -49,14 +49,14 @@ fn push_file(look: Look<'_>, text: &mut Draft, task: &Task, number: u8, access: 
     text.push_number(u64::from(number));
     text.push(" ");
     text.push(names::access(access));
-    if let Some(line) = look.openings.line_of(&task.name, number, look.line) {
+    if let Some(line) = look.earlier.line_of(&task.name, number, look.line) {
         text.push(", line ");
         text.push_number(line);
     }
 }
 
-// Appends what a task has on a mount.
-fn push_held(look: Look<'_>, text: &mut Draft, task: &Task, held: Held) {
+/// Appends what a task has on a mount.
+pub fn push_held(look: Look<'_>, text: &mut Draft, task: &Task, held: Held) {
     match held {
         Held::Root => text.push("root"),
         Held::Directory => text.push("directory"),

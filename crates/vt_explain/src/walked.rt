@@ -137,6 +137,15 @@ enum Turn {
     End(Option<Location>),
 }
 
+/// Where a walk along a path came to.
+#[derive(Clone, Copy)]
+pub struct Walked {
+    /// Where the path leads, if it leads somewhere.
+    pub end: Option<Location>,
+    /// Where the last word was looked for.
+    pub directory: Location,
+}
+
 // A walk along a path, of which some words are walked. The text of each symlink that was followed stands in its place.
 #[derive(Drop)]
 struct Walk<'a> {
@@ -148,19 +157,23 @@ struct Walk<'a> {
     walked: usize,
     links: usize,
     here: Location,
+    // Where the last of them was looked for.
+    directory: Location,
     section: Section,
 }
 
 impl<'a> Walk<'a> {
     // Before the first word.
     fn new(view: View<'a>, asked: PathAsked<'_>) -> Self {
+        let start = start_of(view.who, asked.text);
         let mut walk = Walk {
             view,
             last: asked.last,
             text: Vec::new(view.alloc),
             walked: 0,
             links: 0,
-            here: start_of(view.who, asked.text),
+            here: start,
+            directory: start,
             section: Section::new(view.alloc, &HEADS),
         };
         match copied_bytes(view.alloc, asked.text) {
@@ -315,6 +328,7 @@ impl<'a> Walk<'a> {
         let Some(word) = self.next_word() else {
             return Turn::End(Some(self.here));
         };
+        self.directory = self.here;
         match self.reached(word) {
             Ok(Some(at)) => self.go_on(word, at),
             Ok(None) => {
@@ -373,20 +387,21 @@ impl<'a> Walk<'a> {
     }
 }
 
-/// Appends where a path leads, word by word, each by the walk of the path up to it; and returns where it ends, if it leads
-/// somewhere.
+/// Appends where a path leads, word by word, each by the walk of the path up to it; and returns where it came to, if the
+/// path has words.
 pub fn push_walk(
     view: View<'_>,
     asked: PathAsked<'_>,
     format: Format,
     text: &mut Draft,
-) -> Option<Location> {
+) -> Option<Walked> {
     if asked.text.is_empty() {
         return None;
     }
     let mut walk = Walk::new(view, asked);
     let end = walk.walk_all();
+    let directory = walk.directory;
     walk.section.write(format, asked.text, text);
     drop(walk);
-    end
+    Some(Walked { end, directory })
 }

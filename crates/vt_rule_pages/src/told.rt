@@ -77,6 +77,14 @@ pub fn order(alloc: Global) -> Result<String, AllocError> {
     lines_of(alloc, |_rule| true)
 }
 
+// The call that a word means: what `mount` mounts is no call of its own.
+fn call_meant(word: &str) -> &str {
+    match word {
+        "plain" | "overlay" => "mount",
+        _ => word,
+    }
+}
+
 /// What is told of a word: of a rule its page, of an error or a call its rules. Empty where it is none of these.
 pub fn told(alloc: Global, word: &str) -> Result<String, AllocError> {
     for rule in RULES {
@@ -84,8 +92,9 @@ pub fn told(alloc: Global, word: &str) -> Result<String, AllocError> {
             return of_rule(alloc, rule);
         }
     }
+    let call = call_meant(word);
     lines_of(alloc, |rule| {
-        rule.errno().name() == word || page_of(rule).calls.contains(&word)
+        rule.errno().name() == word || page_of(rule).calls.contains(&call)
     })
 }
 

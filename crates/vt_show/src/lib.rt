@@ -12,4 +12,4 @@ pub mod places;
 pub mod show;
 pub mod text;
 mod tree_text;
-mod tree_walk;
+pub mod tree_walk;

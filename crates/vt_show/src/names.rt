@@ -2,7 +2,7 @@
 use crate::places::Place;
 use vt_check::bytes::is_plain;
 use vt_check::draft::Draft;
-use vt_cred::{Caps, Flags, Kind, Mode, MountFlags};
+use vt_cred::{Caps, Cred, Flags, Kind, Mode, MountFlags};
 use vt_request::{Access, MountPlace, Spot, TaskName, TypeLine};
 
 /// What is shown of a thing that is reached no longer.
@@ -189,6 +189,16 @@ pub fn push_groups(text: &mut Draft, groups: &[u32]) {
         }
         text.push_number(u64::from(*group));
     }
+}
+
+/// Appends who credentials act as: user, group and supplementary groups.
+pub fn push_ids(text: &mut Draft, cred: &Cred) {
+    text.push("uid ");
+    text.push_number(u64::from(cred.uid()));
+    text.push(", gid ");
+    text.push_number(u64::from(cred.gid()));
+    text.push(", groups ");
+    push_groups(text, cred.groups());
 }
 
 // How long the names are of the capabilities of a set that a task has, or of those that it has not, with commas.

@@ -54,12 +54,7 @@ fn push_open(text: &mut Draft, file: &OpenShown) {
 fn push_credentials(text: &mut Draft, shown: &TaskShown<'_>) {
     let cred = &shown.task.cred;
     begin_line(text, "ids");
-    text.push("uid ");
-    text.push_number(u64::from(cred.uid()));
-    text.push(", gid ");
-    text.push_number(u64::from(cred.gid()));
-    text.push(", groups ");
-    names::push_groups(text, cred.groups());
+    names::push_ids(text, cred);
     text.push("\n");
     begin_line(text, "capabilities");
     names::push_capabilities(text, cred.caps());

@@ -1,0 +1,155 @@
+//! The lines that opened files and mounted overlays.
+use std::alloc::Global;
+use vt_calls::Kernel;
+use vt_line::line::Line;
+use vt_lines::lines::first_line;
+use vt_location::FilesystemId;
+use vt_ns::World;
+use vt_request::{Answer, Call, CallKind, TaskName};
+use vt_script::{Calls, Version};
+
+// A descriptor that a line opened.
+#[derive(Drop)]
+struct Opening {
+    task: TaskName,
+    descriptor: u8,
+    // How many lines of the script are before it.
+    before: u64,
+}
+
+// An overlay that a line mounted.
+#[derive(Drop)]
+struct Mounting {
+    task: TaskName,
+    overlay: FilesystemId,
+    // How many lines of the script are before it.
+    before: u64,
+}
+
+/// The descriptors that the lines of a script opened and the overlays that they mounted, in the order of the lines.
+#[derive(Drop)]
+pub struct Earlier {
+    openings: Vec<Opening>,
+    mountings: Vec<Mounting>,
+    // How many lines the script has.
+    lines: u64,
+    /// Whether an allocation failed, so that some are missing.
+    pub failed: bool,
+}
+
+// The filesystem of the newest mount in the namespace of a task.
+fn newest_filesystem(world: &World, task: &TaskName) -> Option<FilesystemId> {
+    let namespace = world.task(task)?.namespace;
+    let newest = world.all_mounts().attached_in(namespace).last().copied()?;
+    let mount = world.all_mounts().get(newest)?;
+    Some(mount.root.filesystem)
+}
+
+impl Earlier {
+    /// The line that opened what a descriptor of a task is after the script, where the line after the script has this
+    /// number.
+    pub fn line_of(&self, task: &TaskName, descriptor: u8, number: u64) -> Option<u64> {
+        let first = number.saturating_sub(self.lines);
+        let mut found = None;
+        for opening in &self.openings {
+            if opening.descriptor == descriptor && opening.task == *task {
+                found = Some(first.saturating_add(opening.before));
+            }
+        }
+        found
+    }
+
+    /// The task that mounted an overlay, and the line, where the line after the script has this number.
+    pub fn mounter_of(&self, overlay: FilesystemId, number: u64) -> Option<(&TaskName, u64)> {
+        let first = number.saturating_sub(self.lines);
+        for mounting in &self.mountings {
+            if mounting.overlay == overlay {
+                return Some((&mounting.task, first.saturating_add(mounting.before)));
+            }
+        }
+        None
+    }
+
+    // Records what a line of a task opened.
+    fn record_opening(&mut self, task: TaskName, descriptor: u8) {
+        let opening = Opening {
+            task,
+            descriptor,
+            before: self.lines,
+        };
+        self.failed |= self.openings.push(opening).is_err();
+    }
+
+    // Records the overlay that a line of a task mounted.
+    fn record_mounting(&mut self, world: &World, task: TaskName) {
+        if let Some(overlay) = newest_filesystem(world, &task) {
+            let mounting = Mounting {
+                task,
+                overlay,
+                before: self.lines,
+            };
+            self.failed |= self.mountings.push(mounting).is_err();
+        }
+    }
+
+    // Makes a call, and records what it opens or mounts.
+    fn record(&mut self, kernel: &mut Kernel, task: TaskName, call: Call) {
+        let kind = call.kind();
+        match kernel.call(&task, call) {
+            Ok(Answer::Opened(descriptor)) => self.record_opening(task, descriptor),
+            Ok(_) if kind == CallKind::MountOverlay => {
+                self.record_mounting(kernel.world(), task);
+            }
+            _ => {}
+        }
+    }
+
+    // Answers a line, and records what it opens or mounts.
+    fn record_line(&mut self, version: Version, alloc: Global, kernel: &mut Kernel, text: &[u8]) {
+        if let Ok(Line::Call(task, call)) = Line::parse_as(version, alloc, text) {
+            self.record(kernel, task, call);
+        }
+        self.lines = self.lines.saturating_add(1);
+    }
+
+    // Answers the lines of a script, and records what they open and mount.
+    fn record_lines(
+        &mut self,
+        version: Version,
+        alloc: Global,
+        kernel: &mut Kernel,
+        script: &[u8],
+    ) {
+        let mut rest = script;
+        for _ in 0..u64::MAX {
+            let Some((text, after)) = first_line(rest) else {
+                return;
+            };
+            self.record_line(version, alloc, kernel, text);
+            rest = after;
+        }
+    }
+
+    // The same in a world of which nothing is left then.
+    fn record_all(&mut self, version: Version, alloc: Global, kernel: Kernel, script: &[u8]) {
+        let mut kernel = kernel;
+        self.record_lines(version, alloc, &mut kernel, script);
+        // By a call: the proof of a function that drops a world itself takes minutes.
+        drop(kernel);
+    }
+}
+
+/// What the lines of a script open and mount. They are answered once more, in a world of their own.
+pub fn earlier_lines(version: Version, alloc: Global, script: &[u8]) -> Earlier {
+    let mut earlier = Earlier {
+        openings: Vec::new(alloc),
+        mountings: Vec::new(alloc),
+        lines: 0,
+        failed: false,
+    };
+    match Kernel::opening(alloc) {
+        Ok(kernel) => earlier.record_all(version, alloc, kernel, script),
+        Err(_) => earlier.failed = true,
+    }
+    earlier
+}
