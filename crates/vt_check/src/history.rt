@@ -99,24 +99,12 @@ fn write_renumbered(text: &mut Draft, line: u64, numbers: &[u8], child: u64) {
     text.push(" is refused and forks nothing");
 }
 
-// Whether the options of an overlay name an upper layer.
-fn has_upper(options: &[u8]) -> bool {
-    for item in options.split(|byte| *byte == b',') {
-        if item.starts_with(b"upperdir=") {
-            return true;
-        }
+// Whether the options of an overlay name two layers.
+fn has_two_layers(options: &[u8]) -> bool {
+    match LayerOptions::parse(options) {
+        Some(options) => options.lowers().nth(1).is_some(),
+        None => false,
     }
-    false
-}
-
-// The first of the options of an overlay that is none.
-fn no_option(options: &[u8]) -> Option<&[u8]> {
-    for item in options.split(|byte| *byte == b',') {
-        if LayerOptions::parse(item).is_none() {
-            return Some(item);
-        }
-    }
-    None
 }
 
 fn write_no_option(text: &mut Draft, item: &[u8]) {
@@ -125,7 +113,7 @@ fn write_no_option(text: &mut Draft, item: &[u8]) {
     } else {
         text.push("`");
         text.push_bytes(item);
-        text.push("` is no option of an overlay");
+        text.push("` is no option of an overlay here");
     }
     text.push(": a run refuses it");
 }
@@ -140,15 +128,23 @@ impl<'a> Warning<'a> {
         Some(Warning::Masked { word, mode, umask })
     }
 
-    // A warning where the options of an overlay are none, name an upper layer, or no two layers.
+    // A warning about one of the options of an overlay.
+    fn of_option(item: &'a [u8]) -> Option<Self> {
+        match LayerOptions::parse(item) {
+            Some(option) if option.upper().is_some() => Some(Warning::Upper),
+            Some(_) => None,
+            None => Some(Warning::NoOption(item)),
+        }
+    }
+
+    // A warning about the options of an overlay: the first one that a run refuses, or that they have no two layers.
     fn of_options(options: &'a [u8]) -> Option<Self> {
-        if has_upper(options) {
-            return Some(Warning::Upper);
+        for item in options.split(|byte| *byte == b',') {
+            if let Some(warning) = Warning::of_option(item) {
+                return Some(warning);
+            }
         }
-        if let Some(item) = no_option(options) {
-            return Some(Warning::NoOption(item));
-        }
-        if options.contains(&b':') {
+        if has_two_layers(options) {
             None
         } else {
             Some(Warning::FewLayers)
@@ -157,10 +153,11 @@ impl<'a> Warning<'a> {
 
     // A warning about the words of a mount of an overlay.
     fn of_overlay(path: &[u8], options: &'a [u8]) -> Option<Self> {
-        if path.starts_with(b"lowerdir=") {
-            Some(Warning::Exchanged)
-        } else {
+        let is_path = LayerOptions::parse(path).is_none();
+        if is_path || LayerOptions::parse(options).is_some() {
             Warning::of_options(options)
+        } else {
+            Some(Warning::Exchanged)
         }
     }
 

@@ -40,13 +40,6 @@ pub struct Paths<'a> {
     pub second: Option<PathAsked<'a>>,
 }
 
-/// An overlay that a call is to mount: the path to its destination, and its options.
-#[derive(Clone, Copy)]
-pub struct OverlayAsked<'a> {
-    pub path: &'a [u8],
-    pub options: &'a [u8],
-}
-
 const NONE: Paths<'static> = Paths {
     first: None,
     second: None,
@@ -162,13 +155,10 @@ pub fn paths_of(call: &Call) -> Paths<'_> {
     }
 }
 
-/// The overlay that a call is to mount, if it is such a call.
-pub fn overlay_of(call: &Call) -> Option<OverlayAsked<'_>> {
+/// The options of the overlay that a call is to mount, if it is such a call.
+pub fn overlay_options(call: &Call) -> Option<&[u8]> {
     match call {
-        Call::Mount(MountCall::Overlay { path, options, .. }) => Some(OverlayAsked {
-            path,
-            options,
-        }),
+        Call::Mount(MountCall::Overlay { options, .. }) => Some(options.as_slice()),
         _ => None,
     }
 }

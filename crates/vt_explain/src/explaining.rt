@@ -8,12 +8,12 @@ ghost use Rattle.vt_answers.specs.Ends.{Ends, HasNumbers};
 ghost use Rattle.vt_script.specs.Session.{IsLeftBy};
 ghost use Rattle.vt_calls.specs.KernelValue.{kernel_world};
 
-use crate::asked::{PathAsked, descriptor_of, overlay_of, paths_of};
+use crate::asked::{PathAsked, descriptor_of, overlay_options, paths_of};
 use crate::changes::{self, Sides, add_changes};
 use crate::earlier::{Earlier, earlier_lines};
 use crate::holders::{self, Look, add_holders};
 use crate::later::{Refused, later_rules, push_rules};
-use crate::layers::push_refused_layer;
+use crate::layer_walk::push_refused_layer;
 use crate::locks::{self, Locked, add_locks};
 use crate::mounters::{self, add_mounter};
 use crate::report::{Format, Section};
@@ -201,6 +201,7 @@ fn file_of(who: &Task, descriptor: u8) -> Option<Walked> {
     Some(Walked {
         end: Some(file.location),
         directory: file.location,
+        stopped: None,
     })
 }
 
@@ -243,8 +244,9 @@ impl Before {
         if let Some(descriptor) = descriptor_of(call) {
             self.first = file_of(view.who, descriptor);
         }
-        if let Some(overlay) = overlay_of(call) {
-            self.layer = push_refused_layer(view, overlay, asked.format, &mut self.layer_text);
+        // The walks to the layers follow that to the destination.
+        if let (Some(options), Some(_)) = (overlay_options(call), end_of(self.first)) {
+            self.layer = push_refused_layer(view, options, asked.format, &mut self.layer_text);
         }
     }
 
@@ -345,14 +347,6 @@ fn push_mounter(asked: Asked<'_>, look: Look<'_>, at: Option<Location>, text: &m
     }
 }
 
-// Where a walk was stopped.
-fn stopped_in(walked: Walked) -> Option<Location> {
-    match walked.end {
-        Some(_) => None,
-        None => Some(walked.directory),
-    }
-}
-
 // A call that is refused by a rule of which more is told than where its paths lead.
 #[derive(Clone, Copy)]
 struct Refusal<'a> {
@@ -377,7 +371,7 @@ fn push_of_path(
     };
     match refusal.rule {
         Rule::L1 => push_locks(asked, look, walked, text),
-        Rule::W5 => push_mounter(asked, look, stopped_in(walked), text),
+        Rule::W5 => push_mounter(asked, look, walked.stopped_by(Rule::W5), text),
         Rule::B1 => push_mounter(asked, look, walked.end, text),
         _ => push_held(asked, look, refusal.call, walked.end, text),
     }

@@ -8,7 +8,7 @@ mod earlier;
 mod explaining;
 mod holders;
 mod later;
-mod layers;
+mod layer_walk;
 mod lines;
 mod locks;
 mod mounters;

@@ -1,13 +1,12 @@
 //! Which overlay locks an object, by which layer, and what keeps the overlay in use: mounts that show it, and tasks on a
 //! detached mount of it.
 use crate::holders::{Held, Look, push_held};
-use crate::mounts::push_filesystem;
 use crate::report::{Heads, Section};
 use std::alloc::Global;
 use vt_check::draft::Draft;
 use vt_location::{FilesystemId, Location, Mount, NodeRef};
-use vt_merge::LayerRef;
 use vt_show::columns::Table;
+use vt_show::layers::{push_filesystem, push_layer};
 use vt_show::names;
 use vt_show::picture::MountShown;
 use vt_show::tree_walk::push_path_to;
@@ -28,11 +27,11 @@ pub struct Locked<'a> {
     pub at: Location,
 }
 
-// A layer of an overlay that holds an object: its place from the top, from 1.
+// A layer of an overlay that holds an object: its place from the top, from 1, and its directory.
 #[derive(Clone, Copy)]
 struct Lock {
     place: usize,
-    layer: LayerRef,
+    directory: NodeRef,
 }
 
 impl Locked<'_> {
@@ -59,41 +58,33 @@ impl Locked<'_> {
     fn lock_of(self, overlay: FilesystemId, table: &mut Table) -> Option<Lock> {
         let layers = self.look.world.store().overlay(overlay)?.lowers();
         for (index, layer) in layers.iter().enumerate() {
-            if self.lies_under(layer.directory.node_ref(), table) {
+            let directory = layer.directory.node_ref();
+            if self.lies_under(directory, table) {
                 return Some(Lock {
                     place: index.saturating_add(1),
-                    layer: *layer,
+                    directory,
                 });
             }
         }
         None
     }
 
-    // Appends a layer: its place, and its directory.
-    fn push_layer(self, text: &mut Draft, lock: Lock, mount: &Mount) {
-        names::push_count(text, lock.place);
-        text.push(" ");
-        let root = lock.layer.directory.node_ref();
-        push_filesystem(text, self.look.mounts, false, root.filesystem);
-        let shown = Mount { root, ..*mount };
-        match self.look.world.root_spot_of(&shown) {
-            Ok(spot) => names::push_bracketed(text, &spot),
-            Err(_) => text.fail(),
-        }
-    }
-
-    // Begins a row: the object, and the layer of an overlay that holds it.
+    // Begins a row: the object, and the layer that holds it of the overlay that a mount shows.
     fn add_lock(self, table: &mut Table, lock: Lock, mount: &Mount) {
-        self.look.places.push(self.at, &mut table.text);
+        let look = self.look;
+        look.places.push(self.at, &mut table.text);
         table.end_word();
-        push_filesystem(
+        push_filesystem(&mut table.text, look.mounts, true, mount.root.filesystem);
+        table.end_word();
+        names::push_count(&mut table.text, lock.place);
+        table.text.push(" ");
+        push_layer(
             &mut table.text,
-            self.look.mounts,
-            true,
-            mount.root.filesystem,
+            look.world,
+            look.mounts,
+            mount,
+            lock.directory,
         );
-        table.end_word();
-        self.push_layer(&mut table.text, lock, mount);
         table.end_word();
     }
 

@@ -1,12 +1,12 @@
 //! Who mounted an overlay, and which bits of an object in it count for its mounter.
 use crate::holders::Look;
-use crate::mounts::push_filesystem;
 use crate::report::{Heads, Section};
 use crate::rights::push_rights;
 use vt_check::draft::Draft;
 use vt_cred::Cred;
 use vt_location::{FilesystemId, Location};
 use vt_show::columns::Table;
+use vt_show::layers::push_filesystem;
 use vt_show::names;
 
 pub static HEADS: Heads = Heads {

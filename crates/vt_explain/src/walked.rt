@@ -142,8 +142,21 @@ enum Turn {
 pub struct Walked {
     /// Where the path leads, if it leads somewhere.
     pub end: Option<Location>,
-    /// Where the last word was looked for.
+    /// Where its last word was looked for.
     pub directory: Location,
+    /// The rule that stopped the walk.
+    pub stopped: Option<Rule>,
+}
+
+impl Walked {
+    /// Where a rule stopped the walk, if it did.
+    pub fn stopped_by(self, rule: Rule) -> Option<Location> {
+        if self.stopped == Some(rule) {
+            Some(self.directory)
+        } else {
+            None
+        }
+    }
 }
 
 // A walk along a path, of which some words are walked. The text of each symlink that was followed stands in its place.
@@ -159,6 +172,7 @@ struct Walk<'a> {
     here: Location,
     // Where the last of them was looked for.
     directory: Location,
+    stopped: Option<Rule>,
     section: Section,
 }
 
@@ -174,6 +188,7 @@ impl<'a> Walk<'a> {
             links: 0,
             here: start,
             directory: start,
+            stopped: None,
             section: Section::new(view.alloc, &HEADS),
         };
         match copied_bytes(view.alloc, asked.text) {
@@ -249,19 +264,25 @@ impl<'a> Walk<'a> {
         }
     }
 
-    // Adds why a walk ends at a word.
-    fn stop(&mut self, why: &str, rule: &str) -> Turn {
+    // Ends the row of a word that leads nowhere.
+    fn end_at(&mut self, why: &str) -> Turn {
         self.section.table.text.push(why);
-        self.section.table.text.push(rule);
         self.section.table.end_word();
         self.section.table.end_row();
         Turn::End(None)
     }
 
-    // Adds that a symlink is not followed.
+    // Adds the rule that stops the walk at a word.
     fn stop_by(&mut self, rule: Rule) -> Turn {
+        self.stopped = Some(rule);
+        self.section.table.text.push("stopped by ");
+        self.end_at(rule.name())
+    }
+
+    // Adds the rule that keeps a symlink from being followed.
+    fn stop_at_link(&mut self, rule: Rule) -> Turn {
         self.section.table.add("");
-        self.stop("stopped by ", rule.name())
+        self.stop_by(rule)
     }
 
     // Goes on by the text of a symlink in the place of the word that named it.
@@ -289,10 +310,10 @@ impl<'a> Walk<'a> {
         self.section.table.end_word();
         self.section.table.end_row();
         if is_nosymfollow(self.view.world, at) {
-            return self.stop_by(Rule::W9);
+            return self.stop_at_link(Rule::W9);
         }
         if self.links >= MOST_LINKS {
-            return self.stop_by(Rule::W7);
+            return self.stop_at_link(Rule::W7);
         }
         self.replace(word, link)
     }
@@ -333,11 +354,11 @@ impl<'a> Walk<'a> {
             Ok(Some(at)) => self.go_on(word, at),
             Ok(None) => {
                 self.add_word(word);
-                self.stop("(missing)", "")
+                self.end_at("(missing)")
             }
             Err(deny) => {
                 self.add_word(word);
-                self.stop("stopped by ", deny.rule.name())
+                self.stop_by(deny.rule)
             }
         }
     }
@@ -400,8 +421,12 @@ pub fn push_walk(
     }
     let mut walk = Walk::new(view, asked);
     let end = walk.walk_all();
-    let directory = walk.directory;
+    let walked = Walked {
+        end,
+        directory: walk.directory,
+        stopped: walk.stopped,
+    };
     walk.section.write(format, asked.text, text);
     drop(walk);
-    Some(Walked { end, directory })
+    Some(walked)
 }

@@ -1,15 +1,17 @@
 //! A world as JSON, one object a line.
-use crate::names;
-use crate::picture::{MountShown, OpenShown, Picture, TaskShown};
+use crate::picture::{MountShown, OpenShown, Picture, TaskShown, mount_of};
 use crate::places::Place;
 use crate::tree_walk::{Found, TreeWalk};
+use crate::{layers, names};
 use serde_json::Value;
 use std::alloc::{AllocError, Global};
 use vt_check::draft::Draft;
 use vt_check::object::Object;
-use vt_location::FilesystemId;
+use vt_cred::Cred;
+use vt_location::{FilesystemId, Mount, NodeRef};
 use vt_node::Node;
 use vt_ns::World;
+use vt_overlay::Overlay;
 use vt_request::{MountPlace, PeerLine, Spot, TypeLine};
 
 // Adds a number.
@@ -70,18 +72,14 @@ fn group_ids(alloc: Global, groups: &[u32]) -> Result<Value, AllocError> {
     Ok(Value::Array(all))
 }
 
-// Adds who a task acts as.
-fn put_credentials(alloc: Global, object: &mut Object, shown: &TaskShown<'_>) {
-    let cred = &shown.task.cred;
+// Adds credentials: those of a task, or of who mounted an overlay.
+fn put_credentials(alloc: Global, object: &mut Object, cred: &Cred) {
     object.put_number("uid", u64::from(cred.uid()));
     object.put_number("gid", u64::from(cred.gid()));
     object.put("groups", group_ids(alloc, cred.groups()));
     let mut capabilities = object.draft();
     names::push_capabilities(&mut capabilities, cred.caps());
     object.put_draft("capabilities", capabilities);
-    let mut umask = object.draft();
-    umask.push_octal(shown.task.umask.bits(), 3);
-    object.put_draft("umask", umask);
 }
 
 // A task as an object and a newline.
@@ -91,7 +89,10 @@ fn task(alloc: Global, shown: &TaskShown<'_>) -> Result<String, AllocError> {
     names::push_task(&mut name, &shown.task.name);
     object.put_draft("task", name);
     put_count(&mut object, "namespace", shown.namespace);
-    put_credentials(alloc, &mut object, shown);
+    put_credentials(alloc, &mut object, &shown.task.cred);
+    let mut umask = object.draft();
+    umask.push_octal(shown.task.umask.bits(), 3);
+    object.put_draft("umask", umask);
     object.put("root", place(alloc, &shown.root));
     object.put("directory", place(alloc, &shown.directory));
     object.put("open", open_files(alloc, &shown.files));
@@ -111,15 +112,15 @@ fn put_kind(object: &mut Object, kind: TypeLine) {
     put_count_or_null(object, "master", master);
 }
 
-// Adds where in its filesystem the tree begins that a mount shows.
-fn put_root(object: &mut Object, root: &Spot) {
-    match root {
-        Spot::Gone => object.put("root", Ok(Value::Null)),
+// Adds where in its filesystem something is.
+fn put_spot(object: &mut Object, name: &str, spot: &Spot) {
+    match spot {
+        Spot::Gone => object.put(name, Ok(Value::Null)),
         Spot::Reached(names) => {
             let mut steps = object.draft();
             names::push_steps(&mut steps, names);
             steps.push_if_empty("/");
-            object.put_draft("root", steps);
+            object.put_draft(name, steps);
         }
     }
 }
@@ -127,7 +128,7 @@ fn put_root(object: &mut Object, root: &Spot) {
 // Adds what a mount shows.
 fn put_source(object: &mut Object, mount: &MountShown) {
     put_count(object, "filesystem", mount.filesystem);
-    put_root(object, &mount.root);
+    put_spot(object, "root", &mount.root);
     object.put_text("type", names::filesystem_type(mount.is_overlay));
     let mut flags = object.draft();
     names::push_flags(&mut flags, mount.mount.flags);
@@ -154,6 +155,68 @@ fn mount(alloc: Global, shown: &MountShown) -> Result<String, AllocError> {
     put_source(&mut object, shown);
     put_kind(&mut object, shown.kind);
     object.line()
+}
+
+// Who mounted an overlay.
+fn mounter(alloc: Global, cred: &Cred) -> Result<Value, AllocError> {
+    let mut object = Object::new(alloc);
+    put_credentials(alloc, &mut object, cred);
+    object.end()
+}
+
+// The directory of a layer of an overlay that a mount shows.
+fn layer(
+    alloc: Global,
+    picture: &Picture<'_>,
+    mount: &Mount,
+    directory: NodeRef,
+) -> Result<Value, AllocError> {
+    let spot = layers::layer_spot(picture.world, mount, directory)?;
+    let mut object = Object::new(alloc);
+    match mount_of(&picture.namespaces, directory.filesystem) {
+        Some(shown) => put_count(&mut object, "filesystem", shown.filesystem),
+        None => object.put("filesystem", Ok(Value::Null)),
+    }
+    put_spot(&mut object, "path", &spot);
+    object.end()
+}
+
+// The layers of an overlay that a mount shows, from the top.
+fn layers_of(
+    alloc: Global,
+    picture: &Picture<'_>,
+    mount: &Mount,
+    overlay: &Overlay,
+) -> Result<Value, AllocError> {
+    let mut all = Vec::new(alloc);
+    for one in overlay.lowers() {
+        all.push(layer(alloc, picture, mount, one.directory.node_ref())?)?;
+    }
+    Ok(Value::Array(all))
+}
+
+// An overlay that a mount shows, as an object and a newline.
+fn overlay_line(
+    alloc: Global,
+    picture: &Picture<'_>,
+    shown: &MountShown,
+    overlay: &Overlay,
+) -> Result<String, AllocError> {
+    let mut object = Object::new(alloc);
+    put_count(&mut object, "overlay", shown.filesystem);
+    object.put("mounter", mounter(alloc, overlay.mounter()));
+    object.put("layers", layers_of(alloc, picture, &shown.mount, overlay));
+    object.line()
+}
+
+// Appends the overlays that mounts show.
+fn push_overlays(alloc: Global, text: &mut Draft, picture: &Picture<'_>) {
+    for id in &picture.filesystems {
+        let overlay = picture.world.store().overlay(*id);
+        if let (Some(overlay), Some(shown)) = (overlay, mount_of(&picture.namespaces, *id)) {
+            push_line(text, overlay_line(alloc, picture, shown, overlay));
+        }
+    }
 }
 
 // A mount by its number.
@@ -255,9 +318,8 @@ fn push_filesystem(
 // Appends the objects of the filesystems that mounts show.
 fn push_trees(alloc: Global, text: &mut Draft, picture: &Picture<'_>) {
     for (index, id) in picture.filesystems.iter().enumerate() {
-        let number = index.saturating_add(1);
-        if picture.shows_filesystem(number) {
-            push_filesystem(alloc, text, picture.world, *id, number);
+        if mount_of(&picture.namespaces, *id).is_some() {
+            push_filesystem(alloc, text, picture.world, *id, index.saturating_add(1));
         }
     }
 }
@@ -277,6 +339,7 @@ pub fn push_shown(alloc: Global, text: &mut Draft, picture: &Picture<'_>, files:
             push_line(text, mount(alloc, one));
         }
     }
+    push_overlays(alloc, text, picture);
     for one in &picture.groups {
         push_line(text, group(alloc, one));
     }

@@ -6,6 +6,7 @@ pub mod columns;
 mod dot;
 mod groups;
 pub mod json;
+pub mod layers;
 pub mod names;
 pub mod picture;
 pub mod places;

@@ -255,16 +255,6 @@ pub fn picture_of<'a>(alloc: Global, world: &'a World) -> Result<Picture<'a>, Al
 }
 
 impl Picture<'_> {
-    /// Whether one of the mounts shows the filesystem of this number.
-    pub fn shows_filesystem(&self, number: usize) -> bool {
-        for namespace in &self.namespaces {
-            if namespace.shows_filesystem(number) {
-                return true;
-            }
-        }
-        false
-    }
-
     /// Keeps a task alone, with the mounts of its namespace and the peer groups that have one of them.
     pub fn keep_task(&mut self, birth: u64, namespace: usize) {
         self.tasks.retain(|shown| shown.task.birth == birth);
@@ -274,15 +264,25 @@ impl Picture<'_> {
 }
 
 impl NamespaceShown {
-    // Whether one of its mounts shows the filesystem of this number.
-    fn shows_filesystem(&self, number: usize) -> bool {
-        for mount in &self.mounts {
-            if mount.filesystem == number {
-                return true;
+    // The first of its mounts that shows a filesystem.
+    fn mount_of(&self, id: FilesystemId) -> Option<&MountShown> {
+        for shown in &self.mounts {
+            if shown.mount.root.filesystem == id {
+                return Some(shown);
             }
         }
-        false
+        None
     }
+}
+
+/// The first mount of these namespaces that shows a filesystem.
+pub fn mount_of(all: &[NamespaceShown], id: FilesystemId) -> Option<&MountShown> {
+    for namespace in all {
+        if let Some(shown) = namespace.mount_of(id) {
+            return Some(shown);
+        }
+    }
+    None
 }
 
 // Whether one of these mounts is in a namespace.

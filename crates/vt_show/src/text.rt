@@ -1,12 +1,15 @@
 //! A world as text.
 use crate::branches::{Branch, branches};
 use crate::columns::Table;
-use crate::names;
-use crate::picture::{MountShown, NamespaceShown, OpenShown, Picture, TaskShown};
+use crate::picture::{MountShown, NamespaceShown, OpenShown, Picture, TaskShown, mount_of};
 use crate::places::Place;
 use crate::tree_text::push_trees;
+use crate::{layers, names};
 use std::alloc::Global;
 use vt_check::draft::Draft;
+use vt_cred::Cred;
+use vt_location::{Mount, NodeRef};
+use vt_overlay::Overlay;
 use vt_request::{MountPlace, PeerLine};
 
 static MOUNT_HEADS: [&str; 6] = [
@@ -20,10 +23,10 @@ static MOUNT_HEADS: [&str; 6] = [
 
 static GROUP_HEADS: [&str; 4] = ["GROUP", "MASTER", "MEMBERS", "SLAVES"];
 
-// The columns that a line of a task has before its words.
+// The columns that a line of a task or an overlay has before its words.
 const WORDS: usize = 13;
 
-// Begins a line of a task by what is told.
+// Begins a line by what is told.
 fn begin_line(text: &mut Draft, what: &str) {
     text.push("  ");
     text.push(what);
@@ -37,30 +40,33 @@ fn push_place(text: &mut Draft, what: &str, place: &Place) {
     text.push("\n");
 }
 
-// Appends an open file.
-fn push_open(text: &mut Draft, file: &OpenShown) {
+// Begins a line by what is told of the thing of this number.
+fn begin_numbered(text: &mut Draft, what: &str, number: u64) {
     let begin = text.len();
-    text.push("  open ");
-    text.push_number(u64::from(file.number));
+    text.push("  ");
+    text.push(what);
+    text.push(" ");
+    text.push_number(number);
     let shown = text.len().saturating_sub(begin).saturating_sub(2);
     text.push_times(' ', WORDS.saturating_sub(shown));
+}
+
+// Appends an open file.
+fn push_open(text: &mut Draft, file: &OpenShown) {
+    begin_numbered(text, "open", u64::from(file.number));
     text.push(names::access(file.access));
     text.push(" ");
     names::push_place(text, &file.place);
     text.push("\n");
 }
 
-// Appends who a task acts as.
-fn push_credentials(text: &mut Draft, shown: &TaskShown<'_>) {
-    let cred = &shown.task.cred;
-    begin_line(text, "ids");
+// Appends whose credentials these are, and what they are.
+fn push_credentials(text: &mut Draft, whose: &str, cred: &Cred) {
+    begin_line(text, whose);
     names::push_ids(text, cred);
     text.push("\n");
     begin_line(text, "capabilities");
     names::push_capabilities(text, cred.caps());
-    text.push("\n");
-    begin_line(text, "umask");
-    text.push_octal(shown.task.umask.bits(), 3);
     text.push("\n");
 }
 
@@ -71,7 +77,10 @@ pub fn push_task(text: &mut Draft, shown: &TaskShown<'_>) {
     text.push(" in namespace ");
     names::push_count(text, shown.namespace);
     text.push("\n");
-    push_credentials(text, shown);
+    push_credentials(text, "ids", &shown.task.cred);
+    begin_line(text, "umask");
+    text.push_octal(shown.task.umask.bits(), 3);
+    text.push("\n");
     push_place(text, "root", &shown.root);
     push_place(text, "directory", &shown.directory);
     for file in &shown.files {
@@ -126,6 +135,47 @@ fn push_namespace(alloc: Global, text: &mut Draft, namespace: &NamespaceShown) {
     }
 }
 
+// Appends the directory of a layer, behind its place from the top.
+fn push_layer(
+    text: &mut Draft,
+    picture: &Picture<'_>,
+    mount: &Mount,
+    place: usize,
+    directory: NodeRef,
+) {
+    begin_numbered(text, "layer", place as u64);
+    layers::push_layer(text, picture.world, &picture.namespaces, mount, directory);
+    text.push("\n");
+}
+
+// Appends an overlay that a mount shows: who mounted it, and its layers.
+fn push_overlay(text: &mut Draft, picture: &Picture<'_>, shown: &MountShown, overlay: &Overlay) {
+    text.push("\nOVERLAY ");
+    names::push_filesystem(text, true, shown.filesystem);
+    text.push("\n");
+    push_credentials(text, "mounter", overlay.mounter());
+    for (index, layer) in overlay.lowers().iter().enumerate() {
+        let directory = layer.directory.node_ref();
+        push_layer(
+            text,
+            picture,
+            &shown.mount,
+            index.saturating_add(1),
+            directory,
+        );
+    }
+}
+
+// Appends the overlays that mounts show.
+fn push_overlays(text: &mut Draft, picture: &Picture<'_>) {
+    for id in &picture.filesystems {
+        let overlay = picture.world.store().overlay(*id);
+        if let (Some(overlay), Some(shown)) = (overlay, mount_of(&picture.namespaces, *id)) {
+            push_overlay(text, picture, shown, overlay);
+        }
+    }
+}
+
 // Adds mounts by their numbers.
 fn add_mounts(table: &mut Table, places: &[MountPlace]) {
     names::push_mounts(&mut table.text, places);
@@ -165,6 +215,7 @@ pub fn push_shown(alloc: Global, text: &mut Draft, picture: &Picture<'_>, files:
     for namespace in &picture.namespaces {
         push_namespace(alloc, text, namespace);
     }
+    push_overlays(text, picture);
     push_groups(alloc, text, &picture.groups);
     if files {
         push_trees(alloc, picture, text);

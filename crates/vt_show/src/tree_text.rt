@@ -1,7 +1,7 @@
 //! The tree of a filesystem as text.
 use crate::columns::Table;
 use crate::names::{self, push_mode, push_name};
-use crate::picture::Picture;
+use crate::picture::{Picture, mount_of};
 use crate::tree_walk::{Found, TreeWalk};
 use std::alloc::Global;
 use vt_check::draft::Draft;
@@ -84,9 +84,8 @@ fn push_filesystem(
 /// Appends the trees of the filesystems that mounts show.
 pub fn push_trees(alloc: Global, picture: &Picture<'_>, text: &mut Draft) {
     for (index, id) in picture.filesystems.iter().enumerate() {
-        let number = index.saturating_add(1);
-        if picture.shows_filesystem(number) {
-            push_filesystem(alloc, picture.world, *id, number, text);
+        if mount_of(&picture.namespaces, *id).is_some() {
+            push_filesystem(alloc, picture.world, *id, index.saturating_add(1), text);
         }
     }
 }

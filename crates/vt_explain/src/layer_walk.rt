@@ -1,19 +1,11 @@
 //! The walk to a layer of an overlay that is to be mounted, if one is refused.
-use crate::asked::{Last, OverlayAsked, PathAsked};
+use crate::asked::{Last, PathAsked};
 use crate::report::Format;
 use crate::walked::{View, Walked, push_walk};
 use vt_check::draft::Draft;
 use vt_layers::LayerOptions;
 use vt_text::path::PathText;
-use vt_walk::{destination_walk, source_walk};
-
-// Whether the walk to the destination is granted.
-fn is_reached(view: View<'_>, path: &[u8]) -> bool {
-    match PathText::parse(path) {
-        Ok(path) => destination_walk(view.world, view.who, &path).is_ok(),
-        Err(_) => false,
-    }
-}
+use vt_walk::source_walk;
 
 // Whether the walk to a layer is refused.
 fn is_refused(view: View<'_>, path: &[u8]) -> bool {
@@ -34,19 +26,15 @@ fn refused_layer<'a>(view: View<'_>, options: &'a [u8]) -> Option<&'a [u8]> {
     None
 }
 
-/// Appends the walk to the first layer that is refused, as those to the layers follow that to the destination; and returns
-/// where it came to.
+/// Appends the walk to the first layer of these options that is refused; and returns where it came to.
 pub fn push_refused_layer(
     view: View<'_>,
-    overlay: OverlayAsked<'_>,
+    options: &[u8],
     format: Format,
     text: &mut Draft,
 ) -> Option<Walked> {
-    if !is_reached(view, overlay.path) {
-        return None;
-    }
     let layer = PathAsked {
-        text: refused_layer(view, overlay.options)?,
+        text: refused_layer(view, options)?,
         last: Last::Object,
     };
     push_walk(view, layer, format, text)
