@@ -13,7 +13,7 @@ use crate::changes::{self, Sides, add_changes};
 use crate::earlier::{Earlier, earlier_lines};
 use crate::holders::{self, Look, add_holders};
 use crate::later::{Refused, later_rules, push_rules};
-use crate::layer_walk::push_refused_layer;
+use crate::layers::push_layers;
 use crate::locks::{self, Locked, add_locks};
 use crate::mounters::{self, add_mounter};
 use crate::report::{Format, Section};
@@ -64,8 +64,7 @@ struct Before {
     // Where the walks along its paths came to.
     first: Option<Walked>,
     second: Option<Walked>,
-    // The walk to a layer that is refused: what is told of it, and where it came to.
-    layer_text: Draft,
+    // Where the walk to a layer came to that is refused.
     layer: Option<Walked>,
     mounts: Vec<NamespaceShown>,
     groups: Vec<PeerLine>,
@@ -246,7 +245,7 @@ impl Before {
         }
         // The walks to the layers follow that to the destination.
         if let (Some(options), Some(_)) = (overlay_options(call), end_of(self.first)) {
-            self.layer = push_refused_layer(view, options, asked.format, &mut self.layer_text);
+            self.layer = push_layers(view, options, asked.format, &mut self.text);
         }
     }
 
@@ -302,7 +301,6 @@ fn told_before(asked: Asked<'_>, world: &World, name: &TaskName, call: &Call) ->
         text: Draft::new(asked.alloc),
         first: None,
         second: None,
-        layer_text: Draft::new(asked.alloc),
         layer: None,
         mounts: Vec::new(asked.alloc),
         groups: Vec::new(asked.alloc),
@@ -458,17 +456,8 @@ fn push_effect(asked: Asked<'_>, world: &World, call: CallKind, before: &Before,
     drop(picture);
 }
 
-// Whether a rule is one of walks.
-fn is_of_walks(rule: Rule) -> bool {
-    rule.name().starts_with('W')
-}
-
-// Appends what is told of a rule that refuses a call: the walk to a layer that stops, and for some rules who holds,
-// locks or mounted what is in the way.
+// Appends what is told of a rule that refuses a call: of some who holds, locks or mounted what is in the way.
 fn push_refusal(asked: Asked<'_>, refusal: Refusal<'_>, text: &mut Draft) {
-    if is_of_walks(refusal.rule) {
-        text.push_draft(&refusal.before.layer_text);
-    }
     match refusal.rule {
         Rule::M8 | Rule::P1 | Rule::L1 | Rule::W5 | Rule::B1 => push_refused(asked, refusal, text),
         _ => {}

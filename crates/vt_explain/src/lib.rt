@@ -8,7 +8,7 @@ mod earlier;
 mod explaining;
 mod holders;
 mod later;
-mod layer_walk;
+mod layers;
 mod lines;
 mod locks;
 mod mounters;

@@ -10,7 +10,7 @@ A call is refused by the first rule that fails. This is their order; `vtree rule
 ";
 
 // The calls of a rule with commas between them.
-fn push_calls(text: &mut String, page: RulePage) -> Result<(), AllocError> {
+fn push_calls(text: &mut String, page: &RulePage) -> Result<(), AllocError> {
     if page.calls.is_empty() {
         return text.push_str("Not in this version.");
     }
@@ -45,8 +45,8 @@ fn push_rule(alloc: Global, text: &mut String, rule: Rule) -> Result<(), AllocEr
 /// The page.
 pub fn page(alloc: Global) -> Result<String, AllocError> {
     let mut text = String::from_str(alloc, HEAD)?;
-    for rule in RULES {
-        push_rule(alloc, &mut text, rule)?;
+    for rule in &RULES {
+        push_rule(alloc, &mut text, *rule)?;
     }
     Ok(text)
 }

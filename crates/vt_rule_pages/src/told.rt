@@ -31,7 +31,7 @@ fn line_of(alloc: Global, rule: Rule) -> Result<String, AllocError> {
 }
 
 // The script of a page, each line behind a margin.
-fn push_script(text: &mut String, page: RulePage) -> Result<(), AllocError> {
+fn push_script(text: &mut String, page: &RulePage) -> Result<(), AllocError> {
     for line in page.script.lines() {
         text.push_str("    ")?;
         text.push_str(line)?;
@@ -64,9 +64,9 @@ fn lines_of<F: Fn(Rule) -> bool + Drop>(alloc: Global, picks: F) -> Result<Strin
     requires { F.IsAlwaysCallable picks }
 {
     let mut text = String::new(alloc);
-    for rule in RULES {
-        if picks(rule) {
-            text.push_str(line_of(alloc, rule)?.as_str())?;
+    for rule in &RULES {
+        if picks(*rule) {
+            text.push_str(line_of(alloc, *rule)?.as_str())?;
         }
     }
     Ok(text)
@@ -87,9 +87,9 @@ fn call_meant(word: &str) -> &str {
 
 /// What is told of a word: of a rule its page, of an error or a call its rules. Empty where it is none of these.
 pub fn told(alloc: Global, word: &str) -> Result<String, AllocError> {
-    for rule in RULES {
+    for rule in &RULES {
         if rule.name() == word {
-            return of_rule(alloc, rule);
+            return of_rule(alloc, *rule);
         }
     }
     let call = call_meant(word);
@@ -101,8 +101,8 @@ pub fn told(alloc: Global, word: &str) -> Result<String, AllocError> {
 /// All rules, as scripts with the answers that they want.
 pub fn suite(alloc: Global) -> Result<String, AllocError> {
     let mut text = String::new(alloc);
-    for rule in RULES {
-        let page = page_of(rule);
+    for rule in &RULES {
+        let page = page_of(*rule);
         if !page.script.is_empty() {
             let (name, script) = (rule.name(), page.script);
             let part = format!(in alloc; "== {name}\n{script}")?;
