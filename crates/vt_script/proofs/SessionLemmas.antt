@@ -1,8 +1,8 @@
 -- How the steps of a session follow one another.
-use Rattle.std.proofs.Common.{◌≡◌, ◌≢◌, ℕ, ◌+◌, true, false, List, [], ◌∷◌, ◌++◌, length, take, Option, Some, None, Result, Ok, Err, refl, sym, ap, ◌∙◌, subst, append_assoc, arith, length-append, length-take, ◌≤◌}
+use Rattle.std.proofs.Common.{◌≡◌, ◌≢◌, ℕ, ◌+◌, true, false, List, [], ◌∷◌, ◌++◌, length, take, Option, Some, None, Result, Ok, Err, refl, sym, ap, ◌∙◌, subst, append_assoc, arith, length-append, length-take, nat_lt, ◌≤◌}
 use Rattle.std.proofs.lemmas.List.{append-nil}
 use Rattle.vt_io.specs.declared.output.Sink.{Ghosts}
-use Rattle.vt_io.specs.LineBuffer.{Holds}
+use Rattle.vt_io.specs.LineBuffer.{Holds, LineSoFar}
 use Rattle.vt_io.proofs.Printing.{Wrote-nothing, Wrote-append, WroteFront-append}
 use Rattle.vt_spec.specs.Language.Script.{lines_of, overlays}
 use Rattle.vt_spec.specs.Machine.Run.{step_text, step_world}
@@ -21,6 +21,16 @@ use Rattle.vt_script.proofs.RunLemmas.{stays, runs_then, runs_bytes, runs_refuse
 same_moment : {a b : Moment} → a.version ≡ b.version → a.world ≡ b.world → a.answered ≡ b.answered → a.line ≡ b.line
     → a ≡ b
 same_moment {a} {b} v w n l = λ i. record { version = v i; world = w i; answered = n i; line = l i }
+
+-- what is kept of a line
+abbrev kept_of : List ℕ → LineSoFar
+kept_of line = record { bytes = take 8192 line; overlong = nat_lt 8192 (length line) }
+
+-- a session that keeps a line which came whole
+reading_whole : (old : State) (line : List ℕ) → IsReading old [] → HasNoNewline line
+    → IsReading (record old { kept = kept_of line }) line
+reading_whole old line reading others =
+    record { held = record { bytes = refl; overlong = refl }; whole = others; numbers = reading.numbers }
 
 -- a last line is the only one
 last_line : (line : List ℕ) (byte : ℕ) (bytes : List ℕ) → line ≡ byte ∷ bytes → HasNoNewline line
@@ -143,6 +153,40 @@ module _ {W : Type 0} (sink : Ghosts W) where
         runs = runs_line old line broke.handed left reading.whole broke.serves (sameness_is_an_equivalence.itself left);
         wrote = broke.wrote;
       }
+
+  -- a line that was answered whole, of which nothing was kept
+  pub fed_whole : (old new : State) (line : List ℕ) (x y : W) → IsReading old [] → HasNoNewline line
+      → Replied sink old.version old.world line (old.answered + 1) new.world x y → new.version ≡ old.version
+      → new.answered ≡ old.answered + 1
+      → Holds [] new.kept →
+      Fed sink (moment old []) (line ++ 10 ∷ []) new x y
+  fed_whole old new line x y reading others replied version answered held =
+      let middle : State = record old { kept = kept_of line } in
+      let first : Fed sink (moment old []) line middle x x = record {
+        line = line;
+        text = [];
+        reading = reading_whole old line reading others;
+        runs = runs_bytes (moment old []) line;
+        wrote = Wrote-nothing sink x;
+      } in
+      fed_then (moment old []) line (10 ∷ []) middle new x x y first
+      (fed_line middle new line x y (reading_whole old line reading others) replied version answered held)
+
+  -- a write failed in its answer
+  pub broke_whole : (old : State) (line : List ℕ) (x y : W) → IsReading old [] → HasNoNewline line
+      → BrokeReply sink old.version old.world line (old.answered + 1) x y
+      → Broke sink (moment old []) (line ++ 10 ∷ []) x y
+  broke_whole old line x y reading others broke =
+      let middle : State = record old { kept = kept_of line } in
+      let first : Fed sink (moment old []) line middle x x = record {
+        line = line;
+        text = [];
+        reading = reading_whole old line reading others;
+        runs = runs_bytes (moment old []) line;
+        wrote = Wrote-nothing sink x;
+      } in
+      broke_then (moment old []) line (10 ∷ []) middle x x y first
+      (broke_line middle line x y (reading_whole old line reading others) broke)
 
 -- what may be told of a last line of which some byte was read
 told_last : (moment : Moment) (handed : Option Allotment) (byte : ℕ) (bytes : List ℕ) → moment.line ≡ byte ∷ bytes

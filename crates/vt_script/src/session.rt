@@ -46,6 +46,36 @@ fn answer<C: Calls, W: Sink>(
     alloc: Global,
     world: &mut C,
     number: u64,
+    line: &[u8],
+    sink: &mut W,
+) -> Result<(), RunFault>
+    requires { W.failures sink.old + 1 < 2 ^ 64 }
+    ensures replies { HasNumbers (C.world world.old)
+        → Replies W.Sink (version_of version) (C.world world.old) line.now number result (C.world world.new) sink.old sink.new }
+    ensures kept { OnOk result (W.failures sink.new ≡ W.failures sink.old) }
+    ensures counted { OnErr result (W.failures sink.new ≡ W.failures sink.old + 1) }
+    ensures fault { IfErr result (λ fault. fault ≡ RunFault.Write) }
+{
+    match Line::parse_as(version, alloc, line) {
+        Ok(Line::Silent) => Ok(()),
+        Ok(Line::Call(task, call)) => {
+            let answer = world.call(&task, call);
+            write_reply(sink, number, &answer)
+        }
+        Ok(Line::Ask(directive)) => {
+            let answer = world.direct(directive);
+            write_reply(sink, number, &answer)
+        }
+        Err(deny) => write_reply(sink, number, &Err(deny)),
+    }
+}
+
+// Answers the line of this number, of which this much is kept.
+fn answer_kept<C: Calls, W: Sink>(
+    version: Version,
+    alloc: Global,
+    world: &mut C,
+    number: u64,
     line: &LineBuffer,
     sink: &mut W,
 ) -> Result<(), RunFault>
@@ -59,18 +89,7 @@ fn answer<C: Calls, W: Sink>(
     if line.is_overlong() {
         return write_reply(sink, number, &Err(Rule::S1.denial()));
     }
-    match Line::parse_as(version, alloc, line.bytes()) {
-        Ok(Line::Silent) => Ok(()),
-        Ok(Line::Call(task, call)) => {
-            let answer = world.call(&task, call);
-            write_reply(sink, number, &answer)
-        }
-        Ok(Line::Ask(directive)) => {
-            let answer = world.direct(directive);
-            write_reply(sink, number, &answer)
-        }
-        Err(deny) => write_reply(sink, number, &Err(deny)),
-    }
+    answer(version, alloc, world, number, line.bytes(), sink)
 }
 
 impl<C: Calls + Drop> Session<C> {
@@ -104,6 +123,33 @@ impl<C: Calls + Drop> Session<C> {
         self.world
     }
 
+    // Answers a line that a newline ends, and of which nothing is kept.
+    fn answer_line<W: Sink>(&mut self, line: &[u8], sink: &mut W) -> Result<(), RunFault>
+        requires countable { W.failures sink.old + 1 < 2 ^ 64 }
+        requires lines { lines_begun (state_of C.world self.old) + 1 < 2 ^ 64 }
+        requires one { HasNoNewline line.now }
+        ensures feeds { IsReading (state_of C.world self.old) []
+            → Feeds W.Sink (moment (state_of C.world self.old) []) (line.now ++ 10 ∷ []) result
+            (state_of C.world self.new) sink.old sink.new }
+        ensures begun { OnOk result (lines_begun (state_of C.world self.new) ≤ lines_begun
+            (state_of C.world self.old) + 1) }
+        ensures kept { OnOk result (W.failures sink.new ≡ W.failures sink.old) }
+        ensures counted { OnErr result (W.failures sink.new ≡ W.failures sink.old + 1) }
+        ensures fault { IfErr result (λ fault. fault ≡ RunFault.Write) }
+    {
+        let number = self.answered + 1;
+        answer(
+            self.version,
+            self.alloc,
+            &mut self.world,
+            number,
+            line,
+            sink,
+        )?;
+        self.answered = number;
+        Ok(())
+    }
+
     // Answers the line that a newline ends.
     fn end_line<W: Sink>(&mut self, sink: &mut W) -> Result<(), RunFault>
         requires countable { W.failures sink.old + 1 < 2 ^ 64 }
@@ -118,7 +164,7 @@ impl<C: Calls + Drop> Session<C> {
         ensures fault { IfErr result (λ fault. fault ≡ RunFault.Write) }
     {
         let number = self.answered + 1;
-        answer(
+        answer_kept(
             self.version,
             self.alloc,
             &mut self.world,
@@ -145,6 +191,10 @@ impl<C: Calls + Drop> Session<C> {
         ensures counted { OnErr result (W.failures sink.new ≡ W.failures sink.old + 1) }
         ensures fault { IfErr result (λ fault. fault ≡ RunFault.Write) }
     {
+        // A line that came whole is answered where it lies.
+        if self.line.is_empty() {
+            return self.answer_line(rest, sink);
+        }
         self.line.extend(rest);
         self.end_line(sink)
     }
@@ -183,7 +233,7 @@ impl<C: Calls + Drop> Session<C> {
         if self.line.is_empty() {
             return Ok(());
         }
-        answer(
+        answer_kept(
             self.version,
             self.alloc,
             &mut self.world,
