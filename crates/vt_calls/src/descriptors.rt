@@ -9,7 +9,7 @@ use vt_spec::errors::Deny;
 
 // Opens or closes a file as is granted. S5 (ENOMEM): an allocation failed, or a count of uses is full; nothing has
 // changed.
-#[inline(always)]
+#[inline(never)]
 pub(crate) fn change_descriptors(
     world: &mut World,
     name: &TaskName,

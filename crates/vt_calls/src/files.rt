@@ -9,7 +9,7 @@ use vt_request::{Answer, TaskName};
 use vt_spec::errors::Deny;
 
 // Changes a file as is granted. S5 (ENOMEM): an allocation failed; nothing has changed.
-#[inline(always)]
+#[inline(never)]
 pub(crate) fn change_file(
     world: &mut World,
     name: &TaskName,

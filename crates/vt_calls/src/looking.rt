@@ -8,7 +8,7 @@ use vt_request::{Answer, TaskName};
 use vt_spec::errors::Deny;
 
 // What a grant to look is answered. S5 (ENOMEM): an allocation failed.
-#[inline(always)]
+#[inline(never)]
 pub(crate) fn look(world: &World, name: &TaskName, grant: LookGrant) -> Result<Answer, Deny>
     requires { IsGiven world.now name.now (Look grant) }
     ensures { EndsGiven world.now name.now (Look grant) result world.now }

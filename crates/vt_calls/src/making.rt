@@ -9,7 +9,7 @@ use vt_request::{Answer, TaskName};
 use vt_spec::errors::Deny;
 
 // Makes a name as is granted. S5 (ENOMEM): an allocation failed, or a count of uses is full; nothing has changed.
-#[inline(always)]
+#[inline(never)]
 pub(crate) fn make(world: &mut World, name: &TaskName, grant: MakeGrant) -> Result<Answer, Deny>
     requires { IsGiven world.old name.now (Make grant) }
     ensures { EndsGiven world.old name.now (Make grant) result world.new }

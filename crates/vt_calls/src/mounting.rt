@@ -11,6 +11,7 @@ use vt_spec::errors::Deny;
 
 // Changes mounts as is granted. S5 (ENOMEM): an allocation failed, a count of uses is full, or no number is
 // left; nothing has changed.
+#[inline(never)]
 pub(crate) fn change_mounts(
     world: &mut World,
     name: &TaskName,
@@ -50,6 +51,7 @@ fn attach(world: &mut World, name: &TaskName, attachment: Attachment) -> Result<
 
 // Mounts a new overlay as is granted. S5 (ENOMEM): an allocation failed, a count of uses is full, or no number is
 // left; nothing has changed.
+#[inline(never)]
 pub(crate) fn mount_overlay(
     world: &mut World,
     name: &TaskName,

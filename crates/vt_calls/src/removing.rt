@@ -10,7 +10,7 @@ use vt_spec::errors::Deny;
 
 // Takes a name away as is granted. S5 (ENOMEM): an allocation failed, or a count of uses is full; nothing has
 // changed.
-#[inline(always)]
+#[inline(never)]
 pub(crate) fn remove(world: &mut World, name: &TaskName, grant: RemoveGrant) -> Result<Answer, Deny>
     requires { IsGiven world.old name.now (Remove grant) }
     ensures { EndsGiven world.old name.now (Remove grant) result world.new }

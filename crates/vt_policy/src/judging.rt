@@ -49,7 +49,7 @@ pub(crate) fn granted<L: LookAtLayers>(
 }
 
 // A call that only looks.
-#[inline(always)]
+#[inline(never)]
 fn judge_look<L: LookAtLayers>(world: &L, who: &Task, call: LookCall) -> Result<Grant, Deny>
     ensures judged { JudgesByReceivers (look_call_of call) (task_of who.now)
         (judge nat_eq (L.looks world.now) (L.overfills world.now) (task_of who.now) (look_call_of call)) result }
@@ -73,7 +73,7 @@ fn judge_look<L: LookAtLayers>(world: &L, who: &Task, call: LookCall) -> Result<
 }
 
 // A call that makes a name.
-#[inline(always)]
+#[inline(never)]
 fn judge_make<L: LookAtLayers>(
     alloc: Global,
     world: &L,
@@ -94,7 +94,7 @@ fn judge_make<L: LookAtLayers>(
 }
 
 // A call that takes a name away.
-#[inline(always)]
+#[inline(never)]
 fn judge_remove<L: LookAtLayers>(
     alloc: Global,
     world: &L,
@@ -114,7 +114,7 @@ fn judge_remove<L: LookAtLayers>(
 }
 
 // A call that sets the content, the owner or the mode of an object, or the mark of a directory.
-#[inline(always)]
+#[inline(never)]
 fn judge_write<L: LookAtLayers>(
     alloc: Global,
     world: &L,
@@ -140,7 +140,7 @@ fn judge_write<L: LookAtLayers>(
 }
 
 // A call that opens or closes a file.
-#[inline(always)]
+#[inline(never)]
 fn judge_descriptor<L: LookAtLayers>(
     alloc: Global,
     world: &L,
@@ -163,7 +163,7 @@ fn judge_descriptor<L: LookAtLayers>(
 }
 
 // A call that changes the caller, or makes a task.
-#[inline(always)]
+#[inline(never)]
 fn judge_task<L: LookAtLayers>(world: &L, who: &Task, call: TaskCall) -> Result<Grant, Deny>
     ensures judged { JudgesByReceivers (task_call_of call) (task_of who.now)
         (judge nat_eq (L.looks world.now) (L.overfills world.now) (task_of who.now) (task_call_of call)) result }
@@ -187,7 +187,7 @@ fn judge_task<L: LookAtLayers>(world: &L, who: &Task, call: TaskCall) -> Result<
 }
 
 // A call that changes mounts.
-#[inline(always)]
+#[inline(never)]
 fn judge_mount<L: LookAtLayers>(
     alloc: Global,
     world: &L,
