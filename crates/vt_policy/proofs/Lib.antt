@@ -2,4 +2,5 @@ mod ForkLemmas
 mod MountLemmas
 mod MoveLemmas
 mod PlaceLemmas
+mod ReadLemmas
 mod WalkEnds

@@ -7,7 +7,8 @@ use Rattle.vt_location.specs.Locations.{location_of}
 use Rattle.vt_looks.specs.declared.places.OldPlace.{OldPlace}
 use Rattle.vt_looks.specs.declared.places.Place.{Place}
 use Rattle.vt_looks.specs.Places.{as_place}
-use Rattle.vt_walk.specs.WalkValue.{location_end, location_result, old_place_result, place_end, place_of, place_result, without_steps}
+use Rattle.vt_walk.specs.declared.walks.ObjectFound.{ObjectFound}
+use Rattle.vt_walk.specs.WalkValue.{location_end, location_result, object_found_result, old_place_result, place_end, place_of, place_result, without_steps}
 use Rattle.vt_policy.specs.Ends.{EndsAt, EndsAtPlace}
 
 abbrev okay : {A : Type 0} → A → Result A Deny
@@ -29,6 +30,21 @@ pub refused_by : (result : Result Location Deny) (end : Result (walked.Here ℕ)
 refused_by (Ok at) end e = tt
 refused_by (Err deny) (Ok here) e = absurd cc
 refused_by (Err deny) (Err other) e = cc
+
+-- the same, with the object that was found
+pub found_ends_at : (result : Result ObjectFound Deny) (end : Result (walked.Here ℕ) Deny)
+    → object_found_result result ≡ location_end end
+    → IfOk result (λ found. EndsAt end found.location)
+found_ends_at (Ok found) (Ok here) e = (here, refl, same-ok here.location (location_of found.location) (sym e))
+found_ends_at (Ok found) (Err deny) e = absurd cc
+found_ends_at (Err deny) end e = tt
+
+pub found_refused_by : (result : Result ObjectFound Deny) (end : Result (walked.Here ℕ) Deny)
+    → object_found_result result ≡ location_end end
+    → IfErr result (λ deny. end ≡ Err deny)
+found_refused_by (Ok found) end e = tt
+found_refused_by (Err deny) (Ok here) e = absurd cc
+found_refused_by (Err deny) (Err other) e = cc
 
 pub ends_at_place : (result : Result Place Deny) (end : Result (walked.Place ℕ) Deny)
     → place_result result ≡ place_end end

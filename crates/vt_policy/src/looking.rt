@@ -1,15 +1,19 @@
 //! Calls that look: stat(2), readlink(2), read(2), getdents(2), execve(2).
-ghost use Rattle.std.specs.Prelude.{nat_eq};
+ghost use Rattle.std.specs.Prelude.{◌≡◌, nat_eq, option_copied, Ok};
+ghost use Rattle.vt_spec.specs.Errors.{unless};
 ghost use Rattle.vt_spec.specs.Machine.Judge.{exec_permit, list_permit, lstat_permit, read_permit, readlink_permit, stat_permit};
+ghost use Rattle.vt_spec.specs.Machine.Rules.Looking.{read_rules};
+ghost use Rattle.vt_location.specs.Locations.{location_of};
 ghost use Rattle.vt_permits.specs.Memory.{JudgesAlike};
 ghost use Rattle.vt_tasks.specs.TaskValue.{task_of};
 
-use crate::paths::{directory_at, object_at, symlink_at};
-use vt_cred::Rights;
+use crate::paths::{directory_at, object_at, object_found_at, symlink_at};
+use vt_cred::{Rights, allows};
+use vt_location::Location;
 use vt_looks::Look;
-use vt_node::Kind;
+use vt_node::{Kind, Node};
 use vt_permits::{Grant, LookGrant};
-use vt_rules::{is_directory, is_kind, is_noexec, may};
+use vt_rules::{is_kind, is_noexec, may};
 use vt_spec::errors::{Deny, Rule};
 use vt_tasks::Task;
 
@@ -60,25 +64,46 @@ pub fn readlink<L: Look>(world: &L, who: &Task, path: &[u8]) -> Result<Grant, De
     Ok(Grant::Look(LookGrant::Read { file: symlink }))
 }
 
+// A file may be read, of which this is the real object: E2, E9, C1, B1. In an overlay a look at the object costs a walk
+// through its layers.
+fn may_read<L: Look>(
+    world: &L,
+    who: &Task,
+    file: Location,
+    object: Option<&Node>,
+) -> Result<(), Deny>
+    requires { option_copied object ≡ L.real world.now (location_of file) }
+    ensures { result ≡ unless
+        (read_rules (L.looks world.now) (task_of who.now) (location_of file)) (Ok tt) }
+{
+    let Some(object) = object else {
+        return Err(Rule::C1.denial());
+    };
+    if object.is_directory() {
+        return Err(Rule::E2.denial());
+    }
+    if object.kind() == Kind::White {
+        return Err(Rule::E9.denial());
+    }
+    if !allows(&who.cred, &object.attr(), object.kind(), Rights::READ) {
+        return Err(Rule::C1.denial());
+    }
+    if !world.mounter_may_on(world.ground(file.mount), file, object, Rights::READ) {
+        return Err(Rule::B1.denial());
+    }
+    Ok(())
+}
+
 /// After the rules of the walk: E2 (EISDIR), E9 (ENXIO), C1 (EACCES), B1 (EACCES).
 #[tactic(auto, unfolding(vt_spec::specs::Machine::Judge::read_permit))]
 pub fn read<L: Look>(world: &L, who: &Task, path: &[u8]) -> Result<Grant, Deny>
     ensures { JudgesAlike (task_of who.now) (read_permit nat_eq (L.looks world.now) (task_of who.now) path.now) result }
 {
-    let file = object_at(world, who, path)?;
-    if is_directory(world, file) {
-        return Err(Rule::E2.denial());
-    }
-    if is_kind(world, file, Kind::White) {
-        return Err(Rule::E9.denial());
-    }
-    if !may(world, who, file, Rights::READ) {
-        return Err(Rule::C1.denial());
-    }
-    if !world.mounter_may(file, Rights::READ) {
-        return Err(Rule::B1.denial());
-    }
-    Ok(Grant::Look(LookGrant::Read { file }))
+    let found = object_found_at(world, who, path)?;
+    may_read(world, who, found.location, found.object)?;
+    Ok(Grant::Look(LookGrant::Read {
+        file: found.location,
+    }))
 }
 
 /// After the rules of the walk: E8 (EACCES), F3 (EACCES), C1 (EACCES), B1 (EACCES).

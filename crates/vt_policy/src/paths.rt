@@ -1,8 +1,9 @@
 //! Where paths as bytes lead: path_resolution(7).
-ghost use Rattle.std.specs.Prelude.{◌≡◌, nat_eq, Err, IfErr, IfOk};
+ghost use Rattle.std.specs.Prelude.{◌≡◌, nat_eq, option_copied, Err, IfErr, IfOk};
 ghost use Rattle.vt_spec.specs.Machine.Rules.Mounting.{destination_walk, source_walk};
 ghost use Rattle.vt_spec.specs.Machine.Rules.Removing.{rename_new_walk};
 ghost use Rattle.vt_spec.specs.Machine.Walking.{directory_walk, file_walk, new_leaf_walk, new_walk, object_walk, old_leaf_walk, old_walk, symlink_walk, walk_end};
+ghost use Rattle.vt_location.specs.Locations.{location_of};
 ghost use Rattle.vt_looks.specs.Places.{as_place};
 ghost use Rattle.vt_tasks.specs.TaskValue.{task_of};
 ghost use Rattle.vt_policy.specs.Ends.{EndsAt, EndsAtPlace};
@@ -12,6 +13,7 @@ use vt_looks::{Look, OldPlace, Place};
 use vt_spec::errors::Deny;
 use vt_tasks::Task;
 use vt_text::path::PathText;
+use vt_walk::ObjectFound;
 
 /// The object that a path leads to, a final symlink followed.
 pub(crate) fn object_at<L: Look>(world: &L, who: &Task, path: &[u8]) -> Result<Location, Deny>
@@ -21,6 +23,22 @@ pub(crate) fn object_at<L: Look>(world: &L, who: &Task, path: &[u8]) -> Result<L
         ≡ Err deny) }
 {
     vt_walk::object_walk(world, who, &PathText::parse(path)?)
+}
+
+/// The same, with the real object that was found.
+pub(crate) fn object_found_at<'a, L: Look>(
+    world: &'a L,
+    who: &Task,
+    path: &'a [u8],
+) -> Result<ObjectFound<'a>, Deny>
+    ensures ok { IfOk result (λ found.
+        EndsAt (walk_end (object_walk nat_eq (L.looks world.now) (task_of who.now) path.now)) found.location) }
+    ensures object { IfOk result (λ found.
+        option_copied found.object ≡ L.real world.now (location_of found.location)) }
+    ensures err { IfErr result (λ deny. walk_end (object_walk nat_eq (L.looks world.now) (task_of who.now) path.now)
+        ≡ Err deny) }
+{
+    vt_walk::object_found_walk(world, who, &PathText::parse(path)?)
 }
 
 /// The directory that a path leads to.
