@@ -1,8 +1,10 @@
 -- The names of directories that are merged, and what they show under a name.
-use Rattle.std.proofs.Common.{◌≡◌, ◌∙◌, ◌+◌, ◌++◌, ◌∷◌, ◌<◌, ◌||◌, [], Bool, List, None, Option, Some, ap, append_assoc, drop, false, get_or, is_some, length, map, option_and_then, refl, sym, true, true≢false, ℕ}
+use Rattle.std.proofs.Common.{◌≡◌, ◌∙◌, ◌+◌, ◌++◌, ◌∷◌, ◌<◌, ◌||◌, [], Bool, List, None, Option, Some, ap, append_assoc, drop, false, get_or, is_some, length, map, option_and_then, refl, subst, sym, true, true≢false, ℕ}
 use Rattle.std.proofs.lemmas.List.{drop_more}
+use Rattle.std.proofs.lemmas.List.Sorted.{IsPermutation-append_left, IsPermutation-append_right, IsPermutation-trans}
 use Rattle.std.specs.FinMap.Entries.{is_some-find}
 use Rattle.std.specs.List.{list_any}
+use Rattle.std.specs.List.Sorted.{IsPermutation}
 use Rattle.std.specs.Ordering.{eq_by_cmp}
 use Rattle.vt_spec.specs.Lists.{then_some, when}
 use Rattle.vt_spec.specs.Machine.Layers.{view_of}
@@ -37,18 +39,27 @@ names_seen f node = names_of_content (exchanged f) (exchanged f) node node.conte
 
 -- the names of one directory more
 pub names_more : (fs : Filesystems) (merged : List MergedDirectory) (index : ℕ) (default : MergedDirectory)
-    (all names new : List (List ℕ)) → index < length merged
-    → all ++ names_had fs (drop index merged) ≡ names_had fs merged
-    → names ≡ names_in ((files_at fs (get_or merged index default).directory.filesystem.count).tree.node
-    (inode_of (get_or merged index default).directory))
-    → new ≡ all ++ names
-    → new ++ names_had fs (drop (index + 1) merged) ≡ names_had fs merged
-names_more fs merged index default all names new within so_far is grown =
-    ap (λ l. l ++ names_had fs (drop (index + 1) merged)) grown
-    ∙ append_assoc all names (names_had fs (drop (index + 1) merged))
-    ∙ ap (λ l. all ++ (l ++ names_had fs (drop (index + 1) merged))) is
-    ∙ ap (λ l. all ++ names_had fs l) (sym (drop_more merged index default within))
-    ∙ so_far
+    (all kept new : List (List ℕ)) → index < length merged
+    → IsPermutation (all ++ names_had fs (drop index merged)) (names_had fs merged)
+    → IsPermutation kept (names_in ((files_at fs (get_or merged index default).directory.filesystem.count).tree.node
+    (inode_of (get_or merged index default).directory)))
+    → new ≡ all ++ kept
+    → IsPermutation (new ++ names_had fs (drop (index + 1) merged)) (names_had fs merged)
+names_more fs merged index default all kept new within so_far is grown =
+    IsPermutation-trans _ _ _
+    (subst (λ l. IsPermutation l (all ++ names_had fs (drop index merged)))
+    (sym (ap (λ l. l ++ rest) grown ∙ append_assoc all kept rest))
+    (subst (λ l. IsPermutation (all ++ (kept ++ rest)) (all ++ names_had fs l))
+    (sym (drop_more merged index default within))
+    (IsPermutation-append_right all (kept ++ rest) (own ++ rest) (IsPermutation-append_left rest kept own is))))
+    so_far
+  where
+    own : List (List ℕ)
+    own = names_in ((files_at fs (get_or merged index default).directory.filesystem.count).tree.node
+        (inode_of (get_or merged index default).directory))
+
+    rest : List (List ℕ)
+    rest = names_had fs (drop (index + 1) merged)
 
 -- what one directory shows under a name, and those below it
 abbrev pub own_shows : View ℕ → ℕ → Option ℕ → Option (Shown ℕ) → Option (Shown ℕ)

@@ -152,7 +152,7 @@ module _ {A : Type 0} where
     abbrev shows : List ℕ → Bool
     shows name = is_some (shown_in (placed_views fs merged) (name ∷ []))
 
-    module _ (had : bytes_of all ≡ names_had fs merged) (filtered : kept ≡ filter (λ key. shows key.items) all)
+    module _ (had : IsPermutation (bytes_of all) (names_had fs merged)) (filtered : kept ≡ filter (λ key. shows key.items) all)
         (permuted : IsPermutation kept sorted) (in_order : IsSorted key_cmp sorted) (deduped : once ≡ dedup key_eq sorted)
         (is_merged : (rest : List (List ℕ)) → ¬ (rest ≡ []) → shown_in (placed_views fs merged) rest
         ≡ shown layers (path ++ rest)) where
@@ -172,7 +172,7 @@ module _ {A : Type 0} where
           (λ key e. ap shows (sym (same_name name key.items e))) all
           ∙ ap (λ b. shows name && b)
           (sym (list_any_of_map (is_name name) (λ (key : Vec ℕ A). key.items) all)
-          ∙ ap (list_any (is_name name)) had)
+          ∙ list_any-IsPermutation (is_name name) (bytes_of all) (names_had fs merged) had)
           ∙ implied (shows name) (list_any (is_name name) (names_had fs merged)) (shown_is_had fs merged name)
 
       pub names_are : bytes_of once ≡ names_shown layers path

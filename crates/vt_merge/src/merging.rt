@@ -19,8 +19,8 @@ use vt_fs::Filesystems;
 /// The most layers of an overlay: an upper one, and 128 lower ones.
 pub const MOST_LAYERS: usize = 129;
 
-// Most overlays have no more layers. Room for so many directories is soon filled with blanks.
-const FEW_LAYERS: usize = 16;
+// Most overlays have no more layers. Room for as many directories (1.5 KB) is filled with blanks in some 60 instructions.
+const FEW_LAYERS: usize = 64;
 
 // What a merged directory has under a name: the directory there, and whether it hides what lower ones have.
 #[derive(Clone, Copy, Debug)]

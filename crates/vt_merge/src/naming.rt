@@ -1,6 +1,7 @@
 //! The names of merged directories.
 ghost use Rattle.std.specs.List.{list_any};
-ghost use Rattle.std.specs.Prelude.{◌≡◌, ◌≤◌, ◌∷◌, [], IfOk, is_some, length, map, not};
+ghost use Rattle.std.specs.List.Sorted.{IsPermutation};
+ghost use Rattle.std.specs.Prelude.{◌≡◌, ◌≤◌, ◌++◌, ◌∷◌, [], IfOk, OnOk, is_some, length, map, not};
 ghost use Rattle.vt_spec.specs.Lists.{is_empty_list};
 ghost use Rattle.vt_spec.specs.Machine.Layers.{names_shown};
 ghost use Rattle.vt_laws_layers.specs.Layers.Directories.{shown_in};
@@ -17,6 +18,7 @@ use arrayvec::ArrayVec;
 use std::alloc::{AllocError, Global};
 use vt_fs::Filesystems;
 use vt_location::InodeRef;
+use vt_node::copied_bytes;
 
 // Directories of all layers that are merged, the highest first.
 type MergedDirectories = ArrayVec<MergedDirectory, MOST_LAYERS>;
@@ -65,9 +67,17 @@ fn shows_any_of(trees: &Filesystems, merged: &[MergedDirectory], directory: Inod
     ensures { result ≡ list_any (λ name. is_some (shown_in (placed_views trees.now merged.now) (name ∷ [])))
         (names_in ((files_at trees.now directory.filesystem.count).tree.node (inode_of directory))) }
 {
+    shows_one(trees, merged, kept_names(trees, directory))
+}
+
+// The names of a directory, in no order.
+fn kept_names(trees: &Filesystems, directory: InodeRef) -> &[Vec<u8>]
+    ensures { IsPermutation (map (λ name. name.items) result.now)
+        (names_in ((files_at trees.now directory.filesystem.count).tree.node (inode_of directory))) }
+{
     match trees.node(directory.node_ref()) {
-        Some(node) => shows_one(trees, merged, node.kept_names()),
-        None => false,
+        Some(node) => node.kept_names(),
+        None => &[],
     }
 }
 
@@ -84,35 +94,31 @@ fn shows_one(trees: &Filesystems, merged: &[MergedDirectory], names: &[Vec<u8>])
     false
 }
 
-// The names of all these directories, one directory after the other.
+// The names of all these directories, in no order.
 fn all_names(
     alloc: Global,
     trees: &Filesystems,
     merged: &[MergedDirectory],
 ) -> Result<Vec<Vec<u8>>, AllocError>
-    ensures { IfOk result (λ names. map (λ name. name.items) names.items ≡ names_had trees.now merged.now) }
+    ensures { IfOk result (λ names.
+        IsPermutation (map (λ name. name.items) names.items) (names_had trees.now merged.now)) }
 {
     let mut all = Vec::new(alloc);
     for top in merged {
-        let mut names = names_of(alloc, trees, top.directory)?;
-        all.append(&mut names)?;
+        push_copies(alloc, kept_names(trees, top.directory), &mut all)?;
     }
     Ok(all)
 }
 
-// The names of a directory.
-fn names_of(
-    alloc: Global,
-    trees: &Filesystems,
-    directory: InodeRef,
-) -> Result<Vec<Vec<u8>>, AllocError>
-    ensures { IfOk result (λ names. map (λ name. name.items) names.items
-        ≡ names_in ((files_at trees.now directory.filesystem.count).tree.node (inode_of directory))) }
+// Copies of these names more.
+fn push_copies(alloc: Global, names: &[Vec<u8>], all: &mut Vec<Vec<u8>>) -> Result<(), AllocError>
+    ensures { OnOk result (map (λ name. name.items) all.new.items
+        ≡ map (λ name. name.items) all.old.items ++ map (λ name. name.items) names.now) }
 {
-    match trees.node(directory.node_ref()) {
-        Some(node) => node.names(alloc),
-        None => Ok(Vec::new(alloc)),
+    for name in names {
+        all.push(copied_bytes(alloc, name.as_slice())?)?;
     }
+    Ok(())
 }
 
 // Whether merged directories show something under a name.
