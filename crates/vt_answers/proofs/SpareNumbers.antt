@@ -4,8 +4,8 @@ use Rattle.vt_spec.specs.Machine.World.{World}
 use Rattle.vt_laws_rules.specs.Numbers.{Allotment, KeepsTo, Lot, is_in_hand_lot, is_kept_lot}
 use Rattle.vt_laws_rules.specs.Numbers.Lot.{Kept, LeftOver, New}
 use Rattle.vt_laws_rules.proofs.numbers.Supports.{opening_keeps_to_four}
-use Rattle.vt_laws_runs.specs.Handed.{may_be_given}
-use Rattle.vt_laws_runs.proofs.handed.Counts.{same_new}
+use Rattle.vt_laws_trees.specs.Runs.Handed.{may_be_given}
+use Rattle.vt_laws_trees.proofs.runs.handed.Counts.{same_new}
 use Rattle.vt_answers.specs.Ends.{HasNumbers}
 use Rattle.vt_answers.specs.Numbers.{IsOpened}
 

@@ -5,8 +5,8 @@ use Rattle.vt_spec.specs.Language.Calls.{Call, TaskName}
 use Rattle.vt_spec.specs.Lists.{Fresh}
 use Rattle.vt_spec.specs.Machine.Policy.{policy}
 use Rattle.vt_spec.specs.Machine.World.{World, opening}
-use Rattle.vt_laws_runs.specs.Handed.{may_be_given}
-use Rattle.vt_laws_runs.specs.Runs.{OpensInHand}
+use Rattle.vt_laws_trees.specs.Runs.Handed.{may_be_given}
+use Rattle.vt_laws_trees.specs.Runs.Runs.{OpensInHand}
 use Rattle.vt_answers.specs.Ends.{change_after}
 
 -- the definitions' opening world, of numbers that may be given

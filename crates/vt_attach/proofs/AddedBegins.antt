@@ -11,26 +11,26 @@ use Rattle.vt_spec.specs.Machine.Mounts.{Location, Mount, detached, mount_in}
 use Rattle.vt_spec.specs.Machine.Settled.{is_located, mount_lives}
 use Rattle.vt_spec.specs.Machine.World.{Filesystem, Namespace, World, all_locations, mount_at}
 use Rattle.vt_spec.specs.Machine.Invariants.{is_nowhere_or_attached, is_private}
-use Rattle.vt_laws_counts.specs.Using.{AreThere, Exchanges, is_inode, is_on, pinned_if, places_of}
-use Rattle.vt_laws_counts.proofs.using.MountRoots as Roots
-use Rattle.vt_laws_counts.proofs.using.Places.{exchanges_follow, locations_are_uses, locations_use_mounts, mounts_are_uses}
+use Rattle.vt_laws_mounts.specs.Counts.Using.{AreThere, Exchanges, is_inode, is_on, pinned_if, places_of}
+use Rattle.vt_laws_mounts.proofs.counts.using.MountRoots as Roots
+use Rattle.vt_laws_mounts.proofs.counts.using.Places.{exchanges_follow, locations_are_uses, locations_use_mounts, mounts_are_uses}
 use Rattle.vt_fs.specs.FilesystemsValue.{FilesystemEntry, Shown, filesystem_seen, inodes_seen, shown, shown_entry}
-use Rattle.vt_laws_letting_go.specs.Counts.{mount_uses, times}
-use Rattle.vt_laws_letting_go.specs.Keeping.{LocationsStand}
-use Rattle.vt_laws_letting_go.specs.Leaving.{MountsStand, stands_on_attached}
-use Rattle.vt_laws_letting_go.specs.Mounting.{inode_at}
-use Rattle.vt_laws_letting_go.specs.OneByOne.{Inode}
-use Rattle.vt_laws_letting_go.proofs.Lists.{Among, all_pass, among-append, among-append_left, among-append_right, among-from_map, among-map, among_from_all, any_passes, one_passes, or_first, passes, all_from_among}
-use Rattle.vt_laws_letting_go.proofs.leaving.MountsAdded.{found_before}
-use Rattle.vt_laws_letting_go.proofs.sweeps.OfWorlds.{mounts_of_worlds_stand}
-use Rattle.vt_laws_letting_go.proofs.sweeps.UsesCounted.{located_while_counted}
+use Rattle.vt_laws_mounts.specs.LettingGo.Counts.{mount_uses, times}
+use Rattle.vt_laws_mounts.specs.LettingGo.Keeping.{LocationsStand}
+use Rattle.vt_laws_mounts.specs.LettingGo.Leaving.{MountsStand, stands_on_attached}
+use Rattle.vt_laws_mounts.specs.LettingGo.Mounting.{inode_at}
+use Rattle.vt_laws_mounts.specs.LettingGo.OneByOne.{Inode}
+use Rattle.vt_laws_mounts.proofs.letting_go.Lists.{Among, all_pass, among-append, among-append_left, among-append_right, among-from_map, among-map, among_from_all, any_passes, one_passes, or_first, passes, all_from_among}
+use Rattle.vt_laws_mounts.proofs.letting_go.leaving.MountsAdded.{found_before}
+use Rattle.vt_laws_mounts.proofs.letting_go.sweeps.OfWorlds.{mounts_of_worlds_stand}
+use Rattle.vt_laws_mounts.proofs.letting_go.sweeps.UsesCounted.{located_while_counted}
 use Rattle.vt_location.specs.Numbers.{counted}
 use Rattle.vt_mount.specs.MountsValue.{MountEntry, mounts_in}
 use Rattle.vt_tasks.specs.TasksValue.{Tasks}
 use Rattle.vt_laws_worlds.proofs.RaisedInUse.{worlds_are_in_use}
-use Rattle.vt_laws_letting_go.proofs.sweeps.UpperUses.{times_append}
+use Rattle.vt_laws_mounts.proofs.letting_go.sweeps.UpperUses.{times_append}
 use Rattle.vt_laws_mounts.specs.Mounts.Attaching.{OneNumberAMount}
-use Rattle.vt_laws_letting_go.specs.Attaching.{inodes_of_mount_point}
+use Rattle.vt_laws_mounts.specs.LettingGo.Attaching.{inodes_of_mount_point}
 use Rattle.vt_world.specs.Held.{CountsItsMounts, IsHeld, writes_of}
 use Rattle.vt_detach.proofs.MountsLeave.{leaves_alike, merged_alike}
 use Rattle.vt_detach.specs.Uses.{Kept, is_unused, merged_seen}
@@ -144,7 +144,7 @@ module _ (value : WorldValue) (whole : IsHeld value) (added : List (Mount ℕ)) 
       passes (is_on world.mounts) (all_locations world ++ places_of world.mounts) places place
       (among-append_right (all_locations world) (places_of world.mounts) place
       (among-append_right (map Rattle.vt_spec.specs.Machine.Mounts.root_of world.mounts) _ place
-      (Rattle.vt_laws_letting_go.proofs.Lists.among-filter_map
+      (Rattle.vt_laws_mounts.proofs.letting_go.Lists.among-filter_map
       (λ (x : Mount ℕ). x.mount_point) world.mounts mount place m e)))
 
   same_parent : (mount : Mount ℕ) → Among mount world.mounts → (place : Location ℕ) → mount.mount_point ≡ Some place
@@ -242,7 +242,7 @@ module _ (value : WorldValue) (whole : IsHeld value) (added : List (Mount ℕ)) 
           (all_locations world)
           (Roots.locations_of_worlds_stand world whole.in_world) location m in
           ap (is_among nat_eq location.mount) (map-append (λ (x : Mount ℕ). x.number) world.mounts added)
-          ∙ Rattle.vt_laws_letting_go.proofs.Lists.is_among_left location.mount
+          ∙ Rattle.vt_laws_mounts.proofs.letting_go.Lists.is_among_left location.mount
           (map (λ (x : Mount ℕ). x.number) world.mounts) (map (λ (x : Mount ℕ). x.number) added) there
 
   -- Filesystems
@@ -404,7 +404,7 @@ module _ (value : WorldValue) (whole : IsHeld value) (added : List (Mount ℕ)) 
           ∙ ap (λ n. is_some (mount_in nat_eq world.mounts n).namespace)
           (sym (eqb-true entry.mount.number t.0.mount t.2))
           ∙ ap (λ (x : Mount ℕ). is_some x.namespace)
-          (Rattle.vt_laws_letting_go.proofs.leaving.PlacesLeft.found_itself world.mounts stand.one_number entry.mount old) ∙ none)))
+          (Rattle.vt_laws_mounts.proofs.letting_go.leaving.PlacesLeft.found_itself world.mounts stand.one_number entry.mount old) ∙ none)))
           (λ come. there (subst (λ all. Among t.0 all) (sym is.is)
           (among-append_right is.front (more ++ is.back) t.0 (among-append_left more is.back t.0 come))))
           (is.left t.0 gone))

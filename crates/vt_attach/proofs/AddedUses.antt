@@ -9,19 +9,19 @@ use Rattle.vt_spec.specs.Machine.Mounts as meant
 use Rattle.vt_spec.specs.Machine.Mounts.{root_of}
 use Rattle.vt_spec.specs.Machine.World.{World, all_locations}
 use Rattle.vt_spec.specs.Inodes.{Inodes}
-use Rattle.vt_laws_counts.specs.Using.{Exchanges, is_inode, is_on, pinned_if, places_of}
-use Rattle.vt_laws_counts.proofs.using.Places.{mounts_are_uses}
+use Rattle.vt_laws_mounts.specs.Counts.Using.{Exchanges, is_inode, is_on, pinned_if, places_of}
+use Rattle.vt_laws_mounts.proofs.counts.using.Places.{mounts_are_uses}
 use Rattle.vt_fs.specs.FilesystemsValue.{Shown}
-use Rattle.vt_laws_letting_go.specs.Counts.{times}
-use Rattle.vt_laws_letting_go.specs.Mounting.{inode_at}
-use Rattle.vt_laws_letting_go.specs.OneByOne.{Inode}
-use Rattle.vt_laws_letting_go.proofs.Lists.{Among}
+use Rattle.vt_laws_mounts.specs.LettingGo.Counts.{times}
+use Rattle.vt_laws_mounts.specs.LettingGo.Mounting.{inode_at}
+use Rattle.vt_laws_mounts.specs.LettingGo.OneByOne.{Inode}
+use Rattle.vt_laws_mounts.proofs.letting_go.Lists.{Among}
 use Rattle.vt_location.specs.declared.locations.Location.{Location}
 use Rattle.vt_location.specs.declared.mounts.Mount.{Mount}
 use Rattle.vt_location.specs.Locations.{location_of}
 use Rattle.vt_location.specs.MountValue.{mount_of}
 use Rattle.vt_location.specs.Numbers.{counted}
-use Rattle.vt_laws_letting_go.proofs.sweeps.UpperUses.{times_append}
+use Rattle.vt_laws_mounts.proofs.letting_go.sweeps.UpperUses.{times_append}
 use Rattle.vt_detach.proofs.Detached.{inodes_of_point}
 use Rattle.vt_detach.specs.Uses.{inode_of, mounted_if, pinned_at, pinned_in, shown_by}
 use Rattle.vt_detach.proofs.Shown.{counted_eq_back}

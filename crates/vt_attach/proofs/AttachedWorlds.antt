@@ -8,11 +8,11 @@ use Rattle.vt_spec.specs.Machine.World.{Filesystem, World, filesystem_numbered, 
 use Rattle.vt_spec.specs.Machine.Invariants.{has_its_root}
 use Rattle.vt_spec.specs.Inodes.{Inode as Counted, node_in}
 use Rattle.vt_spec.specs.Tree.{is_directory_node}
-use Rattle.vt_laws_counts.specs.Using.{AreThere}
+use Rattle.vt_laws_mounts.specs.Counts.Using.{AreThere}
 use Rattle.vt_fs.specs.FilesystemsValue.{FilesystemEntry, filesystem_seen, inodes_seen}
-use Rattle.vt_laws_letting_go.specs.OneByOne.{Inode}
-use Rattle.vt_laws_letting_go.proofs.Lists.{Among, among-append_right, among-map, passes}
-use Rattle.vt_laws_letting_go.proofs.leaving.PlacesLeft.{found_itself}
+use Rattle.vt_laws_mounts.specs.LettingGo.OneByOne.{Inode}
+use Rattle.vt_laws_mounts.proofs.letting_go.Lists.{Among, among-append_right, among-map, passes}
+use Rattle.vt_laws_mounts.proofs.letting_go.leaving.PlacesLeft.{found_itself}
 use Rattle.vt_location.specs.declared.locations.Location.{Location}
 use Rattle.vt_location.specs.declared.locations.NodeRef.{NodeRef}
 use Rattle.vt_location.specs.declared.mounts.Mount.{Mount}
@@ -26,7 +26,7 @@ use Rattle.vt_world.specs.Held.{HasOwnNodes}
 use Rattle.vt_attach.specs.Room.{has_small_nodes, point_is_small}
 use Rattle.vt_attach.proofs.AddedUses.{IsFoundIn, gained_by}
 use Rattle.vt_detach.proofs.NodesFound.{node_at_home}
-use Rattle.vt_laws_letting_go.proofs.sweeps.OfWorlds.{found_filesystem}
+use Rattle.vt_laws_mounts.proofs.letting_go.sweeps.OfWorlds.{found_filesystem}
 
 -- an inode of which there is a node is there
 pub inode_is_there : (o : Option (Counted ℕ)) → is_some (node_in o) ≡ true → is_some o ≡ true

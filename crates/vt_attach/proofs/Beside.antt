@@ -4,12 +4,12 @@ use Rattle.std.proofs.Common.{◌≡◌, ℕ, false, true, is_some}
 use Rattle.std.specs.Prelude.{All}
 use Rattle.vt_spec.specs.Machine.Locked.{of_overlay}
 use Rattle.vt_spec.specs.Machine.World.{Filesystem, is_overlay}
-use Rattle.vt_laws_counts.proofs.using.MountRoots as Roots
-use Rattle.vt_laws_letting_go.specs.Keeping.{LocationsStand}
-use Rattle.vt_laws_letting_go.specs.Leaving.{MountsStand}
-use Rattle.vt_laws_letting_go.proofs.Lists.{all_from_among, among_from_all}
-use Rattle.vt_laws_letting_go.proofs.sweeps.OfWorlds.{mounts_of_worlds_stand}
-use Rattle.vt_laws_overlays_stay.specs.Woven.{are_rising}
+use Rattle.vt_laws_mounts.proofs.counts.using.MountRoots as Roots
+use Rattle.vt_laws_mounts.specs.LettingGo.Keeping.{LocationsStand}
+use Rattle.vt_laws_mounts.specs.LettingGo.Leaving.{MountsStand}
+use Rattle.vt_laws_mounts.proofs.letting_go.Lists.{all_from_among, among_from_all}
+use Rattle.vt_laws_mounts.proofs.letting_go.sweeps.OfWorlds.{mounts_of_worlds_stand}
+use Rattle.vt_laws_worlds.specs.OverlaysStay.Woven.{are_rising}
 use Rattle.vt_group.specs.Grouping.{Has}
 use Rattle.vt_world.specs.Held.{CountsItsUses, CountsWhatIsInIt, HasOwnNodes, IsHeld, IsMountedSoOften}
 use Rattle.vt_world.specs.WorldValue.{WorldValue, overlays_seen, world_of}

@@ -12,16 +12,16 @@ use Rattle.vt_spec.specs.Machine.Permits.Permit.{ToBind}
 use Rattle.vt_spec.specs.Machine.Receives.{has_members, is_member_of}
 use Rattle.vt_spec.specs.Machine.World.{World, mount_at}
 use Rattle.vt_spec.specs.Machine.Invariants.{is_located_well}
-use Rattle.vt_laws_counts.specs.Counted.{IsCounted}
-use Rattle.vt_laws_counts.proofs.using.MountRoots as Roots
+use Rattle.vt_laws_mounts.specs.Counts.Counted.{IsCounted}
+use Rattle.vt_laws_mounts.proofs.counts.using.MountRoots as Roots
 use Rattle.vt_fs.specs.FilesystemsValue.{Filesystems, inodes_seen}
 use Rattle.vt_group.specs.Grouping.{Grouping, HasGroup}
 use Rattle.vt_group.specs.Together.{new_group}
 use Rattle.vt_laws_rules.specs.Numbers.{KeepsTo}
-use Rattle.vt_laws_letting_go.proofs.mounting.AttachedSwept.{binds_keep_all}
-use Rattle.vt_laws_letting_go.proofs.Lists.{Among, among_from_all, any_passes}
-use Rattle.vt_laws_letting_go.proofs.sweeps.OfWorlds.{mounts_of_worlds_stand, worlds_have_trees}
-use Rattle.vt_laws_letting_go.proofs.leaving.PlacesLeft.{found_is_there}
+use Rattle.vt_laws_mounts.proofs.letting_go.mounting.AttachedSwept.{binds_keep_all}
+use Rattle.vt_laws_mounts.proofs.letting_go.Lists.{Among, among_from_all, any_passes}
+use Rattle.vt_laws_mounts.proofs.letting_go.sweeps.OfWorlds.{mounts_of_worlds_stand, worlds_have_trees}
+use Rattle.vt_laws_mounts.proofs.letting_go.leaving.PlacesLeft.{found_is_there}
 use Rattle.vt_location.specs.declared.locations.Location.{Location}
 use Rattle.vt_location.specs.Locations.{location_of}
 use Rattle.vt_location.specs.MountValue.{mount_of}
@@ -35,7 +35,7 @@ use Rattle.vt_propagate.specs.declared.copying.Graft.{Graft}
 use Rattle.vt_propagate.specs.Copying as planned
 use Rattle.vt_propagate.specs.Planned.{planned_copies}
 use Rattle.vt_propagate.specs.Seen.{IsSeen}
-use Rattle.vt_laws_runs.specs.Handed.{counts_from, is_counted_before}
+use Rattle.vt_laws_trees.specs.Runs.Handed.{counts_from, is_counted_before}
 use Rattle.vt_spec.proofs.Lists.{among_from_contains}
 use Rattle.vt_laws_worlds.proofs.RaisedInUse.{worlds_are_in_use}
 use Rattle.vt_laws_worlds.specs.Worlds.Permits.{NamesWhatIsThere}
@@ -57,7 +57,7 @@ use Rattle.vt_attach.proofs.Beside.{beside}
 use Rattle.vt_attach.proofs.GraftedDone.{IsBase, graft_is_done, grafted_value, plan_attaches}
 use Rattle.vt_attach.proofs.NumbersByParts.{binds_keep_to_numbers}
 use Rattle.vt_attach.proofs.TakingNumbers.{TakesNumbers}
-use Rattle.vt_laws_permits.proofs.taken.TakenFirst.{bind_some}
+use Rattle.vt_laws_worlds.proofs.permits.taken.TakenFirst.{bind_some}
 use Rattle.vt_laws_mounts.specs.Mounts.Attaching.{OneNumberAMount}
 
 -- the filesystems of the code's world

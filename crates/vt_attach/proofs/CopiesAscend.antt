@@ -6,13 +6,13 @@ use Rattle.std.specs.List.{list_all, list_any}
 use Rattle.std.proofs.Math.Nat.{mul-le-mul_left}
 use Rattle.std.proofs.lemmas.Bool.{lt-ltb, ne_eqb, or_parts}
 use Rattle.std.proofs.lemmas.List.{length-map}
-use Rattle.vt_laws_letting_go.proofs.Lists.{Among, all_pass, among-from_flat_map, among-from_map, fails, flat_map_alike}
+use Rattle.vt_laws_mounts.proofs.letting_go.Lists.{Among, all_pass, among-from_flat_map, among-from_map, fails, flat_map_alike}
 use Rattle.vt_location.specs.Locations.{location_of}
 use Rattle.vt_location.specs.MountValue.{mount_of}
 use Rattle.vt_location.specs.Numbers.{counted}
 use Rattle.vt_mount.specs.MountsValue.{are_ascending}
 use Rattle.vt_laws_mounts.proofs.mounts.MountsNumbered.{parts_apart, same_number}
-use Rattle.vt_laws_permits.proofs.taken.TakenAttached.{index_bound}
+use Rattle.vt_laws_worlds.proofs.permits.taken.TakenAttached.{index_bound}
 use Rattle.vt_propagate.specs.declared.copying.Counts.{Counts}
 use Rattle.vt_propagate.specs.declared.copying.Graft.{Graft}
 use Rattle.vt_propagate.specs.Planned.{graft_in, numbers_at, planned_copies}

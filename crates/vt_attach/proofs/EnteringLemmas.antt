@@ -3,7 +3,7 @@ use Rattle.std.proofs.Common.{◌≡◌, sym, ap, subst, ◌∙◌, ⊎_elim, in
 use Rattle.std.specs.Prelude.{nat_lt}
 use Rattle.std.specs.List.{list_all}
 use Rattle.std.proofs.lemmas.Bool.{and_parts, lt-ltb, ltb-true}
-use Rattle.vt_laws_letting_go.proofs.Lists.{Among, all_pass, among-append_right, passes}
+use Rattle.vt_laws_mounts.proofs.letting_go.Lists.{Among, all_pass, among-append_right, passes}
 use Rattle.vt_location.specs.declared.mounts.Mount.{Mount}
 use Rattle.vt_mount.specs.MountsValue.{are_ascending}
 use Rattle.vt_mount.proofs.EnteringLemmas.{at_index}

@@ -3,22 +3,22 @@
 use Rattle.std.proofs.Common.{◌≡◌, refl, sym, ap, subst, ◌∙◌, ⊎_elim, inl, inr, ℕ, ◌+◌, nat_eq, Bool, true, false, true≢false, cond, List, [], ◌∷◌, ◌++◌, map, filter, Option, is_some, arith}
 use Rattle.std.specs.Prelude.{All}
 use Rattle.std.specs.List.{list_all}
-use Rattle.vt_laws_counts.specs.Counted.{IsCounted}
-use Rattle.vt_laws_counts.specs.Using.{exchanged}
-use Rattle.vt_laws_counts.specs.OverlaysStay.{layer_count}
-use Rattle.vt_laws_counts.proofs.overlays.FilesystemUses.{no_upper_is_in_any}
-use Rattle.vt_laws_counts.proofs.using.Exchanged.{uses_are_exchanged_beside_overlays}
+use Rattle.vt_laws_mounts.specs.Counts.Counted.{IsCounted}
+use Rattle.vt_laws_mounts.specs.Counts.Using.{exchanged}
+use Rattle.vt_laws_mounts.specs.Counts.OverlaysStay.{layer_count}
+use Rattle.vt_laws_mounts.proofs.counts.overlays.FilesystemUses.{no_upper_is_in_any}
+use Rattle.vt_laws_mounts.proofs.counts.using.Exchanged.{uses_are_exchanged_beside_overlays}
 use Rattle.vt_fs.specs.FilesystemsValue.{FilesystemEntry, Filesystems, Shown, filesystem_seen, filesystems_seen, inodes_seen, shown, shown_entry}
 use Rattle.vt_group.specs.Grouping.{Grouping, Has, master_in}
 use Rattle.vt_group.specs.Together.{Grows, new_group, typed}
 use Rattle.vt_laws_rules.specs.Numbers.{KeepsTo}
-use Rattle.vt_laws_letting_go.specs.Counts.{mounts_showing, times}
-use Rattle.vt_laws_letting_go.specs.InUse.{HasTrees, InodesInUse}
-use Rattle.vt_laws_letting_go.specs.OneByOne.{Inode}
-use Rattle.vt_laws_letting_go.proofs.Lists.{Among, all_from_among, among-append, among-from_map, among-map, among_from_all}
-use Rattle.vt_laws_letting_go.proofs.sweeps.UpperUses.{times_append}
-use Rattle.vt_laws_overlays_stay.specs.Woven.{ArePartedBy, are_rising}
-use Rattle.vt_laws_overlays_stay.proofs.weaving.WovenLists.{woven_lists_are_failing, woven_lists_are_passing}
+use Rattle.vt_laws_mounts.specs.LettingGo.Counts.{mounts_showing, times}
+use Rattle.vt_laws_mounts.specs.LettingGo.InUse.{HasTrees, InodesInUse}
+use Rattle.vt_laws_mounts.specs.LettingGo.OneByOne.{Inode}
+use Rattle.vt_laws_mounts.proofs.letting_go.Lists.{Among, all_from_among, among-append, among-from_map, among-map, among_from_all}
+use Rattle.vt_laws_mounts.proofs.letting_go.sweeps.UpperUses.{times_append}
+use Rattle.vt_laws_worlds.specs.OverlaysStay.Woven.{ArePartedBy, are_rising}
+use Rattle.vt_laws_worlds.proofs.overlays_stay.weaving.WovenLists.{woven_lists_are_failing, woven_lists_are_passing}
 use Rattle.vt_location.specs.declared.locations.Location.{Location}
 use Rattle.vt_location.specs.declared.mounts.Mount.{Mount}
 use Rattle.vt_location.specs.Locations.{location_of}
@@ -33,7 +33,7 @@ use Rattle.vt_propagate.specs.Falling.{moved_by}
 use Rattle.vt_propagate.specs.Planned.{numbers_at}
 use Rattle.vt_propagate.specs.Pushing.{MovesOnce}
 use Rattle.vt_retype.specs.Retyping.{with_kind, with_type_in}
-use Rattle.vt_laws_runs.specs.Handed.{is_counted_before}
+use Rattle.vt_laws_trees.specs.Runs.Handed.{is_counted_before}
 use Rattle.vt_spec.specs.Language.Calls.{TaskName}
 use Rattle.vt_spec.specs.Lists.{Fresh, folded, is_among}
 use Rattle.vt_spec.specs.Machine.Attach.{Copies, attach, attached_by, copies_from, masters_with, parts_of}
@@ -57,15 +57,15 @@ use Rattle.vt_detach.proofs.OwnInodesKept.{IsOwn}
 use Rattle.vt_detach.proofs.Showing.{ShowsAs, shown_has, shown_is_counted, shown_is_same}
 use Rattle.vt_detach.proofs.Staying.{IsDone}
 use Rattle.vt_attach.proofs.OverlaysMore.{counted_more, merged_by_all, seen_more}
-use Rattle.vt_laws_counts.specs.BesideOverlays.{OverlaysHaveNoUpper}
-use Rattle.vt_laws_counts.specs.OverlaysStay.{OverlaysAreNamed}
-use Rattle.vt_laws_letting_go.specs.Keeping.{has_only_named}
-use Rattle.vt_laws_one_text.proofs.same.SameNumbers.{any_same_worlds_keep_to_numbers}
-use Rattle.vt_laws_one_text.proofs.same.SameWhole.{any_same_worlds_are_worlds}
-use Rattle.vt_laws_overlays_read.specs.Writers.{WritersHaveLayers}
-use Rattle.vt_laws_overlays_read.proofs.writers.Swept.{same_worlds_have_layers_alike}
-use Rattle.vt_laws_overlays_stay.proofs.kept.OverlaysLeft.{by_overlays, no_upper_of_plain}
-use Rattle.vt_laws_overlays_stay.proofs.kept.OverlaysSwept.{same_worlds_have_no_upper_alike}
+use Rattle.vt_laws_mounts.specs.Counts.BesideOverlays.{OverlaysHaveNoUpper}
+use Rattle.vt_laws_mounts.specs.Counts.OverlaysStay.{OverlaysAreNamed}
+use Rattle.vt_laws_mounts.specs.LettingGo.Keeping.{has_only_named}
+use Rattle.vt_laws_worlds.proofs.one_text.same.SameNumbers.{any_same_worlds_keep_to_numbers}
+use Rattle.vt_laws_worlds.proofs.one_text.same.SameWhole.{any_same_worlds_are_worlds}
+use Rattle.vt_laws_worlds.specs.OverlaysRead.Writers.{WritersHaveLayers}
+use Rattle.vt_laws_worlds.proofs.overlays_read.Swept.{same_worlds_have_layers_alike}
+use Rattle.vt_laws_worlds.proofs.overlays_stay.kept.OverlaysLeft.{by_overlays, no_upper_of_plain}
+use Rattle.vt_laws_worlds.proofs.overlays_stay.kept.OverlaysSwept.{same_worlds_have_no_upper_alike}
 use Rattle.vt_spec.specs.Machine.SameWorlds.{SameWorlds}
 use Rattle.vt_attach.proofs.Beside.{IsBeside, IsReadOnly}
 use Rattle.vt_attach.specs.AttachedGroups.{HasGroupsOf, all_copies, groups_formed, type_of}

@@ -6,18 +6,18 @@ use Rattle.std.specs.Map.{lookup}
 use Rattle.std.proofs.lemmas.Bool.{and_parts, ne_eqb}
 use Rattle.std.proofs.lemmas.List.{map-append}
 use Rattle.std.proofs.lemmas.List.Folds.{list_all-append}
-use Rattle.vt_laws_counts.specs.Using.{AreThere, Exchanges, is_inode, is_on, places_of}
-use Rattle.vt_laws_counts.proofs.using.MountRoots.{places_stand}
-use Rattle.vt_laws_counts.proofs.using.Places.{exchanges_follow}
+use Rattle.vt_laws_mounts.specs.Counts.Using.{AreThere, Exchanges, is_inode, is_on, places_of}
+use Rattle.vt_laws_mounts.proofs.counts.using.MountRoots.{places_stand}
+use Rattle.vt_laws_mounts.proofs.counts.using.Places.{exchanges_follow}
 use Rattle.vt_fs.specs.FilesystemsValue.{FilesystemEntry, Filesystems, filesystem_seen, filesystems_seen, inodes_seen}
-use Rattle.vt_laws_letting_go.specs.Counts.{times}
-use Rattle.vt_laws_letting_go.specs.Mounting.{inode_at}
-use Rattle.vt_laws_letting_go.specs.OneByOne.{Inode, let_go_inode_of, let_go_inodes, without_inode}
-use Rattle.vt_laws_letting_go.specs.InUse.{is_inode_used}
-use Rattle.vt_laws_letting_go.proofs.Lists.{Among, all_pass, among-append_left, among-append_right, among-filter_map, among-from_map, among-map, among_from_all, among_numbers, map_same, none_passes, passes}
-use Rattle.vt_laws_letting_go.proofs.sweeps.OfWorlds.{found_filesystem}
-use Rattle.vt_laws_letting_go.proofs.sweeps.UpperUses.{times_append}
-use Rattle.vt_laws_overlays_stay.specs.Woven.{woven}
+use Rattle.vt_laws_mounts.specs.LettingGo.Counts.{times}
+use Rattle.vt_laws_mounts.specs.LettingGo.Mounting.{inode_at}
+use Rattle.vt_laws_mounts.specs.LettingGo.OneByOne.{Inode, let_go_inode_of, let_go_inodes, without_inode}
+use Rattle.vt_laws_mounts.specs.LettingGo.InUse.{is_inode_used}
+use Rattle.vt_laws_mounts.proofs.letting_go.Lists.{Among, all_pass, among-append_left, among-append_right, among-filter_map, among-from_map, among-map, among_from_all, among_numbers, map_same, none_passes, passes}
+use Rattle.vt_laws_mounts.proofs.letting_go.sweeps.OfWorlds.{found_filesystem}
+use Rattle.vt_laws_mounts.proofs.letting_go.sweeps.UpperUses.{times_append}
+use Rattle.vt_laws_worlds.specs.OverlaysStay.Woven.{woven}
 use Rattle.vt_location.specs.declared.locations.Location.{Location}
 use Rattle.vt_location.specs.declared.mounts.Mount.{Mount}
 use Rattle.vt_location.specs.Locations.{location_of, number_of}

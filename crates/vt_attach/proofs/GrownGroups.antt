@@ -10,7 +10,7 @@ use Rattle.std.proofs.lemmas.List.Folds.{list_any-append}
 use Rattle.vt_group.specs.Grouping.{HasGroup, are_rising, peer_of, peers_of}
 use Rattle.vt_group.specs.Together.{with_type_of}
 use Rattle.vt_group.proofs.Peers.{cmp_greater}
-use Rattle.vt_laws_letting_go.proofs.Lists.{all_from_among, among_from_all}
+use Rattle.vt_laws_mounts.proofs.letting_go.Lists.{all_from_among, among_from_all}
 use Rattle.vt_mount.specs.MountsValue.{are_ascending}
 use Rattle.vt_spec.specs.Lists.{folded, holds_of}
 use Rattle.vt_spec.specs.Machine.Mounts.{Mount, Propagation, group_of, source_of}

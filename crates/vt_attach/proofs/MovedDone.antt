@@ -20,14 +20,14 @@ use Rattle.vt_spec.specs.Machine.Settled.{is_mounted, mount_lives, settled}
 use Rattle.vt_spec.specs.Machine.World.{Filesystem, World, mount_at, mount_numbered}
 use Rattle.vt_spec.specs.Machine.Invariants.{IsWorld}
 use Rattle.vt_spec.proofs.Lists.{among_from_contains, contains_from_among, map_twice}
-use Rattle.vt_laws_counts.specs.Using.{Exchanges}
-use Rattle.vt_laws_counts.proofs.using.MountRoots as Roots
+use Rattle.vt_laws_mounts.specs.Counts.Using.{Exchanges}
+use Rattle.vt_laws_mounts.proofs.counts.using.MountRoots as Roots
 use Rattle.vt_fs.specs.FilesystemsValue.{Filesystems, Shown}
 use Rattle.vt_group.specs.Grouping.{Grouping, Has, master_in}
 use Rattle.vt_group.specs.Together.{Grows, new_group, typed}
 use Rattle.vt_laws_rules.specs.Numbers.{KeepsTo}
-use Rattle.vt_laws_letting_go.proofs.Lists.{Among, all_from_among, among-from_map, among-map, among_from_all, any-map, is_among_numbers, none_passes, passes}
-use Rattle.vt_laws_letting_go.proofs.sweeps.OfWorlds.{mounts_of_worlds_stand}
+use Rattle.vt_laws_mounts.proofs.letting_go.Lists.{Among, all_from_among, among-from_map, among-map, among_from_all, any-map, is_among_numbers, none_passes, passes}
+use Rattle.vt_laws_mounts.proofs.letting_go.sweeps.OfWorlds.{mounts_of_worlds_stand}
 use Rattle.vt_location.specs.declared.mounts.Mount.{Mount}
 use Rattle.vt_location.specs.Locations.{location_of}
 use Rattle.vt_location.specs.MountValue.{mount_of}
@@ -37,7 +37,7 @@ use Rattle.vt_laws_mounts.proofs.mounts.MountsNumbered.{parts_apart}
 use Rattle.vt_laws_mounts.proofs.mounts.MountsReplaced.{one_number_by_numbers}
 use Rattle.vt_laws_mounts.proofs.moves.MovingRoots.{tree_placed}
 use Rattle.vt_laws_mounts.proofs.mounts.Standing.{trees_have_each_once}
-use Rattle.vt_laws_overlays_stay.proofs.left.Given.{given_permits_are_under_way_without_upper}
+use Rattle.vt_laws_worlds.proofs.overlays_stay.left.Given.{given_permits_are_under_way_without_upper}
 use Rattle.vt_propagate.specs.declared.copying.Counts.{Counts}
 use Rattle.vt_propagate.specs.declared.copying.Graft.{Graft}
 use Rattle.vt_propagate.specs.Attaching.{AttachesBy, IsMoved}
@@ -45,7 +45,7 @@ use Rattle.vt_propagate.specs.Copying as planned
 use Rattle.vt_propagate.specs.Falling.{moved_by}
 use Rattle.vt_propagate.specs.Planned.{numbers_at, planned_copies}
 use Rattle.vt_propagate.specs.Pushing.{MovesOnce, leaver}
-use Rattle.vt_laws_runs.specs.Handed.{counts_from, is_counted_before}
+use Rattle.vt_laws_trees.specs.Runs.Handed.{counts_from, is_counted_before}
 use Rattle.vt_laws_worlds.specs.Worlds.Kept.{IsUnderWay}
 use Rattle.vt_laws_worlds.specs.Worlds.Permits.{MayMoveTo}
 use Rattle.vt_laws_worlds.proofs.RaisedInUse.{worlds_are_in_use}
@@ -89,7 +89,7 @@ use Rattle.vt_attach.proofs.TypedMounts.{Kind, KindsOnce, looked_up_kind, retype
 use Rattle.vt_attach.proofs.TypesGrown.{GrowBeside, grows_beside}
 use Rattle.vt_spec.proofs.Options.{some_from_is_some}
 use Rattle.vt_laws_mounts.specs.Mounts.Attaching.{numbers_of, OneNumberAMount}
-use Rattle.vt_laws_letting_go.specs.TreesOverlays.{in_use_of}
+use Rattle.vt_laws_mounts.specs.LettingGo.TreesOverlays.{in_use_of}
 
 tree_is_some : (fuel : ℕ) (mounts : List (meant.Mount ℕ)) (top : meant.Mount ℕ)
     → 0 < length (tree_from nat_eq fuel mounts top)

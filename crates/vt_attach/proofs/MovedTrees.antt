@@ -4,7 +4,7 @@ use Rattle.std.proofs.Common.{◌≡◌, refl, sym, ap, subst, ◌∙◌, inl, i
 use Rattle.std.specs.Prelude.{if◌then◌else◌}
 use Rattle.std.specs.Map.{lookup}
 use Rattle.std.proofs.lemmas.Option.{same_Some}
-use Rattle.vt_laws_letting_go.proofs.Lists.{Among, among-from_map}
+use Rattle.vt_laws_mounts.proofs.letting_go.Lists.{Among, among-from_map}
 use Rattle.vt_location.specs.declared.mounts.Mount.{Mount as Code}
 use Rattle.vt_location.specs.Locations.{location_of}
 use Rattle.vt_location.specs.MountValue.{mount_of}

@@ -6,15 +6,15 @@ use Rattle.std.proofs.lemmas.List.{map-append}
 use Rattle.vt_spec.specs.Lists.{any_pair, is_among}
 use Rattle.vt_spec.specs.Machine.Mounts.{Location, Mount}
 use Rattle.vt_spec.specs.Machine.World.{Descriptor, World, all_locations, locations_of}
-use Rattle.vt_laws_counts.proofs.using.MountRoots as Roots
-use Rattle.vt_laws_letting_go.specs.Counts.{mount_uses, times}
-use Rattle.vt_laws_letting_go.proofs.Lists.{Among, among-append, among-append_right, among-from_map, among-map, among_from_all, among_numbers, fails, passes}
+use Rattle.vt_laws_mounts.proofs.counts.using.MountRoots as Roots
+use Rattle.vt_laws_mounts.specs.LettingGo.Counts.{mount_uses, times}
+use Rattle.vt_laws_mounts.proofs.letting_go.Lists.{Among, among-append, among-append_right, among-from_map, among-map, among_from_all, among_numbers, fails, passes}
 use Rattle.vt_location.specs.declared.mounts.Mount.{Mount as Attached}
 use Rattle.vt_location.specs.MountValue.{mount_of}
 use Rattle.vt_mount.specs.MountsValue.{MountEntry, changed, held, mounts_in, released}
 use Rattle.vt_tasks.specs.Counts.{locations_in, one_if}
 use Rattle.vt_tasks.specs.TasksValue.{Tasks}
-use Rattle.vt_laws_letting_go.proofs.sweeps.UpperUses.{times_append}
+use Rattle.vt_laws_mounts.proofs.letting_go.sweeps.UpperUses.{times_append}
 use Rattle.vt_laws_mounts.specs.Mounts.Attaching.{OneNumberAMount}
 use Rattle.vt_attach.specs.Copying.{with_use_moved}
 use Rattle.vt_world.specs.Held.{CountsItsUses, IsHeld, writes_of, writes_on}

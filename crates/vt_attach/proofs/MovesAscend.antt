@@ -5,7 +5,7 @@ use Rattle.std.specs.Prelude.{flat_map, if◌then◌else◌, nat_lt}
 use Rattle.std.specs.List.{list_all, list_any}
 use Rattle.std.proofs.lemmas.Bool.{and_parts, ltb-true, ne_eqb, or_parts}
 use Rattle.std.proofs.lemmas.List.{length-map}
-use Rattle.vt_laws_letting_go.proofs.Lists.{Among, among-from_flat_map, among-from_map, flat_map_alike, none_passes, passes}
+use Rattle.vt_laws_mounts.proofs.letting_go.Lists.{Among, among-from_flat_map, among-from_map, flat_map_alike, none_passes, passes}
 use Rattle.vt_location.specs.Locations.{location_of}
 use Rattle.vt_location.specs.MountValue.{mount_of}
 use Rattle.vt_location.specs.Numbers.{counted}

@@ -20,26 +20,26 @@ use Rattle.vt_spec.specs.Machine.Settled.{has_layer_on, layers_in, located_in, n
 use Rattle.vt_spec.specs.Machine.World.{Filesystem, Layer, Overlay, World, all_locations, filesystem_numbered, is_directory_at, is_overlay, layers_of, mount_at, new_plain, no_filesystem, root_attr}
 use Rattle.vt_spec.specs.Machine.Invariants.{IsWorld, has_its_root, is_located_well, is_plain_layer}
 use Rattle.vt_spec.specs.Tree.{is_directory_node}
-use Rattle.vt_laws_counts.specs.BesideOverlays.{OverlaysHaveNoUpper}
-use Rattle.vt_laws_counts.specs.Counted.{IsCounted}
-use Rattle.vt_laws_counts.specs.OverlaysStay.{layer_count, layers_among}
-use Rattle.vt_laws_counts.specs.Using.{is_on, is_outside, one_counted, places_of}
-use Rattle.vt_laws_counts.proofs.overlays.FilesystemUses.{new_tree_is_counted_beside_overlays, no_upper_is_in_any, plain_ones_use_nothing}
-use Rattle.vt_laws_counts.proofs.using.Exchanged.{uses_are_exchanged_beside_overlays}
-use Rattle.vt_laws_counts.proofs.using.MountRoots as Roots
-use Rattle.vt_laws_counts.proofs.using.MountRoots.{places_stand}
+use Rattle.vt_laws_mounts.specs.Counts.BesideOverlays.{OverlaysHaveNoUpper}
+use Rattle.vt_laws_mounts.specs.Counts.Counted.{IsCounted}
+use Rattle.vt_laws_mounts.specs.Counts.OverlaysStay.{layer_count, layers_among}
+use Rattle.vt_laws_mounts.specs.Counts.Using.{is_on, is_outside, one_counted, places_of}
+use Rattle.vt_laws_mounts.proofs.counts.overlays.FilesystemUses.{new_tree_is_counted_beside_overlays, no_upper_is_in_any, plain_ones_use_nothing}
+use Rattle.vt_laws_mounts.proofs.counts.using.Exchanged.{uses_are_exchanged_beside_overlays}
+use Rattle.vt_laws_mounts.proofs.counts.using.MountRoots as Roots
+use Rattle.vt_laws_mounts.proofs.counts.using.MountRoots.{places_stand}
 use Rattle.vt_fs.specs.FilesystemsValue.{FilesystemEntry, Filesystems, IsNew, filesystem_seen, filesystems_seen, inodes_seen}
-use Rattle.vt_laws_letting_go.specs.Counts.{mounts_showing, times}
-use Rattle.vt_laws_letting_go.specs.InUse.{HasTrees, InodesInUse, is_inode_used}
-use Rattle.vt_laws_letting_go.proofs.sweeps.UpperUses.{times_append}
-use Rattle.vt_laws_letting_go.proofs.mounting.AttachedSwept.{new_mounts_of_trees_keep_all}
-use Rattle.vt_laws_letting_go.proofs.Lists.{Among, all_from_among, all_pass, among-append, among-append_left, among-append_right, among-filter_map, among-from_filter, among-from_filter_map, among-from_map, among_from_all, among_numbers, fails, filter_alike, none_passes, passes}
-use Rattle.vt_laws_letting_go.proofs.sweeps.OfWorlds.{found_filesystem, mounts_of_worlds_stand, worlds_have_trees}
-use Rattle.vt_laws_letting_go.proofs.leaving.PlacesLeft.{found_itself}
-use Rattle.vt_laws_overlays_stay.specs.Woven.{are_rising, put_in, woven}
+use Rattle.vt_laws_mounts.specs.LettingGo.Counts.{mounts_showing, times}
+use Rattle.vt_laws_mounts.specs.LettingGo.InUse.{HasTrees, InodesInUse, is_inode_used}
+use Rattle.vt_laws_mounts.proofs.letting_go.sweeps.UpperUses.{times_append}
+use Rattle.vt_laws_mounts.proofs.letting_go.mounting.AttachedSwept.{new_mounts_of_trees_keep_all}
+use Rattle.vt_laws_mounts.proofs.letting_go.Lists.{Among, all_from_among, all_pass, among-append, among-append_left, among-append_right, among-filter_map, among-from_filter, among-from_filter_map, among-from_map, among_from_all, among_numbers, fails, filter_alike, none_passes, passes}
+use Rattle.vt_laws_mounts.proofs.letting_go.sweeps.OfWorlds.{found_filesystem, mounts_of_worlds_stand, worlds_have_trees}
+use Rattle.vt_laws_mounts.proofs.letting_go.leaving.PlacesLeft.{found_itself}
+use Rattle.vt_laws_worlds.specs.OverlaysStay.Woven.{are_rising, put_in, woven}
 use Rattle.vt_location.specs.Numbers.{counted, inode_number}
 use Rattle.vt_mount.specs.MountsValue.{mounts_in}
-use Rattle.vt_laws_runs.specs.Handed.{handed_from}
+use Rattle.vt_laws_trees.specs.Runs.Handed.{handed_from}
 use Rattle.vt_laws_worlds.proofs.RaisedInUse.{worlds_are_in_use}
 use Rattle.vt_laws_worlds.proofs.worlds.Roots.{directory_there}
 use Rattle.vt_detach.specs.Events.{Permits, left_by}

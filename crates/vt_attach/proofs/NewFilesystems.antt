@@ -9,13 +9,13 @@ use Rattle.vt_spec.specs.Machine.Run.{used_by_filesystem, used_by_mount}
 use Rattle.vt_spec.specs.Machine.World.{Filesystem, Namespace, filesystem_numbered, root_attr}
 use Rattle.vt_spec.specs.TreeInvariant.{IsTree}
 use Rattle.vt_spec.specs.Inodes.{Inodes}
-use Rattle.vt_laws_counts.specs.Using.{root_counted}
+use Rattle.vt_laws_mounts.specs.Counts.Using.{root_counted}
 use Rattle.vt_fs.specs.FilesystemsValue.{FilesystemEntry, Filesystems, IsNew, filesystem_seen, inodes_seen, without}
 use Rattle.vt_laws_rules.proofs.numbers.Supports.{used_numbers_are_named}
-use Rattle.vt_laws_letting_go.proofs.Lists.{Among, all_from_among, among-append, among-append_left, among-append_right, among-flat_map, among_from_all, filter_here, filter_skip, is_among_numbers}
+use Rattle.vt_laws_mounts.proofs.letting_go.Lists.{Among, all_from_among, among-append, among-append_left, among-append_right, among-flat_map, among_from_all, filter_here, filter_skip, is_among_numbers}
 use Rattle.vt_location.specs.Numbers.{counted, inode_number, is_own_number}
 use Rattle.vt_location.proofs.NumberLemmas.{is_own}
-use Rattle.vt_laws_runs.specs.Handed.{is_counted_before}
+use Rattle.vt_laws_trees.specs.Runs.Handed.{is_counted_before}
 use Rattle.vt_laws_trees.proofs.trees.TreesOfWorlds.{number_numbered, numbered_all}
 use Rattle.vt_laws_worlds.proofs.worlds.Roots.{directory_there}
 use Rattle.vt_world.specs.Held.{HasOwnInodes, HasOwnNodes, IsHeld}
@@ -23,7 +23,7 @@ use Rattle.vt_world.specs.WorldValue.{WorldValue, world_of}
 use Rattle.vt_detach.proofs.NodesFound.{own_nodes}
 use Rattle.vt_detach.proofs.Overlaid.{plain_one_among}
 use Rattle.vt_detach.proofs.OwnInodesKept.{IsOwn}
-use Rattle.vt_laws_permits.proofs.in_use.InUseServes.{leaves_two}
+use Rattle.vt_laws_worlds.proofs.permits.in_use.InUseServes.{leaves_two}
 
 -- what is counted before
 pub counted_before : (next count : ℕ) → is_counted_before next (counted count) ≡ true → count < next

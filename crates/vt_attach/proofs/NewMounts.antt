@@ -17,7 +17,7 @@ use Rattle.vt_fs.specs.FilesystemsValue.{FilesystemEntry, Filesystems, IsNew}
 use Rattle.vt_group.specs.Grouping.{Grouping}
 use Rattle.vt_group.specs.Together.{new_group}
 use Rattle.vt_laws_rules.specs.Numbers.{KeepsTo}
-use Rattle.vt_laws_letting_go.proofs.Lists.{Among}
+use Rattle.vt_laws_mounts.proofs.letting_go.Lists.{Among}
 use Rattle.vt_location.specs.Locations.{location_of}
 use Rattle.vt_location.specs.MountValue.{mount_of}
 use Rattle.vt_location.specs.Numbers.{counted, inode_number}
@@ -28,7 +28,7 @@ use Rattle.vt_propagate.specs.declared.copying.Graft.{Graft}
 use Rattle.vt_propagate.specs.Copying as planned
 use Rattle.vt_propagate.specs.Planned.{planned_copies}
 use Rattle.vt_propagate.specs.Seen.{IsSeen}
-use Rattle.vt_laws_runs.specs.Handed.{counts_from, handed_from, is_counted_before}
+use Rattle.vt_laws_trees.specs.Runs.Handed.{counts_from, handed_from, is_counted_before}
 use Rattle.vt_detach.specs.Events.{Permits, left_by}
 use Rattle.vt_world.specs.Held.{IsHeld}
 use Rattle.vt_detach.specs.Uses.{Merged, kept_with, merged_seen}

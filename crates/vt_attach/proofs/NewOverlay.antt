@@ -6,9 +6,9 @@ use Rattle.std.proofs.lemmas.List.{map-append}
 use Rattle.vt_spec.specs.Machine.Mounts as meant
 use Rattle.vt_spec.specs.Machine.Invariants.{has_its_root}
 use Rattle.vt_spec.specs.Machine.World.{Filesystem, filesystem_numbered, is_overlay}
-use Rattle.vt_laws_letting_go.specs.Counts.{mounts_showing}
-use Rattle.vt_laws_letting_go.proofs.Lists.{all_from_among, all_pass, among-append, among_from_all, passes}
-use Rattle.vt_laws_overlays_stay.specs.Woven.{are_rising}
+use Rattle.vt_laws_mounts.specs.LettingGo.Counts.{mounts_showing}
+use Rattle.vt_laws_mounts.proofs.letting_go.Lists.{all_from_among, all_pass, among-append, among_from_all, passes}
+use Rattle.vt_laws_worlds.specs.OverlaysStay.Woven.{are_rising}
 use Rattle.vt_laws_worlds.proofs.worlds.Roots.{directory_there}
 use Rattle.vt_fs.specs.FilesystemsValue.{Filesystems}
 use Rattle.vt_location.specs.Numbers.{counted}

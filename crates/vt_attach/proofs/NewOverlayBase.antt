@@ -3,11 +3,11 @@
 use Rattle.std.proofs.Common.{◌≡◌, sym, ap, subst, ◌∙◌, ℕ, nat_eq, nat_lt, lt-ltb, true, List, [], ◌∷◌, ◌++◌, map, arith}
 use Rattle.std.specs.Prelude.{All}
 use Rattle.vt_spec.specs.Machine.World.{Filesystem, World, filesystem_numbered}
-use Rattle.vt_laws_counts.specs.Counted.{IsCounted}
-use Rattle.vt_laws_counts.specs.Using.{exchanged}
-use Rattle.vt_laws_letting_go.specs.OneByOne.{Inode}
-use Rattle.vt_laws_letting_go.proofs.Lists.{Among, all_from_among, all_pass, among-from_map, among-map, among_from_all}
-use Rattle.vt_laws_overlays_stay.specs.Woven.{are_rising, woven}
+use Rattle.vt_laws_mounts.specs.Counts.Counted.{IsCounted}
+use Rattle.vt_laws_mounts.specs.Counts.Using.{exchanged}
+use Rattle.vt_laws_mounts.specs.LettingGo.OneByOne.{Inode}
+use Rattle.vt_laws_mounts.proofs.letting_go.Lists.{Among, all_from_among, all_pass, among-from_map, among-map, among_from_all}
+use Rattle.vt_laws_worlds.specs.OverlaysStay.Woven.{are_rising, woven}
 use Rattle.vt_fs.specs.FilesystemsValue.{FilesystemEntry, Filesystems, Shown, filesystems_seen, inodes_seen, shown, shown_entry}
 use Rattle.vt_location.specs.Numbers.{counted}
 use Rattle.vt_overlay.specs.MergedTree.{AreLayers}
@@ -16,7 +16,7 @@ use Rattle.vt_world.specs.Held.{HasOwnInodes, IsHeld}
 use Rattle.vt_world.specs.StoredWorld.{overlay_of_store}
 use Rattle.vt_world.specs.WorldValue.{WorldValue, overlay_seen, overlays_seen, world_of}
 use Rattle.vt_detach.specs.Stored.{layer_of}
-use Rattle.vt_laws_counts.proofs.Alike.{any_same_worlds_count_alike}
+use Rattle.vt_laws_mounts.proofs.counts.Alike.{any_same_worlds_count_alike}
 use Rattle.vt_detach.proofs.Finishing.{own_exchanged}
 use Rattle.vt_detach.proofs.Overlaid.{same_files_rise}
 use Rattle.vt_detach.proofs.OwnInodesKept.{IsOwn}

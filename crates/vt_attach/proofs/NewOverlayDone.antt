@@ -17,30 +17,30 @@ use Rattle.vt_spec.specs.Machine.SameWorlds.{SameFilesystem, SameFilesystems, Sa
 use Rattle.vt_spec.specs.Machine.World.{Filesystem, Overlay, Task, World, is_overlay, mount_at}
 use Rattle.vt_spec.specs.TreeInvariant.{IsTree}
 use Rattle.vt_spec.proofs.Lists.{among_from_contains}
-use Rattle.vt_laws_counts.specs.OverlaysStay.{OverlaysAreNamed}
-use Rattle.vt_laws_given.proofs.left.Permits.{given_permits_leave_every_world}
-use Rattle.vt_laws_given.specs.LeftWorlds.{IsGivenToTask}
-use Rattle.vt_laws_letting_go.specs.Keeping.{has_only_named}
-use Rattle.vt_laws_letting_go.proofs.Lists.{Among, among-append, among-append_right, among-from_filter, among_from_all}
-use Rattle.vt_laws_letting_go.proofs.sweeps.OfWorlds.{worlds_have_trees}
+use Rattle.vt_laws_mounts.specs.Counts.OverlaysStay.{OverlaysAreNamed}
+use Rattle.vt_laws_worlds.proofs.given.left.Permits.{given_permits_leave_every_world}
+use Rattle.vt_laws_worlds.specs.Given.LeftWorlds.{IsGivenToTask}
+use Rattle.vt_laws_mounts.specs.LettingGo.Keeping.{has_only_named}
+use Rattle.vt_laws_mounts.proofs.letting_go.Lists.{Among, among-append, among-append_right, among-from_filter, among_from_all}
+use Rattle.vt_laws_mounts.proofs.letting_go.sweeps.OfWorlds.{worlds_have_trees}
 use Rattle.vt_laws_mounts.proofs.mounts.MountsNumbered.{parts_apart}
 use Rattle.vt_laws_mounts.specs.Mounts.Attaching.{OneNumberAMount}
-use Rattle.vt_laws_one_text.proofs.answered.AlikeWorlds.{alike_from_same}
-use Rattle.vt_laws_one_text.proofs.same.SameWhole.{any_same_worlds_are_worlds}
-use Rattle.vt_laws_overlays_kept.specs.Kept.{ShowsLayers}
-use Rattle.vt_laws_overlays_made.proofs.making.Supplied.{mounts_get_counts}
-use Rattle.vt_laws_overlays_read.proofs.writers.Kept.{permits_keep_writers}
-use Rattle.vt_laws_overlays_read.proofs.writers.Swept.{same_worlds_have_layers_alike}
-use Rattle.vt_laws_overlays_read.specs.Writers.{WritersHaveLayers}
-use Rattle.vt_laws_overlays_stay.specs.Woven.{woven}
-use Rattle.vt_laws_permits.proofs.same.EachHas.{each_among, each_holds}
-use Rattle.vt_laws_permits.proofs.taken.PartsKept as Kept
-use Rattle.vt_laws_permits.proofs.taken.TakenNumbers.{counted_later}
+use Rattle.vt_laws_worlds.proofs.one_text.answered.AlikeWorlds.{alike_from_same}
+use Rattle.vt_laws_worlds.proofs.one_text.same.SameWhole.{any_same_worlds_are_worlds}
+use Rattle.vt_world.specs.OverlaysKept.Kept.{ShowsLayers}
+use Rattle.vt_world.proofs.overlays_made.Supplied.{mounts_get_counts}
+use Rattle.vt_laws_worlds.proofs.overlays_read.Kept.{permits_keep_writers}
+use Rattle.vt_laws_worlds.proofs.overlays_read.Swept.{same_worlds_have_layers_alike}
+use Rattle.vt_laws_worlds.specs.OverlaysRead.Writers.{WritersHaveLayers}
+use Rattle.vt_laws_worlds.specs.OverlaysStay.Woven.{woven}
+use Rattle.vt_laws_worlds.proofs.permits.same.EachHas.{each_among, each_holds}
+use Rattle.vt_laws_worlds.proofs.permits.taken.PartsKept as Kept
+use Rattle.vt_laws_worlds.proofs.permits.taken.TakenNumbers.{counted_later}
 use Rattle.vt_laws_rules.proofs.same.SameFiles.{directory_under_same}
 use Rattle.vt_laws_rules.proofs.same.SameLooks.{found_same}
 use Rattle.vt_laws_rules.specs.Numbers.{KeepsTo, location_named}
-use Rattle.vt_laws_runs.proofs.answered.AlikeWorlds.{sameness_is_an_equivalence}
-use Rattle.vt_laws_runs.specs.Handed.{counts_from, is_counted_before}
+use Rattle.vt_laws_trees.proofs.runs.answered.AlikeWorlds.{sameness_is_an_equivalence}
+use Rattle.vt_laws_trees.specs.Runs.Handed.{counts_from, is_counted_before}
 use Rattle.vt_laws_worlds.proofs.worlds.Roots.{directory_there}
 use Rattle.vt_fs.specs.FilesystemsValue.{Filesystems, filesystems_seen, shown}
 use Rattle.vt_group.specs.Grouping.{Grouping, master_in}

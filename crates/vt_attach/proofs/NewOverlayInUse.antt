@@ -15,20 +15,20 @@ use Rattle.vt_spec.specs.Machine.SameWorlds.{SameFilesystem, SameWorlds}
 use Rattle.vt_spec.specs.Machine.Settled.{layers_in, located_in, named_in, objects_of_overlay, used_in}
 use Rattle.vt_spec.specs.Machine.World.{Filesystem, Layer, World, filesystem_numbered, is_directory_at, layers_of, mount_at, no_filesystem}
 use Rattle.vt_spec.specs.Tree.{is_directory_node}
-use Rattle.vt_laws_counts.specs.OverlaysStay.{layer_count}
-use Rattle.vt_laws_letting_go.specs.Counts.{inode_uses, mounts_showing, times}
-use Rattle.vt_laws_letting_go.specs.InUse.{InodesInUse, is_inode_used}
-use Rattle.vt_laws_letting_go.specs.Keeping.{has_only_named}
-use Rattle.vt_laws_letting_go.specs.OneByOne.{Inode}
-use Rattle.vt_laws_letting_go.proofs.Lists.{Among, all_pass, among_from_all, is_among_left, or_first, or_second, passes}
-use Rattle.vt_laws_letting_go.proofs.sweeps.UsesCounted.{used_while_counted}
-use Rattle.vt_laws_one_text.proofs.answered.AlikeSettled.{used_permuted}
-use Rattle.vt_laws_one_text.proofs.answered.AlikeWorlds.{alike_from_same}
-use Rattle.vt_laws_one_text.proofs.same.SameInvariants.{roots_keep}
-use Rattle.vt_laws_overlays_stay.specs.Woven.{woven}
-use Rattle.vt_laws_permits.proofs.same.EachHas.{each_holds}
-use Rattle.vt_laws_runs.proofs.Each.{each_flat}
-use Rattle.vt_laws_runs.proofs.Permuted.{list_all-IsPermutation}
+use Rattle.vt_laws_mounts.specs.Counts.OverlaysStay.{layer_count}
+use Rattle.vt_laws_mounts.specs.LettingGo.Counts.{inode_uses, mounts_showing, times}
+use Rattle.vt_laws_mounts.specs.LettingGo.InUse.{InodesInUse, is_inode_used}
+use Rattle.vt_laws_mounts.specs.LettingGo.Keeping.{has_only_named}
+use Rattle.vt_laws_mounts.specs.LettingGo.OneByOne.{Inode}
+use Rattle.vt_laws_mounts.proofs.letting_go.Lists.{Among, all_pass, among_from_all, is_among_left, or_first, or_second, passes}
+use Rattle.vt_laws_mounts.proofs.letting_go.sweeps.UsesCounted.{used_while_counted}
+use Rattle.vt_laws_worlds.proofs.one_text.answered.AlikeSettled.{used_permuted}
+use Rattle.vt_laws_worlds.proofs.one_text.answered.AlikeWorlds.{alike_from_same}
+use Rattle.vt_laws_worlds.proofs.one_text.same.SameInvariants.{roots_keep}
+use Rattle.vt_laws_worlds.specs.OverlaysStay.Woven.{woven}
+use Rattle.vt_laws_worlds.proofs.permits.same.EachHas.{each_holds}
+use Rattle.vt_laws_trees.proofs.runs.Each.{each_flat}
+use Rattle.vt_laws_trees.proofs.runs.Permuted.{list_all-IsPermutation}
 use Rattle.vt_laws_worlds.proofs.RaisedInUse.{worlds_are_in_use}
 use Rattle.vt_laws_worlds.proofs.worlds.Roots.{directory_there}
 use Rattle.vt_fs.specs.FilesystemsValue.{FilesystemEntry, Filesystems, Shown, filesystems_seen, shown}

@@ -11,16 +11,16 @@ use Rattle.vt_spec.specs.Machine.NewMounts.{new_mount}
 use Rattle.vt_spec.specs.Machine.Renaming.{renamed, renamed_location}
 use Rattle.vt_spec.specs.Machine.Run.{used_by_filesystem, used_by_mount}
 use Rattle.vt_spec.specs.Machine.World.{Filesystem, Namespace, World}
-use Rattle.vt_laws_letting_go.proofs.Lists.{Among, among-append, among-append_left, among-append_right, among-from_flat_map, among_from_all, among_numbers, is_among_numbers}
-use Rattle.vt_laws_one_text.proofs.in_use.InUseServes.{any_worlds_keep_to_numbers_in_use}
-use Rattle.vt_laws_permits.proofs.in_use.InUseServes.{leaves_two}
-use Rattle.vt_laws_permits.proofs.taken.TakenHanded.{counted_here}
-use Rattle.vt_laws_permits.proofs.taken.TakenNumbers.{counted_later}
+use Rattle.vt_laws_mounts.proofs.letting_go.Lists.{Among, among-append, among-append_left, among-append_right, among-from_flat_map, among_from_all, among_numbers, is_among_numbers}
+use Rattle.vt_laws_worlds.proofs.one_text.in_use.InUseServes.{any_worlds_keep_to_numbers_in_use}
+use Rattle.vt_laws_worlds.proofs.permits.in_use.InUseServes.{leaves_two}
+use Rattle.vt_laws_worlds.proofs.permits.taken.TakenHanded.{counted_here}
+use Rattle.vt_laws_worlds.proofs.permits.taken.TakenNumbers.{counted_later}
 use Rattle.vt_laws_rules.proofs.numbers.Commuting.{Named, commutes_nat}
 use Rattle.vt_laws_rules.proofs.numbers.Renamings.{named_world, renamed_itself}
 use Rattle.vt_laws_rules.proofs.numbers.Supports.{used_numbers_are_named}
 use Rattle.vt_laws_rules.specs.Numbers.{KeepsTo}
-use Rattle.vt_laws_runs.specs.Handed.{counts_from, is_counted_before}
+use Rattle.vt_laws_trees.specs.Runs.Handed.{counts_from, is_counted_before}
 use Rattle.vt_location.specs.Numbers.{counted}
 use Rattle.vt_world.specs.Held.{HasOwnNodes, IsHeld}
 use Rattle.vt_world.specs.WorldValue.{WorldValue, world_of}

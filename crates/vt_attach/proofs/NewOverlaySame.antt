@@ -7,13 +7,13 @@ use Rattle.vt_spec.specs.Inodes.{Inode as Counted, Inodes, node_in, pinned, tree
 use Rattle.vt_spec.specs.Lists.{folded}
 use Rattle.vt_spec.specs.Machine.SameWorlds.{SameFiles, SameFilesystem, SameFilesystems, SameWorlds}
 use Rattle.vt_spec.specs.Machine.World.{Filesystem}
-use Rattle.vt_laws_counts.proofs.Listed.{same_numbers_are_permuted}
-use Rattle.vt_laws_counts.specs.Using.{pinned_if}
-use Rattle.vt_laws_letting_go.specs.OneByOne.{Inode}
-use Rattle.vt_laws_letting_go.proofs.Lists.{Among, among-from_map}
-use Rattle.vt_laws_overlays_stay.specs.Woven.{put_in, woven}
-use Rattle.vt_laws_overlays_stay.proofs.weaving.WovenLists.{woven_lists_are_alike}
-use Rattle.vt_laws_runs.proofs.answered.AlikeWorlds.{sameness_is_an_equivalence}
+use Rattle.vt_laws_mounts.proofs.counts.Listed.{same_numbers_are_permuted}
+use Rattle.vt_laws_mounts.specs.Counts.Using.{pinned_if}
+use Rattle.vt_laws_mounts.specs.LettingGo.OneByOne.{Inode}
+use Rattle.vt_laws_mounts.proofs.letting_go.Lists.{Among, among-from_map}
+use Rattle.vt_laws_worlds.specs.OverlaysStay.Woven.{put_in, woven}
+use Rattle.vt_laws_worlds.proofs.overlays_stay.weaving.WovenLists.{woven_lists_are_alike}
+use Rattle.vt_laws_trees.proofs.runs.answered.AlikeWorlds.{sameness_is_an_equivalence}
 use Rattle.vt_fs.specs.FilesystemsValue.{FilesystemEntry, Filesystems, Shown, files_seen, filesystem_seen, filesystems_seen, inodes_seen, numbers_seen, shown, shown_entry}
 use Rattle.vt_fs.proofs.Numbers.{numbers_apart_each, numbers_listed}
 use Rattle.vt_location.specs.Numbers.{counted}

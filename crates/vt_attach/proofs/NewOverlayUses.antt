@@ -7,21 +7,21 @@ use Rattle.vt_laws_trees.proofs.trees.TreesOfWorlds.{number_numbered}
 use Rattle.vt_spec.proofs.Lists.{map_alike, map_twice}
 use Rattle.vt_spec.specs.Lists.{folded}
 use Rattle.vt_spec.specs.Tree.{is_directory_node}
-use Rattle.vt_laws_counts.specs.OverlaysStay.{layer_count}
+use Rattle.vt_laws_mounts.specs.Counts.OverlaysStay.{layer_count}
 use Rattle.vt_spec.specs.Machine.Locked.{of_overlay}
 use Rattle.vt_spec.specs.Machine.Settled.{layers_in, located_in, named_in, objects_of_overlay}
 use Rattle.vt_spec.specs.Machine.World.{Filesystem, Layer, World, filesystem_numbered, layers_of, no_filesystem}
 use Rattle.vt_spec.specs.Inodes.{node_in}
-use Rattle.vt_laws_counts.specs.BesideOverlays.{OverlaysHaveNoUpper}
-use Rattle.vt_laws_counts.specs.Counted.{IsCounted}
-use Rattle.vt_laws_counts.specs.Using.{AreThere, Exchanges, exchanged, is_inode, pinned_if}
-use Rattle.vt_laws_counts.proofs.overlays.FilesystemUses.{no_upper_is_in_any}
-use Rattle.vt_laws_counts.proofs.using.Exchanged.{uses_are_exchanged_beside_overlays}
-use Rattle.vt_laws_letting_go.specs.Counts.{inode_uses, times}
-use Rattle.vt_laws_letting_go.specs.OneByOne.{Inode}
-use Rattle.vt_laws_letting_go.proofs.Lists.{Among, all_pass, among-from_map, among_from_all}
-use Rattle.vt_laws_letting_go.proofs.sweeps.OfWorlds.{worlds_have_trees}
-use Rattle.vt_laws_letting_go.proofs.sweeps.UpperUses.{times_append}
+use Rattle.vt_laws_mounts.specs.Counts.BesideOverlays.{OverlaysHaveNoUpper}
+use Rattle.vt_laws_mounts.specs.Counts.Counted.{IsCounted}
+use Rattle.vt_laws_mounts.specs.Counts.Using.{AreThere, Exchanges, exchanged, is_inode, pinned_if}
+use Rattle.vt_laws_mounts.proofs.counts.overlays.FilesystemUses.{no_upper_is_in_any}
+use Rattle.vt_laws_mounts.proofs.counts.using.Exchanged.{uses_are_exchanged_beside_overlays}
+use Rattle.vt_laws_mounts.specs.LettingGo.Counts.{inode_uses, times}
+use Rattle.vt_laws_mounts.specs.LettingGo.OneByOne.{Inode}
+use Rattle.vt_laws_mounts.proofs.letting_go.Lists.{Among, all_pass, among-from_map, among_from_all}
+use Rattle.vt_laws_mounts.proofs.letting_go.sweeps.OfWorlds.{worlds_have_trees}
+use Rattle.vt_laws_mounts.proofs.letting_go.sweeps.UpperUses.{times_append}
 use Rattle.vt_laws_worlds.proofs.RaisedInUse.{worlds_are_in_use}
 use Rattle.vt_laws_worlds.proofs.worlds.Roots.{directory_there}
 use Rattle.vt_fs.specs.FilesystemsValue.{FilesystemEntry, Filesystems, Shown, entry_of, inodes_seen, no_entry}

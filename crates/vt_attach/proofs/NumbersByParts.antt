@@ -2,13 +2,13 @@
 use Rattle.std.proofs.Common.{◌≡◌, refl, sym, ap, subst, ◌∙◌, ℕ, ◌+◌, ◌*◌, ◌-◌, ◌%◌, ◌/◌, ◌==◌, ◌<◌, nat_eq, eq-eqb, Bool, true, false, cond, ◌&&◌, ◌||◌, List, [], ◌∷◌, map, Some, length, unwrap_or, arith}
 use Rattle.std.specs.Prelude.{nat_lt}
 use Rattle.vt_laws_rules.specs.Numbers.{KeepsTo}
-use Rattle.vt_laws_permits.proofs.named.NamedPermits.{permit_left}
-use Rattle.vt_laws_permits.proofs.named.PermitsKeepTo.{left_renamed}
-use Rattle.vt_laws_permits.proofs.taken.TakenAttached.{index_bound}
-use Rattle.vt_laws_permits.proofs.taken.TakenNumbers.{counted_later}
-use Rattle.vt_laws_permits.specs.Left.{left_by}
-use Rattle.vt_laws_permits.specs.Named.{permit_named}
-use Rattle.vt_laws_runs.specs.Handed.{counts_from, handed_from, is_counted_before}
+use Rattle.vt_laws_worlds.proofs.permits.named.NamedPermits.{permit_left}
+use Rattle.vt_laws_worlds.proofs.permits.named.PermitsKeepTo.{left_renamed}
+use Rattle.vt_laws_worlds.proofs.permits.taken.TakenAttached.{index_bound}
+use Rattle.vt_laws_worlds.proofs.permits.taken.TakenNumbers.{counted_later}
+use Rattle.vt_laws_worlds.specs.Permits.Left.{left_by}
+use Rattle.vt_laws_worlds.specs.Permits.Named.{permit_named}
+use Rattle.vt_laws_trees.specs.Runs.Handed.{counts_from, handed_from, is_counted_before}
 use Rattle.vt_spec.specs.Lists.{Fresh, odds, index_from}
 use Rattle.vt_spec.specs.Machine.Attach.{Copies, attach, attached_by, bind_tree, copies_from, index_of_group, index_in_rows, parts_of}
 use Rattle.vt_spec.specs.Machine.Mounts.{Location, Mount, index_of, mount_tree}
@@ -23,8 +23,8 @@ use Rattle.vt_spec.specs.Machine.Namespaces.{namespaces_ended, unshared_by}
 use Rattle.vt_spec.proofs.Lists.{among_from_list_all, among_numbers, among-from_map}
 use Rattle.vt_laws_worlds.proofs.worlds.ReachedWalks.{task_among}
 use Rattle.vt_attach.specs.AttachedNumbers.{BindsKeepToNumbers, MovesKeepToNumbers, NewMountsKeepToNumbers, UnsharesKeepToNumbers, numbers_of_new_mount, numbers_of_parts}
-use Rattle.vt_laws_permits.proofs.taken.TakenFirst.{nonempty, numbers_same, tree_some, bind_some}
-use Rattle.vt_laws_permits.proofs.taken.TakenHanded.{counted_here}
+use Rattle.vt_laws_worlds.proofs.permits.taken.TakenFirst.{nonempty, numbers_same, tree_some, bind_some}
+use Rattle.vt_laws_worlds.proofs.permits.taken.TakenHanded.{counted_here}
 
 -- places in a table
 

@@ -4,7 +4,7 @@ use Rattle.std.specs.List.{list_all}
 use Rattle.std.proofs.lemmas.Bool.{and_parts, le-leb, leb-true}
 use Rattle.std.proofs.lemmas.List.{length-take-le}
 use Rattle.vt_spec.specs.Lists.{folded}
-use Rattle.vt_laws_letting_go.proofs.Lists.{passes}
+use Rattle.vt_laws_mounts.proofs.letting_go.Lists.{passes}
 use Rattle.vt_location.specs.declared.mounts.Mount.{Mount}
 use Rattle.vt_location.specs.Numbers.{counted}
 use Rattle.vt_location.proofs.NumberLemmas.{counted_test}

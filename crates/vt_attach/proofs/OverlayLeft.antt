@@ -20,26 +20,26 @@ use Rattle.vt_spec.specs.Machine.SameWorlds.{SameFiles, SameFilesystem, SameWorl
 use Rattle.vt_spec.specs.Machine.Settled.{named_in}
 use Rattle.vt_spec.specs.Machine.World.{Filesystem, Overlay, Task, World, open_layer, shown_layers}
 use Rattle.vt_spec.specs.Tree.{Tree}
-use Rattle.vt_laws_counts.proofs.Listed.{same_numbers_are_permuted}
-use Rattle.vt_laws_given.specs.LeftWorlds.{IsGivenToTask}
-use Rattle.vt_laws_layers.proofs.directories.Merged.{merged_lists_numbers}
-use Rattle.vt_laws_layers.specs.Layers.Mounted as mounted
-use Rattle.vt_laws_letting_go.specs.Keeping.{has_only_named}
-use Rattle.vt_laws_letting_go.specs.OneByOne.{Inode}
-use Rattle.vt_laws_letting_go.proofs.Lists.{all_from_among}
-use Rattle.vt_laws_one_text.proofs.answered.AlikeAttached.{attach_alike}
-use Rattle.vt_laws_one_text.proofs.answered.AlikeWorlds.{Alike, alike_from_same, alike_onward, same_from_alike}
-use Rattle.vt_laws_overlays_kept.proofs.inodes.InodesInOrder.{inodes_are_the_tree, inodes_have_their_objects, inodes_stay}
-use Rattle.vt_laws_overlays_kept.specs.Inodes.{inodes_kept}
-use Rattle.vt_laws_overlays_kept.specs.Kept.{IsShownAlike, ShowsLayer, ShowsLayers, with_objects}
-use Rattle.vt_laws_overlays_let_go.proofs.mounting.NewOverlays.{new_mounts_of_overlays_keep_all, new_overlays_are_named}
-use Rattle.vt_laws_overlays_made.proofs.making.Numbers.{made_overlays_are_same}
-use Rattle.vt_laws_overlays_made.specs.Made.{handed_in, overlay_shown}
-use Rattle.vt_laws_overlays_stay.specs.Woven.{woven}
+use Rattle.vt_laws_mounts.proofs.counts.Listed.{same_numbers_are_permuted}
+use Rattle.vt_laws_worlds.specs.Given.LeftWorlds.{IsGivenToTask}
+use Rattle.vt_laws_trees.proofs.layers.directories.Merged.{merged_lists_numbers}
+use Rattle.vt_laws_trees.specs.Layers.Layers.Mounted as mounted
+use Rattle.vt_laws_mounts.specs.LettingGo.Keeping.{has_only_named}
+use Rattle.vt_laws_mounts.specs.LettingGo.OneByOne.{Inode}
+use Rattle.vt_laws_mounts.proofs.letting_go.Lists.{all_from_among}
+use Rattle.vt_laws_worlds.proofs.one_text.answered.AlikeAttached.{attach_alike}
+use Rattle.vt_laws_worlds.proofs.one_text.answered.AlikeWorlds.{Alike, alike_from_same, alike_onward, same_from_alike}
+use Rattle.vt_world.proofs.overlays_kept.inodes.InodesInOrder.{inodes_are_the_tree, inodes_have_their_objects, inodes_stay}
+use Rattle.vt_world.specs.OverlaysKept.Inodes.{inodes_kept}
+use Rattle.vt_world.specs.OverlaysKept.Kept.{IsShownAlike, ShowsLayer, ShowsLayers, with_objects}
+use Rattle.vt_laws_worlds.proofs.overlays_let_go.mounting.NewOverlays.{new_mounts_of_overlays_keep_all, new_overlays_are_named}
+use Rattle.vt_world.proofs.overlays_made.Numbers.{made_overlays_are_same}
+use Rattle.vt_world.specs.OverlaysMade.Made.{handed_in, overlay_shown}
+use Rattle.vt_laws_worlds.specs.OverlaysStay.Woven.{woven}
 use Rattle.vt_laws_rules.proofs.same.SameLooks.{found_same}
-use Rattle.vt_laws_runs.proofs.Each.{each_append}
-use Rattle.vt_laws_runs.proofs.Permuted.{IsPermutation-flat_map, list_all-IsPermutation}
-use Rattle.vt_laws_runs.proofs.answered.AlikeWorlds.{sameness_is_an_equivalence}
+use Rattle.vt_laws_trees.proofs.runs.Each.{each_append}
+use Rattle.vt_laws_trees.proofs.runs.Permuted.{IsPermutation-flat_map, list_all-IsPermutation}
+use Rattle.vt_laws_trees.proofs.runs.answered.AlikeWorlds.{sameness_is_an_equivalence}
 use Rattle.vt_location.specs.Numbers.{counted}
 use Rattle.vt_fs.proofs.Numbers.{found_by_number}
 use Rattle.vt_fs.specs.FilesystemsValue.{Filesystems, filesystems_seen, shown}

@@ -11,7 +11,7 @@ use Rattle.vt_spec.specs.Machine.World.{Layer, Overlay, Task}
 use Rattle.vt_spec.proofs.Lists.{map_alike, map_twice}
 use Rattle.vt_fs.specs.FilesystemsValue.{Filesystems, shown}
 use Rattle.vt_group.specs.Grouping.{Grouping}
-use Rattle.vt_laws_given.specs.LeftWorlds.{IsGivenToTask}
+use Rattle.vt_laws_worlds.specs.Given.LeftWorlds.{IsGivenToTask}
 use Rattle.vt_location.specs.Locations.{location_of}
 use Rattle.vt_location.specs.MountValue.{mount_of}
 use Rattle.vt_location.specs.Numbers.{counted}

@@ -4,8 +4,8 @@ use Rattle.std.proofs.lemmas.Bool.{lt-ltb}
 use Rattle.std.proofs.lemmas.Option.{slice_get_within}
 use Rattle.vt_spec.specs.Tree.{Tree}
 use Rattle.vt_fs.specs.FilesystemsValue.{Filesystems}
-use Rattle.vt_laws_overlays_kept.proofs.inodes.InodesInOrder.{inodes_are_the_tree}
-use Rattle.vt_laws_seen.specs.TreesSeen.{node_by}
+use Rattle.vt_world.proofs.overlays_kept.inodes.InodesInOrder.{inodes_are_the_tree}
+use Rattle.vt_laws_worlds.specs.Seen.TreesSeen.{node_by}
 use Rattle.vt_location.specs.declared.births.Birth.{Birth}
 use Rattle.vt_location.specs.declared.births.Birth.TheVariants.{Below, Here}
 use Rattle.vt_location.specs.declared.locations.NodeRef.{NodeRef}

@@ -10,12 +10,12 @@ use Rattle.vt_spec.specs.Machine.Locked.{of_overlay}
 use Rattle.vt_spec.specs.Machine.SameWorlds.{SameFilesystems}
 use Rattle.vt_spec.specs.Machine.World.{Filesystem, Real, is_overlay}
 use Rattle.vt_spec.proofs.Lists.{map_alike}
-use Rattle.vt_laws_letting_go.proofs.Lists.{Among, all_from_among, all_pass, among-append, among-map}
+use Rattle.vt_laws_mounts.proofs.letting_go.Lists.{Among, all_from_among, all_pass, among-append, among-map}
 use Rattle.vt_laws_rules.proofs.same.SameLooks.{found_same}
-use Rattle.vt_laws_overlays_kept.proofs.inodes.InodesInOrder.{inodes_stay}
-use Rattle.vt_laws_overlays_kept.specs.Kept.{IsShownAlike}
-use Rattle.vt_laws_overlays_stay.specs.Woven.{are_rising, woven}
-use Rattle.vt_laws_overlays_stay.proofs.weaving.WovenLists.{woven_lists_are_failing}
+use Rattle.vt_world.proofs.overlays_kept.inodes.InodesInOrder.{inodes_stay}
+use Rattle.vt_world.specs.OverlaysKept.Kept.{IsShownAlike}
+use Rattle.vt_laws_worlds.specs.OverlaysStay.Woven.{are_rising, woven}
+use Rattle.vt_laws_worlds.proofs.overlays_stay.weaving.WovenLists.{woven_lists_are_failing}
 use Rattle.vt_fs.specs.FilesystemsValue.{Filesystems, filesystems_seen, shown}
 use Rattle.vt_fs.proofs.Numbers.{found_by_number}
 use Rattle.vt_location.specs.Numbers.{counted}

@@ -9,11 +9,11 @@ use Rattle.vt_spec.specs.Machine.Mounts.{Mount}
 use Rattle.vt_spec.specs.Machine.Settled.{is_mounted}
 use Rattle.vt_spec.specs.Machine.World.{Filesystem, World, is_overlay}
 use Rattle.vt_spec.proofs.Lists.{map_alike, map_twice}
-use Rattle.vt_laws_letting_go.specs.Counts.{mounts_showing, times}
-use Rattle.vt_laws_letting_go.proofs.Lists.{Among, all_from_among, among-append, among-from_map, among-map, among_from_all, passes}
-use Rattle.vt_laws_letting_go.proofs.sweeps.UpperUses.{times_append}
-use Rattle.vt_laws_letting_go.proofs.sweeps.UsesCounted.{mounted_while_counted}
-use Rattle.vt_laws_overlays_stay.specs.Woven.{are_rising}
+use Rattle.vt_laws_mounts.specs.LettingGo.Counts.{mounts_showing, times}
+use Rattle.vt_laws_mounts.proofs.letting_go.Lists.{Among, all_from_among, among-append, among-from_map, among-map, among_from_all, passes}
+use Rattle.vt_laws_mounts.proofs.letting_go.sweeps.UpperUses.{times_append}
+use Rattle.vt_laws_mounts.proofs.letting_go.sweeps.UsesCounted.{mounted_while_counted}
+use Rattle.vt_laws_worlds.specs.OverlaysStay.Woven.{are_rising}
 use Rattle.vt_location.specs.declared.mounts.Mount.{Mount as Attached}
 use Rattle.vt_location.specs.MountValue.{mount_of}
 use Rattle.vt_location.specs.Numbers.{counted}

@@ -7,9 +7,9 @@ use Rattle.vt_spec.specs.Lists.{folded}
 use Rattle.vt_spec.proofs.Lists.{map_alike}
 use Rattle.vt_fs.specs.FilesystemsValue.{Shown, shown_with}
 use Rattle.vt_spec.specs.Inodes.{pinned}
-use Rattle.vt_laws_counts.specs.Using.{pinned_if}
-use Rattle.vt_laws_letting_go.specs.OneByOne.{Inode}
-use Rattle.vt_laws_letting_go.proofs.Lists.{all_pass, filter_here, filter_skip, passes}
+use Rattle.vt_laws_mounts.specs.Counts.Using.{pinned_if}
+use Rattle.vt_laws_mounts.specs.LettingGo.OneByOne.{Inode}
+use Rattle.vt_laws_mounts.proofs.letting_go.Lists.{all_pass, filter_here, filter_skip, passes}
 use Rattle.vt_location.specs.declared.locations.Location.{Location}
 use Rattle.vt_location.specs.declared.mounts.Mount.{Mount}
 use Rattle.vt_location.specs.Locations.{inode_of as inode_number_of}

@@ -5,10 +5,10 @@ use Rattle.std.specs.Prelude.{option_to_list}
 use Rattle.std.specs.List.{list_any}
 use Rattle.std.proofs.lemmas.Bool.{or_parts}
 use Rattle.std.proofs.lemmas.List.{map-append}
-use Rattle.vt_laws_counts.specs.Using.{Exchanges}
-use Rattle.vt_laws_counts.proofs.using.Places.{exchanges_follow, mount_is_placed}
-use Rattle.vt_laws_letting_go.specs.Mounting.{inode_at}
-use Rattle.vt_laws_letting_go.specs.OneByOne.{Inode}
+use Rattle.vt_laws_mounts.specs.Counts.Using.{Exchanges}
+use Rattle.vt_laws_mounts.proofs.counts.using.Places.{exchanges_follow, mount_is_placed}
+use Rattle.vt_laws_mounts.specs.LettingGo.Mounting.{inode_at}
+use Rattle.vt_laws_mounts.specs.LettingGo.OneByOne.{Inode}
 use Rattle.vt_location.specs.declared.locations.Location.{Location}
 use Rattle.vt_location.specs.Locations.{location_of}
 use Rattle.vt_location.specs.Numbers.{counted}

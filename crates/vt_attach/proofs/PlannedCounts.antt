@@ -1,8 +1,8 @@
 -- Filesystems once mounts moved and others came: the uses of their inodes, and how many more mounts show them.
 use Rattle.std.proofs.Common.{◌≡◌, refl, ap, ◌∙◌, ℕ, ◌+◌, List, [], ◌∷◌, ◌++◌, map}
-use Rattle.vt_laws_counts.specs.Using.{exchanged, pinned_if, unpinned_if}
+use Rattle.vt_laws_mounts.specs.Counts.Using.{exchanged, pinned_if, unpinned_if}
 use Rattle.vt_fs.specs.FilesystemsValue.{Shown}
-use Rattle.vt_laws_letting_go.specs.OneByOne.{Inode}
+use Rattle.vt_laws_mounts.specs.LettingGo.OneByOne.{Inode}
 use Rattle.vt_location.specs.declared.locations.Location.{Location}
 use Rattle.vt_location.specs.declared.mounts.Mount.{Mount}
 use Rattle.vt_location.specs.Numbers.{counted}

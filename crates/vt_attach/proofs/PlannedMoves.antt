@@ -7,8 +7,8 @@ use Rattle.std.proofs.lemmas.List.{flat_map_more, length-append, length-map, len
 use Rattle.std.proofs.lemmas.List.Folds.{list_all-append, list_all_more}
 use Rattle.vt_fs.specs.FilesystemsValue.{ChangesInodes, Filesystems, Shown, inodes_at, shown}
 use Rattle.vt_spec.specs.Inodes.{pinned, uses_in}
-use Rattle.vt_laws_letting_go.proofs.Lists.{Among, among-append_left, among-append_right, among-map, passes}
-use Rattle.vt_laws_letting_go.specs.OneByOne.{Inode}
+use Rattle.vt_laws_mounts.proofs.letting_go.Lists.{Among, among-append_left, among-append_right, among-map, passes}
+use Rattle.vt_laws_mounts.specs.LettingGo.OneByOne.{Inode}
 use Rattle.vt_location.specs.declared.locations.Location.{Location}
 use Rattle.vt_location.specs.declared.mounts.Mount.{Mount}
 use Rattle.vt_location.specs.Locations.{location_of, number_of}

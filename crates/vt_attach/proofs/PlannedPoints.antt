@@ -7,7 +7,7 @@ use Rattle.std.specs.Prelude.{option_to_list}
 use Rattle.std.specs.List.{list_any}
 use Rattle.std.proofs.lemmas.Bool.{ne_eqb, or_parts}
 use Rattle.std.proofs.lemmas.Option.{same_Some}
-use Rattle.vt_laws_letting_go.proofs.Lists.{Among, among-append, among-map, any-map, fails, map_same, passes}
+use Rattle.vt_laws_mounts.proofs.letting_go.Lists.{Among, among-append, among-map, any-map, fails, map_same, passes}
 use Rattle.vt_location.specs.declared.locations.Location.{Location}
 use Rattle.vt_location.specs.Locations.{location_of}
 use Rattle.vt_location.specs.Numbers.{counted}

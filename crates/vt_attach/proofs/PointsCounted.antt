@@ -1,7 +1,7 @@
 -- Where mounts get other mount points, they count what they counted, and show what they showed.
 use Rattle.std.proofs.Common.{sym, subst, ℕ, nat_eq, Bool, true, false, cond, List, [], ◌∷◌, if◌then◌else◌}
 use Rattle.std.specs.Prelude.{All}
-use Rattle.vt_laws_letting_go.proofs.Lists.{all_from_among, among-from_map, among_from_all}
+use Rattle.vt_laws_mounts.proofs.letting_go.Lists.{all_from_among, among-from_map, among_from_all}
 use Rattle.vt_location.specs.declared.locations.Location.{Location}
 use Rattle.vt_location.specs.Numbers.{counted}
 use Rattle.vt_mount.specs.MountsValue.{MountEntry, changed}

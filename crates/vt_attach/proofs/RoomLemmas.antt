@@ -6,10 +6,10 @@ use Rattle.std.proofs.lemmas.Bool.{and_parts, le-leb, leb-true}
 use Rattle.std.proofs.lemmas.List.{length-take-le}
 use Rattle.vt_spec.specs.Lists.{folded}
 use Rattle.vt_spec.specs.Inodes.{Inode as Counted, Inodes, pinned, used_once_more, uses_in}
-use Rattle.vt_laws_counts.specs.Using.{pinned_if}
+use Rattle.vt_laws_mounts.specs.Counts.Using.{pinned_if}
 use Rattle.vt_fs.specs.FilesystemsValue.{Filesystems, Shown, entry_of, inodes_at, inodes_seen, no_entry, shown, shown_entry, with_changed}
-use Rattle.vt_laws_letting_go.specs.OneByOne.{Inode}
-use Rattle.vt_laws_letting_go.proofs.Lists.{passes}
+use Rattle.vt_laws_mounts.specs.LettingGo.OneByOne.{Inode}
+use Rattle.vt_laws_mounts.proofs.letting_go.Lists.{passes}
 use Rattle.vt_location.specs.declared.locations.Location.{Location}
 use Rattle.vt_location.specs.declared.mounts.Mount.{Mount}
 use Rattle.vt_location.specs.Locations.{number_of}

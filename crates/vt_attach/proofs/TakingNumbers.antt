@@ -6,17 +6,17 @@ use Rattle.vt_spec.specs.Machine.Permits.{Permit}
 use Rattle.vt_spec.specs.Machine.Permits.Permit.{ToUnshare}
 use Rattle.vt_spec.specs.Machine.World.{Task, mounts_of, task_called}
 use Rattle.vt_spec.specs.Machine.Invariants.{IsWorld}
-use Rattle.vt_laws_counts.specs.BesideOverlays.{OverlaysHaveNoUpper}
+use Rattle.vt_laws_mounts.specs.Counts.BesideOverlays.{OverlaysHaveNoUpper}
 use Rattle.vt_fs.specs.FilesystemsValue.{FilesystemEntry, inodes_seen}
 use Rattle.vt_laws_rules.specs.Numbers.{KeepsTo}
-use Rattle.vt_laws_letting_go.proofs.Lists.{Among, all_from_among}
-use Rattle.vt_laws_permits.specs.Left.{IsGiven}
-use Rattle.vt_laws_permits.specs.Taken.{handed_to}
-use Rattle.vt_laws_one_text.proofs.same.SameNumbers.{any_same_worlds_keep_to_numbers}
-use Rattle.vt_laws_one_text.proofs.same.SameWhole.{any_same_worlds_are_worlds}
-use Rattle.vt_laws_overlays_stay.proofs.left.Given.{given_permits_give_no_upper}
-use Rattle.vt_laws_runs.specs.Handed.{is_counted_before}
-use Rattle.vt_laws_overlays_read.proofs.writers.Swept.{same_worlds_have_layers_alike}
+use Rattle.vt_laws_mounts.proofs.letting_go.Lists.{Among, all_from_among}
+use Rattle.vt_laws_worlds.specs.Permits.Left.{IsGiven}
+use Rattle.vt_laws_worlds.specs.Permits.Taken.{handed_to}
+use Rattle.vt_laws_worlds.proofs.one_text.same.SameNumbers.{any_same_worlds_keep_to_numbers}
+use Rattle.vt_laws_worlds.proofs.one_text.same.SameWhole.{any_same_worlds_are_worlds}
+use Rattle.vt_laws_worlds.proofs.overlays_stay.left.Given.{given_permits_give_no_upper}
+use Rattle.vt_laws_trees.specs.Runs.Handed.{is_counted_before}
+use Rattle.vt_laws_worlds.proofs.overlays_read.Swept.{same_worlds_have_layers_alike}
 use Rattle.vt_detach.proofs.Writers.{left_writers}
 use Rattle.vt_detach.specs.Events.{left_by, supply_of}
 use Rattle.vt_world.specs.Held.{CountsItsMounts, HasOwnInodes, IsHeld}

@@ -3,8 +3,8 @@ use Rattle.std.proofs.Common.{◌≡◌, refl, sym, ap, subst, ◌∙◌, ⊎_el
 use Rattle.std.specs.Prelude.{filter, flat_map}
 use Rattle.std.specs.List.{cons_option}
 use Rattle.std.proofs.lemmas.Bool.{and_parts}
-use Rattle.vt_laws_letting_go.proofs.Lists.{Among}
-use Rattle.vt_laws_letting_go.proofs.leaving.PlacesLeft.{number_found}
+use Rattle.vt_laws_mounts.proofs.letting_go.Lists.{Among}
+use Rattle.vt_laws_mounts.proofs.letting_go.leaving.PlacesLeft.{number_found}
 use Rattle.vt_location.specs.declared.locations.Location.{Location as Place}
 use Rattle.vt_location.specs.declared.numbers.MountId.{MountId}
 use Rattle.vt_location.specs.Locations.{is_small_node, location_of, number_of}

@@ -6,7 +6,7 @@ use Rattle.std.proofs.lemmas.Bool.{ne_eqb, or_parts}
 use Rattle.std.proofs.lemmas.List.{map-append}
 use Rattle.std.proofs.lemmas.Option.{same_Some}
 use Rattle.vt_group.specs.Grouping.{retyped_if}
-use Rattle.vt_laws_letting_go.proofs.Lists.{Among, among-append_right, among-map, fails, map_same}
+use Rattle.vt_laws_mounts.proofs.letting_go.Lists.{Among, among-append_right, among-map, fails, map_same}
 use Rattle.vt_mount.specs.MountsValue.{MountEntry, changed, mounts_in}
 use Rattle.vt_laws_mounts.proofs.mounts.MountsReplaced.{found_itself, one_number_by_numbers}
 use Rattle.vt_retype.specs.Retyping.{with_kind, with_type_in}

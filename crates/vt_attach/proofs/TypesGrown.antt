@@ -7,7 +7,7 @@ use Rattle.std.proofs.lemmas.List.{map-append}
 use Rattle.vt_group.specs.Grouping.{HasGroup, LacksGroup, are_rising, peers_of, retyped_if}
 use Rattle.vt_group.specs.Together.{Grows, with_type_of}
 use Rattle.vt_group.proofs.Peers.{numbers-retyped, peers-set}
-use Rattle.vt_laws_letting_go.proofs.Lists.{Among, all_from_among, among-append, among-append_left, among-append_right, among-from_map, among-map, among_from_all, any_passes}
+use Rattle.vt_laws_mounts.proofs.letting_go.Lists.{Among, all_from_among, among-append, among-append_left, among-append_right, among-from_map, among-map, among_from_all, any_passes}
 use Rattle.vt_spec.specs.Lists.{folded, holds_of, is_among}
 use Rattle.vt_spec.specs.Machine.Attach.{masters_with}
 use Rattle.vt_spec.specs.Machine.Mounts.{Mount, Propagation, group_of, is_shared, source_of}

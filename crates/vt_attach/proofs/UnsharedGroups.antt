@@ -9,12 +9,12 @@ use Rattle.vt_spec.specs.Machine.World.{Task, World, task_called}
 use Rattle.vt_group.specs.Grouping.{Grouping, Has, HasGroup, are_rising}
 use Rattle.vt_group.specs.Laws.{typed_by}
 use Rattle.vt_group.specs.Together.{Grows, GrowsTo, typed}
-use Rattle.vt_laws_letting_go.proofs.Lists.{Among, all_from_among, among-map, any_passes, map_same, one_passes}
+use Rattle.vt_laws_mounts.proofs.letting_go.Lists.{Among, all_from_among, among-map, any_passes, map_same, one_passes}
 use Rattle.vt_location.specs.declared.mounts.Mount.{Mount as Attached}
 use Rattle.vt_location.specs.MountValue.{mount_of}
 use Rattle.vt_location.specs.Numbers.{counted}
 use Rattle.vt_mount.specs.MountsValue.{MountEntry, mounts_in}
-use Rattle.vt_laws_runs.specs.Handed.{counts_from}
+use Rattle.vt_laws_trees.specs.Runs.Handed.{counts_from}
 use Rattle.vt_attach.specs.AttachedGroups.{type_of}
 use Rattle.vt_world.specs.Held.{IsHeld}
 use Rattle.vt_retype.specs.Retyping.{AreTyped}

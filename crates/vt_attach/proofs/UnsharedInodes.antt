@@ -12,13 +12,13 @@ use Rattle.vt_spec.specs.Machine.World.{Filesystem, Task, World, filesystem_numb
 use Rattle.vt_spec.specs.Machine.Invariants.{has_its_root, is_located_well, is_there}
 use Rattle.vt_spec.specs.Inodes.{node_in}
 use Rattle.vt_spec.specs.Inodes as Trees
-use Rattle.vt_laws_counts.specs.Using.{AreThere, places_of}
+use Rattle.vt_laws_mounts.specs.Counts.Using.{AreThere, places_of}
 use Rattle.vt_fs.specs.FilesystemsValue.{FilesystemEntry, inodes_seen}
-use Rattle.vt_laws_letting_go.specs.Counts.{times}
-use Rattle.vt_laws_letting_go.specs.Mounting.{inode_at}
-use Rattle.vt_laws_letting_go.specs.OneByOne.{Inode}
-use Rattle.vt_laws_letting_go.proofs.Lists.{Among, among-append_right, among-filter, among-from_filter, among-from_map, among-map, passes}
-use Rattle.vt_laws_letting_go.proofs.leaving.PlacesLeft.{found_itself}
+use Rattle.vt_laws_mounts.specs.LettingGo.Counts.{times}
+use Rattle.vt_laws_mounts.specs.LettingGo.Mounting.{inode_at}
+use Rattle.vt_laws_mounts.specs.LettingGo.OneByOne.{Inode}
+use Rattle.vt_laws_mounts.proofs.letting_go.Lists.{Among, among-append_right, among-filter, among-from_filter, among-from_map, among-map, passes}
+use Rattle.vt_laws_mounts.proofs.letting_go.leaving.PlacesLeft.{found_itself}
 use Rattle.vt_location.specs.declared.locations.Location.{Location}
 use Rattle.vt_location.specs.declared.locations.NodeRef.{NodeRef}
 use Rattle.vt_location.specs.declared.mounts.Mount.{Mount}

@@ -12,9 +12,9 @@ use Rattle.vt_spec.specs.Machine.Namespaces.{copied_mount, is_copied, location_o
 use Rattle.vt_spec.specs.Machine.Run.{Serves, numbers_in_use, used_by_filesystem, used_by_mount}
 use Rattle.vt_spec.specs.Machine.World.{Namespace, Task, World, all_locations, locations_of, mount_at, mount_numbered, mounts_of, task_called}
 use Rattle.vt_spec.specs.Machine.Invariants.{is_listed, is_located_well}
-use Rattle.vt_laws_letting_go.specs.Mounting.{inode_at}
-use Rattle.vt_laws_letting_go.proofs.Lists.{Among, among-append_left, among-append_right, among-filter, among-from_filter, among-from_map, among-map, among_numbers, is_among_left, is_among_numbers, one_passes, passes}
-use Rattle.vt_laws_letting_go.proofs.leaving.PlacesLeft.{found_itself}
+use Rattle.vt_laws_mounts.specs.LettingGo.Mounting.{inode_at}
+use Rattle.vt_laws_mounts.proofs.letting_go.Lists.{Among, among-append_left, among-append_right, among-filter, among-from_filter, among-from_map, among-map, among_numbers, is_among_left, is_among_numbers, one_passes, passes}
+use Rattle.vt_laws_mounts.proofs.letting_go.leaving.PlacesLeft.{found_itself}
 use Rattle.vt_laws_mounts.proofs.mounts.MountsNumbered.{unshare_keeps_numbers}
 use Rattle.vt_laws_mounts.proofs.namespaces.Unsharing.{parent_of}
 use Rattle.vt_tasks.specs.Counts.{locations_in}

@@ -15,10 +15,10 @@ use Rattle.vt_spec.specs.Machine.World.{Namespace, Task, World, mount_at, task_c
 use Rattle.vt_spec.specs.Machine.Invariants.{MountInvariants, is_listed}
 use Rattle.vt_location.proofs.NumberLemmas.{counted_test}
 use Rattle.vt_laws_mounts.proofs.namespaces.Unsharing.{unshare_keeps_mounts}
-use Rattle.vt_laws_letting_go.specs.Counts.{times}
-use Rattle.vt_laws_letting_go.proofs.Lists.{Among, among-append, among-append_right, among-from_filter, among-from_map, among-map, among_from_all, among_numbers, filter_alike, is_among_left, is_among_right, is_among_numbers, passes}
+use Rattle.vt_laws_mounts.specs.LettingGo.Counts.{times}
+use Rattle.vt_laws_mounts.proofs.letting_go.Lists.{Among, among-append, among-append_right, among-from_filter, among-from_map, among-map, among_from_all, among_numbers, filter_alike, is_among_left, is_among_right, is_among_numbers, passes}
 use Rattle.vt_location.specs.Numbers.{counted}
-use Rattle.vt_laws_runs.specs.Handed.{counts_from}
+use Rattle.vt_laws_trees.specs.Runs.Handed.{counts_from}
 use Rattle.vt_tasks.specs.Counts.{one_if}
 use Rattle.vt_tasks.specs.TasksValue.{Tasks}
 use Rattle.vt_world.specs.Held.{CountsWhatIsInIt, IsHeld}

@@ -2,9 +2,9 @@
 -- the tree at each part one for its copy, and one for a group.
 use Rattle.std.specs.Prelude.{Bool, List, Some, length, nat_eq, true, ℕ, ◌%◌, ◌*◌, ◌+◌, ◌≡◌}
 use Rattle.vt_laws_rules.specs.Numbers.{KeepsTo}
-use Rattle.vt_laws_permits.specs.Left.{left_by}
-use Rattle.vt_laws_permits.specs.Named.{permit_named}
-use Rattle.vt_laws_runs.specs.Handed.{counts_from, handed_from, is_counted_before}
+use Rattle.vt_laws_worlds.specs.Permits.Left.{left_by}
+use Rattle.vt_laws_worlds.specs.Permits.Named.{permit_named}
+use Rattle.vt_laws_trees.specs.Runs.Handed.{counts_from, handed_from, is_counted_before}
 use Rattle.vt_spec.specs.Language.Calls.{MountFlags}
 use Rattle.vt_spec.specs.Machine.Attach.{bind_tree, parts_of}
 use Rattle.vt_spec.specs.Machine.Mounts.{Location, Mount, mount_tree}

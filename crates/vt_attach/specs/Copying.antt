@@ -8,7 +8,7 @@ use Rattle.vt_location.specs.MountValue.{mount_of}
 use Rattle.vt_location.specs.Numbers.{counted}
 use Rattle.vt_mount.specs.Attached.{attached_in}
 use Rattle.vt_mount.specs.MountsValue.{MountEntry, changed, held, released}
-use Rattle.vt_laws_runs.specs.Handed.{counts_from}
+use Rattle.vt_laws_trees.specs.Runs.Handed.{counts_from}
 use Rattle.vt_spec.specs.Lists.{odds}
 use Rattle.vt_spec.specs.Machine.Mounts.{Location, Mount, numbers_by}
 use Rattle.vt_spec.specs.Machine.Namespaces.{copied_mount, moved_location}

@@ -1,10 +1,10 @@
 -- The opening world, as code makes it.
 use Rattle.std.specs.Prelude.{List, [], ℕ, ◌∷◌}
 use Rattle.vt_spec.specs.Lists.{Fresh}
-use Rattle.vt_laws_counts.specs.Using.{one_counted}
+use Rattle.vt_laws_mounts.specs.Counts.Using.{one_counted}
 use Rattle.vt_fs.specs.FilesystemsValue.{Shown}
 use Rattle.vt_location.specs.Numbers.{inode_number}
-use Rattle.vt_laws_runs.specs.Handed.{handed_from}
+use Rattle.vt_laws_trees.specs.Runs.Handed.{handed_from}
 
 -- its numbers: the first three counts for the mount, the namespace and the filesystem, and the first slot for the root
 abbrev pub opening_numbers : Fresh ℕ

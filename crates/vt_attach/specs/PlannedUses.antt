@@ -1,8 +1,8 @@
 -- The uses of inodes that come and go where mounts get other mount points.
 use Rattle.std.specs.Map.{lookup}
 use Rattle.std.specs.Prelude.{List, false, map, nat_eq, ℕ, ◌≡◌}
-use Rattle.vt_laws_counts.specs.Using.{Exchanges}
-use Rattle.vt_laws_letting_go.specs.Mounting.{inode_at}
+use Rattle.vt_laws_mounts.specs.Counts.Using.{Exchanges}
+use Rattle.vt_laws_mounts.specs.LettingGo.Mounting.{inode_at}
 use Rattle.vt_location.specs.Locations.{location_of}
 use Rattle.vt_location.specs.Numbers.{counted}
 use Rattle.vt_mount.specs.MountsValue.{MountEntry, mounts_in}

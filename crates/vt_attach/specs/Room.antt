@@ -1,7 +1,7 @@
 -- Room for the uses that new mounts make.
 use Rattle.std.specs.Prelude.{Bool, List, None, Option, Some, find, nat_eq, nat_le, option_map, true, unwrap_or, ℕ, ◌&&◌}
 use Rattle.vt_fs.specs.FilesystemsValue.{Shown}
-use Rattle.vt_laws_letting_go.specs.OneByOne.{Inode}
+use Rattle.vt_laws_mounts.specs.LettingGo.OneByOne.{Inode}
 use Rattle.vt_location.specs.declared.locations.Location.{Location}
 use Rattle.vt_location.specs.declared.mounts.Mount.{Mount}
 use Rattle.vt_location.specs.Locations.{is_small_node}

@@ -18,7 +18,7 @@ use Rattle.vt_spec.specs.Machine.World.{Filesystem, Task, World, task_called}
 use Rattle.vt_laws_rules.proofs.judged.CallsJudged.{call_is_judged_then_applied}
 use Rattle.vt_laws_rules.proofs.judged.NumbersRaised.{last_step_raises_numbers_alone}
 use Rattle.vt_laws_rules.proofs.denials.Unchanged.{look_changes_nothing}
-use Rattle.vt_laws_runs.proofs.answered.AlikeWorlds.{files_itself, sameness_is_an_equivalence}
+use Rattle.vt_laws_trees.proofs.runs.answered.AlikeWorlds.{files_itself, sameness_is_an_equivalence}
 use Rattle.vt_spec.specs.Machine.Permits.Permit.{Allowed}
 
 -- Worlds that are one but for change numbers are the same.

@@ -4,7 +4,7 @@ use Rattle.std.specs.Prelude.{Bool, List, Ok, false, true, ℕ, ◌||◌, ◌≡
 use Rattle.vt_laws_rules.proofs.given.Inversion.{calls_are_granted}
 use Rattle.vt_laws_rules.specs.Granted.{IsGranted}
 use Rattle.vt_laws_rules.specs.Granted.IsGranted.{changes_flags, changes_mark, changes_mode, changes_owner, changes_type, changes_umask, closes, drops_capabilities, exits, may_execute, shows_object, shows_symlink}
-use Rattle.vt_laws_permits.specs.Steps.{makes_shared}
+use Rattle.vt_laws_worlds.specs.Permits.Steps.{makes_shared}
 use Rattle.vt_permits.specs.Allocating.{TakesMemory}
 use Rattle.vt_spec.specs.Language.Calls.{Call, TypeWord}
 use Rattle.vt_spec.specs.Language.Calls.Call.{SetType}

@@ -23,7 +23,7 @@ use Rattle.vt_request.specs.declared.request.RemoveCall.TheVariants as remove
 use Rattle.vt_request.specs.declared.request.WriteCall.TheVariants as write
 use Rattle.vt_request.specs.declared.request.DescriptorCall.TheVariants as descriptor
 use Rattle.vt_request.specs.declared.request.MountCall.TheVariants as mount
-use Rattle.vt_laws_runs.specs.Handed.{counts_from}
+use Rattle.vt_laws_trees.specs.Runs.Handed.{counts_from}
 use Rattle.vt_laws_trees.specs.Trees.Limits.{names_few_groups}
 use Rattle.vt_world.specs.Held.{IsHeld}
 use Rattle.vt_detach.specs.Looking.{looks_of_value, overfills_of}

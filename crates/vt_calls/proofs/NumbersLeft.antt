@@ -7,8 +7,8 @@ use Rattle.vt_spec.specs.Machine.Policy.{policy}
 use Rattle.vt_spec.specs.Machine.SameWorlds.{SameWorlds}
 use Rattle.vt_laws_rules.specs.Numbers.{IsSuppliedFrom, KeepsTo}
 use Rattle.vt_laws_rules.proofs.numbers.Supports.{calls_keep_to_numbers}
-use Rattle.vt_laws_one_text.proofs.same.SameNumbers.{any_same_worlds_keep_to_numbers}
-use Rattle.vt_laws_runs.specs.Handed.{counts_from, handed_from, may_be_given}
+use Rattle.vt_laws_worlds.proofs.one_text.same.SameNumbers.{any_same_worlds_keep_to_numbers}
+use Rattle.vt_laws_trees.specs.Runs.Handed.{counts_from, handed_from, may_be_given}
 use Rattle.vt_location.specs.Numbers.{inode_number}
 use Rattle.vt_detach.specs.Events.{next_inode, supply_of}
 use Rattle.vt_world.specs.Held.{IsHeld}

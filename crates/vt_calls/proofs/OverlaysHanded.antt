@@ -7,11 +7,11 @@ use Rattle.vt_spec.specs.Machine.Mounts.{Location}
 use Rattle.vt_spec.specs.Machine.NewMounts.{inode_count}
 use Rattle.vt_spec.specs.Machine.Permits.Permit.{ToMountOverlay}
 use Rattle.vt_spec.specs.Machine.World.{Overlay}
-use Rattle.vt_laws_given.specs.NumbersHanded.{Placed, handed_at}
-use Rattle.vt_laws_overlays_made.specs.Made.{IsNew, placed_inodes}
-use Rattle.vt_laws_overlays_made.proofs.making.Serves.{births_apart, supplies_for_overlays_serve}
+use Rattle.vt_laws_worlds.specs.Given.NumbersHanded.{Placed, handed_at}
+use Rattle.vt_world.specs.OverlaysMade.Made.{IsNew, placed_inodes}
+use Rattle.vt_world.proofs.overlays_made.Serves.{births_apart, supplies_for_overlays_serve}
 use Rattle.vt_laws_rules.specs.Numbers.{IsSuppliedFrom}
-use Rattle.vt_laws_runs.specs.Handed.{may_be_given}
+use Rattle.vt_laws_trees.specs.Runs.Handed.{may_be_given}
 use Rattle.vt_overlay.specs.MergedTree.{AreLayers}
 use Rattle.vt_detach.specs.Events.{overlay_kept}
 use Rattle.vt_world.specs.Held.{IsHeld}

@@ -8,8 +8,8 @@ use Rattle.vt_spec.specs.Language.Calls.{TaskName}
 use Rattle.vt_spec.specs.Machine.SameWorlds.{SameWorlds}
 use Rattle.vt_spec.specs.Machine.World.{Task, task_called}
 use Rattle.vt_cred.specs.MountFlags.{flags_of}
-use Rattle.vt_laws_overlays_made.specs.Made.{IsNew}
-use Rattle.vt_laws_runs.specs.Handed.{counts_from}
+use Rattle.vt_world.specs.OverlaysMade.Made.{IsNew}
+use Rattle.vt_laws_trees.specs.Runs.Handed.{counts_from}
 use Rattle.vt_laws_worlds.proofs.worlds.CallsKept.{name_found}
 use Rattle.vt_location.specs.Locations.{location_of}
 use Rattle.vt_permits.specs.GrantValue.{overlay_of, overlay_permit}

@@ -10,14 +10,14 @@ use Rattle.vt_spec.specs.Machine.World.{task_called}
 use Rattle.vt_laws_rules.specs.Numbers.{Allotment, IsSuppliedFrom}
 use Rattle.vt_laws_rules.proofs.numbers.Texts.{room_serves}
 use Rattle.vt_location.specs.Numbers.{inode_number}
-use Rattle.vt_laws_given.specs.LeftWorlds.{IsGivenToTask}
-use Rattle.vt_laws_overlays_stay.proofs.in_use.NamedBefore.{any_worlds_keep_to_named_before}
+use Rattle.vt_laws_worlds.specs.Given.LeftWorlds.{IsGivenToTask}
+use Rattle.vt_laws_worlds.proofs.overlays_stay.in_use.NamedBefore.{any_worlds_keep_to_named_before}
 use Rattle.vt_permits.specs.GrantValue.{permit_of}
 use Rattle.vt_permits.specs.declared.grant.Grant.{Grant}
-use Rattle.vt_laws_runs.proofs.handed.Counts.{counts_serve}
-use Rattle.vt_laws_runs.proofs.handed.InodesAllotted.{allotted_numbers_serve}
-use Rattle.vt_laws_runs.specs.Handed.{counts_from, handed_from, may_be_given}
-use Rattle.vt_laws_runs.specs.Runs.{ServesInHand}
+use Rattle.vt_laws_trees.proofs.runs.handed.Counts.{counts_serve}
+use Rattle.vt_laws_trees.proofs.runs.handed.InodesAllotted.{allotted_numbers_serve}
+use Rattle.vt_laws_trees.specs.Runs.Handed.{counts_from, handed_from, may_be_given}
+use Rattle.vt_laws_trees.specs.Runs.Runs.{ServesInHand}
 use Rattle.vt_detach.specs.Events.{Permits, next_inode, supply_of}
 use Rattle.vt_world.specs.Held.{IsHeld}
 use Rattle.vt_ns.specs.Vacancy.{IsVacant, NextInodeIsVacant, NextRootIsVacant}

@@ -5,7 +5,7 @@ use Rattle.vt_spec.specs.Language.Calls.{Call}
 use Rattle.vt_spec.specs.Language.Calls.Call.{MountOverlay}
 use Rattle.vt_spec.specs.Machine.Judge.{bind_permit, judge, judge_in, mount_plain_permit, move_permit}
 use Rattle.vt_spec.specs.Machine.World.{Task}
-use Rattle.vt_laws_runs.specs.Handed.{counts_from}
+use Rattle.vt_laws_trees.specs.Runs.Handed.{counts_from}
 use Rattle.vt_laws_trees.specs.Trees.Calls.{mounts_overlay}
 use Rattle.vt_detach.specs.Looking.{looks_of_value, overfills_of}
 use Rattle.vt_world.specs.WorldValue.{WorldValue, world_of}

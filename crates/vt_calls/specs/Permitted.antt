@@ -4,7 +4,7 @@ use Rattle.vt_spec.specs.declared.errors.Deny.{Deny}
 use Rattle.vt_spec.specs.Language.Calls.{Call, TaskName}
 use Rattle.vt_spec.specs.Machine.Judge.{judge_in}
 use Rattle.vt_spec.specs.Machine.World.{Task, task_called}
-use Rattle.vt_laws_runs.specs.Handed.{counts_from}
+use Rattle.vt_laws_trees.specs.Runs.Handed.{counts_from}
 use Rattle.vt_laws_trees.specs.Trees.Limits.{names_few_groups}
 use Rattle.vt_request.specs.Kinds.{kind_of}
 use Rattle.vt_request.specs.declared.answer.Answer.{Answer}

@@ -8,12 +8,12 @@ use Rattle.vt_spec.specs.Machine.Locked.{overlay_or}
 use Rattle.vt_spec.specs.Machine.Settled.{filesystem_lives, has_layer_on, is_mounted, settled, without_dead_mounts}
 use Rattle.vt_spec.specs.Machine.World.{Filesystem, Overlay, World, is_overlay, layers_of}
 use Rattle.vt_spec.proofs.Truths.{one_more_is_some}
-use Rattle.vt_laws_counts.specs.OverlaysStay.{HasNoLayerIn, layer_count}
-use Rattle.vt_laws_counts.proofs.overlays.Living.{lives_while_mounted, overlays_are_mounted, overlays_are_no_layers, overlays_use_filesystems}
-use Rattle.vt_laws_counts.proofs.overlays.NamedStay.{named_overlays_stay}
-use Rattle.vt_laws_letting_go.proofs.Lists.{Among, all_from_among, among-filter, among-from_filter, among_from_all, any-filter, any_passes, filter_alike, filter_twice, one_passes, or_first, or_second}
-use Rattle.vt_laws_letting_go.specs.TreesOverlays.{in_use_of}
-use Rattle.vt_laws_letting_go.proofs.sweeps.UsesCounted.{mounted_while_counted}
+use Rattle.vt_laws_mounts.specs.Counts.OverlaysStay.{HasNoLayerIn, layer_count}
+use Rattle.vt_laws_mounts.proofs.counts.overlays.Living.{lives_while_mounted, overlays_are_mounted, overlays_are_no_layers, overlays_use_filesystems}
+use Rattle.vt_laws_mounts.proofs.counts.overlays.NamedStay.{named_overlays_stay}
+use Rattle.vt_laws_mounts.proofs.letting_go.Lists.{Among, all_from_among, among-filter, among-from_filter, among_from_all, any-filter, any_passes, filter_alike, filter_twice, one_passes, or_first, or_second}
+use Rattle.vt_laws_mounts.specs.LettingGo.TreesOverlays.{in_use_of}
+use Rattle.vt_laws_mounts.proofs.letting_go.sweeps.UsesCounted.{mounted_while_counted}
 use Rattle.vt_world.specs.Held.{IsHeld}
 use Rattle.vt_world.specs.WorldValue.{WorldValue, overlays_seen, world_of}
 use Rattle.vt_detach.proofs.Overlaid.{AreStillMounted, KeepsOverlays, named_midway, overlays_are}

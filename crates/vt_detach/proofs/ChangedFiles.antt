@@ -17,33 +17,33 @@ use Rattle.vt_spec.specs.Machine.World.{Filesystem, Task, World, filesystem_at, 
 use Rattle.vt_spec.specs.Machine.Invariants.{IsWorld}
 use Rattle.vt_spec.specs.Fits.{Fits}
 use Rattle.vt_spec.specs.Inodes.{Inodes, changed, node_in, tree_of}
-use Rattle.vt_laws_counts.specs.BesideOverlays.{IsChangeOfPlain}
-use Rattle.vt_laws_counts.specs.Changing.{LinksWhatIsThere, after_change, filesystem_of}
-use Rattle.vt_laws_counts.specs.Counted.{IsCounted}
-use Rattle.vt_laws_counts.specs.OverlaysStay.{layer_count}
-use Rattle.vt_laws_counts.proofs.Alike.{any_same_worlds_count_alike}
-use Rattle.vt_laws_counts.proofs.changing.Changes.{counts_follow_changes_beside_overlays, only_files_change_beside_overlays, other_counts_stay_beside_overlays}
-use Rattle.vt_laws_counts.proofs.Listed.{same_numbers_are_permuted}
-use Rattle.vt_laws_counts.proofs.changing.SameAfter.{counted_changes_are_swept_beside_overlays}
-use Rattle.vt_laws_counts.proofs.using.Exchanged.{numbers_mapped}
+use Rattle.vt_laws_mounts.specs.Counts.BesideOverlays.{IsChangeOfPlain}
+use Rattle.vt_laws_mounts.specs.Counts.Changing.{LinksWhatIsThere, after_change, filesystem_of}
+use Rattle.vt_laws_mounts.specs.Counts.Counted.{IsCounted}
+use Rattle.vt_laws_mounts.specs.Counts.OverlaysStay.{layer_count}
+use Rattle.vt_laws_mounts.proofs.counts.Alike.{any_same_worlds_count_alike}
+use Rattle.vt_laws_mounts.proofs.counts.changing.Changes.{counts_follow_changes_beside_overlays, only_files_change_beside_overlays, other_counts_stay_beside_overlays}
+use Rattle.vt_laws_mounts.proofs.counts.Listed.{same_numbers_are_permuted}
+use Rattle.vt_laws_mounts.proofs.counts.changing.SameAfter.{counted_changes_are_swept_beside_overlays}
+use Rattle.vt_laws_mounts.proofs.counts.using.Exchanged.{numbers_mapped}
 use Rattle.vt_fs.specs.FilesystemsValue.{ChangesInodes, FilesystemEntry, Filesystems, Shown, entry_of, files_seen, filesystem_seen, filesystems_seen, inodes_seen, numbers_seen, shown_entry, shown_if}
 use Rattle.vt_laws_rules.specs.Numbers.{IsSuppliedFrom, KeepsTo}
-use Rattle.vt_laws_letting_go.specs.Counts.{mounts_showing}
-use Rattle.vt_laws_letting_go.specs.TreeChanges.{with_tree}
-use Rattle.vt_laws_letting_go.proofs.Lists.{Among, all_from_among, among_from_all}
+use Rattle.vt_laws_mounts.specs.LettingGo.Counts.{mounts_showing}
+use Rattle.vt_laws_mounts.specs.LettingGo.TreeChanges.{with_tree}
+use Rattle.vt_laws_mounts.proofs.letting_go.Lists.{Among, all_from_among, among_from_all}
 use Rattle.vt_location.specs.Numbers.{counted, is_own_number}
 use Rattle.vt_location.proofs.NumberLemmas.{counted_same, counted_test}
-use Rattle.vt_laws_permits.specs.Named.{permit_named}
-use Rattle.vt_laws_permits.proofs.named.PermitsKeepTo.{permits_keep_to_numbers}
-use Rattle.vt_laws_letting_go.proofs.sweeps.OfWorlds.{found_filesystem}
-use Rattle.vt_laws_one_text.proofs.same.SameNumbers.{any_same_worlds_keep_to_numbers}
-use Rattle.vt_laws_overlays_stay.specs.Woven.{are_rising}
-use Rattle.vt_laws_overlays_stay.proofs.left.Given.{same_gives_no_upper}
-use Rattle.vt_laws_overlays_stay.proofs.weaving.WovenLists.{woven_lists_are_alike}
-use Rattle.vt_laws_runs.specs.Handed.{is_counted_before}
-use Rattle.vt_laws_runs.proofs.answered.AlikeWorlds.{sameness_is_an_equivalence}
-use Rattle.vt_laws_overlays_read.specs.Writers.{WritersHaveLayers}
-use Rattle.vt_laws_overlays_read.proofs.writers.Swept.{same_worlds_have_layers_alike}
+use Rattle.vt_laws_worlds.specs.Permits.Named.{permit_named}
+use Rattle.vt_laws_worlds.proofs.permits.named.PermitsKeepTo.{permits_keep_to_numbers}
+use Rattle.vt_laws_mounts.proofs.letting_go.sweeps.OfWorlds.{found_filesystem}
+use Rattle.vt_laws_worlds.proofs.one_text.same.SameNumbers.{any_same_worlds_keep_to_numbers}
+use Rattle.vt_laws_worlds.specs.OverlaysStay.Woven.{are_rising}
+use Rattle.vt_laws_worlds.proofs.overlays_stay.left.Given.{same_gives_no_upper}
+use Rattle.vt_laws_worlds.proofs.overlays_stay.weaving.WovenLists.{woven_lists_are_alike}
+use Rattle.vt_laws_trees.specs.Runs.Handed.{is_counted_before}
+use Rattle.vt_laws_trees.proofs.runs.answered.AlikeWorlds.{sameness_is_an_equivalence}
+use Rattle.vt_laws_worlds.specs.OverlaysRead.Writers.{WritersHaveLayers}
+use Rattle.vt_laws_worlds.proofs.overlays_read.Swept.{same_worlds_have_layers_alike}
 use Rattle.vt_detach.proofs.Writers.{left_writers}
 use Rattle.vt_detach.specs.Events.{Becomes, Permits, left_by, supply_of}
 use Rattle.vt_world.specs.Held.{CountsItsMounts, CountsItsUses, CountsWhatIsInIt, HasOwnInodes, IsHeld}

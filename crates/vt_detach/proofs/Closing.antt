@@ -10,8 +10,8 @@ use Rattle.vt_spec.specs.Machine.Rules.Descriptors.{descriptor_numbered}
 use Rattle.vt_spec.specs.Machine.World.{Descriptor, Task, all_locations, task_called}
 use Rattle.vt_spec.specs.Machine.Invariants.{are_ascending_from, is_located_well}
 use Rattle.vt_fs.specs.FilesystemsValue.{Filesystems}
-use Rattle.vt_laws_letting_go.specs.Counts.{times}
-use Rattle.vt_laws_letting_go.proofs.Lists.{Among, among-append_right, passes, times_around}
+use Rattle.vt_laws_mounts.specs.LettingGo.Counts.{times}
+use Rattle.vt_laws_mounts.proofs.letting_go.Lists.{Among, among-append_right, passes, times_around}
 use Rattle.vt_location.specs.Locations.{is_small_node, location_of, number_of}
 use Rattle.vt_location.specs.Numbers.{counted}
 use Rattle.vt_mount.specs.MountsValue.{MountEntry}

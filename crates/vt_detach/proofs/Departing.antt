@@ -13,7 +13,7 @@ use Rattle.vt_spec.specs.Machine.World.{Namespace, Task, World, mount_at}
 use Rattle.vt_spec.specs.Machine.Invariants.{is_listed}
 use Rattle.vt_fs.specs.FilesystemsValue.{Filesystems}
 use Rattle.vt_group.specs.Grouping.{Grouping}
-use Rattle.vt_laws_letting_go.proofs.Lists.{Among, filter_alike, passes}
+use Rattle.vt_laws_mounts.proofs.letting_go.Lists.{Among, filter_alike, passes}
 use Rattle.vt_location.specs.Numbers.{counted}
 use Rattle.vt_mount.specs.MountsValue.{MountEntry}
 use Rattle.vt_tasks.specs.TasksValue.{Tasks}
@@ -97,7 +97,7 @@ module _ (value : WorldValue) (whole : IsHeld value) (tasks : Tasks) (more less 
       (folded (Rattle.vt_detach.proofs.Moving.gain world) (kept_of value) more)
       (gained_typed value.groups world more (kept_of value) (own_types value whole))
 
-  abbrev gained : List Rattle.vt_laws_letting_go.specs.OneByOne.Inode
+  abbrev gained : List Rattle.vt_laws_mounts.specs.LettingGo.OneByOne.Inode
   gained = inodes_of_uses world more
 
   abbrev k_gained : Kept

@@ -5,14 +5,14 @@ use Rattle.std.specs.Prelude.{IfSome, option_to_list}
 use Rattle.vt_spec.specs.Lists.{folded, is_among}
 use Rattle.vt_spec.specs.Machine.Mounts.{Mount, detached, mount_in, no_mount}
 use Rattle.vt_spec.specs.Machine.World.{World, mount_at}
-use Rattle.vt_laws_counts.specs.OverlaysStay.{layer_count}
-use Rattle.vt_laws_counts.specs.Using.{Exchanges, pinned_if, unpinned_if}
+use Rattle.vt_laws_mounts.specs.Counts.OverlaysStay.{layer_count}
+use Rattle.vt_laws_mounts.specs.Counts.Using.{Exchanges, pinned_if, unpinned_if}
 use Rattle.vt_fs.specs.FilesystemsValue.{Shown, inodes_seen}
-use Rattle.vt_laws_letting_go.specs.Counts.{mounts_showing}
-use Rattle.vt_laws_letting_go.specs.Detaching.{detached_if}
-use Rattle.vt_laws_letting_go.specs.Mounting.{inode_at}
-use Rattle.vt_laws_letting_go.specs.OneByOne.{Inode}
-use Rattle.vt_laws_letting_go.proofs.Lists.{Among, all_from_among, among-from_map, among-map, among_from_all, found_in}
+use Rattle.vt_laws_mounts.specs.LettingGo.Counts.{mounts_showing}
+use Rattle.vt_laws_mounts.specs.LettingGo.Detaching.{detached_if}
+use Rattle.vt_laws_mounts.specs.LettingGo.Mounting.{inode_at}
+use Rattle.vt_laws_mounts.specs.LettingGo.OneByOne.{Inode}
+use Rattle.vt_laws_mounts.proofs.letting_go.Lists.{Among, all_from_among, among-from_map, among-map, among_from_all, found_in}
 use Rattle.vt_location.specs.declared.locations.Location.{Location}
 use Rattle.vt_location.specs.Locations.{is_small_node, location_of, number_of}
 use Rattle.vt_location.specs.Numbers.{counted}

@@ -9,20 +9,20 @@ use Rattle.vt_spec.specs.Machine.Mounts.{Location as Place, Mount, detached, mou
 use Rattle.vt_spec.specs.Machine.Settled.{filesystem_lives, has_layer_on, is_mounted, mount_lives, without_dead_filesystems}
 use Rattle.vt_spec.specs.Machine.World.{Filesystem, World, all_locations, mount_at, with_mounts}
 use Rattle.vt_spec.specs.Machine.Invariants.{is_nowhere_or_attached}
-use Rattle.vt_laws_counts.specs.OverlaysStay.{layer_count}
-use Rattle.vt_laws_counts.specs.Using.{Exchanges}
-use Rattle.vt_laws_counts.proofs.using.Places.{exchanges_follow, mount_is_placed}
+use Rattle.vt_laws_mounts.specs.Counts.OverlaysStay.{layer_count}
+use Rattle.vt_laws_mounts.specs.Counts.Using.{Exchanges}
+use Rattle.vt_laws_mounts.proofs.counts.using.Places.{exchanges_follow, mount_is_placed}
 use Rattle.vt_fs.specs.FilesystemsValue.{Shown}
-use Rattle.vt_laws_letting_go.specs.Counts.{mounts_showing, times}
-use Rattle.vt_laws_letting_go.specs.Detaching.{detached_if, without_place}
-use Rattle.vt_laws_letting_go.specs.InUse.{FilesystemsInUse}
-use Rattle.vt_laws_letting_go.specs.Keeping.{LocationsStand}
-use Rattle.vt_laws_letting_go.specs.Leaving.{MountsStand, stands_on_attached}
-use Rattle.vt_laws_letting_go.specs.Mounting.{inode_at}
-use Rattle.vt_laws_letting_go.specs.OneByOne.{Inode, MountsInUseBut}
-use Rattle.vt_laws_letting_go.specs.OneByOne as Looks
-use Rattle.vt_laws_letting_go.proofs.Lists.{Among, all_from_among, all_pass, among-from_map, among_from_all, any-filter, any-map, any_passes, among-from_filter, fails, filter_all, filter_alike, filter_twice, map_same, one_passes, or_second, passes, found_in}
-use Rattle.vt_laws_letting_go.proofs.sweeps.OneByOne.{mounts_go_one_by_one}
+use Rattle.vt_laws_mounts.specs.LettingGo.Counts.{mounts_showing, times}
+use Rattle.vt_laws_mounts.specs.LettingGo.Detaching.{detached_if, without_place}
+use Rattle.vt_laws_mounts.specs.LettingGo.InUse.{FilesystemsInUse}
+use Rattle.vt_laws_mounts.specs.LettingGo.Keeping.{LocationsStand}
+use Rattle.vt_laws_mounts.specs.LettingGo.Leaving.{MountsStand, stands_on_attached}
+use Rattle.vt_laws_mounts.specs.LettingGo.Mounting.{inode_at}
+use Rattle.vt_laws_mounts.specs.LettingGo.OneByOne.{Inode, MountsInUseBut}
+use Rattle.vt_laws_mounts.specs.LettingGo.OneByOne as Looks
+use Rattle.vt_laws_mounts.proofs.letting_go.Lists.{Among, all_from_among, all_pass, among-from_map, among_from_all, any-filter, any-map, any_passes, among-from_filter, fails, filter_all, filter_alike, filter_twice, map_same, one_passes, or_second, passes, found_in}
+use Rattle.vt_laws_mounts.proofs.letting_go.sweeps.OneByOne.{mounts_go_one_by_one}
 use Rattle.vt_location.specs.Numbers.{counted}
 use Rattle.vt_mount.specs.MountsValue.{mounts_in}
 use Rattle.vt_world.specs.Held.{CountsItsUses}
@@ -36,7 +36,7 @@ use Rattle.vt_detach.proofs.Moving.{map_itself, swap_eq}
 use Rattle.vt_detach.proofs.MountsLeave.{leaves_alike, merged_alike}
 use Rattle.vt_spec.proofs.Lists.{map_alike, map_twice}
 use Rattle.vt_spec.proofs.Worlds.{shown-mapped}
-use Rattle.vt_laws_letting_go.specs.TreesOverlays.{in_use_of}
+use Rattle.vt_laws_mounts.specs.LettingGo.TreesOverlays.{in_use_of}
 
 -- the world with these mounts detached
 abbrev pub detached_world : List ℕ → World ℕ → World ℕ

@@ -10,7 +10,7 @@ use Rattle.vt_spec.specs.Lists.{holds_of}
 use Rattle.vt_spec.specs.Machine.Mounts.{Mount}
 use Rattle.vt_fs.specs.FilesystemsValue.{Filesystems}
 use Rattle.vt_group.specs.Grouping.{Grouping}
-use Rattle.vt_laws_letting_go.proofs.Lists.{Among, among-from_filter, among-from_map, among-map, filter-map, none_passes, passes}
+use Rattle.vt_laws_mounts.proofs.letting_go.Lists.{Among, among-from_filter, among-from_map, among-map, filter-map, none_passes, passes}
 use Rattle.vt_location.specs.declared.locations.Location.{Location}
 use Rattle.vt_location.specs.declared.numbers.MountId.{MountId}
 use Rattle.vt_location.specs.Locations.{is_small_node, location_of}
@@ -117,7 +117,7 @@ none_listed entries namespace ids listed none =
     by entry m true e =
         let here = among-map (λ (x : Mount ℕ). x.number)
         (filter (λ mount. holds_of (nat_eq namespace) mount.namespace) (mounts_in entries)) entry.mount
-        (Rattle.vt_laws_letting_go.proofs.Lists.among-filter (λ (x : Mount ℕ). holds_of (nat_eq namespace) x.namespace)
+        (Rattle.vt_laws_mounts.proofs.letting_go.Lists.among-filter (λ (x : Mount ℕ). holds_of (nat_eq namespace) x.namespace)
         (mounts_in entries) entry.mount
         (among-map (λ (one : MountEntry). one.mount) entries entry m) e) in
         absurd (subst (λ all. Among entry.mount.number all) empty here)

@@ -14,8 +14,8 @@ use Rattle.vt_spec.specs.Machine.World.{Descriptor, Task, World, all_locations, 
 use Rattle.vt_spec.specs.Machine.Invariants.{is_located_well}
 use Rattle.vt_fs.specs.FilesystemsValue.{Filesystems}
 use Rattle.vt_group.specs.Grouping.{Grouping}
-use Rattle.vt_laws_letting_go.specs.Counts.{times}
-use Rattle.vt_laws_letting_go.proofs.Lists.{Among, among-append_left, among-append_right, among-map, among_from_all, passes}
+use Rattle.vt_laws_mounts.specs.LettingGo.Counts.{times}
+use Rattle.vt_laws_mounts.proofs.letting_go.Lists.{Among, among-append_left, among-append_right, among-map, among_from_all, passes}
 use Rattle.vt_location.specs.declared.locations.Location.{Location}
 use Rattle.vt_location.specs.Locations.{is_small_node, location_of, number_of}
 use Rattle.vt_location.specs.Numbers.{counted}
@@ -254,7 +254,7 @@ task_exits value name task files left mounts groups filesystems overlays namespa
     name ToExit meant_task
     (record {
       called = called_so;
-      given = subst (λ one. Rattle.vt_laws_permits.specs.Left.IsGiven
+      given = subst (λ one. Rattle.vt_laws_worlds.specs.Permits.Left.IsGiven
           (Rattle.vt_detach.specs.Events.supply_of value ToExit) (world_of value) one ToExit)
           (same_Some permits.task meant_task (sym permits.called ∙ called_so)) permits.given;
       named = refl;

@@ -10,18 +10,18 @@ use Rattle.vt_spec.specs.Machine.Permits.Permit.{ToChange}
 use Rattle.vt_spec.specs.Machine.World.{filesystem_at, is_overlay}
 use Rattle.vt_spec.specs.Fits.{Fits}
 use Rattle.vt_spec.specs.Inodes.{changed, tree_of}
-use Rattle.vt_laws_calls.specs.Inodes.{change_of}
-use Rattle.vt_laws_counts.specs.Changing.{LinksWhatIsThere}
+use Rattle.vt_laws_trees.specs.Calls.Inodes.{change_of}
+use Rattle.vt_laws_mounts.specs.Counts.Changing.{LinksWhatIsThere}
 use Rattle.vt_fs.specs.FilesystemsValue.{ChangesInodes, Filesystems, inodes_at, inodes_seen}
 use Rattle.vt_location.specs.declared.locations.Location.{Location}
 use Rattle.vt_location.specs.Locations.{location_of, number_of}
 use Rattle.vt_location.specs.Numbers.{is_own_number}
-use Rattle.vt_laws_permits.specs.Named.{change_named}
-use Rattle.vt_laws_permits.specs.Sees.{SeesToChange}
-use Rattle.vt_laws_permits.proofs.sees.SeesFit.{given_changes_fit}
-use Rattle.vt_laws_permits.proofs.sees.SeesTasks.{given_permits_are_seen_to}
-use Rattle.vt_laws_overlays_read.proofs.writers.Changes.{plain_ones_are_changed}
-use Rattle.vt_laws_runs.specs.Handed.{is_counted_before}
+use Rattle.vt_laws_worlds.specs.Permits.Named.{change_named}
+use Rattle.vt_laws_worlds.specs.Permits.Sees.{SeesToChange}
+use Rattle.vt_laws_worlds.proofs.permits.sees.SeesFit.{given_changes_fit}
+use Rattle.vt_laws_worlds.proofs.permits.sees.SeesTasks.{given_permits_are_seen_to}
+use Rattle.vt_laws_worlds.proofs.overlays_read.Changes.{plain_ones_are_changed}
+use Rattle.vt_laws_trees.specs.Runs.Handed.{is_counted_before}
 use Rattle.vt_laws_worlds.specs.Worlds.Permits.{IsFitPermit}
 use Rattle.vt_laws_worlds.proofs.worlds.FitPermitsNamed.{all_permits_fit}
 use Rattle.vt_detach.specs.Events.{Permits, supply_of}

@@ -14,7 +14,7 @@ use Rattle.vt_spec.specs.TreeInvariant.{IsTree}
 use Rattle.vt_fs.specs.FilesystemsValue.{FilesystemEntry, Filesystems, entry_of, files_at, filesystem_seen, filesystems_seen, inodes_at, inodes_seen, no_entry}
 use Rattle.vt_laws_rules.specs.Numbers.{location_named}
 use Rattle.vt_laws_rules.proofs.numbers.Supports.{used_numbers_are_named}
-use Rattle.vt_laws_letting_go.proofs.Lists.{Among, among_from_all, among-map, fails}
+use Rattle.vt_laws_mounts.proofs.letting_go.Lists.{Among, among_from_all, among-map, fails}
 use Rattle.vt_location.specs.declared.locations.Location.{Location}
 use Rattle.vt_location.specs.declared.locations.NodeRef.{NodeRef}
 use Rattle.vt_location.specs.declared.births.Birth.TheVariants.{Here}
@@ -23,13 +23,13 @@ use Rattle.vt_location.specs.Locations.{location_of, number_of}
 use Rattle.vt_location.specs.Numbers.{counted, inode_number, is_own_number}
 use Rattle.vt_location.proofs.NodeLemmas.{own_birth, own_count}
 use Rattle.vt_location.proofs.NumberLemmas.{counted_same, counted_test}
-use Rattle.vt_laws_runs.specs.Handed.{is_counted_before}
+use Rattle.vt_laws_trees.specs.Runs.Handed.{is_counted_before}
 use Rattle.vt_world.specs.Held.{HasOwnInodes, IsHeld}
 use Rattle.vt_world.specs.WorldValue.{WorldValue, world_of}
 use Rattle.vt_detach.proofs.Overlaid.{found_plain_one, plain_one_among}
 use Rattle.vt_detach.proofs.PlainFound.{found_where_plain}
 use Rattle.vt_detach.proofs.FilesystemsFound.{found as filesystem_found, found_if}
-use Rattle.vt_laws_permits.proofs.in_use.InUseServes.{leaves_two}
+use Rattle.vt_laws_worlds.proofs.permits.in_use.InUseServes.{leaves_two}
 use Rattle.vt_spec.proofs.Found.{is_among_left}
 
 -- Filesystems by their counts

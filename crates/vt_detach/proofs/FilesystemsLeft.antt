@@ -1,7 +1,7 @@
 -- A mount or a layer goes, and the filesystem goes if neither is left in it.
 use Rattle.std.proofs.Common.{◌≡◌, refl, sym, ℕ, nat_eq, Bool, true, false, cond, not, ◌||◌, List, filter}
 use Rattle.vt_fs.specs.FilesystemsValue.{Shown}
-use Rattle.vt_laws_letting_go.proofs.Lists.{filter_all}
+use Rattle.vt_laws_mounts.proofs.letting_go.Lists.{filter_all}
 use Rattle.vt_location.specs.Numbers.{counted}
 use Rattle.vt_detach.specs.Uses as meant
 use Rattle.vt_detach.specs.Uses.{mounts_shown}

@@ -9,8 +9,8 @@ use Rattle.vt_spec.specs.Machine.World.{World}
 use Rattle.vt_group.specs.Grouping.{Grouping, Has, propagation_in}
 use Rattle.vt_group.specs.Laws.{shown, typed_by}
 use Rattle.vt_group.proofs.Showing.{shows_types}
-use Rattle.vt_laws_letting_go.specs.Mounting.{inode_at}
-use Rattle.vt_laws_letting_go.proofs.Lists.{Among, all_from_among, among-from_filter, among-from_map, among-map, among_from_all, or_second}
+use Rattle.vt_laws_mounts.specs.LettingGo.Mounting.{inode_at}
+use Rattle.vt_laws_mounts.proofs.letting_go.Lists.{Among, all_from_among, among-from_filter, among-from_map, among-map, among_from_all, or_second}
 use Rattle.vt_mount.specs.MountsValue.{MountEntry, changed, entry_numbered, held, released}
 use Rattle.vt_detach.specs.Detached.{LeaveInTurn}
 use Rattle.vt_retype.specs.Retyping.{AreTyped, AreTypedBut, HaveNoSource, typed_entry}

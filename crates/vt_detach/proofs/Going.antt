@@ -10,20 +10,20 @@ use Rattle.vt_spec.specs.Machine.Permits.{Permit}
 use Rattle.vt_spec.specs.Machine.Settled.{is_located, is_mounted, without_dead_filesystems, without_dead_mounts}
 use Rattle.vt_spec.specs.Machine.World.{Filesystem, Task, World, all_locations, is_overlay, mount_numbered}
 use Rattle.vt_spec.specs.Machine.Invariants.{is_located_well}
-use Rattle.vt_laws_counts.specs.OverlaysStay.{layer_count, mounted_layer_count}
-use Rattle.vt_laws_counts.specs.Using.{Exchanges, exchanged}
-use Rattle.vt_laws_counts.proofs.going.Gone.{mount_takes_its_count}
-use Rattle.vt_laws_counts.proofs.using.MountRoots as Roots
-use Rattle.vt_laws_counts.proofs.using.Places.{exchanges_follow}
+use Rattle.vt_laws_mounts.specs.Counts.OverlaysStay.{layer_count, mounted_layer_count}
+use Rattle.vt_laws_mounts.specs.Counts.Using.{Exchanges, exchanged}
+use Rattle.vt_laws_mounts.proofs.counts.going.Gone.{mount_takes_its_count}
+use Rattle.vt_laws_mounts.proofs.counts.using.MountRoots as Roots
+use Rattle.vt_laws_mounts.proofs.counts.using.Places.{exchanges_follow}
 use Rattle.vt_fs.specs.FilesystemsValue.{FilesystemEntry, Filesystems, Shown, filesystem_seen, inodes_seen, shown, shown_entry}
-use Rattle.vt_laws_letting_go.specs.Counts.{mount_uses, mounts_showing, times}
-use Rattle.vt_laws_letting_go.specs.Keeping.{LocationsStand}
-use Rattle.vt_laws_letting_go.specs.Leaving.{MountsStand}
-use Rattle.vt_laws_letting_go.specs.Mounting.{inode_at}
-use Rattle.vt_laws_letting_go.specs.OneByOne.{Inode, is_mount_used, without_mount}
-use Rattle.vt_laws_letting_go.proofs.Lists.{Among, all_from_among, all_pass, among-append, among-append_left, among-append_right, among-from_filter, among-from_map, among-map, among_from_all, passes}
-use Rattle.vt_laws_letting_go.proofs.sweeps.OfWorlds.{mounts_of_worlds_stand}
-use Rattle.vt_laws_letting_go.proofs.sweeps.UsesCounted.{located_while_counted}
+use Rattle.vt_laws_mounts.specs.LettingGo.Counts.{mount_uses, mounts_showing, times}
+use Rattle.vt_laws_mounts.specs.LettingGo.Keeping.{LocationsStand}
+use Rattle.vt_laws_mounts.specs.LettingGo.Leaving.{MountsStand}
+use Rattle.vt_laws_mounts.specs.LettingGo.Mounting.{inode_at}
+use Rattle.vt_laws_mounts.specs.LettingGo.OneByOne.{Inode, is_mount_used, without_mount}
+use Rattle.vt_laws_mounts.proofs.letting_go.Lists.{Among, all_from_among, all_pass, among-append, among-append_left, among-append_right, among-from_filter, among-from_map, among-map, among_from_all, passes}
+use Rattle.vt_laws_mounts.proofs.letting_go.sweeps.OfWorlds.{mounts_of_worlds_stand}
+use Rattle.vt_laws_mounts.proofs.letting_go.sweeps.UsesCounted.{located_while_counted}
 use Rattle.vt_location.specs.Numbers.{counted}
 use Rattle.vt_mount.specs.MountsValue.{MountEntry, mounts_in, without}
 use Rattle.vt_tasks.specs.TasksValue.{Tasks}
@@ -45,7 +45,7 @@ use Rattle.vt_detach.proofs.OverlaysKept.{merged_then}
 use Rattle.vt_detach.proofs.OverlaysRemade.{counted_kept, seen_kept}
 use Rattle.vt_detach.proofs.Overlaid.{KeepsOverlays, is_plain_one, keeps_itself, layers_of_fewer, overlay_apart, plain_ones_are, same_files_keep}
 use Rattle.vt_spec.proofs.Lists.{map_alike, map_twice}
-use Rattle.vt_laws_letting_go.specs.TreesOverlays.{in_use_of}
+use Rattle.vt_laws_mounts.specs.LettingGo.TreesOverlays.{in_use_of}
 
 -- Lists
 

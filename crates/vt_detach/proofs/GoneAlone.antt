@@ -8,13 +8,13 @@ use Rattle.vt_spec.specs.Machine.World.{World}
 use Rattle.vt_spec.specs.Machine.Invariants.{HasLivingGroups, Lives}
 use Rattle.vt_group.specs.Grouping.{Grouping, Has, peer_of, peers_of}
 use Rattle.vt_group.proofs.Together.{regrouped_living}
-use Rattle.vt_laws_letting_go.proofs.Lists.{Among, all_from_among, among-from_map, among_from_all}
+use Rattle.vt_laws_mounts.proofs.letting_go.Lists.{Among, all_from_among, among-from_map, among_from_all}
 use Rattle.vt_detach.proofs.DetachingBegins.{detached_world}
 use Rattle.vt_detach.proofs.Grouped.{alike_has, members_alike, no_peer, rising_mapped}
 use Rattle.vt_detach.proofs.Keeping.{detached_in}
 use Rattle.vt_detach.proofs.MountsGone.{pending_number}
 use Rattle.vt_laws_mounts.specs.Mounts.Receivers.{AllGroupsLive}
-use Rattle.vt_laws_permits.specs.Taken.{is_ungrouped}
+use Rattle.vt_laws_worlds.specs.Permits.Taken.{is_ungrouped}
 
 module _ (world : World ℕ) (groups : Grouping) (has : Has world groups) (live : AllGroupsLive world) (gone : List ℕ)
     (free : (mount : Mount ℕ) → Among mount world.mounts → is_among nat_eq mount.number gone ≡ true

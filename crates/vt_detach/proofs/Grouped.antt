@@ -11,13 +11,13 @@ use Rattle.vt_spec.specs.Machine.Invariants.{IsWorld, is_nowhere_or_attached, is
 use Rattle.vt_group.specs.Grouping.{Grouping, Has, are_rising, master_in, peers_of}
 use Rattle.vt_group.specs.Steps.{is_member}
 use Rattle.vt_group.proofs.Peers.{members-peers}
-use Rattle.vt_laws_letting_go.proofs.Lists.{Among, among-from_map, passes}
+use Rattle.vt_laws_mounts.proofs.letting_go.Lists.{Among, among-from_map, passes}
 use Rattle.vt_mount.specs.MountsValue.{mounts_in}
 use Rattle.vt_world.specs.Held.{IsHeld}
 use Rattle.vt_world.specs.WorldValue.{WorldValue, world_of}
 use Rattle.vt_spec.proofs.Truths.{or_false_left}
 use Rattle.vt_laws_mounts.specs.Mounts.Attaching.{numbers_of}
-use Rattle.vt_laws_permits.specs.Taken.{is_ungrouped}
+use Rattle.vt_laws_worlds.specs.Permits.Taken.{is_ungrouped}
 
 -- The same mounts in groups
 

@@ -4,10 +4,10 @@ use Rattle.std.proofs.Math.Bool.{or-false, or-true}
 use Rattle.vt_spec.specs.Lists.{folded}
 use Rattle.vt_spec.proofs.Lists.{map_alike, map_twice}
 use Rattle.vt_fs.specs.FilesystemsValue.{Shown}
-use Rattle.vt_laws_counts.specs.Using.{unpinned_if}
-use Rattle.vt_laws_letting_go.specs.Counts.{times}
-use Rattle.vt_laws_letting_go.specs.OneByOne.{Inode}
-use Rattle.vt_laws_letting_go.proofs.Lists.{Among, among-from_filter, among-from_map, filter-map, filter_all, filter_alike, filter_less}
+use Rattle.vt_laws_mounts.specs.Counts.Using.{unpinned_if}
+use Rattle.vt_laws_mounts.specs.LettingGo.Counts.{times}
+use Rattle.vt_laws_mounts.specs.LettingGo.OneByOne.{Inode}
+use Rattle.vt_laws_mounts.proofs.letting_go.Lists.{Among, among-from_filter, among-from_map, filter-map, filter_all, filter_alike, filter_less}
 use Rattle.vt_location.specs.Numbers.{counted}
 use Rattle.vt_detach.specs.Uses.{mounts_shown, released_if, without_layer}
 use Rattle.vt_detach.proofs.FilesystemsLeft.{let_go_is, stays_at}

@@ -14,8 +14,8 @@ use Rattle.vt_spec.specs.Machine.Locked.{of_overlay}
 use Rattle.vt_spec.specs.Machine.World.{Filesystem, World, filesystem_numbered, is_overlay, layers_of}
 use Rattle.vt_spec.specs.Tree.{is_directory_node}
 use Rattle.vt_spec.specs.TreeInvariant.{IsTree}
-use Rattle.vt_laws_letting_go.proofs.Lists.{Among, all_from_among, among-map, among_from_all, passes}
-use Rattle.vt_laws_overlays_kept.specs.Kept.{ShowsLayer}
+use Rattle.vt_laws_mounts.proofs.letting_go.Lists.{Among, all_from_among, among-map, among_from_all, passes}
+use Rattle.vt_world.specs.OverlaysKept.Kept.{ShowsLayer}
 use Rattle.vt_laws_trees.proofs.trees.TreesOfWorlds.{numbered_all}
 use Rattle.vt_location.specs.Locations.{inode_of}
 use Rattle.vt_location.specs.Numbers.{counted, is_inode_of}

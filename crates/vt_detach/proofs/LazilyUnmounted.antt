@@ -12,9 +12,9 @@ use Rattle.vt_spec.specs.Machine.Receives.{regrouped}
 use Rattle.vt_spec.specs.Machine.World.{World, mount_at, mount_numbered, with_mounts}
 use Rattle.vt_spec.specs.Machine.Invariants.{HasLivingGroups, Lives, MountInvariants, is_nowhere_or_attached, is_private}
 use Rattle.vt_spec.proofs.Lists as Spec
-use Rattle.vt_laws_letting_go.proofs.Lists.{Among, all_from_among, among-flat_map, among_from_all, among-from_filter, among-from_flat_map, among-from_map, among-map, among_numbers, is_among_numbers, passes, found_in}
-use Rattle.vt_laws_letting_go.proofs.mounting.MountingTaken as Taken
-use Rattle.vt_laws_letting_go.proofs.leaving.PlacesLeft.{found_is_there, found_itself}
+use Rattle.vt_laws_mounts.proofs.letting_go.Lists.{Among, all_from_among, among-flat_map, among_from_all, among-from_filter, among-from_flat_map, among-from_map, among-map, among_numbers, is_among_numbers, passes, found_in}
+use Rattle.vt_laws_mounts.proofs.letting_go.mounting.MountingTaken as Taken
+use Rattle.vt_laws_mounts.proofs.letting_go.leaving.PlacesLeft.{found_is_there, found_itself}
 use Rattle.vt_laws_mounts.proofs.mounts.Standing.{standing_is_computed}
 use Rattle.vt_laws_mounts.proofs.ends.UnmountingTrees.{trees_closed}
 use Rattle.vt_group.specs.Grouping.{peer_of, peers_of}
@@ -28,9 +28,9 @@ use Rattle.vt_detach.proofs.UnmountedAlone.{goes_apart}
 use Rattle.vt_laws_mounts.proofs.ends.EndingCounts.{tree_placed}
 use Rattle.vt_spec.proofs.Lists.{map_alike, map_twice}
 use Rattle.vt_laws_mounts.specs.Mounts.Receivers.{AllGroupsLive}
-use Rattle.vt_laws_permits.specs.Taken.{is_ungrouped}
-use Rattle.vt_laws_letting_go.specs.Unmounting.{numbers_of_trees}
-pub use Rattle.vt_laws_letting_go.specs.Unmounting.{numbers_of_trees as trees_numbers}
+use Rattle.vt_laws_worlds.specs.Permits.Taken.{is_ungrouped}
+use Rattle.vt_laws_mounts.specs.LettingGo.Unmounting.{numbers_of_trees}
+pub use Rattle.vt_laws_mounts.specs.LettingGo.Unmounting.{numbers_of_trees as trees_numbers}
 
 -- Mounts ordered by their depth are the same mounts
 

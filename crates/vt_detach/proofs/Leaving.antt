@@ -8,16 +8,16 @@ use Rattle.vt_spec.specs.Machine.Mounts.{Mount, no_mount}
 use Rattle.vt_spec.specs.Machine.Permits.{Permit}
 use Rattle.vt_spec.specs.Machine.Settled.{without_dead_mounts}
 use Rattle.vt_spec.specs.Machine.World.{Task, World, all_locations, mount_numbered}
-use Rattle.vt_laws_counts.proofs.going.Gone.{mount_goes_at_zero}
-use Rattle.vt_laws_counts.proofs.using.MountRoots as Roots
+use Rattle.vt_laws_mounts.proofs.counts.going.Gone.{mount_goes_at_zero}
+use Rattle.vt_laws_mounts.proofs.counts.using.MountRoots as Roots
 use Rattle.vt_fs.specs.FilesystemsValue.{Filesystems}
-use Rattle.vt_laws_letting_go.specs.Counts.{mount_uses, times}
-use Rattle.vt_laws_letting_go.specs.OneByOne.{without_mount}
-use Rattle.vt_laws_letting_go.proofs.Lists.{Among, among-append_right, among-from_map, passes, found_in}
-pub use Rattle.vt_laws_letting_go.proofs.Lists.{found_in as found_it}
-use Rattle.vt_laws_letting_go.proofs.sweeps.OneByOne.{mounts_go_one_by_one}
-use Rattle.vt_laws_letting_go.proofs.sweeps.OfWorlds.{mounts_of_worlds_stand}
-use Rattle.vt_laws_letting_go.proofs.leaving.PlacesLeft.{mounts_but}
+use Rattle.vt_laws_mounts.specs.LettingGo.Counts.{mount_uses, times}
+use Rattle.vt_laws_mounts.specs.LettingGo.OneByOne.{without_mount}
+use Rattle.vt_laws_mounts.proofs.letting_go.Lists.{Among, among-append_right, among-from_map, passes, found_in}
+pub use Rattle.vt_laws_mounts.proofs.letting_go.Lists.{found_in as found_it}
+use Rattle.vt_laws_mounts.proofs.letting_go.sweeps.OneByOne.{mounts_go_one_by_one}
+use Rattle.vt_laws_mounts.proofs.letting_go.sweeps.OfWorlds.{mounts_of_worlds_stand}
+use Rattle.vt_laws_mounts.proofs.letting_go.leaving.PlacesLeft.{mounts_but}
 use Rattle.vt_mount.specs.MountsValue.{MountEntry, entry_numbered}
 use Rattle.vt_tasks.specs.TasksValue.{Tasks}
 use Rattle.vt_laws_worlds.proofs.RaisedInUse.{worlds_are_in_use}

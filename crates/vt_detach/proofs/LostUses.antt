@@ -7,11 +7,11 @@ use Rattle.std.proofs.lemmas.Option.{same_Some}
 use Rattle.vt_spec.specs.Lists.{any_pair, folded}
 use Rattle.vt_spec.specs.Machine.Mounts.{Mount}
 use Rattle.vt_spec.specs.Machine.World.{Filesystem, World, filesystem_numbered, no_filesystem}
-use Rattle.vt_laws_counts.specs.Using.{Exchanges, is_inode}
+use Rattle.vt_laws_mounts.specs.Counts.Using.{Exchanges, is_inode}
 use Rattle.vt_fs.specs.FilesystemsValue.{Shown}
-use Rattle.vt_laws_letting_go.specs.Counts.{inode_uses, times}
-use Rattle.vt_laws_letting_go.specs.OneByOne.{Inode}
-use Rattle.vt_laws_letting_go.proofs.Lists.{Among, among-from_filter, among-map, fails, none_passes}
+use Rattle.vt_laws_mounts.specs.LettingGo.Counts.{inode_uses, times}
+use Rattle.vt_laws_mounts.specs.LettingGo.OneByOne.{Inode}
+use Rattle.vt_laws_mounts.proofs.letting_go.Lists.{Among, among-from_filter, among-map, fails, none_passes}
 use Rattle.vt_location.specs.Numbers.{counted}
 use Rattle.vt_mount.specs.MountsValue.{MountEntry, changed, entry_numbered, mounts_in}
 use Rattle.vt_laws_mounts.specs.Mounts.Attaching.{OneNumberAMount}

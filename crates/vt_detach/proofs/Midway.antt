@@ -10,22 +10,22 @@ use Rattle.vt_spec.specs.Lists.{any_pair, folded}
 use Rattle.vt_spec.specs.Machine.Mounts.{Mount, detached}
 use Rattle.vt_spec.specs.Machine.World.{Filesystem, World, is_overlay}
 use Rattle.vt_spec.specs.Machine.Invariants.{is_located_well}
-use Rattle.vt_laws_counts.specs.OverlaysStay.{layer_count}
-use Rattle.vt_laws_counts.specs.Using.{AreThere, Exchanges, exchanged, is_inode, pinned_if, unpinned_if}
+use Rattle.vt_laws_mounts.specs.Counts.OverlaysStay.{layer_count}
+use Rattle.vt_laws_mounts.specs.Counts.Using.{AreThere, Exchanges, exchanged, is_inode, pinned_if, unpinned_if}
 use Rattle.vt_fs.specs.FilesystemsValue.{FilesystemEntry, Shown, inodes_seen}
-use Rattle.vt_laws_letting_go.specs.Counts.{mount_uses, mounts_showing, times}
-use Rattle.vt_laws_letting_go.specs.Keeping.{LocationsStand}
-use Rattle.vt_laws_letting_go.specs.Leaving.{MountsStand}
-use Rattle.vt_laws_letting_go.specs.Mounting.{inode_at}
-use Rattle.vt_laws_letting_go.specs.OneByOne.{Inode}
-use Rattle.vt_laws_letting_go.proofs.Lists.{Among, among-from_map, among-map, fails, map_same}
+use Rattle.vt_laws_mounts.specs.LettingGo.Counts.{mount_uses, mounts_showing, times}
+use Rattle.vt_laws_mounts.specs.LettingGo.Keeping.{LocationsStand}
+use Rattle.vt_laws_mounts.specs.LettingGo.Leaving.{MountsStand}
+use Rattle.vt_laws_mounts.specs.LettingGo.Mounting.{inode_at}
+use Rattle.vt_laws_mounts.specs.LettingGo.OneByOne.{Inode}
+use Rattle.vt_laws_mounts.proofs.letting_go.Lists.{Among, among-from_map, among-map, fails, map_same}
 use Rattle.vt_location.specs.declared.locations.Location.{Location as Place}
 use Rattle.vt_location.specs.Locations.{is_small_node, location_of, number_of}
 use Rattle.vt_location.specs.Numbers.{counted}
 use Rattle.vt_mount.specs.MountsValue.{MountEntry, changed, entry_numbered, mounts_in, released}
-use Rattle.vt_laws_letting_go.proofs.sweeps.UpperUses.{times_append}
+use Rattle.vt_laws_mounts.proofs.letting_go.sweeps.UpperUses.{times_append}
 use Rattle.vt_laws_mounts.specs.Mounts.Attaching.{OneNumberAMount}
-use Rattle.vt_laws_letting_go.specs.Attaching.{inodes_of_mount_point}
+use Rattle.vt_laws_mounts.specs.LettingGo.Attaching.{inodes_of_mount_point}
 use Rattle.vt_world.specs.Held.{IsHeld, writes_of}
 use Rattle.vt_detach.specs.Uses as meant
 use Rattle.vt_detach.specs.Uses.{Kept, detached_entry, is_unused, unpinned_at, unpinned_in}
@@ -37,7 +37,7 @@ use Rattle.vt_detach.proofs.Overlaid.{is_plain_one}
 use Rattle.vt_detach.proofs.OverlaysGone.{merged_in}
 use Rattle.vt_detach.proofs.Moving.{Use, inodes_of_uses, is_use_on, lose, release_if, released_counts, writes_on_mount}
 use Rattle.vt_spec.proofs.Lists.{map_alike, map_twice}
-use Rattle.vt_laws_letting_go.specs.TreesOverlays.{in_use_of}
+use Rattle.vt_laws_mounts.specs.LettingGo.TreesOverlays.{in_use_of}
 
 -- a mount that is still to be detached, as it is afterwards
 abbrev pub gone_if : (Mount ℕ → Bool) → Mount ℕ → Mount ℕ

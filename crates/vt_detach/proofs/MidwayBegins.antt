@@ -11,26 +11,26 @@ use Rattle.vt_spec.specs.Machine.Settled.{is_located, mount_lives}
 use Rattle.vt_spec.specs.Machine.World.{Filesystem, Namespace, World, all_locations, is_directory_at, mount_at, mount_numbered, node_at}
 use Rattle.vt_spec.specs.Machine.Invariants.{Stands, has_its_root, is_located_well, is_nowhere_or_attached}
 use Rattle.vt_spec.specs.Machine.Invariants.Stands.{at_root, on_parent}
-use Rattle.vt_laws_counts.specs.Using.{Exchanges, pinned_if, places_of}
-use Rattle.vt_laws_counts.proofs.using.MountRoots as Roots
-use Rattle.vt_laws_counts.proofs.using.Places.{exchanges_follow, locations_use_mounts, mount_is_placed}
+use Rattle.vt_laws_mounts.specs.Counts.Using.{Exchanges, pinned_if, places_of}
+use Rattle.vt_laws_mounts.proofs.counts.using.MountRoots as Roots
+use Rattle.vt_laws_mounts.proofs.counts.using.Places.{exchanges_follow, locations_use_mounts, mount_is_placed}
 use Rattle.vt_fs.specs.FilesystemsValue.{FilesystemEntry, Shown, filesystem_seen, shown, shown_entry}
-use Rattle.vt_laws_letting_go.specs.Counts.{mount_uses, times}
-use Rattle.vt_laws_letting_go.specs.Keeping.{LocationsStand}
-use Rattle.vt_laws_letting_go.specs.Leaving.{MountsStand, stands_on_attached}
-use Rattle.vt_laws_letting_go.specs.Mounting.{inode_at}
-use Rattle.vt_laws_letting_go.specs.OneByOne.{Inode}
-use Rattle.vt_laws_letting_go.proofs.Lists.{Among, all_pass, among-append, among-append_left, among-append_right, among-filter_map, among-from_map, among-map, among_from_all, passes}
-use Rattle.vt_laws_letting_go.proofs.sweeps.OfWorlds.{mounts_of_worlds_stand}
-use Rattle.vt_laws_letting_go.proofs.leaving.PlacesLeft.{found_itself}
-use Rattle.vt_laws_letting_go.proofs.sweeps.UsesCounted.{located_while_counted}
+use Rattle.vt_laws_mounts.specs.LettingGo.Counts.{mount_uses, times}
+use Rattle.vt_laws_mounts.specs.LettingGo.Keeping.{LocationsStand}
+use Rattle.vt_laws_mounts.specs.LettingGo.Leaving.{MountsStand, stands_on_attached}
+use Rattle.vt_laws_mounts.specs.LettingGo.Mounting.{inode_at}
+use Rattle.vt_laws_mounts.specs.LettingGo.OneByOne.{Inode}
+use Rattle.vt_laws_mounts.proofs.letting_go.Lists.{Among, all_pass, among-append, among-append_left, among-append_right, among-filter_map, among-from_map, among-map, among_from_all, passes}
+use Rattle.vt_laws_mounts.proofs.letting_go.sweeps.OfWorlds.{mounts_of_worlds_stand}
+use Rattle.vt_laws_mounts.proofs.letting_go.leaving.PlacesLeft.{found_itself}
+use Rattle.vt_laws_mounts.proofs.letting_go.sweeps.UsesCounted.{located_while_counted}
 use Rattle.vt_location.specs.Numbers.{counted}
 use Rattle.vt_mount.specs.MountsValue.{MountEntry, mounts_in}
 use Rattle.vt_tasks.specs.TasksValue.{Tasks}
 use Rattle.vt_laws_worlds.proofs.RaisedInUse.{worlds_are_in_use}
 use Rattle.vt_laws_worlds.proofs.worlds.Roots.{directory_there}
 use Rattle.vt_laws_mounts.specs.Mounts.Attaching.{OneNumberAMount}
-use Rattle.vt_laws_letting_go.specs.Attaching.{inodes_of_mount_point}
+use Rattle.vt_laws_mounts.specs.LettingGo.Attaching.{inodes_of_mount_point}
 use Rattle.vt_world.specs.Held.{CountsItsMounts, CountsItsUses, IsHeld, writes_of}
 use Rattle.vt_detach.specs.Uses.{Kept, is_unused, kept_of}
 use Rattle.vt_world.specs.WorldValue.{WorldValue, world_of}
@@ -39,7 +39,7 @@ use Rattle.vt_detach.proofs.Midway.{IsShown, Midway, NoneUnused, Reached, gone_i
 use Rattle.vt_detach.proofs.Moving.{Moves, Use, filesystems_gained, gain, gained_overlays, gained_there, held_counts, hold_if, inodes_of_uses, is_use_on, locations, mounts_gained, same_moved_mounts, times_mapped, uses_moved, writes_on_mount}
 use Rattle.vt_detach.proofs.Staying.{after}
 use Rattle.vt_spec.proofs.Lists.{map_alike, map_twice}
-use Rattle.vt_laws_counts.specs.OverlaysStay.{layer_count}
+use Rattle.vt_laws_mounts.specs.Counts.OverlaysStay.{layer_count}
 use Rattle.vt_detach.proofs.MountsLeave.{leaves_alike, leaves_at_first, merged_alike, merged_at_first, some_at_first}
 use Rattle.vt_detach.proofs.Overlaid.{plain_ones_are}
 
@@ -261,7 +261,7 @@ module _ (value : WorldValue) (whole : IsHeld value) (tasks : Tasks) (more less 
       → list_all (is_located_well nat_eq world) (option_to_list o) ≡ true
   point_is_located mount m None e = refl
   point_is_located mount m (Some place) e =
-      let standing = passes (Rattle.vt_laws_counts.specs.Using.is_on world.mounts)
+      let standing = passes (Rattle.vt_laws_mounts.specs.Counts.Using.is_on world.mounts)
       (all_locations world ++ places_of world.mounts)
       (Roots.places_stand world stand (Roots.locations_of_worlds_stand world whole.in_world)) place
       (among-append_right (all_locations world) (places_of world.mounts) place

@@ -7,18 +7,18 @@ use Rattle.vt_spec.specs.Machine.Mounts.{Location, Mount, detached}
 use Rattle.vt_spec.specs.Machine.SameWorlds.{without_changes}
 use Rattle.vt_spec.specs.Machine.Settled.{filesystem_lives, is_located, is_mounted, mount_lives, without_dead_filesystems, without_dead_mounts}
 use Rattle.vt_spec.specs.Machine.World.{Filesystem, Task, World, is_overlay}
-use Rattle.vt_laws_counts.specs.OverlaysStay.{layer_count}
-use Rattle.vt_laws_counts.specs.Using.{Exchanges}
+use Rattle.vt_laws_mounts.specs.Counts.OverlaysStay.{layer_count}
+use Rattle.vt_laws_mounts.specs.Counts.Using.{Exchanges}
 use Rattle.vt_fs.specs.FilesystemsValue.{FilesystemEntry, Shown, shown_entry}
-use Rattle.vt_laws_letting_go.specs.Counts.{mount_uses, mounts_showing}
-use Rattle.vt_laws_letting_go.specs.OneByOne.{Inode}
-use Rattle.vt_laws_letting_go.specs.Mounting.{inode_at}
-use Rattle.vt_laws_letting_go.proofs.Lists.{Among, all_from_among, among-filter, among-from_map, among-map, among_from_all, filter_all, flat_map_none, map_same}
-use Rattle.vt_laws_letting_go.proofs.sweeps.UsesCounted.{located_while_counted}
+use Rattle.vt_laws_mounts.specs.LettingGo.Counts.{mount_uses, mounts_showing}
+use Rattle.vt_laws_mounts.specs.LettingGo.OneByOne.{Inode}
+use Rattle.vt_laws_mounts.specs.LettingGo.Mounting.{inode_at}
+use Rattle.vt_laws_mounts.proofs.letting_go.Lists.{Among, all_from_among, among-filter, among-from_map, among-map, among_from_all, filter_all, flat_map_none, map_same}
+use Rattle.vt_laws_mounts.proofs.letting_go.sweeps.UsesCounted.{located_while_counted}
 use Rattle.vt_location.specs.declared.locations.Location.{Location as Place}
 use Rattle.vt_location.specs.Numbers.{counted}
 use Rattle.vt_mount.specs.MountsValue.{MountEntry, mounts_in}
-use Rattle.vt_laws_letting_go.specs.Attaching.{inodes_of_mount_point}
+use Rattle.vt_laws_mounts.specs.LettingGo.Attaching.{inodes_of_mount_point}
 use Rattle.vt_world.specs.Held.{CountsItsUses, CountsWhatIsInIt, IsHeld, IsMountedSoOften, writes_of}
 use Rattle.vt_detach.specs.NamespacesLeft.{AreDetached, Detached}
 use Rattle.vt_detach.specs.Uses.{Kept, Merged, kept_with, overlays_kept, without_attachment, without_use}
@@ -34,7 +34,7 @@ use Rattle.vt_detach.proofs.Overlaid.{KeepsOverlays, is_plain_one, layers_of_few
 use Rattle.vt_detach.proofs.OverlaysGone.{merged_in}
 use Rattle.vt_detach.proofs.OverlaysRemade.{counted_kept, seen_kept}
 use Rattle.vt_spec.proofs.Lists.{map_twice}
-use Rattle.vt_laws_letting_go.specs.TreesOverlays.{in_use_of}
+use Rattle.vt_laws_mounts.specs.LettingGo.TreesOverlays.{in_use_of}
 
 -- one use less of a location of a world, as code leaves it
 abbrev pub leave_use : World ℕ → Kept → Use → Kept
@@ -216,14 +216,14 @@ module _ (value : WorldValue) (start : World ℕ) (gained : List Inode) (goes : 
         let all : entry.uses ≡ mount_uses now entry.mount.number = omega (arith, uses) in
         let written : entry.writers ≡ writes_of entry.mount.number now.tasks = omega (arith, writers) in
         record {
-          uses = all ∙ ap (λ tasks. Rattle.vt_laws_letting_go.specs.Counts.times
+          uses = all ∙ ap (λ tasks. Rattle.vt_laws_mounts.specs.LettingGo.Counts.times
               (λ (location : Location ℕ). nat_eq entry.mount.number location.mount)
               (flat_map Rattle.vt_spec.specs.Machine.World.locations_of tasks)) tasks_are;
           writers = written ∙ ap (writes_of entry.mount.number) tasks_are;
         });
     mounts = λ entry m. let is = mid.shown (shown_entry entry) (shown_of entry m) in
         is.mounts
-        ∙ (λ i. Rattle.vt_laws_letting_go.specs.Counts.times
+        ∙ (λ i. Rattle.vt_laws_mounts.specs.LettingGo.Counts.times
         (λ (x : Mount ℕ). nat_eq (counted entry.count) x.filesystem) (mounts_are i)
         + sym (layers_of_fewer value new mid.held.overlays (λ overlay. is_mounted nat_eq now overlay.number)
         overlays_left now mid.leaves.overlays (counted entry.count)) i);
@@ -231,7 +231,7 @@ module _ (value : WorldValue) (start : World ℕ) (gained : List Inode) (goes : 
         among_from_all (IsMountedSoOften now) (overlays_kept overlays value.overlays)
         (counted_kept value mid.held now mid.leaves overlays merged_now) entry
         (subst (λ all. Among entry all) same_overlays m)
-        ∙ (λ i. Rattle.vt_laws_letting_go.specs.Counts.times
+        ∙ (λ i. Rattle.vt_laws_mounts.specs.LettingGo.Counts.times
         (λ (x : Mount ℕ). nat_eq entry.number x.filesystem) (mounts_are i)));
     namespaces = namespaces;
   }

@@ -11,23 +11,23 @@ use Rattle.vt_spec.specs.Machine.Mounts.{Location, Mount, detached, mount_in}
 use Rattle.vt_spec.specs.Machine.Settled.{filesystem_lives, has_layer_on, is_located, is_mounted, mount_lives, without_dead_filesystems, without_dead_mounts}
 use Rattle.vt_spec.specs.Machine.World.{Filesystem, World, all_locations, is_overlay, mount_at, mount_numbered}
 use Rattle.vt_spec.specs.Machine.Invariants.{is_nowhere_or_attached}
-use Rattle.vt_laws_counts.specs.OverlaysStay.{layer_count, mounted_layer_count}
-use Rattle.vt_laws_counts.specs.Using.{Exchanges, pinned_if, unpinned_if}
-use Rattle.vt_laws_counts.proofs.going.Gone.{mount_takes_its_count}
-use Rattle.vt_laws_counts.proofs.using.MountRoots as Roots
-use Rattle.vt_laws_counts.proofs.using.Places.{exchanges_follow}
+use Rattle.vt_laws_mounts.specs.Counts.OverlaysStay.{layer_count, mounted_layer_count}
+use Rattle.vt_laws_mounts.specs.Counts.Using.{Exchanges, pinned_if, unpinned_if}
+use Rattle.vt_laws_mounts.proofs.counts.going.Gone.{mount_takes_its_count}
+use Rattle.vt_laws_mounts.proofs.counts.using.MountRoots as Roots
+use Rattle.vt_laws_mounts.proofs.counts.using.Places.{exchanges_follow}
 use Rattle.vt_fs.specs.FilesystemsValue.{Shown, inodes_seen}
-use Rattle.vt_laws_letting_go.specs.Counts.{mount_uses, mounts_showing}
-use Rattle.vt_laws_letting_go.specs.Keeping.{LocationsStand}
-use Rattle.vt_laws_letting_go.specs.Leaving.{MountsStand, stands_on_attached}
-use Rattle.vt_laws_letting_go.specs.OneByOne.{Inode, is_mount_used, without_mount}
-use Rattle.vt_laws_letting_go.proofs.Lists.{Among, all_pass, among-filter, among-from_filter, among-from_map, among-map, among_numbers, any-filter, any_passes, fails, filter-map, filter_alike, filter_less, is_among_numbers, one_passes, passes}
-use Rattle.vt_laws_letting_go.proofs.leaving.PlacesLeft.{found_itself}
-use Rattle.vt_laws_letting_go.proofs.sweeps.UsesCounted.{located_while_counted}
+use Rattle.vt_laws_mounts.specs.LettingGo.Counts.{mount_uses, mounts_showing}
+use Rattle.vt_laws_mounts.specs.LettingGo.Keeping.{LocationsStand}
+use Rattle.vt_laws_mounts.specs.LettingGo.Leaving.{MountsStand, stands_on_attached}
+use Rattle.vt_laws_mounts.specs.LettingGo.OneByOne.{Inode, is_mount_used, without_mount}
+use Rattle.vt_laws_mounts.proofs.letting_go.Lists.{Among, all_pass, among-filter, among-from_filter, among-from_map, among-map, among_numbers, any-filter, any_passes, fails, filter-map, filter_alike, filter_less, is_among_numbers, one_passes, passes}
+use Rattle.vt_laws_mounts.proofs.letting_go.leaving.PlacesLeft.{found_itself}
+use Rattle.vt_laws_mounts.proofs.letting_go.sweeps.UsesCounted.{located_while_counted}
 use Rattle.vt_location.specs.Numbers.{counted}
 use Rattle.vt_mount.specs.MountsValue.{MountEntry, entry_numbered, mounts_in, without}
 use Rattle.vt_laws_mounts.specs.Mounts.Attaching.{OneNumberAMount}
-use Rattle.vt_laws_letting_go.specs.Attaching.{inodes_of_mount_point}
+use Rattle.vt_laws_mounts.specs.LettingGo.Attaching.{inodes_of_mount_point}
 use Rattle.vt_world.specs.Held.{IsHeld}
 use Rattle.vt_detach.specs.Uses as meant
 use Rattle.vt_detach.specs.Uses.{Kept, is_unused, let_go_entry}
@@ -36,7 +36,7 @@ use Rattle.vt_detach.proofs.LayersLeft.{less}
 use Rattle.vt_detach.proofs.LostUses.{entry_found_at, entry_itself, flat_map_less, folded_append, one_number_less, positive}
 use Rattle.vt_detach.proofs.Midway.{IsShown, Midway, NoneUnused, Reached, UnusedOnly, gone_if, gone_number, one_number_kept, point_left, points_left, unused_parts}
 use Rattle.vt_detach.proofs.Moving.{Use, inodes_of_uses, swap_eq}
-use Rattle.vt_laws_letting_go.specs.TreesOverlays.{in_use_of}
+use Rattle.vt_laws_mounts.specs.LettingGo.TreesOverlays.{in_use_of}
 use Rattle.vt_detach.proofs.BesideOverlays.{lives_more}
 use Rattle.vt_detach.proofs.MountsGone.{exchanges_between}
 use Rattle.vt_detach.proofs.MountsLeave.{layers_exchanged, layers_stay, leaves_then, left_counted, left_shown, numbers_are, overlay_was, overlays_apart, overlays_stay, shown_are}

@@ -7,18 +7,18 @@ use Rattle.vt_spec.specs.Machine.Settled.{filesystem_lives, is_mounted, without_
 use Rattle.vt_spec.specs.Machine.World.{Filesystem, World, is_overlay, no_filesystem}
 use Rattle.vt_spec.proofs.Lists.{pair-filter}
 use Rattle.vt_fs.specs.FilesystemsValue.{FilesystemEntry, Shown, filesystem_seen}
-use Rattle.vt_laws_counts.specs.OverlaysStay.{HasNoLayerIn, layer_count, layers_among, mounted_layer_count}
-use Rattle.vt_laws_counts.specs.Using.{Exchanges}
-use Rattle.vt_laws_counts.proofs.overlays.FilesystemUses.{overlays_take_their_uses}
-use Rattle.vt_laws_counts.proofs.overlays.Living.{layers_left_are_mounted, lives_while_counted, lives_while_mounted}
-use Rattle.vt_laws_letting_go.specs.Counts.{mounts_showing, times}
-use Rattle.vt_laws_letting_go.specs.InUse.{FilesystemsInUse}
-use Rattle.vt_laws_letting_go.specs.OneByOne.{Inode, without_mount}
-use Rattle.vt_laws_letting_go.specs.Overlays.{used_by_filesystem}
-use Rattle.vt_laws_letting_go.proofs.Lists.{Among, all_pass, among-filter, among-from_filter, among-from_map, among_from_all, filter-map, filter_all, filter_alike, filter_twice, flat_map_alike, found_in, or_first, passes}
-use Rattle.vt_laws_letting_go.proofs.sweeps.UsesCounted.{mounted_while_counted}
-use Rattle.vt_laws_overlays_stay.specs.Woven.{are_rising}
-use Rattle.vt_laws_overlays_stay.proofs.weaving.WovenLists.{rising_filtered}
+use Rattle.vt_laws_mounts.specs.Counts.OverlaysStay.{HasNoLayerIn, layer_count, layers_among, mounted_layer_count}
+use Rattle.vt_laws_mounts.specs.Counts.Using.{Exchanges}
+use Rattle.vt_laws_mounts.proofs.counts.overlays.FilesystemUses.{overlays_take_their_uses}
+use Rattle.vt_laws_mounts.proofs.counts.overlays.Living.{layers_left_are_mounted, lives_while_counted, lives_while_mounted}
+use Rattle.vt_laws_mounts.specs.LettingGo.Counts.{mounts_showing, times}
+use Rattle.vt_laws_mounts.specs.LettingGo.InUse.{FilesystemsInUse}
+use Rattle.vt_laws_mounts.specs.LettingGo.OneByOne.{Inode, without_mount}
+use Rattle.vt_laws_mounts.specs.LettingGo.Overlays.{used_by_filesystem}
+use Rattle.vt_laws_mounts.proofs.letting_go.Lists.{Among, all_pass, among-filter, among-from_filter, among-from_map, among_from_all, filter-map, filter_all, filter_alike, filter_twice, flat_map_alike, found_in, or_first, passes}
+use Rattle.vt_laws_mounts.proofs.letting_go.sweeps.UsesCounted.{mounted_while_counted}
+use Rattle.vt_laws_worlds.specs.OverlaysStay.Woven.{are_rising}
+use Rattle.vt_laws_worlds.proofs.overlays_stay.weaving.WovenLists.{rising_filtered}
 use Rattle.vt_location.specs.Numbers.{counted}
 use Rattle.vt_laws_worlds.proofs.RaisedInUse.{worlds_are_in_use}
 use Rattle.vt_world.specs.Held.{CountsItsMounts, IsHeld, IsMountedSoOften}
@@ -272,7 +272,7 @@ module _ (old : WorldValue) (held : IsHeld old) (world : World ℕ) (leaves : Le
         none_has_it : (x : Shown) → Among x unpinned → nat_eq filesystem (counted x.count) ≡ false
         none_has_it x m =
             let from = among-from_map (λ (y : Shown). record y {
-              inodes = Rattle.vt_laws_counts.specs.Using.unpinned_if (counted y.count) y.inodes (filesystem, root);
+              inodes = Rattle.vt_laws_mounts.specs.Counts.Using.unpinned_if (counted y.count) y.inodes (filesystem, root);
             }) shown x m in
             let there = found_in (λ (y : Merged). nat_eq filesystem y.number) overlays one found in
             let was = among-from_map (merged_in world) (filter is_overlay world.filesystems) one

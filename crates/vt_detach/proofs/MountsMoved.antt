@@ -16,14 +16,14 @@ use Rattle.vt_spec.specs.Inodes as Trees
 use Rattle.vt_spec.specs.Inodes.{node_in}
 use Rattle.vt_spec.specs.Tree.{is_directory_node}
 use Rattle.vt_spec.proofs.Lists as spec
-use Rattle.vt_laws_counts.specs.Using.{AreThere, Exchanges}
+use Rattle.vt_laws_mounts.specs.Counts.Using.{AreThere, Exchanges}
 use Rattle.vt_fs.specs.FilesystemsValue.{FilesystemEntry, Filesystems, inodes_seen, shown}
-use Rattle.vt_laws_letting_go.specs.Mounting.{inode_at}
-use Rattle.vt_laws_letting_go.specs.OneByOne.{Inode}
-use Rattle.vt_laws_letting_go.specs.Leaving.{stands_on_attached}
-use Rattle.vt_laws_letting_go.proofs.Lists.{Among, among-map, is_among_numbers, passes}
-use Rattle.vt_laws_letting_go.proofs.sweeps.OfWorlds.{mounts_of_worlds_stand}
-use Rattle.vt_laws_letting_go.proofs.leaving.PlacesLeft.{found_is_there}
+use Rattle.vt_laws_mounts.specs.LettingGo.Mounting.{inode_at}
+use Rattle.vt_laws_mounts.specs.LettingGo.OneByOne.{Inode}
+use Rattle.vt_laws_mounts.specs.LettingGo.Leaving.{stands_on_attached}
+use Rattle.vt_laws_mounts.proofs.letting_go.Lists.{Among, among-map, is_among_numbers, passes}
+use Rattle.vt_laws_mounts.proofs.letting_go.sweeps.OfWorlds.{mounts_of_worlds_stand}
+use Rattle.vt_laws_mounts.proofs.letting_go.leaving.PlacesLeft.{found_is_there}
 use Rattle.vt_location.specs.declared.locations.Location.{Location as At}
 use Rattle.vt_location.specs.Locations.{is_small_node, location_of, number_of}
 use Rattle.vt_location.specs.Numbers.{counted}
@@ -33,7 +33,7 @@ use Rattle.vt_laws_mounts.proofs.mounts.MountsReplaced.{found_itself, numbers-wi
 use Rattle.vt_laws_mounts.proofs.moves.Moving.{tree_top}
 use Rattle.vt_laws_mounts.proofs.moves.MovingRoots.{tree_placed}
 use Rattle.vt_laws_mounts.proofs.mounts.Standing.{trees_have_each_once}
-use Rattle.vt_laws_permits.proofs.taken.TakenAttached.{at_destination, copy_by, group_by, twigs}
+use Rattle.vt_laws_worlds.proofs.permits.taken.TakenAttached.{at_destination, copy_by, group_by, twigs}
 use Rattle.vt_laws_worlds.specs.Worlds.Permits.{MayMoveTo}
 use Rattle.vt_laws_worlds.proofs.worlds.Roots.{directory_there}
 use Rattle.vt_detach.specs.Events.{Permits}

@@ -8,14 +8,14 @@ use Rattle.vt_spec.specs.Machine.World.{Filesystem, World, all_locations, filesy
 use Rattle.vt_spec.specs.Machine.Invariants.{is_located_well, is_there}
 use Rattle.vt_spec.specs.Inodes.{node_in}
 use Rattle.vt_spec.specs.Inodes as Trees
-use Rattle.vt_laws_counts.specs.Using.{AreThere, Exchanges, exchanged, pinned_if, unpinned_if}
-use Rattle.vt_laws_counts.proofs.using.Places.{locations_are_uses, locations_use_mounts}
+use Rattle.vt_laws_mounts.specs.Counts.Using.{AreThere, Exchanges, exchanged, pinned_if, unpinned_if}
+use Rattle.vt_laws_mounts.proofs.counts.using.Places.{locations_are_uses, locations_use_mounts}
 use Rattle.vt_fs.specs.FilesystemsValue.{FilesystemEntry, Shown, inodes_seen}
-use Rattle.vt_laws_letting_go.specs.Counts.{mount_uses, times}
-use Rattle.vt_laws_letting_go.specs.Leaving.{is_location_among, only_these_are_left}
-use Rattle.vt_laws_letting_go.specs.Mounting.{inode_at}
-use Rattle.vt_laws_letting_go.specs.OneByOne.{Inode}
-use Rattle.vt_laws_letting_go.proofs.Lists.{Among, all_pass, among-append, among-append_left, among-append_right, among-from_map, among-map, among_from_all, any_passes, or_first, or_second, passes}
+use Rattle.vt_laws_mounts.specs.LettingGo.Counts.{mount_uses, times}
+use Rattle.vt_laws_mounts.specs.LettingGo.Leaving.{is_location_among, only_these_are_left}
+use Rattle.vt_laws_mounts.specs.LettingGo.Mounting.{inode_at}
+use Rattle.vt_laws_mounts.specs.LettingGo.OneByOne.{Inode}
+use Rattle.vt_laws_mounts.proofs.letting_go.Lists.{Among, all_pass, among-append, among-append_left, among-append_right, among-from_map, among-map, among_from_all, any_passes, or_first, or_second, passes}
 use Rattle.vt_location.specs.Numbers.{counted}
 use Rattle.vt_mount.specs.MountsValue.{MountEntry, held, mounts_in, released}
 use Rattle.vt_tasks.specs.TasksValue.{Tasks}

@@ -4,8 +4,8 @@ use Rattle.std.proofs.lemmas.Option.{same_Some}
 use Rattle.vt_spec.specs.Lists.{folded}
 use Rattle.vt_spec.specs.Machine.Mounts.{Mount}
 use Rattle.vt_spec.specs.Machine.World.{World}
-use Rattle.vt_laws_letting_go.specs.OneByOne.{Inode}
-use Rattle.vt_laws_letting_go.proofs.Lists.{among-from_map, filter_less}
+use Rattle.vt_laws_mounts.specs.LettingGo.OneByOne.{Inode}
+use Rattle.vt_laws_mounts.proofs.letting_go.Lists.{among-from_map, filter_less}
 use Rattle.vt_mount.specs.MountsValue.{MountEntry, entry_numbered, mounts_in, released}
 use Rattle.vt_laws_mounts.specs.Mounts.Attaching.{OneNumberAMount}
 use Rattle.vt_world.specs.Held.{IsHeld}

@@ -11,9 +11,9 @@ use Rattle.vt_spec.specs.Machine.Namespaces.{has_tasks, is_in_ended}
 use Rattle.vt_spec.specs.Machine.Receives.{regrouped}
 use Rattle.vt_spec.specs.Machine.World.{Namespace, Task, World, mount_at, mount_numbered, with_mounts}
 use Rattle.vt_spec.specs.Machine.Invariants.{is_listed}
-use Rattle.vt_laws_letting_go.specs.Counts.{times}
-use Rattle.vt_laws_letting_go.proofs.Lists.{Among, all_from_among, among-from_filter, among-from_map, among-map, among_numbers, any_passes, filter_all, is_among_numbers, none_passes}
-use Rattle.vt_laws_letting_go.proofs.leaving.PlacesLeft.{found_itself}
+use Rattle.vt_laws_mounts.specs.LettingGo.Counts.{times}
+use Rattle.vt_laws_mounts.proofs.letting_go.Lists.{Among, all_from_among, among-from_filter, among-from_map, among-map, among_numbers, any_passes, filter_all, is_among_numbers, none_passes}
+use Rattle.vt_laws_mounts.proofs.letting_go.leaving.PlacesLeft.{found_itself}
 use Rattle.vt_location.specs.Numbers.{counted}
 use Rattle.vt_tasks.specs.TasksValue.{Tasks}
 use Rattle.vt_laws_mounts.specs.Mounts.Attaching.{OneNumberAMount}
@@ -41,7 +41,7 @@ module _ (world : World ℕ) (one : OneNumberAMount world.mounts) (goes : Mount 
       by true e =
           is_among_numbers mount.number gone
           (among-map (λ (x : Mount ℕ). x.number) (filter goes world.mounts) mount
-          (Rattle.vt_laws_letting_go.proofs.Lists.among-filter goes world.mounts mount m e))
+          (Rattle.vt_laws_mounts.proofs.letting_go.Lists.among-filter goes world.mounts mount m e))
       by false e = none (is_going nat_eq gone mount.number) refl
         where
           none : (b : Bool) → is_going nat_eq gone mount.number ≡ b → b ≡ false

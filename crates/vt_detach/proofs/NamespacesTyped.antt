@@ -11,7 +11,7 @@ use Rattle.vt_spec.specs.Machine.Invariants.{MountInvariants, is_nowhere_or_atta
 use Rattle.vt_group.specs.Grouping.{Grouping, Has}
 use Rattle.vt_group.specs.Together.{TakesAway}
 use Rattle.vt_group.proofs.Together.{regrouped_living}
-use Rattle.vt_laws_letting_go.proofs.Lists.{Among, among-from_map, map_same, passes}
+use Rattle.vt_laws_mounts.proofs.letting_go.Lists.{Among, among-from_map, map_same, passes}
 use Rattle.vt_tasks.specs.TasksValue.{Tasks}
 use Rattle.vt_detach.proofs.Grouped.{same_has, stays_private}
 use Rattle.vt_detach.proofs.Midway.{gone_if}

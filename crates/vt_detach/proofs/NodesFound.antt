@@ -7,8 +7,8 @@ use Rattle.vt_spec.specs.Inodes.{node_in}
 use Rattle.vt_spec.specs.Machine.World.{Filesystem, World, filesystem_numbered}
 use Rattle.vt_spec.specs.Tree.{Node}
 use Rattle.vt_spec.proofs.Truths.{and_true_left}
-use Rattle.vt_laws_letting_go.proofs.Lists.{all_from_among, among_from_all, among-from_map}
-use Rattle.vt_laws_overlays_stay.specs.Woven.{put_in, woven}
+use Rattle.vt_laws_mounts.proofs.letting_go.Lists.{all_from_among, among_from_all, among-from_map}
+use Rattle.vt_laws_worlds.specs.OverlaysStay.Woven.{put_in, woven}
 use Rattle.vt_laws_trees.proofs.trees.TreesOfWorlds.{number_numbered, numbered_all}
 use Rattle.vt_fs.specs.FilesystemsValue.{FilesystemEntry, Filesystems, filesystem_seen, filesystems_seen}
 use Rattle.vt_location.specs.declared.births.Birth.TheVariants.{Here}

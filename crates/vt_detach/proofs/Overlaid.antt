@@ -7,21 +7,21 @@ use Rattle.vt_spec.specs.Machine.Locked.{of_overlay}
 use Rattle.vt_spec.specs.Machine.SameWorlds.{SameFilesystems}
 use Rattle.vt_spec.specs.Machine.Settled.{filesystem_lives, is_mounted, only_used, settled, used_in, without_dead_in, without_dead_mounts}
 use Rattle.vt_spec.specs.Machine.World.{Filesystem, World, filesystem_numbered, is_overlay}
-use Rattle.vt_laws_counts.specs.BesideOverlays.{OverlaysHaveNoUpper}
-use Rattle.vt_laws_counts.specs.OverlaysStay.{OverlaysAreNamed, layer_count}
-use Rattle.vt_laws_counts.proofs.overlays.Living.{overlays_are_mounted, overlays_use_filesystems}
-use Rattle.vt_laws_counts.proofs.using.Exchanged.{numbers_mapped}
+use Rattle.vt_laws_mounts.specs.Counts.BesideOverlays.{OverlaysHaveNoUpper}
+use Rattle.vt_laws_mounts.specs.Counts.OverlaysStay.{OverlaysAreNamed, layer_count}
+use Rattle.vt_laws_mounts.proofs.counts.overlays.Living.{overlays_are_mounted, overlays_use_filesystems}
+use Rattle.vt_laws_mounts.proofs.counts.using.Exchanged.{numbers_mapped}
 use Rattle.vt_spec.proofs.Lists.{pair-filter}
-use Rattle.vt_laws_letting_go.specs.Counts.{mounts_showing}
-use Rattle.vt_laws_letting_go.specs.Keeping.{has_only_named}
-use Rattle.vt_laws_letting_go.specs.TreesOverlays.{in_use_of}
-use Rattle.vt_laws_letting_go.proofs.Lists.{Among, all_from_among, among-filter, among-from_filter, among_from_all, among-from_map, among-map, filter_all}
-use Rattle.vt_laws_letting_go.proofs.sweeps.InUse.{after_first, after_second, number-first, number-second, overlay-left}
-use Rattle.vt_laws_letting_go.proofs.sweeps.OfWorlds.{found_filesystem}
-use Rattle.vt_laws_overlays_read.specs.Writers.{WritersHaveLayers}
-use Rattle.vt_laws_overlays_stay.specs.Woven.{ArePartedBy, are_rising, put_in, woven}
-use Rattle.vt_laws_overlays_stay.proofs.kept.OverlaysLeft.{by_overlays, no_upper_of_plain}
-use Rattle.vt_laws_overlays_stay.proofs.weaving.WovenLists.{rising_filtered, woven_lists_are_failing, woven_lists_are_passing}
+use Rattle.vt_laws_mounts.specs.LettingGo.Counts.{mounts_showing}
+use Rattle.vt_laws_mounts.specs.LettingGo.Keeping.{has_only_named}
+use Rattle.vt_laws_mounts.specs.LettingGo.TreesOverlays.{in_use_of}
+use Rattle.vt_laws_mounts.proofs.letting_go.Lists.{Among, all_from_among, among-filter, among-from_filter, among_from_all, among-from_map, among-map, filter_all}
+use Rattle.vt_laws_mounts.proofs.letting_go.sweeps.InUse.{after_first, after_second, number-first, number-second, overlay-left}
+use Rattle.vt_laws_mounts.proofs.letting_go.sweeps.OfWorlds.{found_filesystem}
+use Rattle.vt_laws_worlds.specs.OverlaysRead.Writers.{WritersHaveLayers}
+use Rattle.vt_laws_worlds.specs.OverlaysStay.Woven.{ArePartedBy, are_rising, put_in, woven}
+use Rattle.vt_laws_worlds.proofs.overlays_stay.kept.OverlaysLeft.{by_overlays, no_upper_of_plain}
+use Rattle.vt_laws_worlds.proofs.overlays_stay.weaving.WovenLists.{rising_filtered, woven_lists_are_failing, woven_lists_are_passing}
 use Rattle.vt_fs.specs.FilesystemsValue.{FilesystemEntry, Filesystems, filesystem_seen, filesystems_seen}
 use Rattle.vt_location.specs.Numbers.{counted}
 use Rattle.vt_world.specs.Held.{HasOwnNodes, HoldsOverlays, IsHeld, IsMountedSoOften}

@@ -22,10 +22,10 @@ use Rattle.vt_spec.specs.Tree.{is_directory_node}
 use Rattle.vt_spec.proofs.Lists.{map_alike, map_twice}
 use Rattle.vt_detach.proofs.Moving.{map_itself}
 use Rattle.vt_spec.proofs.Tables.{destination_walk}
-use Rattle.vt_laws_layers.specs.Layers.Mounted.{AreLayers}
-use Rattle.vt_laws_layers.proofs.mounting.Walked.{are_walked, fit_layers, has_layers, shown_plain}
-use Rattle.vt_laws_letting_go.proofs.Lists.{Among, passes}
-use Rattle.vt_laws_overlays_kept.specs.Kept.{ShowsLayer}
+use Rattle.vt_laws_trees.specs.Layers.Layers.Mounted.{AreLayers}
+use Rattle.vt_laws_trees.proofs.layers.mounting.Walked.{are_walked, fit_layers, has_layers, shown_plain}
+use Rattle.vt_laws_mounts.proofs.letting_go.Lists.{Among, passes}
+use Rattle.vt_world.specs.OverlaysKept.Kept.{ShowsLayer}
 use Rattle.vt_laws_rules.proofs.given.GivenPermits.{permits_are_for_their_calls}
 use Rattle.vt_laws_rules.proofs.given.Inversion.{calls_are_granted}
 use Rattle.vt_laws_rules.specs.Granted.{IsGranted}

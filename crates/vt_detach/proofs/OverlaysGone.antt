@@ -7,14 +7,14 @@ use Rattle.vt_spec.specs.Lists.{any_pair}
 use Rattle.vt_spec.specs.Machine.Locked.{of_overlay, overlay_or}
 use Rattle.vt_spec.specs.Machine.Settled.{is_mounted}
 use Rattle.vt_spec.specs.Machine.World.{Filesystem, Layer, Overlay, World, is_overlay, layers_of}
-use Rattle.vt_laws_counts.specs.OverlaysStay.{layer_count, layers_among}
-use Rattle.vt_laws_counts.proofs.overlays.Living.{overlays_use_filesystems}
-use Rattle.vt_laws_letting_go.specs.Counts.{mounts_showing, times}
-use Rattle.vt_laws_letting_go.specs.OneByOne.{Inode, without_mount}
-use Rattle.vt_laws_letting_go.specs.Overlays.{used_by_filesystem, uppers_in}
-use Rattle.vt_laws_letting_go.proofs.Lists.{Among, fails, flat_map_none}
-use Rattle.vt_laws_letting_go.proofs.sweeps.UpperUses.{times_append}
-use Rattle.vt_laws_letting_go.proofs.sweeps.UsesCounted.{mounted_while_counted}
+use Rattle.vt_laws_mounts.specs.Counts.OverlaysStay.{layer_count, layers_among}
+use Rattle.vt_laws_mounts.proofs.counts.overlays.Living.{overlays_use_filesystems}
+use Rattle.vt_laws_mounts.specs.LettingGo.Counts.{mounts_showing, times}
+use Rattle.vt_laws_mounts.specs.LettingGo.OneByOne.{Inode, without_mount}
+use Rattle.vt_laws_mounts.specs.LettingGo.Overlays.{used_by_filesystem, uppers_in}
+use Rattle.vt_laws_mounts.proofs.letting_go.Lists.{Among, fails, flat_map_none}
+use Rattle.vt_laws_mounts.proofs.letting_go.sweeps.UpperUses.{times_append}
+use Rattle.vt_laws_mounts.proofs.letting_go.sweeps.UsesCounted.{mounted_while_counted}
 use Rattle.vt_detach.specs.Uses.{Merged, merged_at}
 use Rattle.vt_detach.proofs.LostUses.{positive}
 

@@ -5,9 +5,9 @@ use Rattle.std.proofs.lemmas.Bool.{or_parts}
 use Rattle.vt_spec.specs.Lists.{any_pair}
 use Rattle.vt_spec.specs.Machine.Settled.{is_mounted}
 use Rattle.vt_spec.specs.Machine.World.{Filesystem, World}
-use Rattle.vt_laws_letting_go.specs.Counts.{mounts_showing}
-use Rattle.vt_laws_letting_go.specs.OneByOne.{without_mount}
-use Rattle.vt_laws_letting_go.proofs.Lists.{Among, fails}
+use Rattle.vt_laws_mounts.specs.LettingGo.Counts.{mounts_showing}
+use Rattle.vt_laws_mounts.specs.LettingGo.OneByOne.{without_mount}
+use Rattle.vt_laws_mounts.proofs.letting_go.Lists.{Among, fails}
 use Rattle.vt_detach.specs.Uses.{Merged, merged_at, merged_left_by, released_merged, without_merged}
 use Rattle.vt_detach.proofs.OverlaysGone.{goes_at_one, layers_used, merged_in, others_shown}
 

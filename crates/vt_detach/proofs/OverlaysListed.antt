@@ -8,7 +8,7 @@ use Rattle.vt_spec.specs.Machine.Permits.{Permit}
 use Rattle.vt_spec.specs.Machine.World.{Filesystem, is_overlay}
 use Rattle.vt_spec.proofs.Lists.{pair-filter}
 use Rattle.vt_spec.proofs.Truths.{nat_eq_turned}
-use Rattle.vt_laws_letting_go.proofs.Lists.{Among, among-from_filter, among-from_map, among-map, fails, filter-map, filter_all, filter_twice}
+use Rattle.vt_laws_mounts.proofs.letting_go.Lists.{Among, among-from_filter, among-from_map, among-map, fails, filter-map, filter_all, filter_twice}
 use Rattle.vt_fs.specs.FilesystemsValue.{Filesystems}
 use Rattle.vt_location.specs.Numbers.{counted}
 use Rattle.vt_overlay.specs.MergedTree.{OverlayValue}

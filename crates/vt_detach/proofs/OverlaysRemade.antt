@@ -7,8 +7,8 @@ use Rattle.vt_spec.specs.Lists.{any_pair}
 use Rattle.vt_spec.specs.Machine.Settled.{is_mounted}
 use Rattle.vt_spec.specs.Machine.World.{Filesystem, World, is_overlay}
 use Rattle.vt_spec.proofs.Lists.{pair-filter}
-use Rattle.vt_laws_letting_go.specs.Counts.{mounts_showing}
-use Rattle.vt_laws_letting_go.proofs.Lists.{Among, all_from_among, among-map, among_from_all, fails}
+use Rattle.vt_laws_mounts.specs.LettingGo.Counts.{mounts_showing}
+use Rattle.vt_laws_mounts.proofs.letting_go.Lists.{Among, all_from_among, among-map, among_from_all, fails}
 use Rattle.vt_world.specs.Held.{IsHeld, IsMountedSoOften}
 use Rattle.vt_world.specs.WorldValue.{OverlayEntry, WorldValue, overlay_seen, overlays_seen, world_of}
 use Rattle.vt_detach.specs.Uses.{Merged, merged_at, merged_seen, overlays_kept}

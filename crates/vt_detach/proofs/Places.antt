@@ -12,13 +12,13 @@ use Rattle.vt_spec.specs.Machine.Invariants.{ListsNumbers, is_located_well, is_t
 use Rattle.vt_fs.specs.FilesystemsValue.{Filesystems}
 use Rattle.vt_laws_rules.specs.Numbers.{location_named}
 use Rattle.vt_laws_rules.proofs.numbers.Supports.{used_numbers_are_named}
-use Rattle.vt_laws_letting_go.specs.Counts.{times}
-use Rattle.vt_laws_letting_go.proofs.Lists.{Among, among-append_left, among-append_right, among-flat_map, among-from_map, among_from_all, among_numbers, is_among_numbers, passes}
+use Rattle.vt_laws_mounts.specs.LettingGo.Counts.{times}
+use Rattle.vt_laws_mounts.proofs.letting_go.Lists.{Among, among-append_left, among-append_right, among-flat_map, among-from_map, among_from_all, among_numbers, is_among_numbers, passes}
 use Rattle.vt_location.specs.declared.locations.Location.{Location}
 use Rattle.vt_location.specs.Locations.{is_small_node, location_of, number_of}
 use Rattle.vt_location.specs.Numbers.{counted}
 use Rattle.vt_mount.specs.MountsValue.{MountEntry}
-use Rattle.vt_laws_runs.specs.Handed.{is_counted_before}
+use Rattle.vt_laws_trees.specs.Runs.Handed.{is_counted_before}
 use Rattle.vt_tasks.specs.Counts.{locations_in, one_if}
 use Rattle.vt_tasks.specs.TasksValue.{Tasks, called, changed_by, changed_called, replaced}
 use Rattle.vt_detach.specs.Events.{Permits}

@@ -1,9 +1,9 @@
 -- The filesystem that the definitions find by a number, where it is no overlay: the one that is kept by its inodes.
 use Rattle.std.proofs.Common.{◌≡◌, refl, sym, ap, subst, ◌∙◌, ℕ, nat_eq, eqb-true, Bool, true, false, true≢false, unwrap_or}
 use Rattle.vt_spec.specs.Machine.World.{Filesystem, filesystem_numbered, is_overlay, no_filesystem}
-use Rattle.vt_laws_letting_go.proofs.Lists.{Among, all_from_among, among-from_filter}
-use Rattle.vt_laws_letting_go.proofs.sweeps.OfWorlds.{found_filesystem}
-use Rattle.vt_laws_overlays_stay.proofs.weaving.WovenLists.{plain_ones_are_found}
+use Rattle.vt_laws_mounts.proofs.letting_go.Lists.{Among, all_from_among, among-from_filter}
+use Rattle.vt_laws_mounts.proofs.letting_go.sweeps.OfWorlds.{found_filesystem}
+use Rattle.vt_laws_worlds.proofs.overlays_stay.weaving.WovenLists.{plain_ones_are_found}
 use Rattle.vt_fs.specs.FilesystemsValue.{entry_at, filesystem_seen, filesystems_seen}
 use Rattle.vt_fs.proofs.Numbers.{found_by_number}
 use Rattle.vt_location.specs.Numbers.{counted}

@@ -6,12 +6,12 @@ use Rattle.vt_spec.specs.Machine.Mounts.{Mount}
 use Rattle.vt_spec.specs.Machine.Permits.{Permit}
 use Rattle.vt_spec.specs.Machine.Settled.{filesystem_lives, is_mounted, without_dead_filesystems, without_dead_mounts}
 use Rattle.vt_spec.specs.Machine.World.{Filesystem, Task, World}
-use Rattle.vt_laws_counts.specs.Using.{Exchanges}
+use Rattle.vt_laws_mounts.specs.Counts.Using.{Exchanges}
 use Rattle.vt_fs.specs.FilesystemsValue.{FilesystemEntry, Filesystems, Shown, filesystem_seen, shown, shown_entry}
-use Rattle.vt_laws_counts.specs.OverlaysStay.{layer_count}
-use Rattle.vt_laws_letting_go.specs.Counts.{mounts_showing, times}
-use Rattle.vt_laws_letting_go.specs.OneByOne.{Inode}
-use Rattle.vt_laws_letting_go.proofs.Lists.{Among, all_from_among, among-from_map, among-map, among_from_all, filter_all, passes}
+use Rattle.vt_laws_mounts.specs.Counts.OverlaysStay.{layer_count}
+use Rattle.vt_laws_mounts.specs.LettingGo.Counts.{mounts_showing, times}
+use Rattle.vt_laws_mounts.specs.LettingGo.OneByOne.{Inode}
+use Rattle.vt_laws_mounts.proofs.letting_go.Lists.{Among, all_from_among, among-from_map, among-map, among_from_all, filter_all, passes}
 use Rattle.vt_location.specs.Numbers.{counted}
 use Rattle.vt_mount.specs.MountsValue.{MountEntry, mounts_in}
 use Rattle.vt_tasks.specs.TasksValue.{Tasks}
@@ -26,7 +26,7 @@ use Rattle.vt_detach.proofs.Moving.{Moves, Use, entry_counts, exchanged_shown, f
 use Rattle.vt_detach.proofs.Overlaid.{all_shown, is_plain_one, keeps_itself, layers_kept, overlays_counted, plain_ones_are, same_files_keep, still_mounted}
 use Rattle.vt_detach.proofs.Staying.{IsDone, after}
 use Rattle.vt_spec.proofs.Lists.{map_alike, map_twice}
-use Rattle.vt_laws_letting_go.specs.TreesOverlays.{in_use_of}
+use Rattle.vt_laws_mounts.specs.LettingGo.TreesOverlays.{in_use_of}
 
 -- the code's world with other mounts, filesystems and tasks
 abbrev pub remade : WorldValue → List MountEntry → Filesystems → Tasks → WorldValue

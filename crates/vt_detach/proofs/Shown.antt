@@ -5,7 +5,7 @@ use Rattle.vt_location.specs.Numbers.{counted}
 use Rattle.vt_mount.specs.MountsValue.{MountEntry, entry_numbered, mounts_in}
 use Rattle.vt_spec.specs.Machine.Mounts.{Mount}
 use Rattle.vt_spec.specs.Inodes.{Inodes, pinned, unpinned}
-use Rattle.vt_laws_counts.specs.Using.{pinned_if, unpinned_if}
+use Rattle.vt_laws_mounts.specs.Counts.Using.{pinned_if, unpinned_if}
 use Rattle.vt_spec.specs.Lists.{holds_of}
 use Rattle.vt_detach.specs.Uses.{Kept, is_unused, let_go_entry, let_go_filesystem, let_go_mount, mounts_shown, pinned_in, released_in, unpinned_in, without_filesystem, without_mount}
 use Rattle.vt_location.proofs.NumberLemmas.{counted_test}

@@ -5,7 +5,7 @@ use Rattle.std.proofs.lemmas.Bool.{or_parts}
 use Rattle.std.proofs.lemmas.Grind.{flat_map-append}
 use Rattle.vt_spec.specs.Language.Calls.{TaskName, same_name}
 use Rattle.vt_spec.specs.Machine.World.{Task, locations_of}
-use Rattle.vt_laws_letting_go.specs.Counts.{times}
+use Rattle.vt_laws_mounts.specs.LettingGo.Counts.{times}
 use Rattle.vt_tasks.specs.Counts.{locations_in, one_if}
 use Rattle.vt_tasks.specs.TasksValue.{AreNamedApart, Tasks, called, replaced}
 use Rattle.vt_tasks.proofs.GivenOnce.{name-of-called}

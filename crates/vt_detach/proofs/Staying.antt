@@ -16,20 +16,20 @@ use Rattle.vt_spec.specs.Machine.World.{Filesystem, Task, all_locations, first_c
 use Rattle.vt_spec.specs.Machine.Invariants.{IsWorld}
 use Rattle.vt_fs.specs.FilesystemsValue.{filesystem_seen}
 use Rattle.vt_laws_rules.specs.Numbers.{KeepsTo}
-use Rattle.vt_laws_letting_go.specs.Counts.{inode_uses, times}
-use Rattle.vt_laws_letting_go.specs.Leaving.{is_location_among, only_these_are_left}
-use Rattle.vt_laws_letting_go.proofs.Lists.{Among, all_from_among, all_pass, among_from_all, any_passes, or_first}
+use Rattle.vt_laws_mounts.specs.LettingGo.Counts.{inode_uses, times}
+use Rattle.vt_laws_mounts.specs.LettingGo.Leaving.{is_location_among, only_these_are_left}
+use Rattle.vt_laws_mounts.proofs.letting_go.Lists.{Among, all_from_among, all_pass, among_from_all, any_passes, or_first}
 use Rattle.vt_location.specs.Numbers.{counted}
-use Rattle.vt_laws_runs.proofs.answered.AlikeWorlds.{sameness_is_an_equivalence}
+use Rattle.vt_laws_trees.proofs.runs.answered.AlikeWorlds.{sameness_is_an_equivalence}
 use Rattle.vt_tasks.specs.Counts.{one_if}
-use Rattle.vt_laws_letting_go.proofs.sweeps.OfWorlds.{worlds_are_settled}
-use Rattle.vt_laws_letting_go.proofs.leaving.LeftWithOverlays.{staying_keeps_overlays}
-use Rattle.vt_laws_permits.specs.Left.{IsGiven}
-use Rattle.vt_laws_permits.specs.Named.{permit_named}
-use Rattle.vt_laws_permits.proofs.named.PermitsKeepTo.{permits_keep_to_numbers}
-use Rattle.vt_laws_overlays_read.specs.Writers.{WritersHaveLayers}
-use Rattle.vt_laws_overlays_stay.proofs.left.Given.{given_permits_give_no_upper}
-use Rattle.vt_laws_runs.specs.Handed.{is_counted_before}
+use Rattle.vt_laws_mounts.proofs.letting_go.sweeps.OfWorlds.{worlds_are_settled}
+use Rattle.vt_laws_mounts.proofs.letting_go.leaving.LeftWithOverlays.{staying_keeps_overlays}
+use Rattle.vt_laws_worlds.specs.Permits.Left.{IsGiven}
+use Rattle.vt_laws_worlds.specs.Permits.Named.{permit_named}
+use Rattle.vt_laws_worlds.proofs.permits.named.PermitsKeepTo.{permits_keep_to_numbers}
+use Rattle.vt_laws_worlds.specs.OverlaysRead.Writers.{WritersHaveLayers}
+use Rattle.vt_laws_worlds.proofs.overlays_stay.left.Given.{given_permits_give_no_upper}
+use Rattle.vt_laws_trees.specs.Runs.Handed.{is_counted_before}
 use Rattle.vt_tasks.specs.TasksValue.{Tasks, changed_by, changed_called, replaced}
 use Rattle.vt_detach.specs.Events.{Becomes, Permits, credentials_called, left_by, supply_of}
 use Rattle.vt_world.specs.Held.{CountsItsMounts, CountsItsUses, CountsWhatIsInIt, IsHeld, writes_of, writes_of_task, writes_on}

@@ -8,11 +8,11 @@ use Rattle.vt_spec.specs.Lists.{then_some}
 use Rattle.vt_spec.specs.Machine.Layers.{at_path, node_at_path}
 use Rattle.vt_spec.specs.Machine.World.{Filesystem, Layer, Real, World, filesystem_numbered, open_layer}
 use Rattle.vt_spec.specs.Machine.World.Real.{Lower, Upper}
-use Rattle.vt_laws_letting_go.proofs.Lists.{Among, among-map, among_from_all}
-use Rattle.vt_laws_overlays_kept.proofs.inodes.InodesInOrder.{inodes_have_their_objects}
-use Rattle.vt_laws_overlays_kept.proofs.lending.ObjectsLent.{real_objects_are_lent}
-use Rattle.vt_laws_overlays_kept.specs.Kept.{ShowsLayer, with_objects}
-use Rattle.vt_laws_overlays_kept.specs.Lending.{lent_on, object_lent}
+use Rattle.vt_laws_mounts.proofs.letting_go.Lists.{Among, among-map, among_from_all}
+use Rattle.vt_world.proofs.overlays_kept.inodes.InodesInOrder.{inodes_have_their_objects}
+use Rattle.vt_world.proofs.overlays_kept.lending.ObjectsLent.{real_objects_are_lent}
+use Rattle.vt_world.specs.OverlaysKept.Kept.{ShowsLayer, with_objects}
+use Rattle.vt_world.specs.OverlaysKept.Lending.{lent_on, object_lent}
 use Rattle.vt_laws_trees.proofs.trees.TreesOfWorlds.{number_numbered}
 use Rattle.vt_location.specs.Numbers.{counted}
 use Rattle.vt_fs.specs.FilesystemsValue.{filesystem_seen, entry_at, node_seen}

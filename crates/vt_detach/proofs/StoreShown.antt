@@ -5,10 +5,10 @@ use Rattle.vt_spec.proofs.Options.{none_is_some}
 use Rattle.vt_spec.specs.Machine.World.{Filesystem, World, filesystem_numbered, no_filesystem}
 use Rattle.vt_spec.specs.Tree.{Tree}
 use Rattle.vt_spec.specs.TreeInvariant.{HasOwnParents, IsTree}
-use Rattle.vt_laws_letting_go.proofs.Lists.{Among, all_from_among, among-from_map, among-map}
-use Rattle.vt_laws_letting_go.proofs.sweeps.OfWorlds.{found_filesystem}
-use Rattle.vt_laws_overlays_kept.proofs.inodes.InodesInOrder.{inodes_are_the_tree}
-use Rattle.vt_laws_overlays_stay.proofs.weaving.WovenLists.{plain_ones_are_found}
+use Rattle.vt_laws_mounts.proofs.letting_go.Lists.{Among, all_from_among, among-from_map, among-map}
+use Rattle.vt_laws_mounts.proofs.letting_go.sweeps.OfWorlds.{found_filesystem}
+use Rattle.vt_world.proofs.overlays_kept.inodes.InodesInOrder.{inodes_are_the_tree}
+use Rattle.vt_laws_worlds.proofs.overlays_stay.weaving.WovenLists.{plain_ones_are_found}
 use Rattle.vt_laws_trees.proofs.trees.TreesOfWorlds.{number_numbered, numbered_all}
 use Rattle.vt_location.specs.Numbers.{counted}
 use Rattle.vt_location.proofs.NumberLemmas.{counted_test}

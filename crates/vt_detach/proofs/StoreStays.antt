@@ -4,15 +4,15 @@ use Rattle.std.specs.Prelude.{All}
 use Rattle.vt_spec.specs.Machine.Permits.{Permit}
 use Rattle.vt_spec.specs.Machine.SameWorlds.{SameWorlds}
 use Rattle.vt_spec.specs.Machine.World.{Filesystem, Task, World, filesystem_numbered, is_overlay}
-use Rattle.vt_laws_letting_go.proofs.Lists.{Among, all_from_among, among-map, among_from_all}
+use Rattle.vt_laws_mounts.proofs.letting_go.Lists.{Among, all_from_among, among-map, among_from_all}
 use Rattle.vt_laws_rules.proofs.same.SameLooks.{found_same}
 use Rattle.vt_spec.proofs.Lists.{map_alike}
 use Rattle.std.proofs.lemmas.List.Sorted.{length_permutation}
-use Rattle.vt_laws_letting_go.proofs.sweeps.OfWorlds.{found_filesystem}
-use Rattle.vt_laws_overlays_kept.proofs.events.KeptOverlays.{kept_overlays_stay}
-use Rattle.vt_laws_overlays_kept.proofs.inodes.InodesInOrder.{inodes_have_their_objects, inodes_stay}
-use Rattle.vt_laws_overlays_kept.specs.Kept.{IsShownAlike, ShowsLayer, ShowsLayers, with_objects}
-use Rattle.vt_laws_permits.specs.Left.{IsGiven}
+use Rattle.vt_laws_mounts.proofs.letting_go.sweeps.OfWorlds.{found_filesystem}
+use Rattle.vt_world.proofs.overlays_kept.events.KeptOverlays.{kept_overlays_stay}
+use Rattle.vt_world.proofs.overlays_kept.inodes.InodesInOrder.{inodes_have_their_objects, inodes_stay}
+use Rattle.vt_world.specs.OverlaysKept.Kept.{IsShownAlike, ShowsLayer, ShowsLayers, with_objects}
+use Rattle.vt_laws_worlds.specs.Permits.Left.{IsGiven}
 use Rattle.vt_location.specs.Numbers.{counted}
 use Rattle.vt_fs.specs.FilesystemsValue.{Filesystems}
 use Rattle.vt_merge.specs.declared.layers.LayerRef.{LayerRef}

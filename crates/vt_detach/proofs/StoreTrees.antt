@@ -5,7 +5,7 @@ use Rattle.vt_spec.specs.Machine.Invariants.{ListsNumbers}
 use Rattle.vt_spec.specs.Machine.World.{Filesystem, filesystem_numbered, is_overlay, no_filesystem}
 use Rattle.vt_spec.specs.Tree.{Tree}
 use Rattle.vt_spec.specs.TreeInvariant.{HasOwnParents, IsTree}
-use Rattle.vt_laws_overlays_kept.proofs.inodes.InodesInOrder.{numbers_are_listed}
+use Rattle.vt_world.proofs.overlays_kept.inodes.InodesInOrder.{numbers_are_listed}
 use Rattle.vt_laws_trees.proofs.trees.TreesOfWorlds.{number_numbered, numbered_all}
 use Rattle.vt_laws_trees.specs.Trees.{IsFileTree}
 use Rattle.vt_location.specs.Numbers.{counted}
@@ -14,7 +14,7 @@ use Rattle.vt_fs.specs.FilesystemsValue.{entry_at}
 use Rattle.vt_overlay.specs.MergedTree.{OverlayValue}
 use Rattle.vt_store.proofs.Woven.{is_over, is_plain}
 use Rattle.vt_store.specs.StoreValue.{StandsOnLayers, StoreValue, files_in, filesystems_of, overlay_in}
-use Rattle.vt_laws_letting_go.proofs.Lists.{among_from_all}
+use Rattle.vt_laws_mounts.proofs.letting_go.Lists.{among_from_all}
 use Rattle.vt_world.specs.Held.{IsHeld}
 use Rattle.vt_world.specs.StoredWorld.{with_store}
 use Rattle.vt_world.specs.WorldValue.{WorldValue, world_of}

@@ -5,7 +5,7 @@ use Rattle.std.proofs.lemmas.Option.{same_Some}
 use Rattle.vt_spec.specs.Lists.{folded}
 use Rattle.vt_spec.specs.Inodes.{unpinned}
 use Rattle.vt_fs.specs.FilesystemsValue.{Shown, shown, shown_with}
-use Rattle.vt_laws_letting_go.proofs.Lists.{filter_alike}
+use Rattle.vt_laws_mounts.proofs.letting_go.Lists.{filter_alike}
 use Rattle.vt_location.specs.Locations.{inode_of}
 use Rattle.vt_location.specs.Numbers.{counted}
 use Rattle.vt_location.proofs.NumberLemmas.{counted_test}

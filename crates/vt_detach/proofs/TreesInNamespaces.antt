@@ -10,8 +10,8 @@ use Rattle.vt_spec.specs.Machine.World.{World, mount_at, mount_numbered}
 use Rattle.vt_spec.specs.Machine.Invariants.{Stands}
 use Rattle.vt_spec.specs.Machine.Invariants.Stands.{at_root, on_parent}
 use Rattle.vt_spec.proofs.Lists.{Among, among_from_list_all, filter_none, none_from_among}
-use Rattle.vt_laws_letting_go.specs.Leaving.{stands_on_attached}
-use Rattle.vt_laws_letting_go.proofs.sweeps.OfWorlds.{mounts_of_worlds_stand}
+use Rattle.vt_laws_mounts.specs.LettingGo.Leaving.{stands_on_attached}
+use Rattle.vt_laws_mounts.proofs.letting_go.sweeps.OfWorlds.{mounts_of_worlds_stand}
 use Rattle.vt_mount.specs.MountsValue.{mounts_in}
 use Rattle.vt_laws_mounts.proofs.mounts.MountsFound.{found_or_none, number_found}
 use Rattle.vt_laws_mounts.proofs.mounts.MountsReplaced.{found_itself, tree_among}

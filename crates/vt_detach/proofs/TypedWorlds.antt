@@ -9,23 +9,23 @@ use Rattle.vt_spec.specs.Machine.Mounts.Propagation.{Private, Unbindable}
 use Rattle.vt_spec.specs.Machine.Receives.{has_members, inherited, inheriting, regrouped}
 use Rattle.vt_spec.specs.Machine.Settled.{filesystem_lives, has_layer_on, is_mounted, layers_in, located_in, mount_lives, named_in, objects_of_overlay, settled, without_dead_mounts}
 use Rattle.vt_spec.specs.Machine.World.{Filesystem, World, all_locations, filesystem_numbered}
-use Rattle.vt_laws_counts.specs.Using.{Exchanges, is_inode}
+use Rattle.vt_laws_mounts.specs.Counts.Using.{Exchanges, is_inode}
 use Rattle.vt_group.specs.Grouping.{Grouping, Has, master_in, propagation_in}
 use Rattle.vt_group.specs.Laws.{shown, typed_by}
 use Rattle.vt_group.proofs.Showing.{shows_types}
 use Rattle.vt_group.proofs.Typed.{regrouped_is_typed}
-use Rattle.vt_laws_letting_go.specs.Counts.{inode_uses, mounts_showing, times}
-use Rattle.vt_laws_letting_go.specs.OneByOne.{Inode}
-use Rattle.vt_laws_letting_go.proofs.Lists.{Among, among-from_map, among-map, among_from_all, any-map, filter-map, filter_alike}
+use Rattle.vt_laws_mounts.specs.LettingGo.Counts.{inode_uses, mounts_showing, times}
+use Rattle.vt_laws_mounts.specs.LettingGo.OneByOne.{Inode}
+use Rattle.vt_laws_mounts.proofs.letting_go.Lists.{Among, among-from_map, among-map, among_from_all, any-map, filter-map, filter_alike}
 use Rattle.vt_detach.proofs.Grouped.{settled_has}
 use Rattle.vt_detach.proofs.MountsChanged.{times_map}
 use Rattle.vt_spec.proofs.Lists.{map_twice}
 use Rattle.vt_spec.proofs.Truths.{or_false_left}
 use Rattle.vt_spec.proofs.Worlds.{shown-mapped}
 use Rattle.vt_laws_mounts.proofs.Groups.{mounts-regrouped}
-use Rattle.vt_laws_letting_go.proofs.SweptBetween.{settled_without_groups}
-use Rattle.vt_laws_permits.specs.Taken.{is_ungrouped}
-use Rattle.vt_laws_letting_go.specs.TreesOverlays.{in_use_of}
+use Rattle.vt_laws_mounts.proofs.letting_go.SweptBetween.{settled_without_groups}
+use Rattle.vt_laws_worlds.specs.Permits.Taken.{is_ungrouped}
+use Rattle.vt_laws_mounts.specs.LettingGo.TreesOverlays.{in_use_of}
 
 module _ (groups : Grouping) where
   -- the world with the types and the masters that groups tell

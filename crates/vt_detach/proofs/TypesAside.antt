@@ -13,7 +13,7 @@ use Rattle.vt_fs.specs.FilesystemsValue.{Shown}
 use Rattle.vt_group.specs.Grouping.{Grouping, Has, no_groups, propagation_in}
 use Rattle.vt_group.specs.Together.{TakesAway, as_private, changed_if, with_changed}
 use Rattle.vt_group.proofs.Together.{is_among-snoc, taken_has}
-use Rattle.vt_laws_letting_go.proofs.Lists.{Among, all_from_among, among-filter, among-from_filter, among-from_map, among-map, among_from_all, among_numbers, any-map, any_passes, filter-map, found_in, is_among_numbers, is_among_right, held_number}
+use Rattle.vt_laws_mounts.proofs.letting_go.Lists.{Among, all_from_among, among-filter, among-from_filter, among-from_map, among-map, among_from_all, among_numbers, any-map, any_passes, filter-map, found_in, is_among_numbers, is_among_right, held_number}
 use Rattle.vt_location.specs.declared.locations.Location.{Location}
 use Rattle.vt_mount.specs.MountsValue.{MountEntry, changed, entry_numbered, mounts_in}
 use Rattle.vt_retype.specs.Leaving.{OnlyTypesChange}

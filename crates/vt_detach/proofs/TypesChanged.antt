@@ -16,20 +16,20 @@ use Rattle.vt_spec.specs.Machine.World.{Filesystem, World, all_locations}
 use Rattle.vt_fs.specs.FilesystemsValue.{filesystem_seen}
 use Rattle.vt_group.specs.Grouping.{Grouping, Has, are_rising, master_in, peers_of}
 use Rattle.vt_laws_rules.specs.Numbers.{KeepsTo}
-use Rattle.vt_laws_counts.specs.OverlaysStay.{layer_count}
-use Rattle.vt_laws_letting_go.specs.Counts.{inode_uses, mounts_showing, times}
-use Rattle.vt_laws_letting_go.specs.Detaching.{with_changed}
-use Rattle.vt_laws_letting_go.specs.InUse.{GroupsInUse}
-use Rattle.vt_laws_letting_go.specs.Keeping.{KeepsUses}
-use Rattle.vt_laws_letting_go.proofs.Lists.{all_from_among, among-from_map, among_from_all}
-use Rattle.vt_laws_letting_go.proofs.leaving.UsesKept.{types_keep_all}
+use Rattle.vt_laws_mounts.specs.Counts.OverlaysStay.{layer_count}
+use Rattle.vt_laws_mounts.specs.LettingGo.Counts.{inode_uses, mounts_showing, times}
+use Rattle.vt_laws_mounts.specs.LettingGo.Detaching.{with_changed}
+use Rattle.vt_laws_mounts.specs.LettingGo.InUse.{GroupsInUse}
+use Rattle.vt_laws_mounts.specs.LettingGo.Keeping.{KeepsUses}
+use Rattle.vt_laws_mounts.proofs.letting_go.Lists.{all_from_among, among-from_map, among_from_all}
+use Rattle.vt_laws_mounts.proofs.letting_go.leaving.UsesKept.{types_keep_all}
 use Rattle.vt_location.specs.Numbers.{counted}
 use Rattle.vt_mount.specs.MountsValue.{MountEntry, mounts_in}
 use Rattle.vt_retype.specs.Retyping.{retyped as retyped_entry}
-use Rattle.vt_laws_overlays_stay.proofs.left.Given.{given_permits_give_no_upper}
-use Rattle.vt_laws_runs.specs.Handed.{counts_from, is_counted_before}
+use Rattle.vt_laws_worlds.proofs.overlays_stay.left.Given.{given_permits_give_no_upper}
+use Rattle.vt_laws_trees.specs.Runs.Handed.{counts_from, is_counted_before}
 use Rattle.vt_laws_worlds.proofs.RaisedInUse.{worlds_are_in_use}
-use Rattle.vt_laws_overlays_read.specs.Writers.{WritersHaveLayers}
+use Rattle.vt_laws_worlds.specs.OverlaysRead.Writers.{WritersHaveLayers}
 use Rattle.vt_detach.proofs.Writers.{left_writers}
 use Rattle.vt_detach.specs.Events.{Permits, left_by, supply_of}
 use Rattle.vt_world.specs.Held.{CountsItsMounts, CountsItsUses, CountsWhatIsInIt, IsHeld}
@@ -37,8 +37,8 @@ use Rattle.vt_world.specs.WorldValue.{WorldValue, world_of}
 use Rattle.vt_detach.proofs.MountsChanged.{times_map}
 use Rattle.vt_detach.proofs.Overlaid.{overlays_counted}
 use Rattle.vt_detach.proofs.Staying.{IsDone, becomes_so}
-use Rattle.vt_laws_letting_go.proofs.SweptBetween.{settled_without_groups}
-use Rattle.vt_laws_runs.proofs.answered.AlikeWorlds.{sameness_is_an_equivalence}
+use Rattle.vt_laws_mounts.proofs.letting_go.SweptBetween.{settled_without_groups}
+use Rattle.vt_laws_trees.proofs.runs.answered.AlikeWorlds.{sameness_is_an_equivalence}
 use Rattle.vt_spec.proofs.Lists.{map_twice}
 use Rattle.vt_spec.proofs.Worlds.{shown-mapped}
 use Rattle.vt_laws_mounts.specs.Mounts.Attaching.{numbers_of}

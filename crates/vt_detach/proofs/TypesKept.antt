@@ -17,10 +17,10 @@ use Rattle.vt_group.specs.Grouping.{Grouping, Has, LacksGroup}
 use Rattle.vt_laws_rules.specs.Numbers.{KeepsTo}
 use Rattle.vt_mount.specs.MountsValue.{mounts_in}
 use Rattle.vt_retype.specs.Retyping.{retyped as retyped_entry}
-use Rattle.vt_laws_permits.proofs.named.PermitsKeepTo.{permits_keep_to_numbers}
-use Rattle.vt_laws_permits.proofs.taken.TakenAttached.{index_bound}
-use Rattle.vt_laws_permits.proofs.taken.TakenNumbers.{counted_later}
-use Rattle.vt_laws_runs.specs.Handed.{counts_from, is_counted_before}
+use Rattle.vt_laws_worlds.proofs.permits.named.PermitsKeepTo.{permits_keep_to_numbers}
+use Rattle.vt_laws_worlds.proofs.permits.taken.TakenAttached.{index_bound}
+use Rattle.vt_laws_worlds.proofs.permits.taken.TakenNumbers.{counted_later}
+use Rattle.vt_laws_trees.specs.Runs.Handed.{counts_from, is_counted_before}
 use Rattle.vt_detach.specs.Events.{Permits}
 use Rattle.vt_world.specs.Held.{IsHeld}
 use Rattle.vt_world.specs.WorldValue.{WorldValue, world_of}

@@ -9,18 +9,18 @@ use Rattle.vt_spec.specs.Machine.Permits.{Permit}
 use Rattle.vt_spec.specs.Machine.Permits.Permit.{ToSetFlags}
 use Rattle.vt_spec.specs.Machine.Settled.{settled}
 use Rattle.vt_spec.specs.Machine.World.{mount_numbered, with_mounts}
-use Rattle.vt_laws_counts.specs.Using.{Exchanges, is_inode}
+use Rattle.vt_laws_mounts.specs.Counts.Using.{Exchanges, is_inode}
 use Rattle.vt_fs.specs.FilesystemsValue.{Shown, shown}
 use Rattle.vt_group.specs.Grouping.{Has}
-use Rattle.vt_laws_letting_go.specs.Counts.{times}
-use Rattle.vt_laws_letting_go.specs.Keeping.{flags_if}
-use Rattle.vt_laws_letting_go.specs.Mounting.{inode_at}
-use Rattle.vt_laws_letting_go.proofs.Lists.{Among, is_among_numbers, among-map}
-use Rattle.vt_laws_letting_go.proofs.leaving.PlacesLeft.{found_is_there, number_found}
-use Rattle.vt_laws_letting_go.proofs.leaving.UsesKept.{flags_are_of_one}
+use Rattle.vt_laws_mounts.specs.LettingGo.Counts.{times}
+use Rattle.vt_laws_mounts.specs.LettingGo.Keeping.{flags_if}
+use Rattle.vt_laws_mounts.specs.LettingGo.Mounting.{inode_at}
+use Rattle.vt_laws_mounts.proofs.letting_go.Lists.{Among, is_among_numbers, among-map}
+use Rattle.vt_laws_mounts.proofs.letting_go.leaving.PlacesLeft.{found_is_there, number_found}
+use Rattle.vt_laws_mounts.proofs.letting_go.leaving.UsesKept.{flags_are_of_one}
 use Rattle.vt_mount.specs.MountsValue.{changed, mounts_in}
-use Rattle.vt_laws_permits.specs.Named.{permit_named}
-use Rattle.vt_laws_runs.specs.Handed.{is_counted_before}
+use Rattle.vt_laws_worlds.specs.Permits.Named.{permit_named}
+use Rattle.vt_laws_trees.specs.Runs.Handed.{is_counted_before}
 use Rattle.vt_detach.specs.Events.{Permits}
 use Rattle.vt_world.specs.Held.{IsHeld}
 use Rattle.vt_world.specs.WorldValue.{WorldValue, world_of}

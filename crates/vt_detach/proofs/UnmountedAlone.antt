@@ -11,12 +11,12 @@ use Rattle.vt_spec.specs.Machine.Run.{numbers_in_use, used_by_filesystem, used_b
 use Rattle.vt_spec.specs.Machine.World.{World, mount_at, mount_numbered}
 use Rattle.vt_fs.specs.FilesystemsValue.{Filesystems}
 use Rattle.vt_laws_rules.proofs.numbers.Supports.{used_numbers_are_named}
-use Rattle.vt_laws_letting_go.proofs.Lists.{Among, among-append_left, among-flat_map, fails, is_among_numbers}
-use Rattle.vt_laws_letting_go.proofs.leaving.PlacesLeft.{found_is_there, found_itself, number_found}
+use Rattle.vt_laws_mounts.proofs.letting_go.Lists.{Among, among-append_left, among-flat_map, fails, is_among_numbers}
+use Rattle.vt_laws_mounts.proofs.letting_go.leaving.PlacesLeft.{found_is_there, found_itself, number_found}
 use Rattle.vt_location.specs.declared.locations.Location.{Location}
 use Rattle.vt_location.specs.Locations.{is_small_node, location_of}
 use Rattle.vt_mount.specs.MountsValue.{MountEntry, mounts_in}
-use Rattle.vt_laws_runs.specs.Handed.{is_counted_before}
+use Rattle.vt_laws_trees.specs.Runs.Handed.{is_counted_before}
 use Rattle.vt_detach.specs.Events.{Permits}
 use Rattle.vt_world.specs.Held.{IsHeld}
 use Rattle.vt_detach.specs.Uses.{Merged, kept_of, kept_with, point_of, without_attachment}
@@ -28,8 +28,8 @@ use Rattle.vt_detach.proofs.FileEvents.{permit_fits}
 use Rattle.vt_detach.proofs.Moving.{swap_eq}
 use Rattle.vt_detach.proofs.Remaining.{remade_with}
 use Rattle.vt_detach.proofs.Staying.{IsDone}
-use Rattle.vt_laws_permits.specs.Taken.{is_ungrouped}
-use Rattle.vt_laws_letting_go.specs.TreesOverlays.{in_use_of}
+use Rattle.vt_laws_worlds.specs.Permits.Taken.{is_ungrouped}
+use Rattle.vt_laws_mounts.specs.LettingGo.TreesOverlays.{in_use_of}
 
 pub attached_is_named : (value : WorldValue) → IsHeld value → (number : ℕ)
     → is_some (mount_numbered nat_eq (world_of value) number).namespace ≡ true

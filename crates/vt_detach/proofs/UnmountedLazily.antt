@@ -7,7 +7,7 @@ use Rattle.vt_spec.specs.Machine.Mounts.{Location as Place, Mount, is_shared, mo
 use Rattle.vt_spec.specs.Machine.Permits.Permit.{ToUnmountLazily}
 use Rattle.vt_spec.specs.Machine.World.{World, mount_at, mount_numbered}
 use Rattle.vt_fs.specs.FilesystemsValue.{Filesystems}
-use Rattle.vt_laws_letting_go.specs.OneByOne.{Inode}
+use Rattle.vt_laws_mounts.specs.LettingGo.OneByOne.{Inode}
 use Rattle.vt_mount.specs.MountsValue.{MountEntry, mounts_in}
 use Rattle.vt_detach.specs.Detached.{LeaveInTurn}
 use Rattle.vt_detach.specs.Events.{Permits}
@@ -23,8 +23,8 @@ use Rattle.vt_detach.proofs.LazilyUnmounted.{lazily_is_detached, tree_has_childr
 use Rattle.vt_detach.proofs.Remaining.{remade_with}
 use Rattle.vt_detach.proofs.Staying.{IsDone}
 use Rattle.vt_detach.proofs.UnmountedAlone.{attached_is_named}
-use Rattle.vt_laws_permits.specs.Taken.{is_ungrouped}
-use Rattle.vt_laws_letting_go.specs.TreesOverlays.{in_use_of}
+use Rattle.vt_laws_worlds.specs.Permits.Taken.{is_ungrouped}
+use Rattle.vt_laws_mounts.specs.LettingGo.TreesOverlays.{in_use_of}
 
 -- where each has left in its turn, none is pending
 pub all_detached : (old : WorldValue) (gained : List Inode) (last : World ℕ) (numbers : List ℕ) (k final : Kept)

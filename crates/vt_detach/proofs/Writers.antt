@@ -3,10 +3,10 @@ use Rattle.std.proofs.Common.{ℕ}
 use Rattle.vt_spec.specs.Lists.{Fresh}
 use Rattle.vt_spec.specs.Machine.Permits.{Permit}
 use Rattle.vt_spec.specs.Machine.World.{Task, World}
-use Rattle.vt_laws_given.specs.LeftWorlds.{IsGivenToTask}
-use Rattle.vt_laws_overlays_read.specs.Writers.{WritersHaveLayers}
-use Rattle.vt_laws_overlays_read.proofs.writers.Kept.{permits_keep_writers}
-use Rattle.vt_laws_permits.specs.Left.{IsGiven}
+use Rattle.vt_laws_worlds.specs.Given.LeftWorlds.{IsGivenToTask}
+use Rattle.vt_laws_worlds.specs.OverlaysRead.Writers.{WritersHaveLayers}
+use Rattle.vt_laws_worlds.proofs.overlays_read.Kept.{permits_keep_writers}
+use Rattle.vt_laws_worlds.specs.Permits.Left.{IsGiven}
 use Rattle.vt_detach.specs.Events.{left_by, supply_of}
 use Rattle.vt_world.specs.Held.{IsHeld}
 use Rattle.vt_world.specs.WorldValue.{WorldValue, world_of}

@@ -13,9 +13,9 @@ use Rattle.vt_fs.specs.FilesystemsValue.{entry_of, next_seen}
 use Rattle.vt_location.specs.Numbers.{exchanged, inode_number}
 use Rattle.vt_merge.specs.declared.layers.LayerRef.{LayerRef}
 use Rattle.vt_overlay.specs.MergedTree.{OverlayValue}
-use Rattle.vt_laws_overlays_made.specs.Made.{handed_in}
-use Rattle.vt_laws_permits.specs.Left.{IsGiven, left_by as left}
-use Rattle.vt_laws_runs.specs.Handed.{counts_from, handed_from}
+use Rattle.vt_world.specs.OverlaysMade.Made.{handed_in}
+use Rattle.vt_laws_worlds.specs.Permits.Left.{IsGiven, left_by as left}
+use Rattle.vt_laws_trees.specs.Runs.Handed.{counts_from, handed_from}
 use Rattle.vt_world.specs.WorldValue.{WorldValue, world_of}
 
 -- The number of the filesystem that a location is in

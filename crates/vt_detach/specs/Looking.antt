@@ -10,7 +10,7 @@ use Rattle.vt_spec.specs.Machine.World.{first_task, mount_at, mount_numbered, mo
 use Rattle.vt_location.specs.declared.locations.Location.{Location}
 use Rattle.vt_location.specs.Locations.{location_of}
 use Rattle.vt_location.specs.Numbers.{counted}
-use Rattle.vt_laws_runs.specs.Handed.{counts_from}
+use Rattle.vt_laws_trees.specs.Runs.Handed.{counts_from}
 use Rattle.vt_world.specs.WorldValue.{WorldValue, world_of}
 
 abbrev pub looks_of_value : WorldValue → Looks ℕ

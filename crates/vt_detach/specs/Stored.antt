@@ -1,6 +1,6 @@
 -- Mounts, and a store of filesystems, as they are counted.
 use Rattle.std.specs.Prelude.{Bool, List, filter, map, ℕ, ◌≡◌}
-use Rattle.vt_laws_letting_go.specs.OneByOne.{Inode}
+use Rattle.vt_laws_mounts.specs.LettingGo.OneByOne.{Inode}
 use Rattle.vt_location.specs.Locations.{inode_of}
 use Rattle.vt_location.specs.Numbers.{counted}
 use Rattle.vt_merge.specs.declared.layers.LayerRef.{LayerRef}

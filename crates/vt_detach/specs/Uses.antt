@@ -1,9 +1,9 @@
 -- Mounts and filesystems with their counts, where a use of a location comes or goes: chdir(2), open(2), close(2).
 use Rattle.std.specs.Option.{option_and_then}
 use Rattle.std.specs.Prelude.{Bool, List, None, Option, Some, filter, filter_map, find, if◌then◌else◌, map, nat_eq, not, option_map, unwrap_or, ℕ, ◌+◌, ◌++◌, ◌-◌}
-use Rattle.vt_laws_counts.specs.Using.{pinned_if, unpinned_if}
+use Rattle.vt_laws_mounts.specs.Counts.Using.{pinned_if, unpinned_if}
 use Rattle.vt_fs.specs.FilesystemsValue.{Filesystems, Shown, shown}
-use Rattle.vt_laws_letting_go.specs.OneByOne.{Inode}
+use Rattle.vt_laws_mounts.specs.LettingGo.OneByOne.{Inode}
 use Rattle.vt_location.specs.declared.locations.Location.{Location}
 use Rattle.vt_location.specs.declared.locations.NodeRef.{NodeRef}
 use Rattle.vt_location.specs.declared.mounts.Mount.{Mount as Attached}

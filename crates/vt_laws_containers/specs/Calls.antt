@@ -7,7 +7,7 @@ use Rattle.vt_spec.specs.Lists.{Fresh, is_among}
 use Rattle.vt_spec.specs.Machine.Run.{Serves}
 use Rattle.vt_spec.specs.Machine.World.{World}
 use Rattle.vt_laws_trees.specs.Trees.Limits.{names_few_groups}
-use Rattle.vt_laws_members_changes.specs.Changes.{EndsAlike, IsCallOfTheirs}
+use Rattle.vt_laws_members.specs.Changes.Changes.{EndsAlike, IsCallOfTheirs}
 use Rattle.vt_laws_containers.specs.Footholds.{GivesNoFoothold}
 use Rattle.vt_laws_containers.specs.Scripts.{Along, EachEndsAlike, IsSealedOffAt, KeepsOthersOut, Stand, StaysSealed, asked, own_answers}
 

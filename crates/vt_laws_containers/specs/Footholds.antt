@@ -5,7 +5,7 @@ use Rattle.vt_spec.specs.Lists.{Fresh, is_among}
 use Rattle.vt_spec.specs.Machine.Policy.{policy}
 use Rattle.vt_spec.specs.Machine.Sealed.{holds_all_tasks, no_outsider_on_mounts, shares_no_events, used_alone, used_filesystems}
 use Rattle.vt_spec.specs.Machine.World.{World}
-use Rattle.vt_laws_members_changes.specs.Changes.{grown}
+use Rattle.vt_laws_members.specs.Changes.Changes.{grown}
 
 -- In the later world a set has its namespaces and mounts for itself. Of the filesystems that it uses, others have
 -- footholds where they had some in the world before, if the first set used the filesystem, and else none.

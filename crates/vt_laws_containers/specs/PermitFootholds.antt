@@ -9,7 +9,7 @@ use Rattle.vt_spec.specs.Machine.Policy.{only_looks, policy}
 use Rattle.vt_spec.specs.Machine.Run.{Serves}
 use Rattle.vt_spec.specs.Machine.World.{Task, World, task_called}
 use Rattle.vt_laws_trees.specs.Trees.Limits.{names_few_groups}
-use Rattle.vt_laws_members_changes.specs.Changes.{IsCallOfTheirs}
+use Rattle.vt_laws_members.specs.Changes.Changes.{IsCallOfTheirs}
 use Rattle.vt_laws_containers.specs.Footholds.{GivesNoFoothold}
 
 -- A call of theirs that only looks gives others no foothold,

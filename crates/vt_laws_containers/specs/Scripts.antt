@@ -16,7 +16,7 @@ use Rattle.vt_spec.specs.Machine.Sealed.{sealed}
 use Rattle.vt_spec.specs.Machine.World.{World}
 use Rattle.vt_laws_rules.specs.Numbers.{KeepsTo}
 use Rattle.vt_laws_sealed.specs.Outsiders.{are_all_called}
-use Rattle.vt_laws_members_changes.specs.Changes.{EndsAlike, IsCallOfTheirs, grown}
+use Rattle.vt_laws_members.specs.Changes.Changes.{EndsAlike, IsCallOfTheirs, grown}
 use Rattle.vt_laws_containers.specs.Footholds.{GivesNoFoothold}
 
 -- a call, with the name of its task

@@ -16,7 +16,7 @@ ghost use Rattle.vt_laws_containers.specs.PermitFootholds.{DenialsGiveNoFoothold
 /// not use the filesystem. So a set is unsealed only where an overlay of theirs goes that locked such a filesystem.
 ///
 /// The numbers handed in are unused, and a fork names at most 32 supplementary groups. Of all calls see
-/// `no_call_of_theirs_gives_a_foothold` of `vt_laws_sealed_scripts`.
+/// `no_call_of_theirs_gives_a_foothold` of `sealed_scripts`.
 pub fn calls_of_theirs_give_others_no_foothold()
     ensures looks { LooksGiveNoFoothold }
     ensures refused { DenialsGiveNoFoothold }

@@ -14,7 +14,7 @@ ghost use Rattle.vt_laws_containers.specs.Scripts.{SealedSetsStandSo, SetsAreAns
 ///
 /// Every call of theirs ends alike, so it is enough that none of them gives others a foothold (`kept_out`). Calls that
 /// do both in every world do so along each run (`runs`). All calls do: of every set see
-/// `sealed_sets_are_answered_as_if_alone` of `vt_laws_sealed_scripts`.
+/// `sealed_sets_are_answered_as_if_alone` of `sealed_scripts`.
 pub fn sealed_sets_are_answered_as_alone()
     ensures alone { SetsAreAnsweredAsAlone }
     ensures runs { RunsEndAlike }

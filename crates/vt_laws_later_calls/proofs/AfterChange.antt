@@ -21,15 +21,15 @@ use Rattle.vt_spec.specs.Machine.Invariants.{IsWorld}
 use Rattle.vt_spec.specs.Rights.{Credentials}
 use Rattle.vt_spec.specs.Machine.Rightful.{node_allows}
 use Rattle.vt_spec.specs.Tree.{entries_in, entry_named, is_directory_node, parent_in}
-use Rattle.vt_laws_calls.proofs.inodes.InodesSettled.{settled_holds}
-use Rattle.vt_laws_calls.specs.Inodes.{change_of}
-use Rattle.vt_laws_letting_go.specs.FileChanges.{MayChange, inodes_lost, names_lost}
-use Rattle.vt_laws_letting_go.specs.InUse.{IsListedTree}
-use Rattle.vt_laws_letting_go.specs.OneByOne.{Inode}
-use Rattle.vt_laws_letting_go.specs.Overlays.{is_plain, let_go_all_inodes, let_go_in, let_go_in_of, uppers_of, without_inode_of}
-use Rattle.vt_laws_letting_go.proofs.leaving.FilesChanged.{file_changes_let_go}
-use Rattle.vt_laws_letting_go.proofs.sweeps.OfWorlds.{worlds_are_settled}
-use Rattle.vt_laws_permits.proofs.sees.SeesFit.{given_changes_are_proper}
+use Rattle.vt_laws_trees.proofs.calls.inodes.InodesSettled.{settled_holds}
+use Rattle.vt_laws_trees.specs.Calls.Inodes.{change_of}
+use Rattle.vt_laws_mounts.specs.LettingGo.FileChanges.{MayChange, inodes_lost, names_lost}
+use Rattle.vt_laws_mounts.specs.LettingGo.InUse.{IsListedTree}
+use Rattle.vt_laws_mounts.specs.LettingGo.OneByOne.{Inode}
+use Rattle.vt_laws_mounts.specs.LettingGo.Overlays.{is_plain, let_go_all_inodes, let_go_in, let_go_in_of, uppers_of, without_inode_of}
+use Rattle.vt_laws_mounts.proofs.letting_go.leaving.FilesChanged.{file_changes_let_go}
+use Rattle.vt_laws_mounts.proofs.letting_go.sweeps.OfWorlds.{worlds_are_settled}
+use Rattle.vt_laws_worlds.proofs.permits.sees.SeesFit.{given_changes_are_proper}
 use Rattle.vt_laws_trees.specs.Trees.{IsFileTree}
 use Rattle.vt_laws_trees.specs.Trees.Calls.{mounts_overlay}
 use Rattle.vt_laws_trees.specs.Trees.Limits.{names_few_groups}

@@ -14,3 +14,4 @@ pub mod Looked
 pub mod Readers
 pub mod MadeSeen
 pub mod AttrSeen
+pub mod limits

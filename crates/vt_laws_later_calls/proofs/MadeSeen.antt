@@ -31,11 +31,11 @@ use Rattle.vt_spec.specs.Machine.Invariants.{IsWorld}
 use Rattle.vt_spec.specs.Rights.{read_right}
 use Rattle.vt_spec.specs.Tree.{Node, bytes_in, entries_in, entry_named, is_directory_node, names_in, new_directory}
 use Rattle.vt_spec.proofs.Nodes.{directory_used}
-use Rattle.vt_laws_calls.specs.Inodes.{change_of}
-use Rattle.vt_laws_letting_go.specs.FileChanges.{IsMade}
-use Rattle.vt_laws_permits.specs.Sees.{MayBeMade, SeesTo}
-use Rattle.vt_laws_permits.proofs.sees.SeesNames.{tree_here}
-use Rattle.vt_laws_permits.proofs.sees.SeesTasks.{given_permits_are_seen_to}
+use Rattle.vt_laws_trees.specs.Calls.Inodes.{change_of}
+use Rattle.vt_laws_mounts.specs.LettingGo.FileChanges.{IsMade}
+use Rattle.vt_laws_worlds.specs.Permits.Sees.{MayBeMade, SeesTo}
+use Rattle.vt_laws_worlds.proofs.permits.sees.SeesNames.{tree_here}
+use Rattle.vt_laws_worlds.proofs.permits.sees.SeesTasks.{given_permits_are_seen_to}
 use Rattle.vt_laws_trees.specs.Trees.{IsFileTree}
 use Rattle.vt_laws_trees.specs.Trees.Calls.{mounts_overlay}
 use Rattle.vt_laws_trees.specs.Trees.Limits.{names_few_groups}

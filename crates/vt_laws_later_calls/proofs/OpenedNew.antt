@@ -27,16 +27,16 @@ use Rattle.vt_spec.specs.Machine.World.{Descriptor, Task, World, files_at, files
 use Rattle.vt_spec.specs.Machine.Invariants.{IsWorld, is_within_limits}
 use Rattle.vt_spec.specs.Tree.{Node, bytes_in, is_directory_node, node_with_entry}
 use Rattle.vt_spec.proofs.Nodes.{directory_used, none_is_not}
-use Rattle.vt_laws_letting_go.proofs.Lists.{passes}
+use Rattle.vt_laws_mounts.proofs.letting_go.Lists.{passes}
 use Rattle.vt_laws_trees.specs.Trees.Calls.{mounts_overlay}
 use Rattle.vt_laws_trees.specs.Trees.Limits.{names_few_groups}
 use Rattle.vt_laws_trees.proofs.trees.ChangesNodes.{elsewhere}
 use Rattle.vt_laws_worlds.specs.Worlds.Kept.{IsPlain}
 use Rattle.vt_laws_worlds.proofs.worlds.CallsKept.{name_found}
 use Rattle.vt_laws_worlds.proofs.worlds.SeenTrees.{change_mounts, change_tasks, unused_inode}
-use Rattle.vt_laws_permits.specs.Left.{IsGiven}
-use Rattle.vt_laws_permits.specs.Sees.{MayBeMade, SeesTo}
-use Rattle.vt_laws_permits.proofs.sees.SeesTasks.{given_permits_are_seen_to}
+use Rattle.vt_laws_worlds.specs.Permits.Left.{IsGiven}
+use Rattle.vt_laws_worlds.specs.Permits.Sees.{MayBeMade, SeesTo}
+use Rattle.vt_laws_worlds.proofs.permits.sees.SeesTasks.{given_permits_are_seen_to}
 use Rattle.vt_laws_later_calls.specs.Later.{CreateThenPread, ExclusiveThenPread, OpenOrCreateThenPread, OpenThenPread, OpensFile, OpensNewFile, ReadsBy}
 use Rattle.vt_laws_later_calls.proofs.Changed.{files_changed}
 use Rattle.vt_laws_later_calls.proofs.Granted.{IsPermitted, permitted}

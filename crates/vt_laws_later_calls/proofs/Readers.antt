@@ -21,8 +21,8 @@ use Rattle.vt_spec.specs.Machine.World.{Task, World, files_at, is_directory_at, 
 use Rattle.vt_spec.specs.Machine.Invariants.{IsWorld}
 use Rattle.vt_spec.specs.Rights.{execute_right}
 use Rattle.vt_spec.specs.Tree.{entries_in, entry_named, is_directory_node}
-use Rattle.vt_laws_calls.specs.Inodes.{change_of}
-use Rattle.vt_laws_letting_go.specs.FileChanges.{MayChange}
+use Rattle.vt_laws_trees.specs.Calls.Inodes.{change_of}
+use Rattle.vt_laws_mounts.specs.LettingGo.FileChanges.{MayChange}
 use Rattle.vt_laws_mounts.proofs.mounts.MountsFound.{found_in}
 use Rattle.vt_laws_mounts.proofs.mounts.MountsPlaces.{stands_there}
 use Rattle.vt_spec.proofs.Lists.{among_from_all}

@@ -12,7 +12,7 @@ use Rattle.vt_spec.specs.Machine.Run.{Serves}
 use Rattle.vt_spec.specs.Machine.Settled.{settled}
 use Rattle.vt_spec.specs.Machine.World.{Task, World, locations_of, mount_at, node_at, task_called}
 use Rattle.vt_spec.specs.Machine.Invariants.{IsWorld}
-use Rattle.vt_laws_letting_go.proofs.Lists.{Among}
+use Rattle.vt_laws_mounts.proofs.letting_go.Lists.{Among}
 use Rattle.vt_laws_trees.specs.Trees.Calls.{mounts_overlay}
 use Rattle.vt_laws_trees.specs.Trees.Limits.{names_few_groups}
 use Rattle.vt_laws_worlds.specs.Worlds.Kept.{IsPlain, IsWorldButForUse}

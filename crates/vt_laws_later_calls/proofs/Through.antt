@@ -28,7 +28,7 @@ use Rattle.vt_spec.specs.Machine.World.{Descriptor, Filesystem, Task, World, loc
 use Rattle.vt_spec.specs.Machine.Invariants.{IsWorld, has_regular_files_open}
 use Rattle.vt_spec.specs.Tree.{Content, Node, bytes_in, node_with_bytes}
 use Rattle.vt_spec.specs.Tree.Content.{Directory, Regular, Symlink, Whiteout}
-use Rattle.vt_laws_letting_go.proofs.Lists.{Among, among-map, passes}
+use Rattle.vt_laws_mounts.proofs.letting_go.Lists.{Among, among-map, passes}
 use Rattle.vt_laws_worlds.specs.Worlds.Kept.{IsPlain}
 use Rattle.vt_laws_worlds.proofs.worlds.SeenTrees.{change_of_plain, changed_one, found_new, old_number}
 use Rattle.vt_laws_trees.proofs.trees.TreesOfWorlds.{numbered}

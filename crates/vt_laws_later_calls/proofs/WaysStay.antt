@@ -24,7 +24,7 @@ use Rattle.vt_laws_mounts.proofs.mounts.MountsFound.{found_there}
 use Rattle.vt_spec.proofs.Lists.{among_from_list_all}
 use Rattle.vt_laws_trees.specs.Trees.{IsFileTree}
 use Rattle.vt_laws_trees.proofs.trees.TreesEntered.{chain_ends}
-use Rattle.vt_laws_permits.proofs.sees.SeesNames.{tree_here}
+use Rattle.vt_laws_worlds.proofs.permits.sees.SeesNames.{tree_here}
 use Rattle.vt_laws_worlds.specs.Worlds.Kept.{IsPlain}
 use Rattle.vt_laws_worlds.proofs.Plain.{plain_numbered}
 use Rattle.vt_laws_worlds.proofs.worlds.Reached.{IsFound, IsFoundDirectory, directory_found, place_found, step_found}

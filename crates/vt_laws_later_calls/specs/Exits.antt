@@ -1,6 +1,6 @@
 -- An exit whose descriptors are closed one after the other first, with a sweep after each: _exit(2), close(2).
 use Rattle.std.specs.Prelude.{List, None, Option, Some, nat_eq, ℕ, ◌≡◌}
-use Rattle.vt_laws_letting_go.specs.Leaving.{with_sweeps}
+use Rattle.vt_laws_mounts.specs.LettingGo.Leaving.{with_sweeps}
 use Rattle.vt_spec.specs.Language.Calls.{TaskName}
 use Rattle.vt_spec.specs.Lists.{Fresh}
 use Rattle.vt_spec.specs.Machine.Apply.{apply}

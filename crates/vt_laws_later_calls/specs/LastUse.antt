@@ -14,15 +14,15 @@ use Rattle.vt_spec.specs.Machine.Receives.{regrouped}
 use Rattle.vt_spec.specs.Machine.Settled.{has_layer_on, is_mounted, settled, without_dead_filesystems, without_dead_groups, without_dead_inodes, without_dead_mounts}
 use Rattle.vt_spec.specs.Machine.World.{Descriptor, Filesystem, Layer, Overlay, Task, World, all_locations, filesystem_at, filesystem_numbered, is_overlay, layers_of, mount_at, upper_object, with_mounts, without_task}
 use Rattle.vt_spec.specs.Machine.World.Real.{Upper}
-use Rattle.vt_laws_letting_go.specs.Counts.{inode_uses, member_count, mount_uses, mounts_showing, times}
-use Rattle.vt_laws_letting_go.specs.Ends.{without_namespace}
-use Rattle.vt_laws_letting_go.specs.Groups.{hand_on}
-use Rattle.vt_laws_letting_go.specs.InUse.{AllInUse, HasTrees, UppersArePlain}
-use Rattle.vt_laws_letting_go.specs.Leaving.{with_tasks}
-use Rattle.vt_laws_letting_go.specs.Mounting.{inode_at}
-use Rattle.vt_laws_letting_go.specs.OneByOne.{Inode, IsPlain, let_go_filesystems, without_filesystem, without_inode_at, without_master, without_mount}
-use Rattle.vt_laws_letting_go.specs.Overlays.{RealsAreThere, let_go_plain, uppers_of, without_inode_of}
-use Rattle.vt_laws_counts.specs.Using.{Exchanges, is_inode}
+use Rattle.vt_laws_mounts.specs.LettingGo.Counts.{inode_uses, member_count, mount_uses, mounts_showing, times}
+use Rattle.vt_laws_mounts.specs.LettingGo.Ends.{without_namespace}
+use Rattle.vt_laws_mounts.specs.LettingGo.Groups.{hand_on}
+use Rattle.vt_laws_mounts.specs.LettingGo.InUse.{AllInUse, HasTrees, UppersArePlain}
+use Rattle.vt_laws_mounts.specs.LettingGo.Leaving.{with_tasks}
+use Rattle.vt_laws_mounts.specs.LettingGo.Mounting.{inode_at}
+use Rattle.vt_laws_mounts.specs.LettingGo.OneByOne.{Inode, IsPlain, let_go_filesystems, without_filesystem, without_inode_at, without_master, without_mount}
+use Rattle.vt_laws_mounts.specs.LettingGo.Overlays.{RealsAreThere, let_go_plain, uppers_of, without_inode_of}
+use Rattle.vt_laws_mounts.specs.Counts.Using.{Exchanges, is_inode}
 
 -- Tasks leave one location: its mount goes, unless it is in a namespace or another location is on it.
 abbrev pub MountGoesWithItsLastUse : Type 0

@@ -7,3 +7,4 @@ pub mod LaterNames
 pub mod Tables
 pub mod Undone
 pub mod LastUse
+pub mod Limits

@@ -18,11 +18,11 @@ use Rattle.vt_spec.specs.Machine.Policy.{call_outcome, policy}
 use Rattle.vt_spec.specs.Machine.Run.{Serves}
 use Rattle.vt_spec.specs.Machine.Settled.{settled}
 use Rattle.vt_spec.specs.Machine.World.{Layer, Overlay, Task, World, filesystem_at, filesystem_numbered, is_overlay, task_called}
-use Rattle.vt_laws_letting_go.specs.InUse.{has_upper_in}
-use Rattle.vt_laws_letting_go.specs.OneByOne.{Inode}
-use Rattle.vt_laws_letting_go.specs.Overlays.{let_go_plain}
-use Rattle.vt_laws_overlays_let_go.specs.NamesGiven.{replaced_in_upper}
-use Rattle.vt_laws_overlay_permits.specs.Asked.{change_asked}
+use Rattle.vt_laws_mounts.specs.LettingGo.InUse.{has_upper_in}
+use Rattle.vt_laws_mounts.specs.LettingGo.OneByOne.{Inode}
+use Rattle.vt_laws_mounts.specs.LettingGo.Overlays.{let_go_plain}
+use Rattle.vt_laws_worlds.specs.OverlaysLetGo.NamesGiven.{replaced_in_upper}
+use Rattle.vt_laws_worlds.specs.OverlayPermits.Asked.{change_asked}
 use Rattle.vt_laws_later_calls.specs.Ends.{KeepsAllButMasters, sets_type, takes_uses}
 use Rattle.vt_laws_trees.specs.Trees.Settling.{inode_in}
 

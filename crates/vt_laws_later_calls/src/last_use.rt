@@ -1,7 +1,7 @@
 //! Each thing goes with its last use.
 ghost use Rattle.vt_laws_later_calls.specs.LastUse.{CloseTakesItsFilesystem, CloseTakesItsInode, ExchangeOfOneLosesOneUse, ExitEndsItsNamespace, FilesystemBesideOverlaysGoesWithItsLastUse, FilesystemGoesWithItsLastUse, GroupGoesWithItsLastMember, GroupIsHandedOnWithItsLastMember, InodeBesideOverlaysGoesWithItsLastUse, InodeGoesWithItsLastUse, InodeOfOverlayGoesWithItsLastUse, InodeOverLowersGoesAlone, LocationTakesItsFilesystem, LocationTakesItsInode, MountGoesWithItsLastUse, NamespaceEndsWithItsLastTask, OverlayGoesWithItsLastUse, UpperInodeGoesWithItsLastUse};
 
-use vt_laws_letting_go::ends::a_group_ends_with_its_last_member;
+use vt_laws_mounts::letting_go::ends::a_group_ends_with_its_last_member;
 
 /// All is in use in the world before, and one use is taken away: the thing goes if the use was its last, by the counts
 /// of that world, and nothing else of its kind. Each clause but the last four of this list is of one step of the

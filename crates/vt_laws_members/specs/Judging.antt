@@ -11,7 +11,7 @@ use Rattle.vt_spec.specs.Machine.Mounts.{Mount}
 use Rattle.vt_spec.specs.Machine.Permits.{Permit}
 use Rattle.vt_spec.specs.Machine.Sealed.{is_at, is_own_mount, members, part_of, roots_and_directories, sealed}
 use Rattle.vt_spec.specs.Machine.World.{Task, World}
-use Rattle.vt_laws_part.specs.Walks.{ShowAlike}
+use Rattle.vt_laws_sealed.specs.Part.Walks.{ShowAlike}
 
 -- a mount of theirs, or a detached one with a root or working directory of theirs on it
 abbrev pub is_stood_on : World ℕ → List TaskName → Mount ℕ → Bool

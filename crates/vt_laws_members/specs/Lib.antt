@@ -1,1 +1,9 @@
 pub mod Judging
+pub mod Changes
+pub mod Namespaces
+pub mod Types
+pub mod Attached
+pub mod NewOverlays
+pub mod Detached
+pub mod OverlayNames
+pub mod EachCall

@@ -4,3 +4,5 @@ pub mod GroupsKept
 pub mod GroupsLiving
 pub mod GroupsRetyped
 pub mod GroupsUp
+pub mod letting_go
+pub mod counts

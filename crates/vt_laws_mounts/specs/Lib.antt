@@ -1,1 +1,3 @@
 pub mod Mounts
+pub mod LettingGo
+pub mod Counts

@@ -1,4 +1,4 @@
-//! Calls of others beside a sealed set.
+//! The part of the world of a sealed set of tasks (`part`), and calls of others beside it (`outsiders`).
 //!
 //! Wrong definitions were tried by hand, on scripts in which a task leaves for a root of its own (`unshare`,
 //! `pivot_root`, `lazy`). A law here, or `sealed_is_decided_by_part_and_footholds`, is false with each of these:
@@ -15,3 +15,4 @@
 #![tactic(auto)]
 
 pub mod outsiders;
+pub mod part;

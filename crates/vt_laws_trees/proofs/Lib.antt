@@ -1,0 +1,4 @@
+pub mod calls
+pub mod runs
+pub mod layers
+pub mod overlays

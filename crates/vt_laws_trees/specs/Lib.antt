@@ -1,1 +1,5 @@
 pub mod Trees
+pub mod Calls
+pub mod Runs
+pub mod Layers
+pub mod Overlays

@@ -1,2 +1,5 @@
 pub mod TurnKinds
 pub mod TurnShapes
+pub mod frames
+pub mod walks
+pub mod holds

@@ -1,2 +1,5 @@
 pub mod Commits
 pub mod Restarts
+pub mod Frames
+pub mod Walks
+pub mod Holds

@@ -7,7 +7,7 @@ use Rattle.vt_spec.specs.Lists.{any_pair}
 use Rattle.vt_spec.specs.Machine.World.{Filesystem, Overlay, World, filesystem_numbered, is_overlay}
 use Rattle.vt_spec.specs.Machine.Invariants.{OverlayInvariants, overlap, live_lowers}
 use Rattle.vt_spec.proofs.Lists.{Among, all_from_among, among_from_all, filter_none, list_all_from_among, none_from_among}
-use Rattle.vt_laws_letting_go.specs.InUse.{UppersArePlain, has_upper_in}
+use Rattle.vt_laws_mounts.specs.LettingGo.InUse.{UppersArePlain, has_upper_in}
 use Rattle.vt_laws_trees.proofs.trees.TreesOfWorlds.{numbered_anyhow}
 use Rattle.vt_laws_worlds.specs.Worlds.Kept.{IsPlain}
 use Rattle.vt_spec.proofs.Options.{none_from_not_some}

@@ -16,7 +16,7 @@ use Rattle.vt_spec.specs.Tree.{Node, is_directory_node}
 use Rattle.vt_spec.specs.declared.attributes.Kind.TheVariants.{File}
 use Rattle.vt_spec.specs.TreeInvariant.{HasOwnParents, IsTree}
 use Rattle.vt_spec.proofs.Lists.{all-map, among-from_map, among_from_contains, contains_from_among, pair-map, map_twice}
-use Rattle.vt_laws_letting_go.proofs.Lists.{any-map, flat_map-map}
+use Rattle.vt_laws_mounts.proofs.letting_go.Lists.{any-map, flat_map-map}
 use Rattle.vt_laws_worlds.specs.Worlds.Kept.{IsPlain, IsWorldButForUse, MountsShow}
 use Rattle.vt_spec.proofs.Worlds.{stands_alike}
 

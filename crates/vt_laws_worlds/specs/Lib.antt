@@ -1,1 +1,11 @@
 pub mod Worlds
+pub mod Permits
+pub mod OverlaysLetGo
+pub mod Merging
+pub mod Seen
+pub mod OverlayPermits
+pub mod Given
+pub mod OneText
+pub mod OverlaysGranted
+pub mod OverlaysRead
+pub mod OverlaysStay

@@ -15,10 +15,10 @@ use Rattle.vt_spec.specs.Machine.Renaming.{renamed_node}
 use Rattle.vt_spec.specs.Tree.{Content, Entries, Node, Tree, entries_in, is_directory_node, name_cmp, parent_in}
 use Rattle.vt_spec.specs.Tree.Content.{Directory, Regular, Symlink, Whiteout}
 use Rattle.vt_spec.specs.TreeInvariant.{IsDirectory, IsTree, entry_at, led}
-use Rattle.vt_laws_layers.proofs.layers.ShownDirectories.{last_of}
-use Rattle.vt_laws_layers.proofs.layers.ShownNames.{last_name}
-use Rattle.vt_laws_layers.proofs.layers.ShownPaths.{depth_of_led, length_longer, not_empty}
-use Rattle.vt_laws_layers.proofs.layers.UpperChain.{depth_below}
+use Rattle.vt_laws_trees.proofs.layers.layers.ShownDirectories.{last_of}
+use Rattle.vt_laws_trees.proofs.layers.layers.ShownNames.{last_name}
+use Rattle.vt_laws_trees.proofs.layers.layers.ShownPaths.{depth_of_led, length_longer, not_empty}
+use Rattle.vt_laws_trees.proofs.layers.layers.UpperChain.{depth_below}
 use Rattle.vt_location.proofs.NumberLemmas.{exchanged_same}
 use Rattle.vt_location.specs.Numbers.{exchanged}
 use Rattle.vt_tree.specs.Paths.{NamesDirectoriesOnce}

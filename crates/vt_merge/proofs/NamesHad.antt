@@ -13,7 +13,7 @@ use Rattle.vt_spec.specs.Machine.Views.{Shown, View, hides, shown_over}
 use Rattle.vt_spec.specs.Tree.{Content, Entries, Node, entries_in, name_cmp, names_in}
 use Rattle.vt_spec.specs.Tree.Content.{Directory, Regular, Symlink, Whiteout}
 use Rattle.vt_spec.specs.TreeInvariant.{entry_at}
-use Rattle.vt_laws_layers.specs.Layers.Directories.{shown_in}
+use Rattle.vt_laws_trees.specs.Layers.Layers.Directories.{shown_in}
 use Rattle.vt_location.specs.Locations.{inode_of}
 use Rattle.vt_location.specs.Numbers.{exchanged}
 use Rattle.vt_fs.specs.FilesystemsValue.{Filesystems, files_at, node_seen}

@@ -19,11 +19,11 @@ use Rattle.vt_spec.proofs.Truths.{T_and, same_truth}
 use Rattle.vt_spec.specs.Machine.Layers.{OpenLayer, Shown, names_shown, shown, view_of}
 use Rattle.vt_spec.specs.Machine.Views.{names_at}
 use Rattle.vt_spec.specs.Tree.{Entries, name_cmp}
-use Rattle.vt_laws_layers.specs.Layers.Directories.{shown_in}
-use Rattle.vt_laws_layers.proofs.directories.Order.{names_sorted}
-use Rattle.vt_laws_layers.proofs.layers.ShownAtPath.{computed}
-use Rattle.vt_laws_layers.proofs.layers.ShownFronts.{list_any_of_map}
-use Rattle.vt_laws_layers.proofs.layers.ShownNames.{name_found, names_are_those_shown}
+use Rattle.vt_laws_trees.specs.Layers.Layers.Directories.{shown_in}
+use Rattle.vt_laws_trees.proofs.layers.directories.Order.{names_sorted}
+use Rattle.vt_laws_trees.proofs.layers.layers.ShownAtPath.{computed}
+use Rattle.vt_laws_trees.proofs.layers.layers.ShownFronts.{list_any_of_map}
+use Rattle.vt_laws_trees.proofs.layers.layers.ShownNames.{name_found, names_are_those_shown}
 use Rattle.vt_fs.specs.FilesystemsValue.{Filesystems}
 use Rattle.vt_merge.specs.LayerValue.{names_had, placed_views}
 use Rattle.vt_merge.specs.declared.layers.MergedDirectory.{MergedDirectory}

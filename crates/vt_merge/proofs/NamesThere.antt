@@ -9,7 +9,7 @@ use Rattle.vt_spec.proofs.Nodes.{same_name}
 use Rattle.vt_spec.specs.Lists.{is_empty_list}
 use Rattle.vt_spec.specs.Machine.Layers.{OpenLayer, names_shown, shown}
 use Rattle.vt_spec.specs.Tree.{names_in}
-use Rattle.vt_laws_layers.specs.Layers.Directories.{shown_in}
+use Rattle.vt_laws_trees.specs.Layers.Layers.Directories.{shown_in}
 use Rattle.vt_location.specs.Locations.{inode_of}
 use Rattle.vt_fs.specs.FilesystemsValue.{Filesystems, files_at}
 use Rattle.vt_merge.specs.LayerValue.{names_had, placed_views}

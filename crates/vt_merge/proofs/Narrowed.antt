@@ -8,7 +8,7 @@ use Rattle.std.specs.Prelude.{IfSome, if◌then◌else◌, option_to_list}
 use Rattle.vt_spec.specs.Machine.Layers.{view_of}
 use Rattle.vt_spec.specs.TreeInvariant.{entry_at}
 use Rattle.vt_fs.specs.FilesystemsValue.{Filesystems}
-use Rattle.vt_laws_layers.specs.Layers.Directories.{PlacedLayer, PlacedView, directories_under, directory_over, placed_from, placed_view}
+use Rattle.vt_laws_trees.specs.Layers.Layers.Directories.{PlacedLayer, PlacedView, directories_under, directory_over, placed_from, placed_view}
 use Rattle.vt_merge.specs.EntryValue.{IsMergedAt}
 use Rattle.vt_merge.specs.LayerValue.{layers_of, placed_layers, placed_of, placed_views}
 use Rattle.vt_merge.specs.declared.layers.LayerRef.{LayerRef}

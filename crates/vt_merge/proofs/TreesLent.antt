@@ -10,7 +10,7 @@ use Rattle.vt_location.specs.Locations.{inode_of}
 use Rattle.vt_tree.specs.TreeValue.{TreeValue}
 use Rattle.vt_fs.proofs.Standing.{at_look, entry_nowhere}
 use Rattle.vt_fs.specs.FilesystemsValue.{FilesystemEntry, Filesystems, entry_of, files_at, files_seen, seen_in}
-use Rattle.vt_laws_layers.specs.Layers.Directories.{PlacedLayer, directory_over}
+use Rattle.vt_laws_trees.specs.Layers.Layers.Directories.{PlacedLayer, directory_over}
 use Rattle.vt_merge.specs.LayerValue.{placed_layers, placed_of, tree_seen}
 use Rattle.vt_merge.specs.declared.layers.MergedDirectory.{MergedDirectory}
 

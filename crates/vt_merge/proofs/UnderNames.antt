@@ -9,7 +9,7 @@ use Rattle.vt_spec.specs.Tree.{Content, Node, Tree, entries_in, entry_named, is_
 use Rattle.vt_spec.specs.Tree.Content.{Directory, Regular, Symlink, Whiteout}
 use Rattle.vt_spec.specs.TreeInvariant.{entry_at, led}
 use Rattle.vt_fs.specs.FilesystemsValue.{Filesystems}
-use Rattle.vt_laws_layers.specs.Layers.Directories.{PlacedLayer, PlacedView, directories_under, directory_over, placed_view, shown_in}
+use Rattle.vt_laws_trees.specs.Layers.Layers.Directories.{PlacedLayer, PlacedView, directories_under, directory_over, placed_view, shown_in}
 use Rattle.vt_merge.specs.LayerValue.{cut_by, cut_on, placed_layers, placed_of}
 use Rattle.vt_merge.specs.declared.layers.MergedDirectory.{MergedDirectory}
 use Rattle.vt_merge.proofs.Cuts.{cuts_on}

@@ -5,7 +5,7 @@ use Rattle.vt_spec.specs.Machine.Layers.{OpenLayer, Shown}
 use Rattle.vt_spec.specs.Machine.Views.{hides}
 use Rattle.vt_spec.specs.Tree.{Tree, names_in}
 use Rattle.vt_spec.specs.TreeInvariant.{entry_at}
-use Rattle.vt_laws_layers.specs.Layers.Directories.{PlacedLayer, PlacedView, placed_view}
+use Rattle.vt_laws_trees.specs.Layers.Layers.Directories.{PlacedLayer, PlacedView, placed_view}
 use Rattle.vt_location.specs.declared.locations.InodeRef.{InodeRef}
 use Rattle.vt_location.specs.Locations.{inode_of}
 use Rattle.vt_tree.specs.TreeValue.{TreeValue}

@@ -3,7 +3,7 @@ ghost use Rattle.std.specs.Prelude.{◌≡◌, ◌≢◌, ◌≤◌, ◌++◌, �
 ghost use Rattle.vt_spec.specs.Lists.{then_some};
 ghost use Rattle.vt_spec.specs.Machine.Layers.{shown, view_of};
 ghost use Rattle.vt_spec.specs.TreeInvariant.{entry_at};
-ghost use Rattle.vt_laws_layers.specs.Layers.Directories.{PlacedLayer, directories_under, directory_over, placed, shown_in};
+ghost use Rattle.vt_laws_trees.specs.Layers.Layers.Directories.{PlacedLayer, directories_under, directory_over, placed, shown_in};
 ghost use Rattle.vt_location.specs.Locations.{inode_of};
 ghost use Rattle.vt_fs.specs.FilesystemsValue.{Filesystems as Trees};
 ghost use Rattle.vt_merge.specs.EntryValue.{IsEntry, IsFirstEntry, IsMergedAt, entry_shown};

@@ -4,7 +4,7 @@ ghost use Rattle.std.specs.List.Sorted.{IsPermutation};
 ghost use Rattle.std.specs.Prelude.{◌≡◌, ◌≤◌, ◌++◌, ◌∷◌, [], IfOk, OnOk, is_some, length, map, not};
 ghost use Rattle.vt_spec.specs.Lists.{is_empty_list};
 ghost use Rattle.vt_spec.specs.Machine.Layers.{names_shown};
-ghost use Rattle.vt_laws_layers.specs.Layers.Directories.{shown_in};
+ghost use Rattle.vt_laws_trees.specs.Layers.Layers.Directories.{shown_in};
 ghost use Rattle.vt_spec.specs.Tree.{names_in};
 ghost use Rattle.vt_location.specs.Locations.{inode_of};
 ghost use Rattle.vt_fs.specs.FilesystemsValue.{files_at};

@@ -2,9 +2,9 @@
 use Rattle.std.proofs.Common.{◌≡◌, ◌≤◌, refl, sym, ap, subst, ◌∙◌, ℕ, ◌+◌, Bool, true, false, cond, nat_eq, List, [], ◌∷◌, find, map, Some, None, option_map, unwrap_or, arith}
 use Rattle.std.specs.List.{IsDistinct}
 use Rattle.std.specs.Map.{keys_of, lookup, set_value}
-use Rattle.vt_laws_counts.specs.Using.{pinned_if}
+use Rattle.vt_laws_mounts.specs.Counts.Using.{pinned_if}
 use Rattle.vt_fs.specs.FilesystemsValue.{Filesystems, inodes_at, inodes_seen, no_entry, shown, shown_entry}
-use Rattle.vt_laws_letting_go.specs.OneByOne.{Inode}
+use Rattle.vt_laws_mounts.specs.LettingGo.OneByOne.{Inode}
 use Rattle.vt_location.specs.declared.locations.Location.{Location}
 use Rattle.vt_location.specs.Locations.{number_of}
 use Rattle.vt_location.specs.Numbers.{counted}

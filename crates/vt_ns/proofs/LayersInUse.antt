@@ -12,7 +12,7 @@ use Rattle.vt_spec.specs.Machine.Mounts.{Location}
 use Rattle.vt_spec.specs.Machine.Policy.{same_bool}
 use Rattle.vt_spec.specs.Machine.Rules.Mounting.{overlay_at}
 use Rattle.vt_spec.specs.Machine.World.{Filesystem, Layer, Overlay, Task, World, filesystem_numbered, is_overlay}
-use Rattle.vt_laws_counts.specs.BesideOverlays.{OverlaysHaveNoUpper}
+use Rattle.vt_laws_mounts.specs.Counts.BesideOverlays.{OverlaysHaveNoUpper}
 use Rattle.vt_layers.specs.LayersValue.{lowers_alone}
 
 -- nothing overlaps one of no layers

@@ -11,13 +11,13 @@ use Rattle.vt_spec.specs.Machine.Settled.{is_located}
 use Rattle.vt_spec.specs.Machine.World.{Descriptor, Task, all_locations, locations_of, mount_at}
 use Rattle.vt_spec.specs.Machine.Invariants.{is_located_well, is_there}
 use Rattle.vt_spec.proofs.Lists.{Among, among-flat_map, among-map, among_from_all, among_from_list_all, none_among, none_from_among}
-use Rattle.vt_laws_letting_go.specs.Counts.{mount_uses, times}
-use Rattle.vt_laws_letting_go.proofs.sweeps.UsesCounted.{located_while_counted}
+use Rattle.vt_laws_mounts.specs.LettingGo.Counts.{mount_uses, times}
+use Rattle.vt_laws_mounts.proofs.letting_go.sweeps.UsesCounted.{located_while_counted}
 use Rattle.vt_mount.specs.MountsValue.{MountEntry, entry_numbered, mounts_in, uses_of, writers_of}
 use Rattle.vt_world.specs.Held.{CountsItsUses, IsHeld, writes_of, writes_on}
 use Rattle.vt_world.specs.WorldValue.{WorldValue, world_of}
 use Rattle.vt_detach.proofs.LostUses.{entry_found_at}
-use Rattle.vt_laws_letting_go.proofs.Lists.{any_counted}
+use Rattle.vt_laws_mounts.proofs.letting_go.Lists.{any_counted}
 
 either_counted : (a b : ℕ) → (nat_lt 0 a || nat_lt 0 b) ≡ nat_lt 0 (a + b)
 either_counted zero b = ap (nat_lt 0) (omega arith)

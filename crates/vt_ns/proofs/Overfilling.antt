@@ -19,11 +19,11 @@ use Rattle.vt_location.specs.Numbers.{counted}
 use Rattle.vt_mount.specs.MountsValue.{mounts_in}
 use Rattle.vt_laws_mounts.proofs.mounts.MountsFound.{found_in}
 use Rattle.vt_laws_mounts.proofs.mounts.Standing.{trees_have_each_once}
-use Rattle.vt_laws_permits.proofs.taken.PartsKept.{receivers_there, same_parts}
+use Rattle.vt_laws_worlds.proofs.permits.taken.PartsKept.{receivers_there, same_parts}
 use Rattle.vt_propagate.specs.Filling.{GrowsBy, MovesFrom, mount_count}
 use Rattle.vt_propagate.proofs.Counting.{absent_counted, added_counted, moved_all}
-use Rattle.vt_laws_letting_go.proofs.Lists.{among-from_filter}
-use Rattle.vt_laws_runs.specs.Handed.{counts_from}
+use Rattle.vt_laws_mounts.proofs.letting_go.Lists.{among-from_filter}
+use Rattle.vt_laws_trees.specs.Runs.Handed.{counts_from}
 use Rattle.vt_laws_worlds.proofs.worlds.FewMounts.{shrinks_few}
 use Rattle.vt_detach.proofs.Leaving.{none_among}
 use Rattle.vt_world.specs.Held.{IsHeld}

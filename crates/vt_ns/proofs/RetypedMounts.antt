@@ -16,14 +16,14 @@ use Rattle.vt_group.specs.Grouping.{Grouping, propagation_in}
 use Rattle.vt_group.specs.Together.{Retypes, Shares}
 use Rattle.vt_group.proofs.Together.{is_among-snoc, named_numbers}
 use Rattle.vt_group.proofs.Others.{has_ordered}
-use Rattle.vt_laws_letting_go.proofs.Lists.{all_from_among, among-from_map}
+use Rattle.vt_laws_mounts.proofs.letting_go.Lists.{all_from_among, among-from_map}
 use Rattle.vt_location.specs.declared.numbers.MountId.{MountId}
 use Rattle.vt_location.specs.Numbers.{counted}
 use Rattle.vt_mount.specs.MountsValue.{MountEntry, changed, mounts_in}
 use Rattle.vt_retype.specs.Retyping.{FollowsTypes, FollowsTypesLeft, HaveNoSource, retyped, shared_by, typed_entry, with_kind}
 use Rattle.vt_propagate.specs.Seen.{IsSeen}
 use Rattle.vt_propagate.proofs.Seeing.{are_typed, retyping_is_seen, sharing_is_seen, slaves_are_seen}
-use Rattle.vt_laws_runs.specs.Handed.{counts_from}
+use Rattle.vt_laws_trees.specs.Runs.Handed.{counts_from}
 use Rattle.vt_attach.proofs.CopiesAscend.{place_first, place_in, place_later}
 use Rattle.vt_ns.specs.Retyped.{IsRetyped, counted_after, set_if, with_counts}
 use Rattle.vt_spec.proofs.Lists.{map_alike, map_twice}

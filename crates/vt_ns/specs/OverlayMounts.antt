@@ -3,7 +3,7 @@ use Rattle.std.specs.Prelude.{Some, true, ℕ, ◌≡◌}
 use Rattle.vt_spec.specs.Language.Calls.{TaskName}
 use Rattle.vt_spec.specs.Machine.SameWorlds.{SameWorlds}
 use Rattle.vt_spec.specs.Machine.World.{Task, task_called}
-use Rattle.vt_laws_given.specs.LeftWorlds.{IsGivenToTask}
+use Rattle.vt_laws_worlds.specs.Given.LeftWorlds.{IsGivenToTask}
 use Rattle.vt_location.specs.Locations.{number_of}
 use Rattle.vt_location.specs.Numbers.{is_own_number}
 use Rattle.vt_permits.specs.GrantValue.{overlay_permit}

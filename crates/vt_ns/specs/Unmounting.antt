@@ -12,7 +12,7 @@ use Rattle.vt_group.specs.Together.{GrowsTo}
 use Rattle.vt_location.specs.declared.locations.Location.{Location}
 use Rattle.vt_location.specs.Locations.{location_of}
 use Rattle.vt_mount.specs.MountsValue.{MountEntry}
-use Rattle.vt_laws_permits.specs.Taken.{is_ungrouped}
+use Rattle.vt_laws_worlds.specs.Permits.Taken.{is_ungrouped}
 
 -- the parent of a mount is shared
 abbrev pub stands_on_shared : List (Mount ℕ) → ℕ → Bool

@@ -1,8 +1,8 @@
 -- That the numbers of new inodes are not in use.
 use Rattle.std.specs.Prelude.{false, ℕ, ◌%◌, ◌≡◌}
 use Rattle.vt_location.specs.Numbers.{inode_number}
-use Rattle.vt_laws_overlays_made.specs.Made.{IsNew}
-use Rattle.vt_laws_permits.specs.InUse.{is_in_use}
+use Rattle.vt_world.specs.OverlaysMade.Made.{IsNew}
+use Rattle.vt_laws_worlds.specs.Permits.InUse.{is_in_use}
 use Rattle.vt_spec.specs.Machine.Mounts.{Location}
 use Rattle.vt_detach.specs.Events.{next_inode}
 use Rattle.vt_world.specs.WorldValue.{WorldValue, world_of}

@@ -10,7 +10,7 @@ ghost use Rattle.vt_detach.specs.Detached.{tree_numbers};
 ghost use Rattle.vt_detach.specs.Stored.{OverlaysLeft, kept};
 ghost use Rattle.vt_spec.specs.Machine.Permits.Permit.{ToUnmount, ToUnmountLazily};
 ghost use Rattle.vt_detach.specs.Events.{Becomes, Permits};
-ghost use Rattle.vt_laws_permits.specs.Taken.{is_ungrouped};
+ghost use Rattle.vt_laws_worlds.specs.Permits.Taken.{is_ungrouped};
 
 use crate::world::World;
 use std::alloc::AllocError;

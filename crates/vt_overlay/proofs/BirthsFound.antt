@@ -10,10 +10,10 @@ use Rattle.vt_spec.specs.Machine.Layers.{Shown, node_at_path, shown}
 use Rattle.vt_spec.specs.Machine.Merging.{is_root_path}
 use Rattle.vt_spec.specs.Tree.{Node, Tree, is_directory_node, parent_in}
 use Rattle.vt_spec.specs.TreeInvariant.{IsDirectory, entry_at, led}
-use Rattle.vt_laws_layers.proofs.layers.ShownDirectories.{last_of, led_is_there}
-use Rattle.vt_laws_layers.proofs.layers.ShownNames.{last_name}
-use Rattle.vt_laws_layers.proofs.layers.ShownPaths.{not_empty, one_path}
-use Rattle.vt_laws_layers.proofs.layers.UpperShown.{without_last_of_longer}
+use Rattle.vt_laws_trees.proofs.layers.layers.ShownDirectories.{last_of, led_is_there}
+use Rattle.vt_laws_trees.proofs.layers.layers.ShownNames.{last_name}
+use Rattle.vt_laws_trees.proofs.layers.layers.ShownPaths.{not_empty, one_path}
+use Rattle.vt_laws_trees.proofs.layers.layers.UpperShown.{without_last_of_longer}
 use Rattle.vt_location.proofs.NumberLemmas.{exchanged_back, exchanged_number, exchanged_slot, slot_of}
 use Rattle.vt_location.specs.declared.locations.InodeRef.{InodeRef}
 use Rattle.vt_location.specs.Locations.{inode_of, number_of}

@@ -14,10 +14,10 @@ use Rattle.vt_spec.specs.Lists.{last_or, then_some, without_last}
 use Rattle.vt_spec.specs.Machine.Layers.{Shown, shown}
 use Rattle.vt_spec.specs.Tree.{Node, Tree, entries_in, entries_of, entry_named, is_directory_node, name_cmp}
 use Rattle.vt_spec.specs.TreeInvariant.{IsDirectory, IsTree, entry_at, led}
-use Rattle.vt_laws_layers.proofs.layers.ShownNames.{last_name}
-use Rattle.vt_laws_layers.proofs.layers.ShownPaths.{last_of_longer, one_path, root_of_longer}
-use Rattle.vt_laws_layers.proofs.layers.UpperLine.{has_entries}
-use Rattle.vt_laws_layers.proofs.layers.UpperShown.{without_last_of_longer}
+use Rattle.vt_laws_trees.proofs.layers.layers.ShownNames.{last_name}
+use Rattle.vt_laws_trees.proofs.layers.layers.ShownPaths.{last_of_longer, one_path, root_of_longer}
+use Rattle.vt_laws_trees.proofs.layers.layers.UpperLine.{has_entries}
+use Rattle.vt_laws_trees.proofs.layers.layers.UpperShown.{without_last_of_longer}
 use Rattle.vt_location.proofs.NumberLemmas.{exchanged_back, exchanged_slot}
 use Rattle.vt_location.specs.declared.locations.InodeRef.{InodeRef}
 use Rattle.vt_location.specs.declared.births.Birth.TheVariants.{Below, Here}

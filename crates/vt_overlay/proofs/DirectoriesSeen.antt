@@ -11,14 +11,14 @@ use Rattle.vt_spec.specs.Machine.Layers.{OpenLayer, Shown, names_shown, shown}
 use Rattle.vt_spec.specs.Machine.Merging.{layer_node}
 use Rattle.vt_spec.specs.Tree.{Content, Entries, Node, entries_in, entry_named, is_directory_node, parent_in}
 use Rattle.vt_spec.specs.Tree.Content.{Directory, Regular, Symlink, Whiteout}
-use Rattle.vt_laws_layers.proofs.layers.ShownAtPath.{computed}
-use Rattle.vt_laws_layers.proofs.layers.ShownDirectories.{last_of}
-use Rattle.vt_laws_layers.proofs.layers.ShownNames.{is_name, name_found, names_are_those_shown}
-use Rattle.vt_laws_layers.proofs.layers.ShownObjects.{shown_before}
-use Rattle.vt_laws_layers.proofs.layers.ShownPaths.{not_empty}
-use Rattle.vt_laws_layers.proofs.layers.UpperShown.{without_last_of_longer}
-use Rattle.vt_laws_merging.specs.MergedTrees.{entries_shown, inode_shown, layers_shown, node_as, parent_shown}
-use Rattle.vt_laws_seen.specs.TreesSeen.{node_by}
+use Rattle.vt_laws_trees.proofs.layers.layers.ShownAtPath.{computed}
+use Rattle.vt_laws_trees.proofs.layers.layers.ShownDirectories.{last_of}
+use Rattle.vt_laws_trees.proofs.layers.layers.ShownNames.{is_name, name_found, names_are_those_shown}
+use Rattle.vt_laws_trees.proofs.layers.layers.ShownObjects.{shown_before}
+use Rattle.vt_laws_trees.proofs.layers.layers.ShownPaths.{not_empty}
+use Rattle.vt_laws_trees.proofs.layers.layers.UpperShown.{without_last_of_longer}
+use Rattle.vt_laws_worlds.specs.Merging.MergedTrees.{entries_shown, inode_shown, layers_shown, node_as, parent_shown}
+use Rattle.vt_laws_worlds.specs.Seen.TreesSeen.{node_by}
 use Rattle.vt_fs.specs.FilesystemsValue.{Filesystems}
 use Rattle.vt_overlay.specs.MergedTree.{AreLayers, OverlayValue, directory_path, longest, merged_tree, number_at, only_of_directory, overlay_seen, path_at, plain_world, real_number}
 use Rattle.vt_overlay.proofs.TreeFound.{layers, layers_are, number_is_shown, open_layers}

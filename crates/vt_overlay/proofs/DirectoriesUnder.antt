@@ -15,12 +15,12 @@ use Rattle.vt_spec.specs.Machine.Merging.{is_root_path}
 use Rattle.vt_spec.specs.Tree.{Content, Entries, Node, Tree, entries_in, is_directory_node, names_in, parent_in}
 use Rattle.vt_spec.specs.Tree.Content.{Directory, Regular, Symlink, Whiteout}
 use Rattle.vt_spec.specs.TreeInvariant.{IsDirectory, led}
-use Rattle.vt_laws_layers.proofs.layers.ShownDirectories.{AreOpen, append_assoc, last_of, longer_is_not_empty, shown_in_directory}
-use Rattle.vt_laws_layers.proofs.layers.ShownAtPath.{computed}
-use Rattle.vt_laws_layers.proofs.layers.ShownNames.{names_are_those_shown}
-use Rattle.vt_laws_layers.proofs.layers.ShownObjects.{shown_before}
-use Rattle.vt_laws_layers.proofs.layers.ShownPaths.{length_longer, not_empty, one_path}
-use Rattle.vt_laws_layers.proofs.layers.UpperShown.{without_last_of_longer}
+use Rattle.vt_laws_trees.proofs.layers.layers.ShownDirectories.{AreOpen, append_assoc, last_of, longer_is_not_empty, shown_in_directory}
+use Rattle.vt_laws_trees.proofs.layers.layers.ShownAtPath.{computed}
+use Rattle.vt_laws_trees.proofs.layers.layers.ShownNames.{names_are_those_shown}
+use Rattle.vt_laws_trees.proofs.layers.layers.ShownObjects.{shown_before}
+use Rattle.vt_laws_trees.proofs.layers.layers.ShownPaths.{length_longer, not_empty, one_path}
+use Rattle.vt_laws_trees.proofs.layers.layers.UpperShown.{without_last_of_longer}
 use Rattle.vt_location.proofs.NumberLemmas.{exchanged_back}
 use Rattle.vt_location.specs.declared.births.Birth.TheVariants.{Below, Here}
 use Rattle.vt_location.specs.declared.locations.NodeRef.{NodeRef}

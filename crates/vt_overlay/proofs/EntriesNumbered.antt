@@ -9,9 +9,9 @@ use Rattle.vt_spec.specs.Lists.{when}
 use Rattle.vt_spec.specs.Machine.Layers.{at_path, shown}
 use Rattle.vt_spec.specs.Tree.{Node, entries_in, is_directory_node}
 use Rattle.vt_spec.specs.TreeInvariant.{entry_at}
-use Rattle.vt_laws_layers.proofs.layers.ShownDirectories.{led_is_there}
-use Rattle.vt_laws_layers.proofs.layers.ShownPaths.{last_of_longer}
-use Rattle.vt_laws_layers.proofs.layers.UpperShown.{without_last_of_longer}
+use Rattle.vt_laws_trees.proofs.layers.layers.ShownDirectories.{led_is_there}
+use Rattle.vt_laws_trees.proofs.layers.layers.ShownPaths.{last_of_longer}
+use Rattle.vt_laws_trees.proofs.layers.layers.UpperShown.{without_last_of_longer}
 use Rattle.vt_location.proofs.NumberLemmas.{exchanged_back}
 use Rattle.vt_location.specs.declared.births.Birth.{Birth}
 use Rattle.vt_location.specs.declared.births.Birth.TheVariants.{Below}

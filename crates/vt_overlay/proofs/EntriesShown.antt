@@ -12,10 +12,10 @@ use Rattle.vt_spec.specs.Machine.Layers.{OpenLayer, Shown, at_path, shown, view_
 use Rattle.vt_spec.specs.Machine.Views.{cuts, hides, node_led, shown_from, shown_over, visible}
 use Rattle.vt_spec.specs.Tree.{Node, entries_in, entry_named, is_directory_node}
 use Rattle.vt_spec.specs.TreeInvariant.{IsDirectory, entry_at}
-use Rattle.vt_laws_layers.proofs.layers.ShownDirectories.{shown_in_directory}
-use Rattle.vt_laws_layers.proofs.layers.ShownNames.{last_name}
-use Rattle.vt_laws_layers.proofs.layers.ShownPaths.{one_path}
-use Rattle.vt_laws_layers.proofs.views.Lower.{prefixes_longer}
+use Rattle.vt_laws_trees.proofs.layers.layers.ShownDirectories.{shown_in_directory}
+use Rattle.vt_laws_trees.proofs.layers.layers.ShownNames.{last_name}
+use Rattle.vt_laws_trees.proofs.layers.layers.ShownPaths.{one_path}
+use Rattle.vt_laws_trees.proofs.layers.views.Lower.{prefixes_longer}
 use Rattle.vt_location.specs.declared.numbers.FilesystemId.{FilesystemId}
 use Rattle.vt_location.specs.Locations.{inode_of}
 use Rattle.vt_fs.specs.FilesystemsValue.{Filesystems, files_at}

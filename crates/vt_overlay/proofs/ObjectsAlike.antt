@@ -10,8 +10,8 @@ use Rattle.vt_spec.specs.Machine.Merging.{layer_node}
 use Rattle.vt_spec.specs.Machine.Renaming.{renamed_content, renamed_entry}
 use Rattle.vt_spec.specs.Tree.{Content, Entries, Node}
 use Rattle.vt_spec.specs.Tree.Content.{Directory, Regular, Symlink, Whiteout}
-use Rattle.vt_laws_merging.specs.MergedTrees.{entries_shown, node_as, parent_shown}
-use Rattle.vt_laws_seen.specs.TreesSeen.{node_by}
+use Rattle.vt_laws_worlds.specs.Merging.MergedTrees.{entries_shown, node_as, parent_shown}
+use Rattle.vt_laws_worlds.specs.Seen.TreesSeen.{node_by}
 use Rattle.vt_location.proofs.NumberLemmas.{exchanged_back}
 use Rattle.vt_location.specs.declared.numbers.FilesystemId.{FilesystemId}
 use Rattle.vt_location.specs.Locations.{inode_of}

@@ -9,7 +9,7 @@ use Rattle.vt_spec.specs.Machine.Layers.{Shown, shown}
 use Rattle.vt_spec.specs.Machine.Merging.{is_root_path}
 use Rattle.vt_spec.specs.Tree.{Tree}
 use Rattle.vt_spec.specs.TreeInvariant.{IsDirectory, led}
-use Rattle.vt_laws_layers.proofs.layers.ShownPaths.{one_path}
+use Rattle.vt_laws_trees.proofs.layers.layers.ShownPaths.{one_path}
 use Rattle.vt_location.proofs.NumberLemmas.{exchanged_back, exchanged_number, exchanged_slot}
 use Rattle.vt_location.specs.Locations.{inode_of, number_of}
 use Rattle.vt_location.specs.Numbers.{exchanged, inode_number}

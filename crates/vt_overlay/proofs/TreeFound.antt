@@ -12,13 +12,13 @@ use Rattle.vt_spec.specs.Machine.Merging.{layer_node, merged_at, real_object}
 use Rattle.vt_spec.specs.Machine.World.{Filesystem, Real, World, open_layer}
 use Rattle.vt_spec.specs.Machine.World.Real.{Lower}
 use Rattle.vt_spec.specs.Tree.{is_directory_node}
-use Rattle.vt_laws_layers.proofs.layers.ShownAtPath.{computed}
-use Rattle.vt_laws_layers.proofs.layers.ShownDirectories.{AreOpen}
-use Rattle.vt_laws_layers.proofs.layers.ShownObjects.{Among, paths_complete}
-use Rattle.vt_laws_merging.specs.MergedTrees.{layers_shown, number_shown}
-use Rattle.vt_laws_seen.proofs.seen.Paths.{length-led}
-use Rattle.vt_laws_seen.proofs.seen.SeenTrees.{shown_number}
-use Rattle.vt_laws_seen.specs.TreesSeen.{path_numbered}
+use Rattle.vt_laws_trees.proofs.layers.layers.ShownAtPath.{computed}
+use Rattle.vt_laws_trees.proofs.layers.layers.ShownDirectories.{AreOpen}
+use Rattle.vt_laws_trees.proofs.layers.layers.ShownObjects.{Among, paths_complete}
+use Rattle.vt_laws_worlds.specs.Merging.MergedTrees.{layers_shown, number_shown}
+use Rattle.vt_laws_worlds.proofs.seen.seen.Paths.{length-led}
+use Rattle.vt_laws_worlds.proofs.seen.seen.SeenTrees.{shown_number}
+use Rattle.vt_laws_worlds.specs.Seen.TreesSeen.{path_numbered}
 use Rattle.vt_location.specs.Locations.{inode_of, number_of}
 use Rattle.vt_fs.proofs.Numbers.{found_by_number, numbers_listed}
 use Rattle.vt_fs.specs.FilesystemsValue.{Filesystems, entry_at, files_at}

@@ -11,8 +11,8 @@ use Rattle.vt_spec.specs.Machine.World.Real.{Lower, Upper}
 use Rattle.vt_spec.specs.Rights.{Credentials}
 use Rattle.vt_spec.specs.Tree.{Tree, entries_in, is_directory_node}
 use Rattle.vt_spec.specs.TreeInvariant.{IsDirectory, IsTree}
-use Rattle.vt_laws_merging.specs.MergedTrees.{layers_shown, number_shown}
-use Rattle.vt_laws_seen.specs.TreesSeen.{path_numbered, tree_seen}
+use Rattle.vt_laws_worlds.specs.Merging.MergedTrees.{layers_shown, number_shown}
+use Rattle.vt_laws_worlds.specs.Seen.TreesSeen.{path_numbered, tree_seen}
 use Rattle.vt_node.specs.Ranks.{rank_among}
 use Rattle.vt_location.specs.declared.births.Birth.{Birth}
 use Rattle.vt_location.specs.declared.births.Birth.TheVariants.{Below, Here}

@@ -25,7 +25,7 @@ use Rattle.vt_propagate.specs.Filling.{GrowsBy, MovesFrom, is_overfilled, leavin
 use Rattle.vt_propagate.specs.declared.filling.Load.{Load}
 use Rattle.vt_propagate.proofs.Found.{numbered}
 use Rattle.vt_spec.proofs.Truths.{same_truth}
-use Rattle.vt_laws_letting_go.proofs.Lists.{found_in}
+use Rattle.vt_laws_mounts.proofs.letting_go.Lists.{found_in}
 use Rattle.vt_laws_mounts.specs.Mounts.Attaching.{OneNumberAMount}
 use Rattle.vt_mount.specs.Indexes.{same_namespace, is_in as is_part_in}
 use Rattle.vt_laws_mounts.specs.Mounts.Ending.{count_in, is_in}

@@ -14,8 +14,8 @@ use Rattle.vt_spec.specs.Machine.World.{World, mount_numbered, with_mounts}
 use Rattle.vt_spec.proofs.Lists.{all_from_among, among_cases, among_numbers, contains_from_among, head_among, map_same}
 use Rattle.vt_group.specs.Grouping.{Grouping, are_rising, peers_of}
 use Rattle.vt_group.proofs.Together.{regrouped_living}
-use Rattle.vt_laws_letting_go.specs.Several.{KeepsMounts}
-use Rattle.vt_laws_letting_go.proofs.mounting.TakenInTurn.{one_sweep_for_all_mounts_with_overlays}
+use Rattle.vt_laws_mounts.specs.LettingGo.Several.{KeepsMounts}
+use Rattle.vt_laws_mounts.proofs.letting_go.mounting.TakenInTurn.{one_sweep_for_all_mounts_with_overlays}
 use Rattle.vt_mount.specs.MountsValue.{MountEntry}
 use Rattle.vt_mount.proofs.PointLemmas.{end-here}
 use Rattle.vt_laws_mounts.proofs.ends.EndingLazy.{IsUnderWay, begun, childless, lazy_unmount_keeps_mounts, next}
@@ -30,8 +30,8 @@ use Rattle.vt_propagate.specs.Seen.{IsSeen}
 use Rattle.vt_propagate.proofs.TakenTwice.{taken_twice}
 use Rattle.vt_laws_mounts.specs.Mounts.Attaching.{numbers_of}
 use Rattle.vt_laws_mounts.specs.Mounts.Receivers.{AllGroupsLive}
-use Rattle.vt_laws_letting_go.proofs.SweptBetween.{settled_without_groups}
-use Rattle.vt_laws_letting_go.specs.Attaching.{is_attached}
+use Rattle.vt_laws_mounts.proofs.letting_go.SweptBetween.{settled_without_groups}
+use Rattle.vt_laws_mounts.specs.LettingGo.Attaching.{is_attached}
 
 -- where nothing goes, nothing changes
 pub nothing_taken : (world : World ℕ) → MountInvariants nat_eq world → taken_away nat_eq world [] ≡ world

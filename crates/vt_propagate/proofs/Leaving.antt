@@ -20,7 +20,7 @@ use Rattle.vt_propagate.specs.Going.{CountsUses, free_at, free_on, group_at, is_
 use Rattle.vt_propagate.specs.Seen.{IsSeen}
 use Rattle.vt_propagate.proofs.Found.{counts, numbered, numbered_among}
 use Rattle.vt_spec.proofs.Truths.{same_truth}
-use Rattle.vt_laws_letting_go.proofs.Lists.{found_in}
+use Rattle.vt_laws_mounts.proofs.letting_go.Lists.{found_in}
 use Rattle.vt_laws_mounts.specs.Mounts.Attaching.{numbers_of}
 
 -- Lists

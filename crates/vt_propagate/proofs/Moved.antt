@@ -20,7 +20,7 @@ use Rattle.vt_propagate.specs.Pushing.{KeepsLeaver, PushesBy, leaver}
 use Rattle.vt_propagate.proofs.Pushed.{receivers_apart}
 use Rattle.vt_spec.proofs.Truths.{nat_eq-swapped}
 use Rattle.vt_spec.proofs.Worlds.{number-mount_in}
-use Rattle.vt_laws_letting_go.proofs.Lists.{find_none}
+use Rattle.vt_laws_mounts.proofs.letting_go.Lists.{find_none}
 
 -- each mount is one of the new ones, or it was there and has the number of none of them
 among-folded : (new mounts : List (Mount ℕ)) (mount : Mount ℕ) → Among mount (folded (with_mount nat_eq) mounts new)

@@ -25,7 +25,7 @@ use Rattle.vt_propagate.specs.Planned.{graft_in, numbers_at, planned_copies}
 use Rattle.vt_propagate.specs.Pushing.{OneChild, PushesBy, leaver, pushed_at, pushes_from, stander}
 use Rattle.vt_propagate.proofs.Found.{numbered, numbered_among}
 use Rattle.vt_spec.proofs.Worlds.{number-mount_in}
-use Rattle.vt_laws_letting_go.proofs.Lists.{found_in}
+use Rattle.vt_laws_mounts.proofs.letting_go.Lists.{found_in}
 
 -- one more part
 map-take : (n : ℕ) (list : List Kept) → map mount_of (take n list) ≡ take n (map mount_of list)

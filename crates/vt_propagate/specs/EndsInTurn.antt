@@ -7,10 +7,10 @@ use Rattle.vt_spec.specs.Machine.Invariants.{MountInvariants}
 use Rattle.vt_spec.specs.Machine.Namespaces.{has_tasks, is_in_ended, namespaces_ended}
 use Rattle.vt_spec.specs.Machine.Settled.{settled}
 use Rattle.vt_spec.specs.Machine.World.{Namespace, World}
-use Rattle.vt_laws_letting_go.specs.InUse.{HasTrees, UppersArePlain}
-use Rattle.vt_laws_letting_go.specs.Leaving.{with_sweeps}
-use Rattle.vt_laws_letting_go.specs.Mounting.{ended_mounts}
-use Rattle.vt_laws_letting_go.specs.Overlays.{RealsAreThere}
+use Rattle.vt_laws_mounts.specs.LettingGo.InUse.{HasTrees, UppersArePlain}
+use Rattle.vt_laws_mounts.specs.LettingGo.Leaving.{with_sweeps}
+use Rattle.vt_laws_mounts.specs.LettingGo.Mounting.{ended_mounts}
+use Rattle.vt_laws_mounts.specs.LettingGo.Overlays.{RealsAreThere}
 
 -- the world with one mount detached, alone
 abbrev pub without_one : World ℕ → ℕ → World ℕ

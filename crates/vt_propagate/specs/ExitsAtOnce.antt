@@ -7,10 +7,10 @@ use Rattle.vt_spec.specs.Machine.Invariants.{MountInvariants}
 use Rattle.vt_spec.specs.Machine.Namespaces.{namespaces_ended}
 use Rattle.vt_spec.specs.Machine.Settled.{settled}
 use Rattle.vt_spec.specs.Machine.World.{World, without_task}
-use Rattle.vt_laws_letting_go.specs.InUse.{HasTrees, UppersArePlain}
-use Rattle.vt_laws_letting_go.specs.Leaving.{with_sweeps}
-use Rattle.vt_laws_letting_go.specs.Overlays.{RealsAreThere}
-use Rattle.vt_laws_letting_go.specs.Several.{ended_task}
+use Rattle.vt_laws_mounts.specs.LettingGo.InUse.{HasTrees, UppersArePlain}
+use Rattle.vt_laws_mounts.specs.LettingGo.Leaving.{with_sweeps}
+use Rattle.vt_laws_mounts.specs.LettingGo.Overlays.{RealsAreThere}
+use Rattle.vt_laws_mounts.specs.LettingGo.Several.{ended_task}
 
 -- the world without the tasks of these names
 abbrev pub without_tasks : World ℕ → List TaskName → World ℕ

@@ -6,10 +6,10 @@ use Rattle.vt_spec.specs.Machine.Mounts.{Mount, mount_tree}
 use Rattle.vt_spec.specs.Machine.Settled.{settled, without_dead_groups}
 use Rattle.vt_spec.specs.Machine.World.{World, mount_numbered}
 use Rattle.vt_group.specs.Grouping.{Grouping}
-use Rattle.vt_laws_letting_go.specs.InUse.{HasTrees, UppersArePlain}
-use Rattle.vt_laws_letting_go.specs.Leaving.{with_sweeps}
-use Rattle.vt_laws_letting_go.specs.Overlays.{RealsAreThere}
-use Rattle.vt_laws_letting_go.specs.Several.{KeepsMounts}
+use Rattle.vt_laws_mounts.specs.LettingGo.InUse.{HasTrees, UppersArePlain}
+use Rattle.vt_laws_mounts.specs.LettingGo.Leaving.{with_sweeps}
+use Rattle.vt_laws_mounts.specs.LettingGo.Overlays.{RealsAreThere}
+use Rattle.vt_laws_mounts.specs.LettingGo.Several.{KeepsMounts}
 use Rattle.vt_mount.specs.MountsValue.{MountEntry}
 use Rattle.vt_propagate.specs.Seen.{IsSeen}
 

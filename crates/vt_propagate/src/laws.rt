@@ -1,4 +1,4 @@
-//! Mounts and groups that change together. Words of the premises are those of `vt_laws_letting_go`.
+//! Mounts and groups that change together. Words of the premises are those of `vt_laws_mounts::letting_go`.
 ghost use Rattle.vt_propagate.specs.EndsInTurn.{EndedGoInTurn, NamespacesEndDeepestFirst, NamespacesEndInTurn};
 ghost use Rattle.vt_propagate.specs.EndsInTurn.{OneByOneAreSweptOnce, TurnsAreSeenSwept, UnlistedNamespacesEndInTurn};
 ghost use Rattle.vt_propagate.specs.ExitsAtOnce.{ExitsAreAtOnce};

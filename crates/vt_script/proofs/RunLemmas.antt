@@ -7,8 +7,8 @@ use Rattle.vt_spec.specs.Machine.Run.{handed, later, line_step, numbers_for, ste
 use Rattle.vt_spec.specs.Machine.SameWorlds.{SameWorlds}
 use Rattle.vt_spec.specs.Machine.World.{World}
 use Rattle.vt_laws_rules.specs.Numbers.{Allotment}
-use Rattle.vt_laws_runs.specs.Handed.{may_be_given}
-use Rattle.vt_laws_runs.specs.Runs.{ServesInHand, TellsAlike}
+use Rattle.vt_laws_trees.specs.Runs.Handed.{may_be_given}
+use Rattle.vt_laws_trees.specs.Runs.Runs.{ServesInHand, TellsAlike}
 use Rattle.vt_script.specs.Progress.{Moment, Runs, HasNoNewline, after_line, whole_lines, whole_with}
 use Rattle.vt_script.specs.Refused.{LineTakesMemory, MayBeRefusedIn}
 use Rattle.vt_script.specs.Session.{step_of}

@@ -9,9 +9,9 @@ use Rattle.vt_spec.specs.Machine.Run.{step_text, step_world}
 use Rattle.vt_spec.specs.Machine.SameWorlds.{SameWorlds}
 use Rattle.vt_spec.specs.Machine.World.{World}
 use Rattle.vt_laws_rules.specs.Numbers.{Allotment}
-use Rattle.vt_laws_runs.specs.Handed.{may_be_given}
-use Rattle.vt_laws_runs.specs.Runs.{TellsAlike}
-use Rattle.vt_laws_runs.proofs.answered.AlikeWorlds.{sameness_is_an_equivalence}
+use Rattle.vt_laws_trees.specs.Runs.Handed.{may_be_given}
+use Rattle.vt_laws_trees.specs.Runs.Runs.{TellsAlike}
+use Rattle.vt_laws_trees.proofs.runs.answered.AlikeWorlds.{sameness_is_an_equivalence}
 use Rattle.vt_answers.specs.Ends.{HasNumbers}
 use Rattle.vt_script.specs.Progress.{Moment, Runs, HasNoNewline, after_line}
 use Rattle.vt_script.specs.Refused.{MayBeRefusedIn}

@@ -5,9 +5,9 @@ use Rattle.std.proofs.lemmas.List.{take-append-drop}
 use Rattle.std.specs.Io.{StartsWith}
 use Rattle.vt_spec.specs.Language.Script.{Version, lines_of, overlays}
 use Rattle.vt_spec.specs.Machine.Run.{first_world, script_text_as, text_from}
-use Rattle.vt_laws_runs.specs.Handed.{may_be_given}
-use Rattle.vt_laws_runs.specs.Runs.{TellsAlike}
-use Rattle.vt_laws_one_text.proofs.runs.RunsTold.{every_program_has_one_text}
+use Rattle.vt_laws_trees.specs.Runs.Handed.{may_be_given}
+use Rattle.vt_laws_trees.specs.Runs.Runs.{TellsAlike}
+use Rattle.vt_laws_worlds.proofs.one_text.runs.RunsTold.{every_program_has_one_text}
 use Rattle.std.specs.Prelude.{OnOk, IsErrOf}
 use Rattle.vt_io.specs.declared.output.Sink.{Ghosts}
 use Rattle.vt_io.specs.Sink.{WroteFront}

@@ -3,8 +3,8 @@ use Rattle.std.specs.Prelude.{◌≡◌, ℕ, ◌+◌, ◌==◌, nat_eq, Bool, t
 use Rattle.vt_spec.specs.Language.Script.{Version, lines_of, overlays}
 use Rattle.vt_spec.specs.Lists.{Fresh}
 use Rattle.vt_spec.specs.Machine.World.{World, opening}
-use Rattle.vt_laws_runs.specs.Handed.{may_be_given}
-use Rattle.vt_laws_runs.specs.Runs.{OpensInHand, TellsAlike}
+use Rattle.vt_laws_trees.specs.Runs.Handed.{may_be_given}
+use Rattle.vt_laws_trees.specs.Runs.Runs.{OpensInHand, TellsAlike}
 use Rattle.vt_script.specs.Refused.{MayBeRefusedIn}
 
 -- a text up to its last newline

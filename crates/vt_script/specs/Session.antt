@@ -9,8 +9,8 @@ use Rattle.vt_spec.specs.Machine.Run.{Step, line_step, script_text_as, step_text
 use Rattle.vt_spec.specs.Machine.SameWorlds.{SameWorlds}
 use Rattle.vt_spec.specs.Machine.World.{World}
 use Rattle.vt_laws_rules.specs.Numbers.{Allotment}
-use Rattle.vt_laws_runs.specs.Handed.{may_be_given}
-use Rattle.vt_laws_runs.specs.Runs.{ServesInHand, TellsAlike}
+use Rattle.vt_laws_trees.specs.Runs.Handed.{may_be_given}
+use Rattle.vt_laws_trees.specs.Runs.Runs.{ServesInHand, TellsAlike}
 use Rattle.vt_answers.specs.Ends.{HasNumbers}
 use Rattle.vt_script.specs.Progress.{Moment, Runs, HasNoNewline, whole_lines}
 use Rattle.vt_script.specs.Refused.{LineTakesMemory, MayBeRefusedIn}

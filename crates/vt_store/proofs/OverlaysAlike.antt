@@ -9,8 +9,8 @@ use Rattle.vt_spec.specs.Machine.Merging.{is_root_path, layer_node, merged_at, r
 use Rattle.vt_spec.specs.Machine.World.{Real}
 use Rattle.vt_spec.specs.Machine.World.Real.{Lower, Upper}
 use Rattle.vt_spec.specs.Tree.{Node, entries_in, is_directory_node}
-use Rattle.vt_laws_merging.specs.MergedTrees.{layers_shown, node_as}
-use Rattle.vt_laws_seen.specs.TreesSeen.{node_by, real_by}
+use Rattle.vt_laws_worlds.specs.Merging.MergedTrees.{layers_shown, node_as}
+use Rattle.vt_laws_worlds.specs.Seen.TreesSeen.{node_by, real_by}
 use Rattle.vt_node.specs.Ranks.{rank_among}
 use Rattle.vt_location.specs.declared.births.Birth.TheVariants.{Below, Here}
 use Rattle.vt_location.specs.declared.locations.NodeRef.{NodeRef}

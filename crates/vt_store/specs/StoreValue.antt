@@ -3,7 +3,7 @@ use Rattle.std.specs.Prelude.{All, List, None, Option, Some, [], find, if◌then
 use Rattle.vt_spec.specs.FileTree.{FileTree}
 use Rattle.vt_spec.specs.Machine.World.{Filesystem, Overlay, World, filesystem_numbered}
 use Rattle.vt_spec.specs.Tree.{Node}
-use Rattle.vt_laws_seen.specs.TreesSeen.{real_seen}
+use Rattle.vt_laws_worlds.specs.Seen.TreesSeen.{real_seen}
 use Rattle.vt_location.specs.Numbers.{counted}
 use Rattle.vt_fs.specs.FilesystemsValue.{Filesystems, files_at, filesystems_seen, node_seen}
 use Rattle.vt_merge.specs.declared.merging.TheConstants.{MOST_LAYERS}

@@ -2,3 +2,5 @@ pub mod WorldValue
 pub mod Held
 pub mod StoredWorld
 pub mod Lent
+pub mod OverlaysKept
+pub mod OverlaysMade

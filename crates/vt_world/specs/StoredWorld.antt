@@ -1,7 +1,7 @@
 -- The overlays of a store, as a value of the world has them.
 use Rattle.std.specs.Prelude.{List, map}
 use Rattle.vt_fs.specs.FilesystemsValue.{Filesystems}
-use Rattle.vt_laws_overlays_kept.specs.Inodes.{inodes_kept}
+use Rattle.vt_world.specs.OverlaysKept.Inodes.{inodes_kept}
 use Rattle.vt_location.specs.Numbers.{counted}
 use Rattle.vt_overlay.specs.MergedTree.{layer_seen, merged_tree}
 use Rattle.vt_store.specs.OverlaysValue as stored

@@ -7,7 +7,7 @@ use Rattle.vt_spec.specs.Rights.{Credentials}
 use Rattle.vt_fs.specs.FilesystemsValue.{Filesystems, filesystems_seen}
 use Rattle.vt_group.specs.Grouping.{Grouping, master_in}
 use Rattle.vt_location.specs.Numbers.{counted}
-use Rattle.vt_laws_overlays_stay.specs.Woven.{woven}
+use Rattle.vt_laws_worlds.specs.OverlaysStay.Woven.{woven}
 use Rattle.vt_location.specs.declared.numbers.NamespaceId.{NamespaceId}
 use Rattle.vt_mount.specs.MountsValue.{MountEntry, mounts_in}
 use Rattle.vt_world.specs.declared.namespaces.Namespace.{Namespace}

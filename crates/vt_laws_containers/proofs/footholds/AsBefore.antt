@@ -14,13 +14,13 @@ use Rattle.vt_spec.specs.Machine.World.{Filesystem, Layer, Overlay, Task, World,
 use Rattle.vt_spec.proofs.Found.{found_among, found_passes}
 use Rattle.vt_spec.proofs.Lists.{Among, among-append, among-append_right, among-filter, among-flat_map, among-from_filter, among-from_flat_map, among_from_contains, among_from_list_all, any_among, is_among_numbers, list_all_from_among}
 use Rattle.vt_spec.proofs.Truths.{same_truth}
-use Rattle.vt_laws_letting_go.proofs.sweeps.OfWorlds.{found_filesystem}
-use Rattle.vt_laws_part.proofs.Kept.{among-each_once, among-from_each_once}
-use Rattle.vt_laws_part.proofs.part.PartOfPart.{used_directly_used}
-use Rattle.vt_laws_part.proofs.seals.ByPart.{layer_directory}
+use Rattle.vt_laws_mounts.proofs.letting_go.sweeps.OfWorlds.{found_filesystem}
+use Rattle.vt_laws_sealed.proofs.part.Kept.{among-each_once, among-from_each_once}
+use Rattle.vt_laws_sealed.proofs.part.part.PartOfPart.{used_directly_used}
+use Rattle.vt_laws_sealed.proofs.part.seals.ByPart.{layer_directory}
 use Rattle.vt_laws_containers.specs.Footholds.{LeavesOthersOut}
 use Rattle.vt_laws_containers.proofs.scripts.UsedThere.{IsThere, located_is_there, mounted_is_there, there_with_inode}
-use Rattle.vt_laws_members_changes.proofs.letting_go.Ready.{layered_overlay}
+use Rattle.vt_laws_members.proofs.changes.letting_go.Ready.{layered_overlay}
 use Rattle.vt_spec.proofs.Nodes.{directory_is_there}
 
 -- the layers of a filesystem, if it is an overlay

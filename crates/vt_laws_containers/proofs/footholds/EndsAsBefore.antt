@@ -14,11 +14,11 @@ use Rattle.vt_spec.specs.Machine.Settled.{filesystem_lives, mount_lives, only_us
 use Rattle.vt_spec.specs.Machine.World.{Filesystem, Task, World, all_locations, is_overlay, locations_of, mount_at}
 use Rattle.vt_spec.proofs.Lists.{Among, among-append, among-append_left, among-append_right, among-flat_map, among-from_filter, among-from_flat_map, among-from_map, among-map, any_from_among}
 use Rattle.vt_spec.proofs.Worlds.{number-only_used, same_task_name}
-use Rattle.vt_laws_letting_go.proofs.Lists.{filter-map, filter_less}
+use Rattle.vt_laws_mounts.proofs.letting_go.Lists.{filter-map, filter_less}
 use Rattle.vt_laws_sealed.proofs.outsiders.OthersSwept.{others_swept}
 use Rattle.vt_laws_sealed.proofs.outsiders.Staying.{OthersStayOut}
-use Rattle.vt_laws_members_changes.proofs.letting_go.Ends.{raised_is, raised_members}
-use Rattle.vt_laws_members_changes.proofs.tasks.Rights.{any_mapped}
+use Rattle.vt_laws_members.proofs.changes.letting_go.Ends.{raised_is, raised_members}
+use Rattle.vt_laws_members.proofs.changes.tasks.Rights.{any_mapped}
 use Rattle.vt_laws_containers.proofs.footholds.AsBefore.{GoesOn, OthersAsBefore, changes_alike, layered_as, without_real}
 
 -- what is in the place of one that goes on goes on

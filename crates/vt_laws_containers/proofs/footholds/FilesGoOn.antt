@@ -10,8 +10,8 @@ use Rattle.vt_spec.specs.Machine.Filesystems.{filesystem_changed, merge_of, over
 use Rattle.vt_spec.specs.Machine.Mounts.{Location}
 use Rattle.vt_spec.specs.Machine.World.{Filesystem, Layer, Overlay, World, filesystem_at, filesystem_numbered, mount_at, replaced_if_numbered}
 use Rattle.vt_spec.proofs.Lists.{Among, among-from_map}
-use Rattle.vt_laws_layers.proofs.layers.LowersWorld.{number_of_filesystem}
-use Rattle.vt_laws_letting_go.proofs.sweeps.OfWorlds.{found_filesystem}
+use Rattle.vt_laws_trees.proofs.layers.layers.LowersWorld.{number_of_filesystem}
+use Rattle.vt_laws_mounts.proofs.letting_go.sweeps.OfWorlds.{found_filesystem}
 use Rattle.vt_laws_containers.proofs.footholds.AsBefore.{layered_as, without_real}
 
 -- It is in the place of one of the world, with its layers.

@@ -14,7 +14,7 @@ use Rattle.vt_spec.specs.Machine.World.{Task, World, mount_numbered, task_called
 use Rattle.vt_spec.proofs.Lists.{Among, among-from_filter, any_among, any_from_among, is_among_numbers, among_numbers}
 use Rattle.vt_laws_mounts.proofs.mounts.MountsReplaced.{found_itself}
 use Rattle.vt_laws_trees.specs.Trees.Limits.{names_few_groups}
-use Rattle.vt_laws_members_changes.specs.Changes.{IsCallOfTheirs}
+use Rattle.vt_laws_members.specs.Changes.Changes.{IsCallOfTheirs}
 use Rattle.vt_laws_containers.proofs.footholds.AsBefore.{OthersAsBefore}
 use Rattle.vt_laws_containers.proofs.footholds.EndsAsBefore.{going_on}
 use Rattle.vt_laws_containers.proofs.footholds.FilesGoOn.{ChangesFiles}

@@ -21,12 +21,12 @@ use Rattle.vt_spec.proofs.Worlds.{answer-finished_by}
 use Rattle.vt_laws_rules.proofs.denials.Unchanged.{look_changes_nothing}
 use Rattle.vt_laws_rules.proofs.rules.OwnRules.{denial_changes_nothing}
 use Rattle.vt_laws_trees.specs.Trees.Limits.{names_few_groups}
-use Rattle.vt_laws_overlay_permits.proofs.worlds.EveryCall.{every_call_keeps_worlds}
+use Rattle.vt_laws_worlds.proofs.overlay_permits.worlds.EveryCall.{every_call_keeps_worlds}
 use Rattle.vt_laws_later_calls.proofs.Granted.{permitted}
 use Rattle.vt_laws_members.specs.Judging.{is_theirs}
-use Rattle.vt_laws_members_changes.specs.Changes.{IsCallOfTheirs, grown, left}
-use Rattle.vt_laws_members_changes.proofs.looks.Granted.{IsLook, looked}
-use Rattle.vt_laws_members_changes.proofs.looks.Told.{member_called, ran}
+use Rattle.vt_laws_members.specs.Changes.Changes.{IsCallOfTheirs, grown, left}
+use Rattle.vt_laws_members.proofs.changes.looks.Granted.{IsLook, looked}
+use Rattle.vt_laws_members.proofs.changes.looks.Told.{member_called, ran}
 use Rattle.vt_laws_containers.specs.Footholds.{GivesNoFoothold, LeavesOthersOut}
 use Rattle.vt_laws_containers.proofs.footholds.AsBefore.{OthersAsBefore, leaves_others_out}
 use Rattle.vt_laws_containers.proofs.footholds.EndsAsBefore.{raised_as_before}

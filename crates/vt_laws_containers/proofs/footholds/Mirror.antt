@@ -15,7 +15,7 @@ use Rattle.vt_spec.specs.Machine.World.{Namespace, Task, World, locations_of, mo
 use Rattle.vt_spec.proofs.Lists.{Among, all_from_among, among-filter, among-flat_map, among-from_filter, among-from_flat_map, among-from_map, among-map, among_from_all, among_from_list_all, any_among, any_from_among, list_all_from_among}
 use Rattle.vt_spec.proofs.Worlds.{same_name_itself}
 use Rattle.vt_laws_mounts.proofs.mounts.MountsReplaced.{found_itself}
-use Rattle.vt_laws_part.specs.Seals.{IsApart}
+use Rattle.vt_laws_sealed.specs.Part.Seals.{IsApart}
 use Rattle.vt_laws_sealed.proofs.outsiders.OtherMounts.{namespace_outside, standing_apart_of}
 use Rattle.vt_laws_sealed.proofs.outsiders.StandingApart.{StandsApart}
 use Rattle.vt_spec.proofs.Found.{filter_all, filter_alike}

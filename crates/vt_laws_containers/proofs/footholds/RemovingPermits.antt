@@ -28,29 +28,29 @@ use Rattle.vt_laws_rules.proofs.given.GivenPermits.{permits_are_for_their_calls}
 use Rattle.vt_laws_rules.proofs.given.Inversion.{calls_are_granted}
 use Rattle.vt_laws_trees.specs.Trees.Calls.{mounts_overlay}
 use Rattle.vt_laws_trees.specs.Trees.Limits.{names_few_groups}
-use Rattle.vt_laws_letting_go.proofs.SweptBetween.{settled_without_groups}
+use Rattle.vt_laws_mounts.proofs.letting_go.SweptBetween.{settled_without_groups}
 use Rattle.vt_laws_mounts.proofs.ends.EndingLazy.{IsUnderWay, begun}
 use Rattle.vt_laws_mounts.proofs.ends.EndingOrder.{taken_in_turn}
 use Rattle.vt_laws_worlds.proofs.worlds.CallsKept.{name_found}
 use Rattle.vt_laws_worlds.proofs.worlds.FitPermitsNamed.{all_permits_fit}
-use Rattle.vt_laws_overlay_permits.specs.Asked.{change_asked}
-use Rattle.vt_laws_part.proofs.part.PartOfPart.{is_own}
+use Rattle.vt_laws_worlds.specs.OverlayPermits.Asked.{change_asked}
+use Rattle.vt_laws_sealed.proofs.part.part.PartOfPart.{is_own}
 use Rattle.vt_laws_members.proofs.judging.Grounds.{theirs_from}
 use Rattle.vt_laws_members.specs.Judging.{is_theirs}
 use Rattle.vt_laws_members.proofs.judging.MountPoints.{in_own}
 use Rattle.vt_laws_members.proofs.judging.SeenInPart.{OnTheirs, theirs_directly}
-use Rattle.vt_laws_members_changes.specs.Changes.{IsCallOfTheirs, left}
-use Rattle.vt_laws_members_changes.proofs.files.OneFilesystem.{found_numbered}
-use Rattle.vt_laws_members_changes.proofs.letting_go.PartMounts.{part_mounts}
-use Rattle.vt_laws_members_changes.proofs.looks.Told.{member_called}
-use Rattle.vt_laws_members_changes.proofs.names.Elsewhere.{own_here, plain_points}
-use Rattle.vt_laws_members_changes.proofs.names.GrantedNames.{Names}
-use Rattle.vt_laws_members_changes.proofs.names.NamesEnding.{naming_alone}
-use Rattle.vt_laws_members_changes.proofs.names.RemovalsEnding.{removed_free, replaced_free}
-use Rattle.vt_laws_members_names.proofs.names.OverlayRemovals.{points_alone}
-use Rattle.vt_laws_members_detached.proofs.lazily.Order.{same_turns, turns_own}
-use Rattle.vt_laws_members_detached.proofs.lazily.Turns.{SameButGroups, TookAway, events_alike, took, took_none}
-use Rattle.vt_laws_members_detached.proofs.removals.Going.{going_with, own_go}
+use Rattle.vt_laws_members.specs.Changes.Changes.{IsCallOfTheirs, left}
+use Rattle.vt_laws_members.proofs.changes.files.OneFilesystem.{found_numbered}
+use Rattle.vt_laws_members.proofs.changes.letting_go.PartMounts.{part_mounts}
+use Rattle.vt_laws_members.proofs.changes.looks.Told.{member_called}
+use Rattle.vt_laws_members.proofs.changes.names.Elsewhere.{own_here, plain_points}
+use Rattle.vt_laws_members.proofs.changes.names.GrantedNames.{Names}
+use Rattle.vt_laws_members.proofs.changes.names.NamesEnding.{naming_alone}
+use Rattle.vt_laws_members.proofs.changes.names.RemovalsEnding.{removed_free, replaced_free}
+use Rattle.vt_laws_members.proofs.overlay_names.names.OverlayRemovals.{points_alone}
+use Rattle.vt_laws_members.proofs.detached.lazily.Order.{same_turns, turns_own}
+use Rattle.vt_laws_members.proofs.detached.lazily.Turns.{SameButGroups, TookAway, events_alike, took, took_none}
+use Rattle.vt_laws_members.proofs.detached.removals.Going.{going_with, own_go}
 use Rattle.vt_laws_containers.specs.Footholds.{GivesNoFoothold}
 use Rattle.vt_laws_containers.specs.PermitFootholds.{RemovingGivesNoFoothold, is_of_removing}
 use Rattle.vt_laws_containers.proofs.footholds.AsBefore.{OthersAsBefore}

@@ -21,7 +21,7 @@ use Rattle.vt_spec.specs.Machine.World.{Task, World, locations_of, mount_at, mou
 use Rattle.vt_spec.proofs.Lists.{Among, among-append, among-append_left, among-append_right, among-flat_map, among-from_filter, among-from_flat_map, among-from_map, among-map, any_from_among, map_alike}
 use Rattle.vt_spec.proofs.Worlds.{found_or_none, number-mount_in}
 use Rattle.vt_spec.proofs.Options.{none_is_some}
-use Rattle.vt_laws_letting_go.proofs.Lists.{filter-map}
+use Rattle.vt_laws_mounts.proofs.letting_go.Lists.{filter-map}
 use Rattle.vt_laws_mounts.proofs.mounts.MountsReplaced.{found_itself}
 use Rattle.vt_laws_rules.proofs.given.GivenPermits.{permits_are_for_their_calls}
 use Rattle.vt_laws_trees.specs.Trees.Calls.{mounts_overlay}
@@ -29,17 +29,17 @@ use Rattle.vt_laws_trees.specs.Trees.Limits.{names_few_groups}
 use Rattle.vt_laws_worlds.specs.Worlds.Permits.{MayPivot}
 use Rattle.vt_laws_worlds.proofs.worlds.CallsKept.{name_found}
 use Rattle.vt_laws_worlds.proofs.worlds.FitPermitsNamed.{all_permits_fit}
-use Rattle.vt_laws_part.specs.Seals.{IsApart}
-use Rattle.vt_laws_part.proofs.seals.ByPart.{apart_if_sealed}
+use Rattle.vt_laws_sealed.specs.Part.Seals.{IsApart}
+use Rattle.vt_laws_sealed.proofs.part.seals.ByPart.{apart_if_sealed}
 use Rattle.vt_laws_sealed.proofs.outsiders.FlagsSet.{set}
 use Rattle.vt_laws_sealed.proofs.outsiders.OtherMounts.{namespace_outside}
 use Rattle.vt_laws_sealed.proofs.outsiders.Raising.{all-map_same}
 use Rattle.vt_laws_members.proofs.judging.Grounds.{IsTheirs}
 use Rattle.vt_laws_members.proofs.judging.MountTrees.{own_theirs}
 use Rattle.vt_laws_members.proofs.judging.SeenInPart.{theirs_directly}
-use Rattle.vt_laws_members_changes.specs.Changes.{IsCallOfTheirs}
-use Rattle.vt_laws_members_changes.proofs.looks.Told.{member_called}
-use Rattle.vt_laws_members_changes.proofs.tasks.Rights.{any_mapped}
+use Rattle.vt_laws_members.specs.Changes.Changes.{IsCallOfTheirs}
+use Rattle.vt_laws_members.proofs.changes.looks.Told.{member_called}
+use Rattle.vt_laws_members.proofs.changes.tasks.Rights.{any_mapped}
 use Rattle.vt_laws_containers.specs.PermitFootholds.{ReplacingGivesNoFoothold, is_of_replacing}
 use Rattle.vt_laws_containers.proofs.footholds.AsBefore.{OthersAsBefore}
 use Rattle.vt_laws_containers.proofs.footholds.Mirror.{ShareNone}

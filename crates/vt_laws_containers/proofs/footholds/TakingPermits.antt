@@ -23,25 +23,25 @@ use Rattle.vt_spec.specs.Machine.World.{Namespace, Task, World, locations_of, mo
 use Rattle.vt_spec.proofs.Lists.{Among, among-filter, among-flat_map, among-from_filter, among-from_flat_map, among-from_map, among_from_list_all, among_numbers, any_among, any_from_among}
 use Rattle.vt_spec.proofs.Options.{none_is_some}
 use Rattle.vt_spec.proofs.Worlds.{found_or_none}
-use Rattle.vt_laws_letting_go.proofs.Lists.{filter_less}
+use Rattle.vt_laws_mounts.proofs.letting_go.Lists.{filter_less}
 use Rattle.vt_laws_mounts.proofs.mounts.MountsReplaced.{found_itself}
 use Rattle.vt_laws_rules.proofs.given.GivenPermits.{permits_are_for_their_calls}
 use Rattle.vt_laws_trees.specs.Trees.Calls.{mounts_overlay}
 use Rattle.vt_laws_trees.specs.Trees.Limits.{names_few_groups}
 use Rattle.vt_laws_worlds.proofs.worlds.CallsKept.{name_found}
 use Rattle.vt_laws_worlds.proofs.worlds.FitPermitsNamed.{all_permits_fit}
-use Rattle.vt_laws_part.specs.Seals.{IsApart}
-use Rattle.vt_laws_part.proofs.seals.ByPart.{apart_if_sealed}
+use Rattle.vt_laws_sealed.specs.Part.Seals.{IsApart}
+use Rattle.vt_laws_sealed.proofs.part.seals.ByPart.{apart_if_sealed}
 use Rattle.vt_laws_sealed.proofs.outsiders.StandingApart.{NothingNew}
 use Rattle.vt_laws_sealed.proofs.outsiders.TakingAway.{namespaces_taken_away}
 use Rattle.vt_laws_sealed.proofs.outsiders.Unmounting.{others_go}
 use Rattle.vt_laws_members.proofs.judging.Grounds.{IsTheirs}
-use Rattle.vt_laws_members_changes.specs.Changes.{IsCallOfTheirs, left}
-use Rattle.vt_laws_members_changes.proofs.letting_go.Callers.{of_set, places_left}
-use Rattle.vt_laws_members_changes.proofs.letting_go.Entering.{Enters, entered_was, enters, mine, stands}
-use Rattle.vt_laws_members_changes.proofs.letting_go.Ends.{raised_is}
-use Rattle.vt_laws_members_changes.proofs.letting_go.Leaving.{is_task, its, its_name, member, new_old, set_from, set_parts, stays}
-use Rattle.vt_laws_members_changes.proofs.looks.Told.{member_called}
+use Rattle.vt_laws_members.specs.Changes.Changes.{IsCallOfTheirs, left}
+use Rattle.vt_laws_members.proofs.changes.letting_go.Callers.{of_set, places_left}
+use Rattle.vt_laws_members.proofs.changes.letting_go.Entering.{Enters, entered_was, enters, mine, stands}
+use Rattle.vt_laws_members.proofs.changes.letting_go.Ends.{raised_is}
+use Rattle.vt_laws_members.proofs.changes.letting_go.Leaving.{is_task, its, its_name, member, new_old, set_from, set_parts, stays}
+use Rattle.vt_laws_members.proofs.changes.looks.Told.{member_called}
 use Rattle.vt_laws_containers.specs.PermitFootholds.{DetachingGivesNoFoothold, is_of_detaching}
 use Rattle.vt_laws_containers.proofs.footholds.AsBefore.{OthersAsBefore}
 use Rattle.vt_laws_containers.proofs.footholds.Granting.{EndsInAWorld}

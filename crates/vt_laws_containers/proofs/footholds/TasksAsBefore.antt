@@ -15,14 +15,14 @@ use Rattle.vt_spec.proofs.Found.{found_among}
 use Rattle.vt_spec.proofs.Lists.{Among, among-append, among-append_left, among-append_right, among-flat_map, among-from_filter, among-from_flat_map, among-from_map, among-map, any_among, any_from_among, contains_from_among}
 use Rattle.vt_spec.proofs.Truths.{same_truth}
 use Rattle.vt_spec.proofs.Worlds.{name-replaced_if_called, same_name_itself, same_task_name}
-use Rattle.vt_laws_letting_go.proofs.Lists.{filter-map}
-use Rattle.vt_laws_part.specs.Seals.{IsApart}
-use Rattle.vt_laws_part.proofs.seals.ByPart.{apart_if_sealed}
+use Rattle.vt_laws_mounts.proofs.letting_go.Lists.{filter-map}
+use Rattle.vt_laws_sealed.specs.Part.Seals.{IsApart}
+use Rattle.vt_laws_sealed.proofs.part.seals.ByPart.{apart_if_sealed}
 use Rattle.vt_laws_members.proofs.judging.Grounds.{IsTheirs}
 use Rattle.vt_laws_members.proofs.judging.SeenInPart.{theirs_directly}
-use Rattle.vt_laws_members_changes.specs.Changes.{IsCallOfTheirs}
-use Rattle.vt_laws_members_changes.proofs.letting_go.Callers.{StandsOnTheirs, of_set, places_left, replaced_how, spaces_kept}
-use Rattle.vt_laws_members_changes.proofs.looks.Told.{member_called}
+use Rattle.vt_laws_members.specs.Changes.Changes.{IsCallOfTheirs}
+use Rattle.vt_laws_members.proofs.changes.letting_go.Callers.{StandsOnTheirs, of_set, places_left, replaced_how, spaces_kept}
+use Rattle.vt_laws_members.proofs.changes.looks.Told.{member_called}
 use Rattle.vt_laws_containers.proofs.footholds.AsBefore.{GoesOn, OthersAsBefore}
 
 -- These tasks stand in the place of the world's, and these filesystems: those of the set are in the namespaces of

@@ -22,12 +22,12 @@ use Rattle.vt_laws_trees.specs.Trees.Limits.{names_few_groups}
 use Rattle.vt_laws_members.specs.Judging.{is_theirs}
 use Rattle.vt_laws_members.proofs.judging.Grounds.{IsTheirs, theirs_from}
 use Rattle.vt_laws_members.proofs.judging.SeenInPart.{directory_theirs, root_theirs}
-use Rattle.vt_laws_members_changes.specs.Changes.{IsCallOfTheirs, grown, left}
-use Rattle.vt_laws_members_changes.proofs.letting_go.Callers.{StandsOnTheirs}
-use Rattle.vt_laws_members_changes.proofs.letting_go.Moving.{SetsDirectory, SetsRoot, sets_directory, sets_root}
-use Rattle.vt_laws_members_changes.proofs.looks.Told.{member_called}
-use Rattle.vt_laws_members_changes.proofs.names.GrantedNames.{granted_theirs}
-use Rattle.vt_laws_members_changes.proofs.tasks.Opening.{OpensOn, opens_theirs}
+use Rattle.vt_laws_members.specs.Changes.Changes.{IsCallOfTheirs, grown, left}
+use Rattle.vt_laws_members.proofs.changes.letting_go.Callers.{StandsOnTheirs}
+use Rattle.vt_laws_members.proofs.changes.letting_go.Moving.{SetsDirectory, SetsRoot, sets_directory, sets_root}
+use Rattle.vt_laws_members.proofs.changes.looks.Told.{member_called}
+use Rattle.vt_laws_members.proofs.changes.names.GrantedNames.{granted_theirs}
+use Rattle.vt_laws_members.proofs.changes.tasks.Opening.{OpensOn, opens_theirs}
 use Rattle.vt_laws_containers.specs.Footholds.{GivesNoFoothold}
 use Rattle.vt_laws_containers.specs.PermitFootholds.{DenialsGiveNoFoothold, FilesGiveNoFoothold, LooksGiveNoFoothold, TasksGiveNoFoothold, is_of_files, is_of_tasks}
 use Rattle.vt_laws_containers.proofs.footholds.AsBefore.{GoesOn, OthersAsBefore}

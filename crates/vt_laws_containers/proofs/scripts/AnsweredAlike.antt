@@ -15,13 +15,13 @@ use Rattle.vt_spec.specs.Machine.World.{World}
 use Rattle.vt_spec.proofs.Lists.{among_numbers, contains_from_among}
 use Rattle.vt_laws_trees.specs.Trees.Limits.{names_few_groups}
 use Rattle.vt_laws_worlds.proofs.worlds.WordsFew.{lines_name_few, request_names_few}
-use Rattle.vt_laws_overlay_permits.proofs.worlds.EveryCall.{every_call_keeps_worlds}
-use Rattle.vt_laws_part.specs.Seals.{HasNoMoreFootholds}
-use Rattle.vt_laws_part.proofs.part.PartOfPart.{same_used}
-use Rattle.vt_laws_part.proofs.seals.ByPart.{fewer_footholds_seal_too}
+use Rattle.vt_laws_worlds.proofs.overlay_permits.worlds.EveryCall.{every_call_keeps_worlds}
+use Rattle.vt_laws_sealed.specs.Part.Seals.{HasNoMoreFootholds}
+use Rattle.vt_laws_sealed.proofs.part.part.PartOfPart.{same_used}
+use Rattle.vt_laws_sealed.proofs.part.seals.ByPart.{fewer_footholds_seal_too}
 use Rattle.vt_laws_sealed.specs.Outsiders.{are_all_called}
 use Rattle.vt_laws_sealed.proofs.outsiders.EveryPermit.{outsiders_leave_a_sealed_set}
-use Rattle.vt_laws_members_changes.specs.Changes.{EndsAlike, IsCallOfTheirs, grown}
+use Rattle.vt_laws_members.specs.Changes.Changes.{EndsAlike, IsCallOfTheirs, grown}
 use Rattle.vt_laws_containers.specs.Footholds.{GivesNoFoothold, LeavesOthersOut}
 use Rattle.vt_laws_containers.specs.Scripts.{Along, Asked, EachEndsAlike, EndsInThePart, IsSealedOffAt, KeepsOthersOut, LeavesItSealed, SetsAreAnsweredAsAlone, Stand, StaysOnItsSide, after_theirs, asked, asked_by, moved, outcome_at, own_answers, told}
 use Rattle.vt_laws_containers.proofs.scripts.Called.{members_stay_called, still_called}

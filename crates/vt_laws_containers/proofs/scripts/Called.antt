@@ -23,11 +23,11 @@ use Rattle.vt_spec.proofs.Found.{found_among, found_passes}
 use Rattle.vt_spec.proofs.Lists.{Among, among-append_right, among-filter, among-from_filter, among-map, among_from_list_all, any_from_among, list_all_from_among}
 use Rattle.vt_spec.proofs.Options.{some_from_is_some}
 use Rattle.vt_spec.proofs.Worlds.{same_name_itself, same_task_name}
-use Rattle.vt_laws_calls.proofs.tasks.TasksLaws.{only_exit_leaves, other_tasks_stay}
+use Rattle.vt_laws_trees.proofs.calls.tasks.TasksLaws.{only_exit_leaves, other_tasks_stay}
 use Rattle.vt_laws_worlds.proofs.worlds.CallsKept.{name_found}
 use Rattle.vt_laws_sealed.specs.Outsiders.{are_all_called}
-use Rattle.vt_laws_members_changes.specs.Changes.{grown, left}
-use Rattle.vt_laws_members_changes.proofs.looks.Told.{ran}
+use Rattle.vt_laws_members.specs.Changes.Changes.{grown, left}
+use Rattle.vt_laws_members.proofs.changes.looks.Told.{ran}
 
 -- a task of this name is found where one is
 pub found_called : (member : TaskName) (tasks : List (Task ℕ)) (task : Task ℕ) → Among task tasks

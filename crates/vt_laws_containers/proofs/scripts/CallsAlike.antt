@@ -13,10 +13,10 @@ use Rattle.vt_spec.specs.Machine.Run.{Serves, numbers_for}
 use Rattle.vt_spec.specs.Machine.World.{Task, World, task_called}
 use Rattle.vt_laws_rules.proofs.given.GivenPermits.{permits_are_for_their_calls}
 use Rattle.vt_laws_trees.specs.Trees.Limits.{names_few_groups}
-use Rattle.vt_laws_members_changes.specs.Changes.{IsCallOfTheirs}
-use Rattle.vt_laws_members_changes.proofs.looks.Told.{ran}
-use Rattle.vt_laws_members_changes.proofs.tasks.Denied.{run_by}
-use Rattle.vt_laws_members_calls.proofs.each_call.EachCall.{each_call_ends_alike}
+use Rattle.vt_laws_members.specs.Changes.Changes.{IsCallOfTheirs}
+use Rattle.vt_laws_members.proofs.changes.looks.Told.{ran}
+use Rattle.vt_laws_members.proofs.changes.tasks.Denied.{run_by}
+use Rattle.vt_laws_members.proofs.each_call.EachCall.{each_call_ends_alike}
 use Rattle.vt_laws_containers.specs.Calls.{AlwaysEndsAlike, RunsEndAlike, SetsThatKeepOthersOutAreAnsweredAsAlone}
 use Rattle.vt_laws_containers.specs.Footholds.{GivesNoFoothold}
 use Rattle.vt_laws_containers.specs.PermitFootholds.{is_of_detaching, is_of_files, is_of_removing, is_of_replacing, is_of_tasks}

@@ -10,7 +10,7 @@ use Rattle.vt_spec.specs.Machine.World.{World}
 use Rattle.vt_laws_rules.proofs.numbers.Supports.{opening_keeps_to_four}
 use Rattle.vt_laws_rules.specs.Numbers.{first_four}
 use Rattle.vt_laws_worlds.proofs.opening.OpeningWorld.{opening_is_a_world}
-use Rattle.vt_laws_overlay_permits.proofs.worlds.EveryScript.{line_keeps}
+use Rattle.vt_laws_worlds.proofs.overlay_permits.worlds.EveryScript.{line_keeps}
 use Rattle.vt_laws_containers.specs.Scripts.{HasEarlierNumbers, SealedSetsStandSo}
 use Rattle.vt_laws_containers.proofs.scripts.LineNumbers.{line_numbers_left, serves_line}
 

@@ -11,8 +11,8 @@ use Rattle.vt_spec.specs.Machine.World.{Filesystem, World, all_locations, filesy
 use Rattle.vt_spec.specs.Tree.{is_directory_node}
 use Rattle.vt_spec.proofs.Found.{found_among, found_passes}
 use Rattle.vt_spec.proofs.Lists.{Among, among-append, among-flat_map, among-from_filter, among-from_flat_map, among-from_map, among_from_contains, among_from_list_all, contains_from_among}
-use Rattle.vt_laws_part.proofs.Kept.{among-from_each_once}
-use Rattle.vt_laws_part.proofs.seals.ByPart.{layer_directory}
+use Rattle.vt_laws_sealed.proofs.part.Kept.{among-from_each_once}
+use Rattle.vt_laws_sealed.proofs.part.seals.ByPart.{layer_directory}
 use Rattle.vt_laws_sealed.proofs.outsiders.SeenLater.{changed_of}
 use Rattle.vt_spec.proofs.Nodes.{directory_is_there}
 

@@ -25,19 +25,19 @@ use Rattle.vt_spec.specs.Machine.Settled.{settled}
 use Rattle.vt_spec.specs.Machine.World.{Filesystem, Layer, Overlay, Task, World, filesystem_at, filesystem_numbered, no_filesystem, task_called}
 use Rattle.vt_spec.proofs.Lists.{all_from_among}
 use Rattle.vt_spec.proofs.Options.{none_from_not_some, none_is_some}
-use Rattle.vt_laws_layers.specs.Layers.Untouched.{changes_no_mount}
+use Rattle.vt_laws_trees.specs.Layers.Layers.Untouched.{changes_no_mount}
 use Rattle.vt_laws_rules.specs.Given.{IsFor}
 use Rattle.vt_laws_rules.proofs.given.GivenPermits.{permits_are_for_their_calls}
-use Rattle.vt_laws_letting_go.specs.InUse.{has_upper_in}
-use Rattle.vt_laws_letting_go.specs.Overlays.{let_go_plain}
-use Rattle.vt_laws_letting_go.proofs.Lists.{fails}
-use Rattle.vt_laws_overlays_let_go.specs.NamesGiven.{takes_a_name}
-use Rattle.vt_laws_overlay_permits.specs.Asked.{change_asked}
-use Rattle.vt_laws_overlay_permits.specs.Changed.{numbers_left}
-use Rattle.vt_laws_overlay_permits.proofs.kept.KeptOverlays.{permits_make_their_change}
-use Rattle.vt_laws_overlay_permits.proofs.through.CallsThrough.{as_permitted}
-use Rattle.vt_laws_overlay_permits.proofs.worlds.EveryCall.{LeavesFilesystems, as_they_were, unchanged, with_overlay, with_plain}
-use Rattle.vt_laws_overlay_permits.proofs.worlds.PolicyLeads.{policy_leads}
+use Rattle.vt_laws_mounts.specs.LettingGo.InUse.{has_upper_in}
+use Rattle.vt_laws_mounts.specs.LettingGo.Overlays.{let_go_plain}
+use Rattle.vt_laws_mounts.proofs.letting_go.Lists.{fails}
+use Rattle.vt_laws_worlds.specs.OverlaysLetGo.NamesGiven.{takes_a_name}
+use Rattle.vt_laws_worlds.specs.OverlayPermits.Asked.{change_asked}
+use Rattle.vt_laws_worlds.specs.OverlayPermits.Changed.{numbers_left}
+use Rattle.vt_laws_worlds.proofs.overlay_permits.kept.KeptOverlays.{permits_make_their_change}
+use Rattle.vt_laws_worlds.proofs.overlay_permits.through.CallsThrough.{as_permitted}
+use Rattle.vt_laws_worlds.proofs.overlay_permits.worlds.EveryCall.{LeavesFilesystems, as_they_were, unchanged, with_overlay, with_plain}
+use Rattle.vt_laws_worlds.proofs.overlay_permits.worlds.PolicyLeads.{policy_leads}
 use Rattle.vt_laws_trees.proofs.trees.TreesOfWorlds.{numbered, numbered_anyhow}
 use Rattle.vt_laws_later_calls.proofs.AfterChange.{raised_files}
 use Rattle.vt_laws_later_calls.proofs.ends.OtherCalls.{all_types_leave_all_but_masters, asks_nothing, other_calls_let_whiteouts_go}

@@ -7,33 +7,33 @@ use Rattle.std.specs.Prelude.{Contains}
 use Rattle.vt_laws_rules.proofs.given.GivenPermits.{permits_are_for_their_calls}
 use Rattle.vt_laws_rules.proofs.judged.CallsJudged.{call_is_judged_then_applied}
 use Rattle.vt_laws_rules.specs.Given.{IsFor}
-use Rattle.vt_laws_layers.specs.Layers.Untouched.{changes_no_mount}
-use Rattle.vt_laws_letting_go.proofs.leaving.FilesChanged.{file_changes_let_go, none_left, opened_new_keeps_all}
-use Rattle.vt_laws_letting_go.proofs.leaving.LeftWithOverlays.{staying_keeps_overlays}
-use Rattle.vt_laws_letting_go.proofs.leaving.Retyped.{set_types_let_go}
-use Rattle.vt_laws_letting_go.proofs.leaving.TaskCalls.{forks_keep_all, new_credentials_keep_all, new_umasks_keep_all, opened_files_keep_all}
-use Rattle.vt_laws_letting_go.proofs.leaving.UsesKept.{flags_keep_all}
-use Rattle.vt_laws_letting_go.proofs.mounting.AttachedSwept.{binds_keep_all, new_mounts_of_trees_keep_all}
-use Rattle.vt_laws_letting_go.proofs.sweeps.OfWorlds.{locations_of_worlds_stand, mounts_of_worlds_stand, worlds_are_settled}
-use Rattle.vt_laws_letting_go.specs.Attaching.{is_attached}
-use Rattle.vt_laws_letting_go.specs.FileChanges.{MayChange}
-use Rattle.vt_laws_letting_go.specs.InUse.{AllInUse, IsListedTree}
-use Rattle.vt_laws_letting_go.specs.LeavingOverlays.{IsSettled}
-use Rattle.vt_laws_letting_go.specs.OneByOne.{Inode, let_go_group, let_go_groups}
-use Rattle.vt_laws_letting_go.specs.Overlays.{let_go_all_inodes, let_go_plain}
-use Rattle.vt_laws_letting_go.specs.Retyping.{groups_of_types}
-use Rattle.vt_laws_merging.proofs.mounted.Left.{mounting_lets_nothing_go}
-use Rattle.vt_laws_merging.proofs.mounted.Worlds.{are_new}
-use Rattle.vt_laws_overlays_let_go.proofs.changing.NamesGiven.{given_names_let_go, no_name_lost, opened_names_let_go}
-use Rattle.vt_laws_overlays_let_go.proofs.changing.NamesLost.{opened_copies_keep_all}
-use Rattle.vt_laws_overlays_let_go.proofs.changing.OverlayCalls.{reached_on_mount}
-use Rattle.vt_laws_overlays_let_go.specs.NamesGiven.{takes_a_name}
-use Rattle.vt_laws_overlays_let_go.specs.OverlayCalls.{is_on_mount}
-use Rattle.vt_laws_overlay_permits.proofs.asked.AskedOverlays.{permits_ask_properly}
-use Rattle.vt_laws_overlay_permits.proofs.asked.Unlocked.{permits_spare_what_is_locked}
-use Rattle.vt_laws_overlay_permits.proofs.changed.ChangedOverlays.{permits_can_change}
-use Rattle.vt_laws_overlay_permits.specs.Asked.{change_asked}
-use Rattle.vt_laws_overlay_permits.specs.Changed.{numbers_left}
+use Rattle.vt_laws_trees.specs.Layers.Layers.Untouched.{changes_no_mount}
+use Rattle.vt_laws_mounts.proofs.letting_go.leaving.FilesChanged.{file_changes_let_go, none_left, opened_new_keeps_all}
+use Rattle.vt_laws_mounts.proofs.letting_go.leaving.LeftWithOverlays.{staying_keeps_overlays}
+use Rattle.vt_laws_mounts.proofs.letting_go.leaving.Retyped.{set_types_let_go}
+use Rattle.vt_laws_mounts.proofs.letting_go.leaving.TaskCalls.{forks_keep_all, new_credentials_keep_all, new_umasks_keep_all, opened_files_keep_all}
+use Rattle.vt_laws_mounts.proofs.letting_go.leaving.UsesKept.{flags_keep_all}
+use Rattle.vt_laws_mounts.proofs.letting_go.mounting.AttachedSwept.{binds_keep_all, new_mounts_of_trees_keep_all}
+use Rattle.vt_laws_mounts.proofs.letting_go.sweeps.OfWorlds.{locations_of_worlds_stand, mounts_of_worlds_stand, worlds_are_settled}
+use Rattle.vt_laws_mounts.specs.LettingGo.Attaching.{is_attached}
+use Rattle.vt_laws_mounts.specs.LettingGo.FileChanges.{MayChange}
+use Rattle.vt_laws_mounts.specs.LettingGo.InUse.{AllInUse, IsListedTree}
+use Rattle.vt_laws_mounts.specs.LettingGo.LeavingOverlays.{IsSettled}
+use Rattle.vt_laws_mounts.specs.LettingGo.OneByOne.{Inode, let_go_group, let_go_groups}
+use Rattle.vt_laws_mounts.specs.LettingGo.Overlays.{let_go_all_inodes, let_go_plain}
+use Rattle.vt_laws_mounts.specs.LettingGo.Retyping.{groups_of_types}
+use Rattle.vt_laws_worlds.proofs.merging.mounted.Left.{mounting_lets_nothing_go}
+use Rattle.vt_laws_worlds.proofs.merging.mounted.Worlds.{are_new}
+use Rattle.vt_laws_worlds.proofs.overlays_let_go.changing.NamesGiven.{given_names_let_go, no_name_lost, opened_names_let_go}
+use Rattle.vt_laws_worlds.proofs.overlays_let_go.changing.NamesLost.{opened_copies_keep_all}
+use Rattle.vt_laws_worlds.proofs.overlays_let_go.changing.OverlayCalls.{reached_on_mount}
+use Rattle.vt_laws_worlds.specs.OverlaysLetGo.NamesGiven.{takes_a_name}
+use Rattle.vt_laws_worlds.specs.OverlaysLetGo.OverlayCalls.{is_on_mount}
+use Rattle.vt_laws_worlds.proofs.overlay_permits.asked.AskedOverlays.{permits_ask_properly}
+use Rattle.vt_laws_worlds.proofs.overlay_permits.asked.Unlocked.{permits_spare_what_is_locked}
+use Rattle.vt_laws_worlds.proofs.overlay_permits.changed.ChangedOverlays.{permits_can_change}
+use Rattle.vt_laws_worlds.specs.OverlayPermits.Asked.{change_asked}
+use Rattle.vt_laws_worlds.specs.OverlayPermits.Changed.{numbers_left}
 use Rattle.vt_spec.proofs.Lists.{among_from_contains, contains_from_among}
 use Rattle.vt_spec.proofs.NodeChanges.{file_is_there}
 use Rattle.vt_spec.specs.FileTree.{FileTree}
@@ -68,7 +68,7 @@ use Rattle.vt_laws_later_calls.proofs.AfterChange.{listed}
 use Rattle.vt_laws_later_calls.specs.Ends.{KeepsAllButMasters, sets_type, takes_uses}
 use Rattle.vt_laws_later_calls.specs.Whiteouts.{AllTypesLeaveAllButMasters, OtherCallsLetWhiteoutsGo, replaced_as, replaced_by, replaced_if, replaced_in, replaced_over}
 use Rattle.vt_laws_trees.proofs.trees.TreesTasks.{called_there}
-use Rattle.vt_laws_overlay_permits.proofs.worlds.LowersAfterCalls.{makes_files}
+use Rattle.vt_laws_worlds.proofs.overlay_permits.worlds.LowersAfterCalls.{makes_files}
 
 -- the sweep takes nothing
 abbrev KeepsAll : World ℕ → Type 0

@@ -11,11 +11,11 @@ use Rattle.vt_spec.specs.Machine.Invariants.{IsWorld}
 use Rattle.vt_spec.specs.Machine.Mounts.{Location}
 use Rattle.vt_spec.specs.Machine.World.{Filesystem, Layer, Overlay, World, filesystem_at, filesystem_numbered, mount_at, with_filesystem}
 use Rattle.vt_spec.specs.Tree.{Node, node_with_bytes}
-use Rattle.vt_laws_calls.proofs.inodes.InodesRemain.{RemainsIn, at_node, changed_remains, made_remains, named_remains}
-use Rattle.vt_laws_layers.proofs.layers.LowersWorld.{filesystem_elsewhere, filesystem_there, number_of_filesystem}
-use Rattle.vt_laws_layers.proofs.layers.UpperWorld.{upper_elsewhere}
-use Rattle.vt_laws_overlays_let_go.specs.NamesGiven.{takes_a_name}
-use Rattle.vt_laws_overlays_let_go.specs.OverlayChanges.{merge_at}
+use Rattle.vt_laws_trees.proofs.calls.inodes.InodesRemain.{RemainsIn, at_node, changed_remains, made_remains, named_remains}
+use Rattle.vt_laws_trees.proofs.layers.layers.LowersWorld.{filesystem_elsewhere, filesystem_there, number_of_filesystem}
+use Rattle.vt_laws_trees.proofs.layers.layers.UpperWorld.{upper_elsewhere}
+use Rattle.vt_laws_worlds.specs.OverlaysLetGo.NamesGiven.{takes_a_name}
+use Rattle.vt_laws_worlds.specs.OverlaysLetGo.OverlayChanges.{merge_at}
 use Rattle.vt_laws_trees.specs.Trees.Settling.{inode_in}
 
 module _ (other : ℕ) where

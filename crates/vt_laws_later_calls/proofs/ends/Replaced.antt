@@ -18,15 +18,15 @@ use Rattle.vt_spec.specs.TreeInvariant.{entry_at, led}
 use Rattle.vt_spec.proofs.Lists.{Among, among_from_contains}
 use Rattle.vt_spec.proofs.Options.{none_is_some}
 use Rattle.vt_laws_trees.specs.Trees.{IsFree, IsProper}
-use Rattle.vt_laws_layers.proofs.layers.ShownNames.{last_name}
-use Rattle.vt_laws_layers.proofs.layers.UpperFit.{upper_is}
-use Rattle.vt_laws_overlays.specs.WhatIsShown.{IsWhole}
-use Rattle.vt_laws_overlays.proofs.changes.WholeWorlds.{overlays_are_whole}
-use Rattle.vt_laws_overlays.proofs.steps.WholeNames.{above_named, named_above}
-use Rattle.vt_laws_letting_go.specs.OneByOne.{Inode}
-use Rattle.vt_laws_overlays_let_go.specs.NamesGiven.{name_given, replaced_in_upper, upper_at_name}
-use Rattle.vt_laws_overlay_permits.specs.Asked.{change_asked}
-use Rattle.vt_laws_overlay_permits.proofs.asked.AskedOverlays.{permits_ask_properly}
+use Rattle.vt_laws_trees.proofs.layers.layers.ShownNames.{last_name}
+use Rattle.vt_laws_trees.proofs.layers.layers.UpperFit.{upper_is}
+use Rattle.vt_laws_trees.specs.Overlays.WhatIsShown.{IsWhole}
+use Rattle.vt_laws_trees.proofs.overlays.changes.WholeWorlds.{overlays_are_whole}
+use Rattle.vt_laws_trees.proofs.overlays.steps.WholeNames.{above_named, named_above}
+use Rattle.vt_laws_mounts.specs.LettingGo.OneByOne.{Inode}
+use Rattle.vt_laws_worlds.specs.OverlaysLetGo.NamesGiven.{name_given, replaced_in_upper, upper_at_name}
+use Rattle.vt_laws_worlds.specs.OverlayPermits.Asked.{change_asked}
+use Rattle.vt_laws_worlds.proofs.overlay_permits.asked.AskedOverlays.{permits_ask_properly}
 use Rattle.vt_laws_later_calls.specs.Whiteouts.{IsWhiteoutOfUpper, ReplacedAreWhiteouts, replaced_as, replaced_if, replaced_in, replaced_over}
 use Rattle.vt_laws_trees.specs.Trees.Settling.{inode_in}
 

@@ -4,9 +4,9 @@ use Rattle.std.proofs.lemmas.Bool.{and_parts}
 use Rattle.vt_spec.specs.Machine.World.{Filesystem, World, no_filesystem}
 use Rattle.vt_spec.specs.Tree.{Node}
 use Rattle.vt_spec.proofs.Lists.{Among, contains_from_among}
-use Rattle.vt_laws_letting_go.specs.InUse.{is_inode_used}
-use Rattle.vt_laws_letting_go.specs.OneByOne.{Inode}
-use Rattle.vt_laws_letting_go.specs.Overlays.{is_plain, let_go_in, let_go_in_of, let_go_plain, without_inode_of}
+use Rattle.vt_laws_mounts.specs.LettingGo.InUse.{is_inode_used}
+use Rattle.vt_laws_mounts.specs.LettingGo.OneByOne.{Inode}
+use Rattle.vt_laws_mounts.specs.LettingGo.Overlays.{is_plain, let_go_in, let_go_in_of, let_go_plain, without_inode_of}
 use Rattle.vt_laws_trees.proofs.trees.TreesOfWorlds.{numbered}
 use Rattle.vt_laws_later_calls.specs.Whiteouts.{LeavesAllBut}
 use Rattle.vt_laws_trees.specs.Trees.Settling.{inode_in}

@@ -9,11 +9,11 @@ use Rattle.vt_spec.specs.Machine.Locked.{overlay_or}
 use Rattle.vt_spec.specs.Machine.Mounts.{Location}
 use Rattle.vt_spec.specs.Machine.World.{Filesystem, Layer, Overlay, Task, World, is_overlay, mount_at}
 use Rattle.vt_spec.proofs.Options.{none_from_not_some}
-use Rattle.vt_laws_letting_go.specs.InUse.{has_upper_in}
-use Rattle.vt_laws_letting_go.proofs.Lists.{among_from_all, none_passes}
+use Rattle.vt_laws_mounts.specs.LettingGo.InUse.{has_upper_in}
+use Rattle.vt_laws_mounts.proofs.letting_go.Lists.{among_from_all, none_passes}
 use Rattle.vt_laws_worlds.proofs.Plain.{plain_numbered}
 use Rattle.vt_laws_worlds.specs.Worlds.Kept.{IsPlain}
-use Rattle.vt_laws_overlay_permits.specs.Asked.{change_asked}
+use Rattle.vt_laws_worlds.specs.OverlayPermits.Asked.{change_asked}
 use Rattle.vt_laws_later_calls.specs.Ends.{OnlyTheseEndInodes, OtherCallsLeaveAll, TypesLeaveAllButMasters}
 use Rattle.vt_laws_later_calls.specs.Whiteouts.{replaced_as, replaced_by, replaced_if, replaced_over}
 use Rattle.vt_laws_later_calls.proofs.ends.EndedBy.{only_these_end_other_inodes, other_calls_keep_all}

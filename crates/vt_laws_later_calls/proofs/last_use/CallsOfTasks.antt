@@ -14,9 +14,9 @@ use Rattle.vt_spec.specs.Machine.Descriptors.{without_descriptor}
 use Rattle.vt_spec.specs.Machine.World.{Descriptor, Task, World, all_locations, locations_of, replaced_if_called, with_task}
 use Rattle.vt_spec.proofs.Lists.{among_from_contains}
 use Rattle.vt_spec.proofs.Worlds.{same_name_itself, same_name-swapped}
-use Rattle.vt_laws_letting_go.specs.Ends.{without_namespace}
-use Rattle.vt_laws_letting_go.specs.Leaving.{with_tasks}
-use Rattle.vt_laws_letting_go.proofs.Lists.{Among, none_passes, passes}
+use Rattle.vt_laws_mounts.specs.LettingGo.Ends.{without_namespace}
+use Rattle.vt_laws_mounts.specs.LettingGo.Leaving.{with_tasks}
+use Rattle.vt_laws_mounts.proofs.letting_go.Lists.{Among, none_passes, passes}
 use Rattle.vt_laws_later_calls.specs.LastUse.{CloseTakesItsFilesystem, CloseTakesItsInode, ExitEndsItsNamespace, task_count}
 use Rattle.vt_laws_later_calls.proofs.Opened.{descriptors_in_order}
 use Rattle.vt_laws_later_calls.proofs.last_use.LastLocations.{location_takes_its_filesystem}

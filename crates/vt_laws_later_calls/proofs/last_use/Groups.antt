@@ -15,13 +15,13 @@ use Rattle.vt_laws_mounts.proofs.GroupsKept.{member_shared}
 use Rattle.vt_laws_mounts.proofs.GroupsUp.{Up, live_members}
 use Rattle.vt_laws_mounts.proofs.GroupsUp.Up.{here}
 use Rattle.vt_laws_mounts.proofs.propagation.PropagationUp.{no_loop}
-use Rattle.vt_laws_letting_go.specs.Counts.{member_count, times}
-use Rattle.vt_laws_letting_go.specs.Groups.{GroupsLiveBut, OneGroupIsHandedOn, hand_on, is_group_or_lives}
-use Rattle.vt_laws_letting_go.specs.InUse.{AllInUse}
-use Rattle.vt_laws_letting_go.specs.OneByOne.{GroupsInUseBut, without_master}
-use Rattle.vt_laws_letting_go.proofs.Lists.{Among, all_pass, among-append, among-append_left, among-append_right, among_from_all, any_passes, none_passes, one_passes}
-use Rattle.vt_laws_letting_go.proofs.sweeps.LookedUp.{group_is_looked_up}
-use Rattle.vt_laws_letting_go.proofs.sweeps.OneByOne.{groups_go_one_by_one}
+use Rattle.vt_laws_mounts.specs.LettingGo.Counts.{member_count, times}
+use Rattle.vt_laws_mounts.specs.LettingGo.Groups.{GroupsLiveBut, OneGroupIsHandedOn, hand_on, is_group_or_lives}
+use Rattle.vt_laws_mounts.specs.LettingGo.InUse.{AllInUse}
+use Rattle.vt_laws_mounts.specs.LettingGo.OneByOne.{GroupsInUseBut, without_master}
+use Rattle.vt_laws_mounts.proofs.letting_go.Lists.{Among, all_pass, among-append, among-append_left, among-append_right, among_from_all, any_passes, none_passes, one_passes}
+use Rattle.vt_laws_mounts.proofs.letting_go.sweeps.LookedUp.{group_is_looked_up}
+use Rattle.vt_laws_mounts.proofs.letting_go.sweeps.OneByOne.{groups_go_one_by_one}
 use Rattle.vt_laws_later_calls.specs.LastUse.{GroupGoesWithItsLastMember, GroupIsHandedOnWithItsLastMember}
 use Rattle.vt_laws_later_calls.proofs.last_use.OneLess.{some_without_another, some_without_it}
 

@@ -8,17 +8,17 @@ use Rattle.vt_spec.specs.Lists.{any_pair}
 use Rattle.vt_spec.specs.Machine.Locked.{of_overlay, overlay_or}
 use Rattle.vt_spec.specs.Machine.Settled.{without_dead_in, without_dead_inodes}
 use Rattle.vt_spec.specs.Machine.World.{Filesystem, Overlay, World, filesystem_numbered, is_overlay, no_filesystem}
-use Rattle.vt_laws_letting_go.specs.Counts.{inode_uses}
-use Rattle.vt_laws_letting_go.specs.InUse.{HasTrees, InodesInUse, UppersArePlain, is_inode_used}
-use Rattle.vt_laws_letting_go.specs.OneByOne.{Inode, InodesInUseBut, is_used_or_among, let_go_inode, let_go_inode_of, without_inode, without_inode_at}
-use Rattle.vt_laws_letting_go.specs.Overlays.{RealsAreThere, is_plain, let_go_in, let_go_in_of, let_go_plain, uppers_in, uppers_of, uppers_of_inode, uppers_of_inode_in, without_inode_of, without_real}
-use Rattle.vt_laws_letting_go.proofs.Lists.{Among, all_from_among, all_pass, among-from_map, among_from_all, flat_map_none, found_by, found_in, map_same, passes}
-use Rattle.vt_laws_letting_go.proofs.sweeps.InUse.{inodes_stay}
-use Rattle.vt_laws_letting_go.proofs.sweeps.Inodes.{inodes_go_one_by_one}
-use Rattle.vt_laws_letting_go.proofs.sweeps.LookedUp.{inode_is_looked_up}
-use Rattle.vt_laws_letting_go.proofs.sweeps.UsesCounted.{used_while_counted}
-use Rattle.vt_laws_letting_go.proofs.sweeps.WithOverlays.{all_inodes_go_one_by_one}
-use Rattle.vt_laws_counts.specs.Using.{is_inode}
+use Rattle.vt_laws_mounts.specs.LettingGo.Counts.{inode_uses}
+use Rattle.vt_laws_mounts.specs.LettingGo.InUse.{HasTrees, InodesInUse, UppersArePlain, is_inode_used}
+use Rattle.vt_laws_mounts.specs.LettingGo.OneByOne.{Inode, InodesInUseBut, is_used_or_among, let_go_inode, let_go_inode_of, without_inode, without_inode_at}
+use Rattle.vt_laws_mounts.specs.LettingGo.Overlays.{RealsAreThere, is_plain, let_go_in, let_go_in_of, let_go_plain, uppers_in, uppers_of, uppers_of_inode, uppers_of_inode_in, without_inode_of, without_real}
+use Rattle.vt_laws_mounts.proofs.letting_go.Lists.{Among, all_from_among, all_pass, among-from_map, among_from_all, flat_map_none, found_by, found_in, map_same, passes}
+use Rattle.vt_laws_mounts.proofs.letting_go.sweeps.InUse.{inodes_stay}
+use Rattle.vt_laws_mounts.proofs.letting_go.sweeps.Inodes.{inodes_go_one_by_one}
+use Rattle.vt_laws_mounts.proofs.letting_go.sweeps.LookedUp.{inode_is_looked_up}
+use Rattle.vt_laws_mounts.proofs.letting_go.sweeps.UsesCounted.{used_while_counted}
+use Rattle.vt_laws_mounts.proofs.letting_go.sweeps.WithOverlays.{all_inodes_go_one_by_one}
+use Rattle.vt_laws_mounts.specs.Counts.Using.{is_inode}
 use Rattle.vt_laws_later_calls.specs.LastUse.{ExchangeOfOneLosesOneUse, InodeBesideOverlaysGoesWithItsLastUse, InodeGoesWithItsLastUse, InodeOfOverlayGoesWithItsLastUse, LosesOneUse, without_inode_of_any, without_merged_inode}
 use Rattle.vt_laws_later_calls.proofs.last_use.OneLess.{some_left}
 use Rattle.vt_spec.proofs.Lists.{map_alike}

@@ -10,21 +10,21 @@ use Rattle.vt_spec.specs.Machine.Receives.{is_member_of}
 use Rattle.vt_spec.specs.Machine.Settled.{settled, without_dead_filesystems, without_dead_groups, without_dead_in, without_dead_inodes, without_dead_mounts}
 use Rattle.vt_spec.specs.Machine.World.{Filesystem, Task, World, all_locations, filesystem_numbered, is_overlay, mount_at, no_filesystem}
 use Rattle.vt_spec.proofs.Found.{filter_alike}
-use Rattle.vt_laws_letting_go.specs.Counts.{inode_uses, mount_uses, mounts_showing}
-use Rattle.vt_laws_letting_go.specs.InUse.{AllInUse, GroupsInUse, InodesInUse, is_inode_used}
-use Rattle.vt_laws_letting_go.specs.Keeping.{LocationsStand}
-use Rattle.vt_laws_letting_go.specs.Leaving.{MountsStand, with_tasks}
-use Rattle.vt_laws_letting_go.specs.Mounting.{inode_at, root_inode}
-use Rattle.vt_laws_letting_go.specs.OneByOne.{IsPlain, is_mount_used, without_filesystem, without_mount}
-use Rattle.vt_laws_letting_go.proofs.Lists.{Among, all_from_among, all_pass, among-append, among-append_left, among-append_right, among-from_filter, among-from_map, among_from_all, among_numbers, any-filter, fails, found_by, passes}
-use Rattle.vt_laws_letting_go.proofs.leaving.PlacesLeft.{found_itself, nowhere_parts, private_is_no_member}
-use Rattle.vt_laws_letting_go.proofs.sweeps.InUse.{groups_stay, inodes_stay}
-use Rattle.vt_laws_letting_go.proofs.sweeps.OfWorlds.{all_in_use, locations_of_worlds_stand, mounts_of_worlds_stand}
-use Rattle.vt_laws_letting_go.proofs.sweeps.UsesCounted.{used_while_counted}
-use Rattle.vt_laws_counts.specs.Counted as Counted
-use Rattle.vt_laws_counts.specs.Using.{Exchanges}
-use Rattle.vt_laws_counts.proofs.using.MountRoots.{mounts_leave_their_roots}
-use Rattle.vt_laws_counts.proofs.using.Places.{exchanges_follow, locations_are_uses, others_use_nothing}
+use Rattle.vt_laws_mounts.specs.LettingGo.Counts.{inode_uses, mount_uses, mounts_showing}
+use Rattle.vt_laws_mounts.specs.LettingGo.InUse.{AllInUse, GroupsInUse, InodesInUse, is_inode_used}
+use Rattle.vt_laws_mounts.specs.LettingGo.Keeping.{LocationsStand}
+use Rattle.vt_laws_mounts.specs.LettingGo.Leaving.{MountsStand, with_tasks}
+use Rattle.vt_laws_mounts.specs.LettingGo.Mounting.{inode_at, root_inode}
+use Rattle.vt_laws_mounts.specs.LettingGo.OneByOne.{IsPlain, is_mount_used, without_filesystem, without_mount}
+use Rattle.vt_laws_mounts.proofs.letting_go.Lists.{Among, all_from_among, all_pass, among-append, among-append_left, among-append_right, among-from_filter, among-from_map, among_from_all, among_numbers, any-filter, fails, found_by, passes}
+use Rattle.vt_laws_mounts.proofs.letting_go.leaving.PlacesLeft.{found_itself, nowhere_parts, private_is_no_member}
+use Rattle.vt_laws_mounts.proofs.letting_go.sweeps.InUse.{groups_stay, inodes_stay}
+use Rattle.vt_laws_mounts.proofs.letting_go.sweeps.OfWorlds.{all_in_use, locations_of_worlds_stand, mounts_of_worlds_stand}
+use Rattle.vt_laws_mounts.proofs.letting_go.sweeps.UsesCounted.{used_while_counted}
+use Rattle.vt_laws_mounts.specs.Counts.Counted as Counted
+use Rattle.vt_laws_mounts.specs.Counts.Using.{Exchanges}
+use Rattle.vt_laws_mounts.proofs.counts.using.MountRoots.{mounts_leave_their_roots}
+use Rattle.vt_laws_mounts.proofs.counts.using.Places.{exchanges_follow, locations_are_uses, others_use_nothing}
 use Rattle.vt_laws_later_calls.specs.LastUse.{LocationTakesItsFilesystem}
 use Rattle.vt_laws_later_calls.proofs.last_use.OneLess.{IsSplit, split_around}
 use Rattle.vt_laws_later_calls.proofs.last_use.MountsAndFilesystems.{filesystem_goes_with_its_last_use, located_still, mount_goes_with_its_last_use}

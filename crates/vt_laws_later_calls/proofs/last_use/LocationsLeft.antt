@@ -3,14 +3,14 @@ use Rattle.std.proofs.Common.{◌≡◌, refl, ap, ◌∙◌, ℕ, nat_eq, Bool,
 use Rattle.std.specs.Prelude.{nat_lt}
 use Rattle.vt_spec.specs.Machine.Settled.{without_dead_filesystems, without_dead_groups, without_dead_inodes}
 use Rattle.vt_spec.specs.Machine.World.{World, filesystem_at}
-use Rattle.vt_laws_letting_go.specs.Counts.{inode_uses}
-use Rattle.vt_laws_letting_go.specs.InUse.{AllInUse}
-use Rattle.vt_laws_letting_go.specs.Leaving.{with_tasks}
-use Rattle.vt_laws_letting_go.specs.Mounting.{inode_at}
-use Rattle.vt_laws_letting_go.specs.OneByOne.{without_inode_at, without_mount}
-use Rattle.vt_laws_letting_go.proofs.sweeps.InUse.{filesystems_stay, groups_stay}
-use Rattle.vt_laws_letting_go.proofs.sweeps.OfWorlds.{all_in_use, reals_of_worlds_are_there, uppers_of_worlds_are_plain, worlds_have_trees}
-use Rattle.vt_laws_counts.proofs.using.Places.{locations_are_uses}
+use Rattle.vt_laws_mounts.specs.LettingGo.Counts.{inode_uses}
+use Rattle.vt_laws_mounts.specs.LettingGo.InUse.{AllInUse}
+use Rattle.vt_laws_mounts.specs.LettingGo.Leaving.{with_tasks}
+use Rattle.vt_laws_mounts.specs.LettingGo.Mounting.{inode_at}
+use Rattle.vt_laws_mounts.specs.LettingGo.OneByOne.{without_inode_at, without_mount}
+use Rattle.vt_laws_mounts.proofs.letting_go.sweeps.InUse.{filesystems_stay, groups_stay}
+use Rattle.vt_laws_mounts.proofs.letting_go.sweeps.OfWorlds.{all_in_use, reals_of_worlds_are_there, uppers_of_worlds_are_plain, worlds_have_trees}
+use Rattle.vt_laws_mounts.proofs.counts.using.Places.{locations_are_uses}
 use Rattle.vt_laws_later_calls.specs.LastUse.{LocationTakesItsInode}
 use Rattle.vt_laws_later_calls.proofs.last_use.InodesLeft.{exchange_of_one_loses_one_use, inode_beside_overlays_goes_with_its_last_use}
 use Rattle.vt_laws_later_calls.proofs.last_use.MountsAndFilesystems.{mount_goes_with_its_last_use}

@@ -7,14 +7,14 @@ use Rattle.vt_spec.specs.Lists.{is_among}
 use Rattle.vt_spec.specs.Machine.Mounts.{Location, Mount}
 use Rattle.vt_spec.specs.Machine.Settled.{filesystem_lives, is_located, is_mounted, mount_lives, without_dead_filesystems}
 use Rattle.vt_spec.specs.Machine.World.{Filesystem, Task, World, all_locations, is_overlay, mount_at}
-use Rattle.vt_laws_letting_go.specs.Counts.{mount_uses, mounts_showing, times}
-use Rattle.vt_laws_letting_go.specs.InUse.{FilesystemsInUse, MountsInUse}
-use Rattle.vt_laws_letting_go.specs.Leaving.{with_tasks}
-use Rattle.vt_laws_letting_go.specs.OneByOne.{FilesystemsInUseBut, IsPlain, MountsInUseBut, without_filesystem, without_mount}
-use Rattle.vt_laws_letting_go.proofs.Lists.{all_pass, passes}
-use Rattle.vt_laws_letting_go.proofs.leaving.PlacesLeft.{no_layers}
-use Rattle.vt_laws_letting_go.proofs.sweeps.LookedUp.{filesystem_is_looked_up, mount_is_looked_up}
-use Rattle.vt_laws_letting_go.proofs.sweeps.OneByOne.{filesystems_go_one_by_one, mounts_go_one_by_one}
+use Rattle.vt_laws_mounts.specs.LettingGo.Counts.{mount_uses, mounts_showing, times}
+use Rattle.vt_laws_mounts.specs.LettingGo.InUse.{FilesystemsInUse, MountsInUse}
+use Rattle.vt_laws_mounts.specs.LettingGo.Leaving.{with_tasks}
+use Rattle.vt_laws_mounts.specs.LettingGo.OneByOne.{FilesystemsInUseBut, IsPlain, MountsInUseBut, without_filesystem, without_mount}
+use Rattle.vt_laws_mounts.proofs.letting_go.Lists.{all_pass, passes}
+use Rattle.vt_laws_mounts.proofs.letting_go.leaving.PlacesLeft.{no_layers}
+use Rattle.vt_laws_mounts.proofs.letting_go.sweeps.LookedUp.{filesystem_is_looked_up, mount_is_looked_up}
+use Rattle.vt_laws_mounts.proofs.letting_go.sweeps.OneByOne.{filesystems_go_one_by_one, mounts_go_one_by_one}
 use Rattle.vt_laws_later_calls.specs.LastUse.{FilesystemGoesWithItsLastUse, MountGoesWithItsLastUse}
 use Rattle.vt_laws_later_calls.proofs.last_use.OneLess.{some_without_another, some_without_it}
 

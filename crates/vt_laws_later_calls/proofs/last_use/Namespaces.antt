@@ -6,11 +6,11 @@ use Rattle.vt_spec.specs.Machine.Invariants.{MountInvariants, NamespaceInvariant
 use Rattle.vt_spec.specs.Machine.Namespaces.{has_tasks, namespaces_ended}
 use Rattle.vt_spec.specs.Machine.Receives.{regrouped_by}
 use Rattle.vt_spec.specs.Machine.World.{Namespace, Task, World}
-use Rattle.vt_laws_letting_go.specs.Counts.{times}
-use Rattle.vt_laws_letting_go.specs.Ends.{without_namespace}
-use Rattle.vt_laws_letting_go.specs.Leaving.{with_tasks}
-use Rattle.vt_laws_letting_go.proofs.Lists.{Among, all_pass, passes}
-use Rattle.vt_laws_letting_go.proofs.ends.NamespacesEnd.{no_namespace_ends, one_namespace_ends}
+use Rattle.vt_laws_mounts.specs.LettingGo.Counts.{times}
+use Rattle.vt_laws_mounts.specs.LettingGo.Ends.{without_namespace}
+use Rattle.vt_laws_mounts.specs.LettingGo.Leaving.{with_tasks}
+use Rattle.vt_laws_mounts.proofs.letting_go.Lists.{Among, all_pass, passes}
+use Rattle.vt_laws_mounts.proofs.letting_go.ends.NamespacesEnd.{no_namespace_ends, one_namespace_ends}
 use Rattle.vt_laws_later_calls.specs.LastUse.{NamespaceEndsWithItsLastTask, task_count}
 use Rattle.vt_laws_later_calls.proofs.last_use.Groups.{none_lost}
 use Rattle.vt_laws_later_calls.proofs.last_use.OneLess.{some_without_another, some_without_it}

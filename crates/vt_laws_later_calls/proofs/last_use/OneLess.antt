@@ -6,8 +6,8 @@ use Rattle.std.proofs.lemmas.Bool.{or_parts}
 use Rattle.std.proofs.lemmas.Bool.Decides.{nat_tests}
 use Rattle.std.proofs.lemmas.List.Folds.{list_any-append}
 use Rattle.vt_spec.specs.Lists.{any_pair}
-use Rattle.vt_laws_letting_go.specs.Counts.{times}
-use Rattle.vt_laws_letting_go.proofs.Lists.{times_around, Among, fails, filter_all, filter_here, filter_skip, map_same, any_counted}
+use Rattle.vt_laws_mounts.specs.LettingGo.Counts.{times}
+use Rattle.vt_laws_mounts.proofs.letting_go.Lists.{times_around, Among, fails, filter_all, filter_here, filter_skip, map_same, any_counted}
 use Rattle.vt_spec.proofs.Truths.{same_truth}
 
 -- where one of them goes, some are left just where there was more than one

@@ -8,13 +8,13 @@ use Rattle.vt_spec.specs.Machine.Locked.{overlay_or}
 use Rattle.vt_spec.specs.Machine.Mounts.{Mount}
 use Rattle.vt_spec.specs.Machine.Settled.{filesystem_lives, has_layer_on, is_mounted, without_dead_filesystems}
 use Rattle.vt_spec.specs.Machine.World.{Filesystem, Overlay, World, filesystem_numbered, is_overlay, layers_of, no_filesystem}
-use Rattle.vt_laws_letting_go.specs.Counts.{mounts_showing}
-use Rattle.vt_laws_letting_go.specs.InUse.{FilesystemsInUse}
-use Rattle.vt_laws_letting_go.specs.OneByOne.{FilesystemsInUseBut, let_go_filesystems, without_filesystem}
-use Rattle.vt_laws_letting_go.proofs.Lists.{Among, all_pass, any-map, any_passes, fails, found_by, none_passes, one_passes, or_first, or_second, passes}
-use Rattle.vt_laws_letting_go.proofs.sweeps.InUse.{filesystems_stay}
-use Rattle.vt_laws_letting_go.proofs.sweeps.LookedUp.{filesystem_is_looked_up}
-use Rattle.vt_laws_letting_go.proofs.sweeps.OneByOne.{filesystems_go_one_by_one}
+use Rattle.vt_laws_mounts.specs.LettingGo.Counts.{mounts_showing}
+use Rattle.vt_laws_mounts.specs.LettingGo.InUse.{FilesystemsInUse}
+use Rattle.vt_laws_mounts.specs.LettingGo.OneByOne.{FilesystemsInUseBut, let_go_filesystems, without_filesystem}
+use Rattle.vt_laws_mounts.proofs.letting_go.Lists.{Among, all_pass, any-map, any_passes, fails, found_by, none_passes, one_passes, or_first, or_second, passes}
+use Rattle.vt_laws_mounts.proofs.letting_go.sweeps.InUse.{filesystems_stay}
+use Rattle.vt_laws_mounts.proofs.letting_go.sweeps.LookedUp.{filesystem_is_looked_up}
+use Rattle.vt_laws_mounts.proofs.letting_go.sweeps.OneByOne.{filesystems_go_one_by_one}
 use Rattle.vt_laws_later_calls.specs.LastUse.{FilesystemBesideOverlaysGoesWithItsLastUse, OverlayGoesWithItsLastUse, is_layered}
 use Rattle.vt_laws_later_calls.proofs.last_use.MountsAndFilesystems.{mounted_as_before, mounted_still}
 

@@ -9,13 +9,13 @@ use Rattle.vt_spec.specs.Lists.{any_pair, holds_of}
 use Rattle.vt_spec.specs.Machine.Locked.{of_overlay, overlay_or}
 use Rattle.vt_spec.specs.Machine.World.{Filesystem, Layer, Overlay, World, filesystem_numbered, is_overlay, no_filesystem, upper_object}
 use Rattle.vt_spec.specs.Machine.World.Real.{Upper}
-use Rattle.vt_laws_letting_go.specs.Counts.{inode_uses, times}
-use Rattle.vt_laws_letting_go.specs.InUse.{AllInUse, UppersArePlain, has_upper_in, is_inode_used}
-use Rattle.vt_laws_letting_go.specs.OneByOne.{Inode, without_inode, without_inode_at, without_inode_in}
-use Rattle.vt_laws_letting_go.specs.Overlays.{is_plain, let_go_in, let_go_in_of, let_go_plain, uppers_in, uppers_of, uppers_of_inode, uppers_of_inode_in, without_inode_of, without_real}
-use Rattle.vt_laws_letting_go.proofs.Lists.{Among, among-from_map, among_from_all, fails, flat_map_none, found_in, map_same}
-use Rattle.vt_laws_letting_go.proofs.sweeps.UpperUses.{one_upper_use_less}
-use Rattle.vt_laws_letting_go.proofs.sweeps.UsesCounted.{used_while_counted}
+use Rattle.vt_laws_mounts.specs.LettingGo.Counts.{inode_uses, times}
+use Rattle.vt_laws_mounts.specs.LettingGo.InUse.{AllInUse, UppersArePlain, has_upper_in, is_inode_used}
+use Rattle.vt_laws_mounts.specs.LettingGo.OneByOne.{Inode, without_inode, without_inode_at, without_inode_in}
+use Rattle.vt_laws_mounts.specs.LettingGo.Overlays.{is_plain, let_go_in, let_go_in_of, let_go_plain, uppers_in, uppers_of, uppers_of_inode, uppers_of_inode_in, without_inode_of, without_real}
+use Rattle.vt_laws_mounts.proofs.letting_go.Lists.{Among, among-from_map, among_from_all, fails, flat_map_none, found_in, map_same}
+use Rattle.vt_laws_mounts.proofs.letting_go.sweeps.UpperUses.{one_upper_use_less}
+use Rattle.vt_laws_mounts.proofs.letting_go.sweeps.UsesCounted.{used_while_counted}
 use Rattle.vt_laws_later_calls.specs.LastUse.{InodeOverLowersGoesAlone, LosesOneUse, UpperInodeGoesWithItsLastUse, without_inode_of_any, without_merged_inode}
 use Rattle.vt_laws_later_calls.proofs.last_use.InodesLeft.{found_after, its_kind, of_overlay_left}
 use Rattle.vt_laws_later_calls.proofs.last_use.OneLess.{IsSplit, some_left, split_around}

@@ -29,13 +29,13 @@ use Rattle.vt_spec.specs.Rights.{Credentials}
 use Rattle.vt_spec.specs.Tree.{Tree, entries_in, entry_named, is_directory_node, parent_in}
 use Rattle.vt_spec.specs.TreeInvariant.{entry_at}
 use Rattle.vt_spec.proofs.Nodes.{directory_used}
-use Rattle.vt_laws_letting_go.specs.Unmounting.{numbers_of_trees}
+use Rattle.vt_laws_mounts.specs.LettingGo.Unmounting.{numbers_of_trees}
 use Rattle.vt_laws_mounts.proofs.mounts.Standing.{standing_is_computed}
 use Rattle.vt_laws_mounts.proofs.ends.Unmounting.{kept_by_number}
 use Rattle.vt_laws_mounts.proofs.ends.UnmountingTrees.{AreClosed, trees_closed}
-use Rattle.vt_laws_overlays_let_go.proofs.changing.MountsOfOthers.{reached_stays, removal_reached}
-use Rattle.vt_laws_permits.specs.Sees.{SeesTo}
-use Rattle.vt_laws_permits.proofs.sees.SeesTasks.{given_permits_are_seen_to}
+use Rattle.vt_laws_worlds.proofs.overlays_let_go.changing.MountsOfOthers.{reached_stays, removal_reached}
+use Rattle.vt_laws_worlds.specs.Permits.Sees.{SeesTo}
+use Rattle.vt_laws_worlds.proofs.permits.sees.SeesTasks.{given_permits_are_seen_to}
 use Rattle.vt_laws_trees.specs.Trees.{MayRemove}
 use Rattle.vt_laws_trees.specs.Trees.Calls.{mounts_overlay}
 use Rattle.vt_laws_trees.specs.Trees.Limits.{names_few_groups}

@@ -28,11 +28,11 @@ use Rattle.vt_spec.specs.Tree.{entries_in, entry_named, is_directory_node}
 use Rattle.vt_spec.specs.TreeInvariant.{entry_at}
 use Rattle.vt_spec.proofs.Lists.{Among, among-filter, among-from_filter, among_from_list_all, any_from_among}
 use Rattle.vt_spec.proofs.Nodes.{directory_used}
-use Rattle.vt_laws_letting_go.proofs.leaving.PlacesLeft.{nowhere_parts}
-use Rattle.vt_laws_layers.specs.Layers.Untouched.{IsKept}
-use Rattle.vt_laws_layers.proofs.layers.LowersKept.{kept_both, kept_same, others_stay}
-use Rattle.vt_laws_layers.proofs.views.Entries.{is_entry, is_that_entry}
-use Rattle.vt_laws_layers.proofs.views.Moves.{move_told, no_way_up}
+use Rattle.vt_laws_mounts.proofs.letting_go.leaving.PlacesLeft.{nowhere_parts}
+use Rattle.vt_laws_trees.specs.Layers.Layers.Untouched.{IsKept}
+use Rattle.vt_laws_trees.proofs.layers.layers.LowersKept.{kept_both, kept_same, others_stay}
+use Rattle.vt_laws_trees.proofs.layers.views.Entries.{is_entry, is_that_entry}
+use Rattle.vt_laws_trees.proofs.layers.views.Moves.{move_told, no_way_up}
 use Rattle.vt_laws_mounts.specs.Mounts.Attaching.{numbers_of}
 use Rattle.vt_laws_mounts.proofs.ends.Ending.{replaced_keeps_mounts}
 use Rattle.vt_laws_mounts.proofs.mounts.MountsFound.{found_in, found_there}
@@ -40,10 +40,10 @@ use Rattle.vt_laws_mounts.proofs.mounts.MountsPlaces.{stands_there}
 use Rattle.vt_laws_mounts.proofs.mounts.MountsReplaced.{found_itself}
 use Rattle.vt_laws_mounts.proofs.mounts.Standing.{standing_is_computed}
 use Rattle.vt_laws_mounts.proofs.ends.UnmountingTrees.{trees_closed}
-use Rattle.vt_laws_permits.specs.Sees.{MayBeRenamed, SeesTo}
-use Rattle.vt_laws_permits.proofs.sees.SeesNames.{tree_here}
-use Rattle.vt_laws_permits.proofs.sees.SeesTasks.{given_permits_are_seen_to}
-use Rattle.vt_laws_letting_go.specs.Unmounting.{numbers_of_trees}
+use Rattle.vt_laws_worlds.specs.Permits.Sees.{MayBeRenamed, SeesTo}
+use Rattle.vt_laws_worlds.proofs.permits.sees.SeesNames.{tree_here}
+use Rattle.vt_laws_worlds.proofs.permits.sees.SeesTasks.{given_permits_are_seen_to}
+use Rattle.vt_laws_mounts.specs.LettingGo.Unmounting.{numbers_of_trees}
 use Rattle.vt_laws_trees.specs.Trees.{IsFileTree}
 use Rattle.vt_laws_trees.specs.Trees.Calls.{mounts_overlay}
 use Rattle.vt_laws_trees.specs.Trees.Limits.{names_few_groups}

@@ -35,14 +35,14 @@ use Rattle.vt_spec.specs.Rights.{Credentials, execute_right}
 use Rattle.vt_spec.specs.Tree.{Node, entries_in, entry_named, is_directory_node}
 use Rattle.vt_spec.proofs.Lists.{contains_from_among}
 use Rattle.vt_spec.proofs.Nodes.{directory_used}
-use Rattle.vt_laws_calls.specs.Inodes.{change_of}
-use Rattle.vt_laws_letting_go.specs.InUse.{IsListedTree}
-use Rattle.vt_laws_letting_go.proofs.leaving.FilesChanged.{opened_new_keeps_all}
-use Rattle.vt_laws_letting_go.proofs.sweeps.OfWorlds.{worlds_are_settled}
-use Rattle.vt_laws_permits.specs.Sees.{MayBeMade, SeesTo}
-use Rattle.vt_laws_permits.proofs.sees.SeesFit.{given_changes_are_proper}
-use Rattle.vt_laws_permits.proofs.sees.SeesNames.{tree_here}
-use Rattle.vt_laws_permits.proofs.sees.SeesTasks.{given_permits_are_seen_to}
+use Rattle.vt_laws_trees.specs.Calls.Inodes.{change_of}
+use Rattle.vt_laws_mounts.specs.LettingGo.InUse.{IsListedTree}
+use Rattle.vt_laws_mounts.proofs.letting_go.leaving.FilesChanged.{opened_new_keeps_all}
+use Rattle.vt_laws_mounts.proofs.letting_go.sweeps.OfWorlds.{worlds_are_settled}
+use Rattle.vt_laws_worlds.specs.Permits.Sees.{MayBeMade, SeesTo}
+use Rattle.vt_laws_worlds.proofs.permits.sees.SeesFit.{given_changes_are_proper}
+use Rattle.vt_laws_worlds.proofs.permits.sees.SeesNames.{tree_here}
+use Rattle.vt_laws_worlds.proofs.permits.sees.SeesTasks.{given_permits_are_seen_to}
 use Rattle.vt_laws_trees.specs.Trees.{IsFileTree}
 use Rattle.vt_laws_trees.proofs.trees.ChangesKeepTrees.{changes_keep_numbers, changes_keep_trees}
 use Rattle.vt_laws_worlds.specs.Worlds.Kept.{IsPlain}

@@ -32,16 +32,16 @@ use Rattle.vt_spec.specs.TreeInvariant.{IsReached, entry_at, led}
 use Rattle.vt_spec.proofs.Lists.{Among, among_from_list_all, contains_from_among}
 use Rattle.vt_spec.proofs.Nodes.{directory_used, none_is_not, parent-node_with_entry}
 use Rattle.vt_spec.proofs.Trees.{found, led-append}
-use Rattle.vt_laws_calls.specs.Inodes.{change_of}
-use Rattle.vt_laws_layers.proofs.layers.CopyingNames.{moved_part}
-use Rattle.vt_laws_layers.proofs.views.Entries.{is_entry, is_that_entry}
-use Rattle.vt_laws_layers.proofs.views.Moves.{led_parts, move_told, no_way_up}
-use Rattle.vt_laws_letting_go.specs.FileChanges.{IsMoved}
-use Rattle.vt_laws_letting_go.proofs.leaving.PlacesLeft.{nowhere_parts}
+use Rattle.vt_laws_trees.specs.Calls.Inodes.{change_of}
+use Rattle.vt_laws_trees.proofs.layers.layers.CopyingNames.{moved_part}
+use Rattle.vt_laws_trees.proofs.layers.views.Entries.{is_entry, is_that_entry}
+use Rattle.vt_laws_trees.proofs.layers.views.Moves.{led_parts, move_told, no_way_up}
+use Rattle.vt_laws_mounts.specs.LettingGo.FileChanges.{IsMoved}
+use Rattle.vt_laws_mounts.proofs.letting_go.leaving.PlacesLeft.{nowhere_parts}
 use Rattle.vt_laws_mounts.proofs.mounts.MountsFound.{found_in, placed_among}
 use Rattle.vt_laws_mounts.proofs.mounts.MountsReplaced.{found_itself}
-use Rattle.vt_laws_permits.specs.Sees.{MayBeRenamed}
-use Rattle.vt_laws_permits.proofs.sees.SeesNames.{tree_here}
+use Rattle.vt_laws_worlds.specs.Permits.Sees.{MayBeRenamed}
+use Rattle.vt_laws_worlds.proofs.permits.sees.SeesNames.{tree_here}
 use Rattle.vt_laws_trees.specs.Trees.{IsFileTree}
 use Rattle.vt_laws_trees.specs.Trees.Calls.{mounts_overlay}
 use Rattle.vt_laws_trees.specs.Trees.Limits.{names_few_groups}

@@ -21,8 +21,8 @@ use Rattle.vt_spec.specs.Tree.{Tree, entries_in, entry_named, is_directory_node,
 use Rattle.vt_spec.specs.TreeInvariant.{IsReached, entry_at, led}
 use Rattle.vt_spec.proofs.Nodes.{directory_used, none_is_not}
 use Rattle.vt_spec.proofs.Trees.{found, last_step, reached_named}
-use Rattle.vt_laws_layers.proofs.views.Moves.{led_parts}
-use Rattle.vt_laws_permits.proofs.sees.SeesNames.{tree_here}
+use Rattle.vt_laws_trees.proofs.layers.views.Moves.{led_parts}
+use Rattle.vt_laws_worlds.proofs.permits.sees.SeesNames.{tree_here}
 use Rattle.vt_laws_trees.specs.Trees.{IsFileTree}
 use Rattle.vt_laws_trees.specs.Trees.Calls.{mounts_overlay}
 use Rattle.vt_laws_trees.specs.Trees.Limits.{names_few_groups}

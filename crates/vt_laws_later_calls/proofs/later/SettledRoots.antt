@@ -7,7 +7,7 @@ use Rattle.vt_spec.specs.Lists.{any_pair, is_among}
 use Rattle.vt_spec.specs.Machine.Settled.{filesystem_lives, only_used, only_used_by, settled, used_in, without_dead_filesystems, without_dead_in, without_dead_mounts}
 use Rattle.vt_spec.specs.Machine.World.{Filesystem, World, filesystem_numbered, is_overlay, no_filesystem}
 use Rattle.vt_spec.proofs.Lists.{Among, among-from_filter}
-use Rattle.vt_laws_letting_go.proofs.sweeps.OfWorlds.{found_filesystem}
+use Rattle.vt_laws_mounts.proofs.letting_go.sweeps.OfWorlds.{found_filesystem}
 
 abbrev looked_up : ℕ → List (Filesystem ℕ) → Option (Filesystem ℕ)
 looked_up number list = find (λ (f : Filesystem ℕ). nat_eq number f.number) list

@@ -16,13 +16,13 @@ use Rattle.vt_spec.specs.Machine.Run.{Serves}
 use Rattle.vt_spec.specs.Machine.Settled.{filesystem_lives, has_layer_on, is_located, is_mounted, layers_in, located_in, mount_lives, named_in, objects_of_overlay, settled, without_dead_groups, without_dead_in, without_dead_inodes, without_dead_mounts}
 use Rattle.vt_spec.specs.Machine.World.{Filesystem, Namespace, Task, World, all_locations, is_overlay, locations_of, mount_at, mount_numbered, mounts_of, replaced_if_called, task_called, with_mounts}
 use Rattle.vt_spec.proofs.Lists.{none_among, pair-filter}
-use Rattle.vt_laws_letting_go.specs.InUse.{FilesystemsInUse, InodesInUse, is_inode_used}
-use Rattle.vt_laws_letting_go.specs.Mounting.{ended_mounts}
-use Rattle.vt_laws_letting_go.proofs.sweeps.InUse.{filesystems_stay, inodes_stay, used_at}
-use Rattle.vt_laws_letting_go.proofs.Lists.{Among, all_from_among, all_pass, among-append, among-append_left, among-append_right, among-filter, among-filter_map, among-flat_map, among-from_filter, among-from_filter_map, among-from_flat_map, among-from_map, among-map, among_from_all, among_numbers, any_passes, is_among_numbers, none_passes, one_passes, or_first, or_second, passes}
-use Rattle.vt_laws_letting_go.proofs.mounting.MountingLosers.{places_of, places_stand}
-use Rattle.vt_laws_letting_go.proofs.mounting.MountingTaken
-use Rattle.vt_laws_letting_go.proofs.sweeps.OfWorlds.{all_in_use, locations_of_worlds_stand, mounts_of_worlds_stand}
+use Rattle.vt_laws_mounts.specs.LettingGo.InUse.{FilesystemsInUse, InodesInUse, is_inode_used}
+use Rattle.vt_laws_mounts.specs.LettingGo.Mounting.{ended_mounts}
+use Rattle.vt_laws_mounts.proofs.letting_go.sweeps.InUse.{filesystems_stay, inodes_stay, used_at}
+use Rattle.vt_laws_mounts.proofs.letting_go.Lists.{Among, all_from_among, all_pass, among-append, among-append_left, among-append_right, among-filter, among-filter_map, among-flat_map, among-from_filter, among-from_filter_map, among-from_flat_map, among-from_map, among-map, among_from_all, among_numbers, any_passes, is_among_numbers, none_passes, one_passes, or_first, or_second, passes}
+use Rattle.vt_laws_mounts.proofs.letting_go.mounting.MountingLosers.{places_of, places_stand}
+use Rattle.vt_laws_mounts.proofs.letting_go.mounting.MountingTaken
+use Rattle.vt_laws_mounts.proofs.letting_go.sweeps.OfWorlds.{all_in_use, locations_of_worlds_stand, mounts_of_worlds_stand}
 use Rattle.vt_laws_mounts.specs.Mounts.Attaching.{OneNumberAMount}
 use Rattle.vt_laws_mounts.proofs.mounts.MountsFound.{found_there, numbers-map}
 use Rattle.vt_laws_mounts.proofs.mounts.MountsReplaced.{found_itself, one_number_by_numbers}
@@ -30,7 +30,7 @@ use Rattle.vt_laws_mounts.proofs.namespaces.Unsharing.{Parent, parent_of, placed
 use Rattle.vt_laws_worlds.proofs.kept.NamespacesListed.{AreNamespaces, are_namespaces}
 use Rattle.vt_spec.proofs.Found.{is_among_left, is_among_right}
 use Rattle.vt_spec.proofs.Worlds.{number-mount_in, same_task_name}
-use Rattle.vt_laws_letting_go.specs.Ends.{is_in}
+use Rattle.vt_laws_mounts.specs.LettingGo.Ends.{is_in}
 use Rattle.vt_laws_trees.proofs.trees.TreesTasks.{called_there}
 
 -- where no two of a list pass a test, those that do are one

@@ -29,9 +29,9 @@ use Rattle.vt_spec.specs.Machine.Receives.{is_member_of}
 use Rattle.vt_spec.specs.Machine.Run.{Serves, numbers_in_use, used_by_filesystem, used_by_mount}
 use Rattle.vt_spec.specs.Machine.Settled.{mount_lives, settled, without_dead_groups}
 use Rattle.vt_spec.specs.Machine.World.{Filesystem, Namespace, Task, World, is_overlay, mount_numbered, mounts_of, no_filesystem, replaced_if_called, task_called}
-use Rattle.vt_laws_letting_go.proofs.Lists.{Among, among-append_left, among-append_right, among-from_filter, among-map, any_passes, filter_here, filter_skip, flat_map_alike}
+use Rattle.vt_laws_mounts.proofs.letting_go.Lists.{Among, among-append_left, among-append_right, among-from_filter, among-map, any_passes, filter_here, filter_skip, flat_map_alike}
 use Rattle.vt_spec.proofs.Lists.{is_among_numbers, map_same, map_alike}
-use Rattle.vt_laws_letting_go.proofs.mounting.MountingTaken
+use Rattle.vt_laws_mounts.proofs.letting_go.mounting.MountingTaken
 use Rattle.vt_laws_mounts.specs.Mounts.Propagation.{UnshareListsOthersTheSame, UnshareListsTheSame}
 use Rattle.vt_laws_mounts.proofs.GroupsKept.{shared_member}
 use Rattle.vt_laws_mounts.proofs.mounts.MountsReplaced.{found_itself}
@@ -43,7 +43,7 @@ use Rattle.vt_laws_later_calls.specs.Tables.{UnshareGivesANamespace, UnshareThen
 use Rattle.vt_laws_later_calls.proofs.Granted.{IsPermitted, permitted}
 use Rattle.vt_laws_later_calls.proofs.tables.UnsharedLeft
 use Rattle.vt_spec.proofs.Worlds.{same_task_name}
-use Rattle.vt_laws_letting_go.specs.Ends.{is_in}
+use Rattle.vt_laws_mounts.specs.LettingGo.Ends.{is_in}
 use Rattle.vt_laws_trees.proofs.trees.TreesTasks.{called_there}
 use Rattle.vt_laws_rules.specs.Granted.{IsGranted}
 use Rattle.vt_laws_rules.specs.Granted.IsGranted.{unshares}

@@ -26,8 +26,8 @@ use Rattle.vt_spec.specs.Rights.{cap_sys_admin, cap_sys_chroot}
 use Rattle.vt_spec.proofs.Found.{found_among}
 use Rattle.vt_spec.proofs.Lists.{Among, among-append_left, among-append_right, among-flat_map, among-map, among_from_contains, contains_from_among}
 use Rattle.vt_spec.proofs.Worlds.{number-mount_in, same_task_name}
-use Rattle.vt_laws_part.proofs.part.PartOfPart.{is_own, located}
-use Rattle.vt_laws_part.proofs.walks.WalksAgree.{Alike, each_from}
+use Rattle.vt_laws_sealed.proofs.part.part.PartOfPart.{is_own, located}
+use Rattle.vt_laws_sealed.proofs.part.walks.WalksAgree.{Alike, each_from}
 use Rattle.vt_laws_members.specs.Judging.{MembersAreJudgedAlike, is_theirs}
 use Rattle.vt_laws_members.proofs.judging.Busy.{busy_alike}
 use Rattle.vt_laws_members.proofs.judging.Grounds.{IsTheirs, its_mount, over_alike, same_mount, theirs_from, theirs_test}

@@ -18,11 +18,11 @@ use Rattle.vt_spec.proofs.Lists.{Among, among-append_left, among-filter, among-f
 use Rattle.vt_spec.proofs.Nodes.{directory_used}
 use Rattle.vt_spec.proofs.Options.{none_is_some}
 use Rattle.vt_spec.proofs.Worlds.{found_or_none}
-use Rattle.vt_laws_layers.proofs.layers.LowersWorld.{number_of_filesystem}
-use Rattle.vt_laws_layers.proofs.locked.Apart.{under_itself}
-use Rattle.vt_laws_part.proofs.locks.LockedTrees.{all_locked}
-use Rattle.vt_laws_part.proofs.part.PartOfPart.{is_own}
-use Rattle.vt_laws_part.proofs.seals.ByPart.{layer_directory, used_are_free}
+use Rattle.vt_laws_trees.proofs.layers.layers.LowersWorld.{number_of_filesystem}
+use Rattle.vt_laws_trees.proofs.layers.locked.Apart.{under_itself}
+use Rattle.vt_laws_sealed.proofs.part.locks.LockedTrees.{all_locked}
+use Rattle.vt_laws_sealed.proofs.part.part.PartOfPart.{is_own}
+use Rattle.vt_laws_sealed.proofs.part.seals.ByPart.{layer_directory, used_are_free}
 use Rattle.vt_laws_worlds.proofs.worlds.Reached.{namespace_below}
 use Rattle.vt_laws_members.proofs.judging.Grounds.{numbered}
 use Rattle.vt_laws_members.proofs.judging.Locks.{tree_there, whole_how}

@@ -20,12 +20,12 @@ use Rattle.vt_spec.proofs.Options.{none_is_some}
 use Rattle.vt_spec.proofs.Truths.{same_truth}
 use Rattle.vt_laws_mounts.proofs.mounts.MountsPlaces.{stands_there}
 use Rattle.vt_laws_worlds.proofs.worlds.Reached.{namespace_below}
-use Rattle.vt_laws_part.specs.Groups.{SharesNoEvents}
-use Rattle.vt_laws_part.proofs.Kept.{filter_map_same}
-use Rattle.vt_laws_part.proofs.groups.ReceiversAlike.{no_event_of_theirs_reaches_others, their_groups_receive_alike}
-use Rattle.vt_laws_part.proofs.part.MountsOver.{same_child}
-use Rattle.vt_laws_part.proofs.part.PartOfPart.{is_own, keep, kept_how}
-use Rattle.vt_laws_part.proofs.seals.ByPart.{apart_if_sealed}
+use Rattle.vt_laws_sealed.specs.Part.Groups.{SharesNoEvents}
+use Rattle.vt_laws_sealed.proofs.part.Kept.{filter_map_same}
+use Rattle.vt_laws_sealed.proofs.part.groups.ReceiversAlike.{no_event_of_theirs_reaches_others, their_groups_receive_alike}
+use Rattle.vt_laws_sealed.proofs.part.part.MountsOver.{same_child}
+use Rattle.vt_laws_sealed.proofs.part.part.PartOfPart.{is_own, keep, kept_how}
+use Rattle.vt_laws_sealed.proofs.part.seals.ByPart.{apart_if_sealed}
 use Rattle.vt_laws_members.proofs.judging.Grounds.{IsTheirs, child_theirs, its_mount, numbered, own_by, parent_theirs, same_mount, stands_itself, theirs_whole}
 use Rattle.vt_laws_members.proofs.judging.MountTrees.{child_own, children_alike, own_theirs, own_whole}
 

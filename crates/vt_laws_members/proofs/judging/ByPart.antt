@@ -20,8 +20,8 @@ use Rattle.vt_spec.specs.Machine.Sealed.{members, part_of, sealed, used_filesyst
 use Rattle.vt_spec.specs.Machine.Walking.{Here, walk_end}
 use Rattle.vt_spec.specs.Machine.World.{Task, World, mount_numbered}
 use Rattle.vt_spec.proofs.Lists.{Among, among_from_contains}
-use Rattle.vt_laws_part.proofs.part.PartOfPart.{is_own}
-use Rattle.vt_laws_part.proofs.walks.WalksAgree.{Agree}
+use Rattle.vt_laws_sealed.proofs.part.part.PartOfPart.{is_own}
+use Rattle.vt_laws_sealed.proofs.part.walks.WalksAgree.{Agree}
 use Rattle.vt_laws_members.specs.Judging.{MembersAreJudgedByTheirPart, is_theirs}
 use Rattle.vt_laws_members.proofs.judging.AllJudged.{judges, members_are_judged_alike, owned}
 use Rattle.vt_laws_members.proofs.judging.Grounds.{IsTheirs, its_mount, theirs_from}

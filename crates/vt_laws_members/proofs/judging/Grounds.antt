@@ -19,13 +19,13 @@ use Rattle.vt_spec.proofs.Worlds.{found_or_none, number-mount_in}
 use Rattle.vt_laws_mounts.proofs.mounts.MountsPlaces.{stands_there}
 use Rattle.vt_laws_mounts.proofs.mounts.MountsReplaced.{found_itself}
 use Rattle.vt_laws_mounts.proofs.mounts.Standing.{rank, rank_bounded, rank_child}
-use Rattle.vt_laws_letting_go.proofs.Chains.{Way, chains_alike}
-use Rattle.vt_laws_letting_go.proofs.Chains.Way.{ends, goes_on}
+use Rattle.vt_laws_mounts.proofs.letting_go.Chains.{Way, chains_alike}
+use Rattle.vt_laws_mounts.proofs.letting_go.Chains.Way.{ends, goes_on}
 use Rattle.vt_laws_worlds.proofs.worlds.Reached.{namespace_below}
-use Rattle.vt_laws_part.proofs.Kept.{length-filter_map}
-use Rattle.vt_laws_part.proofs.part.MountsOver.{IsWhole, same_over}
-use Rattle.vt_laws_part.proofs.part.PartOfPart.{is_own, keep, kept_how, kept_whole}
-use Rattle.vt_laws_part.proofs.walks.WalksAgree.{Each}
+use Rattle.vt_laws_sealed.proofs.part.Kept.{length-filter_map}
+use Rattle.vt_laws_sealed.proofs.part.part.MountsOver.{IsWhole, same_over}
+use Rattle.vt_laws_sealed.proofs.part.part.PartOfPart.{is_own, keep, kept_how, kept_whole}
+use Rattle.vt_laws_sealed.proofs.part.walks.WalksAgree.{Each}
 use Rattle.vt_laws_members.specs.Judging.{is_stood_on, is_theirs}
 
 -- each step of a chain is so

@@ -12,7 +12,7 @@ use Rattle.vt_spec.specs.Machine.Rules.Tasks.{enter_rules}
 use Rattle.vt_spec.specs.Machine.Walking.{directory_walk, object_walk, symlink_walk}
 use Rattle.vt_spec.specs.Machine.World.{Task}
 use Rattle.vt_spec.specs.Rights.{cap_sys_chroot}
-use Rattle.vt_laws_part.proofs.walks.WalksAgree.{Alike}
+use Rattle.vt_laws_sealed.proofs.part.walks.WalksAgree.{Alike}
 use Rattle.vt_laws_members.proofs.judging.Masks.{RulesSeeAlike, by_mask}
 use Rattle.vt_laws_members.proofs.judging.WalksLead.{HereAt, directory_agrees, judged_alike, object_agrees, symlink_agrees}
 

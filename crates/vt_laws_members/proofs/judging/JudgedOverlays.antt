@@ -19,7 +19,7 @@ use Rattle.vt_spec.specs.Machine.Rules.Mounting.{LayerLocations, admin_rules, de
 use Rattle.vt_spec.specs.Machine.Walking.{Here, Stop, walk_end}
 use Rattle.vt_spec.specs.Machine.World.{Layer, Overlay, Task}
 use Rattle.vt_spec.proofs.Lists.{Among, among-append, among-append_left, among-append_right, among-from_map, map_alike}
-use Rattle.vt_laws_part.proofs.walks.WalksAgree.{Agree, Each}
+use Rattle.vt_laws_sealed.proofs.part.walks.WalksAgree.{Agree, Each}
 use Rattle.vt_laws_members.proofs.judging.Judged.{JudgesAlike, Stands}
 use Rattle.vt_laws_members.proofs.judging.Masks.{by_mask, masked}
 use Rattle.vt_laws_members.proofs.judging.WalksLead.{destination_agrees, judged_alike, source_agrees}

@@ -18,12 +18,12 @@ use Rattle.vt_spec.proofs.Found.{found_among}
 use Rattle.vt_spec.proofs.Lists.{Among, among-append_left, among-append_right, among-filter, among-filter_map, among-flat_map, among-from_filter, among-from_filter_map, among-from_flat_map, among_from_all, among_from_contains, among_from_list_all, among_numbers, any_among, any_from_among, contains_from_among}
 use Rattle.vt_spec.proofs.Truths.{same_truth}
 use Rattle.vt_spec.proofs.Worlds.{upper_real}
-use Rattle.vt_laws_layers.proofs.layers.ShownDirectories.{led_is_there}
-use Rattle.vt_laws_letting_go.proofs.sweeps.OfWorlds.{found_filesystem}
-use Rattle.vt_laws_overlays.proofs.whole.ApartPaths.{under_led}
-use Rattle.vt_laws_part.proofs.locks.LockedTrees.{named_under, root_under}
-use Rattle.vt_laws_part.proofs.part.PartOfPart.{found, shown_how}
-use Rattle.vt_laws_part.proofs.seals.ByPart.{layer_directory, lower_plain, overlay_without_others, their_overlays_are_in_the_part, used_are_free}
+use Rattle.vt_laws_trees.proofs.layers.layers.ShownDirectories.{led_is_there}
+use Rattle.vt_laws_mounts.proofs.letting_go.sweeps.OfWorlds.{found_filesystem}
+use Rattle.vt_laws_trees.proofs.overlays.whole.ApartPaths.{under_led}
+use Rattle.vt_laws_sealed.proofs.part.locks.LockedTrees.{named_under, root_under}
+use Rattle.vt_laws_sealed.proofs.part.part.PartOfPart.{found, shown_how}
+use Rattle.vt_laws_sealed.proofs.part.seals.ByPart.{layer_directory, lower_plain, overlay_without_others, their_overlays_are_in_the_part, used_are_free}
 
 -- an overlay with one of its layers in the filesystem
 pub has_layer : (number : ℕ) (merged : Filesystem ℕ) (layer : Layer ℕ) → Among layer (of_overlay [] layers_of merged)

@@ -20,13 +20,13 @@ use Rattle.vt_spec.specs.TreeInvariant.{IsTree, led}
 use Rattle.vt_spec.proofs.Found.{found_among}
 use Rattle.vt_spec.proofs.Lists.{Among, among-append_left, among-append_right, among-filter, among-flat_map, among-map, among_from_all, among_numbers, any_from_among, is_among_numbers}
 use Rattle.vt_spec.proofs.Options.{none_is_some}
-use Rattle.vt_laws_layers.proofs.layers.ShownDirectories.{led_is_there}
-use Rattle.vt_laws_layers.proofs.views.Stay.{led_where}
-use Rattle.vt_laws_letting_go.proofs.sweeps.OfWorlds.{found_filesystem}
-use Rattle.vt_laws_overlays.proofs.whole.ApartPaths.{led_under}
-use Rattle.vt_laws_part.proofs.Kept.{among-each_once}
-use Rattle.vt_laws_part.proofs.part.PartOfPart.{found, shown_how}
-use Rattle.vt_laws_part.proofs.seals.ByPart.{layer_directory}
+use Rattle.vt_laws_trees.proofs.layers.layers.ShownDirectories.{led_is_there}
+use Rattle.vt_laws_trees.proofs.layers.views.Stay.{led_where}
+use Rattle.vt_laws_mounts.proofs.letting_go.sweeps.OfWorlds.{found_filesystem}
+use Rattle.vt_laws_trees.proofs.overlays.whole.ApartPaths.{led_under}
+use Rattle.vt_laws_sealed.proofs.part.Kept.{among-each_once}
+use Rattle.vt_laws_sealed.proofs.part.part.PartOfPart.{found, shown_how}
+use Rattle.vt_laws_sealed.proofs.part.seals.ByPart.{layer_directory}
 use Rattle.vt_laws_members.proofs.judging.SeenInPart.{OnTheirs, filesystem_alike, theirs_directly}
 
 module _ (world : World ℕ) (names : List TaskName) (is : IsWorld nat_eq world) where

@@ -16,7 +16,7 @@ use Rattle.std.proofs.lemmas.Option.{same_Some}
 use Rattle.vt_spec.proofs.Lists.{Among, among-filter, among-filter_map, among-from_filter, among-from_filter_map, among-from_flat_map, any_among, any_from_among}
 use Rattle.vt_spec.proofs.Options.{none_is_some}
 use Rattle.vt_spec.proofs.Truths.{same_truth}
-use Rattle.vt_laws_part.proofs.part.PartOfPart.{is_own, keep, kept_how, kept_whole}
+use Rattle.vt_laws_sealed.proofs.part.part.PartOfPart.{is_own, keep, kept_how, kept_whole}
 use Rattle.vt_laws_members.specs.Judging.{is_theirs}
 use Rattle.vt_laws_members.proofs.judging.Grounds.{IsTheirs, numbered, parent_theirs, same_mount, theirs_from}
 use Rattle.vt_laws_members.proofs.judging.JudgedRemoving.{PointsAlike}

@@ -14,13 +14,13 @@ use Rattle.vt_spec.specs.Machine.Sealed.{is_at, locations, members, part_of, roo
 use Rattle.vt_spec.specs.Machine.World.{Filesystem, Task, World}
 use Rattle.vt_spec.proofs.Lists.{Among, all_from_among, among-from_filter, among-from_filter_map, among_from_all, none_among, none_from_among}
 use Rattle.vt_spec.proofs.Options.{none_is_some}
-use Rattle.vt_laws_letting_go.proofs.Lists.{flat_map_alike}
+use Rattle.vt_laws_mounts.proofs.letting_go.Lists.{flat_map_alike}
 use Rattle.vt_laws_mounts.specs.Mounts.Invariants.{OneNumberEach}
 use Rattle.vt_laws_mounts.specs.Mounts.Standing.{AllStand}
 use Rattle.vt_laws_mounts.proofs.mounts.MountsReplaced.{found_itself}
 use Rattle.vt_laws_mounts.proofs.mounts.Standing.{rank, rank_bounded, rank_child}
-use Rattle.vt_laws_part.proofs.Kept.{filter_both}
-use Rattle.vt_laws_part.proofs.part.PartOfPart.{is_own, keep, kept_how, kept_whole}
+use Rattle.vt_laws_sealed.proofs.part.Kept.{filter_both}
+use Rattle.vt_laws_sealed.proofs.part.part.PartOfPart.{is_own, keep, kept_how, kept_whole}
 use Rattle.vt_laws_members.proofs.judging.Grounds.{IsTheirs, child_theirs, nowhere_stands, parent_theirs, same_mount}
 use Rattle.vt_laws_members.proofs.judging.MountPoints.{part_mount}
 use Rattle.vt_laws_members.proofs.judging.SeenInPart.{filesystem_alike}

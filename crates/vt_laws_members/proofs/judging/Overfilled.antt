@@ -24,8 +24,8 @@ use Rattle.vt_laws_mounts.specs.Mounts.Ending.{count_in, is_in}
 use Rattle.vt_laws_mounts.proofs.Counting.{added_counted, moved_all}
 use Rattle.vt_laws_mounts.proofs.mounts.Standing.{trees_have_each_once}
 use Rattle.vt_laws_worlds.proofs.worlds.FewMounts.{few_of, none_counted, not_too_many}
-use Rattle.vt_laws_part.proofs.Kept.{filter_kept}
-use Rattle.vt_laws_part.proofs.part.PartOfPart.{found, is_own, keep, kept_how}
+use Rattle.vt_laws_sealed.proofs.part.Kept.{filter_kept}
+use Rattle.vt_laws_sealed.proofs.part.part.PartOfPart.{found, is_own, keep, kept_how}
 use Rattle.vt_laws_members.proofs.judging.Busy.{receivers_alike, receivers_own}
 use Rattle.vt_laws_members.proofs.judging.Grounds.{IsTheirs, numbered, same_mount}
 use Rattle.vt_laws_members.proofs.judging.JudgedOverlays.{any_same}

@@ -12,8 +12,8 @@ use Rattle.vt_spec.specs.Machine.Sealed.{part_of, sealed, used_alone, used_files
 use Rattle.vt_spec.specs.Machine.World.{Filesystem, Layer, Overlay, World, filesystem_numbered, is_overlay, layers_of}
 use Rattle.vt_spec.proofs.Lists.{Among, among-append_left, among-flat_map, among-from_filter, among-from_flat_map, among_numbers, any_among, any_from_among}
 use Rattle.vt_spec.proofs.Truths.{same_truth}
-use Rattle.vt_laws_part.proofs.part.PartOfPart.{found}
-use Rattle.vt_laws_part.proofs.seals.ByPart.{used_are_free}
+use Rattle.vt_laws_sealed.proofs.part.part.PartOfPart.{found}
+use Rattle.vt_laws_sealed.proofs.part.seals.ByPart.{used_are_free}
 use Rattle.vt_laws_members.proofs.judging.Anywhere.{not_whole}
 use Rattle.vt_laws_members.proofs.judging.Locks.{alone_in_part, counts_how, has_layer, locked_alike, part_in_world, under_at}
 

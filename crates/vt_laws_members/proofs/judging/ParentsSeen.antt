@@ -13,8 +13,8 @@ use Rattle.vt_spec.specs.Machine.Rules.Mounting.{has_shared_parent, lies_under_l
 use Rattle.vt_spec.specs.Machine.Sealed.{is_member_task, is_on_own_mount, locations, members, outsiders, part_of, sealed}
 use Rattle.vt_spec.specs.Machine.World.{Descriptor, Task, World, locations_of, mount_at, mount_numbered}
 use Rattle.vt_spec.proofs.Lists.{Among, among-filter, among-flat_map, among-map, among_from_list_all, any_among}
-use Rattle.vt_laws_part.proofs.part.PartOfPart.{is_own}
-use Rattle.vt_laws_part.proofs.seals.ByPart.{apart_if_sealed}
+use Rattle.vt_laws_sealed.proofs.part.part.PartOfPart.{is_own}
+use Rattle.vt_laws_sealed.proofs.part.seals.ByPart.{apart_if_sealed}
 use Rattle.vt_laws_members.specs.Judging.{is_theirs}
 use Rattle.vt_laws_members.proofs.judging.Grounds.{parent_theirs, same_mount, theirs_from, up_alike}
 use Rattle.vt_laws_members.proofs.judging.JudgedPivots.{ParentsAlike}

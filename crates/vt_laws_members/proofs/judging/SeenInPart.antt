@@ -15,9 +15,9 @@ use Rattle.vt_spec.specs.Machine.Walking.{hop, hops}
 use Rattle.vt_spec.specs.Machine.World.{Filesystem, Task, World, all_locations, filesystem_at, filesystem_numbered, is_directory_at, locations_of, mount_at, mount_numbered}
 use Rattle.vt_spec.proofs.Lists.{Among, among-append_left, among-append_right, among-filter, among-flat_map, among-from_filter, among-from_flat_map, among-from_map, among-map, among_from_contains, among_from_list_all, any_among, any_from_among}
 use Rattle.vt_spec.proofs.Options.{none_is_some}
-use Rattle.vt_laws_part.specs.Walks.{AreOn}
-use Rattle.vt_laws_part.proofs.part.PartOfPart.{found, used_directly_used}
-use Rattle.vt_laws_part.proofs.walks.WalksAgree.{Each}
+use Rattle.vt_laws_sealed.specs.Part.Walks.{AreOn}
+use Rattle.vt_laws_sealed.proofs.part.part.PartOfPart.{found, used_directly_used}
+use Rattle.vt_laws_sealed.proofs.part.walks.WalksAgree.{Each}
 use Rattle.vt_laws_members.specs.Judging.{MembersSeeAlike, is_theirs}
 use Rattle.vt_laws_members.proofs.judging.Grounds.{IsGround, IsTheirs, its_mount, numbered, over_alike, over_theirs, same_mount, theirs_from, theirs_test, up_alike, up_each}
 

@@ -18,7 +18,7 @@ use Rattle.vt_spec.specs.Machine.World.{Task}
 use Rattle.vt_spec.specs.PathText.{ends_in_slash, is_absolute, words}
 use Rattle.vt_spec.specs.Tree.{is_directory_node}
 use Rattle.vt_spec.proofs.Options.{none_is_some}
-use Rattle.vt_laws_part.proofs.walks.WalksAgree.{Agree, Alike, FollowsAgree, both_each, none_each, one_each, own_topmost, same_entry, same_filesystems, same_met, same_search, same_topmost, stepped_agrees, texts_agree, then_agree, unless_agree, word_agrees, words_agree}
+use Rattle.vt_laws_sealed.proofs.part.walks.WalksAgree.{Agree, Alike, FollowsAgree, both_each, none_each, one_each, own_topmost, same_entry, same_filesystems, same_met, same_search, same_topmost, stepped_agrees, texts_agree, then_agree, unless_agree, word_agrees, words_agree}
 
 pub ok_any : {A E : Type 0} (r : Result A E) → IfOk r (λ a. Unit {0})
 ok_any (Ok a) = tt

@@ -16,8 +16,8 @@ use Rattle.vt_spec.specs.Machine.Types.{master_after}
 use Rattle.vt_spec.specs.Machine.World.{Filesystem, World, mount_at}
 use Rattle.vt_spec.proofs.Lists.{Among, among-from_filter, among-from_filter_map, among-from_flat_map, among-from_map, any_among}
 use Rattle.vt_spec.proofs.Options.{none_is_some}
-use Rattle.vt_laws_layers.specs.Layers.ChangesUpper.{IsNewBy}
-use Rattle.vt_laws_part.specs.Seals.{IsApart}
+use Rattle.vt_laws_trees.specs.Layers.Layers.ChangesUpper.{IsNewBy}
+use Rattle.vt_laws_sealed.specs.Part.Seals.{IsApart}
 use Rattle.vt_laws_sealed.proofs.outsiders.OtherMounts.{Foreign, HearsGroup, foreign_above, member_not_new, other_hears_foreign, standing_apart_with}
 use Rattle.vt_laws_sealed.proofs.outsiders.StandingApart.{StandsApart}
 

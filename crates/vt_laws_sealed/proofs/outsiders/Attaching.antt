@@ -23,13 +23,13 @@ use Rattle.vt_spec.proofs.Worlds.{found_or_none, number-mount_in}
 use Rattle.vt_laws_mounts.proofs.mounts.MountsPlaces.{stands_there}
 use Rattle.vt_laws_mounts.proofs.mounts.MountsReplaced.{found_itself}
 use Rattle.vt_laws_worlds.proofs.worlds.Reached.{namespace_below}
-use Rattle.vt_laws_part.specs.Parts.{SeesTheSame}
-use Rattle.vt_laws_layers.specs.Layers.ChangesUpper.{IsNewBy}
-use Rattle.vt_laws_part.specs.Seals.{IsApart}
-use Rattle.vt_laws_part.proofs.Kept.{filter_map_map, filter_map_same}
-use Rattle.vt_laws_part.proofs.groups.EventsApart.{no_event_of_others_reaches_them}
-use Rattle.vt_laws_part.proofs.part.Observed.{own_mounts_same}
-use Rattle.vt_laws_part.proofs.part.PartOfPart.{keep}
+use Rattle.vt_laws_sealed.specs.Part.Parts.{SeesTheSame}
+use Rattle.vt_laws_trees.specs.Layers.Layers.ChangesUpper.{IsNewBy}
+use Rattle.vt_laws_sealed.specs.Part.Seals.{IsApart}
+use Rattle.vt_laws_sealed.proofs.part.Kept.{filter_map_map, filter_map_same}
+use Rattle.vt_laws_sealed.proofs.part.groups.EventsApart.{no_event_of_others_reaches_them}
+use Rattle.vt_laws_sealed.proofs.part.part.Observed.{own_mounts_same}
+use Rattle.vt_laws_sealed.proofs.part.part.PartOfPart.{keep}
 use Rattle.vt_laws_sealed.proofs.outsiders.AttachedGroups.{IsCopyOf, OriginOf, copied_to, copy_foreign, old_foreign, own_master_stays}
 use Rattle.vt_laws_sealed.proofs.outsiders.Filesystems.{not_of_the_world}
 use Rattle.vt_laws_sealed.proofs.outsiders.OtherMounts.{Foreign, HearsGroup, events_stay_apart, is_other, located_there, number_not_new, standing_apart_with}

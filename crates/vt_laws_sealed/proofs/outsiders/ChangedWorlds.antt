@@ -10,9 +10,9 @@ use Rattle.vt_spec.specs.Machine.Receives.{is_member_of}
 use Rattle.vt_spec.specs.Machine.Sealed.{is_member_task, is_own_namespace, locations, members, no_outsider_on, other_mounts, outsiders, own_mounts, shares_no_events}
 use Rattle.vt_spec.specs.Machine.World.{Namespace, Task, World, mount_at, mount_numbered}
 use Rattle.vt_spec.proofs.Lists.{Among, among-filter, among-from_filter, among-from_map, among_from_list_all, list_all_from_among, none_among, none_from_among}
-use Rattle.vt_laws_part.specs.Parts.{SeesTheSame}
-use Rattle.vt_laws_part.proofs.Kept.{filter_map_map, filter_map_same}
-use Rattle.vt_laws_part.proofs.part.PartOfPart.{keep}
+use Rattle.vt_laws_sealed.specs.Part.Parts.{SeesTheSame}
+use Rattle.vt_laws_sealed.proofs.part.Kept.{filter_map_map, filter_map_same}
+use Rattle.vt_laws_sealed.proofs.part.part.PartOfPart.{keep}
 use Rattle.vt_laws_sealed.proofs.outsiders.OwnTasks.{IsOutside}
 use Rattle.vt_laws_sealed.proofs.outsiders.StandingApart.{StandsApart}
 use Rattle.vt_laws_sealed.proofs.outsiders.Staying.{LeavesApart, free_from}

@@ -23,17 +23,17 @@ use Rattle.vt_spec.proofs.Options.{none_is_some}
 use Rattle.vt_laws_rules.specs.Granted.{IsGranted}
 use Rattle.vt_laws_rules.specs.Granted.IsGranted.{changes_mark, changes_mode, changes_owner, creates, creates_exclusively, makes_directory, makes_hard_link, makes_symlink, makes_whiteout, opens, opens_existing, overwrites_file, removes_directory, renames, unlinks, writes_new_file, writes_part}
 use Rattle.vt_laws_trees.proofs.trees.TreesWalked.{at_end}
-use Rattle.vt_laws_calls.specs.Inodes.{written_if_some}
-use Rattle.vt_laws_calls.specs.Searched.{IsSearchedToFile, IsSearchedToName, WayToFile, WayToName}
-use Rattle.vt_laws_calls.specs.Searched.WayToFile.{file_in, through_symlink}
-use Rattle.vt_laws_calls.specs.Searched.WayToName.{name_in, no_name}
-use Rattle.vt_laws_calls.proofs.ways.WaysEnds.{directory_ways_are_searched, object_ways_are_searched}
-use Rattle.vt_laws_calls.proofs.ways.WaysFiles.{file_ways_are_searched}
-use Rattle.vt_laws_calls.proofs.ways.WaysNamed.{new_leaf_ways_are_searched, new_name_ways_are_searched, old_leaf_ways_are_searched, old_name_ways_are_searched}
+use Rattle.vt_laws_trees.specs.Calls.Inodes.{written_if_some}
+use Rattle.vt_laws_trees.specs.Calls.Searched.{IsSearchedToFile, IsSearchedToName, WayToFile, WayToName}
+use Rattle.vt_laws_trees.specs.Calls.Searched.WayToFile.{file_in, through_symlink}
+use Rattle.vt_laws_trees.specs.Calls.Searched.WayToName.{name_in, no_name}
+use Rattle.vt_laws_trees.proofs.calls.ways.WaysEnds.{directory_ways_are_searched, object_ways_are_searched}
+use Rattle.vt_laws_trees.proofs.calls.ways.WaysFiles.{file_ways_are_searched}
+use Rattle.vt_laws_trees.proofs.calls.ways.WaysNamed.{new_leaf_ways_are_searched, new_name_ways_are_searched, old_leaf_ways_are_searched, old_name_ways_are_searched}
 use Rattle.vt_laws_worlds.proofs.worlds.CallsKept.{name_found}
 use Rattle.vt_laws_worlds.proofs.worlds.ReachedPlaces.{HereDirectory}
 use Rattle.vt_laws_worlds.proofs.worlds.ReachedWalks.{directory_walk_end}
-use Rattle.vt_laws_overlay_permits.specs.Asked.{change_asked}
+use Rattle.vt_laws_worlds.specs.OverlayPermits.Asked.{change_asked}
 use Rattle.vt_laws_sealed.specs.Outsiders.{IsOutsidersCall}
 use Rattle.vt_laws_sealed.proofs.outsiders.Entering.{ground_outside, old_outside, task_there}
 use Rattle.vt_laws_sealed.proofs.outsiders.Opening.{IsFileGround, file_walk_ground}

@@ -9,11 +9,11 @@ use Rattle.vt_spec.specs.Machine.Receives.{is_member_of}
 use Rattle.vt_spec.specs.Machine.Sealed.{is_own_namespace, locations, members, no_outsider_on, other_mounts, outsiders, own_mounts, shares_no_events}
 use Rattle.vt_spec.specs.Machine.World.{World, mount_at}
 use Rattle.vt_spec.proofs.Lists.{Among}
-use Rattle.vt_laws_letting_go.proofs.Lists.{any-map, filter-map}
-use Rattle.vt_laws_part.specs.Parts.{SeesTheSame}
-use Rattle.vt_laws_part.specs.Seals.{IsApart}
-use Rattle.vt_laws_part.proofs.Kept.{filter_map_map, filter_map_same}
-use Rattle.vt_laws_part.proofs.part.PartOfPart.{is_own, keep}
+use Rattle.vt_laws_mounts.proofs.letting_go.Lists.{any-map, filter-map}
+use Rattle.vt_laws_sealed.specs.Part.Parts.{SeesTheSame}
+use Rattle.vt_laws_sealed.specs.Part.Seals.{IsApart}
+use Rattle.vt_laws_sealed.proofs.part.Kept.{filter_map_map, filter_map_same}
+use Rattle.vt_laws_sealed.proofs.part.part.PartOfPart.{is_own, keep}
 use Rattle.vt_laws_sealed.proofs.outsiders.Staying.{LeavesApart, free_from}
 
 -- Mounts of others may change in all but number, namespace and filesystem.

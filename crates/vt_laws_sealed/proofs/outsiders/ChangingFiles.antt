@@ -24,13 +24,13 @@ use Rattle.vt_laws_rules.proofs.judged.CallsJudged.{call_is_judged_then_applied}
 use Rattle.vt_laws_rules.specs.Granted.{IsGranted}
 use Rattle.vt_laws_rules.specs.Granted.IsGranted.{mounts_overlayfs}
 use Rattle.vt_laws_trees.specs.Trees.Calls.{mounts_overlay}
-use Rattle.vt_laws_layers.proofs.layers.LowersWorld.{the_rest_stays}
+use Rattle.vt_laws_trees.proofs.layers.layers.LowersWorld.{the_rest_stays}
 use Rattle.vt_laws_mounts.specs.Mounts.Invariants.{OneNumberEach}
 use Rattle.vt_laws_worlds.proofs.worlds.CallsKept.{name_found}
-use Rattle.vt_laws_overlay_permits.specs.Asked.{change_asked}
-use Rattle.vt_laws_overlay_permits.proofs.kept.KeptOverlays.{permits_make_their_change}
-use Rattle.vt_laws_overlay_permits.proofs.worlds.EveryCall.{overlays_kept, under}
-use Rattle.vt_laws_part.proofs.seals.ByPart.{apart_if_sealed}
+use Rattle.vt_laws_worlds.specs.OverlayPermits.Asked.{change_asked}
+use Rattle.vt_laws_worlds.proofs.overlay_permits.kept.KeptOverlays.{permits_make_their_change}
+use Rattle.vt_laws_worlds.proofs.overlay_permits.worlds.EveryCall.{overlays_kept, under}
+use Rattle.vt_laws_sealed.proofs.part.seals.ByPart.{apart_if_sealed}
 use Rattle.vt_laws_sealed.specs.Outsiders.{IsOutsidersCall}
 use Rattle.vt_laws_sealed.proofs.outsiders.ChangesGround.{granted_theirs}
 use Rattle.vt_laws_sealed.proofs.outsiders.FilesOfCalls.{changed_files_leave}

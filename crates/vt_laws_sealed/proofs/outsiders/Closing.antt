@@ -10,7 +10,7 @@ use Rattle.vt_spec.specs.Machine.Permits.Permit.{ToClose}
 use Rattle.vt_spec.specs.Machine.Settled.{settled}
 use Rattle.vt_spec.specs.Machine.World.{Descriptor, Task, World, task_called}
 use Rattle.vt_spec.proofs.Lists.{Among, among-from_filter, among-from_map, among-map}
-use Rattle.vt_laws_part.proofs.seals.ByPart.{apart_if_sealed}
+use Rattle.vt_laws_sealed.proofs.part.seals.ByPart.{apart_if_sealed}
 use Rattle.vt_laws_sealed.specs.Outsiders.{IsOutsidersCall}
 use Rattle.vt_laws_sealed.proofs.outsiders.OwnTasks.{callers_outside, replacing_leaves_apart}
 use Rattle.vt_laws_sealed.proofs.outsiders.Staying.{LeavesApart}

@@ -16,7 +16,7 @@ use Rattle.vt_spec.proofs.Truths.{same_truth}
 use Rattle.vt_laws_trees.specs.Trees.{IsFileTree}
 use Rattle.vt_laws_trees.specs.Trees.Settling.{HoldsTree}
 use Rattle.vt_laws_trees.proofs.trees.TreesForgotten.{entry_used, kept_file_tree}
-use Rattle.vt_laws_overlays.proofs.whole.ApartPaths.{led_under, under_led}
+use Rattle.vt_laws_trees.proofs.overlays.whole.ApartPaths.{led_under, under_led}
 
 module _ (used : List ℕ) (files : FileTree ℕ) (holds : HoldsTree used files) (conditions : IsFileTree files) where
   abbrev cut : FileTree ℕ

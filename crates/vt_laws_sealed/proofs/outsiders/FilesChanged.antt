@@ -18,13 +18,13 @@ use Rattle.vt_spec.specs.Machine.World.{Filesystem, Layer, Overlay, World, files
 use Rattle.vt_spec.specs.Tree.{entries_in, entry_named, node_with_bytes, node_with_entry}
 use Rattle.vt_spec.proofs.Lists.{Among, map_twice}
 use Rattle.vt_spec.proofs.Nodes.{directory_used}
-use Rattle.vt_laws_letting_go.proofs.sweeps.OfWorlds.{found_filesystem}
-use Rattle.vt_laws_layers.proofs.layers.LowersKept.{kept_elsewhere}
-use Rattle.vt_laws_layers.proofs.layers.LowersWorld.{number_of_filesystem}
-use Rattle.vt_laws_layers.proofs.layers.UpperLine.{has_entries}
-use Rattle.vt_laws_overlay_permits.specs.Asked.{AsksWell}
-use Rattle.vt_laws_overlay_permits.specs.Unlocked.{SparesInode}
-use Rattle.vt_laws_part.specs.Seals.{IsApart}
+use Rattle.vt_laws_mounts.proofs.letting_go.sweeps.OfWorlds.{found_filesystem}
+use Rattle.vt_laws_trees.proofs.layers.layers.LowersKept.{kept_elsewhere}
+use Rattle.vt_laws_trees.proofs.layers.layers.LowersWorld.{number_of_filesystem}
+use Rattle.vt_laws_trees.proofs.layers.layers.UpperLine.{has_entries}
+use Rattle.vt_laws_worlds.specs.OverlayPermits.Asked.{AsksWell}
+use Rattle.vt_laws_worlds.specs.OverlayPermits.Unlocked.{SparesInode}
+use Rattle.vt_laws_sealed.specs.Part.Seals.{IsApart}
 use Rattle.vt_laws_sealed.proofs.outsiders.ChangesGround.{MarksWhatIsThere}
 use Rattle.vt_laws_sealed.proofs.outsiders.FilesStep.{IsFilesStep}
 use Rattle.vt_laws_sealed.proofs.outsiders.LowersChanged.{KeepsBelow, lower_part_stays}

@@ -35,23 +35,23 @@ use Rattle.vt_laws_rules.specs.Given.{IsFor}
 use Rattle.vt_laws_trees.specs.Trees.{IsFileTree, IsProper}
 use Rattle.vt_laws_trees.proofs.trees.ChangesKeepTrees.{changes_keep_numbers, changes_keep_own_parents, changes_keep_trees}
 use Rattle.vt_laws_trees.proofs.trees.TreesOfWorlds.{numbered_all, numbered_anyhow}
-use Rattle.vt_laws_layers.proofs.layers.LowersWorld.{number_of_filesystem}
-use Rattle.vt_laws_layers.proofs.layers.UpperWorld.{overlay_found}
-use Rattle.vt_laws_layers.proofs.locked.Apart.{layer_among, layer_plain}
-use Rattle.vt_laws_overlays.specs.WholeChanges.{IsAskedWell}
-use Rattle.vt_laws_overlays.proofs.whole.ApartLater
-use Rattle.vt_laws_overlays.proofs.whole.ApartReached.{inode_stays}
-use Rattle.vt_laws_overlay_permits.specs.Asked.{AsksWell, AsksWellIf, change_asked}
-use Rattle.vt_laws_overlay_permits.specs.Changed.{numbers_left}
-use Rattle.vt_laws_overlay_permits.specs.Unlocked.{SparesLocked, SparesLockedIf}
-use Rattle.vt_laws_overlay_permits.proofs.asked.Asked.{permits_ask_well}
-use Rattle.vt_laws_overlay_permits.proofs.asked.AskedOverlays.{permits_ask_overlays_well, permits_ask_properly}
-use Rattle.vt_laws_overlay_permits.proofs.asked.Unlocked.{permits_spare_what_is_locked}
-use Rattle.vt_laws_overlay_permits.proofs.changed.ChangedOverlays.{are_left}
+use Rattle.vt_laws_trees.proofs.layers.layers.LowersWorld.{number_of_filesystem}
+use Rattle.vt_laws_trees.proofs.layers.layers.UpperWorld.{overlay_found}
+use Rattle.vt_laws_trees.proofs.layers.locked.Apart.{layer_among, layer_plain}
+use Rattle.vt_laws_trees.specs.Overlays.WholeChanges.{IsAskedWell}
+use Rattle.vt_laws_trees.proofs.overlays.whole.ApartLater
+use Rattle.vt_laws_trees.proofs.overlays.whole.ApartReached.{inode_stays}
+use Rattle.vt_laws_worlds.specs.OverlayPermits.Asked.{AsksWell, AsksWellIf, change_asked}
+use Rattle.vt_laws_worlds.specs.OverlayPermits.Changed.{numbers_left}
+use Rattle.vt_laws_worlds.specs.OverlayPermits.Unlocked.{SparesLocked, SparesLockedIf}
+use Rattle.vt_laws_worlds.proofs.overlay_permits.asked.Asked.{permits_ask_well}
+use Rattle.vt_laws_worlds.proofs.overlay_permits.asked.AskedOverlays.{permits_ask_overlays_well, permits_ask_properly}
+use Rattle.vt_laws_worlds.proofs.overlay_permits.asked.Unlocked.{permits_spare_what_is_locked}
+use Rattle.vt_laws_worlds.proofs.overlay_permits.changed.ChangedOverlays.{are_left}
 use Rattle.vt_laws_worlds.proofs.worlds.CallsKept.{name_found}
-use Rattle.vt_laws_part.specs.Seals.{IsApart}
-use Rattle.vt_laws_part.proofs.locks.LockedTrees.{all_locked}
-use Rattle.vt_laws_part.proofs.seals.ByPart.{apart_if_sealed, used_are_free}
+use Rattle.vt_laws_sealed.specs.Part.Seals.{IsApart}
+use Rattle.vt_laws_sealed.proofs.part.locks.LockedTrees.{all_locked}
+use Rattle.vt_laws_sealed.proofs.part.seals.ByPart.{apart_if_sealed, used_are_free}
 use Rattle.vt_laws_sealed.specs.Outsiders.{IsOutsidersCall}
 use Rattle.vt_laws_sealed.proofs.outsiders.ChangesGround.{IsTheirs, granted_theirs}
 use Rattle.vt_laws_sealed.proofs.outsiders.FilesChanged.{IsCopy, made_was_not_there, merged_step, plain_step, replaced_is_remerged, replaced_is_rewritten, spared_stays, written_not_spared, written_there, written_to}

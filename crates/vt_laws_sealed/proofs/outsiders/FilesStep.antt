@@ -7,7 +7,7 @@ use Rattle.vt_spec.specs.Machine.Sealed.{own_lowers, used_filesystems}
 use Rattle.vt_spec.specs.Machine.Settled.{has_layer_on}
 use Rattle.vt_spec.specs.Machine.World.{Filesystem, Layer, World, is_overlay}
 use Rattle.vt_spec.proofs.Lists.{Among}
-use Rattle.vt_laws_part.specs.Seals.{IsApart}
+use Rattle.vt_laws_sealed.specs.Part.Seals.{IsApart}
 use Rattle.vt_laws_sealed.proofs.outsiders.FilesystemsStepped.{filesystems_stepped, stepping_keeps_footholds}
 use Rattle.vt_laws_sealed.proofs.outsiders.SeenLater.{lowered_by}
 use Rattle.vt_laws_sealed.proofs.outsiders.Staying.{LeavesApart}

@@ -18,9 +18,9 @@ use Rattle.vt_spec.specs.Tree.{is_directory_node}
 use Rattle.vt_spec.proofs.Found.{found_among, is_among_left, is_among_right}
 use Rattle.vt_spec.proofs.Lists.{Among, among-append, among-append_left, among-append_right, among-flat_map, among-from_filter, among-from_flat_map, among-from_map, among-map, among_from_contains, among_from_list_all, among_numbers, is_among_numbers, none_from_among}
 use Rattle.vt_spec.proofs.Nodes.{directory_used}
-use Rattle.vt_laws_part.specs.Parts.{SeesTheSame, shown_of}
-use Rattle.vt_laws_part.specs.Seals.{IsApart}
-use Rattle.vt_laws_part.proofs.Kept.{among-from_each_once, filter_map_same}
+use Rattle.vt_laws_sealed.specs.Part.Parts.{SeesTheSame, shown_of}
+use Rattle.vt_laws_sealed.specs.Part.Seals.{IsApart}
+use Rattle.vt_laws_sealed.proofs.part.Kept.{among-from_each_once, filter_map_same}
 use Rattle.vt_laws_sealed.proofs.outsiders.Staying.{IsOfTheWorld}
 
 module _ (world : World ℕ) (names : List TaskName) (apart : IsApart world names) where

@@ -9,12 +9,12 @@ use Rattle.vt_spec.specs.Machine.Sealed.{own_lowers, used_directly, used_filesys
 use Rattle.vt_spec.specs.Machine.Settled.{has_layer_on}
 use Rattle.vt_spec.specs.Machine.World.{Filesystem, Layer, World, filesystem_numbered, is_overlay, no_filesystem}
 use Rattle.vt_spec.proofs.Lists.{Among, pair-map, among-map, among_from_contains}
-use Rattle.vt_laws_letting_go.proofs.sweeps.OfWorlds.{found_filesystem}
-use Rattle.vt_laws_part.specs.Parts.{SeesTheSame, shown_of}
-use Rattle.vt_laws_part.proofs.Kept.{filter_map_map, filter_map_same}
-use Rattle.vt_laws_part.proofs.part.PartOfPart.{used_directly_used}
+use Rattle.vt_laws_mounts.proofs.letting_go.sweeps.OfWorlds.{found_filesystem}
+use Rattle.vt_laws_sealed.specs.Part.Parts.{SeesTheSame, shown_of}
+use Rattle.vt_laws_sealed.proofs.part.Kept.{filter_map_map, filter_map_same}
+use Rattle.vt_laws_sealed.proofs.part.part.PartOfPart.{used_directly_used}
 use Rattle.vt_laws_sealed.proofs.outsiders.SeenLater.{lowered_by}
-use Rattle.vt_laws_letting_go.proofs.Lists.{filter-map}
+use Rattle.vt_laws_mounts.proofs.letting_go.Lists.{filter-map}
 use Rattle.vt_spec.specs.Machine.Locked.{overlays}
 use Rattle.vt_spec.specs.Machine.Sealed.{no_outsider_on, used_alone}
 use Rattle.vt_laws_sealed.proofs.outsiders.Raising.{all-map_same}

@@ -13,11 +13,11 @@ use Rattle.vt_spec.specs.Machine.Settled.{filesystem_lives, has_layer_on, is_mou
 use Rattle.vt_spec.specs.Machine.World.{Filesystem, Layer, Overlay, World, filesystem_numbered, layers_of, locations_of, mount_at, mount_numbered, no_filesystem}
 use Rattle.vt_spec.proofs.Lists.{Among, among-append, among-flat_map, among-from_filter, among-from_flat_map, among-from_map, among_from_contains, among_numbers, any_among, any_from_among}
 use Rattle.vt_laws_mounts.proofs.mounts.MountsReplaced.{found_itself}
-use Rattle.vt_laws_part.specs.Parts.{SeesTheSame, shown_of}
-use Rattle.vt_laws_part.specs.Seals.{IsApart}
-use Rattle.vt_laws_part.proofs.Kept.{among-from_each_once}
-use Rattle.vt_laws_part.proofs.part.DeadMounts.{mounts_kept}
-use Rattle.vt_laws_part.proofs.part.PartOfPart.{used_directly_used}
+use Rattle.vt_laws_sealed.specs.Part.Parts.{SeesTheSame, shown_of}
+use Rattle.vt_laws_sealed.specs.Part.Seals.{IsApart}
+use Rattle.vt_laws_sealed.proofs.part.Kept.{among-from_each_once}
+use Rattle.vt_laws_sealed.proofs.part.part.DeadMounts.{mounts_kept}
+use Rattle.vt_laws_sealed.proofs.part.part.PartOfPart.{used_directly_used}
 use Rattle.vt_laws_sealed.proofs.outsiders.OtherMounts.{located_there}
 use Rattle.vt_laws_sealed.proofs.outsiders.SeenLater.{lowered_by, shown_at, changed_of, there_later, own_later, used_later, lower_of}
 

@@ -19,9 +19,9 @@ use Rattle.vt_laws_later_calls.specs.Ends.{sets_type, takes_uses}
 use Rattle.vt_laws_mounts.proofs.mounts.MountsReplaced.{found_itself}
 use Rattle.vt_laws_rules.proofs.given.GivenPermits.{permits_are_for_their_calls}
 use Rattle.vt_laws_worlds.proofs.worlds.CallsKept.{name_found}
-use Rattle.vt_laws_part.proofs.part.PartOfPart.{is_own, keep}
-use Rattle.vt_laws_part.specs.Seals.{IsApart}
-use Rattle.vt_laws_part.proofs.seals.ByPart.{apart_if_sealed}
+use Rattle.vt_laws_sealed.proofs.part.part.PartOfPart.{is_own, keep}
+use Rattle.vt_laws_sealed.specs.Part.Seals.{IsApart}
+use Rattle.vt_laws_sealed.proofs.part.seals.ByPart.{apart_if_sealed}
 use Rattle.vt_laws_sealed.specs.Outsiders.{IsOutsidersCall}
 use Rattle.vt_laws_sealed.proofs.outsiders.Changing.{KeepsPlaces, changing_leaves_apart, others_changed, own_changed}
 use Rattle.vt_laws_sealed.proofs.outsiders.OtherMounts.{namespace_outside, not_own, not_stood_on}

@@ -15,8 +15,8 @@ use Rattle.vt_spec.proofs.Worlds.{number-only_used}
 use Rattle.vt_laws_trees.specs.Trees.{IsFileTree}
 use Rattle.vt_laws_trees.proofs.trees.TreesForgotten.{named_is_used}
 use Rattle.vt_laws_mounts.specs.Mounts.Invariants.{OneNumberEach}
-use Rattle.vt_laws_part.specs.Parts.{SeesTheSame}
-use Rattle.vt_laws_part.specs.Seals.{IsApart}
+use Rattle.vt_laws_sealed.specs.Part.Parts.{SeesTheSame}
+use Rattle.vt_laws_sealed.specs.Part.Seals.{IsApart}
 use Rattle.vt_laws_sealed.proofs.outsiders.CutTrees.{lower_part_same}
 use Rattle.vt_laws_sealed.proofs.outsiders.FilesystemsStepped.{filesystems_stepped}
 use Rattle.vt_laws_sealed.proofs.outsiders.SeenLater.{lowered_by, used_later, used_was, lower_of}

@@ -14,14 +14,14 @@ use Rattle.vt_spec.specs.Machine.World.{Filesystem, Layer, Overlay, Task, World,
 use Rattle.vt_spec.proofs.Lists.{Among, among-append, among-append_left, among-append_right, among-filter, among-filter_map, among-flat_map, among-from_filter, among-from_filter_map, among-from_flat_map, among-from_map, among-map, among_from_all, among_from_list_all, among_numbers, any_among, any_from_among, is_among_numbers, list_all_from_among}
 use Rattle.vt_spec.proofs.Options.{none_is_some}
 use Rattle.vt_spec.proofs.Worlds.{found_or_none, number-mount_in}
-use Rattle.vt_laws_letting_go.proofs.sweeps.OfWorlds.{all_in_use, found_filesystem}
+use Rattle.vt_laws_mounts.proofs.letting_go.sweeps.OfWorlds.{all_in_use, found_filesystem}
 use Rattle.vt_laws_mounts.specs.Mounts.Invariants.{OneNumberEach}
 use Rattle.vt_laws_mounts.proofs.mounts.MountsReplaced.{found_itself}
 use Rattle.vt_laws_worlds.proofs.worlds.Reached.{namespace_below}
-use Rattle.vt_laws_part.specs.Parts.{SeesTheSame}
-use Rattle.vt_laws_part.specs.Seals.{IsApart}
-use Rattle.vt_laws_part.proofs.part.PartOfPart.{is_own, keep, kept_whole, located}
-use Rattle.vt_laws_part.proofs.seals.ByPart.{overlay_without_others, used_are_free}
+use Rattle.vt_laws_sealed.specs.Part.Parts.{SeesTheSame}
+use Rattle.vt_laws_sealed.specs.Part.Seals.{IsApart}
+use Rattle.vt_laws_sealed.proofs.part.part.PartOfPart.{is_own, keep, kept_whole, located}
+use Rattle.vt_laws_sealed.proofs.part.seals.ByPart.{overlay_without_others, used_are_free}
 use Rattle.vt_laws_sealed.proofs.outsiders.SeenLater.{shown_at, there_later, own_later, used_later}
 
 -- what is in one of three or four lists

@@ -12,9 +12,9 @@ use Rattle.vt_spec.proofs.Lists.{Among, among-from_filter, among_numbers, any_am
 use Rattle.vt_spec.proofs.Nodes.{directory_used}
 use Rattle.vt_spec.proofs.Truths.{same_truth}
 use Rattle.vt_laws_trees.specs.Trees.{IsFileTree}
-use Rattle.vt_laws_layers.proofs.layers.ShownDirectories.{led_is_there}
-use Rattle.vt_laws_layers.proofs.views.Stay.{led_where}
-use Rattle.vt_laws_overlays.proofs.whole.ApartPaths.{led_under, under_led}
+use Rattle.vt_laws_trees.proofs.layers.layers.ShownDirectories.{led_is_there}
+use Rattle.vt_laws_trees.proofs.layers.views.Stay.{led_where}
+use Rattle.vt_laws_trees.proofs.overlays.whole.ApartPaths.{led_under, under_led}
 use Rattle.vt_laws_sealed.proofs.outsiders.CutTrees.{any_alike, filter_same}
 
 -- what is put before a list, and does not pass

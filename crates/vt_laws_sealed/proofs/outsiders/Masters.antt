@@ -12,10 +12,10 @@ use Rattle.vt_spec.specs.Machine.Receives.{has_members, is_member_of}
 use Rattle.vt_spec.specs.Machine.Sealed.{is_own_mount, is_own_namespace, own_mounts, shares_no_events}
 use Rattle.vt_spec.specs.Machine.World.{Task, World, mounts_of}
 use Rattle.vt_spec.proofs.Lists.{Among, among-from_filter, among_from_all, any_from_among}
-use Rattle.vt_laws_letting_go.proofs.Lists.{filter_less}
-use Rattle.vt_laws_part.specs.Parts.{SeesTheSame}
-use Rattle.vt_laws_part.proofs.groups.ReceiversAlike.{own_member, start_hears}
-use Rattle.vt_laws_part.proofs.part.Observed.{own_mounts_same}
+use Rattle.vt_laws_mounts.proofs.letting_go.Lists.{filter_less}
+use Rattle.vt_laws_sealed.specs.Part.Parts.{SeesTheSame}
+use Rattle.vt_laws_sealed.proofs.part.groups.ReceiversAlike.{own_member, start_hears}
+use Rattle.vt_laws_sealed.proofs.part.part.Observed.{own_mounts_same}
 use Rattle.vt_laws_mounts.proofs.mounts.MountsPlaces.{same_location_itself}
 
 -- what is compared with itself is the same

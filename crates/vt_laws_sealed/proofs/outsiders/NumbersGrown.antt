@@ -7,8 +7,8 @@ use Rattle.vt_spec.specs.Lists.{Fresh, evens, odds}
 use Rattle.vt_spec.specs.Machine.CopyUp.{Merge, Stack, copied_content, copied_each, copied_up, copy_named, copy_of, copy_parent, hides_directory, is_in_upper, line_to, merge_changed, name_left_by, shown_in_lowers_at, upper_directory_named, upper_of, with_mark, without_contents}
 use Rattle.vt_spec.specs.Tree.{Node, node_with_bytes}
 use Rattle.vt_spec.proofs.Lists.{Among, among-append}
-use Rattle.vt_laws_layers.specs.Layers.ChangesUpper.{IsNewBy}
-use Rattle.vt_laws_overlays_let_go.proofs.changing.Copied.{numbers_moved, root_moved}
+use Rattle.vt_laws_trees.specs.Layers.Layers.ChangesUpper.{IsNewBy}
+use Rattle.vt_laws_worlds.proofs.overlays_let_go.changing.Copied.{numbers_moved, root_moved}
 
 -- a tree that has its root, and its numbers behind new ones
 pub record Grows (fresh : Fresh ℕ) (old new : FileTree ℕ) : Type 0 where

@@ -26,10 +26,10 @@ use Rattle.vt_laws_rules.proofs.given.Inversion.{calls_are_granted}
 use Rattle.vt_laws_rules.specs.Granted.{IsGranted}
 use Rattle.vt_laws_rules.specs.Granted.IsGranted.{opens, opens_existing}
 use Rattle.vt_laws_trees.proofs.trees.TreesWalked.{Ends, at_end, ends_then, ends_unless}
-use Rattle.vt_laws_calls.proofs.ways.WaysEnds.{object_ways_are_searched}
-use Rattle.vt_laws_calls.proofs.ways.WaysNamed.{IsFront, prefix_searched}
-use Rattle.vt_laws_calls.proofs.ways.WaysSearched.{IsNamedAt, placed_step}
-use Rattle.vt_laws_calls.proofs.ways.WaysWalked.{path_text_same}
+use Rattle.vt_laws_trees.proofs.calls.ways.WaysEnds.{object_ways_are_searched}
+use Rattle.vt_laws_trees.proofs.calls.ways.WaysNamed.{IsFront, prefix_searched}
+use Rattle.vt_laws_trees.proofs.calls.ways.WaysSearched.{IsNamedAt, placed_step}
+use Rattle.vt_laws_trees.proofs.calls.ways.WaysWalked.{path_text_same}
 use Rattle.vt_laws_sealed.specs.Outsiders.{IsOutsidersCall}
 use Rattle.vt_laws_sealed.proofs.outsiders.Entering.{ground_outside, old_outside, task_there}
 use Rattle.vt_laws_sealed.proofs.outsiders.OwnTasks.{IsOutside, replacing_leaves_apart}

@@ -15,14 +15,14 @@ use Rattle.vt_spec.specs.Machine.World.{Namespace, Task, World, all_locations, i
 use Rattle.vt_spec.proofs.Found.{is_among_left}
 use Rattle.vt_spec.proofs.Lists.{Among, among-filter, among-flat_map, among-from_filter, among-from_flat_map, among-from_map, among_from_all, among_from_list_all, any_among, any_from_among, is_among_numbers, list_all_from_among}
 use Rattle.vt_spec.proofs.Options.{none_is_some}
-use Rattle.vt_laws_letting_go.proofs.sweeps.OfWorlds.{all_in_use}
+use Rattle.vt_laws_mounts.proofs.letting_go.sweeps.OfWorlds.{all_in_use}
 use Rattle.vt_laws_mounts.proofs.mounts.MountsReplaced.{found_itself}
 use Rattle.vt_laws_worlds.proofs.worlds.Reached.{namespace_below}
-use Rattle.vt_laws_part.proofs.groups.EventsApart.{above_lives, members_of, none_hears, sides}
-use Rattle.vt_laws_part.proofs.groups.ReceiversAlike.{Living, OtherLives, member_group, none_other, other_above, own_member}
-use Rattle.vt_laws_part.proofs.part.PartOfPart.{is_own}
-use Rattle.vt_laws_layers.specs.Layers.ChangesUpper.{IsNewBy}
-use Rattle.vt_laws_part.specs.Seals.{IsApart}
+use Rattle.vt_laws_sealed.proofs.part.groups.EventsApart.{above_lives, members_of, none_hears, sides}
+use Rattle.vt_laws_sealed.proofs.part.groups.ReceiversAlike.{Living, OtherLives, member_group, none_other, other_above, own_member}
+use Rattle.vt_laws_sealed.proofs.part.part.PartOfPart.{is_own}
+use Rattle.vt_laws_trees.specs.Layers.Layers.ChangesUpper.{IsNewBy}
+use Rattle.vt_laws_sealed.specs.Part.Seals.{IsApart}
 use Rattle.vt_laws_sealed.proofs.outsiders.StandingApart.{NothingNew, StandsApart}
 
 -- A mount of a namespace of others is not theirs,

@@ -13,8 +13,8 @@ use Rattle.vt_spec.specs.Machine.Sealed.{is_member_task, is_own_mount, is_own_na
 use Rattle.vt_spec.specs.Machine.Settled.{filesystem_lives, has_layer_on, is_located, mount_lives, only_used, settled, without_dead_filesystems, without_dead_in, without_dead_mounts}
 use Rattle.vt_spec.specs.Machine.World.{Filesystem, Task, World, all_locations, is_overlay, locations_of, mount_at}
 use Rattle.vt_spec.proofs.Lists.{Among, among-filter, among-flat_map, among-from_filter, among-from_flat_map, among-from_map, among_from_list_all, any_from_among, list_all_from_among}
-use Rattle.vt_laws_letting_go.proofs.Lists.{filter_less}
-use Rattle.vt_laws_part.proofs.part.PartOfPart.{located}
+use Rattle.vt_laws_mounts.proofs.letting_go.Lists.{filter_less}
+use Rattle.vt_laws_sealed.proofs.part.part.PartOfPart.{located}
 use Rattle.vt_laws_sealed.proofs.outsiders.Staying.{OthersStayOut}
 use Rattle.vt_laws_sealed.proofs.outsiders.InodesSwept.{cut_overlay, cut_layers}
 use Rattle.vt_spec.proofs.Worlds.{number-only_used}

@@ -24,12 +24,12 @@ use Rattle.vt_laws_rules.proofs.given.Inversion.{calls_are_granted}
 use Rattle.vt_laws_rules.specs.Granted.{IsGranted}
 use Rattle.vt_laws_rules.specs.Granted.IsGranted.{mounts_overlayfs}
 use Rattle.vt_laws_trees.proofs.trees.TreesWalked.{Ends}
-use Rattle.vt_laws_layers.proofs.mounting.Walked.{gives_end, gives_then}
-use Rattle.vt_laws_calls.proofs.ways.WaysEnds.{source_ways_are_searched}
+use Rattle.vt_laws_trees.proofs.layers.mounting.Walked.{gives_end, gives_then}
+use Rattle.vt_laws_trees.proofs.calls.ways.WaysEnds.{source_ways_are_searched}
 use Rattle.vt_laws_worlds.proofs.worlds.CallsKept.{name_found}
 use Rattle.vt_laws_worlds.proofs.worlds.FitPermits.{own_if}
 use Rattle.vt_laws_later_calls.specs.Ends.{sets_type, takes_uses}
-use Rattle.vt_laws_part.proofs.seals.ByPart.{apart_if_sealed}
+use Rattle.vt_laws_sealed.proofs.part.seals.ByPart.{apart_if_sealed}
 use Rattle.vt_laws_sealed.specs.Outsiders.{IsOutsidersCall}
 use Rattle.vt_laws_sealed.proofs.outsiders.Attaching.{attaching_leaves_apart}
 use Rattle.vt_laws_sealed.proofs.outsiders.Entering.{ground_outside, task_there}

@@ -22,17 +22,17 @@ use Rattle.vt_spec.proofs.Found.{found_among}
 use Rattle.vt_spec.proofs.Lists.{Among, among-append, among-filter, among-flat_map, among-from_filter, among-from_flat_map, among-from_map, among_from_list_all, any_among, contains_from_among, list_all_from_among, map_same, none_among, none_from_among}
 use Rattle.vt_spec.proofs.Options.{some_from_is_some}
 use Rattle.vt_spec.proofs.Worlds.{name-replaced_if_called, same_task_name}
-use Rattle.vt_laws_letting_go.proofs.Lists.{filter-map}
+use Rattle.vt_laws_mounts.proofs.letting_go.Lists.{filter-map}
 use Rattle.vt_laws_rules.proofs.judged.CallsJudged.{call_is_judged_then_applied}
 use Rattle.vt_laws_rules.proofs.given.GivenPermits.{permits_are_for_their_calls}
-use Rattle.vt_laws_overlay_permits.specs.Asked.{change_asked}
+use Rattle.vt_laws_worlds.specs.OverlayPermits.Asked.{change_asked}
 use Rattle.vt_laws_worlds.proofs.worlds.CallsKept.{name_found}
 use Rattle.vt_laws_later_calls.proofs.ends.EndedBy.{other_calls_keep_all}
 use Rattle.vt_laws_later_calls.specs.Ends.{sets_type, takes_uses}
 use Rattle.vt_laws_later_calls.specs.Whiteouts.{replaced_as, replaced_if}
-use Rattle.vt_laws_part.proofs.part.PartOfPart.{keep}
-use Rattle.vt_laws_part.specs.Seals.{IsApart}
-use Rattle.vt_laws_part.proofs.seals.ByPart.{apart_if_sealed}
+use Rattle.vt_laws_sealed.proofs.part.part.PartOfPart.{keep}
+use Rattle.vt_laws_sealed.specs.Part.Seals.{IsApart}
+use Rattle.vt_laws_sealed.proofs.part.seals.ByPart.{apart_if_sealed}
 use Rattle.vt_laws_sealed.specs.Outsiders.{IsOutsidersCall}
 use Rattle.vt_laws_sealed.proofs.outsiders.Staying.{LeavesApart, free_from}
 

@@ -15,11 +15,11 @@ use Rattle.vt_spec.specs.Machine.Settled.{has_layer_on, only_among}
 use Rattle.vt_spec.specs.Machine.World.{Filesystem, Layer, Namespace, Task, World, filesystem_numbered, is_overlay, locations_of, mount_at, no_filesystem}
 use Rattle.vt_spec.proofs.Lists.{Among, among-from_filter, among_from_contains, among_numbers, map_same}
 use Rattle.vt_spec.proofs.Worlds.{same_task_name}
-use Rattle.vt_laws_letting_go.proofs.Lists.{filter-map, flat_map-map}
+use Rattle.vt_laws_mounts.proofs.letting_go.Lists.{filter-map, flat_map-map}
 use Rattle.vt_laws_later_calls.proofs.AfterChange.{raised_files}
-use Rattle.vt_laws_part.specs.Parts.{SeesTheSame, shown_of}
-use Rattle.vt_laws_part.proofs.Kept.{filter_map_map, filter_map_same}
-use Rattle.vt_laws_part.proofs.part.PartOfPart.{keep, used_directly_used}
+use Rattle.vt_laws_sealed.specs.Part.Parts.{SeesTheSame, shown_of}
+use Rattle.vt_laws_sealed.proofs.part.Kept.{filter_map_map, filter_map_same}
+use Rattle.vt_laws_sealed.proofs.part.part.PartOfPart.{keep, used_directly_used}
 use Rattle.vt_laws_sealed.proofs.outsiders.Masters.{same_mounts}
 
 -- tests that agree after a change pass together

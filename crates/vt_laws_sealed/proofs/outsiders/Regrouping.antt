@@ -15,9 +15,9 @@ use Rattle.vt_spec.proofs.Found.{find-chain_start, found_among}
 use Rattle.vt_spec.proofs.Lists.{Among, among-from_filter, among-map, among_from_list_all, any_among, any_from_among, is_among_numbers, map_same, map_twice}
 use Rattle.vt_spec.proofs.Options.{none_is_some}
 use Rattle.vt_laws_mounts.proofs.mounts.Receivers.{along_chain}
-use Rattle.vt_laws_part.proofs.groups.ReceiversAlike.{member_group}
-use Rattle.vt_laws_part.proofs.part.Observed.{own_mounts_same}
-use Rattle.vt_laws_part.proofs.part.PartOfPart.{keep}
+use Rattle.vt_laws_sealed.proofs.part.groups.ReceiversAlike.{member_group}
+use Rattle.vt_laws_sealed.proofs.part.part.Observed.{own_mounts_same}
+use Rattle.vt_laws_sealed.proofs.part.part.PartOfPart.{keep}
 use Rattle.vt_laws_sealed.proofs.outsiders.ChangedWorlds.{OthersMove, changing_leaves_apart, others_from, sees}
 use Rattle.vt_laws_sealed.proofs.outsiders.OtherMounts.{Foreign, HearsGroup, events_stay_apart, member_of_heard, other_hears_foreign}
 use Rattle.vt_laws_sealed.proofs.outsiders.Reshaping.{IsReshaped, reshaped_twice, reshaping_keeps, reshaping_kept}

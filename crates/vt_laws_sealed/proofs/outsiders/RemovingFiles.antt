@@ -34,14 +34,14 @@ use Rattle.vt_laws_rules.specs.Granted.IsGranted.{removes_directory, renames}
 use Rattle.vt_laws_trees.proofs.trees.PlacesReached.{old_is, rename_new_is}
 use Rattle.vt_laws_trees.proofs.trees.TreesWalked.{not_true, place_named}
 use Rattle.vt_laws_mounts.proofs.mounts.MountsReplaced.{found_itself}
-use Rattle.vt_laws_layers.proofs.layers.LowersMounts.{same_filesystems_without, same_mounted_without}
-use Rattle.vt_laws_layers.proofs.layers.LowersWorld.{number_of_filesystem, the_rest_stays}
+use Rattle.vt_laws_trees.proofs.layers.layers.LowersMounts.{same_filesystems_without, same_mounted_without}
+use Rattle.vt_laws_trees.proofs.layers.layers.LowersWorld.{number_of_filesystem, the_rest_stays}
 use Rattle.vt_laws_worlds.proofs.worlds.Reached.{namespace_below}
-use Rattle.vt_laws_permits.proofs.sees.SeesNames.{old_mount}
-use Rattle.vt_laws_overlay_permits.specs.Asked.{change_asked}
-use Rattle.vt_laws_part.specs.Seals.{IsApart}
-use Rattle.vt_laws_part.proofs.part.PartOfPart.{used_directly_used}
-use Rattle.vt_laws_part.proofs.seals.ByPart.{apart_if_sealed}
+use Rattle.vt_laws_worlds.proofs.permits.sees.SeesNames.{old_mount}
+use Rattle.vt_laws_worlds.specs.OverlayPermits.Asked.{change_asked}
+use Rattle.vt_laws_sealed.specs.Part.Seals.{IsApart}
+use Rattle.vt_laws_sealed.proofs.part.part.PartOfPart.{used_directly_used}
+use Rattle.vt_laws_sealed.proofs.part.seals.ByPart.{apart_if_sealed}
 use Rattle.vt_laws_sealed.specs.Outsiders.{IsOutsidersCall}
 use Rattle.vt_laws_sealed.proofs.outsiders.ChangedWorlds.{others_rest}
 use Rattle.vt_laws_sealed.proofs.outsiders.ChangingFiles.{change_leaves, change_alone}

@@ -6,7 +6,7 @@ use Rattle.vt_spec.specs.Machine.Mounts.{Location, Mount, Propagation}
 use Rattle.vt_spec.specs.Machine.Sealed.{is_at, is_own_mount, is_own_namespace, locations, members, own_mounts, roots_and_directories, seen_by_descriptor}
 use Rattle.vt_spec.specs.Machine.World.{World}
 use Rattle.vt_spec.proofs.Lists.{Among, among-filter}
-use Rattle.vt_laws_part.proofs.part.PartOfPart.{is_own, keep}
+use Rattle.vt_laws_sealed.proofs.part.part.PartOfPart.{is_own, keep}
 use Rattle.vt_laws_sealed.proofs.outsiders.ChangedWorlds.{KeepsOrDetaches}
 use Rattle.vt_laws_sealed.proofs.outsiders.OtherMounts.{not_own}
 use Rattle.vt_laws_sealed.proofs.outsiders.StandingApart.{StandsApart}

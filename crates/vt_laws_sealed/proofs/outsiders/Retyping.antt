@@ -33,12 +33,12 @@ use Rattle.vt_laws_worlds.proofs.worlds.CallsKept.{name_found}
 use Rattle.vt_laws_worlds.proofs.worlds.FitPermitsNamed.{all_permits_fit}
 use Rattle.vt_laws_later_calls.proofs.ends.OtherCalls.{all_types_leave_all_but_masters}
 use Rattle.vt_laws_later_calls.specs.Ends.{KeepsAllButMasters}
-use Rattle.vt_laws_layers.specs.Layers.ChangesUpper.{IsNewBy}
-use Rattle.vt_laws_part.specs.Seals.{IsApart}
-use Rattle.vt_laws_part.proofs.groups.ReceiversAlike.{member_group}
-use Rattle.vt_laws_part.proofs.part.Observed.{own_mounts_same}
-use Rattle.vt_laws_part.proofs.part.PartOfPart.{is_own, keep}
-use Rattle.vt_laws_part.proofs.seals.ByPart.{apart_if_sealed}
+use Rattle.vt_laws_trees.specs.Layers.Layers.ChangesUpper.{IsNewBy}
+use Rattle.vt_laws_sealed.specs.Part.Seals.{IsApart}
+use Rattle.vt_laws_sealed.proofs.part.groups.ReceiversAlike.{member_group}
+use Rattle.vt_laws_sealed.proofs.part.part.Observed.{own_mounts_same}
+use Rattle.vt_laws_sealed.proofs.part.part.PartOfPart.{is_own, keep}
+use Rattle.vt_laws_sealed.proofs.part.seals.ByPart.{apart_if_sealed}
 use Rattle.vt_laws_sealed.specs.Outsiders.{IsOutsidersCall}
 use Rattle.vt_laws_sealed.proofs.outsiders.Changing.{KeepsPlaces, changing_leaves_apart, others_changed, sees}
 use Rattle.vt_laws_sealed.proofs.outsiders.OtherMounts.{Foreign, HearsGroup, IsIn, tree_in, events_stay_apart, foreign_above, is_other, member_not_new, member_of_heard, namespace_outside, not_own, not_stood_on, other_hears_foreign, standing_apart_with}

@@ -14,9 +14,9 @@ use Rattle.vt_spec.specs.Machine.World.{Filesystem, Layer, Overlay, Task, World,
 use Rattle.vt_spec.proofs.Found.{found_among, found_passes}
 use Rattle.vt_spec.proofs.Lists.{Among, among-append_left, among-append_right, among-filter_map, among-from_filter, among-from_filter_map, among-from_flat_map, among-from_map}
 use Rattle.vt_spec.proofs.Options.{none_is_some}
-use Rattle.vt_laws_part.specs.Parts.{SeesTheSame, shown_of}
-use Rattle.vt_laws_part.proofs.part.Observed.{own_mounts_same}
-use Rattle.vt_laws_part.proofs.part.PartOfPart.{is_own, keep, kept_how, used_directly_used}
+use Rattle.vt_laws_sealed.specs.Part.Parts.{SeesTheSame, shown_of}
+use Rattle.vt_laws_sealed.proofs.part.part.Observed.{own_mounts_same}
+use Rattle.vt_laws_sealed.proofs.part.part.PartOfPart.{is_own, keep, kept_how, used_directly_used}
 
 -- A filesystem that is used is whole in a part, and so it is there where the part is the same.
 module _ (used : List ℕ) (lowers : List (Layer ℕ)) where

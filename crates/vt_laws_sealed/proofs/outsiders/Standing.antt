@@ -23,9 +23,9 @@ use Rattle.vt_laws_trees.proofs.trees.TreesEntered.{chain_ends}
 use Rattle.vt_laws_mounts.proofs.mounts.MountsPlaces.{stands_there}
 use Rattle.vt_laws_mounts.proofs.mounts.MountsReplaced.{found_itself}
 use Rattle.vt_laws_worlds.proofs.worlds.Reached.{namespace_below}
-use Rattle.vt_laws_calls.specs.Searched.{IsSearchedTo, Way}
+use Rattle.vt_laws_trees.specs.Calls.Searched.{IsSearchedTo, Way}
 use Rattle.vt_laws_sealed.proofs.outsiders.OtherMounts.{nowhere_unplaced}
-use Rattle.vt_laws_calls.specs.Searched.Way.{arrives, follows, goes_on}
+use Rattle.vt_laws_trees.specs.Calls.Searched.Way.{arrives, follows, goes_on}
 
 module _ (world : World ℕ) (is : IsWorld nat_eq world) (task : Task ℕ) (there : Among task world.tasks) where
   -- a mount of the task's namespace, or a detached one that its root or working directory is on

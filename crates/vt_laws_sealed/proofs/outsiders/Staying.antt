@@ -18,12 +18,12 @@ use Rattle.vt_spec.specs.Machine.World.{Filesystem, Task, World, is_overlay, tas
 use Rattle.vt_spec.proofs.Lists.{Among, among-append, among-from_filter, among-map, among_from_contains, among_from_list_all, is_among_numbers, list_all_from_among}
 use Rattle.vt_laws_rules.proofs.denials.Unchanged.{look_changes_nothing}
 use Rattle.vt_laws_rules.proofs.rules.OwnRules.{denial_changes_nothing}
-use Rattle.vt_laws_overlay_permits.proofs.worlds.EveryCall.{every_call_keeps_worlds}
+use Rattle.vt_laws_worlds.proofs.overlay_permits.worlds.EveryCall.{every_call_keeps_worlds}
 use Rattle.vt_laws_later_calls.proofs.Granted.{permitted}
-use Rattle.vt_laws_part.specs.Parts.{SeesTheSame}
-use Rattle.vt_laws_part.specs.Seals.{IsApart}
-use Rattle.vt_laws_part.proofs.part.Observed.{part_same, used_same}
-use Rattle.vt_laws_part.proofs.seals.ByPart.{apart_if_sealed, fewer_footholds_seal_too}
+use Rattle.vt_laws_sealed.specs.Part.Parts.{SeesTheSame}
+use Rattle.vt_laws_sealed.specs.Part.Seals.{IsApart}
+use Rattle.vt_laws_sealed.proofs.part.part.Observed.{part_same, used_same}
+use Rattle.vt_laws_sealed.proofs.part.seals.ByPart.{apart_if_sealed, fewer_footholds_seal_too}
 use Rattle.vt_laws_sealed.specs.Outsiders.{IsOutsidersCall, LeavesItSealed, OutsidersLeaveASealedSet}
 use Rattle.vt_laws_sealed.proofs.outsiders.Raising.{events_raised, on_mounts_raised, sees_raised, tasks_raised, used_alone_raised}
 

@@ -10,8 +10,8 @@ use Rattle.vt_spec.specs.Machine.Receives.{is_member_of}
 use Rattle.vt_spec.specs.Machine.Sealed.{is_own_namespace, members, own_lowers, roots_and_directories, used_filesystems}
 use Rattle.vt_spec.specs.Machine.World.{Filesystem, Namespace, Task, World}
 use Rattle.vt_spec.proofs.Lists.{Among}
-use Rattle.vt_laws_part.specs.Parts.{SeesTheSame, shown_of}
-use Rattle.vt_laws_part.proofs.part.Observed.{directly_same, lowers_same, own_mounts_same, used_same}
+use Rattle.vt_laws_sealed.specs.Part.Parts.{SeesTheSame, shown_of}
+use Rattle.vt_laws_sealed.proofs.part.part.Observed.{directly_same, lowers_same, own_mounts_same, used_same}
 use Rattle.vt_laws_sealed.proofs.outsiders.StandingApart.{NothingNew, StandsApart}
 use Rattle.vt_laws_sealed.proofs.outsiders.Staying.{IsOfTheWorld, LeavesApart}
 

@@ -14,11 +14,11 @@ use Rattle.vt_spec.specs.Tree.{is_directory_node}
 use Rattle.vt_spec.specs.TreeInvariant.{HasOwnParents, IsTree}
 use Rattle.vt_spec.proofs.Lists.{Among, pair-filter, pair-map, among-from_filter, among-from_map, among_from_all, among_from_list_all, any_among}
 use Rattle.vt_spec.proofs.Options.{none_from_not_some}
-use Rattle.vt_laws_letting_go.proofs.sweeps.OfWorlds.{found_filesystem}
+use Rattle.vt_laws_mounts.proofs.letting_go.sweeps.OfWorlds.{found_filesystem}
 use Rattle.vt_laws_mounts.specs.Mounts.Invariants.{OneNumberEach}
-use Rattle.vt_laws_overlay_permits.proofs.kept.KeptOverlays.{overlays_in, trees_in}
-use Rattle.vt_laws_part.specs.Parts.{SeesTheSame}
-use Rattle.vt_laws_part.specs.Seals.{IsApart}
+use Rattle.vt_laws_worlds.proofs.overlay_permits.kept.KeptOverlays.{overlays_in, trees_in}
+use Rattle.vt_laws_sealed.specs.Part.Parts.{SeesTheSame}
+use Rattle.vt_laws_sealed.specs.Part.Seals.{IsApart}
 use Rattle.vt_laws_sealed.proofs.outsiders.FilesystemsSwept.{filesystems_swept, groups_swept, mounts_swept}
 use Rattle.vt_laws_sealed.proofs.outsiders.InodesSwept.{IsLowerTree, inodes_swept}
 use Rattle.vt_laws_sealed.proofs.outsiders.OthersSwept.{others_swept}

@@ -20,7 +20,7 @@ use Rattle.vt_laws_trees.proofs.trees.TreesEntered.{chain_ends}
 use Rattle.vt_laws_mounts.specs.Mounts.Invariants.{OneNumberEach}
 use Rattle.vt_laws_mounts.proofs.mounts.MountsReplaced.{found_itself}
 use Rattle.vt_laws_worlds.proofs.worlds.Reached.{namespace_below}
-use Rattle.vt_laws_part.specs.Seals.{IsApart}
+use Rattle.vt_laws_sealed.specs.Part.Seals.{IsApart}
 use Rattle.vt_laws_sealed.proofs.outsiders.ChangedWorlds.{OthersMove}
 use Rattle.vt_laws_sealed.proofs.outsiders.OtherMounts.{foreign_above, nowhere_unplaced, standing_apart}
 use Rattle.vt_laws_sealed.proofs.outsiders.Regrouping.{IsOfOthers, after_all, all_changed, all_shape, mounts_are, of_nobody, old_type, regrouping_leaves_apart}

@@ -28,9 +28,9 @@ use Rattle.vt_laws_rules.proofs.given.GivenPermits.{permits_are_for_their_calls}
 use Rattle.vt_laws_worlds.proofs.worlds.CallsKept.{name_found}
 use Rattle.vt_laws_worlds.proofs.worlds.FitPermitsNamed.{all_permits_fit}
 use Rattle.vt_laws_worlds.proofs.worlds.Reached.{namespace_below}
-use Rattle.vt_laws_part.specs.Seals.{IsApart}
-use Rattle.vt_laws_part.proofs.groups.EventsApart.{no_event_of_others_reaches_them}
-use Rattle.vt_laws_part.proofs.seals.ByPart.{apart_if_sealed}
+use Rattle.vt_laws_sealed.specs.Part.Seals.{IsApart}
+use Rattle.vt_laws_sealed.proofs.part.groups.EventsApart.{no_event_of_others_reaches_them}
+use Rattle.vt_laws_sealed.proofs.part.seals.ByPart.{apart_if_sealed}
 use Rattle.vt_laws_sealed.specs.Outsiders.{IsOutsidersCall}
 use Rattle.vt_laws_sealed.proofs.outsiders.ChangedWorlds.{others_rest}
 use Rattle.vt_laws_sealed.proofs.outsiders.OtherMounts.{is_other, namespace_outside, nowhere_unplaced, standing_apart}

@@ -20,11 +20,11 @@ use Rattle.vt_spec.proofs.Lists.{Among, among-append, among-append_left, among-f
 use Rattle.vt_laws_mounts.proofs.ends.Ending.{ended_namespaces_keep_mounts}
 use Rattle.vt_laws_mounts.proofs.namespaces.Unsharing.{unshare_keeps_mounts}
 use Rattle.vt_laws_worlds.proofs.worlds.Roots.{found_copy}
-use Rattle.vt_laws_part.specs.Parts.{SeesTheSame}
-use Rattle.vt_laws_part.specs.Seals.{IsApart}
-use Rattle.vt_laws_part.proofs.part.Observed.{own_mounts_same}
-use Rattle.vt_laws_part.proofs.part.PartOfPart.{keep}
-use Rattle.vt_laws_part.proofs.seals.ByPart.{apart_if_sealed}
+use Rattle.vt_laws_sealed.specs.Part.Parts.{SeesTheSame}
+use Rattle.vt_laws_sealed.specs.Part.Seals.{IsApart}
+use Rattle.vt_laws_sealed.proofs.part.part.Observed.{own_mounts_same}
+use Rattle.vt_laws_sealed.proofs.part.part.PartOfPart.{keep}
+use Rattle.vt_laws_sealed.proofs.part.seals.ByPart.{apart_if_sealed}
 use Rattle.vt_laws_sealed.specs.Outsiders.{IsOutsidersCall}
 use Rattle.vt_laws_sealed.proofs.outsiders.Attaching.{found_first, none_kept}
 use Rattle.vt_laws_sealed.proofs.outsiders.Ending.{ended_leaves_apart, filesystems_ended}

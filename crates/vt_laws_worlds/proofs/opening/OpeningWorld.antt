@@ -13,9 +13,9 @@ use Rattle.vt_spec.specs.Machine.Invariants.{ListsNumbers, MountInvariants, Name
 use Rattle.vt_spec.specs.Machine.Invariants.Stands.{at_root}
 use Rattle.vt_spec.specs.Tree.{is_directory_node}
 use Rattle.vt_spec.specs.TreeInvariant.{HasOwnParents, IsTree}
-use Rattle.vt_laws_letting_go.specs.InUse.{AllInUse, is_inode_used}
-use Rattle.vt_laws_letting_go.proofs.sweeps.InUse.{nothing_goes}
-use Rattle.vt_laws_letting_go.proofs.Lists.{or_first}
+use Rattle.vt_laws_mounts.specs.LettingGo.InUse.{AllInUse, is_inode_used}
+use Rattle.vt_laws_mounts.proofs.letting_go.sweeps.InUse.{nothing_goes}
+use Rattle.vt_laws_mounts.proofs.letting_go.Lists.{or_first}
 use Rattle.vt_laws_trees.specs.Trees.{IsFileTree}
 use Rattle.vt_laws_trees.specs.Trees.Calls.{IsStanding, IsWorldOfTrees}
 use Rattle.vt_laws_trees.proofs.trees.ChangesByCalls.{opening_has_trees}

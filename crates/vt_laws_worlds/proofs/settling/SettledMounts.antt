@@ -12,7 +12,7 @@ use Rattle.vt_spec.specs.Machine.World.{Namespace, World, mount_at, mount_number
 use Rattle.vt_spec.specs.Machine.Invariants.{MountInvariants, NamespaceInvariants, Stands, is_listed, is_root_mount}
 use Rattle.vt_spec.specs.Machine.Invariants.Stands.{at_root, on_parent}
 use Rattle.vt_spec.proofs.Lists.{all-filter}
-use Rattle.vt_laws_letting_go.proofs.Lists.{all_from_among, among-from_filter, among_from_all, filter_twice}
+use Rattle.vt_laws_mounts.proofs.letting_go.Lists.{all_from_among, among-from_filter, among_from_all, filter_twice}
 use Rattle.vt_laws_mounts.proofs.GroupsLiving.{all_live, tested_live}
 use Rattle.vt_laws_mounts.proofs.GroupsKept.{settling_keeps_groups}
 use Rattle.vt_laws_mounts.proofs.mounts.MountsApart.{settling_keeps_apart}

@@ -8,8 +8,8 @@ use Rattle.vt_spec.specs.Machine.Mounts.{Location, Mount, root_of}
 use Rattle.vt_spec.specs.Machine.Settled.{filesystem_lives, is_located, is_mounted, located_in, mount_lives, only_used, settled, without_dead_filesystems, without_dead_in, without_dead_mounts}
 use Rattle.vt_spec.specs.Machine.World.{Filesystem, World, all_locations, filesystem_numbered, is_overlay, mount_at, mount_numbered, no_filesystem, node_at}
 use Rattle.vt_spec.specs.Machine.Invariants.{is_nowhere_or_attached}
-use Rattle.vt_laws_letting_go.proofs.Lists.{Among, among-filter, among-map, any_passes, is_among_numbers, or_first, or_second, passes}
-use Rattle.vt_laws_letting_go.proofs.leaving.PlacesLeft.{found_in_filter, found_itself, nowhere_parts}
+use Rattle.vt_laws_mounts.proofs.letting_go.Lists.{Among, among-filter, among-map, any_passes, is_among_numbers, or_first, or_second, passes}
+use Rattle.vt_laws_mounts.proofs.letting_go.leaving.PlacesLeft.{found_in_filter, found_itself, nowhere_parts}
 use Rattle.vt_laws_trees.proofs.trees.TreesForgotten.{among_located, used_stays}
 use Rattle.vt_laws_worlds.specs.Worlds.Kept.{IsUnderWay}
 use Rattle.vt_spec.proofs.Worlds.{number-only_used}

@@ -12,10 +12,10 @@ use Rattle.vt_spec.specs.Machine.Settled.{filesystem_lives, mount_lives, only_us
 use Rattle.vt_spec.specs.Machine.World.{Descriptor, Filesystem, Task, World, all_locations, filesystem_numbered, is_directory_at, is_overlay, locations_of, mount_at, mount_numbered, node_at}
 use Rattle.vt_spec.specs.Machine.Invariants.{ListsNumbers, IsWorld, Stands, TaskInvariants, TreeInvariants, has_its_root, has_regular_files_open, is_located_well, stands_on_directories}
 use Rattle.vt_spec.specs.Tree.{is_directory_node}
-use Rattle.vt_laws_letting_go.proofs.sweeps.InUse.{one_sweep_is_enough}
-use Rattle.vt_laws_letting_go.proofs.Lists.{Among, all_from_among, all_pass, among-append_left, among-append_right, among-filter, among-filter_map, among-flat_map, among-from_filter, among-map, among_from_all, is_among_numbers, passes}
-use Rattle.vt_laws_letting_go.proofs.leaving.PlacesLeft.{found_is_there}
-use Rattle.vt_laws_letting_go.specs.InUse.{IsListedTree}
+use Rattle.vt_laws_mounts.proofs.letting_go.sweeps.InUse.{one_sweep_is_enough}
+use Rattle.vt_laws_mounts.proofs.letting_go.Lists.{Among, all_from_among, all_pass, among-append_left, among-append_right, among-filter, among-filter_map, among-flat_map, among-from_filter, among-map, among_from_all, is_among_numbers, passes}
+use Rattle.vt_laws_mounts.proofs.letting_go.leaving.PlacesLeft.{found_is_there}
+use Rattle.vt_laws_mounts.specs.LettingGo.InUse.{IsListedTree}
 use Rattle.vt_spec.proofs.Lists.{pair-filter, pair-map}
 use Rattle.vt_laws_trees.specs.Trees.{IsFileTree}
 use Rattle.vt_laws_trees.proofs.trees.ChangesByCalls.{without_dead_plain}

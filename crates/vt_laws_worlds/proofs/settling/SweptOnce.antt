@@ -7,9 +7,9 @@ use Rattle.vt_spec.specs.Machine.Mounts.{Mount}
 use Rattle.vt_spec.specs.Machine.World.{World, without_task}
 use Rattle.vt_spec.proofs.Lists.{all_from_among, among_from_all}
 use Rattle.vt_spec.proofs.Worlds.{stands_alike}
-use Rattle.vt_laws_letting_go.specs.Several.{KeepsMounts, ended_task}
-use Rattle.vt_laws_letting_go.proofs.ends.EndsInTurn.{one_sweep_for_all_exits_with_overlays}
-use Rattle.vt_laws_letting_go.proofs.mounting.EventsInTurn.{one_sweep_for_all_events_with_overlays}
+use Rattle.vt_laws_mounts.specs.LettingGo.Several.{KeepsMounts, ended_task}
+use Rattle.vt_laws_mounts.proofs.letting_go.ends.EndsInTurn.{one_sweep_for_all_exits_with_overlays}
+use Rattle.vt_laws_mounts.proofs.letting_go.mounting.EventsInTurn.{one_sweep_for_all_events_with_overlays}
 use Rattle.vt_laws_mounts.proofs.ends.Ending.{ended_namespaces_keep_mounts}
 use Rattle.vt_laws_mounts.proofs.ends.EndingLazy.{IsUnderWay, begun, next}
 use Rattle.vt_laws_mounts.proofs.ends.EndingOrder.{taken_in_turn}

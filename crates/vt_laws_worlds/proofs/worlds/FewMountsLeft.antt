@@ -25,7 +25,7 @@ use Rattle.vt_spec.proofs.Lists.{Among, among-append, among-append_right, among-
 use Rattle.vt_laws_mounts.proofs.mounts.MountsReplaced.{found_itself}
 use Rattle.vt_laws_worlds.proofs.worlds.FewMounts.{Shrinks, StaysOrLeaves, change_shrinks, ended_few, few_of, filtered_no_more, lazily_shrinks, mapped_no_more, none_counted, not_too_many, regrouped_shrinks, shrinks_few, shrinks_itself, shrinks_then, taken_shrinks}
 use Rattle.vt_spec.proofs.Worlds.{number-mount_in}
-use Rattle.vt_laws_letting_go.specs.Ends.{is_in}
+use Rattle.vt_laws_mounts.specs.LettingGo.Ends.{is_in}
 use Rattle.vt_laws_trees.proofs.trees.TreesTasks.{called_there}
 use Rattle.vt_laws_rules.proofs.same.SameMany.{attaches}
 use Rattle.vt_laws_mounts.specs.Mounts.Ending.{count_in}

@@ -24,7 +24,7 @@ use Rattle.vt_laws_worlds.proofs.worlds.Placed.{IsPlaced, StandsAt, opens_after,
 use Rattle.vt_laws_worlds.proofs.worlds.Seen.{KeepsWhatIsSeen, is_in, mount_of_located}
 use Rattle.vt_spec.proofs.Nodes.{directory_is_there}
 use Rattle.vt_spec.proofs.Worlds.{number-mount_in, found_or_none}
-use Rattle.vt_laws_letting_go.proofs.Lists.{held_number}
+use Rattle.vt_laws_mounts.proofs.letting_go.Lists.{held_number}
 pub use Rattle.vt_spec.proofs.NodeChanges.{directory_is_there as directory_there}
 
 -- what holds from step to step holds of the last

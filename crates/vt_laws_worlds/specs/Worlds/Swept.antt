@@ -8,10 +8,10 @@ use Rattle.vt_spec.specs.Machine.Invariants.{MountInvariants}
 use Rattle.vt_spec.specs.Machine.Mounts.{mount_tree}
 use Rattle.vt_spec.specs.Machine.Settled.{settled}
 use Rattle.vt_spec.specs.Machine.World.{World, mount_numbered}
-use Rattle.vt_laws_letting_go.specs.InUse.{HasTrees, UppersArePlain}
-use Rattle.vt_laws_letting_go.specs.Leaving.{with_sweeps}
-use Rattle.vt_laws_letting_go.specs.Overlays.{RealsAreThere}
-use Rattle.vt_laws_letting_go.specs.Several.{ended_task}
+use Rattle.vt_laws_mounts.specs.LettingGo.InUse.{HasTrees, UppersArePlain}
+use Rattle.vt_laws_mounts.specs.LettingGo.Leaving.{with_sweeps}
+use Rattle.vt_laws_mounts.specs.LettingGo.Overlays.{RealsAreThere}
+use Rattle.vt_laws_mounts.specs.LettingGo.Several.{ended_task}
 
 -- Tasks end one after the other, the last ones of their namespaces too.
 abbrev pub ExitsAreSweptOnce : Type 0

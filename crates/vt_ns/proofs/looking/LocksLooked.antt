@@ -15,7 +15,7 @@ use Rattle.vt_spec.specs.Machine.Locked.{counts_in_layer, is_locked, is_locked_a
 use Rattle.vt_spec.specs.Machine.World.{Filesystem, Layer, Overlay, World, filesystem_numbered, is_overlay, layers_of, mount_at}
 use Rattle.vt_spec.specs.Tree.{Node, is_directory_node}
 use Rattle.vt_spec.specs.TreeInvariant.{HasOwnParents, IsTree}
-use Rattle.vt_laws_letting_go.proofs.Lists.{among-from_filter, among-map, among_from_all, passes}
+use Rattle.vt_laws_mounts.proofs.letting_go.Lists.{among-from_filter, among-map, among_from_all, passes}
 use Rattle.vt_laws_trees.proofs.trees.TreesOfWorlds.{numbered_all}
 use Rattle.vt_group.proofs.IndexLemmas.{any_flat}
 use Rattle.vt_location.specs.declared.births.Birth.{Birth}

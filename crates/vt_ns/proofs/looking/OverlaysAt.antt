@@ -2,7 +2,7 @@
 use Rattle.std.proofs.Common.{◌≡◌, sym, ap, ◌∙◌, ℕ, nat_eq, Some, None}
 use Rattle.vt_spec.specs.Machine.Merging.{real_of}
 use Rattle.vt_spec.specs.Machine.World.{Filesystem, Overlay, filesystem_numbered}
-use Rattle.vt_laws_overlays_kept.specs.Inodes.{inodes_kept}
+use Rattle.vt_world.specs.OverlaysKept.Inodes.{inodes_kept}
 use Rattle.vt_laws_trees.proofs.trees.TreesOfWorlds.{number_numbered}
 use Rattle.vt_location.specs.Numbers.{counted}
 use Rattle.vt_overlay.specs.MergedTree.{OverlayValue, overlay_seen}

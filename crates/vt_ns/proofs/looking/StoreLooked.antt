@@ -4,7 +4,7 @@ use Rattle.vt_spec.specs.FileTree.{FileTree, ancestors, is_directory_under}
 use Rattle.vt_spec.specs.Lists.{is_among}
 use Rattle.vt_spec.specs.Machine.World.{Filesystem, filesystem_numbered, is_overlay, no_filesystem}
 use Rattle.vt_spec.specs.Tree.{Tree, is_directory_node}
-use Rattle.vt_laws_letting_go.proofs.Lists.{all_from_among}
+use Rattle.vt_laws_mounts.proofs.letting_go.Lists.{all_from_among}
 use Rattle.vt_laws_trees.proofs.trees.TreesOfWorlds.{number_numbered, numbered_all}
 use Rattle.vt_laws_trees.specs.Trees.{IsFileTree}
 use Rattle.vt_location.specs.Numbers.{counted}

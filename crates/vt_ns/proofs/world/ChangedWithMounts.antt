@@ -19,36 +19,36 @@ use Rattle.vt_spec.specs.Machine.Locked.{overlay_or}
 use Rattle.vt_spec.specs.Machine.World.{Filesystem, Overlay, World, all_locations, filesystem_at, filesystem_numbered, is_overlay, mount_at, replaced_if_numbered, with_filesystem}
 use Rattle.vt_spec.specs.Machine.Invariants.{IsWorld, ListsNumbers, OverlayInvariants, TreeInvariants, is_within_limits}
 use Rattle.vt_spec.specs.TreeInvariant.{IsTree}
-use Rattle.vt_laws_counts.specs.Changing.{filesystem_of}
+use Rattle.vt_laws_mounts.specs.Counts.Changing.{filesystem_of}
 use Rattle.vt_fs.specs.FilesystemsValue.{Filesystems, filesystem_seen}
 use Rattle.vt_group.specs.Grouping.{Grouping, Has}
 use Rattle.vt_group.specs.Together.{TakesAway}
-use Rattle.vt_laws_permits.specs.Named.{permit_named}
-use Rattle.vt_laws_permits.proofs.named.PermitsKeepTo.{permits_keep_to_numbers}
-use Rattle.vt_laws_one_text.proofs.same.SameNumbers.{any_same_worlds_keep_to_numbers}
-use Rattle.vt_laws_one_text.proofs.same.SameWhole.{any_same_worlds_are_worlds}
-use Rattle.vt_laws_overlay_permits.proofs.kept.KeptOverlays.{overlays_in}
-use Rattle.vt_laws_overlay_permits.proofs.worlds.LowersGoOn.{Layers, changed_layers, layers, layers_at}
-use Rattle.vt_laws_overlays_read.specs.Writers.{WritersHaveLayers}
-use Rattle.vt_laws_overlays_read.proofs.writers.Swept.{same_worlds_have_layers_alike, sweeps_keep_writers, writers_alike}
+use Rattle.vt_laws_worlds.specs.Permits.Named.{permit_named}
+use Rattle.vt_laws_worlds.proofs.permits.named.PermitsKeepTo.{permits_keep_to_numbers}
+use Rattle.vt_laws_worlds.proofs.one_text.same.SameNumbers.{any_same_worlds_keep_to_numbers}
+use Rattle.vt_laws_worlds.proofs.one_text.same.SameWhole.{any_same_worlds_are_worlds}
+use Rattle.vt_laws_worlds.proofs.overlay_permits.kept.KeptOverlays.{overlays_in}
+use Rattle.vt_laws_worlds.proofs.overlay_permits.worlds.LowersGoOn.{Layers, changed_layers, layers, layers_at}
+use Rattle.vt_laws_worlds.specs.OverlaysRead.Writers.{WritersHaveLayers}
+use Rattle.vt_laws_worlds.proofs.overlays_read.Swept.{same_worlds_have_layers_alike, sweeps_keep_writers, writers_alike}
 use Rattle.vt_detach.proofs.Writers.{left_writers}
-use Rattle.vt_laws_overlay_permits.proofs.worlds.SweptWorlds.{settling_leaves_every_world}
-use Rattle.vt_laws_overlays_stay.proofs.left.Given.{given_permits_are_under_way_without_upper, given_permits_give_no_upper}
-use Rattle.vt_laws_letting_go.proofs.Lists.{Among, all_from_among, among-append_right, among-filter, among-filter_map, among-map, among_from_all, is_among_left, is_among_numbers, is_among_right, map_same, or_second}
-use Rattle.vt_laws_letting_go.proofs.leaving.NamesKept.{changes_keep_names}
-use Rattle.vt_laws_letting_go.proofs.sweeps.OfWorlds.{worlds_are_settled, worlds_have_trees}
-use Rattle.vt_laws_letting_go.proofs.leaving.TreesWithOverlays.{unnamed_go_with_overlays}
-use Rattle.vt_laws_letting_go.specs.FileChanges.{MayChange, names_lost}
-use Rattle.vt_laws_letting_go.specs.InUse.{IsListedTree, is_inode_used}
-use Rattle.vt_laws_letting_go.specs.OneByOne.{Inode}
-use Rattle.vt_laws_letting_go.specs.Overlays.{is_plain, let_go_all_inodes, let_go_in, let_go_in_of, let_go_plain, uppers_in, uppers_of_inode_in, without_inode_of}
-use Rattle.vt_laws_letting_go.specs.TreeChanges.{ChangesTree}
+use Rattle.vt_laws_worlds.proofs.overlay_permits.worlds.SweptWorlds.{settling_leaves_every_world}
+use Rattle.vt_laws_worlds.proofs.overlays_stay.left.Given.{given_permits_are_under_way_without_upper, given_permits_give_no_upper}
+use Rattle.vt_laws_mounts.proofs.letting_go.Lists.{Among, all_from_among, among-append_right, among-filter, among-filter_map, among-map, among_from_all, is_among_left, is_among_numbers, is_among_right, map_same, or_second}
+use Rattle.vt_laws_mounts.proofs.letting_go.leaving.NamesKept.{changes_keep_names}
+use Rattle.vt_laws_mounts.proofs.letting_go.sweeps.OfWorlds.{worlds_are_settled, worlds_have_trees}
+use Rattle.vt_laws_mounts.proofs.letting_go.leaving.TreesWithOverlays.{unnamed_go_with_overlays}
+use Rattle.vt_laws_mounts.specs.LettingGo.FileChanges.{MayChange, names_lost}
+use Rattle.vt_laws_mounts.specs.LettingGo.InUse.{IsListedTree, is_inode_used}
+use Rattle.vt_laws_mounts.specs.LettingGo.OneByOne.{Inode}
+use Rattle.vt_laws_mounts.specs.LettingGo.Overlays.{is_plain, let_go_all_inodes, let_go_in, let_go_in_of, let_go_plain, uppers_in, uppers_of_inode_in, without_inode_of}
+use Rattle.vt_laws_mounts.specs.LettingGo.TreeChanges.{ChangesTree}
 use Rattle.vt_mount.specs.MountsValue.{MountEntry}
-use Rattle.vt_laws_runs.specs.Handed.{is_counted_before}
-use Rattle.vt_laws_one_text.proofs.answered.AlikeMounts.{regrouped_alike}
-use Rattle.vt_laws_one_text.proofs.answered.AlikeSettled.{settled_alike}
-use Rattle.vt_laws_one_text.proofs.answered.AlikeWorlds.{alike_from_same, same_from_alike}
-use Rattle.vt_laws_runs.proofs.answered.AlikeWorlds.{sameness_is_an_equivalence}
+use Rattle.vt_laws_trees.specs.Runs.Handed.{is_counted_before}
+use Rattle.vt_laws_worlds.proofs.one_text.answered.AlikeMounts.{regrouped_alike}
+use Rattle.vt_laws_worlds.proofs.one_text.answered.AlikeSettled.{settled_alike}
+use Rattle.vt_laws_worlds.proofs.one_text.answered.AlikeWorlds.{alike_from_same, same_from_alike}
+use Rattle.vt_laws_trees.proofs.runs.answered.AlikeWorlds.{sameness_is_an_equivalence}
 use Rattle.vt_laws_worlds.specs.Worlds.Kept.{IsUnderWay}
 use Rattle.vt_laws_worlds.specs.Worlds.Permits.{IsFitPermit, NamesWhatIsThere}
 use Rattle.vt_laws_worlds.proofs.kept.MountsKept.{all_mounts_kept}
@@ -78,7 +78,7 @@ use Rattle.vt_detach.proofs.TypedEvents.{counts_typed, swept_typed, typed_value}
 use Rattle.vt_detach.proofs.TypedWorlds.{settled_typed, settled_typed_has, typed_world}
 use Rattle.vt_detach.proofs.UnmountedLazily.{all_detached}
 use Rattle.vt_spec.proofs.Worlds.{shown-mapped}
-use Rattle.vt_laws_letting_go.specs.TreesOverlays.{in_use_of}
+use Rattle.vt_laws_mounts.specs.LettingGo.TreesOverlays.{in_use_of}
 
 -- whether an overlay has no upper layer is told by its layers
 

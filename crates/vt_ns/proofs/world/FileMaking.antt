@@ -27,10 +27,10 @@ use Rattle.vt_location.proofs.NumberLemmas.{exchanged_same, exchanged_slot}
 use Rattle.vt_location.proofs.NodeLemmas.{here_number}
 use Rattle.vt_permits.specs.GrantValue.{node_in, number_beside}
 use Rattle.vt_spec.specs.Machine.Renaming.{renamed_node}
-use Rattle.vt_laws_permits.specs.Sees.{MayBeMade}
-use Rattle.vt_laws_permits.proofs.sees.SeesFit.{given_changes_fit}
-use Rattle.vt_laws_permits.proofs.sees.SeesTasks.{given_permits_are_seen_to}
-use Rattle.vt_laws_runs.specs.Handed.{is_counted_before}
+use Rattle.vt_laws_worlds.specs.Permits.Sees.{MayBeMade}
+use Rattle.vt_laws_worlds.proofs.permits.sees.SeesFit.{given_changes_fit}
+use Rattle.vt_laws_worlds.proofs.permits.sees.SeesTasks.{given_permits_are_seen_to}
+use Rattle.vt_laws_trees.specs.Runs.Handed.{is_counted_before}
 use Rattle.vt_detach.specs.Events.{Permits, next_inode, supply_of}
 use Rattle.vt_world.specs.Held.{IsHeld}
 use Rattle.vt_world.specs.WorldValue.{WorldValue, world_of}

@@ -17,14 +17,14 @@ use Rattle.vt_spec.specs.Fits.{Fits}
 use Rattle.vt_spec.specs.Inodes.{Inodes, changed, tree_of}
 use Rattle.vt_spec.specs.Tree.{bytes_in, is_directory_node}
 use Rattle.vt_fs.specs.FilesystemsValue.{ChangesInodes, Filesystems, files_at, inodes_at, inodes_seen}
-use Rattle.vt_laws_letting_go.proofs.Lists.{Among, among-flat_map, among-map}
+use Rattle.vt_laws_mounts.proofs.letting_go.Lists.{Among, among-flat_map, among-map}
 use Rattle.vt_spec.proofs.Lists.{among_from_list_all}
 use Rattle.vt_location.specs.declared.locations.Location.{Location}
 use Rattle.vt_location.specs.Locations.{location_of, number_of}
-use Rattle.vt_laws_permits.specs.Sees.{HasOpen, SeesTo}
-use Rattle.vt_laws_permits.proofs.sees.SeesFit.{given_changes_fit}
-use Rattle.vt_laws_permits.proofs.sees.SeesTasks.{given_permits_are_seen_to}
-use Rattle.vt_laws_runs.proofs.answered.AlikeWorlds.{sameness_is_an_equivalence}
+use Rattle.vt_laws_worlds.specs.Permits.Sees.{HasOpen, SeesTo}
+use Rattle.vt_laws_worlds.proofs.permits.sees.SeesFit.{given_changes_fit}
+use Rattle.vt_laws_worlds.proofs.permits.sees.SeesTasks.{given_permits_are_seen_to}
+use Rattle.vt_laws_trees.proofs.runs.answered.AlikeWorlds.{sameness_is_an_equivalence}
 use Rattle.vt_laws_worlds.proofs.worlds.ReachedWalks.{found_among}
 use Rattle.vt_detach.specs.Events.{Becomes, Permits, supply_of}
 use Rattle.vt_world.specs.Held.{IsHeld}

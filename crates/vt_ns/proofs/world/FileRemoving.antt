@@ -14,12 +14,12 @@ use Rattle.vt_spec.specs.Inodes.{Inodes, changed, tree_of}
 use Rattle.vt_spec.specs.TreeInvariant.{entry_at}
 use Rattle.vt_fs.specs.FilesystemsValue.{ChangesInodes, Filesystems, files_at, inodes_at, inodes_seen}
 use Rattle.vt_group.proofs.Together.{regrouped_living}
-use Rattle.vt_laws_letting_go.proofs.ends.NamespacesEnd.{nothing_taken}
+use Rattle.vt_laws_mounts.proofs.letting_go.ends.NamespacesEnd.{nothing_taken}
 use Rattle.vt_location.specs.declared.locations.Location.{Location}
 use Rattle.vt_location.specs.Locations.{location_of, number_of}
-use Rattle.vt_laws_permits.specs.Sees.{SeesTo}
-use Rattle.vt_laws_permits.proofs.sees.SeesFit.{given_changes_fit}
-use Rattle.vt_laws_permits.proofs.sees.SeesTasks.{given_permits_are_seen_to}
+use Rattle.vt_laws_worlds.specs.Permits.Sees.{SeesTo}
+use Rattle.vt_laws_worlds.proofs.permits.sees.SeesFit.{given_changes_fit}
+use Rattle.vt_laws_worlds.proofs.permits.sees.SeesTasks.{given_permits_are_seen_to}
 use Rattle.vt_detach.specs.Events.{Permits, supply_of}
 use Rattle.vt_world.specs.Held.{IsHeld}
 use Rattle.vt_world.specs.WorldValue.{WorldValue, world_of}

@@ -19,11 +19,11 @@ use Rattle.vt_fs.specs.FilesystemsValue.{ChangesInodes, Filesystems, files_at, i
 use Rattle.vt_laws_rules.specs.Numbers.{location_named, none_or}
 use Rattle.vt_location.specs.declared.locations.Location.{Location}
 use Rattle.vt_location.specs.Locations.{location_of, number_of}
-use Rattle.vt_laws_permits.specs.Named.{permit_named}
-use Rattle.vt_laws_permits.specs.Sees.{MayBeRenamed}
-use Rattle.vt_laws_permits.proofs.sees.SeesFit.{given_changes_fit}
-use Rattle.vt_laws_permits.proofs.sees.SeesTasks.{given_permits_are_seen_to}
-use Rattle.vt_laws_runs.specs.Handed.{is_counted_before}
+use Rattle.vt_laws_worlds.specs.Permits.Named.{permit_named}
+use Rattle.vt_laws_worlds.specs.Permits.Sees.{MayBeRenamed}
+use Rattle.vt_laws_worlds.proofs.permits.sees.SeesFit.{given_changes_fit}
+use Rattle.vt_laws_worlds.proofs.permits.sees.SeesTasks.{given_permits_are_seen_to}
+use Rattle.vt_laws_trees.specs.Runs.Handed.{is_counted_before}
 use Rattle.vt_laws_worlds.specs.Worlds.Permits.{IsReached, NamesWhatIsThere}
 use Rattle.vt_detach.specs.Events.{Permits, supply_of}
 use Rattle.vt_world.specs.Held.{IsHeld}

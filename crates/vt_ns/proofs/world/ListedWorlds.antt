@@ -7,7 +7,7 @@ use Rattle.vt_spec.specs.Machine.Permits.Permit.{ToList}
 use Rattle.vt_spec.specs.Machine.World.{Filesystem, Namespace, node_at}
 use Rattle.vt_spec.specs.Tree.{Tree}
 use Rattle.vt_spec.specs.TreeInvariant.{IsTree}
-use Rattle.vt_laws_permits.proofs.sees.SeesTasks.{given_permits_are_seen_to}
+use Rattle.vt_laws_worlds.proofs.permits.sees.SeesTasks.{given_permits_are_seen_to}
 use Rattle.vt_laws_trees.proofs.trees.TreesOfWorlds.{numbered_all}
 use Rattle.vt_laws_worlds.proofs.worlds.Roots.{directory_there}
 use Rattle.vt_location.specs.declared.numbers.NamespaceId.{NamespaceId}

@@ -9,8 +9,8 @@ use Rattle.vt_spec.specs.Machine.Mounts as meant
 use Rattle.vt_spec.specs.Machine.Mounts.{Mount, mount_in, mount_tree, tree_from}
 use Rattle.vt_spec.specs.Machine.World.{World, mount_at}
 use Rattle.vt_spec.specs.Machine.Invariants.{is_located_well}
-use Rattle.vt_laws_letting_go.proofs.Lists.{Among, among-from_filter, filter_alike}
-use Rattle.vt_laws_letting_go.proofs.leaving.PlacesLeft.{found_itself}
+use Rattle.vt_laws_mounts.proofs.letting_go.Lists.{Among, among-from_filter, filter_alike}
+use Rattle.vt_laws_mounts.proofs.letting_go.leaving.PlacesLeft.{found_itself}
 use Rattle.vt_location.specs.declared.locations.Location.{Location}
 use Rattle.vt_location.specs.declared.numbers.MountId.{MountId}
 use Rattle.vt_location.specs.Locations.{is_small_node, location_of, number_of}

@@ -1,9 +1,9 @@
 -- What the event that moves mounts finds: its place, and the tree that moves.
 use Rattle.std.proofs.Common.{◌≡◌, refl, sym, ap, subst, ◌∙◌, ℕ, nat_eq, eqb-true, Bool, true, false, cond, List, find, Option, Some, is_some, option_map, unwrap_or}
 use Rattle.vt_fs.specs.FilesystemsValue.{Filesystems, shown}
-use Rattle.vt_laws_letting_go.proofs.mounting.AttachedSwept.{of_tree}
-use Rattle.vt_laws_letting_go.proofs.Lists.{Among, map_same}
-use Rattle.vt_laws_letting_go.proofs.leaving.PlacesLeft.{found_is_there}
+use Rattle.vt_laws_mounts.proofs.letting_go.mounting.AttachedSwept.{of_tree}
+use Rattle.vt_laws_mounts.proofs.letting_go.Lists.{Among, map_same}
+use Rattle.vt_laws_mounts.proofs.letting_go.leaving.PlacesLeft.{found_is_there}
 use Rattle.vt_location.specs.declared.locations.Location.{Location}
 use Rattle.vt_location.specs.declared.mounts.Mount.{Mount as Code}
 use Rattle.vt_location.specs.declared.numbers.MountId.{MountId}

@@ -21,11 +21,11 @@ use Rattle.vt_spec.specs.Machine.Invariants.{IsWorld, OverlayInvariants, is_loca
 use Rattle.vt_spec.specs.Fits.{Fits}
 use Rattle.vt_spec.specs.Inodes.{Inodes, changed, tree_of, uses_in, with_changed}
 use Rattle.vt_spec.specs.Tree.{Node, node_with_entry}
-use Rattle.vt_laws_counts.proofs.changing.Changes.{only_files_change_beside_overlays}
-use Rattle.vt_laws_counts.proofs.changing.KeptAll.{names_keep_all_beside_overlays}
+use Rattle.vt_laws_mounts.proofs.counts.changing.Changes.{only_files_change_beside_overlays}
+use Rattle.vt_laws_mounts.proofs.counts.changing.KeptAll.{names_keep_all_beside_overlays}
 use Rattle.vt_fs.specs.FilesystemsValue.{ChangesInodes, Filesystems, entry_at, entry_of, inodes_at, inodes_seen, next_seen, no_entry, node_seen}
-use Rattle.vt_laws_letting_go.proofs.Lists.{Among, among-append_right, among-flat_map, among-map}
-use Rattle.vt_laws_letting_go.specs.Mounting.{inode_at}
+use Rattle.vt_laws_mounts.proofs.letting_go.Lists.{Among, among-append_right, among-flat_map, among-map}
+use Rattle.vt_laws_mounts.specs.LettingGo.Mounting.{inode_at}
 use Rattle.vt_spec.proofs.Lists.{among_from_list_all}
 use Rattle.vt_location.specs.declared.births.Birth.TheVariants.{Here}
 use Rattle.vt_location.specs.declared.locations.Location.{Location}
@@ -35,23 +35,23 @@ use Rattle.vt_location.specs.Numbers.{counted, is_own_number}
 use Rattle.vt_location.proofs.NodeLemmas.{here_number}
 use Rattle.vt_permits.specs.GrantValue.{node_in}
 use Rattle.vt_mount.specs.MountsValue.{MountEntry}
-use Rattle.vt_laws_permits.specs.Named.{permit_named}
-use Rattle.vt_laws_permits.specs.Sees.{HasRoom, MayBeMade}
-use Rattle.vt_laws_permits.proofs.named.PermitsKeepTo.{permits_keep_to_numbers}
-use Rattle.vt_laws_one_text.proofs.answered.AlikeAnswered.{any_same_worlds_are_swept_alike}
-use Rattle.vt_laws_one_text.proofs.same.SameNumbers.{any_same_worlds_keep_to_numbers}
-use Rattle.vt_laws_one_text.proofs.same.SameWhole.{any_same_worlds_are_under_way, any_same_worlds_are_worlds}
-use Rattle.vt_laws_overlay_permits.proofs.kept.KeptOverlays.{overlays_in}
-use Rattle.vt_laws_overlays_read.specs.Writers.{WritersHaveLayers}
-use Rattle.vt_laws_overlays_read.proofs.writers.Swept.{same_worlds_have_layers_alike}
+use Rattle.vt_laws_worlds.specs.Permits.Named.{permit_named}
+use Rattle.vt_laws_worlds.specs.Permits.Sees.{HasRoom, MayBeMade}
+use Rattle.vt_laws_worlds.proofs.permits.named.PermitsKeepTo.{permits_keep_to_numbers}
+use Rattle.vt_laws_worlds.proofs.one_text.answered.AlikeAnswered.{any_same_worlds_are_swept_alike}
+use Rattle.vt_laws_worlds.proofs.one_text.same.SameNumbers.{any_same_worlds_keep_to_numbers}
+use Rattle.vt_laws_worlds.proofs.one_text.same.SameWhole.{any_same_worlds_are_under_way, any_same_worlds_are_worlds}
+use Rattle.vt_laws_worlds.proofs.overlay_permits.kept.KeptOverlays.{overlays_in}
+use Rattle.vt_laws_worlds.specs.OverlaysRead.Writers.{WritersHaveLayers}
+use Rattle.vt_laws_worlds.proofs.overlays_read.Swept.{same_worlds_have_layers_alike}
 use Rattle.vt_detach.proofs.Writers.{left_writers}
 use Rattle.vt_ns.proofs.world.ChangedWithMounts.{change_keeps_writers}
-use Rattle.vt_laws_overlay_permits.proofs.worlds.SweptWorlds.{settling_leaves_every_world}
-use Rattle.vt_laws_overlays_stay.proofs.left.Given.{given_permits_are_under_way_without_upper, given_permits_give_no_upper}
-use Rattle.vt_laws_permits.proofs.sees.SeesFit.{given_changes_fit}
-use Rattle.vt_laws_permits.proofs.sees.SeesTasks.{given_permits_are_seen_to}
-use Rattle.vt_laws_runs.specs.Handed.{is_counted_before}
-use Rattle.vt_laws_runs.proofs.answered.AlikeWorlds.{sameness_is_an_equivalence}
+use Rattle.vt_laws_worlds.proofs.overlay_permits.worlds.SweptWorlds.{settling_leaves_every_world}
+use Rattle.vt_laws_worlds.proofs.overlays_stay.left.Given.{given_permits_are_under_way_without_upper, given_permits_give_no_upper}
+use Rattle.vt_laws_worlds.proofs.permits.sees.SeesFit.{given_changes_fit}
+use Rattle.vt_laws_worlds.proofs.permits.sees.SeesTasks.{given_permits_are_seen_to}
+use Rattle.vt_laws_trees.specs.Runs.Handed.{is_counted_before}
+use Rattle.vt_laws_trees.proofs.runs.answered.AlikeWorlds.{sameness_is_an_equivalence}
 use Rattle.vt_tasks.specs.TasksValue.{MayOpenMore, Tasks, called, changed_by, changed_called, replaced}
 use Rattle.vt_laws_worlds.specs.Worlds.Kept.{IsUnderWay}
 use Rattle.vt_laws_worlds.specs.Worlds.Permits.{IsFitPermit}

@@ -10,9 +10,9 @@ use Rattle.vt_spec.specs.Lists.{is_empty_list}
 use Rattle.vt_spec.specs.Rights.{Credentials}
 use Rattle.vt_spec.proofs.Lists.{map_twice}
 use Rattle.vt_cred.specs.MountFlags.{flags_of}
-use Rattle.vt_laws_letting_go.proofs.Lists.{Among, all_from_among, all_pass, among-map}
-use Rattle.vt_laws_overlays_granted.specs.Granted.{MayBeMounted}
-use Rattle.vt_laws_overlays_granted.proofs.granted.Mounts.{given_overlays_may_be_mounted}
+use Rattle.vt_laws_mounts.proofs.letting_go.Lists.{Among, all_from_among, all_pass, among-map}
+use Rattle.vt_laws_worlds.specs.OverlaysGranted.Granted.{MayBeMounted}
+use Rattle.vt_laws_worlds.proofs.overlays_granted.Mounts.{given_overlays_may_be_mounted}
 use Rattle.vt_location.specs.Locations.{location_of, number_of}
 use Rattle.vt_location.specs.Numbers.{counted, exchanged, inode_number, is_own_number}
 use Rattle.vt_location.proofs.NodeLemmas.{here_number, own_birth, own_count}

@@ -13,7 +13,7 @@ use Rattle.vt_spec.specs.Machine.World.{Task}
 use Rattle.vt_spec.specs.Rights.{Credentials}
 use Rattle.vt_cred.specs.MountFlags.{flags_of}
 use Rattle.vt_group.specs.Grouping.{Grouping}
-use Rattle.vt_laws_given.specs.LeftWorlds.{IsGivenToTask}
+use Rattle.vt_laws_worlds.specs.Given.LeftWorlds.{IsGivenToTask}
 use Rattle.vt_location.specs.declared.locations.Location.{Location}
 use Rattle.vt_location.specs.declared.mounts.Mount.{Mount}
 use Rattle.vt_location.specs.Locations.{location_of}

@@ -11,13 +11,13 @@ use Rattle.vt_spec.specs.Machine.Settled.{located_in}
 use Rattle.vt_spec.specs.Machine.World.{Task, World, all_locations, locations_of}
 use Rattle.vt_spec.proofs.Truths.{nat_eq_turned}
 use Rattle.vt_spec.proofs.Worlds.{shown-mapped}
-use Rattle.vt_laws_counts.specs.Using.{Exchanges, is_inode}
-use Rattle.vt_laws_counts.proofs.using.Places.{count_append, count_in, count_places, located_uses, same_found}
-use Rattle.vt_laws_letting_go.specs.Counts.{mount_uses, times}
-use Rattle.vt_laws_letting_go.specs.Mounting.{inode_at}
-use Rattle.vt_laws_letting_go.specs.OneByOne.{Inode}
-use Rattle.vt_laws_letting_go.proofs.Lists.{Among, fails}
-use Rattle.vt_laws_letting_go.proofs.sweeps.UpperUses.{times_append}
+use Rattle.vt_laws_mounts.specs.Counts.Using.{Exchanges, is_inode}
+use Rattle.vt_laws_mounts.proofs.counts.using.Places.{count_append, count_in, count_places, located_uses, same_found}
+use Rattle.vt_laws_mounts.specs.LettingGo.Counts.{mount_uses, times}
+use Rattle.vt_laws_mounts.specs.LettingGo.Mounting.{inode_at}
+use Rattle.vt_laws_mounts.specs.LettingGo.OneByOne.{Inode}
+use Rattle.vt_laws_mounts.proofs.letting_go.Lists.{Among, fails}
+use Rattle.vt_laws_mounts.proofs.letting_go.sweeps.UpperUses.{times_append}
 use Rattle.vt_tasks.specs.Counts as counted_uses
 use Rattle.vt_tasks.specs.Counts.{all_places_at, uses}
 use Rattle.vt_tasks.specs.TasksValue.{Tasks}

@@ -14,17 +14,17 @@ use Rattle.vt_spec.specs.Machine.World.{Filesystem, World, all_locations, filesy
 use Rattle.vt_spec.specs.Machine.Invariants.{is_located_well, is_nowhere_or_attached, is_private, is_there}
 use Rattle.vt_spec.specs.Inodes as Trees
 use Rattle.vt_spec.specs.Inodes.{node_in}
-use Rattle.vt_laws_counts.specs.Using.{AreThere, Exchanges, exchanged}
-use Rattle.vt_laws_counts.proofs.using.MountRoots as Roots
-use Rattle.vt_laws_counts.specs.OverlaysStay.{layer_count}
+use Rattle.vt_laws_mounts.specs.Counts.Using.{AreThere, Exchanges, exchanged}
+use Rattle.vt_laws_mounts.proofs.counts.using.MountRoots as Roots
+use Rattle.vt_laws_mounts.specs.Counts.OverlaysStay.{layer_count}
 use Rattle.vt_fs.specs.FilesystemsValue.{FilesystemEntry, Filesystems, Shown, filesystem_seen, inodes_seen, shown, shown_entry}
-use Rattle.vt_laws_letting_go.specs.Counts.{mounts_showing}
-use Rattle.vt_laws_letting_go.specs.Keeping.{LocationsStand}
-use Rattle.vt_laws_letting_go.specs.InUse.{FilesystemsInUse}
-use Rattle.vt_laws_letting_go.specs.Leaving.{MountsStand, stands_on_attached}
-use Rattle.vt_laws_letting_go.specs.Mounting.{inode_at}
-use Rattle.vt_laws_letting_go.specs.OneByOne.{Inode, MountsInUseBut}
-use Rattle.vt_laws_letting_go.proofs.Lists.{Among, all_from_among, all_pass, among-append, among-from_map, among-map, among_from_all, any-map, filter_alike, passes}
+use Rattle.vt_laws_mounts.specs.LettingGo.Counts.{mounts_showing}
+use Rattle.vt_laws_mounts.specs.LettingGo.Keeping.{LocationsStand}
+use Rattle.vt_laws_mounts.specs.LettingGo.InUse.{FilesystemsInUse}
+use Rattle.vt_laws_mounts.specs.LettingGo.Leaving.{MountsStand, stands_on_attached}
+use Rattle.vt_laws_mounts.specs.LettingGo.Mounting.{inode_at}
+use Rattle.vt_laws_mounts.specs.LettingGo.OneByOne.{Inode, MountsInUseBut}
+use Rattle.vt_laws_mounts.proofs.letting_go.Lists.{Among, all_from_among, all_pass, among-append, among-from_map, among-map, among_from_all, any-map, filter_alike, passes}
 use Rattle.vt_location.specs.declared.locations.Location.{Location as At}
 use Rattle.vt_location.specs.Locations.{location_of, number_of}
 use Rattle.vt_location.specs.Numbers.{counted}

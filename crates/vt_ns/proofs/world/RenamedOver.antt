@@ -20,17 +20,17 @@ use Rattle.vt_fs.specs.FilesystemsValue.{ChangesInodes, Filesystems, inodes_seen
 use Rattle.vt_spec.specs.Inodes.{changed}
 use Rattle.vt_group.specs.Grouping.{Grouping}
 use Rattle.vt_group.proofs.Together.{regrouped_living}
-use Rattle.vt_laws_letting_go.specs.FileChanges.{names_lost}
-use Rattle.vt_laws_letting_go.proofs.Lists.{Among}
+use Rattle.vt_laws_mounts.specs.LettingGo.FileChanges.{names_lost}
+use Rattle.vt_laws_mounts.proofs.letting_go.Lists.{Among}
 use Rattle.vt_location.specs.declared.locations.Location.{Location}
 use Rattle.vt_location.specs.declared.numbers.MountId.{MountId}
 use Rattle.vt_location.specs.Locations.{is_small_node, location_of, number_of}
 use Rattle.vt_location.specs.Numbers.{counted}
 use Rattle.vt_mount.specs.MountsValue.{MountEntry, mounts_in}
 use Rattle.vt_store.specs.StoreValue.{StoreValue}
-use Rattle.vt_laws_permits.specs.Named.{permit_named}
-use Rattle.vt_laws_permits.specs.Sees.{MayBeRenamed}
-use Rattle.vt_laws_runs.specs.Handed.{is_counted_before}
+use Rattle.vt_laws_worlds.specs.Permits.Named.{permit_named}
+use Rattle.vt_laws_worlds.specs.Permits.Sees.{MayBeRenamed}
+use Rattle.vt_laws_trees.specs.Runs.Handed.{is_counted_before}
 use Rattle.vt_laws_worlds.specs.Worlds.Permits.{IsReached, NamesWhatIsThere}
 use Rattle.vt_detach.specs.Detached.{LeaveTogether, trees_of_replaced}
 use Rattle.vt_detach.specs.Events.{Permits}

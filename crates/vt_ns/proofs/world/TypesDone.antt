@@ -10,12 +10,12 @@ use Rattle.vt_spec.specs.Machine.Types.{named_mounts, retyped as policy_retyped}
 use Rattle.vt_spec.specs.Machine.World.{World, mount_numbered}
 use Rattle.vt_spec.proofs.Lists.{contains_from_among, map_twice}
 use Rattle.vt_group.specs.Grouping.{Grouping, Has, LacksGroup}
-use Rattle.vt_laws_letting_go.proofs.Lists.{Among, all_from_among}
-use Rattle.vt_laws_letting_go.proofs.leaving.PlacesLeft.{found_is_there}
+use Rattle.vt_laws_mounts.proofs.letting_go.Lists.{Among, all_from_among}
+use Rattle.vt_laws_mounts.proofs.letting_go.leaving.PlacesLeft.{found_is_there}
 use Rattle.vt_mount.specs.MountsValue.{MountEntry, mounts_in}
 use Rattle.vt_retype.specs.Retyping.{retyped as retyped_entry}
 use Rattle.vt_laws_mounts.proofs.mounts.Standing.{trees_have_each_once}
-use Rattle.vt_laws_runs.specs.Handed.{counts_from}
+use Rattle.vt_laws_trees.specs.Runs.Handed.{counts_from}
 use Rattle.vt_detach.specs.Events.{Permits}
 use Rattle.vt_world.specs.Held.{IsHeld}
 use Rattle.vt_world.specs.WorldValue.{WorldValue, world_of}
@@ -25,7 +25,7 @@ use Rattle.vt_detach.proofs.TypesKept.{counts_lack, group, types_are_changed, ty
 use Rattle.vt_detach.proofs.TreesInNamespaces.{in_tree}
 use Rattle.vt_ns.specs.Retyped.{IsRetyped, NumbersGroups, counted_after, with_counts}
 use Rattle.vt_ns.proofs.RetypedMounts.{places_are_counted}
-use Rattle.vt_laws_permits.proofs.taken.TakenFirst.{tree_some}
+use Rattle.vt_laws_worlds.proofs.permits.taken.TakenFirst.{tree_some}
 use Rattle.vt_laws_mounts.specs.Mounts.Attaching.{numbers_of, OneNumberAMount}
 use Rattle.vt_attach.proofs.Binding.{is_seen}
 

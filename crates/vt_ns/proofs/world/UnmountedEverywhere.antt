@@ -19,7 +19,7 @@ use Rattle.vt_group.specs.Grouping.{Grouping, Has, HasGroup, are_rising, peers_o
 use Rattle.vt_group.specs.Together.{GrowsTo}
 use Rattle.vt_group.proofs.Showing.{has_one_grouping}
 use Rattle.vt_group.proofs.Typed.{regrouped_is_typed}
-use Rattle.vt_laws_letting_go.proofs.Lists.{all_from_among, among-map, among_from_all}
+use Rattle.vt_laws_mounts.proofs.letting_go.Lists.{all_from_among, among-map, among_from_all}
 use Rattle.vt_location.specs.Locations.{location_of}
 use Rattle.vt_location.specs.Numbers.{counted}
 use Rattle.vt_mount.specs.MountsValue.{MountEntry}

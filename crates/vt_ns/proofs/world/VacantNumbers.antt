@@ -14,8 +14,8 @@ use Rattle.vt_spec.specs.Inodes.{node_in}
 use Rattle.vt_spec.specs.Tree.{Node}
 use Rattle.vt_spec.specs.TreeInvariant.{IsTree}
 use Rattle.vt_fs.specs.FilesystemsValue.{FilesystemEntry, entry_of, inodes_at, inodes_seen, next_seen, no_entry}
-use Rattle.vt_laws_letting_go.proofs.Lists.{Among, among_from_all, found_in}
-use Rattle.vt_laws_letting_go.proofs.sweeps.OfWorlds.{found_filesystem}
+use Rattle.vt_laws_mounts.proofs.letting_go.Lists.{Among, among_from_all, found_in}
+use Rattle.vt_laws_mounts.proofs.letting_go.sweeps.OfWorlds.{found_filesystem}
 use Rattle.vt_laws_worlds.proofs.worlds.Roots.{directory_there}
 use Rattle.vt_location.specs.declared.births.Birth.{Birth}
 use Rattle.vt_location.specs.declared.births.Birth.TheVariants.{Below, Here}
@@ -27,11 +27,11 @@ use Rattle.vt_location.proofs.NodeLemmas.{small_parts}
 use Rattle.vt_location.specs.Numbers.{counted, inode_number}
 use Rattle.vt_mount.specs.MountsValue.{MountEntry, mounts_in}
 use Rattle.vt_mount.specs.Sources.{has_counted_source}
-use Rattle.vt_laws_overlays_made.specs.Made.{IsNew}
-use Rattle.vt_laws_permits.proofs.in_use.InUseServes.{leaves_two}
-use Rattle.vt_laws_permits.specs.InUse.{is_in_use}
+use Rattle.vt_world.specs.OverlaysMade.Made.{IsNew}
+use Rattle.vt_laws_worlds.proofs.permits.in_use.InUseServes.{leaves_two}
+use Rattle.vt_laws_worlds.specs.Permits.InUse.{is_in_use}
 use Rattle.vt_laws_rules.proofs.numbers.Supports.{used_numbers_are_named}
-use Rattle.vt_laws_runs.specs.Handed.{is_counted_before}
+use Rattle.vt_laws_trees.specs.Runs.Handed.{is_counted_before}
 use Rattle.vt_detach.specs.Events.{filesystem_count, next_inode}
 use Rattle.vt_world.specs.Held.{HasOwnNodes, IsHeld}
 use Rattle.vt_ns.specs.Vacancy.{IsVacant}

@@ -24,7 +24,7 @@ use Rattle.vt_propagate.specs.Copying.{parts_seen, supply, tree_seen, twig, type
 use Rattle.vt_propagate.specs.Planned.{planned_copies, planned_groups}
 use Rattle.vt_propagate.specs.Seen.{IsSeen}
 use Rattle.vt_propagate.proofs.Found.{numbered}
-use Rattle.vt_laws_letting_go.proofs.Lists.{found_in, flat_map_alike}
+use Rattle.vt_laws_mounts.proofs.letting_go.Lists.{found_in, flat_map_alike}
 use Rattle.vt_laws_mounts.proofs.mounts.Receivers.{receivers_there}
 
 -- Lists

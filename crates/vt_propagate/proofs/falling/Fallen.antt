@@ -15,7 +15,7 @@ use Rattle.vt_mount.specs.MountsValue.{are_ascending}
 use Rattle.vt_propagate.specs.Falling.{FallsTo, LeavesBy, all_points_left, left_by, moved_by, of_mounts, point_left, point_left_of, points_left_on}
 use Rattle.vt_propagate.proofs.Found.{numbered, numbered_among}
 use Rattle.vt_propagate.proofs.Leaving.{numbered-number}
-use Rattle.vt_laws_letting_go.proofs.Lists.{found_in}
+use Rattle.vt_laws_mounts.proofs.letting_go.Lists.{found_in}
 use Rattle.vt_laws_mounts.specs.Mounts.Attaching.{numbers_of}
 
 module _ (mounts : List (Mount ℕ)) (gone : List ℕ) (number : ℕ) (mount : Mount ℕ) (found : Some mount

@@ -13,14 +13,14 @@ use Rattle.vt_spec.specs.Machine.Settled.{is_located, mount_lives, settled}
 use Rattle.vt_spec.specs.Machine.World.{Namespace, World, mount_at, mount_numbered, with_mounts}
 use Rattle.vt_spec.proofs.Lists.{among_from_list_all, filter_none}
 use Rattle.vt_spec.proofs.Worlds.{filesystems-taken_away}
-use Rattle.vt_laws_letting_go.specs.InUse.{HasTrees, UppersArePlain}
-use Rattle.vt_laws_letting_go.specs.Leaving.{with_sweeps}
-use Rattle.vt_laws_letting_go.specs.Mounting.{ended_mounts}
-use Rattle.vt_laws_letting_go.specs.Overlays.{RealsAreThere}
-use Rattle.vt_laws_letting_go.specs.Several.{KeepsMounts}
-use Rattle.vt_laws_letting_go.proofs.Lists.{any-filter}
-use Rattle.vt_laws_letting_go.proofs.mounting.MountsSwept.{mounts_stand}
-use Rattle.vt_laws_letting_go.proofs.mounting.TakenInTurn.{one_sweep_for_mounts_with_overlays}
+use Rattle.vt_laws_mounts.specs.LettingGo.InUse.{HasTrees, UppersArePlain}
+use Rattle.vt_laws_mounts.specs.LettingGo.Leaving.{with_sweeps}
+use Rattle.vt_laws_mounts.specs.LettingGo.Mounting.{ended_mounts}
+use Rattle.vt_laws_mounts.specs.LettingGo.Overlays.{RealsAreThere}
+use Rattle.vt_laws_mounts.specs.LettingGo.Several.{KeepsMounts}
+use Rattle.vt_laws_mounts.proofs.letting_go.Lists.{any-filter}
+use Rattle.vt_laws_mounts.proofs.letting_go.mounting.MountsSwept.{mounts_stand}
+use Rattle.vt_laws_mounts.proofs.letting_go.mounting.TakenInTurn.{one_sweep_for_mounts_with_overlays}
 use Rattle.vt_laws_mounts.proofs.ends.Ending.{trees_keep_mounts}
 use Rattle.vt_laws_mounts.proofs.mounts.MountsFound.{number_found}
 use Rattle.vt_propagate.specs.EndsInTurn.{GoInTurn, GoInTurnSwept, NamespacesEndInTurn, OneByOneAreSweptOnce, TurnsAreSeenSwept, UnlistedNamespacesEndInTurn, with_namespaces, without_one}

@@ -8,7 +8,7 @@ use Rattle.vt_spec.specs.Machine.Mounts.{Location, Mount, stands_on}
 use Rattle.vt_spec.specs.Machine.Namespaces.{is_in_ended}
 use Rattle.vt_spec.specs.Machine.World.{World, mount_numbered}
 use Rattle.vt_spec.proofs.Lists.{Among, among-from_filter, among-from_map, among-map, among_cases, among_numbers, head_among, is_among_numbers, none_from_among}
-use Rattle.vt_laws_letting_go.specs.Mounting.{ended_mounts}
+use Rattle.vt_laws_mounts.specs.LettingGo.Mounting.{ended_mounts}
 use Rattle.vt_laws_mounts.specs.Mounts.Attaching.{numbers_of}
 use Rattle.vt_laws_mounts.proofs.ends.Ending.{none_stands}
 use Rattle.vt_laws_mounts.proofs.ends.EndingOrder.{AreDeepestFirst, all_in_order, all_inserted_among, among_all_inserted}

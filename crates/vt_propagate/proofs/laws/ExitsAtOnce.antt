@@ -13,10 +13,10 @@ use Rattle.vt_spec.specs.Machine.Settled.{settled, without_dead_groups}
 use Rattle.vt_spec.specs.Machine.World.{Namespace, Task, World, mount_numbered, with_mounts, without_task}
 use Rattle.vt_spec.proofs.Lists.{Among, all_from_among, among-filter, among-from_filter, among-from_map, among-map, among_from_all, among_numbers, is_among_numbers, none_among, none_from_among}
 use Rattle.vt_spec.proofs.Worlds.{found_or_none, stands_alike, tasks-taken_away}
-use Rattle.vt_laws_letting_go.specs.Mounting.{ended_mounts}
-use Rattle.vt_laws_letting_go.specs.Several.{KeepsMounts, ended_task}
-use Rattle.vt_laws_letting_go.proofs.Lists.{any-filter, filter_twice}
-use Rattle.vt_laws_letting_go.proofs.ends.EndsInTurn.{one_sweep_for_all_exits_with_overlays}
+use Rattle.vt_laws_mounts.specs.LettingGo.Mounting.{ended_mounts}
+use Rattle.vt_laws_mounts.specs.LettingGo.Several.{KeepsMounts, ended_task}
+use Rattle.vt_laws_mounts.proofs.letting_go.Lists.{any-filter, filter_twice}
+use Rattle.vt_laws_mounts.proofs.letting_go.ends.EndsInTurn.{one_sweep_for_all_exits_with_overlays}
 use Rattle.vt_laws_mounts.proofs.ends.Ending.{ended_namespaces_keep_mounts}
 use Rattle.vt_laws_mounts.proofs.ends.Unmounting.{kept_by_number}
 use Rattle.vt_laws_mounts.proofs.mounts.MountsFound.{number_found}
@@ -24,7 +24,7 @@ use Rattle.vt_laws_mounts.proofs.mounts.MountsReplaced.{found_itself}
 use Rattle.vt_propagate.specs.EndsInTurn.{with_namespaces}
 use Rattle.vt_propagate.specs.ExitsAtOnce.{ExitsAreAtOnce, without_tasks}
 use Rattle.vt_propagate.proofs.laws.EndsInTurn.{taken_in_any_order}
-use Rattle.vt_laws_letting_go.proofs.SweptBetween.{settled_without_groups}
+use Rattle.vt_laws_mounts.proofs.letting_go.SweptBetween.{settled_without_groups}
 use Rattle.vt_propagate.proofs.TakenTwice.{taken_twice}
 
 -- the world with these tasks and namespaces

@@ -12,7 +12,7 @@ use Rattle.vt_mount.specs.MountsValue.{are_ascending}
 use Rattle.vt_propagate.specs.Pushing.{MovesOnce, pushed_at, pushes_from, stander}
 use Rattle.vt_propagate.proofs.Found.{numbered, numbered_among}
 use Rattle.vt_spec.proofs.Options.{none_is_some}
-use Rattle.vt_laws_letting_go.proofs.Lists.{found_in}
+use Rattle.vt_laws_mounts.proofs.letting_go.Lists.{found_in}
 use Rattle.vt_laws_mounts.specs.Mounts.Attaching.{OneNumberAMount}
 
 module _ (mounts : List (Mount ℕ)) (up : are_ascending mounts ≡ true) (left : Option ℕ) (place : Location ℕ) where

@@ -14,7 +14,7 @@ use Rattle.vt_mount.specs.MountsValue.{are_ascending}
 use Rattle.vt_propagate.specs.Through.{is_free_by_number, is_free_then, over_from, rests_on_root}
 use Rattle.vt_propagate.proofs.Found.{counts, numbered, numbered_among}
 use Rattle.vt_propagate.proofs.Leaving.{numbered-number}
-use Rattle.vt_laws_letting_go.proofs.Lists.{found_in}
+use Rattle.vt_laws_mounts.proofs.letting_go.Lists.{found_in}
 use Rattle.vt_laws_mounts.specs.Mounts.Attaching.{numbers_of}
 
 module _ (mounts : List (Mount ℕ)) (gone : List ℕ) where

@@ -1,6 +1,6 @@
 use Rattle.std.proofs.Common.{Some, ap, arith, find, map, nat_eq, option_map, rules, sym, ◌∙◌, ℕ}
 use Rattle.std.specs.Prelude.{filter_map}
-use Rattle.vt_laws_letting_go.proofs.Lists.{among-from_filter}
+use Rattle.vt_laws_mounts.proofs.letting_go.Lists.{among-from_filter}
 use Rattle.vt_location.specs.MountValue.{mount_of}
 use Rattle.vt_location.specs.Numbers.{counted}
 use Rattle.vt_mount.specs.MountsValue.{mounts_in}

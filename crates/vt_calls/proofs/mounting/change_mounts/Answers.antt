@@ -1,5 +1,5 @@
 use Rattle.std.proofs.Common.{◌≡◌, ◌||◌, ap, not, refl, true}
-use Rattle.vt_laws_permits.specs.Steps.{makes_shared}
+use Rattle.vt_laws_worlds.specs.Permits.Steps.{makes_shared}
 use Rattle.vt_permits.specs.GrantValue.{mount_permit}
 use Rattle.vt_permits.specs.declared.grant.Grant.TheVariants.{Mount}
 use Rattle.vt_permits.specs.declared.grant.MountGrant.TheVariants as granted

@@ -1,5 +1,5 @@
 use Rattle.std.proofs.Common.{◌≡◌, ◌∷◌, [], drop}
-use Rattle.vt_laws_layers.specs.Layers.Directories.{shown_in}
+use Rattle.vt_laws_trees.specs.Layers.Layers.Directories.{shown_in}
 use Rattle.vt_merge.specs.LayerValue.{placed_views}
 use Rattle.vt_merge.proofs.merging.first_of.Given as goal
 

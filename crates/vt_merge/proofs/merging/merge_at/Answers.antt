@@ -1,8 +1,8 @@
 use Rattle.std.proofs.Common.{◌∙◌, ◌∷◌, ◌≤◌, [], All, ap, map, subst, sym, take}
 use Rattle.std.proofs.lemmas.List.{append-nil, take_all}
 use Rattle.vt_spec.specs.Machine.Layers.{shown, view_of}
-use Rattle.vt_laws_layers.specs.Layers.Directories.{shown_in}
-use Rattle.vt_laws_layers.proofs.directories.Under.{placed_show_the_same}
+use Rattle.vt_laws_trees.specs.Layers.Layers.Directories.{shown_in}
+use Rattle.vt_laws_trees.proofs.layers.directories.Under.{placed_show_the_same}
 use Rattle.vt_merge.specs.EntryValue.{IsMergedAt}
 use Rattle.vt_merge.specs.LayerValue.{layers_of}
 use Rattle.vt_merge.proofs.NamesTaken.{take_named}

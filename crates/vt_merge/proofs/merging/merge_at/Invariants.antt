@@ -1,6 +1,6 @@
 use Rattle.std.proofs.Common.{◌≡◌, ◌≢◌, ◌++◌, [], All, List, take, ℕ}
 use Rattle.vt_spec.specs.Machine.Layers.{shown}
-use Rattle.vt_laws_layers.specs.Layers.Directories.{shown_in}
+use Rattle.vt_laws_trees.specs.Layers.Layers.Directories.{shown_in}
 use Rattle.vt_merge.specs.EntryValue.{IsMergedAt}
 use Rattle.vt_merge.specs.LayerValue.{layers_of, placed_views}
 use Rattle.vt_merge.proofs.merging.merge_at.Given as goal

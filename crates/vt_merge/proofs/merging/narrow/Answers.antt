@@ -1,5 +1,5 @@
 use Rattle.std.proofs.Common.{◌≡◌, ◌∙◌, ◌++◌, ◌∷◌, [], All, ap, length, subst, sym, take}
-use Rattle.vt_laws_layers.specs.Layers.Directories.{directories_under, shown_in}
+use Rattle.vt_laws_trees.specs.Layers.Layers.Directories.{directories_under, shown_in}
 use Rattle.vt_merge.specs.EntryValue.{IsMergedAt}
 use Rattle.vt_merge.specs.LayerValue.{placed_layers, placed_views}
 use Rattle.vt_merge.proofs.Narrowed.{refilled}

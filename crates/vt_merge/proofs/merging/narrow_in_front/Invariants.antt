@@ -1,5 +1,5 @@
 use Rattle.std.proofs.Common.{◌≡◌, ◌≤◌, ◌++◌, ◌∷◌, [], ℕ, All, List, drop, take}
-use Rattle.vt_laws_layers.specs.Layers.Directories.{directories_under}
+use Rattle.vt_laws_trees.specs.Layers.Layers.Directories.{directories_under}
 use Rattle.vt_merge.specs.EntryValue.{IsMergedAt}
 use Rattle.vt_merge.specs.LayerValue.{placed_layers}
 use Rattle.vt_merge.specs.declared.layers.LayerRef.{LayerRef}

@@ -2,7 +2,7 @@ use Rattle.std.proofs.Common.{◌≡◌, ◌≤◌, ◌++◌, [], All, drop, map
 use Rattle.arrayvec.specs.ArrayVec.{array_vec_len}
 use Rattle.vt_spec.specs.Machine.Layers.{view_of}
 use Rattle.vt_fs.specs.FilesystemsValue.{Filesystems}
-use Rattle.vt_laws_layers.specs.Layers.Directories.{placed, placed_from}
+use Rattle.vt_laws_trees.specs.Layers.Layers.Directories.{placed, placed_from}
 use Rattle.vt_merge.specs.EntryValue.{IsMergedAt}
 use Rattle.vt_merge.specs.LayerValue.{layers_of, placed_views}
 use Rattle.vt_merge.proofs.merging.push_directories.Given as goal

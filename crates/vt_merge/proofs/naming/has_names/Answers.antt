@@ -2,7 +2,7 @@ use Rattle.std.proofs.Common.{◌∙◌, ap, sym}
 use Rattle.std.proofs.lemmas.List.{take_all}
 use Rattle.std.proofs.lemmas.List.Folds.{list_any_at}
 use Rattle.std.specs.List.{list_any}
-use Rattle.vt_laws_layers.specs.Layers.Directories.{shown_in}
+use Rattle.vt_laws_trees.specs.Layers.Layers.Directories.{shown_in}
 use Rattle.vt_merge.specs.LayerValue.{layers_of, placed_views}
 use Rattle.vt_merge.proofs.NamesThere.{has_names_if, has_none_if, shows_own}
 use Rattle.vt_merge.proofs.naming.has_names.Goals as goal

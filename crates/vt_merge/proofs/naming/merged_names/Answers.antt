@@ -1,7 +1,7 @@
 use Rattle.std.proofs.Common.{rules, Global, Vec, ◌∙◌, ◌∷◌, [], ap, is_some, ℕ}
 use Rattle.std.proofs.lemmas.Fn.{filter_same}
 use Rattle.std.proofs.lemmas.List.Filters.{dedup_is}
-use Rattle.vt_laws_layers.specs.Layers.Directories.{shown_in}
+use Rattle.vt_laws_trees.specs.Layers.Layers.Directories.{shown_in}
 use Rattle.vt_merge.specs.LayerValue.{layers_of, placed_views}
 use Rattle.vt_merge.proofs.NamesSorted.{names_are}
 use Rattle.vt_merge.proofs.naming.merged_names.Goals as goal

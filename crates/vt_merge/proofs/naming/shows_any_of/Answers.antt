@@ -1,7 +1,7 @@
 use Rattle.std.proofs.Common.{Bool, Global, List, Vec, ◌∙◌, ◌∷◌, [], is_some, sym, ℕ}
 use Rattle.std.proofs.lemmas.List.Sorted.{list_any-IsPermutation}
-use Rattle.vt_laws_layers.specs.Layers.Directories.{shown_in}
-use Rattle.vt_laws_layers.proofs.layers.ShownFronts.{list_any_of_map}
+use Rattle.vt_laws_trees.specs.Layers.Layers.Directories.{shown_in}
+use Rattle.vt_laws_trees.proofs.layers.layers.ShownFronts.{list_any_of_map}
 use Rattle.vt_merge.specs.LayerValue.{placed_views}
 use Rattle.vt_merge.proofs.naming.shows_any_of.Goals as goal
 

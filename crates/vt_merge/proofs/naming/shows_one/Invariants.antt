@@ -1,6 +1,6 @@
 use Rattle.std.proofs.Common.{◌≡◌, ◌∷◌, [], false, is_some, take}
 use Rattle.std.specs.List.{list_any}
-use Rattle.vt_laws_layers.specs.Layers.Directories.{shown_in}
+use Rattle.vt_laws_trees.specs.Layers.Layers.Directories.{shown_in}
 use Rattle.vt_merge.specs.LayerValue.{placed_views}
 use Rattle.vt_merge.proofs.naming.shows_one.Given as goal
 

@@ -1,15 +1,15 @@
 -- Descriptors are closed one after the other, with a sweep after each, and then the task ends.
 use Rattle.std.proofs.Common.{◌≡◌, refl, sym, ap, subst, ◌∙◌, inl, inr, ℕ, nat_eq, Bool, true, false, cond, not, List, [], ◌∷◌, Option, Some, None, filter, flat_map, map}
-use Rattle.vt_laws_letting_go.proofs.ends.EndsInTurn.{one_sweep_for_exits_with_overlays}
-use Rattle.vt_laws_letting_go.proofs.leaving.LeftOneByOne.{one_sweep_with_overlays}
-use Rattle.vt_laws_letting_go.proofs.leaving.PlacesLeft.{comes_nowhere_itself, location_among}
-use Rattle.vt_laws_letting_go.proofs.Lists.{Among, all_pass, among-flat_map, among-from_filter, among-from_flat_map, among-from_map, among-map}
-use Rattle.vt_laws_letting_go.proofs.mounting.MountsSwept.{mounts_stand}
-use Rattle.vt_laws_letting_go.proofs.sweeps.OfWorlds.{worlds_are_settled}
-use Rattle.vt_laws_letting_go.specs.InUse.{HasTrees, UppersArePlain}
-use Rattle.vt_laws_letting_go.specs.Leaving.{comes_nowhere, is_location_among, with_sweeps}
-use Rattle.vt_laws_letting_go.specs.LeavingOverlays.{IsSettled}
-use Rattle.vt_laws_letting_go.specs.Overlays.{RealsAreThere}
+use Rattle.vt_laws_mounts.proofs.letting_go.ends.EndsInTurn.{one_sweep_for_exits_with_overlays}
+use Rattle.vt_laws_mounts.proofs.letting_go.leaving.LeftOneByOne.{one_sweep_with_overlays}
+use Rattle.vt_laws_mounts.proofs.letting_go.leaving.PlacesLeft.{comes_nowhere_itself, location_among}
+use Rattle.vt_laws_mounts.proofs.letting_go.Lists.{Among, all_pass, among-flat_map, among-from_filter, among-from_flat_map, among-from_map, among-map}
+use Rattle.vt_laws_mounts.proofs.letting_go.mounting.MountsSwept.{mounts_stand}
+use Rattle.vt_laws_mounts.proofs.letting_go.sweeps.OfWorlds.{worlds_are_settled}
+use Rattle.vt_laws_mounts.specs.LettingGo.InUse.{HasTrees, UppersArePlain}
+use Rattle.vt_laws_mounts.specs.LettingGo.Leaving.{comes_nowhere, is_location_among, with_sweeps}
+use Rattle.vt_laws_mounts.specs.LettingGo.LeavingOverlays.{IsSettled}
+use Rattle.vt_laws_mounts.specs.LettingGo.Overlays.{RealsAreThere}
 use Rattle.vt_spec.proofs.Worlds.{same_name_itself}
 use Rattle.vt_spec.specs.Language.Calls.{TaskName, same_name}
 use Rattle.vt_spec.specs.Lists.{Fresh}

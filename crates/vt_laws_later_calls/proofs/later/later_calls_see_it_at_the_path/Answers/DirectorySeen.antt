@@ -22,8 +22,8 @@ use Rattle.vt_spec.specs.Machine.Walking.{Place, directory_walk, is_directory_th
 use Rattle.vt_spec.specs.Machine.World.{Task, World, files_at, is_directory_at, mount_at, node_at, task_called}
 use Rattle.vt_spec.specs.Rights.{Credentials, execute_right, read_right}
 use Rattle.vt_spec.specs.Tree.{Node, entries_in, entry_named, is_directory_node, names_in}
-use Rattle.vt_laws_layers.specs.Layers.Untouched.{IsKept}
-use Rattle.vt_laws_permits.specs.Sees.{MayBeRenamed}
+use Rattle.vt_laws_trees.specs.Layers.Layers.Untouched.{IsKept}
+use Rattle.vt_laws_worlds.specs.Permits.Sees.{MayBeRenamed}
 use Rattle.vt_laws_worlds.specs.Worlds.Kept.{IsPlain}
 use Rattle.vt_laws_worlds.proofs.worlds.Reached.{directory_no_link}
 use Rattle.vt_laws_later_calls.specs.LaterNames.{IsAnsweredUnlessBy, RenameDirectoryThenList, RenameDirectoryThenLstat, StandsOutside}

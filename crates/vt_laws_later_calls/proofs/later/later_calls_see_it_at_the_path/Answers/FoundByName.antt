@@ -28,9 +28,9 @@ use Rattle.vt_spec.specs.PathText.{ends_in_slash}
 use Rattle.vt_spec.specs.Rights.{is_directory, read_right}
 use Rattle.vt_spec.specs.Tree.{Node, entries_in, entry_named, is_directory_node, names_in}
 use Rattle.vt_spec.specs.TreeInvariant.{entry_at}
-use Rattle.vt_laws_permits.specs.Sees.{MayBeRenamed}
-use Rattle.vt_laws_permits.proofs.sees.SeesNames.{tree_here}
-use Rattle.vt_laws_layers.specs.Layers.Untouched.{IsKept}
+use Rattle.vt_laws_worlds.specs.Permits.Sees.{MayBeRenamed}
+use Rattle.vt_laws_worlds.proofs.permits.sees.SeesNames.{tree_here}
+use Rattle.vt_laws_trees.specs.Layers.Layers.Untouched.{IsKept}
 use Rattle.vt_laws_worlds.specs.Worlds.Kept.{IsPlain}
 use Rattle.vt_laws_worlds.proofs.worlds.Reached.{IsFound, directory_no_link}
 use Rattle.vt_laws_later_calls.specs.LaterNames.{LeadsToName, RenameThenFound, RenameThenListed}

@@ -30,11 +30,11 @@ use Rattle.vt_spec.specs.Rights.{execute_right}
 use Rattle.vt_spec.specs.Tree.{entries_in, entry_named, is_directory_node}
 use Rattle.vt_spec.specs.TreeInvariant.{entry_at}
 use Rattle.vt_spec.proofs.Nodes.{directory_used}
-use Rattle.vt_laws_calls.specs.Inodes.{change_of}
-use Rattle.vt_laws_letting_go.specs.FileChanges.{IsMoved}
-use Rattle.vt_laws_permits.specs.Sees.{MayBeRenamed, SeesTo}
-use Rattle.vt_laws_permits.proofs.sees.SeesNames.{tree_here}
-use Rattle.vt_laws_permits.proofs.sees.SeesTasks.{given_permits_are_seen_to}
+use Rattle.vt_laws_trees.specs.Calls.Inodes.{change_of}
+use Rattle.vt_laws_mounts.specs.LettingGo.FileChanges.{IsMoved}
+use Rattle.vt_laws_worlds.specs.Permits.Sees.{MayBeRenamed, SeesTo}
+use Rattle.vt_laws_worlds.proofs.permits.sees.SeesNames.{tree_here}
+use Rattle.vt_laws_worlds.proofs.permits.sees.SeesTasks.{given_permits_are_seen_to}
 use Rattle.vt_laws_trees.specs.Trees.{IsFileTree}
 use Rattle.vt_laws_worlds.specs.Worlds.Kept.{IsPlain}
 use Rattle.vt_laws_worlds.proofs.Plain.{plain_numbered}

@@ -34,7 +34,7 @@ use Rattle.vt_spec.specs.PathText.{ends_in_slash, is_absolute, words}
 use Rattle.vt_spec.specs.Rights.{allows, read_right}
 use Rattle.vt_spec.specs.Tree.{Content, Node, is_directory_node, kind_of, node_with_bytes}
 use Rattle.vt_spec.specs.Tree.Content.{Directory, Regular, Symlink, Whiteout}
-use Rattle.vt_laws_calls.specs.Inodes.{change_of}
+use Rattle.vt_laws_trees.specs.Calls.Inodes.{change_of}
 use Rattle.vt_laws_trees.specs.Trees.{IsFileTree}
 use Rattle.vt_laws_trees.proofs.trees.ChangesNodes.{changed_node_there as there}
 use Rattle.vt_laws_trees.proofs.trees.TreesWalked.{Ends}

@@ -1,5 +1,5 @@
 use Rattle.std.proofs.Common.{ap, map, option_map, subst, sym, ◌≡◌, ◌∙◌}
-use Rattle.vt_laws_letting_go.proofs.Lists.{passes}
+use Rattle.vt_laws_mounts.proofs.letting_go.Lists.{passes}
 use Rattle.vt_spec.specs.Language.Calls.{opens_for_writing}
 use Rattle.vt_spec.specs.Machine.Permits.Permit.{ToClose}
 use Rattle.vt_request.specs.Requests.{access_of}

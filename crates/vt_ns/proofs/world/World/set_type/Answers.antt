@@ -1,7 +1,7 @@
 use Rattle.std.proofs.Common.{[], ◌∷◌, ap, map, nat_eq, subst, sym, ◌≡◌, ◌∙◌}
 use Rattle.vt_location.specs.declared.numbers.MountId.{MountId}
 use Rattle.vt_location.specs.Numbers.{counted}
-use Rattle.vt_laws_letting_go.proofs.leaving.PlacesLeft.{number_found}
+use Rattle.vt_laws_mounts.proofs.letting_go.leaving.PlacesLeft.{number_found}
 use Rattle.vt_mount.specs.MountsValue.{mounts_in}
 use Rattle.vt_request.specs.Requests.{type_word_of}
 use Rattle.vt_spec.specs.Machine.Permits.Permit.{ToSetType}

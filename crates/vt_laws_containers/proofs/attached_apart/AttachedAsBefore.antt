@@ -1,0 +1,83 @@
+-- Where copies come at a mount of a sealed set and at its receivers, others are as they were.
+use Rattle.std.proofs.Common.{◌≡◌, refl, sym, ap, subst, ◌∙◌, inr, ⊎_elim, ℕ, nat_eq, true, false, List, ◌++◌, append_assoc, Option, Some, flat_map, map}
+use Rattle.std.specs.List.{list_any}
+use Rattle.vt_spec.specs.Language.Calls.{TaskName}
+use Rattle.vt_spec.specs.Lists.{Fresh, folded, is_among, rest_of}
+use Rattle.vt_spec.specs.Machine.Attach.{Copies, attached_by, masters_with}
+use Rattle.vt_spec.specs.Machine.Invariants.{IsWorld}
+use Rattle.vt_spec.specs.Machine.Mounts.{Location, Mount, source_of}
+use Rattle.vt_spec.specs.Machine.Run.{Serves}
+use Rattle.vt_spec.specs.Machine.Sealed.{is_own_mount, members, sealed, used_filesystems}
+use Rattle.vt_spec.specs.Machine.World.{Filesystem, World, mount_at}
+use Rattle.vt_spec.proofs.Lists.{Among, among-filter}
+use Rattle.vt_laws_trees.specs.Layers.Layers.ChangesUpper.{IsNewBy}
+use Rattle.vt_laws_sealed.proofs.part.part.PartOfPart.{is_own}
+use Rattle.vt_laws_members.proofs.attached.CopiesAlike.{base, copies, made, parts, push}
+use Rattle.vt_laws_members.proofs.attached.GrownPart.{Grows, grown_world, own_how}
+use Rattle.vt_laws_members.proofs.attached.PushedUp.{ShowTheirs, all_copies, copies_grow, of_copies, push_keeps}
+use Rattle.vt_laws_containers.proofs.footholds.AsBefore.{OthersAsBefore}
+use Rattle.vt_laws_containers.proofs.attached_apart.CopiesHear.{copy_ours, made_ours}
+use Rattle.vt_laws_containers.proofs.attached_apart.GroupsApart.{Ours, groups_apart, source_ours}
+use Rattle.vt_laws_containers.proofs.attached_apart.GrownAsBefore.{grown_as_before}
+
+module _ (world : World ℕ) (names : List TaskName) (is : IsWorld nat_eq world)
+    (sealed_off : sealed nat_eq world names ≡ true) (fresh : Fresh ℕ) (serves : Serves nat_eq world fresh)
+    (new_ones : List (Filesystem ℕ))
+    (unused : (n : ℕ) → is_among nat_eq n (used_filesystems nat_eq world names) ≡ true
+    → list_any (λ (f : Filesystem ℕ). nat_eq n f.number) new_ones ≡ false)
+    (place : Location ℕ) (there : Among (mount_at nat_eq world place) world.mounts)
+    (own : is_own world names (members world names) (mount_at nat_eq world place) ≡ true)
+    (new : Copies ℕ) (origins : List (Mount ℕ)) (new_groups : (a b : ℕ) → IsNewBy fresh (new.image a b))
+    (sources : (o : Mount ℕ) → Among o origins → (g : ℕ) → source_of o.propagation ≡ Some g
+    → Ours world names is sealed_off fresh serves g)
+    (shows : ShowTheirs world names is sealed_off new_ones unused place there own new false origins) where
+  abbrev IsOurs : ℕ → Type 0
+  IsOurs = Ours world names is sealed_off fresh serves
+
+  abbrev to : World ℕ
+  to = base world names is sealed_off new_ones unused place there own
+
+  abbrev up : Mount ℕ → Mount ℕ
+  up = push world names is sealed_off new_ones unused place there own new false origins
+
+  abbrev added : List (Mount ℕ)
+  added = all_copies world names is sealed_off new_ones unused place there own new false origins
+
+  abbrev formed : List (ℕ × Option ℕ)
+  formed = made world names is sealed_off new_ones unused place there own new false origins
+
+  abbrev masters : ℕ → Option ℕ
+  masters = folded (masters_with nat_eq) world.master formed
+
+  grows : Grows world names up added new_ones masters
+  grows = copies_grow world names is sealed_off new_ones unused place there own new false origins shows masters
+
+  sourced : (y : Mount ℕ) → Among y (map up world.mounts ++ added) → is_own_mount nat_eq world names y ≡ true
+      → (g : ℕ) → source_of y.propagation ≡ Some g → IsOurs g
+  sourced y m mine g e =
+      ⊎_elim
+      (λ old. source_ours world names is sealed_off fresh serves old.0
+      (among-filter (is_own_mount nat_eq world names) world.mounts old.0 old.1 old.2) g
+      (sym (ap (λ (x : Mount ℕ). source_of x.propagation) old.3
+      ∙ push_keeps world names is sealed_off new_ones unused place there own new false origins
+      (λ (x : Mount ℕ). source_of x.propagation) (λ x at. refl) old.0) ∙ e))
+      (λ more. let of = of_copies world names is sealed_off new_ones unused place there own new false origins y more in
+      copy_ours to new place false origins IsOurs (λ a b. inr (new_groups a b)) sources of.0 of.2 of.3 g
+      (ap (λ (x : Mount ℕ). source_of x.propagation) (sym of.4) ∙ e))
+      (own_how world names up added new_ones masters grows y m mine)
+
+  as_grown : attached_by nat_eq to new place false origins ≡ grown_world world names up added new_ones masters
+  as_grown =
+      ap (λ l. record world { mounts = l; master = masters; filesystems = world.filesystems ++ new_ones })
+      (append_assoc (map up world.mounts)
+      (copies world names is sealed_off new_ones unused place there own new false origins
+      (mount_at nat_eq world place))
+      (flat_map (copies world names is sealed_off new_ones unused place there own new false origins)
+      (rest_of (parts world names is sealed_off new_ones unused place there own))))
+
+  pub copies_as_before : OthersAsBefore world (attached_by nat_eq to new place false origins) names names
+  copies_as_before =
+      subst (λ w. OthersAsBefore world w names names) (sym as_grown)
+      (grown_as_before world names is sealed_off up added new_ones masters grows
+      (groups_apart world names is sealed_off fresh serves up added new_ones formed grows sourced
+      (made_ours to new place false origins IsOurs (λ a b. inr (new_groups a b)) sources)))

@@ -1,0 +1,109 @@
+-- No mount(2) with MS_BIND by a task of a sealed set gives others a foothold.
+use Rattle.std.proofs.Common.{◌≡◌, refl, sym, ap, subst, ◌∙◌, inl, ℕ, nat_eq, Bool, true, false, List, [], Option, Some, None, Ok, Err}
+use Rattle.std.specs.Prelude.{IfOk, is_ok}
+use Rattle.vt_spec.specs.Language.Calls.{TaskName}
+use Rattle.vt_spec.specs.Language.Calls.Call.{Bind}
+use Rattle.vt_spec.specs.Lists.{Fresh}
+use Rattle.vt_spec.specs.Machine.Attach.{Copies, attach, bind_tree, bound_at, copies_from}
+use Rattle.vt_spec.specs.Machine.Invariants.{IsWorld}
+use Rattle.vt_spec.specs.Machine.Judge.{Judgement, judge_in}
+use Rattle.vt_spec.specs.Machine.Mounts.{Location, Mount, source_of}
+use Rattle.vt_spec.specs.Machine.Permits.Permit.{ToBind}
+use Rattle.vt_spec.specs.Machine.Run.{Serves}
+use Rattle.vt_spec.specs.Machine.Sealed.{is_own_mount, members, sealed, used_directly}
+use Rattle.vt_spec.specs.Machine.World.{Task, World, mount_at, task_called}
+use Rattle.vt_spec.proofs.Lists.{Among, among-filter}
+use Rattle.vt_laws_sealed.proofs.part.part.PartOfPart.{is_own}
+use Rattle.vt_laws_members.specs.Judging.{is_theirs}
+use Rattle.vt_laws_members.proofs.judging.Grounds.{numbered, theirs_from}
+use Rattle.vt_laws_members.proofs.judging.MountTrees.{own_theirs}
+use Rattle.vt_laws_members.proofs.judging.SeenInPart.{theirs_directly}
+use Rattle.vt_laws_members.proofs.changes.looks.Told.{member_called, ran}
+use Rattle.vt_laws_members.proofs.changes.tasks.Denied.{run_by}
+use Rattle.vt_laws_members.proofs.attached.Binding.{Binds, all_copied, binds_there}
+use Rattle.vt_laws_members.proofs.attached.CopiesAlike.{no_new_ones, parts}
+use Rattle.vt_laws_members.proofs.attached.Destination.{there}
+use Rattle.vt_laws_members.proofs.attached.MovedGrows.{none_new}
+use Rattle.vt_laws_members.proofs.attached.PushedUp.{ShowTheirs}
+use Rattle.vt_laws_containers.specs.Footholds.{GivesNoFoothold}
+use Rattle.vt_laws_containers.proofs.footholds.AsBefore.{OthersAsBefore}
+use Rattle.vt_laws_containers.proofs.footholds.Granting.{refused_out}
+use Rattle.vt_laws_containers.proofs.footholds.TasksPermits.{permit_out}
+use Rattle.vt_laws_containers.specs.AttachedApart.AttachFootholds.{BindsGiveNoFoothold}
+use Rattle.vt_laws_containers.proofs.attached_apart.AttachedAsBefore.{copies_as_before}
+use Rattle.vt_laws_containers.proofs.attached_apart.GroupsApart.{Ours, source_ours}
+
+module _ (world : World ℕ) (names : List TaskName) (is : IsWorld nat_eq world)
+    (sealed_off : sealed nat_eq world names ≡ true) (fresh : Fresh ℕ) (serves : Serves nat_eq world fresh)
+    (from here : Location ℕ) (recursive : Bool) (from_on : is_theirs world names from.mount ≡ true)
+    (from_own : is_own world names (members world names) (mount_at nat_eq world from) ≡ true)
+    (on : is_theirs world names here.mount ≡ true)
+    (own : is_own world names (members world names) (mount_at nat_eq world here) ≡ true) where
+  here_there : Among (mount_at nat_eq world here) world.mounts
+  here_there = there world names is sealed_off here (theirs_from world names is.mounts here.mount on) own
+
+  from_there : Among (mount_at nat_eq world from) world.mounts
+  from_there = there world names is sealed_off from (theirs_from world names is.mounts from.mount from_on) from_own
+
+  abbrev origins : List (Mount ℕ)
+  origins = bind_tree nat_eq world from recursive
+
+  abbrev new : Copies ℕ
+  new =
+      copies_from nat_eq fresh (parts world names is sealed_off [] (none_new world names) here here_there own)
+      origins
+
+  shows : ShowTheirs world names is sealed_off [] (none_new world names) here here_there own new false origins
+  shows = record {
+    shown = λ o m. let x = all_copied world names is from recursive (from_there, from_own) o m in
+        inl (subst (λ n. Among n (used_directly nat_eq world names))
+        (ap (λ (k : Mount ℕ). k.filesystem) (numbered world names is.mounts x.0 x.1.0) ∙ sym x.2)
+        (theirs_directly world names is (record { mount = x.0.number; node = x.0.root })
+        (own_theirs world names is x.0 x.1.0 x.1.1)));
+    unlisted = λ f m. refl;
+    layers = λ f m. absurd m;
+    mounted = λ f m. absurd m;
+  }
+
+  -- what is copied is in groups of theirs
+  sources : (o : Mount ℕ) → Among o origins → (g : ℕ) → source_of o.propagation ≡ Some g
+      → Ours world names is sealed_off fresh serves g
+  sources o m g e =
+      let x = all_copied world names is from recursive (from_there, from_own) o m in
+      source_ours world names is sealed_off fresh serves x.0
+      (among-filter (is_own_mount nat_eq world names) world.mounts x.0 x.1.0 x.1.1) g (ap source_of (sym x.3) ∙ e)
+
+  pub bound_as_before : OthersAsBefore world (bound_at nat_eq fresh world from here recursive) names names
+  bound_as_before =
+      subst (λ w. OthersAsBefore world w names names)
+      (sym (ap (λ w. attach nat_eq w fresh here false origins) (no_new_ones world)))
+      (copies_as_before world names is sealed_off fresh serves [] (none_new world names) here here_there own new
+      origins (λ a b. (_, refl)) sources shows)
+
+pub binds_give_no_foothold : BindsGiveNoFoothold
+binds_give_no_foothold world names name source path recursive it fresh serves = by (task_called world name) refl
+  where
+    judged_by : (task : Task ℕ) (member : Among task (members world names)) → task_called world name ≡ Some task
+        → (j : Judgement ℕ) → judge_in nat_eq fresh world task (Bind source path recursive) ≡ j
+        → IfOk j (Binds world names it.is it.sealed_off task member recursive)
+        → GivesNoFoothold world names name (Bind source path recursive) fresh
+    judged_by task member e (Ok permit) judged its =
+        permit_out world names name (Bind source path recursive) it refl fresh serves task e
+        (ToBind its.0 its.1 recursive) (judged ∙ ap Ok its.2)
+        (λ ends. bound_as_before world names it.is it.sealed_off fresh serves its.0 its.1 recursive its.3 its.4 its.5
+        its.6)
+    judged_by task member e (Err deny) judged its =
+        refused_out world names name (Bind source path recursive) it fresh
+        (ap (λ o. is_ok (ran name (Bind source path recursive) world fresh o).answer) e
+        ∙ ap (λ j. is_ok
+        (run_by world names name (Bind source path recursive) it fresh fresh world fresh task j).answer) judged)
+
+    by : (o : Option (Task ℕ)) → task_called world name ≡ o
+        → GivesNoFoothold world names name (Bind source path recursive) fresh
+    by None e =
+        refused_out world names name (Bind source path recursive) it fresh
+        (ap (λ o. is_ok (ran name (Bind source path recursive) world fresh o).answer) e)
+    by (Some task) e =
+        let member = member_called world names it.is it.sealed_off name it.theirs task e in
+        judged_by task member e (judge_in nat_eq fresh world task (Bind source path recursive)) refl
+        (binds_there world names it.is it.sealed_off task member recursive fresh source path)

@@ -1,0 +1,217 @@
+-- Where mounts of a sealed set come, in groups that the set hears or in new ones, mounts share no events with others.
+use Rattle.std.proofs.Common.{◌≡◌, refl, sym, ap, ◌∙◌, ◌⊎◌, inl, inr, ⊎_elim, ℕ, nat_eq, Bool, true, false, cond, true≢false, List, [], ◌∷◌, ◌++◌, Option, Some, None, map, not, eqb-true}
+use Rattle.std.specs.List.{list_all}
+use Rattle.std.proofs.lemmas.Bool.{false_from_ne_true, or_cases}
+use Rattle.std.proofs.lemmas.Option.{same_Some}
+use Rattle.vt_spec.specs.Language.Calls.{TaskName}
+use Rattle.vt_spec.specs.Lists.{Fresh, folded, holds_of}
+use Rattle.vt_spec.specs.Machine.Attach.{masters_with}
+use Rattle.vt_spec.specs.Machine.Invariants.{HasLivingGroups, IsWorld}
+use Rattle.vt_spec.specs.Machine.Mounts.{Mount, Propagation, group_of, source_of}
+use Rattle.vt_spec.specs.Machine.Mounts.Propagation.{Private, Shared, Slave, Unbindable}
+use Rattle.vt_spec.specs.Machine.Receives.{is_member_of}
+use Rattle.vt_spec.specs.Machine.Run.{Serves}
+use Rattle.vt_spec.specs.Machine.Sealed.{is_own_mount, is_own_namespace, master_of, other_mounts, own_mounts, receives_events_of, sealed, share_events, shares_no_events}
+use Rattle.vt_spec.specs.Machine.World.{Filesystem, World}
+use Rattle.vt_spec.proofs.Lists.{Among, among-from_filter, among_from_all, any_among, list_all_from_among}
+use Rattle.vt_spec.proofs.Options.{none_is_some}
+use Rattle.vt_laws_trees.specs.Layers.Layers.ChangesUpper.{IsNewBy}
+use Rattle.vt_laws_sealed.proofs.part.groups.EventsApart.{above_lives, members_of}
+use Rattle.vt_laws_sealed.proofs.part.groups.ReceiversAlike.{Living, member_group}
+use Rattle.vt_laws_sealed.proofs.part.seals.ByPart.{apart_if_sealed}
+use Rattle.vt_laws_sealed.proofs.outsiders.OtherMounts.{member_of_heard, not_heard, other_hears_foreign, standing_apart_with}
+use Rattle.vt_laws_sealed.proofs.outsiders.StandingApart.{StandsApart}
+use Rattle.vt_laws_members.proofs.attached.GrownPart.{Grows, grown_world}
+use Rattle.vt_laws_containers.proofs.attached_apart.CopiesHear.{AreOf}
+use Rattle.vt_laws_containers.proofs.attached_apart.GrownAsBefore.{others_stay}
+
+-- a master is the old one, or one that was set
+masters_how : (group : ℕ) (made : List (ℕ × Option ℕ)) (master : ℕ → Option ℕ)
+    → (folded (masters_with nat_eq) master made group ≡ master group)
+    ⊎ ((entry : ℕ × Option ℕ) × Among entry made × (group ≡ entry.0)
+    × (folded (masters_with nat_eq) master made group ≡ entry.1))
+masters_how group [] master = inl refl
+masters_how group (entry ∷ rest) master =
+    ⊎_elim (λ same. by (nat_eq group entry.0) refl same) (λ set. inr (set.0, inr set.1, set.2, set.3))
+    (masters_how group rest (masters_with nat_eq master entry))
+  where
+    by : (b : Bool) → nat_eq group entry.0 ≡ b
+        → folded (masters_with nat_eq) (masters_with nat_eq master entry) rest group
+        ≡ cond (nat_eq group entry.0) entry.1 (master group)
+        → (folded (masters_with nat_eq) master (entry ∷ rest) group ≡ master group)
+        ⊎ ((one : ℕ × Option ℕ) × Among one (entry ∷ rest) × (group ≡ one.0)
+        × (folded (masters_with nat_eq) master (entry ∷ rest) group ≡ one.1))
+    by true e same =
+        inr (entry, inl refl, eqb-true group entry.0 e, same ∙ ap (λ b. cond b entry.1 (master group)) e)
+    by false e same = inl (same ∙ ap (λ b. cond b entry.1 (master group)) e)
+
+-- the master of a mount in a group is that of the group
+master_in : (world : World ℕ) (kind : Propagation ℕ) (group : ℕ) → group_of kind ≡ Some group
+    → master_of world kind ≡ world.master group
+master_in world (Shared g) group e = ap world.master (same_Some g group e)
+master_in world (Slave g) group e = none_is_some group e
+master_in world Private group e = none_is_some group e
+master_in world Unbindable group e = none_is_some group e
+
+-- the group of which a mount is a member
+in_group : (o : Option ℕ) (mount : Mount ℕ) → holds_of (λ group. is_member_of nat_eq group mount) o ≡ true
+    → (group : ℕ) × (o ≡ Some group) × (group_of mount.propagation ≡ Some group)
+in_group None mount h = absurd (true≢false (sym h))
+in_group (Some group) mount h = (group, refl, member_group group mount h)
+
+module _ (world : World ℕ) (names : List TaskName) (is : IsWorld nat_eq world)
+    (sealed_off : sealed nat_eq world names ≡ true) (fresh : Fresh ℕ) (serves : Serves nat_eq world fresh) where
+  abbrev so_far : StandsApart world names (IsNewBy fresh)
+  so_far = standing_apart_with world names (apart_if_sealed world names is sealed_off) fresh serves
+
+  abbrev HearsIn : World ℕ → Propagation ℕ → ℕ → Type 0
+  HearsIn in_world kind group = (group_of kind ≡ Some group) ⊎ (master_of in_world kind ≡ Some group)
+
+  -- a group that a mount of theirs hears, or a new one
+  abbrev pub Ours : ℕ → Type 0
+  Ours group =
+      ((own : Mount ℕ) × Among own (own_mounts nat_eq world names) × HearsIn world own.propagation group)
+      ⊎ IsNewBy fresh group
+
+  pub source_ours : (own : Mount ℕ) → Among own (own_mounts nat_eq world names) → (group : ℕ)
+      → source_of own.propagation ≡ Some group → Ours group
+  source_ours own m group e = inl (own, m, by own.propagation e)
+    where
+      by : (kind : Propagation ℕ) → source_of kind ≡ Some group → HearsIn world kind group
+      by (Shared g) h = inl h
+      by (Slave g) h = inr h
+      by Private h = none_is_some group h
+      by Unbindable h = none_is_some group h
+
+  above_ours : (group above : ℕ) → Ours group → world.master group ≡ Some above → Ours above
+  above_ours group above its e =
+      ⊎_elim
+      (λ heard. let member = member_of_heard world names so_far heard.0 heard.1 group heard.2 in
+      inl (
+        member.0,
+        member.1,
+        inr (master_in world member.0.propagation group (member_group group member.0 member.2) ∙ e),
+      ))
+      (λ new. none_is_some above (sym (so_far.new_master group new) ∙ e)) its
+
+  -- a group that a mount hears has a member, so it is not new
+  not_new : (mount : Mount ℕ) → Among mount world.mounts → (group : ℕ) → HearsIn world mount.propagation group
+      → IsNewBy fresh group → ⊥
+  not_new mount there group how new =
+      let member = any_among (is_member_of nat_eq group) world.mounts
+      (members_of world names so_far.mounts so_far.events group (lives mount.propagation refl how)) in
+      so_far.new_group member.0 group member.1 (member_group group member.0 member.2) new
+    where
+      Lives : ℕ → Type 0
+      Lives = Living world names so_far.mounts so_far.events
+
+      of_source : (source : ℕ) → source_of mount.propagation ≡ Some source → Lives source
+      of_source source e =
+          among_from_all (HasLivingGroups nat_eq world) world.mounts so_far.mounts.groups mount there source e
+
+      lives : (kind : Propagation ℕ) → mount.propagation ≡ kind → HearsIn world kind group → Lives group
+      lives (Shared g) k h =
+          ⊎_elim (λ e. of_source group (ap source_of k ∙ e))
+          (λ e. above_lives world names so_far.mounts so_far.events group g e (of_source g (ap source_of k))) h
+      lives (Slave g) k h = ⊎_elim (λ e. none_is_some group e) (λ e. of_source group (ap source_of k ∙ e)) h
+      lives Private k h = ⊎_elim (λ e. none_is_some group e) (λ e. none_is_some group e) h
+      lives Unbindable k h = ⊎_elim (λ e. none_is_some group e) (λ e. none_is_some group e) h
+
+  -- no mount of others hears it
+  unheard : (other : Mount ℕ) → Among other (other_mounts nat_eq world names) → (group : ℕ) → Ours group
+      → HearsIn world other.propagation group → ⊥
+  unheard other m group its how =
+      ⊎_elim
+      (λ heard. not_heard world names so_far heard.0 heard.1 group
+      (other_hears_foreign world names so_far other m group how) heard.2)
+      (λ new. not_new other
+      (among-from_filter (λ (x : Mount ℕ). holds_of (λ n. not (is_own_namespace nat_eq world names n)) x.namespace)
+      world.mounts other m).0 group how new)
+      its
+
+  -- The world that is left
+  module _ (change : Mount ℕ → Mount ℕ) (added : List (Mount ℕ)) (new_ones : List (Filesystem ℕ))
+      (made : List (ℕ × Option ℕ))
+      (grows : Grows world names change added new_ones (folded (masters_with nat_eq) world.master made))
+      (sourced : (y : Mount ℕ) → Among y (map change world.mounts ++ added) → is_own_mount nat_eq world names y ≡ true
+      → (g : ℕ) → source_of y.propagation ≡ Some g → Ours g)
+      (made_ours : (entry : ℕ × Option ℕ) → Among entry made → AreOf Ours entry) where
+    abbrev left : World ℕ
+    left = grown_world world names change added new_ones (folded (masters_with nat_eq) world.master made)
+
+    -- what is theirs hears groups of theirs,
+    own_hears : (y : Mount ℕ) → Among y (own_mounts nat_eq left names) → (group : ℕ)
+        → HearsIn left y.propagation group → Ours group
+    own_hears y m group how = by y.propagation refl how
+      where
+        its_source : (g : ℕ) → source_of y.propagation ≡ Some g → Ours g
+        its_source =
+            let from = among-from_filter (is_own_mount nat_eq world names) left.mounts y m in
+            sourced y from.0 from.1
+
+        above : (g : ℕ) → Ours g → left.master g ≡ Some group → Ours group
+        above g its e =
+            ⊎_elim (λ same. above_ours g group its (sym same ∙ e))
+            (λ set. (made_ours set.0 set.1).1 group (sym set.3 ∙ e))
+            (masters_how g made world.master)
+
+        by : (kind : Propagation ℕ) → y.propagation ≡ kind → HearsIn left kind group → Ours group
+        by (Shared g) k h =
+            ⊎_elim (λ e. its_source group (ap source_of k ∙ e)) (above g (its_source g (ap source_of k))) h
+        by (Slave g) k h = ⊎_elim (λ e. none_is_some group e) (λ e. its_source group (ap source_of k ∙ e)) h
+        by Private k h = ⊎_elim (λ e. none_is_some group e) (λ e. none_is_some group e) h
+        by Unbindable k h = ⊎_elim (λ e. none_is_some group e) (λ e. none_is_some group e) h
+
+    -- and others hear what they heard
+    other_hears : (other : Mount ℕ) → Among other (other_mounts nat_eq world names) → (group : ℕ)
+        → HearsIn left other.propagation group → HearsIn world other.propagation group
+    other_hears other m group how = by other.propagation refl how
+      where
+        above : (g : ℕ) → group_of other.propagation ≡ Some g → left.master g ≡ Some group
+            → world.master g ≡ Some group
+        above g is_in e =
+            ⊎_elim (λ same. sym same ∙ e)
+            (λ set. absurd (unheard other m set.0.0 (made_ours set.0 set.1).0 (inl (is_in ∙ ap Some set.2))))
+            (masters_how g made world.master)
+
+        by : (kind : Propagation ℕ) → other.propagation ≡ kind → HearsIn left kind group → HearsIn world kind group
+        by (Shared g) k h = ⊎_elim inl (λ e. inr (above g (ap group_of k) e)) h
+        by (Slave g) k h = h
+        by Private k h = h
+        by Unbindable k h = h
+
+    own_receives : (y other : Mount ℕ) → Among y (own_mounts nat_eq left names)
+        → Among other (other_mounts nat_eq world names) → receives_events_of nat_eq left y other ≡ true → ⊥
+    own_receives y other m n h =
+        ⊎_elim
+        (λ e. let found = in_group (group_of y.propagation) other e in
+        unheard other n found.0 (own_hears y m found.0 (inl found.1)) (inl found.2))
+        (λ e. let found = in_group (master_of left y.propagation) other e in
+        unheard other n found.0 (own_hears y m found.0 (inr found.1)) (inl found.2))
+        (or_cases (holds_of (λ group. is_member_of nat_eq group other) (group_of y.propagation))
+        (holds_of (λ group. is_member_of nat_eq group other) (master_of left y.propagation)) h)
+
+    other_receives : (y other : Mount ℕ) → Among y (own_mounts nat_eq left names)
+        → Among other (other_mounts nat_eq world names) → receives_events_of nat_eq left other y ≡ true → ⊥
+    other_receives y other m n h =
+        ⊎_elim
+        (λ e. let found = in_group (group_of other.propagation) y e in
+        unheard other n found.0 (own_hears y m found.0 (inl found.2)) (inl found.1))
+        (λ e. let found = in_group (master_of left other.propagation) y e in
+        unheard other n found.0 (own_hears y m found.0 (inl found.2)) (other_hears other n found.0 (inr found.1)))
+        (or_cases (holds_of (λ group. is_member_of nat_eq group y) (group_of other.propagation))
+        (holds_of (λ group. is_member_of nat_eq group y) (master_of left other.propagation)) h)
+
+    pub groups_apart : shares_no_events nat_eq left names ≡ true
+    groups_apart =
+        ap (λ others. list_all (λ y. list_all (λ other. not (share_events nat_eq left y other)) others)
+        (own_mounts nat_eq left names))
+        (others_stay world names is sealed_off change added new_ones
+        (folded (masters_with nat_eq) world.master made) grows)
+        ∙ list_all_from_among
+        (λ y. list_all (λ other. not (share_events nat_eq left y other)) (other_mounts nat_eq world names))
+        (own_mounts nat_eq left names)
+        (λ y m. list_all_from_among (λ other. not (share_events nat_eq left y other)) (other_mounts nat_eq world names)
+        (λ other n. ap not (false_from_ne_true (share_events nat_eq left y other) (λ h.
+        ⊎_elim (own_receives y other m n) (other_receives y other m n)
+        (or_cases (receives_events_of nat_eq left y other) (receives_events_of nat_eq left other y) h)))))

@@ -1,0 +1,216 @@
+-- Where mounts of a sealed set change, and others come that are theirs, others are as they were.
+use Rattle.std.proofs.Common.{◌≡◌, refl, sym, ap, subst, ◌∙◌, ◌⊎◌, inl, inr, ⊎_elim, ℕ, nat_eq, Bool, true, false, cond, true≢false, List, [], ◌∷◌, ◌++◌, Option, Some, None, filter, find, map, not, ◌||◌, eq-eqb}
+use Rattle.std.specs.Prelude.{option_to_list, unwrap_or}
+use Rattle.vt_spec.specs.Language.Calls.{TaskName}
+use Rattle.vt_spec.specs.Lists.{holds_of, is_among}
+use Rattle.vt_spec.specs.Machine.Invariants.{IsWorld}
+use Rattle.vt_spec.specs.Machine.Locked.{of_overlay}
+use Rattle.vt_spec.specs.Machine.Mounts.{Location, Mount, mount_in, no_mount}
+use Rattle.vt_spec.specs.Machine.Sealed.{change_layers, is_member_task, is_own_mount, is_own_namespace, locations, members, other_mounts, outsiders, own_mounts, sealed, shares_no_events, used_directly, used_filesystems}
+use Rattle.vt_spec.specs.Machine.World.{Filesystem, Layer, Overlay, Task, World, all_locations, layers_of, locations_of, mount_at}
+use Rattle.vt_spec.proofs.Lists.{Among, among-append, among-append_left, among-append_right, among-filter, among-flat_map, among-from_filter, among-from_flat_map, among-from_map, among-map, among_from_list_all, any_from_among, list_all_from_among}
+use Rattle.vt_laws_sealed.specs.Part.Seals.{IsApart}
+use Rattle.vt_laws_sealed.proofs.part.part.PartOfPart.{used_directly_used}
+use Rattle.vt_laws_sealed.proofs.part.seals.ByPart.{apart_if_sealed}
+use Rattle.vt_laws_sealed.proofs.outsiders.OtherMounts.{located_there}
+use Rattle.vt_laws_members.proofs.attached.GrownPart.{Grows, as_before, grown_world, is_new, own_how, shows_still}
+use Rattle.vt_laws_containers.proofs.footholds.AsBefore.{GoesOn, OthersAsBefore}
+use Rattle.vt_laws_containers.proofs.scripts.UsedThere.{IsThere}
+
+-- an upper or work layer is a layer
+written_layer : (filesystem : Filesystem ℕ) (number : ℕ) → Among number (change_layers filesystem)
+    → (layer : Layer ℕ) × Among layer (of_overlay [] layers_of filesystem) × (number ≡ layer.filesystem)
+written_layer filesystem number = by filesystem.overlay refl
+  where
+    layers_in : Option (Overlay ℕ) → List (Layer ℕ)
+    layers_in o = of_overlay [] layers_of (record filesystem { overlay = o })
+
+    by : (o : Option (Overlay ℕ)) → filesystem.overlay ≡ o
+        → Among number (change_layers (record filesystem { overlay = o }))
+        → (layer : Layer ℕ) × Among layer (of_overlay [] layers_of filesystem) × (number ≡ layer.filesystem)
+    by None e m = absurd m
+    by (Some overlay) e m =
+        let written = option_to_list overlay.upper ++ option_to_list overlay.work in
+        let from = among-from_map (λ (l : Layer ℕ). l.filesystem) written number m in (
+          from.0,
+          subst (λ o. Among from.0 (layers_in o)) (sym e) (among-append_left written overlay.lowers from.0 from.1),
+          from.2,
+        )
+
+module _ (world : World ℕ) (names : List TaskName) (is : IsWorld nat_eq world)
+    (sealed_off : sealed nat_eq world names ≡ true) (change : Mount ℕ → Mount ℕ) (added : List (Mount ℕ))
+    (new_ones : List (Filesystem ℕ)) (master : ℕ → Option ℕ)
+    (grows : Grows world names change added new_ones master) where
+  apart : IsApart world names
+  apart = apart_if_sealed world names is sealed_off
+
+  abbrev left : World ℕ
+  left = grown_world world names change added new_ones master
+
+  abbrev ours : ℕ → Bool
+  ours = is_own_namespace nat_eq world names
+
+  abbrev owns : Mount ℕ → Bool
+  owns = is_own_mount nat_eq world names
+
+  abbrev is_out : Mount ℕ → Bool
+  is_out mount = holds_of (λ n. not (ours n)) mount.namespace
+
+  own_not_out : (o : Option ℕ) → holds_of ours o ≡ true → holds_of (λ n. not (ours n)) o ≡ false
+  own_not_out None own = refl
+  own_not_out (Some n) own = ap not own
+
+  -- The mounts of others stay.
+  none_added : (list : List (Mount ℕ)) → ((x : Mount ℕ) → Among x list → Among x added) → filter is_out list ≡ []
+  none_added [] sub = refl
+  none_added (x ∷ rest) sub =
+      ap (λ b. cond b (x ∷ filter is_out rest) (filter is_out rest))
+      (own_not_out x.namespace (grows.ours x (sub x (inl refl))))
+      ∙ none_added rest (λ y m. sub y (inr m))
+
+  outs_stay : (list : List (Mount ℕ)) → ((x : Mount ℕ) → Among x list → Among x world.mounts)
+      → filter is_out (map change list ++ added) ≡ filter is_out list
+  outs_stay [] sub = none_added added (λ x m. m)
+  outs_stay (x ∷ rest) sub = by (owns x) refl (outs_stay rest (λ y m. sub y (inr m)))
+    where
+      by : (b : Bool) → owns x ≡ b → filter is_out (map change rest ++ added) ≡ filter is_out rest
+          → filter is_out (map change (x ∷ rest) ++ added) ≡ filter is_out (x ∷ rest)
+      by true own later =
+          ap (λ c. cond c (change x ∷ filter is_out (map change rest ++ added))
+          (filter is_out (map change rest ++ added)))
+          (own_not_out (change x).namespace (grows.kept x (sub x (inl refl)) own).0)
+          ∙ later
+          ∙ sym (ap (λ c. cond c (x ∷ filter is_out rest) (filter is_out rest)) (own_not_out x.namespace own))
+      by false other later =
+          ap (λ y. cond (is_out y) (y ∷ filter is_out (map change rest ++ added))
+          (filter is_out (map change rest ++ added))) (grows.others x (sub x (inl refl)) other).0
+          ∙ ap (λ l. cond (is_out x) (x ∷ l) l) later
+
+  pub others_stay : other_mounts nat_eq left names ≡ other_mounts nat_eq world names
+  others_stay = outs_stay world.mounts (λ x m. m)
+
+  -- Locations
+  numbered_there : (l : Location ℕ) → Among l (all_locations world)
+      → is_among nat_eq l.mount (map (λ (m : Mount ℕ). m.number) world.mounts) ≡ true
+  numbered_there l m =
+      let at = located_there world names apart l m in
+      any_from_among (nat_eq l.mount) (map (λ (x : Mount ℕ). x.number) world.mounts) at.0.number
+      (among-map (λ (x : Mount ℕ). x.number) world.mounts at.0 at.1) at.2
+
+  placed : (test : Task ℕ → Bool) (l : Location ℕ) → Among l (locations (filter test world.tasks))
+      → Among l (all_locations world)
+  placed test l m =
+      let of = among-from_flat_map locations_of (filter test world.tasks) l m in
+      among-flat_map locations_of world.tasks of.0 l (among-from_filter test world.tasks of.0 of.1).0 of.2
+
+  shown_still : (l : Location ℕ) → Among l (all_locations world)
+      → (mount_at nat_eq left l).filesystem ≡ (mount_at nat_eq world l).filesystem
+  shown_still l m =
+      shows_still world names change added new_ones master grows l.mount (numbered_there l m)
+
+  owned_still : (x : Mount ℕ) → Among x world.mounts → owns (change x) ≡ owns x
+  owned_still x m = by (owns x) refl
+    where
+      by : (b : Bool) → owns x ≡ b → owns (change x) ≡ owns x
+      by true own = (grows.kept x m own).0 ∙ sym own
+      by false other = ap owns (grows.others x m other).0
+
+  sides_still : (number : ℕ) → is_among nat_eq number (map (λ (m : Mount ℕ). m.number) world.mounts) ≡ true
+      → owns (mount_in nat_eq left.mounts number) ≡ owns (mount_in nat_eq world.mounts number)
+  sides_still number = search world.mounts (λ x m. m)
+    where
+      search : (list : List (Mount ℕ)) → ((x : Mount ℕ) → Among x list → Among x world.mounts)
+          → is_among nat_eq number (map (λ (m : Mount ℕ). m.number) list) ≡ true
+          → owns (mount_in nat_eq (map change list ++ added) number) ≡ owns (mount_in nat_eq list number)
+      search [] sub h = absurd (true≢false (sym h))
+      search (x ∷ rest) sub h =
+          ap (λ n. owns (unwrap_or (cond (nat_eq number n) (Some (change x))
+          (find (λ (m : Mount ℕ). nat_eq number m.number) (map change rest ++ added))) (no_mount number)))
+          (as_before world names change added new_ones master grows x (sub x (inl refl))).0
+          ∙ by (nat_eq number x.number) h (search rest (λ y m. sub y (inr m)))
+        where
+          by : (b : Bool) → (b || is_among nat_eq number (map (λ (m : Mount ℕ). m.number) rest)) ≡ true
+              → (is_among nat_eq number (map (λ (m : Mount ℕ). m.number) rest) ≡ true
+              → owns (mount_in nat_eq (map change rest ++ added) number) ≡ owns (mount_in nat_eq rest number))
+              → owns (unwrap_or (cond b (Some (change x))
+              (find (λ (m : Mount ℕ). nat_eq number m.number) (map change rest ++ added))) (no_mount number))
+              ≡ owns (unwrap_or (cond b (Some x) (find (λ (m : Mount ℕ). nat_eq number m.number) rest))
+              (no_mount number))
+          by true g later = owned_still x (sub x (inl refl))
+          by false g later = later g
+
+  none_on_own : (l : Location ℕ) → Among l (locations (outsiders world names))
+      → not (owns (mount_at nat_eq left l)) ≡ true
+  none_on_own l m =
+      ap not (sides_still l.mount (numbered_there l (placed (λ (t : Task ℕ). not (is_member_task names t)) l m)))
+      ∙ among_from_list_all (λ k. not (owns (mount_at nat_eq world k))) (locations (outsiders world names))
+      apart.locations l m
+
+  -- Filesystems
+  new_is_not_there : (number : ℕ) → is_new world names change added new_ones master number ≡ true
+      → IsThere world number → ⊥
+  new_is_not_there number new there =
+      true≢false (sym (ap (is_new world names change added new_ones master) there.2 ∙ new)
+      ∙ grows.unlisted there.0 there.1)
+
+  goes_on : (f : Filesystem ℕ) → Among f left.filesystems → GoesOn world names f
+  goes_on f m =
+      ⊎_elim (λ old. inl (f, old, refl, refl))
+      (λ new. inr (
+        new_is_not_there f.number
+            (any_from_among (λ (g : Filesystem ℕ). nat_eq f.number g.number) new_ones f new
+            (eq-eqb f.number f.number refl)),
+        λ number n. let layer = written_layer f number n in
+            ap (λ k. is_among nat_eq k (used_filesystems nat_eq world names)) layer.2
+            ∙ used_directly_used world names layer.0.filesystem (grows.layers f new layer.0 layer.1),
+      ))
+      (among-append world.filesystems new_ones f m)
+
+  abbrev mounted : List ℕ
+  mounted = map (λ (x : Mount ℕ). x.filesystem) (own_mounts nat_eq world names)
+
+  abbrev located_at : List ℕ
+  located_at = map (λ (l : Location ℕ). (mount_at nat_eq world l).filesystem) (locations (members world names))
+
+  shown_was : (y : Mount ℕ) → Among y left.mounts → owns y ≡ true
+      → Among y.filesystem (used_directly nat_eq world names) ⊎ (IsThere world y.filesystem → ⊥)
+  shown_was y m own =
+      ⊎_elim
+      (λ old. inl (among-append_left mounted located_at y.filesystem
+      (subst (λ n. Among n mounted)
+      (sym (ap (λ (x : Mount ℕ). x.filesystem) old.3
+      ∙ (as_before world names change added new_ones master grows old.0 old.1).1))
+      (among-map (λ (x : Mount ℕ). x.filesystem) (own_mounts nat_eq world names) old.0
+      (among-filter owns world.mounts old.0 old.1 old.2)))))
+      (λ more. ⊎_elim inl (λ new. inr (new_is_not_there y.filesystem new)) (grows.shown y more))
+      (own_how world names change added new_ones master grows y m own)
+
+  direct_was : (number : ℕ) → Among number (used_directly nat_eq left names)
+      → Among number (used_directly nat_eq world names) ⊎ (IsThere world number → ⊥)
+  direct_was number m =
+      ⊎_elim
+      (λ shown. let at = among-from_map (λ (x : Mount ℕ). x.filesystem) (own_mounts nat_eq left names) number shown in
+      let from = among-from_filter owns left.mounts at.0 at.1 in
+      subst (λ n. Among n (used_directly nat_eq world names) ⊎ (IsThere world n → ⊥)) (sym at.2)
+      (shown_was at.0 from.0 from.1))
+      (λ there. let at = among-from_map (λ (l : Location ℕ). (mount_at nat_eq left l).filesystem)
+      (locations (members world names)) number there in
+      inl (among-append_right mounted located_at number
+      (subst (λ n. Among n located_at) (sym (at.2 ∙ shown_still at.0 (placed (is_member_task names) at.0 at.1)))
+      (among-map (λ (l : Location ℕ). (mount_at nat_eq world l).filesystem) (locations (members world names)) at.0
+      at.1))))
+      (among-append (map (λ (x : Mount ℕ). x.filesystem) (own_mounts nat_eq left names))
+      (map (λ (l : Location ℕ). (mount_at nat_eq left l).filesystem) (locations (members world names))) number m)
+
+  pub grown_as_before : shares_no_events nat_eq left names ≡ true → OthersAsBefore world left names names
+  grown_as_before events = record {
+    others = refl;
+    mounts = others_stay;
+    shown = λ l m. shown_still l (placed (λ (t : Task ℕ). not (is_member_task names t)) l m);
+    tasks = apart.tasks;
+    events = events;
+    places = list_all_from_among (λ l. not (owns (mount_at nat_eq left l))) (locations (outsiders world names))
+        none_on_own;
+    filesystems = goes_on;
+    direct = direct_was;
+  }

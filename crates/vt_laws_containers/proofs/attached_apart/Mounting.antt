@@ -1,0 +1,94 @@
+-- No mount(2) of a new plain filesystem by a task of a sealed set gives others a foothold.
+use Rattle.std.proofs.Common.{◌≡◌, refl, sym, ap, ◌∙◌, ⊎_elim, ℕ, nat_eq, true, List, [], ◌∷◌, Option, Some, None, Ok, Err, ◌&&◌, eq-eqb}
+use Rattle.std.specs.Prelude.{IfOk, is_ok}
+use Rattle.std.proofs.lemmas.Bool.{or_left}
+use Rattle.vt_spec.specs.Language.Calls.{MountFlags, TaskName}
+use Rattle.vt_spec.specs.Language.Calls.Call.{MountPlain}
+use Rattle.vt_spec.specs.Lists.{Fresh, evens, is_among, odds}
+use Rattle.vt_spec.specs.Machine.Invariants.{IsWorld}
+use Rattle.vt_spec.specs.Machine.Judge.{Judgement, judge_in}
+use Rattle.vt_spec.specs.Machine.Locked.{of_overlay}
+use Rattle.vt_spec.specs.Machine.Mounts.{Location, Mount, source_of}
+use Rattle.vt_spec.specs.Machine.NewMounts.{mounted, plain_filesystem}
+use Rattle.vt_spec.specs.Machine.Permits.Permit.{ToMountPlain}
+use Rattle.vt_spec.specs.Machine.Run.{Serves}
+use Rattle.vt_spec.specs.Machine.Sealed.{members, sealed, used_directly}
+use Rattle.vt_spec.specs.Machine.Settled.{named_in}
+use Rattle.vt_spec.specs.Machine.World.{Filesystem, Layer, Task, World, layers_of, mount_at, task_called}
+use Rattle.vt_spec.proofs.Lists.{Among}
+use Rattle.vt_spec.proofs.Options.{none_is_some}
+use Rattle.vt_laws_mounts.specs.LettingGo.Keeping.{has_only_named}
+use Rattle.vt_laws_sealed.proofs.part.part.PartOfPart.{is_own}
+use Rattle.vt_laws_members.specs.Judging.{is_theirs}
+use Rattle.vt_laws_members.proofs.changes.looks.Told.{member_called, ran}
+use Rattle.vt_laws_members.proofs.changes.tasks.Denied.{run_by}
+use Rattle.vt_laws_members.proofs.attached.PlainMounting.{Mounts, mounts_there}
+use Rattle.vt_laws_members.proofs.new_overlays.NewFilesystem.{here_there, new, origins, shows, unused}
+use Rattle.vt_laws_containers.specs.Footholds.{GivesNoFoothold}
+use Rattle.vt_laws_containers.proofs.footholds.AsBefore.{OthersAsBefore}
+use Rattle.vt_laws_containers.proofs.footholds.Granting.{refused_out}
+use Rattle.vt_laws_containers.proofs.footholds.TasksPermits.{permit_out}
+use Rattle.vt_laws_containers.specs.AttachedApart.AttachFootholds.{PlainMountsGiveNoFoothold}
+use Rattle.vt_laws_containers.proofs.attached_apart.AttachedAsBefore.{copies_as_before}
+use Rattle.vt_laws_containers.proofs.attached_apart.GroupsApart.{Ours}
+
+-- A new filesystem, mounted at a mount of theirs
+module _ (world : World ℕ) (names : List TaskName) (is : IsWorld nat_eq world)
+    (sealed_off : sealed nat_eq world names ≡ true) (fresh : Fresh ℕ) (serves : Serves nat_eq world fresh)
+    (here : Location ℕ) (on : is_theirs world names here.mount ≡ true)
+    (own : is_own world names (members world names) (mount_at nat_eq world here) ≡ true) (new_one : Filesystem ℕ)
+    (number : new_one.number ≡ fresh 0)
+    (layers : (layer : Layer ℕ) → Among layer (of_overlay [] layers_of new_one)
+    → Among layer.filesystem (used_directly nat_eq world names))
+    (named : has_only_named new_one ≡ true) (flags : MountFlags) where
+  abbrev its_origins : List (Mount ℕ)
+  its_origins = origins world names is sealed_off fresh serves here on own new_one number layers named flags
+
+  -- it is private
+  sources : (o : Mount ℕ) → Among o its_origins → (g : ℕ) → source_of o.propagation ≡ Some g
+      → Ours world names is sealed_off fresh serves g
+  sources o m g e =
+      ⊎_elim (λ same. none_is_some g (sym (ap (λ (x : Mount ℕ). source_of x.propagation) same) ∙ e))
+      (λ none. absurd none) m
+
+  pub mounted_as_before : OthersAsBefore world (mounted nat_eq (odds fresh) world here new_one flags) names names
+  mounted_as_before =
+      copies_as_before world names is sealed_off fresh serves (new_one ∷ [])
+      (unused world names is sealed_off fresh serves here on own new_one number layers named flags) here
+      (here_there world names is sealed_off fresh serves here on own new_one number layers named flags) own
+      (new world names is sealed_off fresh serves here on own new_one number layers named flags) its_origins
+      (λ a b. (_, refl)) sources
+      (shows world names is sealed_off fresh serves here on own new_one number layers named flags)
+
+-- A plain one
+pub plain_mounts_give_no_foothold : PlainMountsGiveNoFoothold
+plain_mounts_give_no_foothold world names name path flags it fresh serves = by (task_called world name) refl
+  where
+    judged_by : (task : Task ℕ) (member : Among task (members world names)) → task_called world name ≡ Some task
+        → (j : Judgement ℕ) → judge_in nat_eq fresh world task (MountPlain path flags) ≡ j
+        → IfOk j (Mounts world names it.is it.sealed_off task member flags)
+        → GivesNoFoothold world names name (MountPlain path flags) fresh
+    judged_by task member e (Ok permit) judged its =
+        permit_out world names name (MountPlain path flags) it refl fresh serves task e (ToMountPlain its.0 flags)
+        (judged ∙ ap Ok its.1)
+        (λ ends. mounted_as_before world names it.is it.sealed_off fresh serves its.0 its.2 its.3
+        (plain_filesystem nat_eq fresh) refl (λ layer m. absurd m)
+        (ap (λ b. b && true)
+        (or_left (nat_eq (evens fresh 1) (evens fresh 1))
+        (is_among nat_eq (evens fresh 1) (named_in (plain_filesystem nat_eq fresh).files))
+        (eq-eqb (evens fresh 1) (evens fresh 1) refl))) flags)
+    judged_by task member e (Err deny) judged its =
+        refused_out world names name (MountPlain path flags) it fresh
+        (ap (λ o. is_ok (ran name (MountPlain path flags) world fresh o).answer) e
+        ∙ ap (λ j. is_ok
+        (run_by world names name (MountPlain path flags) it fresh fresh world fresh task j).answer) judged)
+
+    by : (o : Option (Task ℕ)) → task_called world name ≡ o
+        → GivesNoFoothold world names name (MountPlain path flags) fresh
+    by None e =
+        refused_out world names name (MountPlain path flags) it fresh
+        (ap (λ o. is_ok (ran name (MountPlain path flags) world fresh o).answer) e)
+    by (Some task) e =
+        let member = member_called world names it.is it.sealed_off name it.theirs task e in
+        judged_by task member e (judge_in nat_eq fresh world task (MountPlain path flags)) refl
+        (mounts_there world names it.is it.sealed_off task member flags fresh path)

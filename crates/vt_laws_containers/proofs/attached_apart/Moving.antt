@@ -1,0 +1,152 @@
+-- No mount(2) with MS_MOVE by a task of a sealed set gives others a foothold.
+use Rattle.std.proofs.Common.{◌≡◌, refl, sym, ap, subst, ◌∙◌, inr, ⊎_elim, ℕ, nat_eq, true, List, [], ◌++◌, Option, Some, None, Ok, Err, map}
+use Rattle.std.specs.Prelude.{IfOk, is_ok}
+use Rattle.vt_spec.specs.Language.Calls.{TaskName}
+use Rattle.vt_spec.specs.Language.Calls.Call.{MoveMount}
+use Rattle.vt_spec.specs.Lists.{Fresh, folded}
+use Rattle.vt_spec.specs.Machine.Attach.{Copies, attach, copies_from, masters_with, moved_to, moved_tree}
+use Rattle.vt_spec.specs.Machine.Invariants.{IsWorld}
+use Rattle.vt_spec.specs.Machine.Judge.{Judgement, judge_in}
+use Rattle.vt_spec.specs.Machine.Mounts.{Location, Mount, source_of}
+use Rattle.vt_spec.specs.Machine.Permits.Permit.{ToMove}
+use Rattle.vt_spec.specs.Machine.Run.{Serves}
+use Rattle.vt_spec.specs.Machine.Sealed.{is_own_mount, members, sealed}
+use Rattle.vt_spec.specs.Machine.World.{Task, World, mount_at, task_called}
+use Rattle.vt_spec.proofs.Lists.{Among, among-filter}
+use Rattle.vt_laws_members.proofs.judging.Grounds.{theirs_from}
+use Rattle.vt_laws_members.proofs.changes.looks.Told.{member_called, ran}
+use Rattle.vt_laws_members.proofs.changes.tasks.Denied.{run_by}
+use Rattle.vt_laws_members.proofs.attached.CopiesAlike.{base, made, no_new_ones, parts}
+use Rattle.vt_laws_members.proofs.attached.Destination.{there}
+use Rattle.vt_laws_members.proofs.attached.GrownPart.{Grows, grown_world, own_how}
+use Rattle.vt_laws_members.proofs.attached.MovedGrows.{at_receiver, at_receivers, moved, moved_as, moved_grows, none_new, origin_mine, went, went_how}
+use Rattle.vt_laws_members.proofs.attached.Moving.{Moves, MovesTo, moves_there}
+use Rattle.vt_laws_members.proofs.attached.PushedUp.{push_keeps}
+use Rattle.vt_laws_containers.specs.Footholds.{GivesNoFoothold}
+use Rattle.vt_laws_containers.proofs.footholds.AsBefore.{OthersAsBefore}
+use Rattle.vt_laws_containers.proofs.footholds.Granting.{refused_out}
+use Rattle.vt_laws_containers.proofs.footholds.TasksPermits.{permit_out}
+use Rattle.vt_laws_containers.specs.AttachedApart.AttachFootholds.{MovesGiveNoFoothold}
+use Rattle.vt_laws_containers.proofs.attached_apart.CopiesHear.{copy_ours, made_ours}
+use Rattle.vt_laws_containers.proofs.attached_apart.GroupsApart.{Ours, groups_apart, source_ours}
+use Rattle.vt_laws_containers.proofs.attached_apart.GrownAsBefore.{grown_as_before}
+
+module _ (world : World ℕ) (names : List TaskName) (is : IsWorld nat_eq world)
+    (sealed_off : sealed nat_eq world names ≡ true) (fresh : Fresh ℕ) (serves : Serves nat_eq world fresh)
+    (from here : Location ℕ) (to : MovesTo world names from here) where
+  here_there : Among (mount_at nat_eq world here) world.mounts
+  here_there = there world names is sealed_off here (theirs_from world names is.mounts here.mount to.on) to.own
+
+  from_there : Among (mount_at nat_eq world from) world.mounts
+  from_there =
+      there world names is sealed_off from (theirs_from world names is.mounts from.mount to.from_on) to.from_own
+
+  abbrev origins : List (Mount ℕ)
+  origins = moved_tree nat_eq world from.mount
+
+  abbrev new : Copies ℕ
+  new = copies_from nat_eq fresh (parts world names is sealed_off [] (none_new world names) here here_there to.own)
+      origins
+
+  abbrev IsOurs : ℕ → Type 0
+  IsOurs = Ours world names is sealed_off fresh serves
+
+  abbrev base_here : World ℕ
+  base_here = base world names is sealed_off [] (none_new world names) here here_there to.own
+
+  abbrev change : Mount ℕ → Mount ℕ
+  change = moved world names is sealed_off here here_there to.own new from.mount from_there to.from_own
+
+  -- before it is pushed up
+  abbrev before : Mount ℕ → Mount ℕ
+  before = went world names is sealed_off here here_there to.own new from.mount from_there to.from_own
+
+  abbrev added : List (Mount ℕ)
+  added = at_receivers world names is sealed_off here here_there to.own new from.mount from_there to.from_own
+
+  abbrev formed : List (ℕ × Option ℕ)
+  formed = made world names is sealed_off [] (none_new world names) here here_there to.own new true origins
+
+  abbrev masters : ℕ → Option ℕ
+  masters = folded (masters_with nat_eq) world.master formed
+
+  grows : Grows world names change added [] masters
+  grows = moved_grows world names is sealed_off here here_there to.own new from.mount from_there to.from_own masters
+
+  sources : (o : Mount ℕ) → Among o origins → (g : ℕ) → source_of o.propagation ≡ Some g → IsOurs g
+  sources o m g e =
+      let its = origin_mine world names is sealed_off here here_there to.own new from.mount from_there to.from_own o m
+      in
+      source_ours world names is sealed_off fresh serves o
+      (among-filter (is_own_mount nat_eq world names) world.mounts o its.0 its.1) g e
+
+  new_groups : (a b : ℕ) → IsOurs (new.image a b)
+  new_groups a b = inr (_, refl)
+
+  -- a mount that stayed or moved is in groups of theirs
+  old_sourced : (x : Mount ℕ) → Among x world.mounts → is_own_mount nat_eq world names x ≡ true → (g : ℕ)
+      → source_of (change x).propagation ≡ Some g → IsOurs g
+  old_sourced x n mine g e =
+      ⊎_elim
+      (λ same. source_ours world names is sealed_off fresh serves x
+      (among-filter (is_own_mount nat_eq world names) world.mounts x n mine) g
+      (ap (λ (z : Mount ℕ). source_of z.propagation) (sym same) ∙ pushed))
+      (λ moves. copy_ours base_here new here true origins IsOurs new_groups sources (mount_at nat_eq world here) x
+      moves.0 g (ap (λ (z : Mount ℕ). source_of z.propagation) (sym moves.1) ∙ pushed))
+      (went_how world names is sealed_off here here_there to.own new from.mount from_there to.from_own x x n refl)
+    where
+      pushed : source_of (before x).propagation ≡ Some g
+      pushed =
+          sym (push_keeps world names is sealed_off [] (none_new world names) here here_there to.own new true origins
+          (λ (z : Mount ℕ). source_of z.propagation) (λ z at. refl) (before x)) ∙ e
+
+  sourced : (y : Mount ℕ) → Among y (map change world.mounts ++ added) → is_own_mount nat_eq world names y ≡ true
+      → (g : ℕ) → source_of y.propagation ≡ Some g → IsOurs g
+  sourced y m mine g e =
+      ⊎_elim
+      (λ old. old_sourced old.0 old.1 old.2 g (ap (λ (x : Mount ℕ). source_of x.propagation) (sym old.3) ∙ e))
+      (λ more.
+      let of = at_receiver world names is sealed_off here here_there to.own new from.mount from_there to.from_own y
+      more in
+      copy_ours base_here new here true origins IsOurs new_groups sources of.0 of.2 of.3 g
+      (ap (λ (x : Mount ℕ). source_of x.propagation) (sym of.4) ∙ e))
+      (own_how world names change added [] masters grows y m mine)
+
+  as_grown : moved_to nat_eq fresh world from.mount here ≡ grown_world world names change added [] masters
+  as_grown =
+      ap (λ w. attach nat_eq w fresh here true origins) (no_new_ones world)
+      ∙ moved_as world names is sealed_off here here_there to.own new from.mount from_there to.from_own world
+
+  pub moved_as_before : OthersAsBefore world (moved_to nat_eq fresh world from.mount here) names names
+  moved_as_before =
+      subst (λ w. OthersAsBefore world w names names) (sym as_grown)
+      (grown_as_before world names is sealed_off change added [] masters grows
+      (groups_apart world names is sealed_off fresh serves change added [] formed grows sourced
+      (made_ours base_here new here true origins IsOurs new_groups sources)))
+
+pub moves_give_no_foothold : MovesGiveNoFoothold
+moves_give_no_foothold world names name source path it fresh serves = by (task_called world name) refl
+  where
+    judged_by : (task : Task ℕ) (member : Among task (members world names)) → task_called world name ≡ Some task
+        → (j : Judgement ℕ) → judge_in nat_eq fresh world task (MoveMount source path) ≡ j
+        → IfOk j (Moves world names it.is it.sealed_off task member)
+        → GivesNoFoothold world names name (MoveMount source path) fresh
+    judged_by task member e (Ok permit) judged its =
+        permit_out world names name (MoveMount source path) it refl fresh serves task e (ToMove its.0.mount its.1)
+        (judged ∙ ap Ok its.2)
+        (λ ends. moved_as_before world names it.is it.sealed_off fresh serves its.0 its.1 its.3)
+    judged_by task member e (Err deny) judged its =
+        refused_out world names name (MoveMount source path) it fresh
+        (ap (λ o. is_ok (ran name (MoveMount source path) world fresh o).answer) e
+        ∙ ap (λ j. is_ok
+        (run_by world names name (MoveMount source path) it fresh fresh world fresh task j).answer) judged)
+
+    by : (o : Option (Task ℕ)) → task_called world name ≡ o
+        → GivesNoFoothold world names name (MoveMount source path) fresh
+    by None e =
+        refused_out world names name (MoveMount source path) it fresh
+        (ap (λ o. is_ok (ran name (MoveMount source path) world fresh o).answer) e)
+    by (Some task) e =
+        let member = member_called world names it.is it.sealed_off name it.theirs task e in
+        judged_by task member e (judge_in nat_eq fresh world task (MoveMount source path)) refl
+        (moves_there world names it.is it.sealed_off task member fresh source path)

@@ -1,0 +1,67 @@
+-- No mount(2) of a new overlay by a task of a sealed set gives others a foothold.
+use Rattle.std.proofs.Common.{◌≡◌, refl, ap, ◌∙◌, ℕ, nat_eq, Option, Some, None, Ok, Err}
+use Rattle.std.specs.Prelude.{is_ok}
+use Rattle.vt_spec.specs.Language.Calls.Call.{MountOverlay}
+use Rattle.vt_spec.specs.Lists.{evens}
+use Rattle.vt_spec.specs.Machine.Apply.{overfills}
+use Rattle.vt_spec.specs.Machine.Judge.{Judgement, judge_in}
+use Rattle.vt_spec.specs.Machine.Looks.{looks_of}
+use Rattle.vt_spec.specs.Machine.NewMounts.{overlay_filesystem}
+use Rattle.vt_spec.specs.Machine.Permits.{Permit}
+use Rattle.vt_spec.specs.Machine.Permits.Permit.{ToMountOverlay}
+use Rattle.vt_spec.specs.Machine.Rules.Mounting.{overlay_at}
+use Rattle.vt_spec.specs.Machine.Sealed.{members}
+use Rattle.vt_spec.specs.Machine.World.{Overlay, Task, task_called}
+use Rattle.vt_spec.proofs.FreshNumbers.{evens-distinct, served-distinct}
+use Rattle.vt_spec.proofs.Lists.{Among}
+use Rattle.vt_laws_rules.proofs.given.Inversion.{calls_are_granted}
+use Rattle.vt_laws_worlds.proofs.overlays_let_go.mounting.NewOverlays.{new_overlays_are_named}
+use Rattle.vt_laws_members.proofs.changes.looks.Told.{member_called, ran}
+use Rattle.vt_laws_members.proofs.changes.tasks.Denied.{run_by}
+use Rattle.vt_laws_members.proofs.new_overlays.LayersTheirs.{MountsOverlay, all_used, mounts_overlay}
+use Rattle.vt_laws_containers.specs.Footholds.{GivesNoFoothold}
+use Rattle.vt_laws_containers.proofs.footholds.Granting.{refused_out}
+use Rattle.vt_laws_containers.proofs.footholds.TasksPermits.{permit_out}
+use Rattle.vt_laws_containers.specs.AttachedApart.AttachFootholds.{OverlayMountsGiveNoFoothold}
+use Rattle.vt_laws_containers.proofs.attached_apart.Mounting.{mounted_as_before}
+
+pub overlay_mounts_give_no_foothold : OverlayMountsGiveNoFoothold
+overlay_mounts_give_no_foothold world names name path options flags it fresh serves =
+    by (task_called world name) refl
+  where
+    granted_out : (task : Task ℕ) (member : Among task (members world names)) → task_called world name ≡ Some task
+        → (permit : Permit ℕ) → judge_in nat_eq fresh world task (MountOverlay path options flags) ≡ Ok permit
+        → MountsOverlay world names it.is it.sealed_off task member flags permit
+        → GivesNoFoothold world names name (MountOverlay path options flags) fresh
+    granted_out task member e permit judged its =
+        let overlay : Overlay ℕ = overlay_at (looks_of nat_eq world) task its.places in
+        permit_out world names name (MountOverlay path options flags) it refl fresh serves task e
+        (ToMountOverlay its.here overlay flags) (judged ∙ ap Ok its.is_so)
+        (λ ends. mounted_as_before world names it.is it.sealed_off fresh serves its.here its.on its.own
+        (overlay_filesystem nat_eq (evens fresh) world overlay) refl
+        (all_used world names it.is it.sealed_off task member its.places its.all)
+        (new_overlays_are_named (evens fresh) world overlay it.is its.are_layers
+        (evens-distinct fresh (served-distinct world fresh serves))) flags)
+
+    judged_by : (task : Task ℕ) → Among task (members world names) → task_called world name ≡ Some task
+        → (j : Judgement ℕ) → judge_in nat_eq fresh world task (MountOverlay path options flags) ≡ j
+        → GivesNoFoothold world names name (MountOverlay path options flags) fresh
+    judged_by task member e (Ok permit) judged =
+        granted_out task member e permit judged
+        (mounts_overlay world names it.is it.sealed_off task member fresh path options flags permit
+        (calls_are_granted nat_eq (looks_of nat_eq world) (overfills nat_eq fresh world task) task
+        (MountOverlay path options flags) permit judged))
+    judged_by task member e (Err deny) judged =
+        refused_out world names name (MountOverlay path options flags) it fresh
+        (ap (λ o. is_ok (ran name (MountOverlay path options flags) world fresh o).answer) e
+        ∙ ap (λ j. is_ok (run_by world names name (MountOverlay path options flags) it fresh fresh world fresh task
+        j).answer) judged)
+
+    by : (o : Option (Task ℕ)) → task_called world name ≡ o
+        → GivesNoFoothold world names name (MountOverlay path options flags) fresh
+    by None e =
+        refused_out world names name (MountOverlay path options flags) it fresh
+        (ap (λ o. is_ok (ran name (MountOverlay path options flags) world fresh o).answer) e)
+    by (Some task) e =
+        judged_by task (member_called world names it.is it.sealed_off name it.theirs task e) e
+        (judge_in nat_eq fresh world task (MountOverlay path options flags)) refl

@@ -1,0 +1,55 @@
+-- The set that a turn of theirs leaves has names of tasks alone.
+use Rattle.std.proofs.Common.{◌≡◌, refl, ap, ◌∙◌, ⊎_elim, ℕ, nat_eq, false, true, true≢false, List, [], ◌∷◌, Option, Some, None}
+use Rattle.vt_spec.specs.Language.Calls.{TaskName}
+use Rattle.vt_spec.specs.Language.Script.Who.{Someone}
+use Rattle.vt_spec.specs.Lists.{Fresh, first_of_list}
+use Rattle.vt_spec.specs.Machine.Turns.{Item, Queued, Reply, Sched, Turned, queue_of, turn}
+use Rattle.vt_spec.specs.Machine.Turns.Item.{Asks, Calls, Refused}
+use Rattle.vt_spec.specs.Machine.World.{World}
+use Rattle.vt_laws_sealed.specs.Outsiders.{are_all_called}
+use Rattle.vt_laws_containers.proofs.scripts.Called.{members_stay_called}
+use Rattle.vt_laws_turns.specs.Commits.{run_item}
+use Rattle.vt_laws_turns.proofs.played.Turning.{Answers, GoesOn, Turns, turn_is}
+use Rattle.vt_laws_containers.specs.MembersTurns.TheirTurns.{grown_after, grown_by, is_directive, set_left}
+use Rattle.vt_laws_containers.proofs.members_turns.EachTurn.{stays}
+
+module _ (sched : Sched ℕ) (names : List TaskName) (name : TaskName) (fresh : Option (Fresh ℕ))
+    (there : are_all_called sched.world names ≡ true) where
+  -- an item that is run whole leaves them so
+  by_item : (item : Item) (given : Option (Fresh ℕ)) → is_directive item ≡ false
+      → are_all_called (run_item sched.world (Someone name) item given).world
+      (grown_by names name item (run_item sched.world (Someone name) item given).answer) ≡ true
+  by_item (Calls call) None e = there
+  by_item (Calls call) (Some given) e = members_stay_called sched.world given names name call there
+  by_item (Asks directive) given e = absurd (true≢false e)
+  by_item (Refused deny) given e = there
+
+  goes_on : (first : Option Queued) (turned : Turned ℕ) → GoesOn sched turned
+      → are_all_called turned.sched.world (grown_after names name first turned.reply) ≡ true
+  goes_on first turned goes =
+      ap (λ (r : Option Reply). are_all_called turned.sched.world (grown_after names name first r)) goes.reply
+      ∙ ap (are_all_called turned.sched.world) (stays names name first)
+      ∙ ap (λ (w : World ℕ). are_all_called w names) goes.world ∙ there
+
+  answers : (first : Queued) (turned : Turned ℕ) → is_directive first.item ≡ false
+      → Answers sched (Someone name) first fresh turned
+      → are_all_called turned.sched.world (grown_after names name (Some first) turned.reply) ≡ true
+  answers first turned e done =
+      ap (λ (r : Option Reply). are_all_called turned.sched.world (grown_after names name (Some first) r)) done.reply
+      ∙ ap (λ (w : World ℕ). are_all_called w (grown_by names name first.item
+      (run_item sched.world (Someone name) first.item fresh).answer)) done.world
+      ∙ by_item first.item fresh e
+
+  by_queue : (items : List Queued) (turned : Turned ℕ) → ((first : Queued) → first_of_list items ≡ Some first
+      → is_directive first.item ≡ false) → Turns sched (Someone name) fresh items turned
+      → are_all_called turned.sched.world (grown_after names name (first_of_list items) turned.reply) ≡ true
+  by_queue [] turned plain goes = goes_on None turned goes
+  by_queue (first ∷ rest) turned plain is =
+      ⊎_elim (goes_on (Some first) turned) (answers first turned (plain first refl)) is
+
+  pub still_called : ((first : Queued) → first_of_list (queue_of sched.queues (Someone name)) ≡ Some first
+      → is_directive first.item ≡ false)
+      → are_all_called (turn nat_eq sched (Someone name) fresh).sched.world (set_left sched names name fresh) ≡ true
+  still_called plain =
+      by_queue (queue_of sched.queues (Someone name)) (turn nat_eq sched (Someone name) fresh) plain
+      (turn_is sched (Someone name) fresh)

@@ -1,0 +1,154 @@
+-- A turn of theirs that answers a call which ends alike in the part is a turn of their part.
+use Rattle.std.proofs.Common.{◌≡◌, refl, sym, ap, subst, ◌∙◌, inl, inr, ⊎_elim, ℕ, nat_eq, Bool, true, false, true≢false, cond, not, List, [], ◌∷◌, Some, None, Ok, Err, Result, filter, is_ok, is_some, map}
+use Rattle.std.specs.Prelude.{unwrap_or}
+use Rattle.vt_spec.specs.declared.errors.Deny.{Deny}
+use Rattle.vt_spec.specs.Language.Answers.{Answer}
+use Rattle.vt_spec.specs.Language.Calls.{Call, TaskName, same_name}
+use Rattle.vt_spec.specs.Language.Script.Who.{Someone}
+use Rattle.vt_spec.specs.Lists.{Fresh, first_of_list, is_among}
+use Rattle.vt_spec.specs.Machine.Policy.{policy}
+use Rattle.vt_spec.specs.Machine.Sealed.{part_of}
+use Rattle.vt_spec.specs.Machine.Turns.{Progress, Queue, Queued, Reply, Sched, Turned, queue_of, shortened, turn, without_progress}
+use Rattle.vt_spec.specs.Machine.Turns.Item.{Calls}
+use Rattle.vt_spec.specs.Machine.World.{World}
+use Rattle.vt_spec.proofs.Lists.{Among, among-from_filter, contains_from_among}
+use Rattle.vt_spec.proofs.Options.{none_is_some}
+use Rattle.vt_laws_members.specs.Changes.Changes.{grown}
+use Rattle.vt_laws_members.proofs.changes.tasks.Denied.{denials_end_alike}
+use Rattle.vt_laws_turns.proofs.TurnShapes.{Shape, is_task_call, turn_shape}
+use Rattle.vt_laws_turns.proofs.TurnShapes.Shape.{CallDone, Further, Idle, OtherDone}
+use Rattle.vt_laws_turns.proofs.played.Turning.{Answers, Turns, turn_is}
+use Rattle.vt_laws_containers.specs.SealedTurns.MembersTurns.{TheirAnswersAreOfTheGrownPart, TheirAnswersAreOfTheirPart, TheirRefusalsAreOfTheirPart, TurnsAlikeFor, part_of_sched}
+use Rattle.vt_laws_containers.specs.SealedTurns.OutsidersTurns.{their_calls}
+use Rattle.vt_laws_containers.proofs.sealed_turns.members.Grown.{were_of_the_set}
+use Rattle.vt_laws_containers.proofs.sealed_turns.members.TurnsAlike.{swapped, their_turns_answer_alike}
+
+-- what a turn that answers a call leaves
+record IsAnswered (sched : Sched ℕ) (name : TaskName) (line : ℕ) (call : Call) (fresh : Fresh ℕ) (turned : Turned ℕ)
+    : Type 0 where
+  reply : turned.reply
+      ≡ Some (record { line = line; answer = (policy nat_eq fresh sched.world name call).answer })
+  world : turned.sched.world ≡ (policy nat_eq fresh sched.world name call).world
+  queues : turned.sched.queues ≡ map (shortened (Someone name)) sched.queues
+  under_way : turned.sched.under_way ≡ without_progress name sched.under_way
+
+module _ (sched : Sched ℕ) (name : TaskName) (line : ℕ) (call : Call) (fresh : Fresh ℕ)
+    (first : first_of_list (queue_of sched.queues (Someone name)) ≡ Some (record { line = line; item = Calls call }))
+  where
+    no_reply : (turned : Turned ℕ) → is_some turned.reply ≡ true → turned.reply ≡ None → ⊥
+    no_reply turned answers none = true≢false (sym answers ∙ ap is_some none)
+
+    left_under_way : (turned : Turned ℕ) → is_some turned.reply ≡ true → Shape sched (Someone name) (Some fresh) turned
+        → turned.sched.under_way ≡ without_progress name sched.under_way
+    left_under_way turned answers (Idle none is) = none_is_some _ (sym (ap first_of_list none) ∙ first)
+    left_under_way turned answers (OtherDone other found no_call outcome is) =
+        let same : record { line = line; item = Calls call } ≡ other = cc in
+        absurd (true≢false (ap (λ (q : Queued). is_task_call (Someone name) q.item) same ∙ no_call))
+    left_under_way turned answers (CallDone other who l c found outcome is) =
+        let same : other ≡ name = cc in
+        ap (λ (t : Turned ℕ). t.sched.under_way) is ∙ ap (λ n. without_progress n sched.under_way) same
+    left_under_way turned answers (Further task who l c new handed next before at further) =
+        absurd (no_reply turned answers (ap (λ (t : Turned ℕ). t.reply) further.is))
+
+    by_items : (turned : Turned ℕ) → is_some turned.reply ≡ true → Shape sched (Someone name) (Some fresh) turned
+        → (items : List Queued) → first_of_list items ≡ Some (record { line = line; item = Calls call })
+        → Turns sched (Someone name) (Some fresh) items turned → IsAnswered sched name line call fresh turned
+    by_items turned answers shape [] e goes = none_is_some _ e
+    by_items turned answers shape (one ∷ rest) e is =
+        ⊎_elim (λ goes. absurd (no_reply turned answers goes.reply))
+        (λ done.
+        let same : one ≡ record { line = line; item = Calls call } = ap (λ o. unwrap_or o one) e in
+        let its : Answers sched (Someone name) (record { line = line; item = Calls call }) (Some fresh) turned =
+        subst (λ (q : Queued). Answers sched (Someone name) q (Some fresh) turned) same done in record {
+          reply = its.reply;
+          world = its.world;
+          queues = its.queues;
+          under_way = left_under_way turned answers shape;
+        })
+        is
+
+    answered : is_some (turn nat_eq sched (Someone name) (Some fresh)).reply ≡ true
+        → IsAnswered sched name line call fresh (turn nat_eq sched (Someone name) (Some fresh))
+    answered answers =
+        by_items (turn nat_eq sched (Someone name) (Some fresh)) answers (turn_shape sched (Someone name) (Some fresh))
+        (queue_of sched.queues (Someone name)) first (turn_is sched (Someone name) (Some fresh))
+
+-- a test that passes no more than another keeps the same of what that one kept
+filter_less : {A : Type 0} (p r : A → Bool) (xs : List A) → ((x : A) → Among x xs → p x ≡ true → r x ≡ true)
+    → filter p (filter r xs) ≡ filter p xs
+filter_less p r [] less = refl
+filter_less {A} p r (x ∷ xs) less = by (p x) (r x) refl refl (filter_less p r xs (λ y m. less y (inr m)))
+  where
+    by : (b c : Bool) → p x ≡ b → r x ≡ c → filter p (filter r xs) ≡ filter p xs
+        → filter p (cond c (x ∷ filter r xs) (filter r xs)) ≡ cond b (x ∷ filter p xs) (filter p xs)
+    by true true e f later =
+        ap (λ b. cond b (x ∷ filter p (filter r xs)) (filter p (filter r xs))) e ∙ ap (λ l. x ∷ l) later
+    by true false e f later = absurd (true≢false (sym (less x (inl refl) e) ∙ f))
+    by false true e f later = ap (λ b. cond b (x ∷ filter p (filter r xs)) (filter p (filter r xs))) e ∙ later
+    by false false e f later = later
+
+-- Of a set what is left is the same, whether others than theirs are left out before, if each call under way of the set
+-- is one of theirs.
+calls_left_of : (names set : List TaskName) (name : TaskName) (under_way : List (Progress ℕ))
+    → ((p : Progress ℕ) → Among p under_way → is_among same_name p.task set ≡ true
+    → is_among same_name p.task names ≡ true)
+    → their_calls set (without_progress name (their_calls names under_way))
+    ≡ their_calls set (without_progress name under_way)
+calls_left_of names set name under_way were =
+    let own = λ (p : Progress ℕ). is_among same_name p.task names in
+    let of_set = λ (p : Progress ℕ). is_among same_name p.task set in
+    let others = λ (p : Progress ℕ). not (same_name name p.task) in
+    ap (filter of_set) (sym (swapped own others under_way))
+    ∙ filter_less of_set own (filter others under_way) (λ p m. were p (among-from_filter others under_way p m).0)
+
+abbrev sched_of : World ℕ → List Queue → List (Progress ℕ) → Sched ℕ
+sched_of world queues under_way = record { world = world; queues = queues; under_way = under_way }
+
+same_sched : (a b : World ℕ) (q r : List Queue) (u v : List (Progress ℕ)) → a ≡ b → q ≡ r → u ≡ v
+    → sched_of a q u ≡ sched_of b r v
+same_sched a b q r u v e f g =
+    ap (λ w. sched_of w q u) e ∙ ap (λ l. sched_of b l u) f ∙ ap (λ l. sched_of b r l) g
+
+pub their_answers_are_of_the_grown_part : TheirAnswersAreOfTheGrownPart
+their_answers_are_of_the_grown_part sched names name call fresh turns ends =
+    let part : Sched ℕ = part_of_sched names sched in
+    let set : List TaskName = grown names name call (policy nat_eq fresh sched.world name call).answer in
+    let one = answered sched name turns.line call fresh turns.first turns.answers in
+    let two = answered part name turns.line call fresh turns.first
+    (their_turns_answer_alike sched names name (Some fresh) turns.has turns.theirs ∙ turns.answers) in
+    let whole : Sched ℕ = (turn nat_eq sched (Someone name) (Some fresh)).sched in
+    let in_part : Sched ℕ = (turn nat_eq part (Someone name) (Some fresh)).sched in record {
+      reply =
+          two.reply
+          ∙ ap (λ (a : Result Answer Deny). Some (reply_of turns.line a)) (sym ends.answer)
+          ∙ sym one.reply;
+      left =
+          same_sched (part_of nat_eq in_part.world set) (part_of nat_eq whole.world set) in_part.queues whole.queues
+          (their_calls set in_part.under_way) (their_calls set whole.under_way)
+          (ap (λ (w : World ℕ). part_of nat_eq w set) two.world ∙ sym ends.part
+          ∙ ap (λ (w : World ℕ). part_of nat_eq w set) (sym one.world))
+          (two.queues ∙ sym one.queues)
+          (ap (their_calls set) two.under_way
+          ∙ calls_left_of names set name sched.under_way (λ p m.
+          were_of_the_set sched.world names name call fresh turns.has.is p.task
+          (turns.has.holds.there p (contains_from_among sched.under_way p m)))
+          ∙ ap (their_calls set) (sym one.under_way));
+    }
+  where
+    reply_of : ℕ → Result Answer Deny → Reply
+    reply_of line answer = record { line = line; answer = answer }
+
+pub their_answers_are_of_their_part : TheirAnswersAreOfTheirPart
+their_answers_are_of_their_part sched names name call fresh turns ends stay =
+    subst (λ (set : List TaskName). TurnsAlikeFor sched names set name (Some fresh)) stay
+    (their_answers_are_of_the_grown_part sched names name call fresh turns ends)
+
+pub their_refusals_are_of_their_part : TheirRefusalsAreOfTheirPart
+their_refusals_are_of_their_part sched names name call fresh turns theirs refused =
+    their_answers_are_of_their_part sched names name call fresh turns
+    (denials_end_alike sched.world names name call theirs fresh fresh refused)
+    (by (policy nat_eq fresh sched.world name call).answer refused)
+  where
+    by : (answer : Result Answer Deny) → is_ok answer ≡ false → grown names name call answer ≡ names
+    by (Ok answer) e = absurd (true≢false e)
+    by (Err deny) e = refl

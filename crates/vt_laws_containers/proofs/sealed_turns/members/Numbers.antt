@@ -1,0 +1,144 @@
+-- The change numbers that calls of theirs hold are those of the part.
+use Rattle.std.proofs.Common.{◌≡◌, refl, sym, ap, ◌∙◌, inl, inr, ⊎_elim, ℕ, nat_eq, Bool, true, false, true≢false, cond, List, [], ◌∷◌, ◌||◌, Option, Some, filter, find, map, eqb-true, eq-eqb}
+use Rattle.std.specs.Prelude.{option_map, unwrap_or}
+use Rattle.std.specs.List.{filter_map, list_any}
+use Rattle.std.proofs.lemmas.Bool.{or_cases}
+use Rattle.vt_spec.specs.Language.Calls.{TaskName}
+use Rattle.vt_spec.specs.Lists.{first_of_list, holds_of, is_among, when}
+use Rattle.vt_spec.specs.Machine.Invariants.{IsWorld}
+use Rattle.vt_spec.specs.Machine.Mounts.{Location, Mount}
+use Rattle.vt_spec.specs.Machine.Sealed.{is_own_mount, is_own_namespace, members, own_lowers, own_mounts, part_of, part_of_filesystem, part_of_lower, used_filesystems}
+use Rattle.vt_spec.specs.Machine.Turns.{Progress, filesystem_change_of, is_overtaken, is_stale, last_number, namespace_change_of}
+use Rattle.vt_spec.specs.Machine.World.{Filesystem, Layer, Namespace, Task, World, locations_of, mount_at, mounts_of}
+use Rattle.vt_spec.proofs.Lists.{Among, among-append_left, among-filter, among-flat_map, among-from_filter, among-map, any_among, any_from_among}
+use Rattle.vt_laws_members.proofs.judging.JudgedOverlays.{any_same}
+use Rattle.vt_laws_members.proofs.judging.MountPoints.{in_own}
+use Rattle.vt_laws_members.proofs.judging.SeenInPart.{located_used}
+use Rattle.vt_laws_sealed.proofs.part.Kept.{filter_kept}
+use Rattle.vt_laws_sealed.proofs.part.part.PartOfPart.{shown_how, used_directly_used}
+use Rattle.vt_laws_turns.specs.Holds.Held.{HoldsItsTask, is_seen_by}
+
+-- what is found is the first that passes
+found_first : {A : Type 0} (p : A → Bool) (list : List A) → find p list ≡ first_of_list (filter p list)
+found_first p [] = refl
+found_first {A} p (a ∷ rest) = by (p a) (found_first p rest)
+  where
+    by : (b : Bool) → find p rest ≡ first_of_list (filter p rest)
+        → cond b (Some a) (find p rest) ≡ first_of_list (cond b (a ∷ filter p rest) (filter p rest))
+    by true later = refl
+    by false later = later
+
+-- a search finds the same where all that it may find is kept
+pub found_kept : {A : Type 0} (p q : A → Bool) (list : List A) → ((a : A) → p a ≡ true → q a ≡ true)
+    → find p (filter q list) ≡ find p list
+found_kept p q [] keeps = refl
+found_kept {A} p q (a ∷ rest) keeps = by (p a) (q a) refl refl (found_kept p q rest keeps)
+  where
+    by : (b c : Bool) → p a ≡ b → q a ≡ c → find p (filter q rest) ≡ find p rest
+        → find p (cond c (a ∷ filter q rest) (filter q rest)) ≡ cond b (Some a) (find p rest)
+    by true true e f later = ap (λ b. cond b (Some a) (find p (filter q rest))) e
+    by true false e f later = absurd (true≢false (sym (keeps a e) ∙ f))
+    by false true e f later = ap (λ b. cond b (Some a) (find p (filter q rest))) e ∙ later
+    by false false e f later = later
+
+module _ (world : World ℕ) (names : List TaskName) (is : IsWorld nat_eq world) (task : Task ℕ)
+    (member : Among task (members world names)) where
+  abbrev part : World ℕ
+  part = part_of nat_eq world names
+
+  abbrev uses : ℕ → Bool
+  uses number = is_among nat_eq number (used_filesystems nat_eq world names)
+
+  stood_used : (l : Location ℕ) → Among l (locations_of task) → (f : ℕ)
+      → nat_eq f (mount_at nat_eq world l).filesystem ≡ true → uses f ≡ true
+  stood_used l m f e =
+      ap uses (eqb-true f (mount_at nat_eq world l).filesystem e)
+      ∙ located_used world names is l (among-flat_map locations_of (members world names) task l member m)
+
+  -- what one of their tasks sees is used
+  pub seen_used : (f : ℕ) → is_seen_by world task f ≡ true → uses f ≡ true
+  seen_used f seen =
+      ⊎_elim
+      (λ both. ⊎_elim of_mount (stood_used task.root (inl refl) f)
+      (or_cases (list_any (λ (m : Mount ℕ). nat_eq f m.filesystem) (mounts_of nat_eq world task.namespace))
+      (nat_eq f (mount_at nat_eq world task.root).filesystem) both))
+      (stood_used task.directory (inr (inl refl)) f)
+      (or_cases (list_any (λ (m : Mount ℕ). nat_eq f m.filesystem) (mounts_of nat_eq world task.namespace)
+      || nat_eq f (mount_at nat_eq world task.root).filesystem)
+      (nat_eq f (mount_at nat_eq world task.directory).filesystem) seen)
+    where
+      of_mount : list_any (λ (m : Mount ℕ). nat_eq f m.filesystem) (mounts_of nat_eq world task.namespace) ≡ true
+          → uses f ≡ true
+      of_mount any =
+          let found = any_among (λ (m : Mount ℕ). nat_eq f m.filesystem) (mounts_of nat_eq world task.namespace) any in
+          let both = among-from_filter (λ (m : Mount ℕ). holds_of (nat_eq task.namespace) m.namespace) world.mounts
+          found.0 found.1 in
+          ap uses (eqb-true f found.0.filesystem found.2)
+          ∙ used_directly_used world names found.0.filesystem
+          (among-append_left (map (λ (m : Mount ℕ). m.filesystem) (own_mounts nat_eq world names)) _ found.0.filesystem
+          (among-map (λ (m : Mount ℕ). m.filesystem) (own_mounts nat_eq world names) found.0
+          (among-filter (is_own_mount nat_eq world names) world.mounts found.0 both.0
+          (in_own world names is task member found.0 both.1))))
+
+  -- the part has the numbers of what they use,
+  pub filesystem_same : (f : ℕ) → uses f ≡ true → filesystem_change_of nat_eq part f
+      ≡ filesystem_change_of nat_eq world f
+  filesystem_same f used =
+      ap (λ o. unwrap_or (option_map (λ (x : Filesystem ℕ). x.change) o) last_number)
+      (found_first numbered (filter_map shown world.filesystems)
+      ∙ ap first_of_list (filter_kept shown numbered whole others world.filesystems)
+      ∙ sym (found_first numbered world.filesystems))
+    where
+      numbered : Filesystem ℕ → Bool
+      numbered x = nat_eq f x.number
+
+      shown : Filesystem ℕ → Option (Filesystem ℕ)
+      shown = part_of_filesystem nat_eq world names
+
+      whole : (x : Filesystem ℕ) → numbered x ≡ true → shown x ≡ Some x
+      whole x e =
+          ap (λ b. cond b (Some x)
+          (when (list_any (λ (layer : Layer ℕ). nat_eq x.number layer.filesystem) (own_lowers nat_eq world names))
+          (part_of_lower nat_eq world names x)))
+          (ap uses (sym (eqb-true f x.number e)) ∙ used)
+
+      others : (x y : Filesystem ℕ) → shown x ≡ Some y → numbered x ≡ false → numbered y ≡ false
+      others x y e fails =
+          ⊎_elim (λ same. ap numbered (sym same.0) ∙ fails)
+          (λ lower. ap numbered (sym lower.0) ∙ fails)
+          (shown_how world names x y e)
+
+  -- and of their namespaces
+  pub namespace_same : namespace_change_of nat_eq part task.namespace ≡ namespace_change_of nat_eq world task.namespace
+  namespace_same =
+      ap (λ o. unwrap_or (option_map (λ (n : Namespace ℕ). n.change) o) last_number)
+      (found_kept (λ (n : Namespace ℕ). nat_eq task.namespace n.number)
+      (λ (n : Namespace ℕ). is_own_namespace nat_eq world names n.number) world.namespaces
+      (λ n e. any_from_among (λ (t : Task ℕ). nat_eq n.number t.namespace) (members world names) task member
+      (eq-eqb n.number task.namespace (sym (eqb-true task.namespace n.number e)))))
+
+  -- so a call that holds what is seen is overtaken in both or in neither
+  pub overtaken_alike : (progress : Progress ℕ)
+      → (HoldsItsTask world task progress → (held : ℕ × ℕ) → Among held progress.filesystems
+      → is_seen_by world task held.0 ≡ true)
+      → is_overtaken nat_eq part task progress ≡ is_overtaken nat_eq world task progress
+  overtaken_alike progress seen =
+      ap (λ n. is_stale progress.task_change task.change || is_stale progress.namespace_change n
+      || list_any (stale_in part) progress.filesystems) namespace_same
+      ∙ by (is_stale progress.task_change task.change)
+      (is_stale progress.namespace_change (namespace_change_of nat_eq world task.namespace)) refl refl
+    where
+      stale_in : World ℕ → ℕ × ℕ → Bool
+      stale_in w held = is_stale held.1 (filesystem_change_of nat_eq w held.0)
+
+      by : (a b : Bool) → is_stale progress.task_change task.change ≡ a
+          → is_stale progress.namespace_change (namespace_change_of nat_eq world task.namespace) ≡ b
+          → (a || b || list_any (stale_in part) progress.filesystems)
+          ≡ (a || b || list_any (stale_in world) progress.filesystems)
+      by true b e f = refl
+      by false true e f = refl
+      by false false e f =
+          any_same (stale_in part) (stale_in world) progress.filesystems (λ held m.
+          ap (is_stale held.1)
+          (filesystem_same held.0 (seen_used held.0
+          (seen (record { task_change = e; namespace_change = f }) held m))))

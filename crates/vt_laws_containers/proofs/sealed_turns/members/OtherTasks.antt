@@ -1,0 +1,63 @@
+-- Turns of theirs that answer a fork or an exit are of their part, of the set that is left.
+use Rattle.std.proofs.Common.{◌≡◌, refl, sym, ap, ◌∙◌, ℕ, nat_eq, List, Option, Some, None, Ok, Err}
+use Rattle.std.specs.Prelude.{is_ok}
+use Rattle.vt_spec.specs.Language.Calls.{ForkWords, TaskName}
+use Rattle.vt_spec.specs.Language.Calls.Call.{Exit, Fork}
+use Rattle.vt_spec.specs.Lists.{Fresh}
+use Rattle.vt_spec.specs.Machine.Judge.{Judgement, fork_permit, judge_in}
+use Rattle.vt_spec.specs.Machine.Permits.{Permit}
+use Rattle.vt_spec.specs.Machine.Permits.Permit.{ToFork}
+use Rattle.vt_spec.specs.Machine.Rules.Tasks.{fork_rules}
+use Rattle.vt_spec.specs.Machine.Tasks.{child_credentials}
+use Rattle.vt_spec.specs.Machine.World.{Task, World, task_called}
+use Rattle.vt_spec.proofs.Refusals.{passing}
+use Rattle.vt_laws_members.specs.Changes.Changes.{EndsAlike, IsCallOfTheirs}
+use Rattle.vt_laws_members.proofs.changes.looks.Told.{ran}
+use Rattle.vt_laws_members.proofs.changes.tasks.Denied.{denials_end_alike, run_by, unnamed_ends_alike}
+use Rattle.vt_laws_members.proofs.changes.tasks.Forking.{forks_end_alike}
+use Rattle.vt_laws_members.proofs.changes.letting_go.Exiting.{exits_end_alike}
+use Rattle.vt_laws_containers.specs.SealedTurns.MembersTurns.{TheirExitsAreOfTheGrownPart, TheirForksAreOfTheGrownPart}
+use Rattle.vt_laws_containers.proofs.sealed_turns.members.Answering.{their_answers_are_of_the_grown_part}
+
+-- a fork that is granted is a fork of the credentials that its words give
+granted_fork : (fresh : Fresh ℕ) (world : World ℕ) (task : Task ℕ) (words : Option ForkWords) (permit : Permit ℕ)
+    → judge_in nat_eq fresh world task (Fork words) ≡ Ok permit
+    → judge_in nat_eq fresh world task (Fork words) ≡ Ok (ToFork (child_credentials task.credentials words))
+unfolding fork_permit
+granted_fork fresh world task words permit e =
+    let credentials = child_credentials task.credentials words in
+    e ∙ sym (passing (fork_rules task credentials) (Ok (ToFork credentials)) permit e).1
+
+-- each fork ends alike, granted or refused
+each_fork_ends_alike : (world : World ℕ) (names : List TaskName) (name : TaskName) (words : Option ForkWords)
+    → IsCallOfTheirs world names name (Fork words) → (fresh other : Fresh ℕ)
+    → EndsAlike world names name (Fork words) fresh other
+each_fork_ends_alike world names name words it fresh other = by (task_called world name) refl
+  where
+    judged : (task : Task ℕ) → task_called world name ≡ Some task → (judgement : Judgement ℕ)
+        → judge_in nat_eq fresh world task (Fork words) ≡ judgement
+        → EndsAlike world names name (Fork words) fresh other
+    judged task e (Ok permit) j =
+        forks_end_alike world names name words it task e fresh other (child_credentials task.credentials words)
+        (granted_fork fresh world task words permit j)
+    judged task e (Err deny) j =
+        denials_end_alike world names name (Fork words) it fresh other
+        (ap (λ found. is_ok (ran name (Fork words) world fresh found).answer) e
+        ∙ ap (λ judgement. is_ok
+        (run_by world names name (Fork words) it fresh other world fresh task judgement).answer)
+        j)
+
+    by : (found : Option (Task ℕ)) → task_called world name ≡ found
+        → EndsAlike world names name (Fork words) fresh other
+    by None e = unnamed_ends_alike world names name (Fork words) it fresh other e
+    by (Some task) e = judged task e (judge_in nat_eq fresh world task (Fork words)) refl
+
+pub their_forks_are_of_the_grown_part : TheirForksAreOfTheGrownPart
+their_forks_are_of_the_grown_part sched names name words fresh turns theirs =
+    their_answers_are_of_the_grown_part sched names name (Fork words) fresh turns
+    (each_fork_ends_alike sched.world names name words theirs fresh fresh)
+
+pub their_exits_are_of_the_grown_part : TheirExitsAreOfTheGrownPart
+their_exits_are_of_the_grown_part sched names name fresh turns theirs =
+    their_answers_are_of_the_grown_part sched names name Exit fresh turns
+    (exits_end_alike sched.world names name theirs fresh fresh)

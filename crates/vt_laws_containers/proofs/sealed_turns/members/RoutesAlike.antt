@@ -1,0 +1,153 @@
+-- The paths of a call of theirs are walked alike in the world and in the part.
+use Rattle.std.proofs.Common.{◌≡◌, refl, ap, ◌∙◌, ℕ, nat_eq, List, [], ◌∷◌, ◌++◌, Option, Some, None, Ok, Err, Result}
+use Rattle.std.specs.Prelude.{IfOk, option_to_list}
+use Rattle.vt_spec.specs.Language.Calls.{Call, Creation, OverlayWords}
+use Rattle.vt_spec.specs.Language.Calls.Call.{Bind, Chdir, Chmod, Chown, Chroot, Exec, Lazy, LinkTo, Ls, Lstat, MakeWhiteout, Mkdir, MountOverlay, MountPlain, MoveMount, Opaque, OpenFile, PivotRoot, Read, Readlink, Remount, Rename, Rmdir, SetType, Stat, SymlinkAt, Umount, Unlink, Write}
+use Rattle.vt_spec.specs.Language.Calls.Creation.{Exclusive, NoCreation, OrCreate}
+use Rattle.vt_spec.specs.Machine.Looks.{Looks}
+use Rattle.vt_spec.specs.Machine.Mounts.{Location}
+use Rattle.vt_spec.specs.Machine.Rules.Mounting.{destination_walk, source_walk, work_walked}
+use Rattle.vt_spec.specs.Machine.Rules.Removing.{rename_new_walk}
+use Rattle.vt_spec.specs.Machine.Turns.{here_route, layer_routes, open_route, place_route, rename_from_directory, routes}
+use Rattle.vt_spec.specs.Machine.Walking.{Here, Place, Stop, directory_walk, file_walk, new_leaf_walk, new_walk, object_walk, old_leaf_walk, old_walk, symlink_walk}
+use Rattle.vt_spec.specs.Machine.World.{Task}
+use Rattle.vt_spec.proofs.Lists.{map_alike}
+use Rattle.vt_laws_sealed.proofs.part.walks.WalksAgree.{Alike}
+use Rattle.vt_laws_members.proofs.judging.WalksLead.{PlaceAt, destination_agrees, directory_agrees, file_agrees, new_agrees, new_leaf_agrees, object_agrees, old_agrees, old_leaf_agrees, rename_new_agrees, same_directory_there, source_agrees, symlink_agrees}
+
+module _ (one other : Looks ℕ) (task : Task ℕ) (Own : ℕ → Type 0) (alike : Alike one other task Own)
+    (directory : Own task.directory.mount)
+    (removed : (here : Location ℕ) → Own here.mount → one.is_removed here ≡ other.is_removed here) where
+  -- one path, walked alike
+  here_same : (a b : Result (Here ℕ) (Stop ℕ)) → a ≡ b → (here_route a ∷ []) ≡ (here_route b ∷ [])
+  here_same a b e = ap (λ w. here_route w ∷ []) e
+
+  place_same : (a b : Result (Place ℕ) (Stop ℕ)) → a ≡ b → (place_route a ∷ []) ≡ (place_route b ∷ [])
+  place_same a b e = ap (λ w. place_route w ∷ []) e
+
+  object : (path : List ℕ)
+      → (here_route (object_walk nat_eq one task path) ∷ []) ≡ (here_route (object_walk nat_eq other task path) ∷ [])
+  object path = here_same _ _ (object_agrees one other task Own alike directory removed path).0
+
+  symlink : (path : List ℕ)
+      → (here_route (symlink_walk nat_eq one task path) ∷ []) ≡ (here_route (symlink_walk nat_eq other task path) ∷ [])
+  symlink path = here_same _ _ (symlink_agrees one other task Own alike directory removed path).0
+
+  directories : (path : List ℕ)
+      → (here_route (directory_walk nat_eq one task path) ∷ [])
+      ≡ (here_route (directory_walk nat_eq other task path) ∷ [])
+  directories path = here_same _ _ (directory_agrees one other task Own alike directory removed path).0
+
+  source : (path : List ℕ) → source_walk nat_eq one task path ≡ source_walk nat_eq other task path
+  source path = (source_agrees one other task Own alike directory removed path).0
+
+  destination : (path : List ℕ)
+      → (here_route (destination_walk nat_eq one task path) ∷ [])
+      ≡ (here_route (destination_walk nat_eq other task path) ∷ [])
+  destination path = here_same _ _ (destination_agrees one other task Own alike directory removed path).0
+
+  file : (path : List ℕ)
+      → (place_route (file_walk nat_eq one task path) ∷ []) ≡ (place_route (file_walk nat_eq other task path) ∷ [])
+  file path = place_same _ _ (file_agrees one other task Own alike directory removed path).0
+
+  new : (path : List ℕ)
+      → (place_route (new_walk nat_eq one task path) ∷ []) ≡ (place_route (new_walk nat_eq other task path) ∷ [])
+  new path = place_same _ _ (new_agrees one other task Own alike directory removed path).0
+
+  new_leaf : (path : List ℕ)
+      → (place_route (new_leaf_walk nat_eq one task path) ∷ [])
+      ≡ (place_route (new_leaf_walk nat_eq other task path) ∷ [])
+  new_leaf path = place_same _ _ (new_leaf_agrees one other task Own alike directory removed path).0
+
+  old : (path : List ℕ)
+      → (place_route (old_walk nat_eq one task path) ∷ []) ≡ (place_route (old_walk nat_eq other task path) ∷ [])
+  old path = place_same _ _ (old_agrees one other task Own alike directory removed path).0
+
+  old_leaf : (path : List ℕ) → old_leaf_walk nat_eq one task path ≡ old_leaf_walk nat_eq other task path
+  old_leaf path = (old_leaf_agrees one other task Own alike directory removed path).0
+
+  -- the old object of a rename is a directory in both
+  from_directory : (path : List ℕ)
+      → rename_from_directory nat_eq one (old_leaf_walk nat_eq one task path)
+      ≡ rename_from_directory nat_eq other (old_leaf_walk nat_eq other task path)
+  from_directory path =
+      by (old_leaf_walk nat_eq one task path) (old_leaf_agrees one other task Own alike directory removed path).1
+      ∙ ap (rename_from_directory nat_eq other) (old_leaf path)
+    where
+      by : (a : Result (Place ℕ) (Stop ℕ)) → IfOk a (PlaceAt one other task Own alike directory removed)
+          → rename_from_directory nat_eq one a ≡ rename_from_directory nat_eq other a
+      by (Ok place) at = same_directory_there one other task Own alike directory removed place at
+      by (Err stop) at = refl
+
+  renamed : (old new : List ℕ)
+      → routes nat_eq one task (Rename old new) ≡ routes nat_eq other task (Rename old new)
+  renamed old new =
+      ap (λ w. place_route w
+      ∷ place_route (rename_new_walk nat_eq one task new
+      (rename_from_directory nat_eq one (old_leaf_walk nat_eq one task old))) ∷ []) (old_leaf old)
+      ∙ ap (λ b. place_route (old_leaf_walk nat_eq other task old)
+      ∷ place_route (rename_new_walk nat_eq one task new b) ∷ []) (from_directory old)
+      ∙ ap (λ w. place_route (old_leaf_walk nat_eq other task old) ∷ place_route w ∷ [])
+      (rename_new_agrees one other task Own alike directory removed new
+      (rename_from_directory nat_eq other (old_leaf_walk nat_eq other task old))).0
+
+  layers : (options : Option OverlayWords)
+      → layer_routes nat_eq one task options ≡ layer_routes nat_eq other task options
+  layers None = refl
+  layers (Some words) =
+      map_alike (λ path. here_route (source_walk nat_eq one task path))
+      (λ path. here_route (source_walk nat_eq other task path))
+      (words.lowers ++ option_to_list words.upper ++ option_to_list (work_walked words))
+      (λ path m. ap (λ w. here_route w) (source path))
+
+  opened_alike : (path : List ℕ) (how : Creation)
+      → (open_route nat_eq one task path how ∷ []) ≡ (open_route nat_eq other task path how ∷ [])
+  opened_alike path NoCreation = object path
+  opened_alike path (OrCreate mode) = file path
+  opened_alike path (Exclusive mode) = new path
+
+  -- two mounts, or their places
+  from_to : (source_path path : List ℕ)
+      → (here_route (source_walk nat_eq one task source_path)
+      ∷ here_route (destination_walk nat_eq one task path) ∷ [])
+      ≡ (here_route (source_walk nat_eq other task source_path)
+      ∷ here_route (destination_walk nat_eq other task path) ∷ [])
+  from_to source_path path =
+      ap (λ w. here_route w ∷ here_route (destination_walk nat_eq one task path) ∷ []) (source source_path)
+      ∙ ap (λ l. here_route (source_walk nat_eq other task source_path) ∷ l) (destination path)
+
+  pub routes_alike : (call : Call) → routes nat_eq one task call ≡ routes nat_eq other task call
+  routes_alike (Ls path) = directories path
+  routes_alike (Stat path) = object path
+  routes_alike (Lstat path) = symlink path
+  routes_alike (Readlink path) = symlink path
+  routes_alike (Read path) = object path
+  routes_alike (Write path bytes) = file path
+  routes_alike (Exec path) = object path
+  routes_alike (Mkdir path mode) = new path
+  routes_alike (SymlinkAt text path) = new_leaf path
+  routes_alike (MakeWhiteout path) = new_leaf path
+  routes_alike (LinkTo from to) =
+      ap (λ l. l ++ (place_route (new_leaf_walk nat_eq one task to) ∷ [])) (symlink from)
+      ∙ ap (λ l. here_route (symlink_walk nat_eq other task from) ∷ l) (new_leaf to)
+  routes_alike (Unlink path) = place_same _ _ (old_leaf path)
+  routes_alike (Rmdir path) = old path
+  routes_alike (Rename from to) = renamed from to
+  routes_alike (Chmod path mode) = object path
+  routes_alike (Chown path uid gid) = object path
+  routes_alike (Opaque path mark) = directories path
+  routes_alike (OpenFile path access how) = opened_alike path how
+  routes_alike (Chdir path) = directories path
+  routes_alike (Chroot path) = directories path
+  routes_alike (MountPlain path given) = destination path
+  routes_alike (MountOverlay path options given) =
+      ap (λ l. l ++ layer_routes nat_eq one task options) (destination path)
+      ∙ ap (λ l. here_route (destination_walk nat_eq other task path) ∷ l) (layers options)
+  routes_alike (Bind from path recursive) = from_to from path
+  routes_alike (MoveMount from path) = from_to from path
+  routes_alike (Umount path) = directories path
+  routes_alike (Lazy path) = directories path
+  routes_alike (Remount path given) = directories path
+  routes_alike (SetType path word recursive) = directories path
+  routes_alike (PivotRoot new_root put) = from_to new_root put
+  routes_alike call = refl

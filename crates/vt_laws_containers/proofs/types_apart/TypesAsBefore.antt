@@ -1,0 +1,80 @@
+-- Where mounts of a sealed set change their types, others are as they were.
+use Rattle.std.proofs.Common.{◌≡◌, refl, ap, subst, ◌∙◌, inl, ℕ, nat_eq, Bool, true, false, cond, List, [], ◌∷◌, ◌++◌, Some, find, map, not}
+use Rattle.std.specs.Prelude.{unwrap_or}
+use Rattle.vt_spec.specs.Language.Calls.{TaskName, TypeWord}
+use Rattle.vt_spec.specs.Lists.{Fresh}
+use Rattle.vt_spec.specs.Machine.Invariants.{IsWorld}
+use Rattle.vt_spec.specs.Machine.Mounts.{Location, Mount, Propagation, mount_in, no_mount}
+use Rattle.vt_spec.specs.Machine.Run.{Serves}
+use Rattle.vt_spec.specs.Machine.Sealed.{is_own_mount, locations, members, outsiders, own_mounts, sealed, used_directly}
+use Rattle.vt_spec.specs.Machine.World.{World, mount_at}
+use Rattle.vt_spec.proofs.Lists.{Among, among_from_list_all, list_all_from_among, map_alike, map_twice}
+use Rattle.vt_laws_mounts.proofs.letting_go.Lists.{filter-map}
+use Rattle.vt_laws_sealed.proofs.part.seals.ByPart.{apart_if_sealed}
+use Rattle.vt_laws_containers.proofs.footholds.AsBefore.{OthersAsBefore}
+use Rattle.vt_laws_containers.proofs.types_apart.GroupsApart.{groups_apart, kind_after, left, others_kept}
+
+-- what each mount keeps when types change, the mount of a number keeps
+module _ {A : Type 0} (kind : Mount ℕ → Propagation ℕ) (f : Mount ℕ → A)
+    (same : (m : Mount ℕ) → f (record m { propagation = kind m }) ≡ f m) (number : ℕ) where
+  abbrev after : Mount ℕ → Mount ℕ
+  after m = record m { propagation = kind m }
+
+  kept_at : (mounts : List (Mount ℕ))
+      → f (mount_in nat_eq (map after mounts) number) ≡ f (mount_in nat_eq mounts number)
+  kept_at [] = refl
+  kept_at (m ∷ rest) = by (nat_eq number m.number) (kept_at rest)
+    where
+      by : (b : Bool) → f (mount_in nat_eq (map after rest) number) ≡ f (mount_in nat_eq rest number)
+          → f (unwrap_or (cond b (Some (after m)) (find (λ (x : Mount ℕ). nat_eq number x.number) (map after rest)))
+          (no_mount number))
+          ≡ f (unwrap_or (cond b (Some m) (find (λ (x : Mount ℕ). nat_eq number x.number) rest)) (no_mount number))
+      by true e = same m
+      by false e = e
+
+module _ (world : World ℕ) (names : List TaskName) (is : IsWorld nat_eq world)
+    (sealed_off : sealed nat_eq world names ≡ true) (fresh : Fresh ℕ) (serves : Serves nat_eq world fresh)
+    (word : TypeWord) (named : List (Mount ℕ))
+    (named_own : (m : Mount ℕ) → Among m named → Among m (own_mounts nat_eq world names)) where
+  abbrev now : World ℕ
+  now = left world names is sealed_off fresh serves word named named_own
+
+  abbrev kind : Mount ℕ → Propagation ℕ
+  kind = kind_after world names is sealed_off fresh serves word named named_own
+
+  abbrev typed : Mount ℕ → Mount ℕ
+  typed m = record m { propagation = kind m }
+
+  abbrev owned : Mount ℕ → Bool
+  owned = is_own_mount nat_eq world names
+
+  abbrev shows : Mount ℕ → ℕ
+  shows m = m.filesystem
+
+  shown_still : (l : Location ℕ) → (mount_at nat_eq now l).filesystem ≡ (mount_at nat_eq world l).filesystem
+  shown_still l = kept_at kind shows (λ m. refl) l.mount world.mounts
+
+  direct_same : used_directly nat_eq now names ≡ used_directly nat_eq world names
+  direct_same =
+      ap (λ l. map shows l ++ map (λ k. shows (mount_at nat_eq now k)) (locations (members world names)))
+      (filter-map owned {q = owned} typed world.mounts (λ m. refl))
+      ∙ ap (λ l. l ++ map (λ k. shows (mount_at nat_eq now k)) (locations (members world names)))
+      (map_twice shows typed (own_mounts nat_eq world names))
+      ∙ ap (λ l. map shows (own_mounts nat_eq world names) ++ l)
+      (map_alike (λ k. shows (mount_at nat_eq now k)) (λ k. shows (mount_at nat_eq world k))
+      (locations (members world names)) (λ l m. shown_still l))
+
+  pub types_as_before : OthersAsBefore world now names names
+  types_as_before = record {
+    others = refl;
+    mounts = others_kept world names is sealed_off fresh serves word named named_own;
+    shown = λ l m. shown_still l;
+    tasks = (apart_if_sealed world names is sealed_off).tasks;
+    events = groups_apart world names is sealed_off fresh serves word named named_own;
+    places = list_all_from_among (λ l. not (owned (mount_at nat_eq now l))) (locations (outsiders world names))
+        (λ l m. ap not (kept_at kind owned (λ x. refl) l.mount world.mounts)
+        ∙ among_from_list_all (λ k. not (owned (mount_at nat_eq world k))) (locations (outsiders world names))
+        (apart_if_sealed world names is sealed_off).locations l m);
+    filesystems = λ f m. inl (f, m, refl, refl);
+    direct = λ number m. inl (subst (Among number) direct_same m);
+  }

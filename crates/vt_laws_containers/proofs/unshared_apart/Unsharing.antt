@@ -1,0 +1,81 @@
+-- No unshare(2) by a task of a sealed set gives others a foothold.
+use Rattle.std.proofs.Common.{◌≡◌, refl, sym, ap, ◌∙◌, ℕ, nat_eq, Bool, true, false, List, Option, Some, None, Ok, Err, filter, not, eqb-true}
+use Rattle.std.specs.Prelude.{IfOk, is_ok}
+use Rattle.std.specs.List.{list_any}
+use Rattle.std.proofs.lemmas.Bool.{not-true}
+use Rattle.vt_spec.specs.Language.Calls.{TaskName, same_name}
+use Rattle.vt_spec.specs.Language.Calls.Call.{Unshare}
+use Rattle.vt_spec.specs.Lists.{Fresh}
+use Rattle.vt_spec.specs.Machine.Judge.{Judgement, judge_in, unshare_permit}
+use Rattle.vt_spec.specs.Machine.Namespaces.{namespaces_ended, unshared}
+use Rattle.vt_spec.specs.Machine.Permits.{Permit}
+use Rattle.vt_spec.specs.Machine.Permits.Permit.{ToUnshare}
+use Rattle.vt_spec.specs.Machine.Rules.Mounting.{admin_rules}
+use Rattle.vt_spec.specs.Machine.Run.{Serves}
+use Rattle.vt_spec.specs.Machine.World.{Task, World, task_called}
+use Rattle.vt_spec.proofs.Lists.{among-filter, among-from_filter, any_among, none_among}
+use Rattle.vt_laws_members.specs.Changes.Changes.{IsCallOfTheirs}
+use Rattle.vt_laws_members.proofs.changes.looks.Granted.{of_rules}
+use Rattle.vt_laws_members.proofs.changes.looks.Told.{ran}
+use Rattle.vt_laws_members.proofs.changes.tasks.Denied.{run_by}
+use Rattle.vt_laws_containers.specs.Footholds.{GivesNoFoothold}
+use Rattle.vt_laws_containers.proofs.footholds.AsBefore.{OthersAsBefore}
+use Rattle.vt_laws_containers.proofs.footholds.Granting.{refused_out}
+use Rattle.vt_laws_containers.proofs.footholds.TasksPermits.{permit_out}
+use Rattle.vt_laws_containers.specs.UnsharedApart.UnshareFootholds.{UnsharesGiveNoFoothold}
+use Rattle.vt_laws_containers.proofs.unshared_apart.UnsharedAsBefore.{unshared_as_before}
+
+-- by whether another task is in the namespace of the caller
+either_as_before : (world : World ℕ) (names : List TaskName) (name : TaskName)
+    (it : IsCallOfTheirs world names name Unshare) (task : Task ℕ) → task_called world name ≡ Some task
+    → (fresh : Fresh ℕ) → Serves nat_eq world fresh
+    → OthersAsBefore world (namespaces_ended nat_eq (unshared nat_eq world fresh task)) names names
+either_as_before world names name it task called fresh serves =
+    by (list_any (λ (t : Task ℕ). nat_eq task.namespace t.namespace) rest) refl
+  where
+    rest : List (Task ℕ)
+    rest = filter (λ (t : Task ℕ). not (same_name task.name t.name)) world.tasks
+
+    by : (b : Bool) → list_any (λ (t : Task ℕ). nat_eq task.namespace t.namespace) rest ≡ b
+        → OthersAsBefore world (namespaces_ended nat_eq (unshared nat_eq world fresh task)) names names
+    by false e =
+        unshared_as_before world names name it task called fresh serves true (λ t m differ.
+        none_among (λ (x : Task ℕ). nat_eq task.namespace x.namespace) rest e t
+        (among-filter (λ (x : Task ℕ). not (same_name task.name x.name)) world.tasks t m (ap not differ)))
+    by true e =
+        let at = any_among (λ (t : Task ℕ). nat_eq task.namespace t.namespace) rest e in
+        let from = among-from_filter (λ (t : Task ℕ). not (same_name task.name t.name)) world.tasks at.0 at.1 in
+        unshared_as_before world names name it task called fresh serves false (
+          at.0,
+          from.0,
+          sym (eqb-true task.namespace at.0.namespace at.2),
+          not-true (same_name task.name at.0.name) from.1,
+        )
+
+-- The permit of unshare(2)
+abbrev Unshares : Permit ℕ → Type 0
+Unshares permit = permit ≡ ToUnshare
+
+unshares : (task : Task ℕ) → IfOk (unshare_permit task) Unshares
+unfolding unshare_permit
+unshares task = of_rules Unshares (admin_rules task) (Ok ToUnshare) refl
+
+pub unshares_give_no_foothold : UnsharesGiveNoFoothold
+unshares_give_no_foothold world names name it fresh serves = by (task_called world name) refl
+  where
+    judged_by : (task : Task ℕ) → task_called world name ≡ Some task
+        → (j : Judgement ℕ) → judge_in nat_eq fresh world task Unshare ≡ j → IfOk j Unshares
+        → GivesNoFoothold world names name Unshare fresh
+    judged_by task e (Ok permit) judged known =
+        permit_out world names name Unshare it refl fresh serves task e ToUnshare (judged ∙ ap Ok known)
+        (λ ends. either_as_before world names name it task e fresh serves)
+    judged_by task e (Err deny) judged known =
+        refused_out world names name Unshare it fresh
+        (ap (λ o. is_ok (ran name Unshare world fresh o).answer) e
+        ∙ ap (λ j. is_ok (run_by world names name Unshare it fresh fresh world fresh task j).answer) judged)
+
+    by : (o : Option (Task ℕ)) → task_called world name ≡ o → GivesNoFoothold world names name Unshare fresh
+    by None e =
+        refused_out world names name Unshare it fresh
+        (ap (λ o. is_ok (ran name Unshare world fresh o).answer) e)
+    by (Some task) e = judged_by task e (judge_in nat_eq fresh world task Unshare) refl (unshares task)

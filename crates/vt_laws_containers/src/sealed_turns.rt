@@ -1,0 +1,4 @@
+//! Turns beside a sealed set.
+
+pub mod members;
+pub mod outsiders;

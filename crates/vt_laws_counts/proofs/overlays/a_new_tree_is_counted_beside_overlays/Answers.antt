@@ -1,5 +1,0 @@
-use Rattle.vt_laws_counts.proofs.overlays.FilesystemUses.{new_tree_is_counted_beside_overlays}
-use Rattle.vt_laws_counts.proofs.overlays.a_new_tree_is_counted_beside_overlays.Goals as goal
-
-pub returns : goal.returns
-returns c = new_tree_is_counted_beside_overlays

@@ -1,5 +1,0 @@
-use Rattle.vt_laws_counts.proofs.Alike.{any_same_worlds_count_alike}
-use Rattle.vt_laws_counts.proofs.overlays.any_same_worlds_count_alike.Goals as goal
-
-pub returns : goal.returns
-returns c = any_same_worlds_count_alike

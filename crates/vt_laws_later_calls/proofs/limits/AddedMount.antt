@@ -1,0 +1,163 @@
+-- What a new mount leaves at a destination that is not shared: one mount more, and the filesystem that it shows.
+use Rattle.std.proofs.Common.{◌≡◌, refl, ap, subst, ◌∙◌, ℕ, nat_eq, eq-eqb, Bool, true, false, not, List, [], ◌∷◌, ◌++◌, Option, None, Some, filter, flat_map, is_some, map}
+use Rattle.std.proofs.lemmas.List.{append-nil}
+use Rattle.std.specs.List.{cons_option}
+use Rattle.std.specs.Prelude.{if◌then◌else◌}
+use Rattle.vt_spec.specs.Language.Calls.{MountFlags}
+use Rattle.vt_spec.specs.Lists.{Fresh, folded, odds, then_some, when}
+use Rattle.vt_spec.specs.Machine.Apply.{apply}
+use Rattle.vt_spec.specs.Machine.Attach.{Copies, Graft, all_groups_made, copies_at, copies_from, copy_mount_point, copy_type, graft_of, image, masters_with, nearest_image, pushed_up, receivers_of, takes_part, twig_master, twig_of, type_at, type_at_part}
+use Rattle.vt_spec.specs.Machine.Mounts.{Location, Mount, group_of}
+use Rattle.vt_spec.specs.Machine.Mounts.Propagation.{Private}
+use Rattle.vt_spec.specs.Machine.NewMounts.{new_mount, plain_filesystem, with_new_filesystem}
+use Rattle.vt_spec.specs.Machine.Permits.Permit.{ToMountPlain}
+use Rattle.vt_spec.specs.Machine.Receives.{is_member_of}
+use Rattle.vt_spec.specs.Machine.World.{Filesystem, Task, World, mount_at, mount_numbered}
+use Rattle.vt_spec.specs.Machine.Run.{Serves}
+use Rattle.vt_spec.proofs.Lists.{among_numbers}
+use Rattle.vt_spec.proofs.Worlds.{number-mount_in}
+use Rattle.vt_laws_mounts.specs.Mounts.Attaching.{is_mount, numbers_of}
+use Rattle.vt_laws_mounts.proofs.mounts.MountsNumbered.{is_one_of, number_is_old}
+use Rattle.vt_laws_mounts.proofs.letting_go.leaving.PlacesLeft.{found_is_there}
+
+-- a mount that is in a namespace is one of the world's
+pub attached_is_mount : (world : World ℕ) (number : ℕ) → is_some (mount_numbered nat_eq world number).namespace ≡ true
+    → is_mount world number ≡ true
+attached_is_mount world number attached =
+    subst (λ n. is_mount world n ≡ true) (number-mount_in world.mounts number)
+    (is_one_of world.mounts (mount_numbered nat_eq world number) (found_is_there world.mounts number attached))
+
+module _ (fresh : Fresh ℕ) (world : World ℕ) (place : Location ℕ) (flags : MountFlags) where
+  -- the filesystem that is mounted
+  abbrev pub added_filesystem : Filesystem ℕ
+  added_filesystem = plain_filesystem nat_eq fresh
+
+  -- the world with that filesystem
+  abbrev larger : World ℕ
+  larger = with_new_filesystem world added_filesystem
+
+  -- the mount that it comes onto
+  abbrev destination : Mount ℕ
+  destination = mount_at nat_eq world place
+
+  -- a mount of the filesystem, before it is attached
+  abbrev origin : Mount ℕ
+  origin = new_mount added_filesystem.number added_filesystem.files.tree.root flags
+
+  -- the number that the new mount gets, where the destination is the only part
+  abbrev new_number : ℕ
+  new_number = (copies_from nat_eq (odds fresh) (destination ∷ []) (origin ∷ [])).copy destination.number origin.number
+
+  -- the new mount
+  abbrev pub added_mount : Mount ℕ
+  added_mount = record {
+    number = new_number;
+    namespace = destination.namespace;
+    mount_point = Some place;
+    filesystem = added_filesystem.number;
+    root = added_filesystem.files.tree.root;
+    flags = flags;
+    propagation = Private;
+  }
+
+  -- the mounts after the attachment, where these are the receivers that take part
+  abbrev mounts_with : List (Mount ℕ) → List (Mount ℕ)
+  mounts_with others =
+      let parts = destination ∷ others in
+      let new = copies_from nat_eq (odds fresh) parts (origin ∷ []) in
+      let graft = graft_of nat_eq larger new place false (origin ∷ []) in
+      map (pushed_up nat_eq larger new graft parts) world.mounts ++ copies_at nat_eq larger new graft parts destination
+      ++ flat_map (copies_at nat_eq larger new graft parts) others
+
+  -- the mounts at the destination, whatever the parts
+  abbrev mounts_with_copies : List (Mount ℕ) → List (Mount ℕ)
+  mounts_with_copies parts =
+      let new = copies_from nat_eq (odds fresh) parts (origin ∷ []) in
+      let graft = graft_of nat_eq larger new place false (origin ∷ []) in
+      map (pushed_up nat_eq larger new graft parts) world.mounts ++ copies_at nat_eq larger new graft parts destination
+
+  -- the attachment, where the destination is the only part
+  abbrev alone_graft : Graft ℕ
+  alone_graft =
+      graft_of nat_eq larger (copies_from nat_eq (odds fresh) (destination ∷ []) (origin ∷ [])) place false
+      (origin ∷ [])
+
+  -- a mount that is not shared has no receivers
+  no_receivers : group_of destination.propagation ≡ None
+      → filter (takes_part nat_eq larger place) (receivers_of nat_eq larger destination) ≡ []
+  no_receivers unshared = cc
+
+  -- without receivers no mount is pushed up
+  nothing_is_pushed : (list : List (Mount ℕ))
+      → map (pushed_up nat_eq larger (copies_from nat_eq (odds fresh) (destination ∷ []) (origin ∷ [])) alone_graft
+      (destination ∷ [])) list ≡ list
+  nothing_is_pushed [] = refl
+  nothing_is_pushed (mount ∷ list) = ap (λ rest. mount ∷ rest) (nothing_is_pushed list)
+
+  -- numbers of the new mount
+  abbrev alone_copies : Copies ℕ
+  alone_copies = copies_from nat_eq (odds fresh) (destination ∷ []) (origin ∷ [])
+
+  -- the new mount stands at the destination
+  point_is_destination : copy_mount_point nat_eq alone_copies alone_graft destination.number origin ≡ place
+  point_is_destination =
+      ap (λ top. if top then (record { mount = destination.number; node = place.node }) else place)
+      (eq-eqb added_filesystem.number added_filesystem.number refl)
+      ∙ (λ i. record { mount = number-mount_in world.mounts place.mount i; node = place.node })
+
+  -- and is private
+  type_is_private : destination.propagation ≡ Private
+      → type_at_part nat_eq larger alone_copies alone_graft (destination ∷ []) destination
+      (twig_of alone_copies (group_of destination.propagation) origin) ≡ Private
+  type_is_private private = by (nat_eq destination.number place.mount)
+    where
+      by : (b : Bool)
+          → (if b then type_at alone_copies (group_of destination.propagation) origin
+          else copy_type nat_eq larger alone_copies (destination ∷ []) destination
+          (twig_of alone_copies (group_of destination.propagation) origin) destination.propagation) ≡ Private
+      by true = ap (λ kind. type_at alone_copies (group_of kind) origin) private
+      by false = cc private
+
+  -- on a private mount one mount comes, the last one
+  pub mounts-new_mount : destination.propagation ≡ Private → (task : Task ℕ)
+      → (apply nat_eq fresh world task (ToMountPlain place flags)).world.mounts ≡ world.mounts ++ (added_mount ∷ [])
+  mounts-new_mount private task =
+      ap mounts_with (no_receivers (ap group_of private))
+      ∙ append-nil (mounts_with_copies (destination ∷ []))
+      ∙ (λ i. nothing_is_pushed world.mounts i ++ (record added_mount {
+        mount_point = Some (point_is_destination i);
+        propagation = type_is_private private i;
+      }) ∷ [])
+
+  -- no group is made
+  pub master-new_mount : destination.propagation ≡ Private → (task : Task ℕ)
+      → (apply nat_eq fresh world task (ToMountPlain place flags)).world.master ≡ world.master
+  master-new_mount private task =
+      ap master_with (no_receivers (ap group_of private))
+      ∙ ap (λ made. folded (masters_with nat_eq) world.master (cons_option made [] ++ []))
+      (by (nat_eq destination.number place.mount))
+    where
+      by : (b : Bool)
+          → (if b then twig_master (twig_of alone_copies (group_of destination.propagation) origin)
+          else then_some (group_of destination.propagation) (λ group.
+          when (not (is_member_of nat_eq group destination)) (
+            image nat_eq alone_copies destination
+                (twig_of alone_copies (group_of destination.propagation) origin) group,
+            nearest_image nat_eq larger alone_copies (destination ∷ []) destination
+                (twig_of alone_copies (group_of destination.propagation) origin) (world.master group),
+          ))) ≡ None
+      by true = ap (λ kind. twig_master (twig_of alone_copies (group_of kind) origin)) private
+      by false = cc private
+
+      master_with : List (Mount ℕ) → ℕ → Option ℕ
+      master_with others =
+          folded (masters_with nat_eq) world.master (all_groups_made nat_eq larger
+          (copies_from nat_eq (odds fresh) (destination ∷ others) (origin ∷ []))
+          (graft_of nat_eq larger (copies_from nat_eq (odds fresh) (destination ∷ others) (origin ∷ [])) place false
+          (origin ∷ [])) (destination ∷ others))
+
+  -- the number of the new mount is that of no mount of the world
+  pub other_number : Serves nat_eq world fresh → (number : ℕ) → is_mount world number ≡ true
+      → nat_eq number added_mount.number ≡ false
+  other_number serves number there =
+      number_is_old world fresh serves number (among_numbers (numbers_of world.mounts) number there) _

@@ -1,0 +1,292 @@
+-- A new mount on a private mount, unmounted again: when what nothing uses is gone, the world is as it was before.
+use Rattle.std.proofs.Common.{◌≡◌, refl, sym, ap, ◌∙◌, inl, ⊎_elim, true≢false, ℕ, nat_eq, eq-eqb, eqb-true, Bool, true, false, cond, not, ◌||◌, ◌&&◌, List, [], ◌∷◌, ◌++◌, Option, None, Some, filter, find, flat_map, is_some, map}
+use Rattle.std.specs.Prelude.{option_to_list, unwrap_or}
+use Rattle.std.specs.List.{list_all, list_any}
+use Rattle.std.proofs.Math.Bool.{or-false}
+use Rattle.std.proofs.lemmas.Bool.{and_parts}
+use Rattle.std.proofs.lemmas.List.{append-nil, map-append, map-id}
+use Rattle.std.proofs.lemmas.List.Elements.{filter-append}
+use Rattle.std.proofs.lemmas.List.Folds.{find-append, list_any-append}
+use Rattle.std.specs.Option.{option_or}
+use Rattle.vt_spec.specs.Language.Calls.{MountFlags}
+use Rattle.vt_spec.specs.Lists.{Fresh, holds_of, is_among}
+use Rattle.vt_spec.specs.Machine.Detach.{going, going_from, has_child, is_used, unmounted}
+use Rattle.vt_spec.specs.Machine.Invariants.{HasLivingGroups, IsWorld, Lives, has_its_root}
+use Rattle.vt_spec.specs.Machine.Invariants.Lives.{has_master, has_no_master}
+use Rattle.vt_spec.specs.Machine.Locked.{overlay_or}
+use Rattle.vt_spec.specs.Machine.Mounts.{Location, Mount, detached, is_shared, no_mount, source_of, stands_on}
+use Rattle.vt_spec.specs.Machine.Mounts.Propagation.{Private}
+use Rattle.vt_spec.specs.Machine.Receives.{has_members, is_lost_group, is_member_of, lost_a_group, regrouped, regrouped_by}
+use Rattle.vt_spec.specs.Machine.Run.{Serves, numbers_in_use, used_by_filesystem, used_by_mount}
+use Rattle.vt_spec.specs.Machine.Settled.{filesystem_lives, has_layer_on, is_mounted, mount_lives, settled, without_dead_filesystems, without_dead_groups, without_dead_in, without_dead_inodes}
+use Rattle.vt_spec.specs.Machine.World.{Filesystem, Layer, Namespace, Task, World, all_locations, filesystem_numbered, is_overlay, layers_of, mount_at, mount_numbered, no_filesystem}
+use Rattle.vt_spec.specs.Tree.{is_directory_node}
+use Rattle.vt_spec.proofs.Found.{filter_all, found_among, found_passes}
+use Rattle.vt_spec.proofs.Lists.{Among, among-append, among-append_left, among-append_right, among-flat_map, among_from_all, map_alike, none_among, none_from_among}
+use Rattle.vt_spec.proofs.Truths.{nat_eq_false_turned}
+use Rattle.vt_laws_mounts.specs.Mounts.Attaching.{numbers_of}
+use Rattle.vt_laws_mounts.proofs.mounts.MountsNumbered.{is_one_of}
+use Rattle.vt_laws_mounts.proofs.mounts.MountsReplaced.{found-append}
+use Rattle.vt_laws_mounts.specs.LettingGo.Detaching.{StandsUnshared, detached_if, without_place}
+use Rattle.vt_laws_mounts.specs.LettingGo.InUse.{AllInUse}
+use Rattle.vt_laws_mounts.proofs.letting_go.Lists.{passes, find_none}
+use Rattle.vt_laws_mounts.proofs.letting_go.leaving.Detached.{unmount_is_of_one}
+use Rattle.vt_laws_mounts.proofs.letting_go.leaving.PlacesLeft.{place_attached}
+use Rattle.vt_laws_mounts.proofs.letting_go.sweeps.InUse.{groups_stay, inodes_stay}
+use Rattle.vt_laws_mounts.proofs.letting_go.sweeps.OfWorlds.{locations_of_worlds_stand, mounts_of_worlds_stand}
+use Rattle.vt_laws_worlds.specs.Worlds.Kept.{IsPlain}
+use Rattle.vt_laws_worlds.proofs.Plain.{no_overlay}
+use Rattle.vt_laws_later_calls.proofs.limits.AddedMount.{added_filesystem, added_mount, attached_is_mount, other_number}
+
+-- a group that lives has a member
+lives_has_members : {members : ℕ → Bool} {master : ℕ → Option ℕ} {group : ℕ} → Lives members master group
+    → members group ≡ true
+lives_has_members (has_no_master it members none) = members
+lives_has_members (has_master it above members some lives) = members
+
+module _ (world : World ℕ) (fresh : Fresh ℕ) (place : Location ℕ) (flags : MountFlags) (is : IsWorld nat_eq world)
+    (plain : IsPlain world) (serves : Serves nat_eq world fresh)
+    (private : (mount_at nat_eq world place).propagation ≡ Private)
+    (attached : is_some (mount_at nat_eq world place).namespace ≡ true) where
+  abbrev new : Mount ℕ
+  new = added_mount fresh world place flags
+
+  -- the filesystem that it shows
+  abbrev added : Filesystem ℕ
+  added = added_filesystem fresh world place flags
+
+  -- a mount of the world has another number than the new one
+  other_mount : (mount : Mount ℕ) → Among mount world.mounts → nat_eq mount.number new.number ≡ false
+  other_mount mount m = other_number fresh world place flags serves mount.number (is_one_of world.mounts mount m)
+
+  -- the number of the new filesystem is that of no filesystem, and no mount shows it
+  other_filesystem : (filesystem : Filesystem ℕ) → Among filesystem world.filesystems
+      → nat_eq added.number filesystem.number ≡ false
+  other_filesystem filesystem m =
+      none_among (nat_eq added.number) (numbers_in_use world) (serves.unused _) filesystem.number
+      (among-append_left (flat_map used_by_mount world.mounts ++ flat_map used_by_filesystem world.filesystems)
+      (map (λ (namespace : Namespace ℕ). namespace.number) world.namespaces) filesystem.number
+      (among-append_right (flat_map used_by_mount world.mounts) (flat_map used_by_filesystem world.filesystems)
+      filesystem.number
+      (among-flat_map used_by_filesystem world.filesystems filesystem filesystem.number m (inl refl))))
+
+  -- no mount of the world shows that filesystem
+  pub not_shown : (mount : Mount ℕ) → Among mount world.mounts → nat_eq added.number mount.filesystem ≡ false
+  not_shown mount m = by (find has_number world.filesystems) refl
+    where
+      has_number : Filesystem ℕ → Bool
+      has_number filesystem = nat_eq mount.filesystem filesystem.number
+
+      shows : is_directory_node ((filesystem_numbered nat_eq world mount.filesystem).files.tree.node mount.root) ≡ true
+      shows = (and_parts _ _ (passes (has_its_root nat_eq world) world.mounts is.roots mount m)).0
+
+      by : (found : Option (Filesystem ℕ)) → find has_number world.filesystems ≡ found
+          → nat_eq added.number mount.filesystem ≡ false
+      by None e =
+          absurd (true≢false (sym shows
+          ∙ ap (λ found. is_directory_node
+          ((unwrap_or found (no_filesystem mount.filesystem)).files.tree.node mount.root)) e))
+      by (Some filesystem) e =
+          cc (
+            eqb-true mount.filesystem filesystem.number (found_passes has_number world.filesystems filesystem e),
+            other_filesystem filesystem (found_among has_number world.filesystems filesystem e),
+          )
+
+  -- The world with the new mount, of tasks that use the same locations
+  module _ (tasks : List (Task ℕ)) (namespaces : List (Namespace ℕ)) (change : ℕ)
+      (same_locations : all_locations (record world { tasks = tasks }) ≡ all_locations world)
+      (in_use : AllInUse (record world { tasks = tasks; namespaces = namespaces; change = change })) where
+    -- the world before, with these tasks
+    abbrev pub before : World ℕ
+    before = record world { tasks = tasks; namespaces = namespaces; change = change }
+
+    -- with the mount and its filesystem last
+    abbrev pub with_new : Mount ℕ → World ℕ
+    with_new mount = record before {
+      mounts = world.mounts ++ (mount ∷ []);
+      filesystems = world.filesystems ++ (added ∷ []);
+    }
+
+    -- no mount stands on the new one
+    pub none_on_new : has_child nat_eq (with_new new) new.number ≡ false
+    none_on_new =
+        none_from_among (stands_on nat_eq new.number) (world.mounts ++ (new ∷ [])) (λ mount m.
+        ⊎_elim (λ old. by mount old mount.mount_point refl)
+        (λ last. ⊎_elim (λ same. ap (stands_on nat_eq new.number) same
+        ∙ nat_eq_false_turned place.mount new.number (other_number fresh world place flags serves place.mount
+        (attached_is_mount world place.mount attached)))
+        (λ none. absurd none) last) (among-append world.mounts (new ∷ []) mount m))
+      where
+        by : (mount : Mount ℕ) → Among mount world.mounts → (point : Option (Location ℕ)) → mount.mount_point ≡ point
+            → stands_on nat_eq new.number mount ≡ false
+        by mount m None e = ap (λ o. holds_of (λ (at : Location ℕ). nat_eq new.number at.mount) o) e
+        by mount m (Some at) e = cc (
+            nat_eq_false_turned at.mount new.number (other_number fresh world place flags serves at.mount
+            (attached_is_mount world at.mount (place_attached world (mounts_of_worlds_stand world is) mount m at e))))
+
+    -- it is found by its number
+    pub new_is_found : mount_numbered nat_eq (with_new new) new.number ≡ new
+    new_is_found =
+        ap (λ found. unwrap_or found (no_mount new.number))
+        (find-append (λ (mount : Mount ℕ). nat_eq new.number mount.number) world.mounts (new ∷ [])
+        ∙ ap (λ found. option_or found (find (λ (mount : Mount ℕ). nat_eq new.number mount.number) (new ∷ [])))
+        (find_none (λ (mount : Mount ℕ). nat_eq new.number mount.number) world.mounts
+        (λ mount m. nat_eq_false_turned mount.number new.number (other_mount mount m)))
+        ∙ ap (λ b. cond b (Some new) None) (eq-eqb new.number new.number refl))
+
+    -- it stands on a mount that is not shared
+    stands_unshared : StandsUnshared (with_new new) new.number
+    stands_unshared =
+        ap (λ (mount : Mount ℕ). list_all (λ at. not (is_shared (mount_at nat_eq (with_new new) at).propagation))
+        (option_to_list mount.mount_point)) new_is_found
+        ∙ ap (λ (mount : Mount ℕ). not (is_shared mount.propagation) && true)
+        (found-append world.mounts (new ∷ []) place.mount (attached_is_mount world place.mount attached))
+        ∙ ap (λ kind. not (is_shared kind) && true) private
+
+    -- the mount alone is detached
+    placed_nowhere : without_place (with_new new) new.number ≡ with_new (detached new)
+    placed_nowhere =
+        ap (λ mounts. record (with_new new) { mounts = mounts })
+        (map-append (detached_if new.number) world.mounts (new ∷ [])
+        ∙ (λ i. (map_alike (detached_if new.number) (λ mount. mount) world.mounts
+        (λ mount m. ap (λ b. cond b (detached mount) mount) (other_mount mount m)) ∙ map-id world.mounts) i
+        ++ ap (λ b. cond b (detached new) new ∷ []) (eq-eqb new.number new.number refl) i))
+
+    -- no group loses its members
+    same_members : (group : ℕ)
+        → has_members nat_eq (world.mounts ++ (detached new ∷ [])) group ≡ has_members nat_eq world.mounts group
+    same_members group = cc (
+      list_any-append (is_member_of nat_eq group) world.mounts (detached new ∷ []),
+      or-false (has_members nat_eq world.mounts group),
+    )
+
+    -- each group of a mount has its members and its master
+    no_group_is_lost : (mount : Mount ℕ) → Among mount (world.mounts ++ (detached new ∷ []))
+        → lost_a_group nat_eq (with_new (detached new)) mount ≡ false
+    no_group_is_lost mount m =
+        ⊎_elim (λ old. by old (source_of mount.propagation) refl)
+        (λ last. ⊎_elim (λ same. ap (lost_a_group nat_eq (with_new (detached new))) same) (λ none. absurd none) last)
+        (among-append world.mounts (detached new ∷ []) mount m)
+      where
+        of_master : (group : ℕ) → Lives (has_members nat_eq world.mounts) world.master group
+            → (is_lost_group nat_eq (with_new (detached new)) (Some group)
+            || is_lost_group nat_eq (with_new (detached new)) (world.master group)) ≡ false
+        of_master group (has_no_master it members none) = λ i.
+            not ((same_members it ∙ members) i) || is_lost_group nat_eq (with_new (detached new)) (none i)
+        of_master group (has_master it above members some lives) = λ i.
+            not ((same_members it ∙ members) i)
+            || (ap (is_lost_group nat_eq (with_new (detached new))) some
+            ∙ ap not (same_members above ∙ lives_has_members lives)) i
+
+        by : Among mount world.mounts → (source : Option ℕ) → source_of mount.propagation ≡ source
+            → lost_a_group nat_eq (with_new (detached new)) mount ≡ false
+        by old None e = cc
+        by old (Some group) e =
+            cc (of_master group (among_from_all (HasLivingGroups nat_eq world) world.mounts is.mounts.groups mount
+            old group e))
+
+    -- so the unmount detaches the new mount, and changes nothing else
+    unmounted_is : unmounted nat_eq (with_new new) new.number ≡ with_new (detached new)
+    unmounted_is =
+        unmount_is_of_one (with_new new) new.number none_on_new stands_unshared
+        ∙ ap (regrouped nat_eq) placed_nowhere
+        ∙ ap (λ b. regrouped_by nat_eq b (with_new (detached new)))
+        (none_from_among (lost_a_group nat_eq (with_new (detached new))) (world.mounts ++ (detached new ∷ []))
+        no_group_is_lost)
+
+    -- the sweep takes the mount and its filesystem
+    located_elsewhere : mount_lives nat_eq (with_new (detached new)) (detached new) ≡ false
+    located_elsewhere = cc (
+      same_locations,
+      none_from_among (λ (location : Location ℕ). nat_eq new.number location.mount) (all_locations world) (λ
+          location m. nat_eq_false_turned location.mount new.number (other_number fresh world place flags serves
+          location.mount (passes (λ (at : Location ℕ). is_among nat_eq at.mount (numbers_of world.mounts))
+          (all_locations world) (locations_of_worlds_stand world is) location m))),
+    )
+
+    -- the sweep leaves the mounts that were there
+    mounts_left : filter (mount_lives nat_eq (with_new (detached new))) (world.mounts ++ (detached new ∷ []))
+        ≡ world.mounts
+    mounts_left =
+        filter-append (mount_lives nat_eq (with_new (detached new))) world.mounts (detached new ∷ [])
+        ∙ (λ i. filter_all (mount_lives nat_eq (with_new (detached new))) world.mounts
+        (passes (mount_lives nat_eq before) world.mounts in_use.mounts) i
+        ++ cond (located_elsewhere i) (detached new ∷ []) [])
+        ∙ append-nil world.mounts
+
+    -- then the filesystem is left over
+    abbrev without_new : World ℕ
+    without_new = record before { filesystems = world.filesystems ++ (added ∷ []) }
+
+    -- a mounted overlay has a layer in a filesystem
+    abbrev has_its_layer : ℕ → Filesystem ℕ → Bool
+    has_its_layer number merged = has_layer_on nat_eq number merged && is_mounted nat_eq without_new merged.number
+
+    -- none has one
+    no_layers : (number : ℕ) → list_any (has_its_layer number) (world.filesystems ++ (added ∷ [])) ≡ false
+    no_layers number =
+        none_from_among (has_its_layer number) (world.filesystems ++ (added ∷ [])) (λ merged m.
+        ⊎_elim (λ old. ap (λ overlay. overlay_or false (λ one.
+        list_any (λ (layer : Layer ℕ). nat_eq number layer.filesystem)
+        (layers_of one)) overlay && is_mounted nat_eq without_new merged.number) (no_overlay world plain merged old))
+        (λ last. ⊎_elim (λ same. ap (has_its_layer number) same) (λ none. absurd none) last)
+        (among-append world.filesystems (added ∷ []) merged m))
+
+    -- each filesystem that was there stays
+    filesystem_stays_alive : (filesystem : Filesystem ℕ) → Among filesystem world.filesystems
+        → filesystem_lives nat_eq without_new filesystem ≡ true
+    filesystem_stays_alive filesystem m =
+        alive (is_mounted nat_eq world filesystem.number) _ _ _
+        (passes (filesystem_lives nat_eq before) world.filesystems in_use.filesystems filesystem m)
+        (list_any-append (has_its_layer filesystem.number) world.filesystems (added ∷ []))
+      where
+        alive : (shown old all last : Bool) → (shown || old) ≡ true → all ≡ (old || last)
+            → (shown || all) ≡ true
+        alive true old all last e f = refl
+        alive false old all last e f = f ∙ ap (λ b. b || last) e
+
+    -- the new one goes
+    added_is_dead : filesystem_lives nat_eq without_new added ≡ false
+    added_is_dead =
+        (λ i. none_from_among (λ (mount : Mount ℕ). nat_eq added.number mount.filesystem) world.mounts not_shown i
+        || no_layers added.number i)
+
+    -- the sweep leaves the filesystems that were there
+    filesystems_left : filter (filesystem_lives nat_eq without_new) (world.filesystems ++ (added ∷ []))
+        ≡ world.filesystems
+    filesystems_left =
+        filter-append (filesystem_lives nat_eq without_new) world.filesystems (added ∷ [])
+        ∙ (λ i. filter_all (filesystem_lives nat_eq without_new) world.filesystems filesystem_stays_alive i
+        ++ cond (added_is_dead i) (added ∷ []) [])
+        ∙ append-nil world.filesystems
+
+    -- no task uses the mount
+    pub none_uses_new : is_used nat_eq (with_new new) (going nat_eq (with_new new)
+        (mount_numbered nat_eq (with_new new) new.number)) ≡ false
+    none_uses_new =
+        ap (λ mount. is_used nat_eq (with_new new) (going nat_eq (with_new new) mount)) new_is_found
+        ∙ ap (λ (mount : Mount ℕ). is_used nat_eq (with_new new)
+        (going_from nat_eq (with_new new) new place (is_shared mount.propagation)))
+        (found-append world.mounts (new ∷ []) place.mount (attached_is_mount world place.mount attached))
+        ∙ ap (λ kind. is_used nat_eq (with_new new)
+        (going_from nat_eq (with_new new) new place (is_shared kind))) private
+        ∙ ap (list_any (λ location. is_among nat_eq location.mount (new.number ∷ []))) same_locations
+        ∙ none_from_among (λ (location : Location ℕ). is_among nat_eq location.mount (new.number ∷ []))
+        (all_locations world) (λ location m. ap (λ b. b || false)
+        (other_number fresh world place flags serves location.mount
+        (passes (λ (at : Location ℕ). is_among nat_eq at.mount (numbers_of world.mounts)) (all_locations world)
+        (locations_of_worlds_stand world is) location m)))
+
+    -- the sweep after the unmount leaves the world before, with these tasks
+    pub unmount_gives_back : settled nat_eq (unmounted nat_eq (with_new new) new.number) ≡ before
+    unmount_gives_back =
+        ap (settled nat_eq) unmounted_is
+        ∙ ap (λ mounts. without_dead_groups nat_eq (without_dead_inodes nat_eq (without_dead_filesystems nat_eq
+        (record (with_new (detached new)) { mounts = mounts })))) mounts_left
+        ∙ ap (λ filesystems. without_dead_groups nat_eq (without_dead_inodes nat_eq
+        (record without_new { filesystems = filesystems }))) filesystems_left
+        ∙ ap (λ one. without_dead_groups nat_eq
+        (without_dead_in nat_eq (λ filesystem. not (is_overlay filesystem)) one))
+        (inodes_stay is_overlay before in_use.inodes)
+        ∙ ap (without_dead_groups nat_eq) (inodes_stay (λ filesystem. not (is_overlay filesystem)) before in_use.inodes)
+        ∙ groups_stay before in_use.groups

@@ -1,0 +1,83 @@
+-- What is attached fills namespaces by its parts in them.
+use Rattle.std.proofs.Common.{◌≡◌, sym, ap, subst, ◌∙◌, ⊎_elim, ℕ, nat_eq, nat_lt, true, false, List, [], ◌∷◌, length, arith, ◌+◌, ◌*◌, ◌-◌}
+use Rattle.std.specs.List.{list_any}
+use Rattle.vt_laws_mounts.specs.LettingGo.Ends.{mount_count}
+use Rattle.vt_laws_mounts.proofs.Counting.{added_counted, moved_all}
+use Rattle.vt_laws_mounts.proofs.mounts.MountsFound.{found_there}
+use Rattle.vt_laws_mounts.proofs.mounts.Standing.{trees_have_each_once}
+use Rattle.vt_laws_worlds.proofs.permits.taken.PartsKept.{same_parts}
+use Rattle.vt_spec.specs.Language.Calls.{MountFlags}
+use Rattle.vt_spec.specs.Language.Limits.{most_mounts}
+use Rattle.vt_spec.specs.Lists.{Fresh, evens, odds}
+use Rattle.vt_spec.specs.Machine.Attach.{Copies, attached_by, bind_tree, copies_from, has_too_many, parts_of}
+use Rattle.vt_spec.specs.Machine.Invariants.{IsWorld}
+use Rattle.vt_spec.specs.Machine.Mounts.{Location, Mount}
+use Rattle.vt_spec.specs.Machine.NewMounts.{mounted, new_mount, overlay_filesystem, plain_filesystem, with_new_filesystem}
+use Rattle.vt_spec.specs.Machine.World.{Filesystem, World, mount_numbered}
+use Rattle.vt_spec.proofs.Lists.{Among}
+use Rattle.vt_spec.proofs.Worlds.{tree_among}
+use Rattle.vt_laws_later_calls.specs.Limits.Room.{BindsAskForRoom, MovesAskForRoom, NewMountsAskForRoom, OverlaysAskForRoom, how_many_in, lacks_room, tree_of}
+
+-- copies come to each namespace at its parts
+copies_ask_for_room : (world : World ℕ) (place : Location ℕ) (new : Copies ℕ) (mounts : List (Mount ℕ))
+    → has_too_many nat_eq (attached_by nat_eq world new place false mounts) ≡ lacks_room world place (length mounts)
+copies_ask_for_room world place new mounts =
+    λ i. list_any (λ namespace. nat_lt most_mounts (added_counted world place new mounts namespace.number i))
+    world.namespaces
+
+-- so does a new mount of a filesystem, which changes no parts
+mounted_asks_for_room : (world : World ℕ) (fresh : Fresh ℕ) (place : Location ℕ) (filesystem : Filesystem ℕ)
+    (flags : MountFlags) → IsWorld nat_eq world
+    → has_too_many nat_eq (mounted nat_eq fresh world place filesystem flags) ≡ lacks_room world place 1
+mounted_asks_for_room world fresh place filesystem flags is =
+    copies_ask_for_room (with_new_filesystem world filesystem) place
+    (copies_from nat_eq fresh (parts_of nat_eq (with_new_filesystem world filesystem) place)
+    (new_mount filesystem.number filesystem.files.tree.root flags ∷ []))
+    (new_mount filesystem.number filesystem.files.tree.root flags ∷ [])
+    ∙ ap (λ parts. list_any (λ namespace.
+    nat_lt most_mounts (mount_count world namespace.number + how_many_in namespace.number parts * 1)) world.namespaces)
+    (same_parts world is filesystem place)
+
+-- a new mount of a plain filesystem
+pub new_mounts_ask_for_room : NewMountsAskForRoom
+new_mounts_ask_for_room world fresh task place flags is =
+    mounted_asks_for_room world (odds fresh) place (plain_filesystem nat_eq fresh) flags is
+
+-- a mount of an overlay
+pub overlays_ask_for_room : OverlaysAskForRoom
+overlays_ask_for_room world fresh task place overlay flags is =
+    mounted_asks_for_room world (odds fresh) place (overlay_filesystem nat_eq (evens fresh) world overlay) flags is
+
+-- a bind
+pub binds_ask_for_room : BindsAskForRoom
+binds_ask_for_room world fresh task source place recursive =
+    copies_ask_for_room world place
+    (copies_from nat_eq fresh (parts_of nat_eq world place) (bind_tree nat_eq world source recursive))
+    (bind_tree nat_eq world source recursive)
+
+-- a move
+pub moves_ask_for_room : MovesAskForRoom
+moves_ask_for_room world fresh task mount place is there =
+    λ i. list_any (λ namespace. nat_lt most_mounts (counted namespace.number i)) world.namespaces
+  where
+    tree : List (Mount ℕ)
+    tree = tree_of world mount
+
+    new : Copies ℕ
+    new = copies_from nat_eq fresh (parts_of nat_eq world place) (tree_of world mount)
+
+    within : (one : Mount ℕ) → Among one (tree_of world mount) → Among one world.mounts
+    within one m =
+        ⊎_elim (λ same. subst (λ other. Among other world.mounts) (sym same) (found_there world.mounts mount there))
+        (λ other. other)
+        (tree_among (length world.mounts) world.mounts (mount_numbered nat_eq world mount) one m)
+
+    counted : (namespace : ℕ)
+        → mount_count (attached_by nat_eq world new place true (tree_of world mount)) namespace
+        ≡ mount_count world namespace + how_many_in namespace (parts_of nat_eq world place) * length
+        (tree_of world mount)
+        - how_many_in namespace (tree_of world mount)
+    counted namespace =
+        let all = moved_all world place new (tree_of world mount) is.mounts.one_number
+        (trees_have_each_once world mount is.mounts.one_number is.mounts.standing) within namespace in
+        omega (arith, all)

@@ -1,0 +1,134 @@
+-- An attachment without room is refused by M9, and one with room is granted, where no other rule refuses it.
+use Rattle.std.proofs.Common.{◌≡◌, refl, sym, ap, subst, ◌∙◌, true≢false, ℕ, nat_eq, Bool, true, false, [], ◌∷◌, ◌++◌, Some, Result, Ok, Err, length}
+use Rattle.std.specs.Prelude.{drop, take}
+use Rattle.vt_spec.specs.declared.errors.Deny.{Deny}
+use Rattle.vt_spec.specs.declared.errors.Rule.TheVariants.{K1, M9}
+use Rattle.vt_spec.specs.Errors.{Rules, and_then, denial, unless}
+use Rattle.vt_spec.specs.Language.Answers.Answer.{Done}
+use Rattle.vt_spec.specs.Language.Calls.{Call, TaskName}
+use Rattle.vt_spec.specs.Language.Calls.Call.{Bind, MountPlain, MoveMount}
+use Rattle.vt_spec.specs.Lists.{Fresh}
+use Rattle.vt_spec.specs.Machine.Apply.{apply, overfills}
+use Rattle.vt_spec.specs.Machine.Attach.{bind_tree}
+use Rattle.vt_spec.specs.Machine.Judge.{Judgement, attach_permit, bind_permit, judge_in, mount_plain_permit, move_permit}
+use Rattle.vt_spec.specs.Machine.Looks.{looks_of}
+use Rattle.vt_spec.proofs.Tables.{destination_walk, source_walk}
+use Rattle.vt_spec.specs.Machine.Permits.{Permit}
+use Rattle.vt_spec.specs.Machine.Permits.Permit.{ToBind, ToMountPlain, ToMove}
+use Rattle.vt_spec.specs.Machine.Policy.{only_looks, policy}
+use Rattle.vt_spec.specs.Machine.Rules.Mounting.{bind_rules, move_rules, new_mount_rules}
+use Rattle.vt_spec.specs.Machine.Walking.{Here, walk_end}
+use Rattle.vt_spec.specs.Machine.World.{Task, World, task_called}
+use Rattle.vt_laws_mounts.specs.Mounts.Attaching.{is_mount}
+use Rattle.vt_spec.proofs.Worlds.{answer-finished_by}
+use Rattle.vt_laws_trees.proofs.trees.TreesWalked.{Ends}
+use Rattle.vt_laws_worlds.proofs.worlds.ReachedPlaces.{HereDirectory, source_walk_end}
+use Rattle.vt_laws_later_calls.specs.Limits.Room.{BindNeedsRoom, MoveNeedsRoom, NeedsRoom, NewMountNeedsRoom, lacks_room, lacks_room_for_moved, none_fails, tree_of}
+use Rattle.vt_laws_later_calls.proofs.limits.Outcomes.{policy_by_judgement, refused_call}
+use Rattle.vt_laws_later_calls.proofs.limits.room.Counted.{binds_ask_for_room, moves_ask_for_room, new_mounts_ask_for_room}
+use Rattle.vt_laws_later_calls.proofs.Readers.{own_name}
+
+-- a table of rules with M9 in it, in which no other rule fails
+module _ {A : Type 0} (answer : Result A Deny) (behind : Rules) where
+  -- refuses by M9 where that fails
+  m9_refuses : (before : Rules) → none_fails (before ++ (false, M9) ∷ behind) ≡ true
+      → unless (before ++ (true, M9) ∷ behind) answer ≡ Err (denial M9)
+  m9_refuses [] none = refl
+  m9_refuses ((true, rule) ∷ before) none = absurd (true≢false (sym none))
+  m9_refuses ((false, rule) ∷ before) none = m9_refuses before none
+
+  -- and refuses nothing where M9 does not fail
+  none_refuses : (rules : Rules) → none_fails rules ≡ true → unless rules answer ≡ answer
+  none_refuses [] none = refl
+  none_refuses ((true, rule) ∷ rules) none = absurd (true≢false (sym none))
+  none_refuses ((false, rule) ∷ rules) none = none_refuses rules none
+
+module _ (world : World ℕ) (fresh : Fresh ℕ) (name : TaskName) (task : Task ℕ) (call : Call)
+    (called : task_called world name ≡ Some task) (changes : only_looks call ≡ false) where
+  -- a call that attaches is answered by its table of rules, with M9 among them
+  answered_by_table : (permit : Permit ℕ) (before behind : Rules) (lacking : Bool)
+      → judge_in nat_eq fresh world task call ≡ unless (before ++ (lacking, M9) ∷ behind) (Ok permit)
+      → none_fails (before ++ (false, M9) ∷ behind) ≡ true → (apply nat_eq fresh world task permit).answer ≡ Ok Done
+      → NeedsRoom world (policy nat_eq fresh world name call) lacking
+  answered_by_table permit before behind lacking judged none done = (
+    λ lacks. refused_call world fresh name task call called (denial M9)
+        (judged ∙ ap (λ b. unless (before ++ (b, M9) ∷ behind) (Ok permit)) lacks
+        ∙ m9_refuses (Ok permit) behind before none),
+    λ has. ap (λ outcome. outcome.answer)
+        (policy_by_judgement world fresh name task call called (Ok permit)
+        (judged ∙ ap (λ b. unless (before ++ (b, M9) ∷ behind) (Ok permit)) has
+        ∙ none_refuses (Ok permit) behind (before ++ (false, M9) ∷ behind) none))
+        ∙ answer-finished_by _ world name _ (apply nat_eq fresh world task permit) ∙ done,
+  )
+
+-- a new mount
+pub new_mount_needs_room : NewMountNeedsRoom
+unfolding mount_plain_permit
+new_mount_needs_room world fresh name task path flags here is called admin walk none =
+    answered_by_table world fresh name task (MountPlain path flags) called refl (ToMountPlain here.location flags)
+    (take 1 (new_mount_rules nat_eq (looks_of nat_eq world) task here.location false)) []
+    (lacks_room world here.location 1)
+    (ap (λ b. unless ((b, K1) ∷ []) (and_then (walk_end (destination_walk nat_eq world task path)) judged_at)) admin
+    ∙ ap (λ walked. and_then (walk_end walked) judged_at) walk
+    ∙ ap (λ b. unless (new_mount_rules nat_eq (looks_of nat_eq world) task here.location b)
+    (Ok (ToMountPlain here.location flags))) (new_mounts_ask_for_room world fresh task here.location flags is))
+    none refl
+  where
+    judged_at : Here ℕ → Judgement ℕ
+    judged_at place =
+        attach_permit (new_mount_rules nat_eq (looks_of nat_eq world) task place.location)
+        (overfills nat_eq fresh world task) (ToMountPlain place.location flags)
+
+-- a bind
+pub bind_needs_room : BindNeedsRoom
+unfolding bind_permit
+bind_needs_room world fresh name task source path recursive from here called admin from_walk walk none =
+    answered_by_table world fresh name task (Bind source path recursive) called refl
+    (ToBind from.location here.location recursive)
+    (take 2 (bind_rules nat_eq (looks_of nat_eq world) task from.location here.location false)) []
+    (lacks_room world here.location (length (bind_tree nat_eq world from.location recursive)))
+    (ap (λ b. unless ((b, K1) ∷ []) (and_then (walk_end (source_walk nat_eq world task source)) judged_from)) admin
+    ∙ ap (λ walked. and_then (walk_end walked) judged_from) from_walk
+    ∙ ap (λ walked. and_then (walk_end walked) (judged_at from)) walk
+    ∙ ap (λ b. unless (bind_rules nat_eq (looks_of nat_eq world) task from.location here.location b)
+    (Ok (ToBind from.location here.location recursive)))
+    (binds_ask_for_room world fresh task from.location here.location recursive))
+    none refl
+  where
+    judged_at : Here ℕ → Here ℕ → Judgement ℕ
+    judged_at origin place =
+        attach_permit (bind_rules nat_eq (looks_of nat_eq world) task origin.location place.location)
+        (overfills nat_eq fresh world task) (ToBind origin.location place.location recursive)
+
+    judged_from : Here ℕ → Judgement ℕ
+    judged_from origin = and_then (walk_end (destination_walk nat_eq world task path)) (judged_at origin)
+
+-- a move
+pub move_needs_room : MoveNeedsRoom
+unfolding move_permit
+move_needs_room world fresh name task source path from here is called admin from_walk walk none =
+    answered_by_table world fresh name task (MoveMount source path) called refl
+    (ToMove from.location.mount here.location)
+    (take 5 (move_rules nat_eq (looks_of nat_eq world) task from.location here.location false))
+    (drop 6 (move_rules nat_eq (looks_of nat_eq world) task from.location here.location false))
+    (lacks_room_for_moved world here.location (tree_of world from.location.mount))
+    (ap (λ b. unless ((b, K1) ∷ []) (and_then (walk_end (source_walk nat_eq world task source)) judged_from)) admin
+    ∙ ap (λ walked. and_then (walk_end walked) judged_from) from_walk
+    ∙ ap (λ walked. and_then (walk_end walked) (judged_at from)) walk
+    ∙ ap (λ b. unless (move_rules nat_eq (looks_of nat_eq world) task from.location here.location b)
+    (Ok (ToMove from.location.mount here.location)))
+    (moves_ask_for_room world fresh task from.location.mount here.location is there))
+    none refl
+  where
+    judged_at : Here ℕ → Here ℕ → Judgement ℕ
+    judged_at origin place =
+        attach_permit (move_rules nat_eq (looks_of nat_eq world) task origin.location place.location)
+        (overfills nat_eq fresh world task) (ToMove origin.location.mount place.location)
+
+    judged_from : Here ℕ → Judgement ℕ
+    judged_from origin = and_then (walk_end (destination_walk nat_eq world task path)) (judged_at origin)
+
+    there : is_mount world from.location.mount ≡ true
+    there =
+        (subst (Ends (HereDirectory world is task (own_name world name task called))) from_walk
+        (source_walk_end world is task (own_name world name task called) source)).0.0

@@ -1,5 +1,0 @@
-use Rattle.vt_laws_letting_go.proofs.leaving.Retyped
-use Rattle.vt_laws_letting_go.proofs.leaving.what_a_change_of_types_leaves_goes.Goals as goal
-
-pub returns : goal.returns
-returns c = Retyped.set_types_let_go

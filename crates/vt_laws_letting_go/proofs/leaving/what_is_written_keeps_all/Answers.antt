@@ -1,5 +1,0 @@
-use Rattle.vt_laws_letting_go.proofs.leaving.FilesChanged.{written_parts_keep_all}
-use Rattle.vt_laws_letting_go.proofs.leaving.what_is_written_keeps_all.Goals as goal
-
-pub returns : goal.returns
-returns c = written_parts_keep_all

@@ -1,5 +1,0 @@
-use Rattle.vt_laws_limits.proofs.full_namespace.FullReceiver.{full_receiver_is_refused}
-use Rattle.vt_laws_limits.proofs.full_namespace.a_full_receiver_refuses_a_mount.Goals as goal
-
-pub returns : goal.returns
-returns c = full_receiver_is_refused

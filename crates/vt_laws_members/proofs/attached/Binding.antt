@@ -1,0 +1,302 @@
+-- Each mount(2) with MS_BIND, recursive or not, ends in the part as in the world.
+use Rattle.std.proofs.Common.{◌≡◌, refl, sym, ap, subst, ◌∙◌, inl, ⊎_elim, ℕ, zero, suc, nat_eq, Bool, true, false, List, [], Option, Some, None, Ok, Err, filter, length, not}
+use Rattle.std.specs.Prelude.{IfOk, is_ok}
+use Rattle.std.specs.List.{list_any}
+use Rattle.std.proofs.lemmas.Bool.{or_parts}
+use Rattle.vt_spec.specs.Language.Answers.Answer.{Done}
+use Rattle.vt_spec.specs.Language.Calls.{TaskName}
+use Rattle.vt_spec.specs.Language.Calls.Call.{Bind}
+use Rattle.vt_spec.specs.Lists.{Fresh, is_among}
+use Rattle.vt_spec.specs.Machine.Apply.{overfills}
+use Rattle.vt_spec.specs.Machine.Attach.{Copies, attach, attached_by, bind_tree, bindable_children, bindable_tree, bound_at, copies_from, stands_under}
+use Rattle.vt_spec.specs.Machine.Invariants.{IsWorld}
+use Rattle.vt_spec.specs.Machine.Judge.{Judgement, attach_permit, bind_permit, judge_in}
+use Rattle.vt_spec.specs.Machine.Mounts.{Location, Mount, children, is_unbindable, source_of}
+use Rattle.vt_spec.specs.Machine.Outcomes.{granted}
+use Rattle.vt_spec.specs.Machine.Permits.{Permit}
+use Rattle.vt_spec.specs.Machine.Permits.Permit.{ToBind}
+use Rattle.vt_spec.specs.Machine.Policy.{numbers_raised, policy}
+use Rattle.vt_spec.specs.Machine.Rules.Conditions.{is_elsewhere}
+use Rattle.vt_spec.specs.Machine.Rules.Mounting.{admin_rules, bind_rules, destination_walk, source_walk}
+use Rattle.vt_spec.specs.Machine.Run.{Serves}
+use Rattle.vt_spec.specs.Machine.Sealed.{is_own_mount, members, part_of, sealed, used_directly, used_filesystems}
+use Rattle.vt_spec.specs.Machine.Walking.{walk_end}
+use Rattle.vt_spec.specs.Errors.{and_then}
+use Rattle.vt_spec.specs.Machine.World.{Filesystem, Task, World, mount_at, task_called}
+use Rattle.vt_spec.proofs.Lists.{Among, among-filter, among-from_filter, among-from_flat_map}
+use Rattle.vt_spec.proofs.Worlds.{number-mount_in}
+use Rattle.vt_laws_mounts.proofs.letting_go.mounting.AttachedSwept.{binds_keep_all}
+use Rattle.vt_laws_mounts.proofs.letting_go.sweeps.OfWorlds.{all_in_use, locations_of_worlds_stand, mounts_of_worlds_stand}
+use Rattle.vt_laws_sealed.proofs.part.part.PartOfPart.{is_own}
+use Rattle.vt_laws_members.specs.Judging.{is_theirs}
+use Rattle.vt_laws_members.proofs.judging.AllJudged.{owned}
+use Rattle.vt_laws_members.proofs.judging.Grounds.{IsTheirs, numbered, theirs_from}
+use Rattle.vt_laws_members.proofs.judging.MountTrees.{bind_alike, children_own, own_theirs}
+use Rattle.vt_laws_members.proofs.judging.SeenInPart.{theirs_directly}
+use Rattle.vt_laws_members.specs.Changes.Changes.{EndAlike, EndsAlike, IsCallOfTheirs, grown}
+use Rattle.vt_laws_members.proofs.changes.letting_go.Heard.{heard_by_own, master_same}
+use Rattle.vt_laws_members.proofs.changes.letting_go.Moving.{StandsHere, one}
+use Rattle.vt_laws_members.proofs.changes.letting_go.Umounting.{of_passed}
+use Rattle.vt_laws_members.proofs.changes.looks.Granted.{of_rules, of_walk}
+use Rattle.vt_laws_members.proofs.changes.looks.Told.{member_called, ran, same_caller}
+use Rattle.vt_laws_members.proofs.changes.part.SettledPart.{part_in_use}
+use Rattle.vt_laws_members.proofs.changes.tasks.Denied.{denial_ends_alike, run_by, same_judgement, unnamed_ends_alike}
+use Rattle.vt_laws_members.specs.Attached.Attaching.{BindsEndAlike}
+use Rattle.vt_laws_members.proofs.attached.AttachedAlike.{copies_alike}
+use Rattle.vt_laws_members.proofs.attached.CopiesAlike.{base, base_part, no_new_ones, parts, parts_alike}
+use Rattle.vt_laws_members.proofs.attached.Destination.{at_destination, at_source, locations_stand_there, mounts_stand_there, placed, placed_there, there}
+use Rattle.vt_laws_members.proofs.attached.PushedUp.{ShowTheirs}
+use Rattle.vt_laws_members.proofs.attached.Unused.{group_new}
+
+-- What a granted bind attaches
+module _ (world : World ℕ) (names : List TaskName) (is : IsWorld nat_eq world)
+    (sealed_off : sealed nat_eq world names ≡ true) (task : Task ℕ) (member : Among task (members world names))
+    (recursive : Bool) where
+  abbrev own_at : Location ℕ → Type 0
+  own_at here = is_own world names (members world names) (mount_at nat_eq world here) ≡ true
+
+  abbrev pub Binds : Permit ℕ → Type 0
+  Binds permit =
+      (from : Location ℕ) × (here : Location ℕ) × (permit ≡ ToBind from here recursive)
+      × (is_theirs world names from.mount ≡ true) × own_at from × (is_theirs world names here.mount ≡ true)
+      × own_at here
+
+  pub binds_there : (fresh : Fresh ℕ) (source path : List ℕ) → IfOk
+      (bind_permit nat_eq (one world names is sealed_off task member)
+      (overfills nat_eq fresh world task) task source path
+      recursive) Binds
+  unfolding bind_permit
+  binds_there fresh source path =
+      of_rules Binds (admin_rules task) _
+      (of_walk (StandsHere world names is sealed_off task member) Binds
+      (source_walk nat_eq (one world names is sealed_off task member) task source)
+      (λ from. and_then (walk_end (destination_walk nat_eq (one world names is sealed_off task member) task path))
+      (λ here. attach_permit
+      (bind_rules nat_eq (one world names is sealed_off task member) task from.location here.location)
+      (overfills nat_eq fresh world task) (ToBind from.location here.location recursive)))
+      (at_source world names is sealed_off task member source)
+      (λ from at.
+      of_walk (StandsHere world names is sealed_off task member) Binds
+      (destination_walk nat_eq (one world names is sealed_off task member) task path)
+      (λ here. attach_permit
+      (bind_rules nat_eq (one world names is sealed_off task member) task from.location here.location)
+      (overfills nat_eq fresh world task) (ToBind from.location here.location recursive))
+      (at_destination world names is sealed_off task member path)
+      (λ here on. of_passed Binds
+      (bind_rules nat_eq (one world names is sealed_off task member) task from.location here.location
+      (overfills nat_eq fresh world task (ToBind from.location here.location recursive)))
+      (Ok (ToBind from.location here.location recursive))
+      (λ passed.
+      let both = or_parts (is_elsewhere nat_eq (one world names is sealed_off task member) task from.location)
+      (is_elsewhere nat_eq (one world names is sealed_off task member) task here.location) passed.0 in (
+        from.location,
+        here.location,
+        refl,
+        at,
+        owned world names is sealed_off task member from.location both.0,
+        on,
+        owned world names is sealed_off task member here.location both.1,
+      )))))
+
+-- What a bind copies is of mounts of theirs
+module _ (world : World ℕ) (names : List TaskName) (is : IsWorld nat_eq world) where
+  abbrev mine : Mount ℕ → Type 0
+  mine m = Among m world.mounts × (is_own world names (members world names) m ≡ true)
+
+  child_mine : (m child : Mount ℕ) → mine m → Among child (bindable_children nat_eq world.mounts m.number) → mine child
+  child_mine m child its n =
+      children_own world names is m.number child (own_theirs world names is m its.0 its.1)
+      (among-from_filter (λ (x : Mount ℕ). not (is_unbindable x.propagation))
+      (children nat_eq world.mounts m.number) child n).0
+
+  tree_mine : (depth : ℕ) (m : Mount ℕ) → mine m → (o : Mount ℕ) → Among o (bindable_tree nat_eq depth world.mounts m)
+      → mine o
+  tree_mine zero m its o n = ⊎_elim (λ same. subst mine (sym same) its) (λ none. absurd none) n
+  tree_mine (suc depth) m its o n =
+      ⊎_elim (λ same. subst mine (sym same) its)
+      (λ below.
+      let child = among-from_flat_map (bindable_tree nat_eq depth world.mounts)
+      (bindable_children nat_eq world.mounts m.number) o below in
+      tree_mine depth child.0 (child_mine m child.0 its child.1) o child.2) n
+
+  -- each is one of theirs, or shows what the source's mount shows
+  abbrev IsCopied : Mount ℕ → Type 0
+  IsCopied o = (x : Mount ℕ) × mine x × (o.filesystem ≡ x.filesystem) × (o.propagation ≡ x.propagation)
+
+  pub all_copied : (source : Location ℕ) (recursive : Bool) → mine (mount_at nat_eq world source) → (o : Mount ℕ)
+      → Among o (bind_tree nat_eq world source recursive) → IsCopied o
+  all_copied source false its o n =
+      ⊎_elim (λ same. (
+        mount_at nat_eq world source,
+        its,
+        ap (λ (x : Mount ℕ). x.filesystem) same,
+        ap (λ (x : Mount ℕ). x.propagation) same,
+      )) (λ none. absurd none) n
+  all_copied source true its o n =
+      ⊎_elim (λ same. (
+        mount_at nat_eq world source,
+        its,
+        ap (λ (x : Mount ℕ). x.filesystem) same,
+        ap (λ (x : Mount ℕ). x.propagation) same,
+      ))
+      (λ below.
+      let top = among-from_flat_map (bindable_tree nat_eq (length world.mounts) world.mounts)
+      (filter (stands_under nat_eq world source) (bindable_children nat_eq world.mounts source.mount)) o below in
+      let child = among-from_filter (stands_under nat_eq world source)
+      (bindable_children nat_eq world.mounts source.mount) top.0 top.1 in
+      let same : (mount_at nat_eq world source).number ≡ source.mount = number-mount_in world.mounts source.mount in (
+        o,
+        tree_mine (length world.mounts) top.0
+            (child_mine (mount_at nat_eq world source) top.0 its
+            (subst (λ k. Among top.0 (bindable_children nat_eq world.mounts k)) (sym same) child.0)) o top.2,
+        refl,
+        refl,
+      )) n
+
+-- A granted bind
+module _ (world : World ℕ) (names : List TaskName) (name : TaskName) (source path : List ℕ) (recursive : Bool)
+    (it : IsCallOfTheirs world names name (Bind source path recursive)) (task : Task ℕ)
+    (called : task_called world name ≡ Some task) (fresh : Fresh ℕ) (serves : Serves nat_eq world fresh)
+    (from here : Location ℕ) (from_on : is_theirs world names from.mount ≡ true)
+    (from_own : is_own world names (members world names) (mount_at nat_eq world from) ≡ true)
+    (on : is_theirs world names here.mount ≡ true)
+    (own : is_own world names (members world names) (mount_at nat_eq world here) ≡ true)
+    (judged : judge_in nat_eq fresh world task (Bind source path recursive) ≡ Ok (ToBind from here recursive)) where
+  abbrev part : World ℕ
+  part = part_of nat_eq world names
+
+  from_theirs : IsTheirs world names it.is.mounts from.mount
+  from_theirs = theirs_from world names it.is.mounts from.mount from_on
+
+  here_theirs : IsTheirs world names it.is.mounts here.mount
+  here_theirs = theirs_from world names it.is.mounts here.mount on
+
+  here_there : Among (mount_at nat_eq world here) world.mounts
+  here_there = there world names it.is it.sealed_off here here_theirs own
+
+  from_mine : mine world names it.is (mount_at nat_eq world from)
+  from_mine = (there world names it.is it.sealed_off from from_theirs from_own, from_own)
+
+  abbrev origins : List (Mount ℕ)
+  origins = bind_tree nat_eq world from recursive
+
+  unused : (n : ℕ) → is_among nat_eq n (used_filesystems nat_eq world names) ≡ true
+      → list_any (λ (f : Filesystem ℕ). nat_eq n f.number) [] ≡ false
+  unused n used = refl
+
+  abbrev new : Copies ℕ
+  new = copies_from nat_eq fresh (parts world names it.is it.sealed_off [] unused here here_there own) origins
+
+  shown : (o : Mount ℕ) → Among o origins → Among o.filesystem (used_directly nat_eq world names)
+  shown o m =
+      let x = all_copied world names it.is from recursive from_mine o m in
+      subst (λ n. Among n (used_directly nat_eq world names))
+      (ap (λ (k : Mount ℕ). k.filesystem) (numbered world names it.is.mounts x.0 x.1.0) ∙ sym x.2)
+      (theirs_directly world names it.is (record { mount = x.0.number; node = x.0.root })
+      (own_theirs world names it.is x.0 x.1.0 x.1.1))
+
+  shows : ShowTheirs world names it.is it.sealed_off [] unused here here_there own new false origins
+  shows = record {
+    shown = λ o m. inl (shown o m);
+    unlisted = λ f m. refl;
+    layers = λ f m. absurd m;
+    mounted = λ f m. absurd m;
+  }
+
+  sources : (o : Mount ℕ) → Among o origins → (g : ℕ) → source_of o.propagation ≡ Some g
+      → part.master g ≡ world.master g
+  sources o m g e =
+      let x = all_copied world names it.is from recursive from_mine o m in
+      master_same world names it.is it.sealed_off g (heard_by_own world names it.is it.sealed_off x.0
+      (among-filter (is_own_mount nat_eq world names) world.mounts x.0 x.1.0 x.1.1) g
+      (ap source_of (sym x.3) ∙ e))
+
+  new_groups : (a b : ℕ) → world.master (new.image a b) ≡ None
+  new_groups a b = group_new world names it.is fresh serves _
+
+  abbrev now : World ℕ
+  now = bound_at nat_eq fresh world from here recursive
+
+  abbrev now_there : World ℕ
+  now_there = bound_at nat_eq fresh part from here recursive
+
+  first : policy nat_eq fresh world name (Bind source path recursive)
+      ≡ granted Done (numbers_raised nat_eq world name [] now)
+  first =
+      ap (ran name (Bind source path recursive) world fresh) called
+      ∙ ap (run_by world names name (Bind source path recursive) it fresh fresh world fresh task) judged
+      ∙ ap (λ w. granted Done (numbers_raised nat_eq world name [] w))
+      (binds_keep_all fresh world task from here recursive (all_in_use world it.is)
+      (mounts_of_worlds_stand world it.is) (locations_of_worlds_stand world it.is)
+      (placed world names it.is it.sealed_off here here_theirs own))
+
+  second : policy nat_eq fresh part name (Bind source path recursive)
+      ≡ granted Done (numbers_raised nat_eq part name [] now_there)
+  second =
+      ap (ran name (Bind source path recursive) part fresh)
+      (same_caller world names it.is it.sealed_off name it.theirs ∙ called)
+      ∙ ap (run_by world names name (Bind source path recursive) it fresh fresh part fresh task)
+      (sym (same_judgement world names name (Bind source path recursive) it fresh fresh task called) ∙ judged)
+      ∙ ap (λ w. granted Done (numbers_raised nat_eq part name [] w))
+      (binds_keep_all fresh part task from here recursive (part_in_use world names it.is it.sealed_off)
+      (mounts_stand_there world names it.is it.sealed_off) (locations_stand_there world names it.is)
+      (placed_there world names it.is it.sealed_off here here_theirs own))
+
+  abbrev attached_to : List (Mount ℕ) → World ℕ → World ℕ
+  attached_to mounts w = attach nat_eq w fresh here false mounts
+
+  now_so : now ≡ attached_by nat_eq (base world names it.is
+      it.sealed_off [] unused here here_there own) new here false origins
+  now_so = ap (attached_to origins) (no_new_ones world)
+
+  there_so : now_there ≡ attached_by nat_eq
+      (base_part world names it.is it.sealed_off [] unused here here_there own) new
+      here false origins
+  there_so =
+      ap (λ l. attached_to l part) (bind_alike world names it.is from recursive from_theirs)
+      ∙ ap (attached_to origins) (no_new_ones part)
+      ∙ ap (λ l. attached_by nat_eq (base_part world names it.is it.sealed_off [] unused here here_there own)
+      (copies_from nat_eq fresh l origins) here false origins)
+      (parts_alike world names it.is it.sealed_off [] unused here here_there own)
+
+  parts_same : part_of nat_eq (numbers_raised nat_eq world name [] now) names
+      ≡ part_of nat_eq (numbers_raised nat_eq part name [] now_there) names
+  parts_same =
+      ap (λ w. part_of nat_eq (numbers_raised nat_eq world name [] w) names) now_so
+      ∙ copies_alike world names it.is it.sealed_off [] unused here here_there own new origins new_groups sources shows
+      name
+      ∙ sym (ap (λ w. part_of nat_eq (numbers_raised nat_eq part name [] w) names) there_so)
+
+  bind_ends : EndsAlike world names name (Bind source path recursive) fresh fresh
+  bind_ends =
+      subst (λ p. EndAlike
+      (grown names name (Bind source path recursive) (policy nat_eq fresh world name
+      (Bind source path recursive)).answer)
+      (policy nat_eq fresh world name (Bind source path recursive)) p) (sym second)
+      (subst (λ o. EndAlike (grown names name (Bind source path recursive) o.answer) o
+      (granted Done (numbers_raised nat_eq part name [] now_there))) (sym first)
+      (record { answer = refl; part = parts_same }))
+
+pub binds_end_alike : BindsEndAlike
+binds_end_alike world names name source path recursive it fresh serves = by (task_called world name) refl
+  where
+    judged_by : (task : Task ℕ) (member : Among task (members world names)) → task_called world name ≡ Some task
+        → (j : Judgement ℕ) → judge_in nat_eq fresh world task (Bind source path recursive) ≡ j
+        → IfOk j (Binds world names it.is it.sealed_off task member recursive)
+        → EndsAlike world names name (Bind source path recursive) fresh fresh
+    judged_by task member e (Ok permit) judged its =
+        bind_ends world names name source path recursive it task e fresh serves its.0 its.1 its.3 its.4 its.5 its.6
+        (judged ∙ ap Ok its.2)
+    judged_by task member e (Err deny) judged its =
+        denial_ends_alike world names name (Bind source path recursive) it fresh fresh
+        (ap (λ o. is_ok (ran name (Bind source path recursive) world fresh o).answer) e
+        ∙ ap (λ j. is_ok
+        (run_by world names name (Bind source path recursive) it fresh fresh world fresh task j).answer) judged)
+
+    by : (o : Option (Task ℕ)) → task_called world name ≡ o
+        → EndsAlike world names name (Bind source path recursive) fresh fresh
+    by None e = unnamed_ends_alike world names name (Bind source path recursive) it fresh fresh e
+    by (Some task) e =
+        let member = member_called world names it.is it.sealed_off name it.theirs task e in
+        judged_by task member e (judge_in nat_eq fresh world task (Bind source path recursive)) refl
+        (binds_there world names it.is it.sealed_off task member recursive fresh source path)

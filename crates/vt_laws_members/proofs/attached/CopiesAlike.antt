@@ -1,0 +1,268 @@
+-- Copies that are attached at a mount of theirs, at its receivers and what they push up, are the same in the part.
+use Rattle.std.proofs.Common.{◌≡◌, refl, sym, ap, subst, ◌∙◌, inl, inr, ⊎_elim, ℕ, nat_eq, Bool, true, false, cond, List, [], ◌∷◌, ◌++◌, Option, Some, None, append-nil, filter, find, flat_map, is_some, map, not, ◌&&◌}
+use Rattle.std.specs.Prelude.{option_map}
+use Rattle.std.specs.List.{filter_map, list_any}
+use Rattle.vt_spec.specs.FileTree.{is_directory_under}
+use Rattle.vt_spec.specs.Language.Calls.{TaskName}
+use Rattle.vt_spec.specs.Lists.{folded, is_among, rest_of, then_some, when}
+use Rattle.vt_spec.specs.Machine.Attach.{Copies, Graft, Twig, added_mounts, all_groups_made, attached_at, attached_by, copies_at, copy_at, copy_mount_point, copy_number, copy_type, graft_of, group_made, image, is_destination, masters_with, nearest_image, parts_of, pushed_onto, pushed_up, receiver_stood_on, receivers_of, takes_part, top_of_copies, twig_master, twig_of, with_moved_mounts}
+use Rattle.vt_spec.specs.Machine.Invariants.{IsWorld}
+use Rattle.vt_spec.specs.Machine.Mounts.{Location, Mount, Propagation, group_of, source_of, stands_at}
+use Rattle.vt_spec.specs.Machine.Mounts.Propagation.{Private, Shared, Slave, Unbindable}
+use Rattle.vt_spec.specs.Machine.Receives.{has_members, is_member_of, slave_of_heir}
+use Rattle.vt_spec.specs.Machine.Sealed.{is_own_mount, members, part_of, sealed, used_filesystems}
+use Rattle.vt_spec.specs.Machine.World.{Filesystem, Task, World, filesystem_numbered, mount_at}
+use Rattle.vt_spec.proofs.Found.{filter_alike, found_among}
+use Rattle.vt_spec.proofs.Lists.{Among, among-filter, among-from_filter, map_alike}
+use Rattle.vt_spec.proofs.Options.{none_is_some}
+use Rattle.vt_spec.proofs.Worlds.{number-mount_in}
+use Rattle.vt_laws_mounts.proofs.letting_go.Lists.{flat_map_alike}
+use Rattle.vt_laws_sealed.proofs.part.Kept.{filter_map_same}
+use Rattle.vt_laws_sealed.proofs.part.groups.ReceiversAlike.{same_up}
+use Rattle.vt_laws_sealed.proofs.part.part.PartOfPart.{found, is_own}
+use Rattle.vt_laws_members.proofs.judging.Busy.{receivers_alike, receivers_own}
+use Rattle.vt_laws_members.proofs.judging.Grounds.{IsTheirs, numbered, same_mount}
+use Rattle.vt_laws_members.proofs.judging.MountTrees.{own_theirs}
+use Rattle.vt_laws_members.proofs.judging.SeenInPart.{theirs_used}
+use Rattle.vt_laws_members.proofs.changes.letting_go.Heard.{IsHeard, above_heard, apart, heard_by_own, master_same}
+use Rattle.vt_laws_members.proofs.attached.GrownPart.{found_before}
+
+-- a mount's group is its source
+pub group_source : (kind : Propagation ℕ) (g : ℕ) → group_of kind ≡ Some g → source_of kind ≡ Some g
+group_source (Shared h) g e = e
+group_source (Slave h) g e = none_is_some g e
+group_source Private g e = none_is_some g e
+group_source Unbindable g e = none_is_some g e
+
+-- a world without new filesystems
+pub no_new_ones : (w : World ℕ) → w ≡ record w { filesystems = w.filesystems ++ [] }
+no_new_ones w = sym (ap (λ l. record w { filesystems = l }) (append-nil w.filesystems))
+
+-- masters that agree on a group still do, with the same new ones
+pub masters_agree : (made : List (ℕ × Option ℕ)) (m n : ℕ → Option ℕ) (g : ℕ) → m g ≡ n g
+    → folded (masters_with nat_eq) m made g ≡ folded (masters_with nat_eq) n made g
+masters_agree [] m n g e = e
+masters_agree (one ∷ made) m n g e =
+    masters_agree made (masters_with nat_eq m one) (masters_with nat_eq n one) g
+    (ap (cond (nat_eq g one.0) one.1) e)
+
+module _ (world : World ℕ) (names : List TaskName) (is : IsWorld nat_eq world)
+    (sealed_off : sealed nat_eq world names ≡ true) (new_ones : List (Filesystem ℕ))
+    (unused : (n : ℕ) → is_among nat_eq n (used_filesystems nat_eq world names) ≡ true
+    → list_any (λ (f : Filesystem ℕ). nat_eq n f.number) new_ones ≡ false)
+    (place : Location ℕ) (there : Among (mount_at nat_eq world place) world.mounts)
+    (own : is_own world names (members world names) (mount_at nat_eq world place) ≡ true) where
+  abbrev part : World ℕ
+  part = part_of nat_eq world names
+
+  abbrev theirs : List (Task ℕ)
+  theirs = members world names
+
+  abbrev owns : Mount ℕ → Bool
+  owns = is_own world names theirs
+
+  -- the worlds with new filesystems
+  abbrev pub base : World ℕ
+  base = record world { filesystems = world.filesystems ++ new_ones }
+
+  abbrev pub base_part : World ℕ
+  base_part = record part { filesystems = part.filesystems ++ new_ones }
+
+  abbrev destination : Mount ℕ
+  destination = mount_at nat_eq world place
+
+  abbrev Heard : ℕ → Type 0
+  Heard g = IsHeard world names is sealed_off g
+
+  on : IsTheirs world names is.mounts place.mount
+  on = subst (IsTheirs world names is.mounts) (number-mount_in world.mounts place.mount)
+      (own_theirs world names is destination there own)
+
+  same_destination : mount_at nat_eq part place ≡ destination
+  same_destination = same_mount world names is.mounts place.mount on
+
+  -- Parts
+  files_alike : (m : Mount ℕ) → Among m world.mounts → owns m ≡ true
+      → filesystem_numbered nat_eq base_part m.filesystem ≡ filesystem_numbered nat_eq base m.filesystem
+  files_alike m n its =
+      let used : is_among nat_eq m.filesystem (used_filesystems nat_eq world names) ≡ true =
+      ap (λ (x : Mount ℕ). is_among nat_eq x.filesystem (used_filesystems nat_eq world names))
+      (sym (numbered world names is.mounts m n))
+      ∙ theirs_used world names is (record { mount = m.number; node = m.root }) (own_theirs world names is m n its) in
+      found_before part new_ones m.filesystem (unused m.filesystem used)
+      ∙ found world names m.filesystem used
+      ∙ sym (found_before world new_ones m.filesystem (unused m.filesystem used))
+
+  abbrev takes : World ℕ → Mount ℕ → Mount ℕ → Bool
+  takes w to m =
+      not (nat_eq place.mount m.number) && is_some m.namespace && nat_eq to.filesystem m.filesystem
+      && is_directory_under nat_eq (filesystem_numbered nat_eq w m.filesystem).files m.root place.node
+
+  abbrev pub parts : List (Mount ℕ)
+  parts = parts_of nat_eq base place
+
+  pub parts_alike : parts_of nat_eq base_part place ≡ parts
+  parts_alike =
+      ap (λ to. to ∷ filter (takes base_part to) (receivers_of nat_eq part to)) same_destination
+      ∙ ap (λ l. destination ∷ filter (takes base_part destination) l)
+      (receivers_alike world names is sealed_off destination there own)
+      ∙ ap (λ l. destination ∷ l)
+      (filter_alike (takes base_part destination) (takes base destination) (receivers_of nat_eq world destination)
+      (λ m n.
+      let its = receivers_own world names is sealed_off destination m there own n in
+      ap (λ (f : Filesystem ℕ). not (nat_eq place.mount m.number) && is_some m.namespace
+      && nat_eq destination.filesystem m.filesystem && is_directory_under nat_eq f.files m.root place.node)
+      (files_alike m its.0 its.1)))
+
+  pub parts_own : (m : Mount ℕ) → Among m parts → Among m world.mounts × (owns m ≡ true)
+  parts_own m n =
+      ⊎_elim
+      (λ same. (subst (λ x. Among x world.mounts) (sym same) there, ap owns same ∙ own))
+      (λ receiver. receivers_own world names is sealed_off destination m there own
+      (among-from_filter (takes_part nat_eq base place) (receivers_of nat_eq world destination) m receiver).0) n
+
+  -- What is attached, by these new numbers
+  module _ (new : Copies ℕ) (moves : Bool) (origins : List (Mount ℕ)) where
+    abbrev pub tree : Graft ℕ
+    tree = graft_of nat_eq base new place moves origins
+
+    abbrev pub copies : Mount ℕ → List (Mount ℕ)
+    copies = copies_at nat_eq base new tree parts
+
+    abbrev pub push : Mount ℕ → Mount ℕ
+    push = pushed_up nat_eq base new tree parts
+
+    abbrev pub made : List (ℕ × Option ℕ)
+    made = all_groups_made nat_eq base new tree parts
+
+    heard_part : (p : Mount ℕ) → Among p parts → (g : ℕ) → source_of p.propagation ≡ Some g → Heard g
+    heard_part p n g e =
+        let its = parts_own p n in
+        heard_by_own world names is sealed_off p
+        (among-filter (is_own_mount nat_eq world names) world.mounts p its.0 its.1) g e
+
+    -- images up the masters
+    nearest_alike : (twig : Twig ℕ) (g : ℕ) → Heard g
+        → nearest_image nat_eq base_part new parts destination twig (Some g)
+        ≡ nearest_image nat_eq base new parts destination twig (Some g)
+    nearest_alike twig g heard =
+        ap (λ l. option_map (image nat_eq new destination twig) (find (has_members nat_eq parts) l))
+        (same_up world names is.mounts (apart world names is sealed_off).events g heard.0 heard.1)
+
+    type_alike : (p : Mount ℕ) → Among p parts → (twig : Twig ℕ)
+        → copy_type nat_eq base_part new parts destination twig p.propagation
+        ≡ copy_type nat_eq base new parts destination twig p.propagation
+    type_alike p n twig = by p.propagation refl
+      where
+        by : (kind : Propagation ℕ) → p.propagation ≡ kind
+            → copy_type nat_eq base_part new parts destination twig kind
+            ≡ copy_type nat_eq base new parts destination twig kind
+        by (Shared g) e = refl
+        by (Slave g) e = ap slave_of_heir (nearest_alike twig g (heard_part p n g (ap source_of e)))
+        by Private e = refl
+        by Unbindable e = refl
+
+    abbrev copy_with : Mount ℕ → Twig ℕ → Propagation ℕ → Mount ℕ
+    copy_with p twig kind = record twig.origin {
+      number = copy_number nat_eq new tree p.number twig.origin.number;
+      namespace = p.namespace;
+      mount_point = Some (copy_mount_point nat_eq new tree p.number twig.origin);
+      propagation = cond (is_destination nat_eq tree p.number) twig.propagation kind;
+    }
+
+    copy_alike : (p : Mount ℕ) → Among p parts → (twig : Twig ℕ)
+        → copy_at nat_eq base_part new tree parts p twig ≡ copy_at nat_eq base new tree parts p twig
+    copy_alike p n twig =
+        ap (λ d. copy_with p twig (copy_type nat_eq base_part new parts d twig p.propagation)) same_destination
+        ∙ ap (copy_with p twig) (type_alike p n twig)
+
+    pub copies_alike : (p : Mount ℕ) → Among p parts → copies_at nat_eq base_part new tree parts p ≡ copies p
+    copies_alike p n =
+        map_alike (copy_at nat_eq base_part new tree parts p) (copy_at nat_eq base new tree parts p) tree.twigs
+        (λ twig m. copy_alike p n twig)
+
+    push_alike : (m : Mount ℕ) → pushed_up nat_eq base_part new tree parts m ≡ push m
+    push_alike m = by (receiver_stood_on nat_eq tree parts m) refl
+      where
+        by : (o : Option (Mount ℕ)) → receiver_stood_on nat_eq tree parts m ≡ o
+            → pushed_onto nat_eq base_part new tree parts m o ≡ pushed_onto nat_eq base new tree parts m o
+        by None e = refl
+        by (Some p) e =
+            ap (λ l. record m { mount_point = Some (top_of_copies nat_eq l place) })
+            (copies_alike p (inr (found_among
+            (λ (x : Mount ℕ). stands_at nat_eq (record { mount = x.number; node = place.node }) m)
+            (rest_of parts) p e)))
+
+    -- groups that copies form
+    made_alike : (p : Mount ℕ) → Among p parts → (twig : Twig ℕ)
+        → group_made nat_eq base_part new tree parts p twig ≡ group_made nat_eq base new tree parts p twig
+    made_alike p n twig =
+        ap (λ d. cond (is_destination nat_eq tree p.number) (twig_master twig)
+        (then_some (group_of p.propagation) (λ group. when (not (is_member_of nat_eq group d)) (
+          image nat_eq new d twig group,
+          nearest_image nat_eq base_part new parts d twig (part.master group),
+        )))) same_destination
+        ∙ ap (cond (is_destination nat_eq tree p.number) (twig_master twig)) (by (group_of p.propagation) refl)
+      where
+        made_by : (World ℕ) → (ℕ → Option ℕ) → ℕ → Option (ℕ × Option ℕ)
+        made_by w up group = when (not (is_member_of nat_eq group destination)) (
+          image nat_eq new destination twig group,
+          nearest_image nat_eq w new parts destination twig (up group),
+        )
+
+        above : (g : ℕ) → Heard g → (o : Option ℕ) → world.master g ≡ o
+            → nearest_image nat_eq base_part new parts destination twig o
+            ≡ nearest_image nat_eq base new parts destination twig o
+        above g heard None e = refl
+        above g heard (Some up) e = nearest_alike twig up (above_heard world names is sealed_off up g e heard)
+
+        by : (o : Option ℕ) → group_of p.propagation ≡ o
+            → then_some o (made_by base_part part.master) ≡ then_some o (made_by base world.master)
+        by None e = refl
+        by (Some g) e =
+            let heard = heard_part p n g (group_source p.propagation g e) in
+            ap (λ k. when (not (is_member_of nat_eq g destination)) (image nat_eq new destination twig g, k))
+            (ap (nearest_image nat_eq base_part new parts destination twig)
+            (master_same world names is sealed_off g heard)
+            ∙ above g heard (world.master g) refl)
+
+    pub all_made_alike : all_groups_made nat_eq base_part new tree parts ≡ made
+    all_made_alike =
+        flat_map_alike (λ p. filter_map (group_made nat_eq base_part new tree parts p) tree.twigs)
+        (λ p. filter_map (group_made nat_eq base new tree parts p) tree.twigs) parts
+        (λ p n. filter_map_same (group_made nat_eq base_part new tree parts p)
+        (group_made nat_eq base new tree parts p) tree.twigs (λ twig m. made_alike p n twig))
+
+    -- what is attached to a world, by the copies of this one
+    abbrev pub attached_as : World ℕ → World ℕ
+    attached_as w = record w {
+      mounts = map push (with_moved_mounts nat_eq moves w.mounts (copies destination))
+          ++ added_mounts moves (copies destination) ++ flat_map copies (rest_of parts);
+      master = folded (masters_with nat_eq) w.master made;
+      filesystems = w.filesystems ++ new_ones;
+    }
+
+    abbrev mounts_by : (Mount ℕ → Mount ℕ) → List (Mount ℕ) → List (Mount ℕ) → List (Mount ℕ)
+    mounts_by up first rest =
+        map up (with_moved_mounts nat_eq moves part.mounts first) ++ added_mounts moves first ++ rest
+
+    pub attached_there : attached_by nat_eq base_part new place moves origins ≡ attached_as part
+    attached_there =
+        ap (λ (m : Mount ℕ). attached_at nat_eq base_part new (record {
+          destination = place;
+          twigs = map (twig_of new (group_of m.propagation)) origins;
+          moves = moves;
+        }) (parts_of nat_eq base_part place)) same_destination
+        ∙ ap (attached_at nat_eq base_part new tree) parts_alike
+        ∙ ap (λ (d : Mount ℕ). record base_part {
+          mounts = mounts_by (pushed_up nat_eq base_part new tree parts) (copies_at nat_eq base_part new tree parts d)
+              (flat_map (copies_at nat_eq base_part new tree parts) (rest_of parts));
+          master = folded (masters_with nat_eq) part.master (all_groups_made nat_eq base_part new tree parts);
+        }) same_destination
+        ∙ (λ i. record base_part {
+          mounts = mounts_by (λ m. push_alike m i)
+              (copies_alike destination (inl refl) i)
+              (flat_map_alike (copies_at nat_eq base_part new tree parts) copies (rest_of parts)
+              (λ p n. copies_alike p (inr n)) i);
+          master = folded (masters_with nat_eq) part.master (all_made_alike i);
+        })

@@ -1,0 +1,188 @@
+-- Where a tree of theirs moves, the worlds that are left have one part after the sweep.
+use Rattle.std.proofs.Common.{◌≡◌, refl, sym, ap, subst, ◌∙◌, inl, ⊎_elim, ℕ, nat_eq, Bool, true, cond, List, [], ◌∷◌, ◌++◌, Option, Some, None, filter, map}
+use Rattle.std.specs.List.{list_all}
+use Rattle.std.specs.Prelude.{All}
+use Rattle.vt_spec.specs.Language.Calls.{TaskName}
+use Rattle.vt_spec.specs.Lists.{is_among, then_some}
+use Rattle.vt_spec.specs.Machine.Invariants.{HasLivingGroups, IsWorld, Lives, is_nowhere_or_attached}
+use Rattle.vt_spec.specs.Machine.Invariants.Lives.{has_master, has_no_master}
+use Rattle.vt_spec.specs.Machine.Mounts.{Location, Mount, source_of}
+use Rattle.vt_spec.specs.Machine.Policy.{master_above, numbers_raised}
+use Rattle.vt_spec.specs.Machine.Receives.{has_members}
+use Rattle.vt_spec.specs.Machine.Sealed.{is_member_task, is_own_mount, members, own_lowers, part_of, sealed, used_filesystems}
+use Rattle.vt_spec.specs.Machine.Settled.{mount_lives, settled}
+use Rattle.vt_spec.specs.Machine.World.{Task, World, all_locations, with_mounts}
+use Rattle.vt_spec.proofs.Found.{filter_all}
+use Rattle.vt_spec.proofs.Lists.{Among, among-filter, among-from_filter, among-from_flat_map, among_from_all, among_from_list_all}
+use Rattle.vt_laws_mounts.proofs.letting_go.sweeps.OfWorlds.{all_in_use, locations_of_worlds_stand}
+use Rattle.vt_laws_mounts.specs.Mounts.Invariants.{OneNumberEach}
+use Rattle.vt_laws_mounts.specs.Mounts.Standing.{AllStand}
+use Rattle.vt_laws_sealed.proofs.part.part.PartOfPart.{is_own, same_members}
+use Rattle.vt_laws_members.proofs.judging.Grounds.{IsTheirs}
+use Rattle.vt_laws_members.proofs.judging.SeenInPart.{directory_theirs, root_theirs}
+use Rattle.vt_laws_members.proofs.changes.letting_go.Changed.{LetsGo}
+use Rattle.vt_laws_members.proofs.changes.letting_go.PartReady.{part_ready}
+use Rattle.vt_laws_members.proofs.changes.letting_go.Ready.{Ready}
+use Rattle.vt_laws_members.proofs.changes.letting_go.Sweep.{swept_of}
+use Rattle.vt_laws_members.proofs.changes.letting_go.WorldReady.{world_ready}
+use Rattle.vt_laws_members.proofs.changes.part.SettledPart.{part_in_use}
+use Rattle.vt_laws_members.proofs.attached.AttachedAlike.{one_part, own_alike}
+use Rattle.vt_laws_members.proofs.attached.Destination.{located_there}
+use Rattle.vt_laws_members.proofs.attached.GrownPart.{Grows}
+use Rattle.vt_laws_members.proofs.attached.GrownReady.{all_live, grown, grown_settled, without_new}
+use Rattle.vt_laws_members.proofs.attached.PartGrows.{part_grows}
+use Rattle.vt_laws_members.proofs.attached.RaisedAlike.{parts_left}
+
+-- a group that lives has members
+lives_so : (members : ℕ → Bool) (master : ℕ → Option ℕ) (g : ℕ) → Lives members master g → members g ≡ true
+lives_so members master g (has_no_master it there none) = there
+lives_so members master g (has_master it above there e later) = there
+
+module _ (world : World ℕ) (names : List TaskName) (is : IsWorld nat_eq world)
+    (sealed_off : sealed nat_eq world names ≡ true) where
+  abbrev part : World ℕ
+  part = part_of nat_eq world names
+
+  -- tasks that stay let nothing go
+  lets : LetsGo world names is sealed_off names world.tasks
+  lets = record {
+    own = λ n. refl;
+    roots = λ l m.
+        let t = among-from_flat_map (λ (t : Task ℕ). t.root ∷ t.directory ∷ []) (members world names) l m in
+        ⊎_elim
+        (λ e. subst (λ (k : Location ℕ). IsTheirs world names is.mounts k.mount) (sym e)
+        (root_theirs world names is t.0 t.1))
+        (λ rest. ⊎_elim
+        (λ e. subst (λ (k : Location ℕ). IsTheirs world names is.mounts k.mount) (sym e)
+        (directory_theirs world names is t.0 t.1))
+        (λ none. absurd none) rest) t.2;
+    places = λ l m. inl m;
+    others = λ l m. m;
+  }
+
+  pub ready_here : Ready world names (used_filesystems nat_eq world names) (own_lowers nat_eq world names)
+  ready_here =
+      subst (λ l. Ready (with_mounts world l) names (used_filesystems nat_eq world names)
+      (own_lowers nat_eq world names))
+      (filter_all (mount_lives nat_eq world) world.mounts
+      (among_from_list_all (mount_lives nat_eq world) world.mounts (all_in_use world is).mounts))
+      (world_ready world names is sealed_off names world.tasks world.change lets)
+
+  pub ready_there : Ready part names (used_filesystems nat_eq world names) (own_lowers nat_eq world names)
+  ready_there =
+      subst (λ l. Ready (with_mounts part l) names (used_filesystems nat_eq world names)
+      (own_lowers nat_eq world names))
+      (filter_all (mount_lives nat_eq part) part.mounts
+      (among_from_list_all (mount_lives nat_eq part) part.mounts (part_in_use world names is sealed_off).mounts))
+      (part_ready world names is sealed_off names world.tasks part.tasks world.change part.change lets
+      (same_members world names) (λ t m. (among-from_filter (is_member_task names) world.tasks t m).1))
+
+-- Where such a change leaves mounts that stand, and groups that live
+pub record Stays (w : World ℕ) : Type 0 where
+  pub one : OneNumberEach w
+  pub stands : AllStand w
+  pub nowhere : list_all is_nowhere_or_attached w.mounts ≡ true
+  pub groups : All (HasLivingGroups nat_eq w) w.mounts
+
+module _ (world : World ℕ) (names : List TaskName) (is : IsWorld nat_eq world)
+    (sealed_off : sealed nat_eq world names ≡ true) (change : Mount ℕ → Mount ℕ) (added : List (Mount ℕ))
+    (master master_too : ℕ → Option ℕ) (grows : Grows world names change added [] master)
+    (known : (y : Mount ℕ) → Among y (map change world.mounts ++ added)
+    → is_own world names (members world names) y ≡ true → (g : ℕ) → source_of y.propagation ≡ Some g
+    → master_too g ≡ master g) where
+  abbrev pub left_here : World ℕ
+  left_here =
+      grown world names change added master (used_filesystems nat_eq world names) (own_lowers nat_eq world names)
+      (ready_here world names is sealed_off) grows
+
+  abbrev pub grows_there : Grows (part_of nat_eq world names) names change added [] master_too
+  grows_there = part_grows world names is change added [] master master_too grows
+
+  abbrev pub left_there : World ℕ
+  left_there =
+      grown (part_of nat_eq world names) names change added master_too (used_filesystems nat_eq world names)
+      (own_lowers nat_eq world names) (ready_there world names is sealed_off) grows_there
+
+  module _ (stays : Stays left_here) (stays_there : Stays left_there) where
+    settled_here : part_of nat_eq (settled nat_eq left_here) names ≡ swept_of names (part_of nat_eq left_here names)
+    settled_here =
+        grown_settled world names change added master (used_filesystems nat_eq world names)
+        (own_lowers nat_eq world names) (ready_here world names is sealed_off) grows
+        (among_from_list_all (λ (l : Location ℕ). is_among nat_eq l.mount (map (λ
+        (m : Mount ℕ). m.number) world.mounts))
+        (all_locations world) (locations_of_worlds_stand world is))
+        stays.one stays.stands stays.nowhere
+
+    settled_there : part_of nat_eq (settled nat_eq left_there) names ≡ swept_of names (part_of nat_eq left_there names)
+    settled_there =
+        grown_settled (part_of nat_eq world names) names change added master_too (used_filesystems nat_eq world names)
+        (own_lowers nat_eq world names) (ready_there world names is sealed_off) grows_there
+        (located_there world names is) stays_there.one stays_there.stands stays_there.nowhere
+
+    same_part : part_of nat_eq left_there names ≡ part_of nat_eq left_here names
+    same_part =
+        sym (ap (λ w. part_of nat_eq w names)
+        (without_new (part_of nat_eq world names) names change added master_too (used_filesystems nat_eq world names)
+        (own_lowers nat_eq world names) (ready_there world names is sealed_off) grows_there))
+        ∙ one_part world names is sealed_off change added [] master master_too grows known
+        ∙ ap (λ w. part_of nat_eq w names)
+        (without_new world names change added master (used_filesystems nat_eq world names)
+        (own_lowers nat_eq world names) (ready_here world names is sealed_off) grows)
+
+    swept_alike : part_of nat_eq (settled nat_eq left_there) names ≡ part_of nat_eq (settled nat_eq left_here) names
+    swept_alike = settled_there ∙ ap (swept_of names) same_part ∙ sym settled_here
+
+    -- all mounts stay
+    mounts_here : filter (mount_lives nat_eq left_here) left_here.mounts ≡ left_here.mounts
+    mounts_here =
+        all_live world names change added master (used_filesystems nat_eq world names)
+        (own_lowers nat_eq world names) (ready_here world names is sealed_off) grows
+        (among_from_list_all (λ (l : Location ℕ). is_among nat_eq l.mount (map (λ
+        (m : Mount ℕ). m.number) world.mounts))
+        (all_locations world) (locations_of_worlds_stand world is))
+        stays.one stays.stands stays.nowhere
+
+    mounts_there : filter (mount_lives nat_eq left_there) left_there.mounts ≡ left_there.mounts
+    mounts_there =
+        all_live (part_of nat_eq world names) names change added master_too (used_filesystems nat_eq world names)
+        (own_lowers nat_eq world names) (ready_there world names is sealed_off) grows_there
+        (located_there world names is) stays_there.one stays_there.stands stays_there.nowhere
+
+    -- so groups of theirs keep their masters
+    above_alike : (m : Mount ℕ) → Among m (settled nat_eq left_here).mounts
+        → is_own world names (members world names) m ≡ true
+        → master_above (settled nat_eq left_there) m ≡ master_above (settled nat_eq left_here) m
+    above_alike m n own = by (source_of m.propagation) refl
+      where
+        here : Among m left_here.mounts
+        here = (among-from_filter (mount_lives nat_eq left_here) left_here.mounts m n).0
+
+        there : Among m left_there.mounts
+        there =
+            (among-from_filter (is_own_mount nat_eq left_there names) left_there.mounts m
+            (subst (Among m) (sym (own_alike world names is sealed_off change added [] master master_too grows known))
+            (among-filter (is_own_mount nat_eq left_here names) left_here.mounts m here own))).0
+
+        members_in : (w : World ℕ) → Stays w → filter (mount_lives nat_eq w) w.mounts ≡ w.mounts → Among m w.mounts
+            → (g : ℕ) → source_of m.propagation ≡ Some g
+            → has_members nat_eq (filter (mount_lives nat_eq w) w.mounts) g ≡ true
+        members_in w it all at g e =
+            ap (λ l. has_members nat_eq l g) all
+            ∙ lives_so (has_members nat_eq w.mounts) w.master g
+            (among_from_all (HasLivingGroups nat_eq w) w.mounts it.groups m at g e)
+
+        by : (o : Option ℕ) → source_of m.propagation ≡ o
+            → then_some o (settled nat_eq left_there).master ≡ then_some o (settled nat_eq left_here).master
+        by None e = refl
+        by (Some g) e =
+            ap (λ b. cond b (master_too g) None) (members_in left_there stays_there mounts_there there g e)
+            ∙ known m here own g e
+            ∙ sym (ap (λ b. cond b (master g) None) (members_in left_here stays mounts_here here g e))
+
+    pub moved_alike : (name : TaskName)
+        → part_of nat_eq (numbers_raised nat_eq world name [] (settled nat_eq left_here)) names
+        ≡ part_of nat_eq (numbers_raised nat_eq (part_of nat_eq world names) name [] (settled nat_eq left_there)) names
+    moved_alike name =
+        parts_left world names is sealed_off (settled nat_eq left_here).mounts (settled nat_eq left_there).mounts
+        (settled nat_eq left_here).master (settled nat_eq left_there).master (settled nat_eq left_here).filesystems
+        (settled nat_eq left_there).filesystems swept_alike above_alike name

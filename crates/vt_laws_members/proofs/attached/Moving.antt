@@ -1,0 +1,324 @@
+-- Each mount(2) with MS_MOVE ends in the part as in the world.
+use Rattle.std.proofs.Common.{◌≡◌, refl, sym, ap, subst, ◌∙◌, ℕ, nat_eq, Bool, true, false, true≢false, List, [], Option, Some, None, Ok, Err, is_some, not, eqb-true}
+use Rattle.std.specs.Prelude.{IfOk, is_ok}
+use Rattle.std.specs.List.{list_any}
+use Rattle.std.proofs.lemmas.Bool.{or_parts}
+use Rattle.vt_spec.specs.Errors.{and_then}
+use Rattle.vt_spec.specs.Language.Answers.Answer.{Done}
+use Rattle.vt_spec.specs.Language.Calls.{TaskName}
+use Rattle.vt_spec.specs.Language.Calls.Call.{MoveMount}
+use Rattle.vt_spec.specs.Lists.{Fresh, holds_of}
+use Rattle.vt_spec.specs.Machine.Apply.{overfills}
+use Rattle.vt_spec.specs.Machine.Attach.{Copies, attach, attached_by, copies_from, moved_to, moved_tree}
+use Rattle.vt_spec.specs.Machine.Invariants.{IsWorld, MountInvariants}
+use Rattle.vt_spec.specs.Machine.Judge.{Judgement, attach_permit, judge_in, move_permit}
+use Rattle.vt_spec.specs.Machine.Mounts.{Location, Mount, mount_tree}
+use Rattle.vt_spec.specs.Machine.Outcomes.{granted}
+use Rattle.vt_spec.specs.Machine.Permits.{Permit}
+use Rattle.vt_spec.specs.Machine.Permits.Permit.{ToMove}
+use Rattle.vt_spec.specs.Machine.Policy.{numbers_raised, policy}
+use Rattle.vt_spec.specs.Machine.Rules.Conditions.{is_elsewhere}
+use Rattle.vt_spec.specs.Machine.Rules.Mounting.{admin_rules, destination_walk, move_rules, source_walk}
+use Rattle.vt_spec.specs.Machine.Run.{Serves}
+use Rattle.vt_spec.specs.Machine.Sealed.{is_own_mount, members, own_lowers, part_of, sealed, used_filesystems}
+use Rattle.vt_spec.specs.Machine.Settled.{settled}
+use Rattle.vt_spec.specs.Machine.Walking.{walk_end}
+use Rattle.vt_spec.specs.Machine.World.{Task, World, mount_at, task_called}
+use Rattle.vt_spec.proofs.Lists.{Among, among-filter, among-map, is_among_numbers}
+use Rattle.vt_spec.proofs.Worlds.{number-mount_in}
+use Rattle.vt_laws_mounts.specs.Mounts.Attaching.{is_mount, numbers_of}
+use Rattle.vt_laws_mounts.specs.Mounts.Moving.{CanMove}
+use Rattle.vt_laws_mounts.proofs.GroupsLiving.{all_live, tested_live}
+use Rattle.vt_laws_mounts.proofs.attached.AttachedKept.{moves_keep_groups}
+use Rattle.vt_laws_mounts.proofs.attached.AttachedNowhere.{moves_keep_nowhere}
+use Rattle.vt_laws_mounts.proofs.attached.BindsStand.{moves_keep_numbers}
+use Rattle.vt_laws_mounts.proofs.moves.Moving.{moves_keep_standing}
+use Rattle.vt_laws_mounts.specs.LettingGo.Attaching.{is_attached}
+use Rattle.vt_laws_sealed.proofs.part.part.PartOfPart.{is_own}
+use Rattle.vt_laws_members.specs.Judging.{is_theirs}
+use Rattle.vt_laws_members.proofs.judging.AllJudged.{owned}
+use Rattle.vt_laws_members.proofs.judging.Grounds.{IsTheirs, same_mount, theirs_from}
+use Rattle.vt_laws_members.proofs.judging.MountTrees.{own_theirs, tree_alike}
+use Rattle.vt_laws_members.specs.Changes.Changes.{EndAlike, EndsAlike, IsCallOfTheirs, grown}
+use Rattle.vt_laws_members.proofs.changes.letting_go.Heard.{own_in_part}
+use Rattle.vt_laws_members.proofs.changes.letting_go.Moving.{StandsHere, one}
+use Rattle.vt_laws_members.proofs.changes.letting_go.PartMounts.{part_mounts}
+use Rattle.vt_laws_members.proofs.changes.letting_go.Umounting.{of_passed}
+use Rattle.vt_laws_members.proofs.changes.looks.Granted.{of_rules, of_walk}
+use Rattle.vt_laws_members.proofs.changes.looks.Told.{member_called, ran, same_caller}
+use Rattle.vt_laws_members.proofs.changes.tasks.Denied.{denial_ends_alike, run_by, same_judgement, unnamed_ends_alike}
+use Rattle.vt_laws_members.specs.Attached.Attaching.{MovesEndAlike}
+use Rattle.vt_laws_members.proofs.attached.CopiesAlike.{attached_there, base_part, no_new_ones, parts, parts_alike}
+use Rattle.vt_laws_members.proofs.attached.Destination.{at_destination, at_source, placed, placed_there, there}
+use Rattle.vt_laws_members.proofs.attached.GrownPart.{Grows}
+use Rattle.vt_laws_members.proofs.attached.GrownReady.{without_new}
+use Rattle.vt_laws_members.proofs.attached.MovedAlike.{Stays, grows_there, left_here, left_there, moved_alike, ready_here, ready_there}
+use Rattle.vt_laws_members.proofs.attached.MovedGrows.{at_receivers, moved, moved_as, moved_grows, moved_known, moved_master, none_new}
+use Rattle.vt_laws_members.proofs.attached.PartServes.{serves_there}
+use Rattle.vt_laws_members.proofs.attached.Unused.{group_new}
+
+-- a mount of theirs moves to another one
+pub record MovesTo (world : World ℕ) (names : List TaskName) (from here : Location ℕ) : Type 0 where
+  pub from_on : is_theirs world names from.mount ≡ true
+  pub from_own : is_own world names (members world names) (mount_at nat_eq world from) ≡ true
+  pub on : is_theirs world names here.mount ≡ true
+  pub own : is_own world names (members world names) (mount_at nat_eq world here) ≡ true
+  pub can : CanMove world from here
+
+-- What a granted move moves
+module _ (world : World ℕ) (names : List TaskName) (is : IsWorld nat_eq world)
+    (sealed_off : sealed nat_eq world names ≡ true) (task : Task ℕ) (member : Among task (members world names)) where
+  abbrev pub Moves : Permit ℕ → Type 0
+  Moves permit =
+      (from : Location ℕ) × (here : Location ℕ) × (permit ≡ ToMove from.mount here) × MovesTo world names from here
+
+  is_so : (b : Bool) → not b ≡ false → b ≡ true
+  is_so true e = refl
+  is_so false e = sym e
+
+  in_it : (n : ℕ) (o : Option ℕ) → not (holds_of (nat_eq n) o) ≡ false → o ≡ Some n
+  in_it n None e = absurd (true≢false e)
+  in_it n (Some k) e = ap Some (sym (eqb-true n k (is_so (nat_eq n k) e)))
+
+  pub moves_there : (fresh : Fresh ℕ) (source path : List ℕ) → IfOk
+      (move_permit nat_eq (one world names is sealed_off task member) (overfills nat_eq fresh world task) task source
+      path) Moves
+  unfolding move_permit
+  moves_there fresh source path =
+      of_rules Moves (admin_rules task) _
+      (of_walk (StandsHere world names is sealed_off task member) Moves
+      (source_walk nat_eq (one world names is sealed_off task member) task source)
+      (λ from. and_then (walk_end (destination_walk nat_eq (one world names is sealed_off task member) task path))
+      (λ here. attach_permit
+      (move_rules nat_eq (one world names is sealed_off task member) task from.location here.location)
+      (overfills nat_eq fresh world task) (ToMove from.location.mount here.location)))
+      (at_source world names is sealed_off task member source)
+      (λ from at.
+      of_walk (StandsHere world names is sealed_off task member) Moves
+      (destination_walk nat_eq (one world names is sealed_off task member) task path)
+      (λ here. attach_permit
+      (move_rules nat_eq (one world names is sealed_off task member) task from.location here.location)
+      (overfills nat_eq fresh world task) (ToMove from.location.mount here.location))
+      (at_destination world names is sealed_off task member path)
+      (λ here on. of_passed Moves
+      (move_rules nat_eq (one world names is sealed_off task member) task from.location here.location
+      (overfills nat_eq fresh world task (ToMove from.location.mount here.location)))
+      (Ok (ToMove from.location.mount here.location))
+      (λ passed.
+      let both = or_parts (is_elsewhere nat_eq (one world names is sealed_off task member) task from.location)
+      (is_elsewhere nat_eq (one world names is sealed_off task member) task here.location) passed.0 in (
+        from.location,
+        here.location,
+        refl,
+        record {
+          from_on = at;
+          from_own = owned world names is sealed_off task member from.location both.0;
+          on = on;
+          own = owned world names is sealed_off task member here.location both.1;
+          can = record {
+            placed = is_so (is_some (mount_at nat_eq world from.location).mount_point) passed.1.1.1.1.1.1.0;
+            one_namespace = in_it task.namespace (mount_at nat_eq world here.location).namespace both.1
+                ∙ sym (in_it task.namespace (mount_at nat_eq world from.location).namespace both.0);
+            outside = passed.1.1.1.0;
+          };
+        },
+      )))))
+
+-- after a move mounts stand, and groups live
+moves_stay : (w : World ℕ) (fresh : Fresh ℕ) (from here : Location ℕ) → Serves nat_eq w fresh
+    → MountInvariants nat_eq w → CanMove w from here → is_attached w here.mount ≡ true → is_mount w from.mount ≡ true
+    → Stays (moved_to nat_eq fresh w from.mount here)
+moves_stay w fresh from here serves kept can attached from_there = record {
+  one = moves_keep_numbers w fresh from here serves kept.one_number kept.standing;
+  stands = moves_keep_standing w fresh from here serves kept can;
+  nowhere = moves_keep_nowhere w fresh from here kept.nowhere attached;
+  groups = all_live (moved_to nat_eq fresh w from.mount here)
+      (moves_keep_groups w fresh from here serves kept.one_number kept.standing from_there (tested_live w kept.groups));
+}
+
+-- A granted move
+module _ (world : World ℕ) (names : List TaskName) (name : TaskName) (source path : List ℕ)
+    (it : IsCallOfTheirs world names name (MoveMount source path)) (task : Task ℕ)
+    (called : task_called world name ≡ Some task) (fresh : Fresh ℕ) (serves : Serves nat_eq world fresh)
+    (from here : Location ℕ) (to : MovesTo world names from here)
+    (judged : judge_in nat_eq fresh world task (MoveMount source path) ≡ Ok (ToMove from.mount here)) where
+  abbrev part : World ℕ
+  part = part_of nat_eq world names
+
+  from_theirs : IsTheirs world names it.is.mounts from.mount
+  from_theirs = theirs_from world names it.is.mounts from.mount to.from_on
+
+  here_theirs : IsTheirs world names it.is.mounts here.mount
+  here_theirs = theirs_from world names it.is.mounts here.mount to.on
+
+  here_there : Among (mount_at nat_eq world here) world.mounts
+  here_there = there world names it.is it.sealed_off here here_theirs to.own
+
+  from_there : Among (mount_at nat_eq world from) world.mounts
+  from_there = there world names it.is it.sealed_off from from_theirs to.from_own
+
+  abbrev origins : List (Mount ℕ)
+  origins = moved_tree nat_eq world from.mount
+
+  abbrev new : Copies ℕ
+  new = copies_from nat_eq fresh
+      (parts world names it.is it.sealed_off [] (none_new world names) here here_there to.own) origins
+
+  abbrev change : Mount ℕ → Mount ℕ
+  change =
+      moved world names it.is it.sealed_off here here_there to.own new from.mount from_there to.from_own
+
+  abbrev added : List (Mount ℕ)
+  added =
+      at_receivers world names it.is it.sealed_off here here_there to.own new from.mount from_there to.from_own
+
+  abbrev with_made : (ℕ → Option ℕ) → ℕ → Option ℕ
+  with_made =
+      moved_master world names it.is it.sealed_off here here_there to.own new from.mount from_there to.from_own
+
+  grows : Grows world names change added [] (with_made world.master)
+  grows =
+      moved_grows world names it.is it.sealed_off here here_there to.own new from.mount from_there to.from_own
+      (with_made world.master)
+
+  abbrev now : World ℕ
+  now = moved_to nat_eq fresh world from.mount here
+
+  abbrev now_there : World ℕ
+  now_there = moved_to nat_eq fresh part from.mount here
+
+  abbrev left : World ℕ
+  left =
+      left_here world names it.is it.sealed_off change added (with_made world.master) (with_made part.master) grows
+      (moved_known world names it.is it.sealed_off here here_there to.own new from.mount from_there to.from_own
+      (λ a b. group_new world names it.is fresh serves _))
+
+  abbrev left_too : World ℕ
+  left_too =
+      left_there world names it.is it.sealed_off change added (with_made world.master) (with_made part.master) grows
+      (moved_known world names it.is it.sealed_off here here_there to.own new from.mount from_there to.from_own
+      (λ a b. group_new world names it.is fresh serves _))
+
+  abbrev attached_to : List (Mount ℕ) → World ℕ → World ℕ
+  attached_to mounts w = attach nat_eq w fresh here true mounts
+
+  now_so : now ≡ left
+  now_so =
+      ap (attached_to origins) (no_new_ones world)
+      ∙ moved_as world names it.is it.sealed_off here here_there to.own new from.mount from_there to.from_own world
+      ∙ without_new world names change added (with_made world.master) (used_filesystems nat_eq world names)
+      (own_lowers nat_eq world names) (ready_here world names it.is it.sealed_off) grows
+
+  same_tree : moved_tree nat_eq part from.mount ≡ origins
+  same_tree =
+      ap (mount_tree nat_eq part.mounts) (same_mount world names it.is.mounts from.mount from_theirs)
+      ∙ tree_alike world names it.is (mount_at nat_eq world from)
+      (own_theirs world names it.is (mount_at nat_eq world from) from_there to.from_own)
+
+  there_so : now_there ≡ left_too
+  there_so =
+      ap (λ l. attached_to l part) same_tree
+      ∙ ap (attached_to origins) (no_new_ones part)
+      ∙ ap (λ l. attached_by nat_eq
+      (base_part world names it.is it.sealed_off [] (none_new world names) here here_there to.own)
+      (copies_from nat_eq fresh l origins) here true origins)
+      (parts_alike world names it.is it.sealed_off [] (none_new world names) here here_there to.own)
+      ∙ attached_there world names it.is it.sealed_off [] (none_new world names) here here_there to.own new true origins
+      ∙ moved_as world names it.is it.sealed_off here here_there to.own new from.mount from_there to.from_own part
+      ∙ without_new part names change added (with_made part.master) (used_filesystems nat_eq world names)
+      (own_lowers nat_eq world names) (ready_there world names it.is it.sealed_off)
+      (grows_there world names it.is it.sealed_off change added (with_made world.master) (with_made part.master) grows
+      (moved_known world names it.is it.sealed_off here here_there to.own new from.mount from_there to.from_own
+      (λ a b. group_new world names it.is fresh serves _)))
+
+  -- what moves exists, in both
+  is_there : is_mount world from.mount ≡ true
+  is_there =
+      subst (λ n. is_mount world n ≡ true) (number-mount_in world.mounts from.mount)
+      (is_among_numbers (numbers_of world.mounts) (mount_at nat_eq world from).number
+      (among-map (λ (m : Mount ℕ). m.number) world.mounts (mount_at nat_eq world from) from_there))
+
+  is_there_too : is_mount part from.mount ≡ true
+  is_there_too =
+      subst (λ n. is_mount part n ≡ true) (number-mount_in world.mounts from.mount)
+      (is_among_numbers (numbers_of part.mounts) (mount_at nat_eq world from).number
+      (among-map (λ (m : Mount ℕ). m.number) part.mounts (mount_at nat_eq world from)
+      (own_in_part world names it.is it.sealed_off (mount_at nat_eq world from)
+      (among-filter (is_own_mount nat_eq world names) world.mounts (mount_at nat_eq world from) from_there
+      to.from_own))))
+
+  can_there : CanMove part from here
+  can_there = record {
+    placed = ap (λ (m : Mount ℕ). is_some m.mount_point) (same_mount world names it.is.mounts from.mount from_theirs)
+        ∙ to.can.placed;
+    one_namespace = ap (λ (m : Mount ℕ). m.namespace) (same_mount world names it.is.mounts here.mount here_theirs)
+        ∙ to.can.one_namespace
+        ∙ sym (ap (λ (m : Mount ℕ). m.namespace) (same_mount world names it.is.mounts from.mount from_theirs));
+    outside = ap (list_any (λ (m : Mount ℕ). nat_eq m.number here.mount)) same_tree ∙ to.can.outside;
+  }
+
+  stays : Stays left
+  stays =
+      subst Stays now_so (moves_stay world fresh from here serves it.is.mounts to.can
+      (placed world names it.is it.sealed_off here here_theirs to.own) is_there)
+
+  stays_too : Stays left_too
+  stays_too =
+      subst Stays there_so (moves_stay part fresh from here (serves_there world names fresh serves)
+      (part_mounts world names it.is it.sealed_off) can_there
+      (placed_there world names it.is it.sealed_off here here_theirs to.own) is_there_too)
+
+  parts_same : part_of nat_eq (numbers_raised nat_eq world name [] (settled nat_eq now)) names
+      ≡ part_of nat_eq (numbers_raised nat_eq part name [] (settled nat_eq now_there)) names
+  parts_same =
+      ap (λ w. part_of nat_eq (numbers_raised nat_eq world name [] (settled nat_eq w)) names) now_so
+      ∙ moved_alike world names it.is it.sealed_off change added (with_made world.master) (with_made part.master) grows
+      (moved_known world names it.is it.sealed_off here here_there to.own new from.mount from_there to.from_own
+      (λ a b. group_new world names it.is fresh serves _)) stays stays_too name
+      ∙ sym (ap (λ w. part_of nat_eq (numbers_raised nat_eq part name [] (settled nat_eq w)) names) there_so)
+
+  first : policy nat_eq fresh world name (MoveMount source path)
+      ≡ granted Done (numbers_raised nat_eq world name [] (settled nat_eq now))
+  first =
+      ap (ran name (MoveMount source path) world fresh) called
+      ∙ ap (run_by world names name (MoveMount source path) it fresh fresh world fresh task) judged
+
+  second : policy nat_eq fresh part name (MoveMount source path)
+      ≡ granted Done (numbers_raised nat_eq part name [] (settled nat_eq now_there))
+  second =
+      ap (ran name (MoveMount source path) part fresh)
+      (same_caller world names it.is it.sealed_off name it.theirs ∙ called)
+      ∙ ap (run_by world names name (MoveMount source path) it fresh fresh part fresh task)
+      (sym (same_judgement world names name (MoveMount source path) it fresh fresh task called) ∙ judged)
+
+  move_ends : EndsAlike world names name (MoveMount source path) fresh fresh
+  move_ends =
+      subst (λ p. EndAlike
+      (grown names name (MoveMount source path) (policy nat_eq fresh world name (MoveMount source path)).answer)
+      (policy nat_eq fresh world name (MoveMount source path)) p) (sym second)
+      (subst (λ o. EndAlike (grown names name (MoveMount source path) o.answer) o
+      (granted Done (numbers_raised nat_eq part name [] (settled nat_eq now_there)))) (sym first)
+      (record { answer = refl; part = parts_same }))
+
+pub moves_end_alike : MovesEndAlike
+moves_end_alike world names name source path it fresh serves = by (task_called world name) refl
+  where
+    judged_by : (task : Task ℕ) (member : Among task (members world names)) → task_called world name ≡ Some task
+        → (j : Judgement ℕ) → judge_in nat_eq fresh world task (MoveMount source path) ≡ j
+        → IfOk j (Moves world names it.is it.sealed_off task member)
+        → EndsAlike world names name (MoveMount source path) fresh fresh
+    judged_by task member e (Ok permit) judged its =
+        move_ends world names name source path it task e fresh serves its.0 its.1 its.3 (judged ∙ ap Ok its.2)
+    judged_by task member e (Err deny) judged its =
+        denial_ends_alike world names name (MoveMount source path) it fresh fresh
+        (ap (λ o. is_ok (ran name (MoveMount source path) world fresh o).answer) e
+        ∙ ap (λ j. is_ok
+        (run_by world names name (MoveMount source path) it fresh fresh world fresh task j).answer) judged)
+
+    by : (o : Option (Task ℕ)) → task_called world name ≡ o
+        → EndsAlike world names name (MoveMount source path) fresh fresh
+    by None e = unnamed_ends_alike world names name (MoveMount source path) it fresh fresh e
+    by (Some task) e =
+        let member = member_called world names it.is it.sealed_off name it.theirs task e in
+        judged_by task member e (judge_in nat_eq fresh world task (MoveMount source path)) refl
+        (moves_there world names it.is it.sealed_off task member fresh source path)

@@ -1,0 +1,206 @@
+-- Each mount(2) of a new plain filesystem ends in the part as in the world.
+use Rattle.std.proofs.Common.{◌≡◌, refl, sym, ap, subst, ◌∙◌, inl, inr, ⊎_elim, ℕ, nat_eq, true, false, List, [], ◌∷◌, Option, Some, None, Ok, Err, ◌||◌, eq-eqb}
+use Rattle.std.specs.Prelude.{IfOk, is_ok}
+use Rattle.std.specs.List.{list_any}
+use Rattle.vt_spec.specs.Language.Answers.Answer.{Done}
+use Rattle.vt_spec.specs.Language.Calls.{MountFlags, TaskName}
+use Rattle.vt_spec.specs.Language.Calls.Call.{MountPlain}
+use Rattle.vt_spec.specs.Lists.{Fresh, is_among, odds}
+use Rattle.vt_spec.specs.Machine.Apply.{overfills}
+use Rattle.vt_spec.specs.Machine.Attach.{Copies, attached_by, copies_from}
+use Rattle.vt_spec.specs.Machine.Invariants.{IsWorld}
+use Rattle.vt_spec.specs.Machine.Locked.{of_overlay}
+use Rattle.vt_spec.specs.Machine.Judge.{Judgement, attach_permit, judge_in, mount_plain_permit}
+use Rattle.vt_spec.specs.Machine.Mounts.{Location, Mount, source_of}
+use Rattle.vt_spec.specs.Machine.NewMounts.{mounted, new_mount, plain_filesystem}
+use Rattle.vt_spec.specs.Machine.Outcomes.{granted}
+use Rattle.vt_spec.specs.Machine.Permits.{Permit}
+use Rattle.vt_spec.specs.Machine.Permits.Permit.{ToMountPlain}
+use Rattle.vt_spec.specs.Machine.Policy.{numbers_raised, policy}
+use Rattle.vt_spec.specs.Machine.Rules.Mounting.{admin_rules, destination_walk, new_mount_rules}
+use Rattle.vt_spec.specs.Machine.Run.{Serves}
+use Rattle.vt_spec.specs.Machine.Sealed.{members, part_of, sealed, used_filesystems}
+use Rattle.vt_spec.specs.Machine.World.{Filesystem, Task, World, layers_of, mount_at, task_called}
+use Rattle.vt_spec.proofs.Lists.{Among}
+use Rattle.vt_spec.proofs.Options.{none_is_some}
+use Rattle.vt_laws_mounts.proofs.letting_go.mounting.AttachedSwept.{new_mounts_of_trees_keep_all}
+use Rattle.vt_laws_mounts.proofs.letting_go.sweeps.OfWorlds.{all_in_use, locations_of_worlds_stand, mounts_of_worlds_stand}
+use Rattle.vt_laws_sealed.proofs.part.part.PartOfPart.{is_own}
+use Rattle.vt_laws_members.specs.Judging.{is_theirs}
+use Rattle.vt_laws_members.proofs.judging.AllJudged.{owned}
+use Rattle.vt_laws_members.proofs.judging.Grounds.{IsTheirs, theirs_from}
+use Rattle.vt_laws_members.specs.Changes.Changes.{EndAlike, EndsAlike, IsCallOfTheirs, grown}
+use Rattle.vt_laws_members.proofs.changes.letting_go.Moving.{StandsHere, one}
+use Rattle.vt_laws_members.proofs.changes.letting_go.Umounting.{of_passed}
+use Rattle.vt_laws_members.proofs.changes.looks.Granted.{of_rules, of_walk}
+use Rattle.vt_laws_members.proofs.changes.looks.Told.{member_called, ran, same_caller}
+use Rattle.vt_laws_members.proofs.changes.part.SettledPart.{part_in_use}
+use Rattle.vt_laws_members.proofs.changes.tasks.Denied.{denial_ends_alike, run_by, same_judgement, unnamed_ends_alike}
+use Rattle.vt_laws_members.specs.Attached.Attaching.{PlainMountsEndAlike}
+use Rattle.vt_laws_members.proofs.attached.AttachedAlike.{copies_alike}
+use Rattle.vt_laws_members.proofs.attached.CopiesAlike.{base_part, parts, parts_alike}
+use Rattle.vt_laws_members.proofs.attached.Destination.{at_destination, locations_stand_there, mounts_stand_there, placed, placed_there, there}
+use Rattle.vt_laws_members.proofs.attached.PushedUp.{ShowTheirs}
+use Rattle.vt_laws_members.proofs.attached.Unused.{filesystem_unlike, group_new, used_unlike}
+
+-- What a granted mount of a plain filesystem attaches
+module _ (world : World ℕ) (names : List TaskName) (is : IsWorld nat_eq world)
+    (sealed_off : sealed nat_eq world names ≡ true) (task : Task ℕ) (member : Among task (members world names))
+    (flags : MountFlags) where
+  abbrev pub Mounts : Permit ℕ → Type 0
+  Mounts permit =
+      (here : Location ℕ) × (permit ≡ ToMountPlain here flags) × (is_theirs world names here.mount ≡ true)
+      × (is_own world names (members world names) (mount_at nat_eq world here) ≡ true)
+
+  pub mounts_there : (fresh : Fresh ℕ) (path : List ℕ) → IfOk
+      (mount_plain_permit nat_eq (one world names is sealed_off task member)
+      (overfills nat_eq fresh world task) task path
+      flags) Mounts
+  unfolding mount_plain_permit
+  mounts_there fresh path =
+      of_rules Mounts (admin_rules task) _
+      (of_walk (StandsHere world names is sealed_off task member) Mounts
+      (destination_walk nat_eq (one world names is sealed_off task member) task path)
+      (λ here. attach_permit (new_mount_rules nat_eq (one world names is sealed_off task member) task here.location)
+      (overfills nat_eq fresh world task) (ToMountPlain here.location flags))
+      (at_destination world names is sealed_off task member path)
+      (λ here on. of_passed Mounts
+      (new_mount_rules nat_eq (one world names is sealed_off task member) task here.location
+      (overfills nat_eq fresh world task (ToMountPlain here.location flags)))
+      (Ok (ToMountPlain here.location flags))
+      (λ passed. (
+        here.location,
+        refl,
+        on,
+        owned world names is sealed_off task member here.location passed.0,
+      ))))
+
+-- A granted mount of a plain filesystem
+module _ (world : World ℕ) (names : List TaskName) (name : TaskName) (path : List ℕ) (flags : MountFlags)
+    (it : IsCallOfTheirs world names name (MountPlain path flags)) (task : Task ℕ)
+    (called : task_called world name ≡ Some task) (fresh : Fresh ℕ) (serves : Serves nat_eq world fresh)
+    (here : Location ℕ) (on : is_theirs world names here.mount ≡ true)
+    (own : is_own world names (members world names) (mount_at nat_eq world here) ≡ true)
+    (judged : judge_in nat_eq fresh world task (MountPlain path flags) ≡ Ok (ToMountPlain here flags)) where
+  abbrev part : World ℕ
+  part = part_of nat_eq world names
+
+  theirs : IsTheirs world names it.is.mounts here.mount
+  theirs = theirs_from world names it.is.mounts here.mount on
+
+  here_there : Among (mount_at nat_eq world here) world.mounts
+  here_there = there world names it.is it.sealed_off here theirs own
+
+  abbrev new_one : Filesystem ℕ
+  new_one = plain_filesystem nat_eq fresh
+
+  abbrev origins : List (Mount ℕ)
+  origins = new_mount new_one.number new_one.files.tree.root flags ∷ []
+
+  unused : (n : ℕ) → is_among nat_eq n (used_filesystems nat_eq world names) ≡ true
+      → list_any (λ (f : Filesystem ℕ). nat_eq n f.number) (new_one ∷ []) ≡ false
+  unused n used = ap (λ b. b || false) (used_unlike world names it.is fresh serves n used 0)
+
+  abbrev new : Copies ℕ
+  new = copies_from nat_eq (odds fresh) (parts world names it.is it.sealed_off
+      (new_one ∷ []) unused here here_there own) origins
+
+  shows : ShowTheirs world names it.is it.sealed_off (new_one ∷ []) unused here here_there own new false origins
+  shows = record {
+    shown = λ o m. inr (⊎_elim (λ same. ap (λ (x : Mount ℕ). nat_eq x.filesystem new_one.number || false) same
+        ∙ ap (λ b. b || false) (eq-eqb new_one.number new_one.number refl)) (λ none. absurd none) m);
+    unlisted = λ f m. ap (λ b. b || false) (filesystem_unlike world names it.is fresh serves f m 0);
+    layers = λ f m layer n. ⊎_elim
+        (λ same. absurd (subst (Among layer) (ap (of_overlay [] layers_of) same) n)) (λ none. absurd none) m;
+    mounted = λ f m. (
+      new_mount new_one.number new_one.files.tree.root flags,
+      inl refl,
+      ⊎_elim (λ same. ap (λ (g : Filesystem ℕ). g.number) (sym same)) (λ none. absurd none) m,
+    );
+  }
+
+  sources : (o : Mount ℕ) → Among o origins → (g : ℕ) → source_of o.propagation ≡ Some g
+      → part.master g ≡ world.master g
+  sources o m g e =
+      ⊎_elim (λ same. none_is_some g (sym (ap (λ (x : Mount ℕ). source_of x.propagation) same) ∙ e))
+      (λ none. absurd none) m
+
+  new_groups : (a b : ℕ) → world.master (new.image a b) ≡ None
+  new_groups a b = group_new world names it.is fresh serves _
+
+  abbrev now : World ℕ
+  now = mounted nat_eq (odds fresh) world here new_one flags
+
+  abbrev now_there : World ℕ
+  now_there = mounted nat_eq (odds fresh) part here new_one flags
+
+  first : policy nat_eq fresh world name (MountPlain path flags)
+      ≡ granted Done (numbers_raised nat_eq world name [] now)
+  first =
+      ap (ran name (MountPlain path flags) world fresh) called
+      ∙ ap (run_by world names name (MountPlain path flags) it fresh fresh world fresh task) judged
+      ∙ ap (λ w. granted Done (numbers_raised nat_eq world name [] w))
+      (new_mounts_of_trees_keep_all fresh world task here flags (all_in_use world it.is)
+      (mounts_of_worlds_stand world it.is) (locations_of_worlds_stand world it.is)
+      (placed world names it.is it.sealed_off here theirs own))
+
+  second : policy nat_eq fresh part name (MountPlain path flags)
+      ≡ granted Done (numbers_raised nat_eq part name [] now_there)
+  second =
+      ap (ran name (MountPlain path flags) part fresh)
+      (same_caller world names it.is it.sealed_off name it.theirs ∙ called)
+      ∙ ap (run_by world names name (MountPlain path flags) it fresh fresh part fresh task)
+      (sym (same_judgement world names name (MountPlain path flags) it fresh fresh task called) ∙ judged)
+      ∙ ap (λ w. granted Done (numbers_raised nat_eq part name [] w))
+      (new_mounts_of_trees_keep_all fresh part task here flags (part_in_use world names it.is it.sealed_off)
+      (mounts_stand_there world names it.is it.sealed_off) (locations_stand_there world names it.is)
+      (placed_there world names it.is it.sealed_off here theirs own))
+
+  -- the numbers are handed out to the same parts
+  same_numbers : now_there ≡ attached_by nat_eq
+      (base_part world names it.is it.sealed_off (new_one ∷ []) unused here here_there own) new here false origins
+  same_numbers =
+      ap (λ l. attached_by nat_eq
+      (base_part world names it.is it.sealed_off (new_one ∷ []) unused here here_there own)
+      (copies_from nat_eq (odds fresh) l origins) here false origins)
+      (parts_alike world names it.is it.sealed_off (new_one ∷ []) unused here here_there own)
+
+  parts_same : part_of nat_eq (numbers_raised nat_eq world name [] now) names
+      ≡ part_of nat_eq (numbers_raised nat_eq part name [] now_there) names
+  parts_same =
+      copies_alike world names it.is it.sealed_off
+      (new_one ∷ []) unused here here_there own new origins new_groups sources
+      shows name
+      ∙ sym (ap (λ w. part_of nat_eq (numbers_raised nat_eq part name [] w) names) same_numbers)
+
+  mount_alike : EndsAlike world names name (MountPlain path flags) fresh fresh
+  mount_alike =
+      subst (λ p. EndAlike
+      (grown names name (MountPlain path flags) (policy nat_eq fresh world name (MountPlain path flags)).answer)
+      (policy nat_eq fresh world name (MountPlain path flags)) p) (sym second)
+      (subst (λ o. EndAlike (grown names name (MountPlain path flags) o.answer) o
+      (granted Done (numbers_raised nat_eq part name [] now_there))) (sym first)
+      (record { answer = refl; part = parts_same }))
+
+pub plain_mounts_end_alike : PlainMountsEndAlike
+plain_mounts_end_alike world names name path flags it fresh serves = by (task_called world name) refl
+  where
+    judged_by : (task : Task ℕ) (member : Among task (members world names)) → task_called world name ≡ Some task
+        → (j : Judgement ℕ) → judge_in nat_eq fresh world task (MountPlain path flags) ≡ j
+        → IfOk j (Mounts world names it.is it.sealed_off task member flags)
+        → EndsAlike world names name (MountPlain path flags) fresh fresh
+    judged_by task member e (Ok permit) judged its =
+        mount_alike world names name path flags it task e fresh serves its.0 its.2 its.3 (judged ∙ ap Ok its.1)
+    judged_by task member e (Err deny) judged its =
+        denial_ends_alike world names name (MountPlain path flags) it fresh fresh
+        (ap (λ o. is_ok (ran name (MountPlain path flags) world fresh o).answer) e
+        ∙ ap (λ j. is_ok
+        (run_by world names name (MountPlain path flags) it fresh fresh world fresh task j).answer) judged)
+
+    by : (o : Option (Task ℕ)) → task_called world name ≡ o
+        → EndsAlike world names name (MountPlain path flags) fresh fresh
+    by None e = unnamed_ends_alike world names name (MountPlain path flags) it fresh fresh e
+    by (Some task) e =
+        let member = member_called world names it.is it.sealed_off name it.theirs task e in
+        judged_by task member e (judge_in nat_eq fresh world task (MountPlain path flags)) refl
+        (mounts_there world names it.is it.sealed_off task member flags fresh path)

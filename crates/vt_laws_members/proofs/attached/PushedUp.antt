@@ -1,0 +1,166 @@
+-- What copies push up at receivers is theirs, and copies grow the world.
+use Rattle.std.proofs.Common.{◌≡◌, refl, sym, ap, subst, ◌∙◌, ◌⊎◌, inl, inr, ℕ, nat_eq, Bool, true, false, true≢false, List, [], Option, Some, None, flat_map, map}
+use Rattle.std.specs.List.{list_any}
+use Rattle.vt_spec.specs.Language.Calls.{TaskName}
+use Rattle.vt_spec.specs.Lists.{is_among, rest_of}
+use Rattle.vt_spec.specs.Machine.Attach.{Copies, Twig, copy_at, pushed_onto, receiver_stood_on, twig_of}
+use Rattle.vt_spec.specs.Machine.Invariants.{IsWorld}
+use Rattle.vt_spec.specs.Machine.Locked.{of_overlay}
+use Rattle.vt_spec.specs.Machine.Mounts.{Location, Mount, group_of, stands_at}
+use Rattle.vt_spec.specs.Machine.Sealed.{members, sealed, seen_by_descriptor, used_directly, used_filesystems}
+use Rattle.vt_spec.specs.Machine.World.{Filesystem, Layer, Task, World, layers_of, mount_at}
+use Rattle.vt_spec.proofs.Lists.{Among, among-flat_map, among-from_flat_map, among-from_map, among-map}
+use Rattle.vt_laws_mounts.proofs.mounts.MountsPlaces.{stands_there}
+use Rattle.vt_laws_mounts.proofs.letting_go.Lists.{find_none}
+use Rattle.vt_laws_sealed.proofs.part.part.PartOfPart.{is_own}
+use Rattle.vt_laws_members.proofs.judging.Grounds.{child_theirs}
+use Rattle.vt_laws_members.proofs.judging.MountTrees.{own_theirs}
+use Rattle.vt_laws_members.proofs.attached.CopiesAlike.{base, copies, parts, parts_own, push, tree}
+use Rattle.vt_laws_members.proofs.attached.Destination.{located_well}
+use Rattle.vt_laws_members.proofs.attached.GrownPart.{Grows}
+
+module _ (world : World ℕ) (names : List TaskName) (is : IsWorld nat_eq world)
+    (sealed_off : sealed nat_eq world names ≡ true) (new_ones : List (Filesystem ℕ))
+    (unused : (n : ℕ) → is_among nat_eq n (used_filesystems nat_eq world names) ≡ true
+    → list_any (λ (f : Filesystem ℕ). nat_eq n f.number) new_ones ≡ false)
+    (place : Location ℕ) (there : Among (mount_at nat_eq world place) world.mounts)
+    (own : is_own world names (members world names) (mount_at nat_eq world place) ≡ true)
+    (new : Copies ℕ) (moves : Bool) (origins : List (Mount ℕ)) where
+  abbrev theirs : List (Task ℕ)
+  theirs = members world names
+
+  abbrev owns : Mount ℕ → Bool
+  owns = is_own world names theirs
+
+  abbrev destination : Mount ℕ
+  destination = mount_at nat_eq world place
+
+  abbrev up : Mount ℕ → Mount ℕ
+  up = push world names is sealed_off new_ones unused place there own new moves origins
+
+  abbrev at_parts : List (Mount ℕ)
+  at_parts = parts world names is sealed_off new_ones unused place there own
+
+  abbrev made_at : Mount ℕ → List (Mount ℕ)
+  made_at = copies world names is sealed_off new_ones unused place there own new moves origins
+
+  abbrev pub twig : Mount ℕ → Twig ℕ
+  twig = twig_of new (group_of destination.propagation)
+
+  abbrev pub copy : Mount ℕ → Mount ℕ → Mount ℕ
+  copy p origin =
+      copy_at nat_eq (base world names is sealed_off new_ones unused place there own) new
+      (tree world names is sealed_off new_ones unused place there own new moves origins) at_parts p (twig origin)
+
+  -- what is pushed up keeps all but its mount point
+  pub push_keeps : {A : Type 0} (what : Mount ℕ → A)
+      → ((m : Mount ℕ) (at : Option (Location ℕ)) → what (record m { mount_point = at }) ≡ what m)
+      → (m : Mount ℕ) → what (up m) ≡ what m
+  push_keeps {A} what same m =
+      by (receiver_stood_on nat_eq (tree world names is sealed_off new_ones unused place there own new moves origins)
+      at_parts m)
+    where
+      by : (o : Option (Mount ℕ)) → what (pushed_onto nat_eq
+          (base world names is sealed_off new_ones unused place there own) new
+          (tree world names is sealed_off new_ones unused place there own new moves origins) at_parts m o) ≡ what m
+      by None = refl
+      by (Some p) = same m _
+
+  -- what stands elsewhere stays there
+  stays_put : (m : Mount ℕ) → ((p : Mount ℕ) → Among p (rest_of at_parts)
+      → stands_at nat_eq (record { mount = p.number; node = place.node }) m ≡ false) → up m ≡ m
+  stays_put m none =
+      ap (pushed_onto nat_eq (base world names is sealed_off new_ones unused place there own) new
+      (tree world names is sealed_off new_ones unused place there own new moves origins) at_parts m)
+      (find_none (λ (p : Mount ℕ). stands_at nat_eq (record { mount = p.number; node = place.node }) m)
+      (rest_of at_parts) none)
+
+  pub other_stays : (x : Mount ℕ) → Among x world.mounts → owns x ≡ false → up x ≡ x
+  other_stays x m other =
+      stays_put x (λ p n. by p n (stands_at nat_eq (record { mount = p.number; node = place.node }) x) refl)
+    where
+      by : (p : Mount ℕ) → Among p (rest_of at_parts) → (b : Bool)
+          → stands_at nat_eq (record { mount = p.number; node = place.node }) x ≡ b → b ≡ false
+      by p n true e =
+          let its = parts_own world names is sealed_off new_ones unused place there own p (inr n) in
+          absurd (true≢false (sym (child_theirs world names is.mounts (record { mount = p.number; node = place.node }) x
+          (own_theirs world names is p its.0 its.1) m
+          (stands_there (record { mount = p.number; node = place.node }) x e)) ∙ other))
+      by p n false e = refl
+
+  pub stub_stays : (x : Mount ℕ) → up (seen_by_descriptor x) ≡ seen_by_descriptor x
+  stub_stays x = stays_put (seen_by_descriptor x) (λ p n. refl)
+
+  -- each copy is of a mount of the tree
+  pub copy_of : (p x : Mount ℕ) → Among x (made_at p) → (o : Mount ℕ) × Among o origins × (x ≡ copy p o)
+  copy_of p x m =
+      let t = among-from_map (copy_at nat_eq (base world names is sealed_off new_ones unused place there own) new
+      (tree world names is sealed_off new_ones unused place there own new moves origins) at_parts p)
+      (map twig origins) x m in
+      let o = among-from_map twig origins t.0 t.1 in (
+        o.0,
+        o.1,
+        t.2 ∙ ap (copy_at nat_eq (base world names is sealed_off new_ones unused place there own) new
+            (tree world names is sealed_off new_ones unused place there own new moves origins) at_parts p) o.2,
+      )
+
+  pub copy_there : (p o : Mount ℕ) → Among o origins → Among (copy p o) (made_at p)
+  copy_there p o m =
+      among-map (copy_at nat_eq (base world names is sealed_off new_ones unused place there own) new
+      (tree world names is sealed_off new_ones unused place there own new moves origins) at_parts p)
+      (map twig origins) (twig o) (among-map twig origins o m)
+
+  copy_own : (p : Mount ℕ) → Among p at_parts → (o : Mount ℕ) → owns (copy p o) ≡ true
+  copy_own p n o = (parts_own world names is sealed_off new_ones unused place there own p n).1
+
+  -- what is new where nothing moves
+  abbrev pub all_copies : List (Mount ℕ)
+  all_copies = flat_map made_at at_parts
+
+  pub of_copies : (x : Mount ℕ) → Among x all_copies
+      → (p : Mount ℕ) × Among p at_parts × (o : Mount ℕ) × Among o origins × (x ≡ copy p o)
+  of_copies x m =
+      let p = among-from_flat_map made_at at_parts x m in
+      let o = copy_of p.0 x p.2 in (p.0, p.1, o.0, o.1, o.2)
+
+  abbrev is_fresh : ℕ → Bool
+  is_fresh n = list_any (λ (f : Filesystem ℕ). nat_eq n f.number) new_ones
+
+  -- the mounts that are copied show filesystems of theirs, or new ones, each of which one shows
+  pub record ShowTheirs : Type 0 where
+    pub shown : (o : Mount ℕ) → Among o origins
+        → Among o.filesystem (used_directly nat_eq world names) ⊎ (is_fresh o.filesystem ≡ true)
+    pub unlisted : (f : Filesystem ℕ) → Among f world.filesystems → is_fresh f.number ≡ false
+    pub layers : (f : Filesystem ℕ) → Among f new_ones → (layer : Layer ℕ) → Among layer (of_overlay [] layers_of f)
+        → Among layer.filesystem (used_directly nat_eq world names)
+    pub mounted : (f : Filesystem ℕ) → Among f new_ones → (o : Mount ℕ) × Among o origins × (o.filesystem ≡ f.number)
+
+  fresh_unused : (n : ℕ) → is_fresh n ≡ true → is_among nat_eq n (used_filesystems nat_eq world names) ≡ false
+  fresh_unused n is_new = by (is_among nat_eq n (used_filesystems nat_eq world names)) refl
+    where
+      by : (b : Bool) → is_among nat_eq n (used_filesystems nat_eq world names) ≡ b → b ≡ false
+      by true e = absurd (true≢false (sym is_new ∙ unused n e))
+      by false e = refl
+
+  pub copies_grow : ShowTheirs → (master : ℕ → Option ℕ) → Grows world names up all_copies new_ones master
+  copies_grow it master = record {
+    kept = λ x m mine. (
+      push_keeps owns (λ y at. refl) x ∙ mine,
+      push_keeps (λ (y : Mount ℕ). y.number) (λ y at. refl) x,
+      push_keeps (λ (y : Mount ℕ). y.filesystem) (λ y at. refl) x,
+    );
+    others = λ x m other. (other_stays x m other, stub_stays x);
+    ours = λ x m. let its = of_copies x m in ap owns its.4 ∙ copy_own its.0 its.1 its.2;
+    shown = λ x m. let its = of_copies x m in
+        subst (λ n. Among n (used_directly nat_eq world names) ⊎ (is_fresh n ≡ true))
+        (ap (λ (y : Mount ℕ). y.filesystem) (sym its.4)) (it.shown its.2 its.3);
+    located = λ l m. located_well world names is l m;
+    unused = fresh_unused;
+    unlisted = it.unlisted;
+    layers = it.layers;
+    mounted = λ f m. let o = it.mounted f m in (
+      copy destination o.0,
+      among-flat_map made_at at_parts destination (copy destination o.0) (inl refl) (copy_there destination o.0 o.1),
+      o.2,
+    );
+  }

@@ -1,0 +1,165 @@
+-- What calls that write and that set attributes are granted: an edit of a file on a mount of theirs.
+use Rattle.std.proofs.Common.{◌≡◌, refl, ℕ, nat_eq, eqb-true, Bool, true, false, cond, List, [], ◌∷◌, Option, Some, None, Ok, flat_map, length}
+use Rattle.std.specs.Prelude.{⊤, IfOk, nat_lt}
+use Rattle.vt_spec.specs.declared.attributes.Attr.{Attr}
+use Rattle.vt_spec.specs.declared.errors.Rule.TheVariants.{E6}
+use Rattle.vt_spec.specs.Errors.{and_then, unless}
+use Rattle.vt_spec.specs.FileTree.{FileTree, targets_in}
+use Rattle.vt_spec.specs.Language.Calls.{TaskName}
+use Rattle.vt_spec.specs.Language.Changes.{Change, changed, changed_node, node_with_attr, node_with_mark}
+use Rattle.vt_spec.specs.Language.Changes.Change.{SetAttr, SetBytes, SetMark}
+use Rattle.vt_spec.specs.Language.Limits.{largest_file}
+use Rattle.vt_spec.specs.Lists.{is_among}
+use Rattle.vt_spec.specs.Machine.Attributes.{attr_with_mode, attr_with_owner, may_chown}
+use Rattle.vt_spec.specs.Machine.Invariants.{IsWorld}
+use Rattle.vt_spec.specs.Machine.Judge.{attr_permit, chmod_permit, chown_permit, make_permit, opaque_permit, unnumbered, write_permit, written_permit}
+use Rattle.vt_spec.specs.Machine.Looks.{Looks, looks_of}
+use Rattle.vt_spec.specs.Machine.Mounts.{Location}
+use Rattle.vt_spec.specs.Machine.Permits.{Permit}
+use Rattle.vt_spec.specs.Machine.Permits.Permit.{ToChange}
+use Rattle.vt_spec.specs.Machine.Rows.{file_mode, new_file}
+use Rattle.vt_spec.specs.Machine.Rules.Attributes.{attr_at, attr_rules, opaque_rules}
+use Rattle.vt_spec.specs.Machine.Rules.Making.{file_word_rules, make_rules, rewrite_rules}
+use Rattle.vt_spec.specs.Machine.Rules.Mounting.{admin_rules}
+use Rattle.vt_spec.specs.Machine.Sealed.{members, part_of, sealed, used_filesystems}
+use Rattle.vt_spec.specs.Machine.Settled.{named_in}
+use Rattle.vt_spec.specs.Machine.Walking.{Here, Place, directory_walk, file_walk, object_walk, walk_end}
+use Rattle.vt_spec.specs.Machine.World.{Task, World}
+use Rattle.vt_spec.specs.Rights.{owns}
+use Rattle.vt_spec.specs.Tree.{Node, entries_in, node_with_bytes}
+use Rattle.vt_spec.proofs.Lists.{Among}
+use Rattle.vt_spec.proofs.NodeChanges.{entries-node_with_attr, entries-node_with_mark}
+use Rattle.vt_spec.proofs.Nodes.{entries-node_with_bytes}
+use Rattle.vt_laws_members.specs.Judging.{is_theirs}
+use Rattle.vt_laws_members.proofs.judging.AllJudged.{judges}
+use Rattle.vt_laws_members.proofs.judging.Judged.{JudgesAlike}
+use Rattle.vt_laws_members.proofs.judging.WalksLead.{FoundAt, HereAt, PlaceAt, directory_agrees, file_agrees, object_agrees}
+use Rattle.vt_laws_members.proofs.changes.looks.Granted.{of_rules, of_walk}
+
+-- a change of bytes, attributes or the mark of an inode
+abbrev pub IsEdit : Change ℕ → Type 0
+IsEdit (SetBytes file bytes) = ⊤
+IsEdit (SetAttr object attr) = ⊤
+IsEdit (SetMark directory opaque) = ⊤
+IsEdit change = ⊥
+
+-- an inode is edited, and its entries stay
+module _ (files : FileTree ℕ) (number : ℕ) (f : Option (Node ℕ) → Option (Node ℕ))
+    (same : (o : Option (Node ℕ)) → entries_in (f o) ≡ entries_in o) where
+  targets_stay : (d : ℕ) → targets_in ((changed_node nat_eq files number f).tree.node d)
+      ≡ targets_in (files.tree.node d)
+  targets_stay d = by (nat_eq d number) refl
+    where
+      by : (b : Bool) → nat_eq d number ≡ b
+          → targets_in (cond b (f (files.tree.node number)) (files.tree.node d)) ≡ targets_in (files.tree.node d)
+      by true e = cc (same (files.tree.node number), eqb-true d number e)
+      by false e = refl
+
+  names_stay : named_in (changed_node nat_eq files number f) ≡ named_in files
+  names_stay i = flat_map (λ d. targets_stay d i) files.numbers
+
+-- so root, numbers and names stay
+pub edits_keep : (files : FileTree ℕ) (change : Change ℕ) → IsEdit change
+    → ((changed nat_eq files change).tree.root ≡ files.tree.root)
+    × ((changed nat_eq files change).numbers ≡ files.numbers)
+    × (named_in (changed nat_eq files change) ≡ named_in files)
+edits_keep files (SetBytes file bytes) is =
+    (refl, refl, names_stay files file (node_with_bytes bytes) (entries-node_with_bytes bytes))
+edits_keep files (SetAttr object attr) is =
+    (refl, refl, names_stay files object (node_with_attr attr) (entries-node_with_attr attr))
+edits_keep files (SetMark directory opaque) is =
+    (refl, refl, names_stay files directory (node_with_mark opaque) (entries-node_with_mark opaque))
+edits_keep files change is = absurd is
+
+-- an edit at a location on a mount of theirs, if it is a change of one
+abbrev pub Edits : (own : ℕ → Bool) → Permit ℕ → Type 0
+Edits own (ToChange location change) = (own location.mount ≡ true) × IsEdit change
+Edits own permit = ⊤
+
+module _ (world : World ℕ) (names : List TaskName) (is : IsWorld nat_eq world)
+    (sealed_off : sealed nat_eq world names ≡ true) (task : Task ℕ) (member : Among task (members world names)) where
+  abbrev one : Looks ℕ
+  one = looks_of nat_eq world
+
+  abbrev other : Looks ℕ
+  other = looks_of nat_eq (part_of nat_eq world names)
+
+  abbrev On : ℕ → Type 0
+  On number = is_theirs world names number ≡ true
+
+  abbrev Edited : Permit ℕ → Type 0
+  Edited = Edits (is_theirs world names)
+
+  alike : JudgesAlike one other task (is_theirs world names)
+      (λ number. is_among nat_eq number (used_filesystems nat_eq world names))
+  alike = judges world names is sealed_off task member
+
+  abbrev StandsHere : Here ℕ → Type 0
+  StandsHere = HereAt one other task On alike.walks alike.directory alike.rules.removed
+
+  abbrev IsPlaced : Place ℕ → Type 0
+  IsPlaced = PlaceAt one other task On alike.walks alike.directory alike.rules.removed
+
+  abbrev IsFound : Option (Location ℕ) → Type 0
+  IsFound = FoundAt one other task On alike.walks alike.directory alike.rules.removed
+
+  written_there : (place : Place ℕ) (bytes : List ℕ) (o : Option (Location ℕ)) → IsFound o
+      → IfOk (written_permit nat_eq one task place bytes o) Edited
+  written_there place bytes None found =
+      of_rules Edited ((nat_lt largest_file (length bytes), E6) ∷ [])
+      (unless (make_rules one task place (unnumbered place (new_file task file_mode bytes)))
+      (Ok (make_permit place (new_file task file_mode bytes))))
+      (of_rules Edited
+      (make_rules one task place (unnumbered place (new_file task file_mode bytes)))
+      (Ok (make_permit place (new_file task file_mode bytes))) tt)
+  written_there place bytes (Some file) found =
+      of_rules Edited (rewrite_rules one task file bytes) (Ok (ToChange file (SetBytes file.node bytes)))
+      (found file refl, tt)
+
+  pub writes_edit : (path bytes : List ℕ) → IfOk (write_permit nat_eq one task path bytes) Edited
+  unfolding write_permit
+  writes_edit path bytes =
+      of_walk IsPlaced Edited (file_walk nat_eq one task path)
+      (λ place. unless (file_word_rules place) (written_permit nat_eq one task place bytes place.object))
+      (file_agrees one other task On alike.walks alike.directory alike.rules.removed path).1
+      (λ place at. of_rules Edited (file_word_rules place) (written_permit nat_eq one task place bytes place.object)
+      (written_there place bytes place.object at.1))
+
+  attr_set : (here : Location ℕ) (allowed : Bool) (attr : Attr) → On here.mount
+      → IfOk (attr_permit nat_eq one here allowed attr) Edited
+  attr_set here allowed attr on =
+      of_rules Edited (attr_rules one here allowed attr) (Ok (ToChange here (SetAttr here.node attr))) (on, tt)
+
+  pub chmods_edit : (path : List ℕ) (mode : ℕ) → IfOk (chmod_permit nat_eq one task path mode) Edited
+  unfolding chmod_permit
+  chmods_edit path mode =
+      of_walk StandsHere Edited (object_walk nat_eq one task path)
+      (λ here. attr_permit nat_eq one here.location (owns task.credentials (attr_at one here.location))
+      (attr_with_mode (attr_at one here.location) mode))
+      (object_agrees one other task On alike.walks alike.directory alike.rules.removed path).1
+      (λ here on. attr_set here.location (owns task.credentials (attr_at one here.location))
+      (attr_with_mode (attr_at one here.location) mode) on)
+
+  pub chowns_edit : (path : List ℕ) (uid gid : Option ℕ) → IfOk (chown_permit nat_eq one task path uid gid) Edited
+  unfolding chown_permit
+  chowns_edit path uid gid =
+      of_walk StandsHere Edited (object_walk nat_eq one task path)
+      (λ here. attr_permit nat_eq one here.location
+      (may_chown task.credentials (attr_at one here.location) (attr_with_owner (attr_at one here.location) uid gid))
+      (attr_with_owner (attr_at one here.location) uid gid))
+      (object_agrees one other task On alike.walks alike.directory alike.rules.removed path).1
+      (λ here on. attr_set here.location
+      (may_chown task.credentials (attr_at one here.location) (attr_with_owner (attr_at one here.location) uid gid))
+      (attr_with_owner (attr_at one here.location) uid gid) on)
+
+  pub opaques_edit : (path : List ℕ) (mark : Bool) → IfOk (opaque_permit nat_eq one task path mark) Edited
+  unfolding opaque_permit
+  opaques_edit path mark =
+      of_rules Edited (admin_rules task)
+      (and_then (walk_end (directory_walk nat_eq one task path)) (λ here.
+      unless (opaque_rules one here.location) (Ok (ToChange here.location (SetMark here.location.node mark)))))
+      (of_walk StandsHere Edited (directory_walk nat_eq one task path)
+      (λ here. unless (opaque_rules one here.location) (Ok (ToChange here.location (SetMark here.location.node mark))))
+      (directory_agrees one other task On alike.walks alike.directory alike.rules.removed path).1
+      (λ here on. of_rules Edited (opaque_rules one here.location)
+      (Ok (ToChange here.location (SetMark here.location.node mark))) (on, tt)))

@@ -1,0 +1,180 @@
+-- An edit of a file on a plain filesystem ends in the part as in the world.
+use Rattle.std.proofs.Common.{◌≡◌, refl, sym, ap, subst, ◌∙◌, ℕ, nat_eq, true, false, true≢false, List, [], ◌∷◌, Option, Some, None, Ok, filter, is_some, map, ◌||◌}
+use Rattle.std.specs.Prelude.{IfOk}
+use Rattle.vt_spec.specs.FileTree.{FileTree}
+use Rattle.vt_spec.specs.Language.Answers.Answer.{Done}
+use Rattle.vt_spec.specs.Language.Calls.{Call, TaskName, same_name}
+use Rattle.vt_spec.specs.Language.Calls.Call.{Chmod, Chown, Opaque, Write}
+use Rattle.vt_spec.specs.Language.Changes as Changes
+use Rattle.vt_spec.specs.Language.Changes.{Change}
+use Rattle.vt_spec.specs.Lists.{Fresh, is_among}
+use Rattle.vt_spec.specs.Machine.Filesystems.{changed_at, filesystem_changed, numbers_of_change, with_change}
+use Rattle.vt_spec.specs.Machine.Judge.{judge_in}
+use Rattle.vt_spec.specs.Machine.Mounts.{Location}
+use Rattle.vt_spec.specs.Machine.Outcomes.{granted}
+use Rattle.vt_spec.specs.Machine.Permits.Permit.{ToChange}
+use Rattle.vt_spec.specs.Machine.Policy.{finished_by, numbers_raised, only_looks, policy, raised_task}
+use Rattle.vt_spec.specs.Machine.Sealed.{is_member_task, part_of, used_filesystems}
+use Rattle.vt_spec.specs.Machine.Settled.{settled}
+use Rattle.vt_spec.specs.Machine.World.{Filesystem, Overlay, Task, World, filesystem_at, is_overlay, mount_at, task_called}
+use Rattle.vt_spec.proofs.Lists.{Among}
+use Rattle.vt_laws_mounts.specs.LettingGo.InUse.{AllInUse}
+use Rattle.vt_laws_mounts.specs.LettingGo.TreesOverlays.{with_filesystems}
+use Rattle.vt_laws_mounts.proofs.letting_go.Lists.{filter-map}
+use Rattle.vt_laws_mounts.proofs.letting_go.sweeps.OfWorlds.{all_in_use}
+use Rattle.vt_laws_sealed.proofs.part.part.PartOfPart.{same_members, same_used}
+use Rattle.vt_laws_members.specs.Judging.{is_theirs}
+use Rattle.vt_laws_members.proofs.judging.Grounds.{theirs_from}
+use Rattle.vt_laws_members.proofs.judging.SeenInPart.{filesystem_alike, theirs_used}
+use Rattle.vt_laws_members.specs.Changes.Changes.{ChmodsEndAlike, ChownsEndAlike, EndAlike, EndsAlike, IsCallOfTheirs, OpaquesEndAlike, WritesEndAlike, grown}
+use Rattle.vt_laws_members.proofs.changes.files.Edits.{Edits, IsEdit, chmods_edit, chowns_edit, edits_keep, opaques_edit, writes_edit}
+use Rattle.vt_laws_members.proofs.changes.files.FilesInUse.{in_use_changed, tree_changes}
+use Rattle.vt_laws_members.proofs.changes.files.OneFilesystem.{old_used, one_in_part, one_in_world}
+use Rattle.vt_laws_members.proofs.changes.files.FilesRaised.{both, left, left_so, part_left, raised_is, swap}
+use Rattle.vt_laws_members.proofs.changes.looks.Told.{member_called, ran, same_caller}
+use Rattle.vt_laws_members.proofs.changes.part.PartAgain.{part_again}
+use Rattle.vt_laws_members.proofs.changes.part.SettledPart.{part_in_use}
+use Rattle.vt_laws_members.proofs.changes.tasks.Denied.{run_by, same_judgement}
+
+pub no_overlay : (o : Option (Overlay ℕ)) → is_some o ≡ false → o ≡ None
+no_overlay None e = refl
+no_overlay (Some overlay) e = absurd (true≢false e)
+
+module _ (world : World ℕ) (names : List TaskName) (name : TaskName) (call : Call)
+    (it : IsCallOfTheirs world names name call)
+    (fresh other : Fresh ℕ) (task : Task ℕ) (found : task_called world name ≡ Some task)
+    (looks : only_looks call ≡ false)
+    (stays : grown names name call (Ok Done) ≡ names) (location : Location ℕ) (change : Change ℕ) (is : IsEdit change)
+    (plain : is_overlay (filesystem_at nat_eq world location) ≡ false)
+    (used : is_among nat_eq (mount_at nat_eq world location).filesystem (used_filesystems nat_eq world names) ≡ true)
+    (alike : filesystem_at nat_eq world location ≡ filesystem_at nat_eq (part_of nat_eq world names) location) where
+  abbrev part : World ℕ
+  part = part_of nat_eq world names
+
+  abbrev number : ℕ
+  number = (mount_at nat_eq world location).filesystem
+
+  abbrev old : Filesystem ℕ
+  old = filesystem_at nat_eq world location
+
+  abbrev files : FileTree ℕ
+  files = Changes.changed nat_eq old.files change
+
+  -- a run of the change
+  changes_so : (w : World ℕ) (supply : Fresh ℕ) → filesystem_at nat_eq w location ≡ old
+      → run_by world names name call it fresh other w supply task (Ok (ToChange location change))
+      ≡ granted Done (numbers_raised nat_eq w name (old.number ∷ [])
+      (settled nat_eq (with_filesystems w (swap old files))))
+  changes_so w supply e =
+      ap (λ b. finished_by nat_eq (b || false) w name (changed_at nat_eq w location)
+      (granted Done (with_change nat_eq supply w location change))) looks
+      ∙ ap (λ f. granted Done (numbers_raised nat_eq w name (numbers_of_change nat_eq w f f.overlay)
+      (settled nat_eq (filesystem_changed nat_eq supply w f f.overlay change)))) e
+      ∙ ap (λ o. granted Done (numbers_raised nat_eq w name (numbers_of_change nat_eq w old o)
+      (settled nat_eq (filesystem_changed nat_eq supply w old o change)))) (no_overlay old.overlay plain)
+
+  in_use : (w : World ℕ) → AllInUse w
+      → ((x : Filesystem ℕ) → Among x w.filesystems → nat_eq old.number x.number ≡ true → x ≡ old)
+      → AllInUse (with_filesystems w (swap old files))
+  in_use w all one =
+      in_use_changed w all (swap old files)
+      (tree_changes w old files plain (edits_keep old.files change is).0 (edits_keep old.files change is).1
+      (edits_keep old.files change is).2 one)
+
+  abbrev raised_members : List (Task ℕ) → List (Task ℕ)
+  raised_members tasks = filter (is_member_task names) (map (raised_task name) tasks)
+
+  tasks_alike : raised_members world.tasks ≡ raised_members part.tasks
+  tasks_alike = cc (of_map world.tasks, same_members world names, of_map part.tasks)
+    where
+      of_map : (tasks : List (Task ℕ))
+          → raised_members tasks ≡ map (raised_task name) (filter (is_member_task names) tasks)
+      of_map tasks =
+          filter-map (is_member_task names) (raised_task name) tasks
+          (λ t. ap (λ n. is_among same_name n names) (raised_is name (λ (x : Task ℕ). x.name) (λ x. refl) t))
+
+  abbrev left_here : World ℕ
+  left_here = left old files world name
+
+  abbrev left_there : World ℕ
+  left_there = left old files part name
+
+  parts_alike : part_of nat_eq left_here names ≡ part_of nat_eq left_there names
+  parts_alike =
+      part_left old files world name names (old_used world names it.is number used)
+      (one_in_world world names it.is number used)
+      ∙ (λ i. record (with_filesystems (sym (part_again world names it.is) i)
+      (both old files)) { tasks = tasks_alike i })
+      ∙ sym (part_left old files part name names
+      (ap (is_among nat_eq old.number) (same_used world names)
+      ∙ (old_used world names it.is number used)) (one_in_part world names it.is number used))
+
+  pub edit_ends : ran name call world fresh (Some task)
+      ≡ run_by world names name call it fresh other world fresh task (Ok (ToChange location change))
+      → ran name call part other (Some task)
+      ≡ run_by world names name call it fresh other part other task (Ok (ToChange location change))
+      → EndsAlike world names name call fresh other
+  edit_ends one two =
+      let first : policy nat_eq fresh world name call ≡ granted Done left_here =
+      ap (ran name call world fresh) found ∙ one ∙ changes_so world fresh refl
+      ∙ ap (granted Done) (left_so old files world name
+      (in_use world (all_in_use world it.is) (one_in_world world names it.is number used))) in
+      let second : policy nat_eq other part name call ≡ granted Done left_there =
+      ap (ran name call part other) (same_caller world names it.is it.sealed_off name it.theirs ∙ found) ∙ two
+      ∙ changes_so part other (sym alike)
+      ∙ ap (granted Done)
+      (left_so old files part name (in_use part (part_in_use world names it.is it.sealed_off)
+      (one_in_part world names it.is number used))) in
+      subst (λ p. EndAlike (grown names name call (policy nat_eq fresh world name call).answer)
+      (policy nat_eq fresh world name call) p) (sym second)
+      (subst (λ o. EndAlike (grown names name call o.answer) o (granted Done left_there)) (sym first)
+      (subst (λ s. EndAlike s (granted Done left_here) (granted Done left_there)) (sym stays)
+      (record { answer = refl; part = parts_alike })))
+
+-- A call whose walk leads to what it edits
+module _ (world : World ℕ) (names : List TaskName) (name : TaskName) (call : Call)
+    (it : IsCallOfTheirs world names name call)
+    (task : Task ℕ) (found : task_called world name ≡ Some task) (fresh other : Fresh ℕ) (location : Location ℕ)
+    (change : Change ℕ) (granted_so : judge_in nat_eq fresh world task call ≡ Ok (ToChange location change))
+    (plain : is_overlay (filesystem_at nat_eq world location) ≡ false) (looks : only_looks call ≡ false)
+    (stays : grown names name call (Ok Done) ≡ names)
+    (edits : IfOk (judge_in nat_eq fresh world task call) (Edits (is_theirs world names))) where
+  edit : (is_theirs world names location.mount ≡ true) × IsEdit change
+  edit = subst (λ j. IfOk j (Edits (is_theirs world names))) granted_so edits
+
+  pub walked_edit_ends : EndsAlike world names name call fresh other
+  walked_edit_ends =
+      let ground = theirs_from world names it.is.mounts location.mount edit.0 in
+      edit_ends world names name call it fresh other task found looks stays location change edit.1 plain
+      (theirs_used world names it.is location ground) (filesystem_alike world names it.is location ground)
+      (ap (run_by world names name call it fresh other world fresh task) granted_so)
+      (ap (run_by world names name call it fresh other (part_of nat_eq world names) other task)
+      (sym (same_judgement world names name call it fresh other task found) ∙ granted_so))
+
+pub writes_end_alike : WritesEndAlike
+writes_end_alike world names name path bytes it task found fresh other location change granted_so plain =
+    walked_edit_ends world names name
+    (Write path bytes) it task found fresh other location change granted_so plain refl refl
+    (writes_edit world names it.is it.sealed_off task
+    (member_called world names it.is it.sealed_off name it.theirs task found) path bytes)
+
+pub chmods_end_alike : ChmodsEndAlike
+chmods_end_alike world names name path mode it task found fresh other location change granted_so plain =
+    walked_edit_ends world names name
+    (Chmod path mode) it task found fresh other location change granted_so plain refl refl
+    (chmods_edit world names it.is it.sealed_off task
+    (member_called world names it.is it.sealed_off name it.theirs task found) path mode)
+
+pub chowns_end_alike : ChownsEndAlike
+chowns_end_alike world names name path uid gid it task found fresh other location change granted_so plain =
+    walked_edit_ends world names name
+    (Chown path uid gid) it task found fresh other location change granted_so plain refl refl
+    (chowns_edit world names it.is it.sealed_off task
+    (member_called world names it.is it.sealed_off name it.theirs task found) path uid gid)
+
+pub opaques_end_alike : OpaquesEndAlike
+opaques_end_alike world names name path mark it task found fresh other location change granted_so plain =
+    walked_edit_ends world names name
+    (Opaque path mark) it task found fresh other location change granted_so plain refl refl
+    (opaques_edit world names it.is it.sealed_off task
+    (member_called world names it.is it.sealed_off name it.theirs task found) path mark)

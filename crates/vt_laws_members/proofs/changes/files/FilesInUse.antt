@@ -1,0 +1,101 @@
+-- Where a plain tree changes and keeps its names, all stays in use.
+use Rattle.std.proofs.Common.{◌≡◌, refl, sym, ap, subst, ◌∙◌, ℕ, nat_eq, Bool, true, false, cond, [], ◌||◌}
+use Rattle.std.specs.List.{list_all}
+use Rattle.vt_spec.specs.FileTree.{FileTree}
+use Rattle.vt_spec.specs.Lists.{is_among}
+use Rattle.vt_spec.specs.Machine.Filesystems.{with_files}
+use Rattle.vt_spec.specs.Machine.Settled.{filesystem_lives, named_in, objects_of_overlay}
+use Rattle.vt_spec.specs.Machine.World.{Filesystem, World, is_overlay, replaced_if_numbered}
+use Rattle.vt_laws_mounts.specs.LettingGo.InUse.{AllInUse, FilesystemsInUse}
+use Rattle.vt_laws_mounts.specs.LettingGo.OneByOne.{AllInUseBut, FilesystemsInUseBut, GroupsInUseBut, InodesInUseBut, Losers, is_inode_among}
+use Rattle.vt_laws_mounts.specs.LettingGo.TreesOverlays.{ChangesFilesystem, in_use_of, upper_objects, with_filesystems}
+use Rattle.vt_laws_mounts.proofs.letting_go.Lists.{Among, all_from_among, all_pass, among-from_map, is_among_numbers, or_first, passes}
+use Rattle.vt_laws_mounts.proofs.letting_go.leaving.TreesWithOverlays.{all_but_changed, lives_alike, unchanged}
+use Rattle.vt_laws_mounts.proofs.letting_go.sweeps.InUse.{filesystems_stay, mounts_stay, no_objects}
+
+-- names and real objects stay
+module _ (world : World ℕ) (in_use : AllInUse world) (change : Filesystem ℕ → Filesystem ℕ)
+    (changes : (after : World ℕ) (f : Filesystem ℕ) → Among f world.filesystems
+    → ChangesFilesystem after [] f (change f))
+  where
+    abbrev changed : World ℕ
+    changed = with_filesystems world change
+
+    abbrev none : Losers
+    none = record { mounts = []; filesystems = []; inodes = []; groups = [] }
+
+    stays : in_use_of world ≡ world
+    stays = cc (mounts_stay world in_use.mounts, filesystems_stay world in_use.filesystems)
+
+    in_use_before : AllInUseBut none world
+    in_use_before = record {
+      mounts = in_use.mounts;
+      filesystems = subst (FilesystemsInUseBut []) (sym (mounts_stay world in_use.mounts)) in_use.filesystems;
+      inodes = subst (InodesInUseBut []) (sym stays) in_use.inodes;
+      groups =
+          subst (GroupsInUseBut []) (sym (mounts_stay world in_use.mounts))
+          (λ group among empty. in_use.groups group empty);
+    }
+
+    filesystems_after : FilesystemsInUse changed
+    filesystems_after =
+        all_pass (filesystem_lives nat_eq changed) changed.filesystems
+        (λ x m. let from = among-from_map change world.filesystems x m in
+        ap (filesystem_lives nat_eq changed) from.2
+        ∙ lives_alike world change (λ g n. ChangesFilesystem.number (changes world g n))
+        (λ g n. ChangesFilesystem.layers (changes world g n)) from.0 from.1
+        ∙ passes (filesystem_lives nat_eq world) world.filesystems in_use.filesystems from.0 from.1)
+
+    all_stay : in_use_of changed ≡ changed
+    all_stay = cc (mounts_stay changed in_use.mounts, filesystems_stay changed filesystems_after)
+
+    all_but_none : AllInUseBut none changed
+    all_but_none =
+        all_but_changed world none in_use_before change []
+        (all_from_among (λ f. ChangesFilesystem (in_use_of changed) [] f (change f)) world.filesystems
+        (changes (in_use_of changed)))
+
+    pub in_use_changed : AllInUse changed
+    in_use_changed = record {
+      mounts = in_use.mounts;
+      filesystems = filesystems_after;
+      inodes = subst (InodesInUseBut []) all_stay all_but_none.inodes;
+      groups = in_use.groups;
+    }
+
+-- One plain filesystem has a tree with the same root, numbers and names.
+module _ (world : World ℕ) (old : Filesystem ℕ) (files : FileTree ℕ) (plain : is_overlay old ≡ false)
+    (root : files.tree.root ≡ old.files.tree.root) (numbers : files.numbers ≡ old.files.numbers)
+    (named : named_in files ≡ named_in old.files)
+    (one : (x : Filesystem ℕ) → Among x world.filesystems → nat_eq old.number x.number ≡ true → x ≡ old) where
+  abbrev new : Filesystem ℕ
+  new = with_files old files
+
+  of_old : (after : World ℕ) → ChangesFilesystem after [] old new
+  of_old after = record {
+    number = refl;
+    root = root;
+    layers = refl;
+    inodes = cc (
+      numbers,
+      all_pass (λ k. is_among nat_eq k old.files.numbers || is_among nat_eq k (named_in files) || is_among nat_eq k
+          (upper_objects after old.number)) old.files.numbers (λ k m. or_first (is_among nat_eq k old.files.numbers ||
+          is_among nat_eq k (named_in files)) (is_among nat_eq k (upper_objects after old.number)) (or_first (is_among
+          nat_eq k old.files.numbers) (is_among nat_eq k (named_in files)) (is_among_numbers k old.files.numbers m))),
+    );
+    names =
+        ap (λ l. list_all (λ k. is_among nat_eq k l || is_inode_among old.number k []) (named_in old.files)) named
+        ∙ all_pass (λ k. is_among nat_eq k (named_in old.files) || is_inode_among old.number k []) (named_in old.files)
+        (λ k m. or_first (is_among nat_eq k (named_in old.files)) (is_inode_among old.number k [])
+        (is_among_numbers k (named_in old.files) m));
+    objects = λ target. ap (list_all (λ k. is_among nat_eq k (objects_of_overlay nat_eq target new)
+        || is_inode_among target k [])) (no_objects world target old plain);
+  }
+
+  pub tree_changes : (after : World ℕ) (f : Filesystem ℕ) → Among f world.filesystems
+      → ChangesFilesystem after [] f (replaced_if_numbered nat_eq new f)
+  tree_changes after f m = by (nat_eq old.number f.number) refl
+    where
+      by : (b : Bool) → nat_eq old.number f.number ≡ b → ChangesFilesystem after [] f (cond b new f)
+      by true e = subst (λ x. ChangesFilesystem after [] x new) (sym (one f m e)) (of_old after)
+      by false e = unchanged after [] f

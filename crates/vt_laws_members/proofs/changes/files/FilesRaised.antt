@@ -1,0 +1,122 @@
+-- Where the tree of a filesystem of theirs changes, and nothing goes: the world that a call leaves, and its part.
+use Rattle.std.proofs.Common.{◌≡◌, refl, sym, ap, ◌∙◌, ℕ, nat_eq, eqb-true, Bool, true, false, cond, true≢false, List, [], ◌∷◌, filter, map}
+use Rattle.std.specs.List.{list_any}
+use Rattle.vt_spec.specs.FileTree.{FileTree}
+use Rattle.vt_spec.specs.Language.Calls.{TaskName, same_name}
+use Rattle.vt_spec.specs.Lists.{is_among}
+use Rattle.vt_spec.specs.Machine.Filesystems.{raised, raised_if_changed, with_files}
+use Rattle.vt_spec.specs.Machine.Policy.{numbers_raised, raised_task}
+use Rattle.vt_spec.specs.Machine.Sealed.{is_member_task, part_of, used_filesystems}
+use Rattle.vt_spec.specs.Machine.Settled.{settled}
+use Rattle.vt_spec.specs.Machine.World.{Filesystem, Task, World, locations_of, replaced_if_numbered}
+use Rattle.vt_spec.proofs.Lists.{Among, map_twice}
+use Rattle.vt_laws_mounts.specs.LettingGo.InUse.{AllInUse}
+use Rattle.vt_laws_mounts.specs.LettingGo.TreesOverlays.{with_filesystems}
+use Rattle.vt_laws_mounts.proofs.letting_go.sweeps.InUse.{nothing_goes}
+use Rattle.vt_laws_members.proofs.changes.files.FilesChanged.{part_with_files}
+use Rattle.vt_laws_members.proofs.changes.tasks.RaisedTasks.{tasks_raised}
+use Rattle.vt_laws_members.proofs.changes.tasks.Retasked.{retasked}
+use Rattle.vt_laws_members.proofs.changes.tasks.Rights.{sees_alike}
+
+-- a task whose change number is raised is the same else
+pub raised_is : {A : Type 0} (name : TaskName) (what : Task ℕ → A)
+    → ((t : Task ℕ) → what (record t { change = raised t.change }) ≡ what t) → (t : Task ℕ)
+    → what (raised_task name t) ≡ what t
+raised_is {A} name what same t = by (same_name name t.name)
+  where
+    by : (b : Bool) → what (cond b (record t { change = raised t.change }) t) ≡ what t
+    by true = same t
+    by false = refl
+
+module _ (old : Filesystem ℕ) (files : FileTree ℕ) where
+  abbrev pub swap : Filesystem ℕ → Filesystem ℕ
+  swap = replaced_if_numbered nat_eq (with_files old files)
+
+  -- with its change number raised
+  abbrev pub both : Filesystem ℕ → Filesystem ℕ
+  both x = raised_if_changed nat_eq (old.number ∷ []) (swap x)
+
+  raised_numbered : (x : Filesystem ℕ) → (raised_if_changed nat_eq (old.number ∷ []) x).number ≡ x.number
+  raised_numbered x = by (list_any (λ n. nat_eq n x.number) (old.number ∷ []))
+    where
+      by : (b : Bool) → (cond b (record x { change = raised x.change }) x).number ≡ x.number
+      by true = refl
+      by false = refl
+
+  raised_overlaid : (x : Filesystem ℕ) → (raised_if_changed nat_eq (old.number ∷ []) x).overlay ≡ x.overlay
+  raised_overlaid x = by (list_any (λ n. nat_eq n x.number) (old.number ∷ []))
+    where
+      by : (b : Bool) → (cond b (record x { change = raised x.change }) x).overlay ≡ x.overlay
+      by true = refl
+      by false = refl
+
+  pub both_numbered : (x : Filesystem ℕ) → (both x).number ≡ x.number
+  both_numbered x = raised_numbered (swap x) ∙ by (nat_eq old.number x.number) refl
+    where
+      by : (b : Bool) → nat_eq old.number x.number ≡ b → (cond b (with_files old files) x).number ≡ x.number
+      by true e = eqb-true old.number x.number e
+      by false e = refl
+
+  pub both_overlaid : (x : Filesystem ℕ) → (nat_eq old.number x.number ≡ true → x ≡ old) → (both x).overlay ≡ x.overlay
+  both_overlaid x one = raised_overlaid (swap x) ∙ by (nat_eq old.number x.number) refl
+    where
+      by : (b : Bool) → nat_eq old.number x.number ≡ b → (cond b (with_files old files) x).overlay ≡ x.overlay
+      by true e = ap (λ (f : Filesystem ℕ). f.overlay) (sym (one e))
+      by false e = refl
+
+  pub both_kept : (x : Filesystem ℕ) → nat_eq old.number x.number ≡ false → both x ≡ x
+  both_kept x e = cc
+
+  module _ (world : World ℕ) (name : TaskName) where
+    -- what the call leaves
+    abbrev pub left : World ℕ
+    left = record world {
+      filesystems = map both world.filesystems;
+      tasks = map (raised_task name) world.tasks;
+      change = raised world.change;
+    }
+
+    pub left_so : AllInUse (with_filesystems world swap)
+        → numbers_raised nat_eq world name (old.number ∷ []) (settled nat_eq (with_filesystems world swap)) ≡ left
+    left_so in_use =
+        ap (numbers_raised nat_eq world name (old.number ∷ [])) (nothing_goes (with_filesystems world swap) in_use)
+        ∙ numbers_so
+      where
+        numbers_so : numbers_raised nat_eq world name (old.number ∷ []) (with_filesystems world swap) ≡ left
+        numbers_so i = record {
+          mounts = world.mounts;
+          master = world.master;
+          filesystems = map_twice (raised_if_changed nat_eq (old.number ∷ [])) swap world.filesystems i;
+          namespaces = ap (λ (w : World ℕ). w.namespaces) (tasks_raised world name world.tasks) i;
+          tasks = map (raised_task name) world.tasks;
+          change = raised world.change;
+        }
+
+    pub part_left : (names : List TaskName) → is_among nat_eq old.number (used_filesystems nat_eq world names) ≡ true
+        → ((x : Filesystem ℕ) → Among x world.filesystems → nat_eq old.number x.number ≡ true → x ≡ old)
+        → part_of nat_eq left names
+        ≡ record (with_filesystems (part_of nat_eq world names) both) {
+          tasks = filter (is_member_task names) (map (raised_task name) world.tasks);
+        }
+    part_left names used one =
+        cc (
+          retasked later names names (map (raised_task name) world.tasks) (raised world.change) (sees_alike later
+              names (raised_task name) (raised_is name (λ (t : Task ℕ). t.name) (λ t. refl)) (λ t m. raised_is name (λ
+              (t : Task ℕ). t.namespace) (λ t. refl) t) (λ t m. raised_is name (λ (t : Task ℕ). t.root ∷ t.directory ∷
+              []) (λ t. refl) t) (raised world.change) (λ t m. raised_is name locations_of (λ t. refl) t)),
+          part_with_files world names both both_numbered (λ x m. both_overlaid x (one x m)) kept,
+        )
+      where
+        later : World ℕ
+        later = with_filesystems world both
+
+        other : (x : Filesystem ℕ) → is_among nat_eq x.number (used_filesystems nat_eq world names) ≡ false → (b : Bool)
+            → nat_eq old.number x.number ≡ b → both x ≡ x
+        other x unused true e =
+            absurd (true≢false (sym used
+            ∙ ap (λ n. is_among nat_eq n (used_filesystems nat_eq world names)) (eqb-true old.number x.number e)
+            ∙ unused))
+        other x unused false e = both_kept x e
+
+        kept : (x : Filesystem ℕ) → is_among nat_eq x.number (used_filesystems nat_eq world names) ≡ false → both x ≡ x
+        kept x unused = other x unused (nat_eq old.number x.number) refl

@@ -1,0 +1,64 @@
+-- A filesystem that a set uses, by its number: it is one in the world, and the same one in the part.
+use Rattle.std.proofs.Common.{◌≡◌, refl, sym, ap, ◌∙◌, ⊎_elim, ℕ, nat_eq, eqb-true, Bool, true, false, cond, true≢false, List, [], ◌∷◌, Some, find}
+use Rattle.std.specs.Prelude.{unwrap_or}
+use Rattle.vt_spec.specs.Language.Calls.{TaskName}
+use Rattle.std.specs.List.{list_any}
+use Rattle.vt_spec.specs.Lists.{is_among, when}
+use Rattle.vt_spec.specs.Machine.Invariants.{IsWorld}
+use Rattle.vt_spec.specs.Machine.Sealed.{own_lowers, part_of, part_of_filesystem, part_of_lower, used_filesystems}
+use Rattle.vt_spec.specs.Machine.World.{Filesystem, World, filesystem_numbered, no_filesystem}
+use Rattle.vt_spec.proofs.Lists.{Among, among-filter_map, among-from_filter_map}
+use Rattle.vt_laws_mounts.proofs.letting_go.sweeps.OfWorlds.{found_filesystem}
+use Rattle.vt_laws_sealed.proofs.part.part.PartOfPart.{shown_how}
+
+-- what is found by a number has it
+pub found_numbered : (k : ℕ) (list : List (Filesystem ℕ))
+    → (unwrap_or (find (λ (f : Filesystem ℕ). nat_eq k f.number) list) (no_filesystem k)).number ≡ k
+found_numbered k [] = refl
+found_numbered k (x ∷ rest) = by (nat_eq k x.number) refl (found_numbered k rest)
+  where
+    by : (b : Bool) → nat_eq k x.number ≡ b
+        → (unwrap_or (find (λ (f : Filesystem ℕ). nat_eq k f.number) rest) (no_filesystem k)).number ≡ k
+        → (unwrap_or (cond b (Some x) (find (λ (f : Filesystem ℕ). nat_eq k f.number) rest)) (no_filesystem k)).number
+        ≡ k
+    by true e later = sym (eqb-true k x.number e)
+    by false e later = later
+
+module _ (world : World ℕ) (names : List TaskName) (is : IsWorld nat_eq world) (number : ℕ)
+    (used : is_among nat_eq number (used_filesystems nat_eq world names) ≡ true) where
+  abbrev part : World ℕ
+  part = part_of nat_eq world names
+
+  abbrev old : Filesystem ℕ
+  old = filesystem_numbered nat_eq world number
+
+  pub old_number : old.number ≡ number
+  old_number = found_numbered number world.filesystems
+
+  pub old_used : is_among nat_eq old.number (used_filesystems nat_eq world names) ≡ true
+  old_used = ap (λ n. is_among nat_eq n (used_filesystems nat_eq world names)) old_number ∙ used
+
+  pub one_in_world : (x : Filesystem ℕ) → Among x world.filesystems → nat_eq old.number x.number ≡ true → x ≡ old
+  one_in_world x m e =
+      sym (found_filesystem world.filesystems is.files.one_filesystem x m)
+      ∙ ap (filesystem_numbered nat_eq world) (sym (eqb-true old.number x.number e) ∙ old_number)
+
+  pub one_in_part : (x : Filesystem ℕ) → Among x part.filesystems → nat_eq old.number x.number ≡ true → x ≡ old
+  one_in_part x m e =
+      let from = among-from_filter_map (part_of_filesystem nat_eq world names) world.filesystems x m in
+      ⊎_elim
+      (λ same. sym same.0 ∙ one_in_world from.0 from.1
+      (ap (λ (f : Filesystem ℕ). nat_eq old.number f.number) same.0 ∙ e))
+      (λ low. absurd (true≢false
+      (sym old_used
+      ∙ ap (λ n. is_among nat_eq n (used_filesystems nat_eq world names)) (eqb-true old.number x.number e)
+      ∙ ap (λ (f : Filesystem ℕ). is_among nat_eq f.number (used_filesystems nat_eq world names)) (sym low.0)
+      ∙ low.1)))
+      (shown_how world names from.0 x from.2)
+
+  pub there_in_part : Among old world.filesystems → Among old part.filesystems
+  there_in_part there =
+      among-filter_map (part_of_filesystem nat_eq world names) world.filesystems old old there
+      (ap (λ b. cond b (Some old) (when
+      (list_any (λ layer. nat_eq old.number layer.filesystem) (own_lowers nat_eq world names))
+      (part_of_lower nat_eq world names old))) old_used)

@@ -1,0 +1,93 @@
+-- A write of bytes at an offset of an open file ends in the part as in the world.
+use Rattle.std.proofs.Common.{◌≡◌, refl, sym, ap, subst, ◌∙◌, ℕ, nat_eq, Bool, true, false, cond, find, List, ◌∷◌, Option, Some, None, Ok}
+use Rattle.std.specs.Prelude.{⊤, IfOk, ok_or, option_to_list, ◌==◌}
+use Rattle.vt_spec.specs.declared.errors.Rule.TheVariants.{S4}
+use Rattle.vt_spec.specs.Errors.{and_then, denial, unless}
+use Rattle.vt_spec.specs.Language.Calls.{Call, TaskName}
+use Rattle.vt_spec.specs.Language.Calls.Call.{Pwrite}
+use Rattle.vt_spec.specs.Language.Changes.Change.{SetBytes}
+use Rattle.vt_spec.specs.Machine.Descriptors.{overwritten}
+use Rattle.vt_spec.specs.Machine.Invariants.{IsWorld}
+use Rattle.vt_spec.specs.Machine.Judge.{judge_in, pwrite_permit}
+use Rattle.vt_spec.specs.Machine.Looks.{Looks, looks_of}
+use Rattle.vt_spec.specs.Machine.Mounts.{Location}
+use Rattle.vt_spec.specs.Machine.Permits.{Permit}
+use Rattle.vt_spec.specs.Machine.Permits.Permit.{ToChange, ToWritePart}
+use Rattle.vt_spec.specs.Machine.Rules.Descriptors.{descriptor_numbered, pwrite_rules}
+use Rattle.vt_spec.specs.Machine.Sealed.{locations, members, part_of, sealed}
+use Rattle.vt_spec.specs.Machine.World.{Descriptor, Task, World, filesystem_numbered, mount_at, node_at}
+use Rattle.vt_spec.specs.Tree.{bytes_in}
+use Rattle.vt_spec.proofs.Found.{found_among}
+use Rattle.vt_spec.proofs.Lists.{Among}
+use Rattle.vt_laws_sealed.proofs.part.part.PartOfPart.{found, located}
+use Rattle.vt_laws_members.proofs.judging.SeenInPart.{located_used}
+use Rattle.vt_laws_members.specs.Changes.Changes.{PartWritesEndAlike}
+use Rattle.vt_laws_members.proofs.changes.files.FilesEnding.{edit_ends}
+use Rattle.vt_laws_members.proofs.changes.looks.Granted.{of_rules, opened_theirs}
+use Rattle.vt_laws_members.proofs.changes.looks.Told.{member_called, open_file}
+use Rattle.vt_laws_members.proofs.changes.tasks.Denied.{run_by, same_judgement}
+
+-- these bytes to one of these files, if it is a write at an offset
+abbrev pub Writes : (files : List (Location ℕ)) (bytes : List ℕ) → Permit ℕ → Type 0
+Writes files bytes (ToWritePart file at written) = Among file files × (written ≡ bytes)
+Writes files bytes permit = ⊤
+
+module _ (world : World ℕ) (names : List TaskName) (is : IsWorld nat_eq world)
+    (sealed_off : sealed nat_eq world names ≡ true) (task : Task ℕ) (member : Among task (members world names))
+    (bytes : List ℕ) where
+  abbrev one : Looks ℕ
+  one = looks_of nat_eq world
+
+  abbrev Written : Permit ℕ → Type 0
+  Written = Writes (locations (members world names)) bytes
+
+  pub writes_theirs : (number offset : ℕ) → IfOk (pwrite_permit one task number offset bytes) Written
+  unfolding pwrite_permit
+  writes_theirs number offset = by (descriptor_numbered task number) refl
+    where
+      which : (descriptor : Descriptor ℕ) → Among descriptor task.descriptors → (b : Bool)
+          → IfOk (and_then (ok_or (cond b (Some descriptor) None) (denial S4))
+          (λ d. unless (pwrite_rules one d.location offset bytes) (Ok (ToWritePart d.location offset bytes)))) Written
+      which descriptor m false = tt
+      which descriptor m true =
+          of_rules Written (pwrite_rules one descriptor.location offset bytes)
+          (Ok (ToWritePart descriptor.location offset bytes))
+          (opened_theirs world names is sealed_off task member descriptor m, refl)
+
+      by : (o : Option (Descriptor ℕ)) → descriptor_numbered task number ≡ o
+          → IfOk (and_then (ok_or (find (λ (d : Descriptor ℕ). d.writes) (option_to_list o)) (denial S4))
+          (λ d. unless (pwrite_rules one d.location offset bytes) (Ok (ToWritePart d.location offset bytes)))) Written
+      by None e = tt
+      by (Some descriptor) e =
+          which descriptor (found_among (λ (d : Descriptor ℕ). number == d.number)
+          task.descriptors descriptor e) descriptor.writes
+
+pub part_writes_end_alike : PartWritesEndAlike
+part_writes_end_alike world names name descriptor offset byte bytes it task called fresh other file at written
+    granted_so plain =
+    edit_ends world names name call it fresh other task called refl refl file
+    (SetBytes file.node (overwritten at (byte ∷ bytes) (bytes_in (node_at nat_eq world file)))) tt plain
+    (located_used world names it.is file theirs.0)
+    (sym (found world names (mount_at nat_eq world file).filesystem (located_used world names it.is file theirs.0))
+    ∙ ap (filesystem_numbered nat_eq part) (sym (located world names file theirs.0)))
+    (ap (run_by world names name call it fresh other world fresh task) judged)
+    (ap (run_by world names name call it fresh other part other task)
+    (sym (same_judgement world names name call it fresh other task called) ∙ judged)
+    ∙ ap (λ node. run_by world names name call it fresh other part other task
+    (Ok (ToChange file (SetBytes file.node (overwritten at (byte ∷ bytes) (bytes_in node))))))
+    (sym (open_file world names it.is it.sealed_off file theirs.0)))
+  where
+    call : Call
+    call = Pwrite descriptor offset (byte ∷ bytes)
+
+    part : World ℕ
+    part = part_of nat_eq world names
+
+    theirs : Among file (locations (members world names)) × (written ≡ byte ∷ bytes)
+    theirs =
+        subst (λ j. IfOk j (Writes (locations (members world names)) (byte ∷ bytes))) granted_so
+        (writes_theirs world names it.is it.sealed_off task
+        (member_called world names it.is it.sealed_off name it.theirs task called) (byte ∷ bytes) descriptor offset)
+
+    judged : judge_in nat_eq fresh world task call ≡ Ok (ToWritePart file at (byte ∷ bytes))
+    judged = granted_so ∙ ap (λ w. Ok (ToWritePart file at w)) theirs.1

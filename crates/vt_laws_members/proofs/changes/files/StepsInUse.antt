@@ -1,0 +1,60 @@
+-- Where filesystems change and no inode loses its uses, all stays in use.
+use Rattle.std.proofs.Common.{◌≡◌, sym, ap, subst, ◌∙◌, ℕ, nat_eq, []}
+use Rattle.std.specs.Prelude.{All}
+use Rattle.vt_spec.specs.Machine.Settled.{filesystem_lives, without_dead_filesystems}
+use Rattle.vt_spec.specs.Machine.World.{Filesystem, World}
+use Rattle.vt_laws_mounts.specs.LettingGo.InUse.{AllInUse, FilesystemsInUse}
+use Rattle.vt_laws_mounts.specs.LettingGo.OneByOne.{AllInUseBut, FilesystemsInUseBut, GroupsInUseBut, InodesInUseBut, Losers}
+use Rattle.vt_laws_mounts.specs.LettingGo.TreesOverlays.{ChangesFilesystem, in_use_of, with_filesystems, with_lost}
+use Rattle.vt_laws_mounts.proofs.letting_go.Lists.{Among, all_from_among, all_pass, among-from_map, passes}
+use Rattle.vt_laws_mounts.proofs.letting_go.leaving.TreesWithOverlays.{all_but_changed, lives_alike}
+use Rattle.vt_laws_mounts.proofs.letting_go.sweeps.InUse.{filesystems_stay, mounts_stay}
+
+-- In the world after the change each filesystem has its number, its layers, and uses of its inodes.
+module _ (w : World ℕ) (in_use : AllInUse w) (step : Filesystem ℕ → Filesystem ℕ)
+    (changes : (f : Filesystem ℕ) → Among f w.filesystems
+    → ChangesFilesystem (with_filesystems w step) [] f (step f)) where
+  abbrev changed : World ℕ
+  changed = with_filesystems w step
+
+  abbrev none : Losers
+  none = record { mounts = []; filesystems = []; inodes = []; groups = [] }
+
+  stays : in_use_of w ≡ w
+  stays = ap (without_dead_filesystems nat_eq) (mounts_stay w in_use.mounts) ∙ filesystems_stay w in_use.filesystems
+
+  in_use_before : AllInUseBut none w
+  in_use_before = record {
+    mounts = in_use.mounts;
+    filesystems = subst (FilesystemsInUseBut []) (sym (mounts_stay w in_use.mounts)) in_use.filesystems;
+    inodes = subst (InodesInUseBut []) (sym stays) in_use.inodes;
+    groups =
+        subst (GroupsInUseBut []) (sym (mounts_stay w in_use.mounts)) (λ group among empty. in_use.groups group empty);
+  }
+
+  filesystems_after : FilesystemsInUse changed
+  filesystems_after =
+      all_pass (filesystem_lives nat_eq changed) changed.filesystems
+      (λ x m. let from = among-from_map step w.filesystems x m in
+      ap (filesystem_lives nat_eq changed) from.2
+      ∙ lives_alike w step (λ g n. ChangesFilesystem.number (changes g n))
+      (λ g n. ChangesFilesystem.layers (changes g n))
+      from.0 from.1
+      ∙ passes (filesystem_lives nat_eq w) w.filesystems in_use.filesystems from.0 from.1)
+
+  all_stay : in_use_of changed ≡ changed
+  all_stay = cc (mounts_stay changed in_use.mounts, filesystems_stay changed filesystems_after)
+
+  all_but : AllInUseBut (with_lost none []) changed
+  all_but =
+      all_but_changed w none in_use_before step []
+      (subst (λ v. All (λ f. ChangesFilesystem v [] f (step f)) w.filesystems) (sym all_stay)
+      (all_from_among (λ f. ChangesFilesystem changed [] f (step f)) w.filesystems changes))
+
+  pub in_use_stepped : AllInUse changed
+  in_use_stepped = record {
+    mounts = in_use.mounts;
+    filesystems = filesystems_after;
+    inodes = subst (InodesInUseBut []) all_stay all_but.inodes;
+    groups = in_use.groups;
+  }

@@ -1,0 +1,209 @@
+-- Where tasks of a set let locations go, the world and the part are ready to be swept.
+use Rattle.std.proofs.Common.{◌≡◌, refl, sym, ap, subst, ◌∙◌, ◌⊎◌, inl, inr, ⊎_elim, ℕ, nat_eq, Bool, true, false, cond, true≢false, List, [], Option, Some, None, filter, map, not, ◌||◌, eqb-true}
+use Rattle.std.specs.List.{list_any}
+use Rattle.std.proofs.lemmas.Bool.{or_cases, or_left, or_parts, or_right}
+use Rattle.vt_spec.specs.Language.Calls.{TaskName}
+use Rattle.vt_spec.specs.Lists.{holds_of, then_some, when}
+use Rattle.vt_spec.specs.Machine.Invariants.{IsWorld, MountInvariants, Stands}
+use Rattle.vt_spec.specs.Machine.Mounts.{Location, Mount}
+use Rattle.vt_spec.specs.Machine.Sealed.{is_at, is_member_task, locations, members, outsiders, roots_and_directories, sealed, seen_by_descriptor, used_directly}
+use Rattle.vt_spec.specs.Machine.World.{Task, World, all_locations, locations_of, mount_at, mount_numbered}
+use Rattle.vt_spec.proofs.Lists.{Among, among-append, among-append_left, among-append_right, among-flat_map, among-from_filter, among-from_flat_map, among-from_map, among-map, among_from_all, any_among, any_from_among}
+use Rattle.vt_spec.proofs.Options.{none_is_some}
+use Rattle.vt_spec.proofs.Worlds.{found_or_none, number-mount_in}
+use Rattle.vt_laws_mounts.proofs.mounts.MountsReplaced.{found_itself}
+use Rattle.vt_laws_worlds.proofs.worlds.Reached.{namespace_below}
+use Rattle.vt_laws_sealed.proofs.part.part.PartOfPart.{is_own, keep, located}
+use Rattle.vt_laws_sealed.proofs.part.seals.ByPart.{apart_if_sealed}
+use Rattle.vt_laws_sealed.proofs.outsiders.OtherMounts.{located_there}
+use Rattle.vt_laws_members.proofs.judging.Grounds.{IsTheirs, nowhere_stands, numbered, same_mount}
+use Rattle.vt_laws_members.proofs.judging.SeenInPart.{theirs_directly}
+use Rattle.vt_laws_members.proofs.changes.letting_go.SeeLess.{SeeLess}
+
+-- a location of all tasks is on a mount that is there
+pub mount_under : (world : World ℕ) (names : List TaskName) (is : IsWorld nat_eq world)
+    → sealed nat_eq world names ≡ true → (l : Location ℕ) → Among l (all_locations world)
+    → (m : Mount ℕ) × Among m world.mounts × (l.mount ≡ m.number)
+mount_under world names is sealed_off l m =
+    let at = located_there world names (apart_if_sealed world names is sealed_off) l m in
+    (at.0, at.1, eqb-true l.mount at.0.number at.2)
+
+-- a mount point is on a mount of the same namespace
+pub mount_parent : (b : World ℕ) → MountInvariants nat_eq b → (m : Mount ℕ) (l : Location ℕ)
+    → Among m b.mounts → m.mount_point ≡ Some l
+    → (n : ℕ) × (m.namespace ≡ Some n) × (k : Mount ℕ) × Among k b.mounts × (l.mount ≡ k.number)
+    × (k.namespace ≡ Some n)
+mount_parent b kept m l at point = by m.namespace refl
+  where
+    below : m.namespace ≡ (mount_numbered nat_eq b l.mount).namespace
+    below = cc (
+      found_itself b.mounts kept.one_number m at,
+      namespace_below b m.number l (among_from_all (λ (y : Mount ℕ). Stands nat_eq b y.number) b.mounts
+          kept.standing m at) (ap (λ (y : Mount ℕ). y.mount_point) (found_itself b.mounts kept.one_number m at) ∙
+          point),
+    )
+
+    by : (o : Option ℕ) → m.namespace ≡ o
+        → (n : ℕ) × (m.namespace ≡ Some n) × (k : Mount ℕ) × Among k b.mounts × (l.mount ≡ k.number)
+        × (k.namespace ≡ Some n)
+    by None e = absurd (nowhere_stands b [] kept m l at e point)
+    by (Some n) e =
+        let up : (mount_numbered nat_eq b l.mount).namespace ≡ Some n = sym below ∙ e in
+        ⊎_elim
+        (λ found. (n, e, mount_numbered nat_eq b l.mount, found, sym (number-mount_in b.mounts l.mount), up))
+        (λ none. none_is_some n (sym (ap (λ (y : Mount ℕ). y.namespace) none) ∙ up))
+        (found_or_none b.mounts l.mount)
+
+-- The tasks of a set let locations go.
+module _ (world : World ℕ) (names : List TaskName) (is : IsWorld nat_eq world)
+    (sealed_off : sealed nat_eq world names ≡ true) (set : List TaskName) where
+  abbrev old : List (Task ℕ)
+  old = members world names
+
+  abbrev of_set : List (Task ℕ) → List (Task ℕ)
+  of_set tasks = filter (is_member_task set) tasks
+
+  -- these tasks are in the namespaces of before, and at locations of before or on mounts where members get
+  pub record LetsGo (tasks : List (Task ℕ)) : Type 0 where
+    pub own : (n : ℕ) → list_any (λ (t : Task ℕ). nat_eq n t.namespace) (of_set tasks)
+        ≡ list_any (λ (t : Task ℕ). nat_eq n t.namespace) old
+    pub roots : (l : Location ℕ) → Among l (roots_and_directories (of_set tasks))
+        → IsTheirs world names is.mounts l.mount
+    pub places : (l : Location ℕ) → Among l (locations (of_set tasks))
+        → Among l (locations old) ⊎ IsTheirs world names is.mounts l.mount
+    pub others : (l : Location ℕ) → Among l (locations (filter (λ t. not (is_member_task set t)) tasks))
+        → Among l (locations (outsiders world names))
+
+  module _ (tasks : List (Task ℕ)) (change : ℕ) (it : LetsGo tasks) where
+    abbrev new : List (Task ℕ)
+    new = of_set tasks
+
+    abbrev later : World ℕ
+    later = record world { tasks = tasks; change = change }
+
+    abbrev owns : List (Task ℕ) → Mount ℕ → Bool
+    owns ts = is_own world names ts
+
+    abbrev stands : List (Task ℕ) → Mount ℕ → Bool
+    stands ts m = is_at nat_eq (roots_and_directories ts) m
+
+    abbrev at : List (Task ℕ) → Mount ℕ → Bool
+    at ts m = is_at nat_eq (locations ts) m
+
+    pub owned_same : (m : Mount ℕ) → owns new m ≡ owns old m
+    owned_same m i = holds_of (λ n. it.own n i) m.namespace
+
+    abbrev IsGround : Mount ℕ → Type 0
+    IsGround m = (owns old m ≡ true) ⊎ ((m.namespace ≡ None) × (stands old m ≡ true))
+
+    pub ground_is : (m : Mount ℕ) → Among m world.mounts → (number : ℕ) → number ≡ m.number
+        → IsTheirs world names is.mounts number → IsGround m
+    ground_is m n number e theirs =
+        let same : theirs.0 ≡ m =
+        sym (numbered world names is.mounts theirs.0 theirs.1)
+        ∙ ap (mount_numbered nat_eq world) (theirs.2 ∙ e) ∙ numbered world names is.mounts m n in
+        subst IsGround same theirs.3
+
+    -- a mount where they stand
+    pub stood_ground : (m : Mount ℕ) → Among m world.mounts → stands new m ≡ true → IsGround m
+    stood_ground m n h =
+        let l = any_among (λ (k : Location ℕ). nat_eq k.mount m.number) (roots_and_directories new) h in
+        ground_is m n l.0.mount (eqb-true l.0.mount m.number l.2) (it.roots l.0 l.1)
+
+    pub ground_whole : (m : Mount ℕ) → IsGround m → (owns old m || stands old m) ≡ true
+    ground_whole m ground =
+        ⊎_elim (λ own. or_left (owns old m) (stands old m) own)
+        (λ stood. or_right (owns old m) (stands old m) stood.1) ground
+
+    whole_was : (m : Mount ℕ) → Among m world.mounts → (owns new m || stands new m) ≡ true
+        → (owns old m || stands old m) ≡ true
+    whole_was m n h =
+        ⊎_elim (λ own. or_left (owns old m) (stands old m) (sym (owned_same m) ∙ own))
+        (λ stood. ground_whole m (stood_ground m n stood)) (or_cases (owns new m) (stands new m) h)
+
+    at_was : (m : Mount ℕ) → Among m world.mounts → at new m ≡ true
+        → ((owns old m || stands old m) ≡ true) ⊎ (at old m ≡ true)
+    at_was m n h =
+        let l = any_among (λ (k : Location ℕ). nat_eq k.mount m.number) (locations new) h in
+        ⊎_elim (λ was. inr (any_from_among (λ (k : Location ℕ). nat_eq k.mount m.number) (locations old) l.0 was l.2))
+        (λ theirs. inl (ground_whole m (ground_is m n l.0.mount (eqb-true l.0.mount m.number l.2) theirs)))
+        (it.places l.0 l.1)
+
+    abbrev stub : Mount ℕ → Mount ℕ
+    stub m = seen_by_descriptor m
+
+    kept_by : (m : Mount ℕ) → Among m world.mounts
+        → then_some (keep world names old m) (keep world names new) ≡ keep world names new m
+    kept_by m n = by (owns old m || stands old m) refl (at old m) refl (owns new m || stands new m) refl (at new m) refl
+      where
+        kept_as : Bool → Bool → Option (Mount ℕ)
+        kept_as p q = cond p (Some m) (when q (stub m))
+
+        by : (p : Bool) → (owns old m || stands old m) ≡ p → (q : Bool) → at old m ≡ q
+            → (r : Bool) → (owns new m || stands new m) ≡ r → (s : Bool) → at new m ≡ s
+            → then_some (kept_as (owns old m || stands old m) (at old m)) (keep world names new)
+            ≡ kept_as (owns new m || stands new m) (at new m)
+        by true e q f r g s h = ap (λ b. then_some (kept_as b (at old m)) (keep world names new)) e
+        by false e q f true g s h = absurd (true≢false (sym (whole_was m n g) ∙ e))
+        by false e true f false g s h =
+            ap (λ b. then_some (kept_as b (at old m)) (keep world names new)) e
+            ∙ ap (λ b. then_some (when b (stub m)) (keep world names new)) f
+            ∙ ap (λ b. cond b (Some (stub m)) (when (at new m) (stub m))) (or_parts (owns new m) (stands new m) g).1
+            ∙ sym (ap (λ b. kept_as b (at new m)) g)
+        by false e false f false g true h =
+            absurd (⊎_elim (λ whole. true≢false (sym whole ∙ e)) (λ there. true≢false (sym there ∙ f)) (at_was m n h))
+        by false e false f false g false h = cc
+
+    abbrev shows : Location ℕ → ℕ
+    shows l = (mount_at nat_eq world l).filesystem
+
+    abbrev mounted : List (Task ℕ) → List ℕ
+    mounted ts = map (λ (m : Mount ℕ). m.filesystem) (filter (owns ts) world.mounts)
+
+    mounted_same : mounted new ≡ mounted old
+    mounted_same i = map (λ (m : Mount ℕ). m.filesystem) (filter (λ m. owned_same m i) world.mounts)
+
+    direct_was : (n : ℕ) → Among n (used_directly nat_eq later set) → Among n (used_directly nat_eq world names)
+    direct_was n m =
+        ⊎_elim (λ shown. among-append_left (mounted old) (map shows (locations old)) n
+        (subst (Among n) mounted_same shown))
+        (λ placed. let l = among-from_map shows (locations new) n placed in
+        ⊎_elim
+        (λ was. among-append_right (mounted old) (map shows (locations old)) n
+        (subst (λ k. Among k (map shows (locations old))) (sym l.2) (among-map shows (locations old) l.0 was)))
+        (λ theirs. subst (λ k. Among k (used_directly nat_eq world names)) (sym l.2)
+        (theirs_directly world names is l.0 theirs))
+        (it.places l.0 l.1))
+        (among-append (mounted new) (map shows (locations new)) n m)
+
+    pub sees_less : SeeLess world names set tasks change
+    sees_less = record {
+      own = λ n h. sym (it.own n) ∙ h;
+      mounts = kept_by;
+      located = λ l m. ⊎_elim (located world names l)
+          (λ theirs. ap (λ (k : Mount ℕ). k.filesystem) (same_mount world names is.mounts l.mount theirs))
+          (it.places l m);
+      direct = direct_was;
+    }
+
+    -- a mount where they stand is theirs, or without a mount point
+    pub stood_so : (m : Mount ℕ) → Among m world.mounts → stands new m ≡ true
+        → (owns new m ≡ true) ⊎ (m.mount_point ≡ None)
+    stood_so m n h =
+        ⊎_elim (λ own. inl (owned_same m ∙ own)) (λ stood. inr (nowhere stood.0 m.mount_point refl))
+        (stood_ground m n h)
+      where
+        nowhere : m.namespace ≡ None → (o : Option (Location ℕ)) → m.mount_point ≡ o → m.mount_point ≡ None
+        nowhere none None e = e
+        nowhere none (Some l) e = absurd (nowhere_stands world names is.mounts m l n none e)
+
+    -- the locations of the set are on mounts that are there
+    pub placed_on : (l : Location ℕ) → Among l (locations new)
+        → (m : Mount ℕ) × Among m world.mounts × (l.mount ≡ m.number)
+    placed_on l m =
+        ⊎_elim
+        (λ was. let t = among-from_flat_map locations_of old l was in
+        mount_under world names is sealed_off l
+        (among-flat_map locations_of world.tasks t.0 l
+        (among-from_filter (is_member_task names) world.tasks t.0 t.1).0 t.2))
+        (λ theirs. (theirs.0, theirs.1, sym theirs.2)) (it.places l m)

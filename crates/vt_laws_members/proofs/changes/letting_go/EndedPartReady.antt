@@ -1,0 +1,194 @@
+-- So is the part, where they are detached in it, too.
+use Rattle.std.proofs.Common.{◌≡◌, refl, sym, ap, subst, ◌∙◌, ◌⊎◌, inl, inr, ⊎_elim, ℕ, nat_eq, Bool, true, false, List, Option, Some, None, filter, is_some, eq-eqb}
+use Rattle.std.specs.List.{list_any}
+use Rattle.std.proofs.lemmas.Bool.{or_left, or_right}
+use Rattle.vt_spec.specs.Language.Calls.{TaskName}
+use Rattle.vt_spec.specs.Lists.{holds_of}
+use Rattle.vt_spec.specs.Machine.Detach.{is_going}
+use Rattle.vt_spec.specs.Machine.Invariants.{IsWorld, MountInvariants}
+use Rattle.vt_spec.specs.Machine.Mounts.{Location, Mount}
+use Rattle.vt_spec.specs.Machine.Sealed.{is_at, is_member_task, locations, members, own_lowers, part_of, roots_and_directories, sealed, used_filesystems}
+use Rattle.vt_spec.specs.Machine.Settled.{is_located, mount_lives, without_dead_mounts}
+use Rattle.vt_spec.specs.Machine.World.{Task, World, all_locations, locations_of}
+use Rattle.vt_spec.proofs.Lists.{Among, among-filter, among-filter_map, among-flat_map, among-from_filter, among-from_filter_map, among-from_flat_map, among-from_map, among-map, any_from_among, pair-filter, pair-map}
+use Rattle.vt_spec.proofs.Options.{none_is_some}
+use Rattle.vt_laws_mounts.specs.Mounts.Invariants.{OneNumberEach}
+use Rattle.vt_laws_sealed.proofs.part.part.Observed.{lowers_same, used_same}
+use Rattle.vt_laws_sealed.proofs.part.part.PartOfPart.{is_own, keep, kept_how}
+use Rattle.vt_laws_members.proofs.judging.MountPoints.{part_mount}
+use Rattle.vt_laws_members.proofs.judging.MountTrees.{part_one_number}
+use Rattle.vt_laws_members.proofs.changes.letting_go.Changed.{mount_parent}
+use Rattle.vt_laws_members.proofs.changes.letting_go.LessSeen.{AreLess, less_lowers, less_used}
+use Rattle.vt_laws_members.proofs.changes.letting_go.NamespaceLess.{KeepsShape, SetIsLess, ended, ended_less, ended_mount, ended_part, place_shown, placed_so, shape_kept}
+use Rattle.vt_laws_members.proofs.changes.letting_go.PartFiles.{cut_in_part, numbers_in_part, plain_in_part}
+use Rattle.vt_laws_members.proofs.changes.letting_go.Ready.{NoOthers, Ready}
+use Rattle.vt_laws_members.proofs.changes.letting_go.Regrouped.{left_part}
+use Rattle.vt_laws_members.proofs.changes.letting_go.WorldReady.{sees_living}
+
+module _ (world : World ℕ) (names : List TaskName) (is : IsWorld nat_eq world)
+    (sealed_off : sealed nat_eq world names ≡ true) (set : List TaskName) (gone : List ℕ)
+    (own_go : (m : Mount ℕ) → Among m world.mounts → is_going nat_eq gone m.number ≡ true
+    → is_own world names (members world names) m ≡ true)
+    (lasts : ℕ → Bool) (tasks tasks_too : List (Task ℕ))
+    (change change_too : ℕ)
+    (same : filter (is_member_task set) tasks_too ≡ filter (is_member_task set) tasks)
+    (fewer : SetIsLess world names is set tasks)
+    (all : (t : Task ℕ) → Among t tasks_too → is_member_task set t ≡ true)
+    (still : (m : Mount ℕ) → Among m world.mounts → is_going nat_eq gone m.number ≡ false
+    → is_own world names (members world names) m ≡ true → is_own world names (filter (is_member_task set) tasks) m
+    ≡ true)
+    (b : Bool)
+    (kept_there : MountInvariants nat_eq
+    (ended_part world names is sealed_off set gone own_go lasts tasks tasks_too change change_too same fewer b)) where
+  abbrev part : World ℕ
+  part = part_of nat_eq world names
+
+  abbrev old : List (Task ℕ)
+  old = members world names
+
+  abbrev new : List (Task ℕ)
+  new = filter (is_member_task set) tasks_too
+
+  abbrev kept : Mount ℕ → Option (Mount ℕ)
+  kept = keep world names old
+
+  abbrev after_world : World ℕ
+  after_world =
+      ended world names is sealed_off set gone own_go lasts tasks tasks_too change change_too same fewer b
+
+  abbrev after_part : World ℕ
+  after_part =
+      ended_part world names is sealed_off set gone own_go lasts tasks tasks_too change change_too same fewer b
+
+  less : AreLess world names set after_world after_part
+  less = ended_less world names is sealed_off set gone own_go lasts tasks tasks_too change change_too same fewer b
+
+  abbrev t_part : World ℕ
+  t_part = left_part world names is sealed_off gone own_go
+
+  abbrev after : Mount ℕ → Mount ℕ
+  after = ended_mount b t_part part gone
+
+  abbrev living : World ℕ
+  living = without_dead_mounts nat_eq after_part
+
+  shape : (m : Mount ℕ) → KeepsShape m (after m)
+  shape m = shape_kept b t_part part gone m
+
+  was : (y : Mount ℕ) → Among y living.mounts → (z : Mount ℕ) × Among z part.mounts × (y ≡ after z)
+  was y n =
+      among-from_map after part.mounts y (among-from_filter (mount_lives nat_eq after_part) after_part.mounts y n).0
+
+  located_lives : (z : Mount ℕ) (l : Location ℕ) → Among z part.mounts → Among l (all_locations after_part)
+      → l.mount ≡ (after z).number → Among (after z) living.mounts
+  located_lives z l at n e =
+      among-filter (mount_lives nat_eq after_part) after_part.mounts (after z) (among-map after part.mounts z at)
+      (or_right (is_some (after z).namespace) (is_located nat_eq after_part (after z).number)
+      (any_from_among (λ (p : Location ℕ). nat_eq (after z).number p.mount) (all_locations after_part) l n
+      (eq-eqb (after z).number l.mount (sym e))))
+
+  one_living : OneNumberEach living
+  one_living =
+      pair-filter (λ (p q : Mount ℕ). nat_eq p.number q.number) (mount_lives nat_eq after_part) after_part.mounts
+      (pair-map (λ (p q : Mount ℕ). nat_eq p.number q.number)
+      (λ (p q : Mount ℕ). nat_eq p.number q.number) after part.mounts
+      (λ p q m n e. ap (λ i. nat_eq i (after q).number) (shape p).number
+      ∙ ap (nat_eq p.number) (shape q).number ∙ e)
+      (part_one_number world names is))
+
+  number_kept : (m y : Mount ℕ) → kept m ≡ Some y → y.number ≡ m.number
+  number_kept m y e =
+      ⊎_elim (λ its. ap (λ (q : Mount ℕ). q.number) (sym its)) (λ stub. ap (λ (q : Mount ℕ). q.number) (sym stub.0))
+      (kept_how world names old m y e)
+
+  located_so : (l : Location ℕ) → Among l (locations new) → (y : Mount ℕ) × Among y living.mounts × (l.mount ≡ y.number)
+  located_so l m =
+      let on = place_shown world names is sealed_off set gone own_go lasts
+      tasks tasks_too change change_too same fewer b l
+      (subst (λ ts. Among l (locations ts)) same m) in
+      let shown : (y : Mount ℕ) × (kept on.0 ≡ Some y) = (on.3, on.4) in
+      let there = among-filter_map kept world.mounts on.0 shown.0 on.1 shown.1 in
+      let t = among-from_flat_map locations_of new l m in
+      let number : l.mount ≡ (after shown.0).number =
+      on.2 ∙ sym (number_kept on.0 shown.0 shown.1) ∙ sym (shape shown.0).number in (
+        after shown.0,
+        located_lives shown.0 l there
+            (among-flat_map locations_of tasks_too t.0 l
+            (among-from_filter (is_member_task set) tasks_too t.0 t.1).0 t.2)
+            number,
+        number,
+      )
+
+  parents_so : (y : Mount ℕ) (l : Location ℕ) → Among y living.mounts → y.mount_point ≡ Some l
+      → (n : ℕ) × (y.namespace ≡ Some n) × (u : Mount ℕ) × Among u living.mounts × (l.mount ≡ u.number)
+      × (u.namespace ≡ Some n)
+  parents_so y l n point =
+      let up = mount_parent after_part kept_there y l
+      (among-from_filter (mount_lives nat_eq after_part) after_part.mounts y n).0 point in (
+        up.0,
+        up.1,
+        up.2,
+        among-filter (mount_lives nat_eq after_part) after_part.mounts up.2 up.3
+            (or_left (is_some up.2.namespace) (is_located nat_eq after_part up.2.number) (ap is_some up.5)),
+        up.4,
+        up.5,
+      )
+
+  -- a mount of theirs is theirs after, or in no namespace
+  own_after : (z : Mount ℕ) → Among z world.mounts → is_own world names old z ≡ true →
+      (is_own world names new (after z) ≡ true) ⊎ ((after z).namespace ≡ None)
+  own_after z at own =
+      ⊎_elim (λ out. inr out.0)
+      (λ stays. inl (ap (λ ts. is_own world names ts (after z)) same
+      ∙ ap (holds_of (λ i. list_any (λ (t : Task ℕ). nat_eq i t.namespace) (filter (is_member_task set) tasks))) stays.0
+      ∙ still z at stays.2 own))
+      (placed_so b t_part part gone z)
+
+  none_after : (z : Mount ℕ) → z.namespace ≡ None → (after z).namespace ≡ None
+  none_after z e = ⊎_elim (λ out. out.0) (λ stays. stays.0 ∙ e) (placed_so b t_part part gone z)
+
+  in_or_out : (z : Mount ℕ) → Among z part.mounts
+      → (is_own world names new (after z) ≡ true) ⊎ ((after z).namespace ≡ None)
+  in_or_out z n =
+      let from = among-from_filter_map kept world.mounts z n in
+      ⊎_elim
+      (λ same. ⊎_elim (own_after z (subst (λ q. Among q world.mounts) same from.1)) (λ none. inr (none_after z none))
+      (part_mount world names is from.0 z from.1 from.2))
+      (λ stub. inr (none_after z (ap (λ (q : Mount ℕ). q.namespace) (sym stub.0))))
+      (kept_how world names old from.0 z from.2)
+
+  pub alone : (number : ℕ) → NoOthers living set number
+  alone number = record {
+    mounts = λ y n e. let from = was y n in
+        subst (λ (q : Mount ℕ). (is_own world names new q ≡ true) ⊎ (q.namespace ≡ None)) (sym from.2)
+        (in_or_out from.0 from.1);
+    locations = λ l m e. let t = among-from_flat_map locations_of tasks_too l m in
+        among-flat_map locations_of new t.0 l (among-filter (is_member_task set) tasks_too t.0 t.1 (all t.0 t.1)) t.2;
+  }
+
+  stood_so : (y : Mount ℕ) → Among y living.mounts → is_at nat_eq (roots_and_directories new) y ≡ true
+      → (is_own world names new y ≡ true) ⊎ (y.mount_point ≡ None)
+  stood_so y n h = by y.mount_point refl
+    where
+      by : (o : Option (Location ℕ)) → y.mount_point ≡ o → (is_own world names new y ≡ true) ⊎ (y.mount_point ≡ None)
+      by None e = inr e
+      by (Some l) e =
+          let up = parents_so y l n e in
+          ⊎_elim inl (λ none. none_is_some up.0 (sym none ∙ up.1)) ((alone y.filesystem).mounts y n refl)
+
+  pub ended_part_ready : Ready living set (used_filesystems nat_eq after_world set) (own_lowers nat_eq after_world set)
+  ended_part_ready = record {
+    used_are = used_same after_part living set (sees_living after_part set)
+        ∙ less_used world names is set after_world after_part less;
+    lowers_are = lowers_same after_part living set (sees_living after_part set)
+        ∙ less_lowers world names is set after_world after_part less;
+    one = one_living;
+    lives = λ y n. (among-from_filter (mount_lives nat_eq after_part) after_part.mounts y n).1;
+    located = located_so;
+    parents = parents_so;
+    stood = stood_so;
+    one_filesystem = numbers_in_part world names is;
+    plain = plain_in_part world names is;
+    free = λ y m u. inl (record { itself = alone y.number; overlays = λ merged n has. alone merged.number });
+    cut = cut_in_part world names is set after_world after_part less;
+  }

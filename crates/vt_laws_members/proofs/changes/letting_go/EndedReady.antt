@@ -1,0 +1,260 @@
+-- Where mounts of theirs are detached, the world is ready to be swept.
+use Rattle.std.proofs.Common.{◌≡◌, refl, sym, ap, subst, ◌∙◌, ◌⊎◌, inl, inr, ⊎_elim, ℕ, nat_eq, Bool, true, false, true≢false, List, Option, Some, None, filter, is_some, not, ◌||◌, eq-eqb, eqb-true}
+use Rattle.std.specs.Prelude.{option_map}
+use Rattle.std.specs.List.{list_all, list_any}
+use Rattle.std.proofs.lemmas.Bool.{and_parts, not-true, or_cases, or_left, or_right}
+use Rattle.vt_spec.specs.Language.Calls.{TaskName}
+use Rattle.vt_spec.specs.Lists.{holds_of}
+use Rattle.vt_spec.specs.Machine.Detach.{is_going, mount_point_left}
+use Rattle.vt_spec.specs.Machine.Invariants.{IsWorld, MountInvariants}
+use Rattle.vt_spec.specs.Machine.Locked.{overlays}
+use Rattle.vt_spec.specs.Machine.Mounts.{Location, Mount}
+use Rattle.vt_spec.specs.Machine.Sealed.{is_at, is_member_task, is_own_namespace, locations, members, no_outsider_on, other_mounts, outsiders, own_lowers, roots_and_directories, sealed, used_alone, used_filesystems, wholly_locked}
+use Rattle.vt_spec.specs.Machine.Settled.{has_layer_on, is_located, mount_lives, without_dead_mounts}
+use Rattle.vt_spec.specs.Machine.World.{Filesystem, Task, World, all_locations, is_overlay, locations_of, mount_at, mount_numbered}
+use Rattle.vt_spec.proofs.Lists.{Among, among-filter, among-flat_map, among-from_filter, among-from_flat_map, among-from_map, among-map, among_from_list_all, among_numbers, any_among, any_from_among, none_among, pair-filter}
+use Rattle.vt_laws_mounts.specs.Mounts.Invariants.{OneNumberEach}
+use Rattle.vt_laws_mounts.proofs.mounts.MountsReplaced.{found_itself}
+use Rattle.vt_laws_sealed.proofs.part.part.Observed.{lowers_same, used_same}
+use Rattle.vt_laws_sealed.proofs.part.part.PartOfPart.{is_own}
+use Rattle.vt_laws_sealed.proofs.part.seals.ByPart.{used_are_free}
+use Rattle.vt_laws_members.proofs.judging.Grounds.{nowhere_stands}
+use Rattle.vt_laws_members.proofs.changes.letting_go.Changed.{mount_under, mount_parent}
+use Rattle.vt_laws_members.proofs.changes.letting_go.LessSeen.{used_was}
+use Rattle.vt_laws_members.proofs.changes.letting_go.NamespaceLess.{KeepsShape, SetIsLess, ended, ended_less, ended_mount, ended_part, one_after, place_shown, placed_so, root_ground, shape_kept}
+use Rattle.vt_laws_members.proofs.changes.letting_go.Ready.{Alone, NoOthers, Ready, layered_overlay}
+use Rattle.vt_laws_members.proofs.changes.letting_go.Regrouped.{left}
+use Rattle.vt_laws_members.proofs.changes.letting_go.WorldReady.{all_named_there, plain_in, sees_living, whole_cut}
+
+module _ (world : World ℕ) (names : List TaskName) (is : IsWorld nat_eq world)
+    (sealed_off : sealed nat_eq world names ≡ true) (set : List TaskName) (gone : List ℕ)
+    (own_go : (m : Mount ℕ) → Among m world.mounts → is_going nat_eq gone m.number ≡ true
+    → is_own world names (members world names) m ≡ true)
+    (lasts : ℕ → Bool) (tasks tasks_too : List (Task ℕ))
+    (change change_too : ℕ)
+    (same : filter (is_member_task set) tasks_too ≡ filter (is_member_task set) tasks)
+    (fewer : SetIsLess world names is set tasks)
+    (others : (l : Location ℕ) → Among l (locations (filter (λ t. not (is_member_task set t)) tasks))
+    → Among l (locations (outsiders world names)))
+    (still : (m : Mount ℕ) → Among m world.mounts → is_going nat_eq gone m.number ≡ false
+    → is_own world names (members world names) m ≡ true → is_own world names (filter (is_member_task set) tasks) m
+    ≡ true)
+    (b : Bool)
+    (kept : MountInvariants nat_eq
+    (ended world names is sealed_off set gone own_go lasts tasks tasks_too change change_too same fewer b)) where
+  abbrev old : List (Task ℕ)
+  old = members world names
+
+  abbrev new : List (Task ℕ)
+  new = filter (is_member_task set) tasks
+
+  abbrev after_world : World ℕ
+  after_world =
+      ended world names is sealed_off set gone own_go lasts tasks tasks_too change change_too same fewer b
+
+  abbrev after : Mount ℕ → Mount ℕ
+  after = ended_mount b (left world names is sealed_off gone own_go) world gone
+
+  abbrev living : World ℕ
+  living = without_dead_mounts nat_eq after_world
+
+  was : (y : Mount ℕ) → Among y living.mounts → (m : Mount ℕ) × Among m world.mounts × (y ≡ after m)
+  was y n =
+      among-from_map after world.mounts y (among-from_filter (mount_lives nat_eq after_world) after_world.mounts y n).0
+
+  located_lives : (m : Mount ℕ) (l : Location ℕ) → Among m world.mounts → Among l (all_locations after_world)
+      → l.mount ≡ m.number → Among (after m) living.mounts
+  located_lives m l at n e =
+      among-filter (mount_lives nat_eq after_world) after_world.mounts (after m) (among-map after world.mounts m at)
+      (or_right (is_some (after m).namespace) (is_located nat_eq after_world (after m).number)
+      (any_from_among (λ (p : Location ℕ). nat_eq (after m).number p.mount) (all_locations after_world) l n
+      (eq-eqb (after m).number l.mount (number m ∙ sym e))))
+    where
+      number : (m : Mount ℕ) → (after m).number ≡ m.number
+      number m = (shape_kept b (left world names is sealed_off gone own_go) world gone m).number
+
+  of_all : (l : Location ℕ) → Among l (locations new) → Among l (all_locations after_world)
+  of_all l m =
+      let t = among-from_flat_map locations_of new l m in
+      among-flat_map locations_of tasks t.0 l (among-from_filter (is_member_task set) tasks t.0 t.1).0 t.2
+
+  shape : (m : Mount ℕ) → KeepsShape m (after m)
+  shape m = shape_kept b (left world names is sealed_off gone own_go) world gone m
+
+  one_living : OneNumberEach living
+  one_living =
+      pair-filter (λ (p q : Mount ℕ). nat_eq p.number q.number) (mount_lives nat_eq after_world) after_world.mounts
+      (one_after world names is sealed_off set gone own_go lasts tasks tasks_too change change_too same fewer b)
+
+  -- a mount in a namespace of theirs is theirs after, or in none
+  own_after : (m : Mount ℕ) (n : ℕ) → Among m world.mounts → m.namespace ≡ Some n
+      → is_own_namespace nat_eq world names n ≡ true
+      → (is_own world names new (after m) ≡ true) ⊎ ((after m).namespace ≡ None)
+  own_after m n at e own =
+      ⊎_elim (λ out. inr out.0)
+      (λ stays. inl (ap (holds_of (λ i. list_any (λ (t : Task ℕ). nat_eq i t.namespace) new)) stays.0
+      ∙ still m at stays.2 (ap (holds_of (is_own_namespace nat_eq world names)) e ∙ own)))
+      (placed_so b (left world names is sealed_off gone own_go) world gone m)
+
+  none_after : (m : Mount ℕ) → m.namespace ≡ None → (after m).namespace ≡ None
+  none_after m e =
+      ⊎_elim (λ out. out.0) (λ stays. stays.0 ∙ e)
+      (placed_so b (left world names is sealed_off gone own_go) world gone m)
+
+  -- where others have no foothold
+  module _ (number : ℕ) (none : no_outsider_on nat_eq world names number ≡ true) where
+    abbrev nobody : (list_any (λ (m : Mount ℕ). nat_eq number m.filesystem) (other_mounts nat_eq world names) ≡ false)
+        × (list_any (λ l. nat_eq number (mount_at nat_eq world l).filesystem) (locations (outsiders world names))
+        ≡ false)
+    nobody =
+        let both = and_parts (not
+        (list_any (λ (m : Mount ℕ). nat_eq number m.filesystem) (other_mounts nat_eq world names)))
+        (not (list_any (λ l. nat_eq number (mount_at nat_eq world l).filesystem)
+        (locations (outsiders world names)))) none in
+        (not-true _ both.0, not-true _ both.1)
+
+    by_mount : (m : Mount ℕ) → Among m world.mounts → m.filesystem ≡ number → (o : Option ℕ) → m.namespace ≡ o
+        → (is_own world names new (after m) ≡ true) ⊎ ((after m).namespace ≡ None)
+    by_mount m n e None f = inr (none_after m f)
+    by_mount m n e (Some j) f = which (is_own_namespace nat_eq world names j) refl
+      where
+        which : (c : Bool) → is_own_namespace nat_eq world names j ≡ c
+            → (is_own world names new (after m) ≡ true) ⊎ ((after m).namespace ≡ None)
+        which true own = own_after m j n f own
+        which false other =
+            absurd (true≢false
+            (sym (eq-eqb number m.filesystem (sym e))
+            ∙ none_among (λ (y : Mount ℕ). nat_eq number y.filesystem) (other_mounts nat_eq world names) nobody.0 m
+            (among-filter (λ (y : Mount ℕ). holds_of (λ i. not (is_own_namespace nat_eq world names i)) y.namespace)
+            world.mounts m n
+            (ap (holds_of (λ i. not (is_own_namespace nat_eq world names i))) f ∙ ap not other))))
+
+    mounts_own : (y : Mount ℕ) → Among y living.mounts → y.filesystem ≡ number
+        → (is_own world names new y ≡ true) ⊎ (y.namespace ≡ None)
+    mounts_own y n e =
+        let from = was y n in
+        subst (λ (q : Mount ℕ). (is_own world names new q ≡ true) ⊎ (q.namespace ≡ None)) (sym from.2)
+        (by_mount from.0 from.1
+        (sym (shape from.0).filesystem ∙ ap (λ (q : Mount ℕ). q.filesystem) (sym from.2) ∙ e) from.0.namespace refl)
+
+    locations_own : (l : Location ℕ) → Among l (all_locations living) → (mount_at nat_eq living l).filesystem ≡ number
+        → Among l (locations new)
+    locations_own l m e =
+        let t = among-from_flat_map locations_of tasks l m in
+        by t.0 t.1 t.2 (is_member_task set t.0) refl
+      where
+        by : (t : Task ℕ) → Among t tasks → Among l (locations_of t) → (c : Bool) → is_member_task set t ≡ c
+            → Among l (locations new)
+        by t n at true member =
+            among-flat_map locations_of new t l (among-filter (is_member_task set) tasks t n member) at
+        by t n at false other =
+            let out = others l (among-flat_map locations_of (filter (λ y. not (is_member_task set y)) tasks) t l
+            (among-filter (λ y. not (is_member_task set y)) tasks t n (ap not other)) at) in
+            let from = among-from_flat_map locations_of (outsiders world names) l out in
+            let under = mount_under world names is sealed_off l
+            (among-flat_map locations_of world.tasks from.0 l
+            (among-from_filter (λ y. not (is_member_task names y)) world.tasks from.0 from.1).0 from.2) in
+            let alive = located_lives under.0 l under.1 m under.2 in
+            let shows : (mount_at nat_eq living l).filesystem ≡ (mount_at nat_eq world l).filesystem =
+            ap (λ i. (mount_numbered nat_eq living i).filesystem) (under.2 ∙ sym (shape under.0).number)
+            ∙ ap (λ (q : Mount ℕ). q.filesystem) (found_itself living.mounts one_living (after under.0) alive)
+            ∙ (shape under.0).filesystem
+            ∙ ap (λ (q : Mount ℕ). q.filesystem) (sym (found_itself world.mounts is.mounts.one_number under.0 under.1))
+            ∙ sym (ap (λ i. (mount_numbered nat_eq world i).filesystem) under.2) in
+            absurd (true≢false
+            (sym (eq-eqb number (mount_at nat_eq world l).filesystem (sym (sym shows ∙ e)))
+            ∙ none_among (λ q. nat_eq number (mount_at nat_eq world q).filesystem) (locations (outsiders world names))
+            nobody.1 l out))
+
+    pub no_others : NoOthers living set number
+    no_others = record { mounts = mounts_own; locations = locations_own }
+
+  pub alone : (number : ℕ) → used_alone nat_eq world names number ≡ true → Alone living set number
+  alone number h =
+      let both = and_parts (no_outsider_on nat_eq world names number)
+      (list_all (λ merged. not (has_layer_on nat_eq number merged) || no_outsider_on nat_eq world names merged.number)
+      (overlays world)) h in
+      record {
+        itself = no_others number both.0;
+        overlays = λ merged m has. no_others merged.number (by both.1 merged m has);
+      }
+    where
+      by : list_all (λ merged. not (has_layer_on nat_eq number merged)
+          || no_outsider_on nat_eq world names merged.number)
+          (overlays world) ≡ true → (merged : Filesystem ℕ) → Among merged world.filesystems
+          → has_layer_on nat_eq number merged ≡ true → no_outsider_on nat_eq world names merged.number ≡ true
+      by all merged m has =
+          ⊎_elim (λ none. absurd (true≢false (sym has ∙ not-true (has_layer_on nat_eq number merged) none))) (λ h. h)
+          (or_cases (not (has_layer_on nat_eq number merged)) (no_outsider_on nat_eq world names merged.number)
+          (among_from_list_all (λ y. not (has_layer_on nat_eq number y) || no_outsider_on nat_eq world names y.number)
+          (overlays world) all merged
+          (among-filter is_overlay world.filesystems merged m (layered_overlay number merged has))))
+
+  located_so : (l : Location ℕ) → Among l (locations new) → (y : Mount ℕ) × Among y living.mounts × (l.mount ≡ y.number)
+  located_so l m =
+      let on = place_shown world names is sealed_off set gone own_go lasts
+      tasks tasks_too change change_too same fewer b l m in
+      (after on.0, located_lives on.0 l on.1 (of_all l m) on.2, on.2 ∙ sym (shape on.0).number)
+
+  parents_so : (y : Mount ℕ) (l : Location ℕ) → Among y living.mounts → y.mount_point ≡ Some l
+      → (n : ℕ) × (y.namespace ≡ Some n) × (u : Mount ℕ) × Among u living.mounts × (l.mount ≡ u.number)
+      × (u.namespace ≡ Some n)
+  parents_so y l n point =
+      let up = mount_parent after_world kept y l
+      (among-from_filter (mount_lives nat_eq after_world) after_world.mounts y n).0 point in (
+        up.0,
+        up.1,
+        up.2,
+        among-filter (mount_lives nat_eq after_world) after_world.mounts up.2 up.3
+            (or_left (is_some up.2.namespace) (is_located nat_eq after_world up.2.number) (ap is_some up.5)),
+        up.4,
+        up.5,
+      )
+
+  stood_so : (y : Mount ℕ) → Among y living.mounts → is_at nat_eq (roots_and_directories new) y ≡ true
+      → (is_own world names new y ≡ true) ⊎ (y.mount_point ≡ None)
+  stood_so y n h =
+      let from = was y n in
+      let l = any_among (λ (p : Location ℕ). nat_eq p.mount y.number) (roots_and_directories new) h in
+      let ground = root_ground world names is sealed_off set gone own_go lasts
+      tasks tasks_too change change_too same fewer b l.0 l.1 from.0 from.1
+      (eqb-true l.0.mount from.0.number
+      (ap (nat_eq l.0.mount) (sym (ap (λ (q : Mount ℕ). q.number) from.2 ∙ (shape from.0).number)) ∙ l.2)) in
+      subst (λ (q : Mount ℕ). (is_own world names new q ≡ true) ⊎ (q.mount_point ≡ None)) (sym from.2)
+      (by from.0 from.1 (⊎_elim inl (λ stood. inr stood.0) ground) from.0.namespace refl from.0.mount_point refl)
+    where
+      by : (m : Mount ℕ) → Among m world.mounts → (is_own world names old m ≡ true) ⊎ (m.namespace ≡ None)
+          → (o : Option ℕ) → m.namespace ≡ o → (p : Option (Location ℕ)) → m.mount_point ≡ p
+          → (is_own world names new (after m) ≡ true) ⊎ ((after m).mount_point ≡ None)
+      by m at how o e None f =
+          inr (⊎_elim (λ out. out.1) (λ stays. stays.1 ∙ ap (option_map (mount_point_left nat_eq world gone)) f)
+          (placed_so b (left world names is sealed_off gone own_go) world gone m))
+      by m at (inr none) o e (Some l) f = absurd (nowhere_stands world names is.mounts m l at none f)
+      by m at (inl own) None e (Some l) f = absurd (nowhere_stands world names is.mounts m l at e f)
+      by m at (inl own) (Some j) e (Some l) f =
+          ⊎_elim (λ out. inr out.1)
+          (λ stays. inl (ap (holds_of (λ i. list_any (λ (t : Task ℕ). nat_eq i t.namespace) new)) stays.0
+          ∙ still m at stays.2 own))
+          (placed_so b (left world names is sealed_off gone own_go) world gone m)
+
+  pub ended_ready : Ready living set (used_filesystems nat_eq after_world set) (own_lowers nat_eq after_world set)
+  ended_ready = record {
+    used_are = used_same after_world living set (sees_living after_world set);
+    lowers_are = lowers_same after_world living set (sees_living after_world set);
+    one = one_living;
+    lives = λ y n. (among-from_filter (mount_lives nat_eq after_world) after_world.mounts y n).1;
+    located = located_so;
+    parents = parents_so;
+    stood = stood_so;
+    one_filesystem = is.files.one_filesystem;
+    plain = plain_in world names is;
+    free = λ x m u. ⊎_elim (λ h. inl (alone x.number h)) (λ h. inr (all_named_there world names is x m h))
+        (or_cases (used_alone nat_eq world names x.number) (wholly_locked nat_eq world names x.number)
+        (used_are_free world names sealed_off x.number
+        (among_numbers (used_filesystems nat_eq world names) x.number
+        (used_was world names is set after_world
+        (ended_part world names is sealed_off set gone own_go lasts tasks tasks_too change change_too same fewer b)
+        (ended_less world names is sealed_off set gone own_go lasts tasks tasks_too change change_too same fewer b)
+        x.number u))));
+    cut = λ x m unused low. whole_cut world is (own_lowers nat_eq after_world set) x m;
+  }

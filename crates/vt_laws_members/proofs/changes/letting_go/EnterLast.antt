@@ -1,0 +1,297 @@
+-- Each setns(2) ends in the part as in the world: where the caller was the last task of its namespace, that one ends.
+use Rattle.std.proofs.Common.{◌≡◌, refl, sym, ap, subst, ◌∙◌, ◌⊎◌, ⊎_elim, ℕ, nat_eq, Bool, true, false, true≢false, List, [], Option, Some, None, Ok, Err, filter, map, not, ◌||◌, eq-eqb, eqb-true}
+use Rattle.std.specs.Prelude.{IfOk, is_ok, unwrap_or}
+use Rattle.std.specs.List.{list_all, list_any}
+use Rattle.std.proofs.lemmas.Bool.{not-true, or_left, or_right}
+use Rattle.vt_spec.specs.Language.Answers.Answer.{Done}
+use Rattle.vt_spec.specs.Language.Calls.{TaskName, same_name}
+use Rattle.vt_spec.specs.Language.Calls.Call.{Exit, Setns}
+use Rattle.vt_spec.specs.Lists.{Fresh, holds_of}
+use Rattle.vt_spec.specs.Machine.Detach.{after_going, is_going}
+use Rattle.vt_spec.specs.Machine.Invariants.{MountInvariants}
+use Rattle.vt_spec.specs.Machine.Judge.{Judgement, judge_in}
+use Rattle.vt_spec.specs.Machine.Mounts.{Mount}
+use Rattle.vt_spec.specs.Machine.Namespaces.{entered_at, has_tasks, namespaces_ended}
+use Rattle.vt_spec.specs.Machine.Outcomes.{granted}
+use Rattle.vt_spec.specs.Machine.Permits.Permit.{ToEnterNamespace}
+use Rattle.vt_spec.specs.Machine.Policy.{numbers_raised, policy}
+use Rattle.vt_spec.specs.Machine.Receives.{lost_a_group}
+use Rattle.vt_spec.specs.Machine.Sealed.{is_member_task, is_own_namespace, members, part_of}
+use Rattle.vt_spec.specs.Machine.Settled.{settled}
+use Rattle.vt_spec.specs.Machine.World.{Namespace, Task, World, replaced_if_called, task_called}
+use Rattle.vt_spec.proofs.Lists.{Among, among-filter, among-from_filter, among-from_map, among-map, among_from_list_all, any_among, any_from_among, list_all_from_among, none_among, none_from_among}
+use Rattle.vt_laws_mounts.proofs.ends.Ending.{ended_namespaces_keep_mounts}
+use Rattle.vt_laws_worlds.proofs.kept.MountsAlike.{same_mounts}
+use Rattle.vt_laws_sealed.proofs.part.part.PartOfPart.{is_own}
+use Rattle.vt_laws_members.specs.Changes.Changes.{EndAlike, EndsAlike, IsCallOfTheirs, grown}
+use Rattle.vt_laws_members.specs.Changes.LettingGo.{SetnsEndsAlike}
+use Rattle.vt_laws_members.proofs.changes.looks.Told.{member_called, ran, same_caller}
+use Rattle.vt_laws_members.proofs.changes.tasks.Denied.{denial_ends_alike, run_by, same_judgement, unnamed_ends_alike}
+use Rattle.vt_laws_members.proofs.changes.letting_go.Callers.{all_in_set, of_set, others_left, places_left, replaced_apart, roots_left, same_set}
+use Rattle.vt_laws_members.proofs.changes.letting_go.CutNamespace.{in_same, in_space, numbers_in}
+use Rattle.vt_laws_members.proofs.changes.letting_go.Detached.{detached_parts}
+use Rattle.vt_laws_members.proofs.changes.letting_go.Entering.{Enters, entered, entered_itself, entered_was, entering_alike, enters, exit_it, mine, replaced, root_alike, stands}
+use Rattle.vt_laws_members.proofs.changes.letting_go.ExitLast.{ends_so}
+use Rattle.vt_laws_members.proofs.changes.letting_go.Heard.{own_in, space_in_part}
+use Rattle.vt_laws_members.proofs.changes.letting_go.Leaving.{in_world, part_listed}
+use Rattle.vt_laws_members.proofs.changes.letting_go.NamespaceLess.{SetIsLess, ended, ended_part}
+use Rattle.vt_laws_members.proofs.changes.letting_go.PartMounts.{part_mounts}
+use Rattle.vt_laws_members.proofs.changes.letting_go.Regrouped.{flags_same}
+use Rattle.vt_laws_worlds.proofs.worlds.CallsKept.{name_found}
+
+module _ (world : World ℕ) (names : List TaskName) (name called_so : TaskName)
+    (it : IsCallOfTheirs world names name (Setns called_so)) (task : Task ℕ)
+    (called : task_called world name ≡ Some task) (target : Task ℕ) (target_in : Among target (members world names))
+    (away : nat_eq task.namespace target.namespace ≡ false)
+    (empty : list_any (λ (t : Task ℕ). nat_eq task.namespace t.namespace)
+    (filter (λ (t : Task ℕ). not (same_name name t.name)) world.tasks) ≡ false) where
+  abbrev part : World ℕ
+  part = part_of nat_eq world names
+
+  abbrev old : List (Task ℕ)
+  old = members world names
+
+  abbrev k : ℕ
+  k = task.namespace
+
+  exits : IsCallOfTheirs world names name Exit
+  exits = exit_it world names name called_so it task called target target_in
+
+  abbrev moved : Task ℕ → Task ℕ
+  moved = replaced world names name called_so it task called target target_in
+
+  abbrev caller : Task ℕ
+  caller = mine world names name called_so it task called target target_in
+
+  abbrev rest : List (Task ℕ)
+  rest = map moved world.tasks
+
+  abbrev rest_too : List (Task ℕ)
+  rest_too = map moved part.tasks
+
+  abbrev in_space_of : ℕ → Task ℕ → Bool
+  in_space_of n t = nat_eq n t.namespace
+
+  known : (t : Task ℕ) → Among t old → Among t world.tasks
+  known = in_world world names name exits task called
+
+  how : (t : Task ℕ) → Among t world.tasks
+      → ((moved t ≡ caller) × (task ≡ t)) ⊎ ((moved t ≡ t) × (same_name task.name t.name ≡ false))
+  how = replaced_apart world names name (Setns called_so) it task called caller refl
+
+  set_is : filter (is_member_task names) rest ≡ map moved old
+  set_is =
+      of_set world names name (Setns called_so) it task called caller
+      (stands world names name called_so it task called target target_in) world.tasks
+
+  less : SetIsLess world names it.is names rest
+  less = record {
+    entered = λ n h. entered_was world names name called_so it task called target target_in n
+        (sym (ap (list_any (in_space_of n)) set_is) ∙ h);
+    roots = roots_left world names name (Setns called_so) it task called caller
+        (stands world names name called_so it task called target target_in);
+    places = places_left world names name (Setns called_so) it task called caller
+        (stands world names name called_so it task called target target_in);
+  }
+
+  theirs_ends : is_own_namespace nat_eq world names k ≡ true
+  theirs_ends =
+      any_from_among (in_space_of k) old task (member_called world names it.is it.sealed_off name it.theirs task called)
+      (eq-eqb k k refl)
+
+  abbrev gone : List ℕ
+  gone = numbers_in world k
+
+  gone_same : (m : Mount ℕ) → Among m world.mounts → is_going nat_eq gone m.number ≡ in_space k m
+  gone_same m n = in_same world k it.is.mounts.one_number m n
+
+  own_go : (m : Mount ℕ) → Among m world.mounts → is_going nat_eq gone m.number ≡ true → is_own world names old m ≡ true
+  own_go m there h = own_in world names it.is it.sealed_off k theirs_ends m (sym (gone_same m there) ∙ h)
+
+  abbrev lasts : ℕ → Bool
+  lasts n = not (nat_eq k n)
+
+  -- other namespaces have the tasks that they had, and this one has none
+  still_in : (n : ℕ) → nat_eq k n ≡ false → (list : List (Task ℕ)) → ((t : Task ℕ) → Among t list → Among t world.tasks)
+      → list_any (in_space_of n) list ≡ true → list_any (in_space_of n) (map moved list) ≡ true
+  still_in n apart list within h =
+      let at = any_among (in_space_of n) list h in
+      any_from_among (in_space_of n) (map moved list) (moved at.0) (among-map moved list at.0 at.1)
+      (⊎_elim
+      (λ its. absurd (true≢false (sym (eq-eqb k n
+      (ap (λ (x : Task ℕ). x.namespace) its.1 ∙ sym (eqb-true n at.0.namespace at.2))) ∙ apart)))
+      (λ same. ap (in_space_of n) same.0 ∙ at.2) (how at.0 (within at.0 at.1)))
+
+  none_in : (list : List (Task ℕ)) → ((t : Task ℕ) → Among t list → Among t world.tasks)
+      → list_any (in_space_of k) (map moved list) ≡ false
+  none_in list within =
+      none_from_among (in_space_of k) (map moved list) (λ t m.
+      let from = among-from_map moved list t m in
+      ap (in_space_of k) from.2
+      ∙ ⊎_elim (λ its. ap (in_space_of k) its.0 ∙ away)
+      (λ same. ap (in_space_of k) same.0
+      ∙ none_among (in_space_of k) (filter (λ (t : Task ℕ). not (same_name name t.name)) world.tasks) empty from.0
+      (among-filter (λ (t : Task ℕ). not (same_name name t.name)) world.tasks from.0 (within from.0 from.1)
+      (ap not (ap (λ n. same_name n from.0.name) (name_found world name task called) ∙ same.1))))
+      (how from.0 (within from.0 from.1)))
+
+  mounts_stay : (m : Mount ℕ) → Among m world.mounts → is_going nat_eq gone m.number ≡ false
+      → is_own world names old m ≡ true → is_own world names (filter (is_member_task names) rest) m ≡ true
+  mounts_stay m there out own = by m.namespace (sym (gone_same m there) ∙ out) own
+    where
+      by : (o : Option ℕ) → holds_of (nat_eq k) o ≡ false → holds_of (is_own_namespace nat_eq world names) o ≡ true
+          → holds_of (λ n. list_any (in_space_of n) (filter (is_member_task names) rest)) o ≡ true
+      by None h own = own
+      by (Some n) h own = ap (list_any (in_space_of n)) set_is ∙ still_in n h old known own
+
+  abbrev flag : Bool
+  flag = list_any (lost_a_group nat_eq (record world { mounts = map (after_going nat_eq world gone) world.mounts }))
+      (map (after_going nat_eq world gone) world.mounts)
+
+  same : filter (is_member_task names) rest_too ≡ filter (is_member_task names) rest
+  same =
+      same_set world names name (Setns called_so) it task called caller
+      (stands world names name called_so it task called target target_in)
+
+  abbrev v : World ℕ
+  v =
+      ended world names it.is it.sealed_off names gone own_go lasts rest rest_too world.change part.change same less
+      flag
+
+  abbrev v_part : World ℕ
+  v_part =
+      ended_part world names it.is it.sealed_off names gone own_go lasts rest rest_too world.change part.change same
+      less flag
+
+  others_live : (w : World ℕ) (list : List (Task ℕ)) → ((t : Task ℕ) → Among t list → Among t world.tasks)
+      → ((n : Namespace ℕ) → Among n w.namespaces → list_any (in_space_of n.number) list ≡ true)
+      → list_all (λ (n : Namespace ℕ). nat_eq k n.number || has_tasks nat_eq (record w { tasks = map moved list }) n)
+      w.namespaces ≡ true
+  others_live w list within live =
+      list_all_from_among (λ (n : Namespace ℕ). nat_eq k n.number
+      || has_tasks nat_eq (record w { tasks = map moved list }) n) w.namespaces
+      (λ n m. by n m (nat_eq k n.number) refl)
+    where
+      by : (n : Namespace ℕ) → Among n w.namespaces → (b : Bool) → nat_eq k n.number ≡ b
+          → (nat_eq k n.number || has_tasks nat_eq (record w { tasks = map moved list }) n) ≡ true
+      by n m true e = or_left (nat_eq k n.number) _ e
+      by n m false e = or_right (nat_eq k n.number) _ (still_in n.number e list within (live n m))
+
+  world_ends : namespaces_ended nat_eq (record world { tasks = rest }) ≡ v
+  world_ends =
+      ends_so (record world { tasks = rest }) k gone refl it.is.namespaces.mounts_listed
+      (none_in world.tasks (λ t m. m))
+      (others_live world world.tasks (λ t m. m)
+      (λ n m. among_from_list_all (has_tasks nat_eq world) world.namespaces it.is.namespaces.namespaces_live n m))
+      flag refl
+
+  part_ends : namespaces_ended nat_eq (record part { tasks = rest_too }) ≡ v_part
+  part_ends =
+      ends_so (record part { tasks = rest_too }) k gone
+      (ap (map (λ (m : Mount ℕ). m.number)) (space_in_part world names it.is it.sealed_off k theirs_ends))
+      (part_listed world names name exits task called) (none_in part.tasks known)
+      (others_live part part.tasks known
+      (λ n m. (among-from_filter (λ (s : Namespace ℕ). list_any (in_space_of s.number) old) world.namespaces n m).1))
+      flag (sym (flags_same world names it.is it.sealed_off gone own_go))
+
+  kept : MountInvariants nat_eq v
+  kept =
+      subst (MountInvariants nat_eq) world_ends
+      (ended_namespaces_keep_mounts (record world { tasks = rest })
+      (same_mounts world (record world { tasks = rest }) refl refl it.is.mounts))
+
+  kept_there : MountInvariants nat_eq v_part
+  kept_there =
+      subst (MountInvariants nat_eq) part_ends
+      (ended_namespaces_keep_mounts (record part { tasks = rest_too })
+      (same_mounts part (record part { tasks = rest_too }) refl refl (part_mounts world names it.is it.sealed_off)))
+
+  abbrev left_one : World ℕ
+  left_one = numbers_raised nat_eq world name [] (settled nat_eq v)
+
+  abbrev left_too : World ℕ
+  left_too = numbers_raised nat_eq part name [] (settled nat_eq v_part)
+
+  parts : part_of nat_eq left_one names ≡ part_of nat_eq left_too names
+  parts =
+      detached_parts world names it.is it.sealed_off names gone own_go lasts rest rest_too world.change part.change
+      same less
+      (others_left world names name (Setns called_so) it task called caller
+      (stands world names name called_so it task called target target_in))
+      (all_in_set world names name (Setns called_so) it task called caller
+      (stands world names name called_so it task called target target_in)) mounts_stay flag kept kept_there name
+
+  pub last_setns_alike : (fresh supply : Fresh ℕ)
+      → judge_in nat_eq fresh world task (Setns called_so) ≡ Ok (ToEnterNamespace target.namespace)
+      → EndsAlike world names name (Setns called_so) fresh supply
+  last_setns_alike fresh supply judged =
+      let first : policy nat_eq fresh world name (Setns called_so) ≡ granted Done left_one =
+      ap (ran name (Setns called_so) world fresh) called
+      ∙ ap (run_by world names name (Setns called_so) it fresh supply world fresh task) judged
+      ∙ ap (λ w. granted Done (numbers_raised nat_eq world name [] (settled nat_eq w))) world_ends in
+      let second : policy nat_eq supply part name (Setns called_so) ≡ granted Done left_too =
+      ap (ran name (Setns called_so) part supply)
+      (same_caller world names it.is it.sealed_off name it.theirs ∙ called)
+      ∙ ap (run_by world names name (Setns called_so) it fresh supply part supply task)
+      (sym (same_judgement world names name (Setns called_so) it fresh supply task called) ∙ judged)
+      ∙ ap (λ o. granted Done (numbers_raised nat_eq part name [] (settled nat_eq (namespaces_ended nat_eq
+      (record part {
+        tasks = map (replaced_if_called (entered_at task target.namespace (unwrap_or o task.root))) part.tasks;
+      })))))
+      (root_alike world names name called_so it task called target target_in)
+      ∙ ap (λ w. granted Done (numbers_raised nat_eq part name [] (settled nat_eq w))) part_ends in
+      subst (λ p. EndAlike (grown names name (Setns called_so)
+      (policy nat_eq fresh world name (Setns called_so)).answer)
+      (policy nat_eq fresh world name (Setns called_so)) p) (sym second)
+      (subst (λ o. EndAlike (grown names name (Setns called_so) o.answer) o (granted Done left_too)) (sym first)
+      (record { answer = refl; part = parts }))
+
+-- by whether it stays, or another task does
+module _ (world : World ℕ) (names : List TaskName) (name called_so : TaskName)
+    (it : IsCallOfTheirs world names name (Setns called_so)) (task : Task ℕ)
+    (called : task_called world name ≡ Some task) (fresh supply : Fresh ℕ) where
+  abbrev stays : Task ℕ → Bool
+  stays t = not (same_name name t.name)
+
+  granted_alike : (target : Task ℕ) → Among target (members world names)
+      → judge_in nat_eq fresh world task (Setns called_so) ≡ Ok (ToEnterNamespace target.namespace)
+      → (b c : Bool) → nat_eq task.namespace target.namespace ≡ b
+      → list_any (λ (t : Task ℕ). nat_eq task.namespace t.namespace) (filter stays world.tasks) ≡ c
+      → EndsAlike world names name (Setns called_so) fresh supply
+  granted_alike target target_in judged true c e f =
+      entering_alike world names name called_so it task called target target_in
+      (entered_itself world names name called_so it task called target target_in
+      (sym (eqb-true task.namespace target.namespace e))) fresh supply judged
+  granted_alike target target_in judged false true e f =
+      let other = any_among (λ (t : Task ℕ). nat_eq task.namespace t.namespace) (filter stays world.tasks) f in
+      let from = among-from_filter stays world.tasks other.0 other.1 in
+      entering_alike world names name called_so it task called target target_in
+      (entered world names name called_so it task called target target_in other.0 from.0
+      (sym (eqb-true task.namespace other.0.namespace other.2)) (not-true (same_name name other.0.name) from.1))
+      fresh supply judged
+  granted_alike target target_in judged false false e f =
+      last_setns_alike world names name called_so it task called target target_in e f fresh supply judged
+
+  judged_by : (member : Among task (members world names)) (j : Judgement ℕ)
+      → judge_in nat_eq fresh world task (Setns called_so) ≡ j
+      → IfOk j (Enters world names it.is it.sealed_off task member)
+      → EndsAlike world names name (Setns called_so) fresh supply
+  judged_by member (Ok permit) judged its =
+      granted_alike its.0 its.1 (judged ∙ ap Ok its.2) (nat_eq task.namespace its.0.namespace)
+      (list_any (λ (t : Task ℕ). nat_eq task.namespace t.namespace) (filter stays world.tasks)) refl refl
+  judged_by member (Err deny) judged its =
+      denial_ends_alike world names name (Setns called_so) it fresh supply
+      (ap (λ o. is_ok (ran name (Setns called_so) world fresh o).answer) called
+      ∙ ap (λ j. is_ok
+      (run_by world names name (Setns called_so) it fresh supply world fresh task j).answer) judged)
+
+pub setns_ends_alike : SetnsEndsAlike
+setns_ends_alike world names name called_so it fresh supply = by (task_called world name) refl
+  where
+    by : (o : Option (Task ℕ)) → task_called world name ≡ o → EndsAlike world names name (Setns called_so) fresh supply
+    by None e = unnamed_ends_alike world names name (Setns called_so) it fresh supply e
+    by (Some task) e =
+        let member = member_called world names it.is it.sealed_off name it.theirs task e in
+        judged_by world names name called_so it task e fresh supply member
+        (judge_in nat_eq fresh world task (Setns called_so)) refl
+        (enters world names it.is it.sealed_off task member called_so (it.among_them called_so refl))

@@ -1,0 +1,258 @@
+-- A setns(2) that ends no namespace ends in the part as in the world.
+use Rattle.std.proofs.Common.{◌≡◌, refl, sym, ap, subst, ◌∙◌, inl, inr, ⊎_elim, ℕ, nat_eq, Bool, true, false, true≢false, List, [], ◌∷◌, Option, Some, None, Ok, map, not, ◌||◌, eq-eqb}
+use Rattle.std.specs.Prelude.{IfOk, is_some, ok_or, option_map, unwrap_or}
+use Rattle.std.specs.List.{list_any}
+use Rattle.vt_spec.specs.declared.errors.Rule.TheVariants.{K1, S2}
+use Rattle.vt_spec.specs.Errors.{and_then, denial, unless}
+use Rattle.vt_spec.specs.Language.Answers.Answer.{Done}
+use Rattle.vt_spec.specs.Language.Calls.{Call, TaskName, same_name}
+use Rattle.vt_spec.specs.Language.Calls.Call.{Exit, Setns}
+use Rattle.vt_spec.specs.Lists.{Fresh, holds_of, is_among}
+use Rattle.vt_spec.specs.Machine.Judge.{judge_in, setns_permit}
+use Rattle.vt_spec.specs.Machine.Mounts.{Location, Mount, root_of, topmost}
+use Rattle.vt_spec.specs.Machine.Namespaces.{entered_at, has_tasks, namespace_root, namespaces_ended}
+use Rattle.vt_spec.specs.Machine.Outcomes.{granted}
+use Rattle.vt_spec.specs.Machine.Permits.{Permit}
+use Rattle.vt_spec.specs.Machine.Permits.Permit.{ToEnterNamespace}
+use Rattle.vt_spec.specs.Machine.Policy.{numbers_raised}
+use Rattle.vt_spec.specs.Machine.Rules.Conditions.{lacks}
+use Rattle.vt_spec.specs.Machine.Sealed.{is_own_namespace, members, part_of, sealed}
+use Rattle.vt_spec.specs.Machine.Settled.{settled}
+use Rattle.vt_spec.specs.Machine.World.{Namespace, Task, World, mounts_of, replaced_if_called, root_mount, task_called}
+use Rattle.vt_spec.specs.Machine.Invariants.{IsWorld}
+use Rattle.vt_spec.specs.Rights.{cap_sys_admin, cap_sys_chroot}
+use Rattle.vt_spec.proofs.Found.{found_among}
+use Rattle.vt_spec.proofs.Lists.{Among, among-from_filter, among-from_map, among-map, among_from_list_all, any_among, any_from_among, list_all_from_among}
+use Rattle.vt_spec.proofs.Truths.{same_truth}
+use Rattle.vt_laws_later_calls.proofs.last_use.Groups.{none_lost}
+use Rattle.vt_laws_members.proofs.judging.Grounds.{IsTheirs, theirs_from, theirs_test}
+use Rattle.vt_laws_members.proofs.judging.MountTrees.{own_theirs}
+use Rattle.vt_laws_members.proofs.judging.SeenInPart.{root_theirs}
+use Rattle.vt_laws_sealed.proofs.part.walks.WalksAgree.{own_topmost, same_topmost}
+use Rattle.vt_laws_members.specs.Changes.Changes.{EndsAlike, IsCallOfTheirs}
+use Rattle.vt_laws_members.proofs.changes.letting_go.Callers.{StandsOnTheirs, moved_alike, replaced_how}
+use Rattle.vt_laws_members.proofs.changes.letting_go.Exiting.{in_old, none_ends, part_keeps}
+use Rattle.vt_laws_members.proofs.changes.letting_go.Heard.{own_in, space_in_part}
+use Rattle.vt_laws_members.proofs.changes.letting_go.Leaving.{in_world, its_name, part_listed}
+use Rattle.vt_laws_members.proofs.changes.letting_go.Moving.{On, alike, one, other}
+use Rattle.vt_laws_members.proofs.changes.looks.Granted.{of_rules}
+use Rattle.vt_laws_members.proofs.changes.looks.Told.{member_called}
+use Rattle.vt_laws_members.proofs.changes.tasks.Denied.{run_by, same_judgement}
+
+-- The permit of setns(2)
+module _ (world : World ℕ) (names : List TaskName) (is : IsWorld nat_eq world)
+    (sealed_off : sealed nat_eq world names ≡ true) (task : Task ℕ) (member : Among task (members world names)) where
+  abbrev pub Enters : Permit ℕ → Type 0
+  Enters permit = (target : Task ℕ) × Among target (members world names) × (permit ≡ ToEnterNamespace target.namespace)
+
+  enters_by : (called : TaskName) → is_among same_name called names ≡ true → (o : Option (Task ℕ))
+      → task_called world called ≡ o
+      → IfOk (and_then (ok_or (option_map (λ (t : Task ℕ). t.namespace) o) (denial S2)) (λ namespace.
+      unless ((lacks task cap_sys_admin || lacks task cap_sys_chroot, K1) ∷ []) (Ok (ToEnterNamespace namespace))))
+      Enters
+  enters_by called theirs None e = tt
+  enters_by called theirs (Some target) e =
+      of_rules Enters ((lacks task cap_sys_admin || lacks task cap_sys_chroot, K1) ∷ [])
+      (Ok (ToEnterNamespace target.namespace))
+      (target, member_called world names is sealed_off called theirs target e, refl)
+
+  pub enters : (called : TaskName) → is_among same_name called names ≡ true → IfOk
+      (setns_permit (one world names is sealed_off task member) task called) Enters
+  unfolding setns_permit
+  enters called theirs = enters_by called theirs (task_called world called) refl
+
+-- the task that is found has the name
+abbrev is_exit : Call → Bool
+is_exit Exit = true
+is_exit call = false
+
+module _ (world : World ℕ) (names : List TaskName) (name called_so : TaskName)
+    (it : IsCallOfTheirs world names name (Setns called_so)) (task : Task ℕ)
+    (called : task_called world name ≡ Some task) (target : Task ℕ)
+    (target_in : Among target (members world names)) where
+  abbrev part : World ℕ
+  part = part_of nat_eq world names
+
+  abbrev theirs : List (Task ℕ)
+  theirs = members world names
+
+  abbrev pub space : ℕ
+  space = target.namespace
+
+  pub exit_it : IsCallOfTheirs world names name Exit
+  exit_it = record {
+    is = it.is;
+    sealed_off = it.sealed_off;
+    theirs = it.theirs;
+    among_them = λ member e. absurd (true≢false (ap is_exit e));
+  }
+
+  member : Among task theirs
+  member = member_called world names it.is it.sealed_off name it.theirs task called
+
+  pub space_own : is_own_namespace nat_eq world names space ≡ true
+  space_own =
+      any_from_among (λ (t : Task ℕ). nat_eq space t.namespace) theirs target target_in (eq-eqb space space refl)
+
+  -- The root of the namespace
+  abbrev is_root : Mount ℕ → Bool
+  is_root m = not (is_some m.mount_point)
+
+  on_root : (m : Mount ℕ) → root_mount nat_eq world space ≡ Some m
+      → On world names it.is it.sealed_off task member m.number
+  on_root m e =
+      let from = among-from_filter (λ (x : Mount ℕ). holds_of (nat_eq space) x.namespace) world.mounts m
+      (found_among is_root (mounts_of nat_eq world space) m e) in
+      theirs_test world names it.is.mounts m.number
+      (own_theirs world names it.is m from.0 (own_in world names it.is it.sealed_off space space_own m from.1))
+
+  pub root_alike : namespace_root nat_eq part space ≡ namespace_root nat_eq world space
+  root_alike =
+      cc (space_in_part world names it.is it.sealed_off space space_own, by (root_mount nat_eq world space) refl)
+    where
+      by : (o : Option (Mount ℕ)) → root_mount nat_eq world space ≡ o
+          → option_map (λ m. topmost nat_eq part.mounts (root_of m)) o
+          ≡ option_map (λ m. topmost nat_eq world.mounts (root_of m)) o
+      by None e = refl
+      by (Some m) e =
+          ap Some (sym (same_topmost (one world names it.is it.sealed_off task member)
+          (other world names it.is it.sealed_off task member) task (On world names it.is it.sealed_off task member)
+          (alike world names it.is it.sealed_off task member).walks (root_of m) (on_root m e)))
+
+  abbrev pub root : Location ℕ
+  root = unwrap_or (namespace_root nat_eq world space) task.root
+
+  pub root_on : IsTheirs world names it.is.mounts root.mount
+  root_on = by (root_mount nat_eq world space) refl
+    where
+      by : (o : Option (Mount ℕ)) → root_mount nat_eq world space ≡ o
+          → IsTheirs world names it.is.mounts
+          (unwrap_or (option_map (λ m. topmost nat_eq world.mounts (root_of m)) o) task.root).mount
+      by None e = root_theirs world names it.is task member
+      by (Some m) e =
+          theirs_from world names it.is.mounts (topmost nat_eq world.mounts (root_of m)).mount
+          (own_topmost (one world names it.is it.sealed_off task member)
+          (other world names it.is it.sealed_off task member) task (On world names it.is it.sealed_off task member)
+          (alike world names it.is it.sealed_off task member).walks (root_of m) (on_root m e))
+
+  -- The caller in it
+  abbrev pub mine : Task ℕ
+  mine = entered_at task space root
+
+  abbrev pub replaced : Task ℕ → Task ℕ
+  replaced = replaced_if_called mine
+
+  -- the caller is in a namespace of theirs
+  pub entered_was : (n : ℕ) → list_any (λ (t : Task ℕ). nat_eq n t.namespace) (map replaced theirs) ≡ true
+      → list_any (λ (t : Task ℕ). nat_eq n t.namespace) theirs ≡ true
+  entered_was n h =
+      let at = any_among (λ (t : Task ℕ). nat_eq n t.namespace) (map replaced theirs) h in
+      let from = among-from_map replaced theirs at.0 at.1 in
+      let here : nat_eq n (replaced from.0).namespace ≡ true =
+      ap (λ (x : Task ℕ). nat_eq n x.namespace) (sym from.2) ∙ at.2 in
+      ⊎_elim
+      (λ its. any_from_among (λ (t : Task ℕ). nat_eq n t.namespace) theirs target target_in
+      (ap (λ (x : Task ℕ). nat_eq n x.namespace) (sym its.0) ∙ here))
+      (λ same. any_from_among (λ (t : Task ℕ). nat_eq n t.namespace) theirs from.0 from.1
+      (ap (λ (x : Task ℕ). nat_eq n x.namespace) (sym same) ∙ here))
+      (replaced_how world names name (Setns called_so) it task called mine refl from.0
+      (in_world world names name exit_it task called from.0 from.1))
+
+  pub stands : StandsOnTheirs world names name (Setns called_so) it task mine
+  stands = record {
+    named = refl;
+    root = root_on;
+    directory = root_on;
+    places = λ l m. ⊎_elim (λ here. inr (on_it l here))
+        (λ rest. ⊎_elim (λ here. inr (on_it l here)) (λ open_file. inl (inr (inr open_file))) rest) m;
+  }
+    where
+      on_it : (l : Location ℕ) → l ≡ root → IsTheirs world names it.is.mounts l.mount
+      on_it l e = subst (λ (q : Location ℕ). IsTheirs world names it.is.mounts q.mount) (sym e) root_on
+
+  -- A namespace with a task still has one
+  module _ (entered : (n : ℕ) → (list : List (Task ℕ)) → ((t : Task ℕ) → Among t list → Among t world.tasks)
+      → ((t : Task ℕ) → Among t theirs → Among t list)
+      → list_any (λ (t : Task ℕ). nat_eq n t.namespace) list ≡ true
+      → list_any (λ (t : Task ℕ). nat_eq n t.namespace) (map replaced list) ≡ true) where
+    own : (n : ℕ) → list_any (λ (t : Task ℕ). nat_eq n t.namespace) (map replaced theirs)
+        ≡ list_any (λ (t : Task ℕ). nat_eq n t.namespace) theirs
+    own n =
+        same_truth (list_any (λ (t : Task ℕ). nat_eq n t.namespace) (map replaced theirs))
+        (list_any (λ (t : Task ℕ). nat_eq n t.namespace) theirs) (entered_was n)
+        (λ h. entered n theirs (in_world world names name exit_it task called) (λ t m. m) h)
+
+    -- No namespace ends
+    world_stays : namespaces_ended nat_eq (record world { tasks = map replaced world.tasks })
+        ≡ record world { tasks = map replaced world.tasks }
+    world_stays =
+        none_ends (record world { tasks = map replaced world.tasks }) it.is.namespaces.mounts_listed
+        (list_all_from_among (has_tasks nat_eq (record world { tasks = map replaced world.tasks })) world.namespaces
+        (λ n m. entered n.number world.tasks (λ t k. k) (in_world world names name exit_it task called)
+        (among_from_list_all (has_tasks nat_eq world) world.namespaces it.is.namespaces.namespaces_live n m)))
+        (none_lost world it.is.mounts)
+
+    part_stays : namespaces_ended nat_eq (record part { tasks = map replaced part.tasks })
+        ≡ record part { tasks = map replaced part.tasks }
+    part_stays =
+        none_ends (record part { tasks = map replaced part.tasks })
+        (part_listed world names name exit_it task called)
+        (list_all_from_among (has_tasks nat_eq (record part { tasks = map replaced part.tasks })) part.namespaces
+        (λ n m. entered n.number theirs (in_world world names name exit_it task called) (λ t k. k)
+        (among-from_filter (λ (s : Namespace ℕ). list_any (λ (t : Task ℕ). nat_eq s.number t.namespace) theirs)
+        world.namespaces n m).1))
+        (part_keeps world names name exit_it task called)
+
+    pub entering_alike : (fresh supply : Fresh ℕ)
+        → judge_in nat_eq fresh world task (Setns called_so) ≡ Ok (ToEnterNamespace space)
+        → EndsAlike world names name (Setns called_so) fresh supply
+    entering_alike fresh supply judged =
+        moved_alike world names name (Setns called_so) it task called mine stands fresh supply refl own
+        (ap (run_by world names name (Setns called_so) it fresh supply world fresh task) judged
+        ∙ ap (λ w. granted Done (numbers_raised nat_eq world name [] (settled nat_eq w))) world_stays)
+        (ap (run_by world names name (Setns called_so) it fresh supply part supply task)
+        (sym (same_judgement world names name (Setns called_so) it fresh supply task called) ∙ judged)
+        ∙ ap (λ o. granted Done (numbers_raised nat_eq part name [] (settled nat_eq (namespaces_ended nat_eq
+        (record part {
+          tasks = map (replaced_if_called
+              (entered_at task space (unwrap_or o task.root))) part.tasks;
+        })))))
+        root_alike
+        ∙ ap (λ w. granted Done (numbers_raised nat_eq part name [] (settled nat_eq w))) part_stays)
+
+  -- Another task is in the namespace that it leaves
+  module _ (other_task : Task ℕ) (there : Among other_task world.tasks)
+      (together : other_task.namespace ≡ task.namespace) (differ : same_name name other_task.name ≡ false) where
+    other_same : replaced other_task ≡ other_task
+    other_same = cc (its_name world names name exit_it task called, differ)
+
+    other_in : Among other_task theirs
+    other_in = in_old world names name exit_it task called other_task there together differ
+
+    pub entered : (n : ℕ) (list : List (Task ℕ)) → ((t : Task ℕ) → Among t list → Among t world.tasks)
+        → ((t : Task ℕ) → Among t theirs → Among t list) → list_any (λ (t : Task ℕ). nat_eq n t.namespace) list ≡ true
+        → list_any (λ (t : Task ℕ). nat_eq n t.namespace) (map replaced list) ≡ true
+    entered n list within all h =
+        let at = any_among (λ (t : Task ℕ). nat_eq n t.namespace) list h in
+        ⊎_elim
+        (λ its. any_from_among (λ (t : Task ℕ). nat_eq n t.namespace) (map replaced list) (replaced other_task)
+        (among-map replaced list other_task (all other_task other_in))
+        (ap (λ (x : Task ℕ). nat_eq n x.namespace) other_same
+        ∙ ap (nat_eq n) (together ∙ ap (λ (x : Task ℕ). x.namespace) its.1) ∙ at.2))
+        (λ same. any_from_among (λ (t : Task ℕ). nat_eq n t.namespace) (map replaced list) (replaced at.0)
+        (among-map replaced list at.0 at.1) (ap (λ (x : Task ℕ). nat_eq n x.namespace) same ∙ at.2))
+        (replaced_how world names name (Setns called_so) it task called mine refl at.0 (within at.0 at.1))
+
+  -- It stays in its namespace
+  pub entered_itself : space ≡ task.namespace → (n : ℕ) (list : List (Task ℕ))
+      → ((t : Task ℕ) → Among t list → Among t world.tasks) → ((t : Task ℕ) → Among t theirs → Among t list)
+      → list_any (λ (t : Task ℕ). nat_eq n t.namespace) list ≡ true
+      → list_any (λ (t : Task ℕ). nat_eq n t.namespace) (map replaced list) ≡ true
+  entered_itself same_space n list within all h =
+      let at = any_among (λ (t : Task ℕ). nat_eq n t.namespace) list h in
+      any_from_among (λ (t : Task ℕ). nat_eq n t.namespace) (map replaced list) (replaced at.0)
+      (among-map replaced list at.0 at.1)
+      (ap (nat_eq n) (⊎_elim
+      (λ its. ap (λ (x : Task ℕ). x.namespace) its.0 ∙ same_space ∙ ap (λ (x : Task ℕ). x.namespace) its.1)
+      (λ same. ap (λ (x : Task ℕ). x.namespace) same)
+      (replaced_how world names name (Setns called_so) it task called mine refl at.0 (within at.0 at.1))) ∙ at.2)

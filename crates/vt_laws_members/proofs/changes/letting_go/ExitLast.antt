@@ -1,0 +1,237 @@
+-- An exit of the last task of its namespace ends in the part as in the world: the mounts of the namespace are detached.
+use Rattle.std.proofs.Common.{◌≡◌, refl, sym, ap, subst, ◌∙◌, ℕ, nat_eq, Bool, true, false, true≢false, List, [], Option, Some, None, filter, map, not, ◌||◌, eq-eqb, eqb-true}
+use Rattle.std.specs.List.{list_all, list_any}
+use Rattle.std.proofs.lemmas.Bool.{or_left, or_right}
+use Rattle.vt_spec.specs.Language.Answers.Answer.{Done}
+use Rattle.vt_spec.specs.Language.Calls.{TaskName, same_name}
+use Rattle.vt_spec.specs.Language.Calls.Call.{Exit}
+use Rattle.vt_spec.specs.Lists.{Fresh, holds_of}
+use Rattle.vt_spec.specs.Machine.Detach.{after_going, is_going, taken_away}
+use Rattle.vt_spec.specs.Machine.Invariants.{MountInvariants}
+use Rattle.vt_spec.specs.Machine.Mounts.{Mount}
+use Rattle.vt_spec.specs.Machine.Namespaces.{has_tasks, namespaces_ended}
+use Rattle.vt_spec.specs.Machine.Outcomes.{granted}
+use Rattle.vt_spec.specs.Machine.Policy.{numbers_raised, policy}
+use Rattle.vt_spec.specs.Machine.Receives.{lost_a_group, regrouped_by}
+use Rattle.vt_spec.specs.Machine.Sealed.{is_member_task, is_own_namespace, members, part_of}
+use Rattle.vt_spec.specs.Machine.Settled.{settled}
+use Rattle.vt_spec.specs.Machine.World.{Namespace, Task, World, task_called}
+use Rattle.vt_spec.proofs.Lists.{Among, among-filter, among-from_filter, among_from_list_all, any_among, any_from_among, list_all_from_among, map_twice, none_among, none_from_among}
+use Rattle.vt_laws_mounts.specs.LettingGo.Ends.{MountsAreListed}
+use Rattle.vt_laws_mounts.proofs.letting_go.ends.NamespacesEnd.{one_namespace_ends}
+use Rattle.vt_laws_mounts.proofs.ends.Ending.{ended_namespaces_keep_mounts}
+use Rattle.vt_laws_worlds.proofs.kept.MountsAlike.{same_mounts}
+use Rattle.vt_laws_sealed.proofs.part.part.PartOfPart.{is_own}
+use Rattle.vt_laws_members.specs.Changes.Changes.{EndAlike, EndsAlike, IsCallOfTheirs, grown, left}
+use Rattle.vt_laws_members.proofs.changes.looks.Told.{ran, same_caller}
+use Rattle.vt_laws_members.proofs.changes.letting_go.CutNamespace.{in_same, in_space, numbers_in}
+use Rattle.vt_laws_members.proofs.changes.letting_go.Detached.{detached_parts}
+use Rattle.vt_laws_members.proofs.changes.letting_go.Heard.{own_in, space_in_part}
+use Rattle.vt_laws_members.proofs.changes.letting_go.Leaving.{all_left, in_world, is_task, its_name, member, new_old, old_new, others_left, part_listed, same_left, stays, tasks, tasks_too}
+use Rattle.vt_laws_members.proofs.changes.letting_go.NamespaceLess.{ended, ended_part, less_of_fewer}
+use Rattle.vt_laws_members.proofs.changes.letting_go.PartMounts.{part_mounts}
+use Rattle.vt_laws_members.proofs.changes.letting_go.Regrouped.{flags_same, regroup_is, regrouped_mount, regrouped_so}
+
+-- A world in which one namespace has lost its last task
+module _ (w : World ℕ) (k : ℕ) (gone : List ℕ) (same : numbers_in w k ≡ gone) where
+  abbrev left_by : World ℕ
+  left_by = record w { mounts = map (after_going nat_eq w gone) w.mounts }
+
+  abbrev remain : List (Namespace ℕ)
+  remain = filter (λ (n : Namespace ℕ). not (nat_eq k n.number)) w.namespaces
+
+  pub ends_so : MountsAreListed w → list_any (λ (t : Task ℕ). nat_eq k t.namespace) w.tasks ≡ false
+      → list_all (λ (n : Namespace ℕ). nat_eq k n.number || has_tasks nat_eq w n) w.namespaces ≡ true
+      → (b : Bool) → list_any (lost_a_group nat_eq left_by) left_by.mounts ≡ b
+      → namespaces_ended nat_eq w ≡ record (regrouped_so b left_by) {
+        mounts = map (λ m. regrouped_mount b left_by (after_going nat_eq w gone m)) w.mounts;
+        namespaces = remain;
+      }
+  ends_so listed empty others b flag =
+      one_namespace_ends w k listed empty others
+      ∙ ap (λ l. record (taken_away nat_eq w l) { namespaces = remain }) same
+      ∙ ap (λ c. record (regrouped_by nat_eq c left_by) { namespaces = remain }) flag
+      ∙ ap (λ (r : World ℕ). record r { namespaces = remain }) (regroup_is b left_by)
+      ∙ (λ i. record (regrouped_so b left_by) {
+        mounts = map_twice (regrouped_mount b left_by) (after_going nat_eq w gone) w.mounts i;
+        namespaces = remain;
+      })
+
+module _ (world : World ℕ) (names : List TaskName) (name : TaskName) (it : IsCallOfTheirs world names name Exit)
+    (task : Task ℕ) (called : task_called world name ≡ Some task)
+    (empty : list_any (λ (t : Task ℕ). nat_eq task.namespace t.namespace)
+    (filter (λ (t : Task ℕ). not (same_name name t.name)) world.tasks) ≡ false) where
+  abbrev part : World ℕ
+  part = part_of nat_eq world names
+
+  abbrev old : List (Task ℕ)
+  old = members world names
+
+  abbrev set : List TaskName
+  set = left names name Exit
+
+  abbrev k : ℕ
+  k = task.namespace
+
+  abbrev rest : List (Task ℕ)
+  rest = tasks world names name it task called
+
+  abbrev rest_too : List (Task ℕ)
+  rest_too = tasks_too world names name it task called
+
+  abbrev stays_on : Task ℕ → Bool
+  stays_on = stays world names name it task called
+
+  theirs_ends : is_own_namespace nat_eq world names k ≡ true
+  theirs_ends =
+      any_from_among (λ (t : Task ℕ). nat_eq k t.namespace) old task (member world names name it task called)
+      (eq-eqb k k refl)
+
+  abbrev gone : List ℕ
+  gone = numbers_in world k
+
+  gone_same : (m : Mount ℕ) → Among m world.mounts → is_going nat_eq gone m.number ≡ in_space k m
+  gone_same m n = in_same world k it.is.mounts.one_number m n
+
+  own_go : (m : Mount ℕ) → Among m world.mounts → is_going nat_eq gone m.number ≡ true → is_own world names old m ≡ true
+  own_go m there h = own_in world names it.is it.sealed_off k theirs_ends m (sym (gone_same m there) ∙ h)
+
+  abbrev lasts : ℕ → Bool
+  lasts n = not (nat_eq k n)
+
+  -- other namespaces have the tasks that they had
+  still_in : (n : ℕ) → nat_eq k n ≡ false → (list : List (Task ℕ)) → ((t : Task ℕ) → Among t list → Among t world.tasks)
+      → list_any (λ (t : Task ℕ). nat_eq n t.namespace) list ≡ true
+      → list_any (λ (t : Task ℕ). nat_eq n t.namespace) (filter stays_on list) ≡ true
+  still_in n apart list within h =
+      let at = any_among (λ (t : Task ℕ). nat_eq n t.namespace) list h in
+      by at.0 at.1 at.2 (same_name name at.0.name) refl
+    where
+      by : (t : Task ℕ) → Among t list → nat_eq n t.namespace ≡ true → (b : Bool) → same_name name t.name ≡ b
+          → list_any (λ (t : Task ℕ). nat_eq n t.namespace) (filter stays_on list) ≡ true
+      by t m e false f =
+          any_from_among (λ (t : Task ℕ). nat_eq n t.namespace) (filter stays_on list) t
+          (among-filter stays_on list t m (ap not f)) e
+      by t m e true f =
+          let one = is_task world names name it task called t (within t m) f in
+          absurd (true≢false (sym (eq-eqb k n
+          (ap (λ (x : Task ℕ). x.namespace) one ∙ sym (eqb-true n t.namespace e))) ∙ apart))
+
+  still : (n : ℕ) → nat_eq k n ≡ false → list_any (λ (t : Task ℕ). nat_eq n t.namespace) old ≡ true
+      → list_any (λ (t : Task ℕ). nat_eq n t.namespace) (filter (is_member_task set) rest) ≡ true
+  still n apart h =
+      let at = any_among (λ (t : Task ℕ). nat_eq n t.namespace) (filter stays_on old)
+      (still_in n apart old (in_world world names name it task called) h) in
+      any_from_among (λ (t : Task ℕ). nat_eq n t.namespace) (filter (is_member_task set) rest) at.0
+      (old_new world names name it task called at.0 at.1) at.2
+
+  mounts_stay : (m : Mount ℕ) → Among m world.mounts → is_going nat_eq gone m.number ≡ false
+      → is_own world names old m ≡ true → is_own world names (filter (is_member_task set) rest) m ≡ true
+  mounts_stay m there out own = by m.namespace (sym (gone_same m there) ∙ out) own
+    where
+      by : (o : Option ℕ) → holds_of (nat_eq k) o ≡ false → holds_of (is_own_namespace nat_eq world names) o ≡ true
+          → holds_of (λ n. list_any (λ (t : Task ℕ). nat_eq n t.namespace) (filter (is_member_task set) rest)) o ≡ true
+      by None h own = own
+      by (Some n) h own = still n h own
+
+  abbrev flag : Bool
+  flag = list_any (lost_a_group nat_eq (record world { mounts = map (after_going nat_eq world gone) world.mounts }))
+      (map (after_going nat_eq world gone) world.mounts)
+
+  abbrev v : World ℕ
+  v = ended world names it.is it.sealed_off set gone own_go lasts rest rest_too world.change part.change
+      (same_left world names name it task called)
+      (less_of_fewer world names it.is set rest (new_old world names name it task called)) flag
+
+  abbrev v_part : World ℕ
+  v_part = ended_part world names it.is it.sealed_off set gone own_go lasts rest rest_too world.change part.change
+      (same_left world names name it task called)
+      (less_of_fewer world names it.is set rest (new_old world names name it task called)) flag
+
+  world_ends : namespaces_ended nat_eq (record world { tasks = rest }) ≡ v
+  world_ends =
+      ends_so (record world { tasks = rest }) k gone refl it.is.namespaces.mounts_listed empty
+      (list_all_from_among (λ (n : Namespace ℕ). nat_eq k n.number || has_tasks nat_eq
+      (record world { tasks = rest }) n)
+      world.namespaces (λ n m. by n m (nat_eq k n.number) refl)) flag refl
+    where
+      by : (n : Namespace ℕ) → Among n world.namespaces → (b : Bool) → nat_eq k n.number ≡ b
+          → (nat_eq k n.number || has_tasks nat_eq (record world { tasks = rest }) n) ≡ true
+      by n m true e = or_left (nat_eq k n.number) _ e
+      by n m false e =
+          or_right (nat_eq k n.number) _
+          (still_in n.number e world.tasks (λ t q. q)
+          (among_from_list_all (has_tasks nat_eq world) world.namespaces it.is.namespaces.namespaces_live n m))
+
+  part_ends : namespaces_ended nat_eq (record part { tasks = rest_too }) ≡ v_part
+  part_ends =
+      ends_so (record part { tasks = rest_too }) k gone
+      (ap (map (λ (m : Mount ℕ). m.number)) (space_in_part world names it.is it.sealed_off k theirs_ends))
+      (part_listed world names name it task called)
+      (none_from_among (λ (t : Task ℕ). nat_eq k t.namespace) rest_too (λ t m.
+      let from = among-from_filter stays_on part.tasks t m in
+      none_among (λ (t : Task ℕ). nat_eq k t.namespace) rest empty t
+      (among-filter stays_on world.tasks t (in_world world names name it task called t from.0) from.1)))
+      (list_all_from_among (λ (n : Namespace ℕ). nat_eq k n.number || has_tasks nat_eq
+      (record part { tasks = rest_too }) n)
+      part.namespaces (λ n m. by n m (nat_eq k n.number) refl)) flag
+      (sym (flags_same world names it.is it.sealed_off gone own_go))
+    where
+      by : (n : Namespace ℕ) → Among n part.namespaces → (b : Bool) → nat_eq k n.number ≡ b
+          → (nat_eq k n.number || has_tasks nat_eq (record part { tasks = rest_too }) n) ≡ true
+      by n m true e = or_left (nat_eq k n.number) _ e
+      by n m false e =
+          or_right (nat_eq k n.number) _
+          (still_in n.number e old (in_world world names name it task called)
+          (among-from_filter (λ (s : Namespace ℕ). list_any (λ (t : Task ℕ). nat_eq s.number t.namespace) old)
+          world.namespaces n m).1)
+
+  kept : MountInvariants nat_eq v
+  kept =
+      subst (MountInvariants nat_eq) world_ends
+      (ended_namespaces_keep_mounts (record world { tasks = rest })
+      (same_mounts world (record world { tasks = rest }) refl refl it.is.mounts))
+
+  kept_there : MountInvariants nat_eq v_part
+  kept_there =
+      subst (MountInvariants nat_eq) part_ends
+      (ended_namespaces_keep_mounts (record part { tasks = rest_too })
+      (same_mounts part (record part { tasks = rest_too }) refl refl (part_mounts world names it.is it.sealed_off)))
+
+  parts : part_of nat_eq (numbers_raised nat_eq world name [] (settled nat_eq v)) set
+      ≡ part_of nat_eq (numbers_raised nat_eq part name [] (settled nat_eq v_part)) set
+  parts =
+      detached_parts world names it.is it.sealed_off set gone own_go lasts rest rest_too world.change part.change
+      (same_left world names name it task called)
+      (less_of_fewer world names it.is set rest (new_old world names name it task called))
+      (others_left world names name it task called) (all_left world names name it task called) mounts_stay flag kept
+      kept_there name
+
+  abbrev left_one : World ℕ
+  left_one = numbers_raised nat_eq world name [] (settled nat_eq v)
+
+  abbrev left_too : World ℕ
+  left_too = numbers_raised nat_eq part name [] (settled nat_eq v_part)
+
+  first : (fresh : Fresh ℕ) → policy nat_eq fresh world name Exit ≡ granted Done left_one
+  first fresh =
+      ap (ran name Exit world fresh) called
+      ∙ ap (λ n. granted Done (numbers_raised nat_eq world name [] (settled nat_eq (namespaces_ended nat_eq
+      (record world { tasks = filter (λ (t : Task ℕ). not (same_name n t.name)) world.tasks })))))
+      (sym (its_name world names name it task called))
+      ∙ ap (λ w. granted Done (numbers_raised nat_eq world name [] (settled nat_eq w))) world_ends
+
+  second : (other : Fresh ℕ) → policy nat_eq other part name Exit ≡ granted Done left_too
+  second other =
+      ap (ran name Exit part other) (same_caller world names it.is it.sealed_off name it.theirs ∙ called)
+      ∙ ap (λ n. granted Done (numbers_raised nat_eq part name [] (settled nat_eq (namespaces_ended nat_eq
+      (record part { tasks = filter (λ (t : Task ℕ). not (same_name n t.name)) part.tasks })))))
+      (sym (its_name world names name it task called))
+      ∙ ap (λ w. granted Done (numbers_raised nat_eq part name [] (settled nat_eq w))) part_ends
+
+  pub last_exit_alike : (fresh other : Fresh ℕ) → EndsAlike world names name Exit fresh other
+  last_exit_alike fresh other =
+      subst (λ p. EndAlike (grown names name Exit (policy nat_eq fresh world name Exit).answer)
+      (policy nat_eq fresh world name Exit) p) (sym (second other))
+      (subst (λ o. EndAlike (grown names name Exit o.answer) o (granted Done left_too)) (sym (first fresh))
+      (record { answer = refl; part = parts }))

@@ -1,0 +1,186 @@
+-- The filesystems that nothing uses are in no part.
+use Rattle.std.proofs.Common.{◌≡◌, refl, sym, ap, ◌∙◌, inl, inr, ⊎_elim, ℕ, nat_eq, Bool, true, false, cond, true≢false, List, [], ◌∷◌, ◌++◌, Option, Some, None, filter, find, flat_map, is_some, ◌&&◌, ◌||◌, eq-eqb, eqb-true}
+use Rattle.std.specs.Prelude.{unwrap_or}
+use Rattle.std.specs.List.{cons_option, filter_map, list_any}
+use Rattle.std.proofs.lemmas.Bool.{and_from, and_parts, false_from_ne_true, or_cases, or_left, or_right}
+use Rattle.vt_spec.specs.FileTree.{FileTree}
+use Rattle.vt_spec.specs.Language.Calls.{TaskName}
+use Rattle.vt_spec.specs.Lists.{is_among, when}
+use Rattle.vt_spec.specs.Machine.Sealed.{change_layers, own_lowers, part_of, used_directly, used_filesystems}
+use Rattle.vt_spec.specs.Machine.Settled.{filesystem_lives, has_layer_on, is_mounted, only_among, without_dead_filesystems}
+use Rattle.vt_spec.specs.Machine.World.{Filesystem, Layer, World, filesystem_numbered, no_filesystem}
+use Rattle.vt_spec.proofs.Lists.{Among, among-append, among-from_filter, among_from_contains, among_numbers, any_among, any_from_among, pair-filter}
+use Rattle.vt_laws_sealed.specs.Part.Parts.{SeesTheSame, shown_of}
+use Rattle.vt_laws_sealed.proofs.part.Kept.{among-from_each_once}
+use Rattle.vt_laws_sealed.proofs.part.part.Observed.{lowers_same, part_same, used_same}
+use Rattle.vt_laws_sealed.proofs.outsiders.SeenLater.{changed_of, lower_of}
+use Rattle.vt_laws_members.proofs.changes.letting_go.CutAgain.{lies_under}
+use Rattle.vt_laws_members.proofs.changes.letting_go.Ready.{Alone, OverlaysMounted, Ready, direct_mounted}
+use Rattle.vt_laws_members.proofs.judging.Locks.{has_layer}
+
+-- each world shows what it shows
+pub sees_itself : (a : World ℕ) (set : List TaskName) → SeesTheSame a a set
+sees_itself a set = record {
+  tasks = refl;
+  mounts = refl;
+  masters = λ group e. refl;
+  direct = λ number m. refl;
+  filesystems = refl;
+  namespaces = refl;
+}
+
+-- what a filter takes is not kept, and what it leaves is kept alike
+kept_filtered : {A B : Type 0} (k later : A → Option B) (p : A → Bool) (xs : List A)
+    → ((x : A) → Among x xs → p x ≡ true → later x ≡ k x) → ((x : A) → Among x xs → p x ≡ false → k x ≡ None)
+    → filter_map later (filter p xs) ≡ filter_map k xs
+kept_filtered k later p [] same none = refl
+kept_filtered k later p (x ∷ xs) same none =
+    by (p x) refl (kept_filtered k later p xs (λ y m. same y (inr m)) (λ y m. none y (inr m)))
+  where
+    by : (b : Bool) → p x ≡ b → filter_map later (filter p xs) ≡ filter_map k xs
+        → filter_map later (cond b (x ∷ filter p xs) (filter p xs)) ≡ cons_option (k x) (filter_map k xs)
+    by true e rest = cc (same x (inl refl) e)
+    by false e rest = rest ∙ sym (ap (λ o. cons_option o (filter_map k xs)) (none x (inl refl) e))
+
+module _ (a : World ℕ) (set : List TaskName) (used : List ℕ) (lowers : List (Layer ℕ))
+    (it : Ready a set used lowers) where
+  abbrev direct : List ℕ
+  direct = used_directly nat_eq a set
+
+  abbrev used_there : List ℕ
+  used_there = used_filesystems nat_eq a set
+
+  abbrev lowers_there : List (Layer ℕ)
+  lowers_there = own_lowers nat_eq a set
+
+  abbrev alive : ℕ → Bool
+  alive number =
+      is_mounted nat_eq a number
+      || list_any (λ merged. has_layer_on nat_eq number merged && is_mounted nat_eq a merged.number) a.filesystems
+
+  layer_alive : (number : ℕ) (merged : Filesystem ℕ) → Among merged a.filesystems → Among merged.number direct
+      → has_layer_on nat_eq number merged ≡ true → alive number ≡ true
+  layer_alive number merged m at has =
+      or_right (is_mounted nat_eq a number) _
+      (any_from_among (λ other. has_layer_on nat_eq number other
+      && is_mounted nat_eq a other.number) a.filesystems merged m
+      (and_from (has_layer_on nat_eq number merged) (is_mounted nat_eq a merged.number) has
+      (direct_mounted a set used lowers it merged.number at)))
+
+  lower_alive : (number : ℕ) → list_any (λ (layer : Layer ℕ). nat_eq number layer.filesystem) lowers_there ≡ true
+      → alive number ≡ true
+  lower_alive number h =
+      let at = any_among (λ (layer : Layer ℕ). nat_eq number layer.filesystem) lowers_there h in
+      let of = lower_of a a set (sees_itself a set) at.0 at.1 in
+      layer_alive number of.0 of.1 of.4 (has_layer number of.0 at.0 of.3 at.2)
+
+  direct_alive : (number : ℕ) → Among number direct → alive number ≡ true
+  direct_alive number m = or_left (is_mounted nat_eq a number) _ (direct_mounted a set used lowers it number m)
+
+  used_alive : (number : ℕ) → Among number used_there → alive number ≡ true
+  used_alive number m =
+      ⊎_elim (direct_alive number)
+      (λ changed. let of = changed_of a set number changed in
+      layer_alive number of.0 of.1 of.2 (has_layer number of.0 of.3 of.4 (eq-eqb number of.3.filesystem of.5)))
+      (among-append direct _ number
+      (among-from_each_once (direct ++ flat_map (λ n. change_layers (filesystem_numbered nat_eq a n)) direct) number m))
+
+  abbrev pub living : World ℕ
+  living = without_dead_filesystems nat_eq a
+
+  found_alive : (number : ℕ) → alive number ≡ true
+      → filesystem_numbered nat_eq living number ≡ filesystem_numbered nat_eq a number
+  found_alive number is = ap (λ o. unwrap_or o (no_filesystem number)) (search a.filesystems)
+    where
+      search : (list : List (Filesystem ℕ))
+          → find (λ (f : Filesystem ℕ). nat_eq number f.number) (filter (filesystem_lives nat_eq a) list)
+          ≡ find (λ (f : Filesystem ℕ). nat_eq number f.number) list
+      search [] = refl
+      search (f ∷ rest) = by (filesystem_lives nat_eq a f) refl (nat_eq number f.number) refl (search rest)
+        where
+          by : (c : Bool) → filesystem_lives nat_eq a f ≡ c → (b : Bool) → nat_eq number f.number ≡ b
+              → find (λ (x : Filesystem ℕ). nat_eq number x.number) (filter (filesystem_lives nat_eq a) rest)
+              ≡ find (λ (x : Filesystem ℕ). nat_eq number x.number) rest
+              → find (λ (x : Filesystem ℕ). nat_eq number x.number)
+              (cond c (f ∷ filter (filesystem_lives nat_eq a) rest) (filter (filesystem_lives nat_eq a) rest))
+              ≡ cond b (Some f) (find (λ (x : Filesystem ℕ). nat_eq number x.number) rest)
+          by true g b h later = cc
+          by false g true h later = absurd (true≢false (sym is ∙ ap alive (eqb-true number f.number h) ∙ g))
+          by false g false h later = later
+
+  abbrev lowered : FileTree ℕ → Filesystem ℕ → Filesystem ℕ
+  lowered files x = record x {
+    files = only_among nat_eq (filter (lies_under x.number lowers_there files) x.files.numbers) x.files;
+    change = 0;
+  }
+
+  abbrev has_lower : ℕ → Bool
+  has_lower number = list_any (λ (layer : Layer ℕ). nat_eq number layer.filesystem) lowers_there
+
+  dead_not_shown : (x : Filesystem ℕ) → filesystem_lives nat_eq a x ≡ false
+      → shown_of a used_there lowers_there x ≡ None
+  dead_not_shown x dead =
+      cc (
+        false_from_ne_true (is_among nat_eq x.number used_there) (λ h. true≢false (sym (used_alive x.number
+            (among_numbers used_there x.number h)) ∙ dead)),
+        false_from_ne_true (has_lower x.number) (λ h. true≢false (sym (lower_alive x.number h) ∙ dead)),
+      )
+
+  sees_living : SeesTheSame a living set
+  sees_living = record {
+    tasks = refl;
+    mounts = refl;
+    masters = λ group e. refl;
+    direct = λ number m. found_alive number (direct_alive number (among_from_contains direct number m));
+    filesystems =
+        kept_filtered (shown_of a used_there lowers_there) (shown_of living used_there lowers_there)
+        (filesystem_lives nat_eq a) a.filesystems
+        (λ x m lives. ap (λ (f : Filesystem ℕ). cond (is_among nat_eq x.number used_there) (Some x)
+        (when (has_lower x.number) (lowered f.files x))) (found_alive x.number lives))
+        (λ x m dead. dead_not_shown x dead);
+    namespaces = refl;
+  }
+
+  pub living_part : part_of nat_eq living set
+      ≡ part_of nat_eq a set
+  living_part = part_same a living set sees_living
+
+  there : (x : Filesystem ℕ) → Among x living.filesystems → Among x a.filesystems
+  there x m = (among-from_filter (filesystem_lives nat_eq a) a.filesystems x m).0
+
+  pub living_ready : Ready living set used lowers
+  living_ready = record {
+    used_are = used_same a living set sees_living ∙ it.used_are;
+    lowers_are = lowers_same a living set sees_living ∙ it.lowers_are;
+    one = it.one;
+    lives = it.lives;
+    located = it.located;
+    parents = it.parents;
+    stood = it.stood;
+    one_filesystem = pair-filter (λ (x y : Filesystem ℕ). nat_eq x.number y.number) (filesystem_lives nat_eq a)
+        a.filesystems it.one_filesystem;
+    plain = λ x merged m n has. it.plain x merged (there x m) (there merged n) has;
+    free = λ x m at. ⊎_elim (λ alone. inl (alone_too x.number alone)) (λ named. inr named) (it.free x (there x m) at);
+    cut = λ x m unused low. it.cut x (there x m) unused low;
+  }
+    where
+      alone_too : (number : ℕ) → Alone a set number → Alone living set number
+      alone_too number alone = record {
+        itself = record { mounts = alone.itself.mounts; locations = alone.itself.locations };
+        overlays = λ merged m has. let none = alone.overlays merged (there merged m) has in
+            record { mounts = none.mounts; locations = none.locations };
+      }
+
+  -- each overlay that is left is mounted: none is a layer
+  pub living_mounted : OverlaysMounted living set
+  living_mounted merged m over =
+      let from = among-from_filter (filesystem_lives nat_eq a) a.filesystems merged m in
+      ⊎_elim (λ mounted. mounted)
+      (λ layer. let at = any_among
+      (λ other. has_layer_on nat_eq merged.number other && is_mounted nat_eq a other.number)
+      a.filesystems layer in
+      absurd (true≢false (sym over
+      ∙ ap is_some (it.plain merged at.0 from.0 at.1
+      (and_parts (has_layer_on nat_eq merged.number at.0)
+      (is_mounted nat_eq a at.0.number) at.2).0))))
+      (or_cases (is_mounted nat_eq a merged.number) _ from.1)

@@ -1,0 +1,116 @@
+-- The groups that a sealed set hears are in its part, with their masters.
+use Rattle.std.proofs.Common.{◌≡◌, refl, sym, ap, subst, ◌∙◌, ⊎_elim, ℕ, nat_eq, Bool, true, cond, true≢false, List, Option, Some, None, is_some, length, not, ◌||◌, ◌&&◌, eqb-true}
+use Rattle.std.specs.List.{list_any}
+use Rattle.std.proofs.lemmas.Bool.{and_parts, or_left}
+use Rattle.vt_spec.specs.Language.Calls.{TaskName}
+use Rattle.vt_spec.specs.Lists.{holds_of}
+use Rattle.vt_spec.specs.Machine.Invariants.{HasLivingGroups, IsWorld, is_nowhere_or_attached, is_private}
+use Rattle.vt_spec.specs.Machine.Mounts.{Mount, Propagation, source_of}
+use Rattle.vt_spec.specs.Machine.Mounts.Propagation.{Private, Shared, Slave, Unbindable}
+use Rattle.vt_spec.specs.Machine.Receives.{groups_up, is_member_of}
+use Rattle.vt_spec.specs.Machine.Sealed.{is_at, is_own_mount, members, own_mounts, part_of, roots_and_directories, sealed}
+use Rattle.vt_spec.specs.Machine.World.{Task, World, mounts_of}
+use Rattle.vt_spec.proofs.Lists.{Among, among-filter, among-filter_map, among-from_filter, among-from_filter_map, among_from_all, among_from_list_all, any_from_among, is_among_numbers}
+use Rattle.vt_spec.proofs.Options.{none_is_some}
+use Rattle.vt_laws_mounts.proofs.mounts.Receivers.{along_chain}
+use Rattle.vt_laws_sealed.specs.Part.Seals.{IsApart}
+use Rattle.vt_laws_sealed.proofs.part.Kept.{filter_both}
+use Rattle.vt_laws_sealed.proofs.part.groups.EventsApart.{Hears, heard_above}
+use Rattle.vt_laws_sealed.proofs.part.groups.ReceiversAlike.{Living, own_member, start_hears}
+use Rattle.vt_laws_sealed.proofs.part.part.PartOfPart.{is_own, keep, kept_how, kept_whole}
+use Rattle.vt_laws_sealed.proofs.part.seals.ByPart.{apart_if_sealed}
+use Rattle.vt_laws_members.proofs.judging.MountPoints.{part_mount}
+use Rattle.vt_laws_members.proofs.judging.MountTrees.{own_whole}
+
+pub private_source : (kind : Propagation ℕ) → is_private kind ≡ true → source_of kind ≡ None
+private_source (Shared g) e = absurd (true≢false (sym e))
+private_source (Slave g) e = absurd (true≢false (sym e))
+private_source Private e = refl
+private_source Unbindable e = absurd (true≢false (sym e))
+
+module _ (world : World ℕ) (names : List TaskName) (is : IsWorld nat_eq world)
+    (sealed_off : sealed nat_eq world names ≡ true) where
+  abbrev pub apart : IsApart world names
+  apart = apart_if_sealed world names is sealed_off
+
+  abbrev old : List (Task ℕ)
+  old = members world names
+
+  abbrev part : World ℕ
+  part = part_of nat_eq world names
+
+  abbrev owns : List (Mount ℕ)
+  owns = own_mounts nat_eq world names
+
+  -- a group that they hear, and that lives
+  abbrev pub IsHeard : ℕ → Type 0
+  IsHeard g = Hears world names is.mounts apart.events g × Living world names is.mounts apart.events g
+
+  pub heard_by_own : (m : Mount ℕ) → Among m owns → (g : ℕ) → source_of m.propagation ≡ Some g → IsHeard g
+  heard_by_own m n g e = (
+    (m, n, start_hears world g m.propagation e),
+    among_from_all (HasLivingGroups nat_eq world) world.mounts is.mounts.groups m
+        (among-from_filter (is_own_mount nat_eq world names) world.mounts m n).0 g e,
+  )
+
+  pub above_heard : (g lower : ℕ) → world.master lower ≡ Some g → IsHeard lower → IsHeard g
+  above_heard g lower e heard = heard_above world names is.mounts apart.events g lower e heard
+
+  pub up_heard : (g x : ℕ) → IsHeard g → Among x (groups_up world g) → IsHeard x
+  up_heard g x heard m =
+      along_chain world.master IsHeard above_heard (length world.mounts) g x heard
+      (is_among_numbers (groups_up world g) x m)
+
+  pub master_same : (g : ℕ) → IsHeard g → part.master g ≡ world.master g
+  master_same g heard =
+      let own = own_member world names is.mounts apart.events g heard.0 heard.1 in
+      ap (λ b. cond b (world.master g) None) (any_from_among (is_member_of nat_eq g) owns own.0 own.1 own.2)
+
+  pub own_in_part : (m : Mount ℕ) → Among m owns → Among m part.mounts
+  own_in_part m n =
+      let from = among-from_filter (is_own_mount nat_eq world names) world.mounts m n in
+      among-filter_map (keep world names old) world.mounts m m from.0 (own_whole world names is m from.1)
+
+  -- a mount of the part with a source is theirs
+  pub part_source : (y : Mount ℕ) → Among y part.mounts → (g : ℕ) → source_of y.propagation ≡ Some g → Among y owns
+  part_source y n g e =
+      let from = among-from_filter_map (keep world names old) world.mounts y n in
+      ⊎_elim
+      (λ same.
+      let there = subst (λ k. Among k world.mounts) same from.1 in
+      ⊎_elim
+      (λ own. among-filter (is_own_mount nat_eq world names) world.mounts y there own)
+      (λ none. none_is_some g (sym (private_source y.propagation (and_parts (not (is_some y.mount_point))
+      (is_private y.propagation)
+      (sym (ap (λ o. is_some o || (not (is_some y.mount_point) && is_private y.propagation)) none)
+      ∙ among_from_list_all is_nowhere_or_attached world.mounts is.mounts.nowhere y there)).1) ∙ e))
+      (part_mount world names is from.0 y from.1 from.2))
+      (λ stub. none_is_some g (ap (λ (m : Mount ℕ). source_of m.propagation) stub.0 ∙ e))
+      (kept_how world names old from.0 y from.2)
+
+  abbrev its_in : ℕ → Mount ℕ → Bool
+  its_in n m = holds_of (nat_eq n) m.namespace
+
+  -- a mount in a namespace of theirs is theirs
+  pub own_in : (n : ℕ) → list_any (λ (t : Task ℕ). nat_eq n t.namespace) old ≡ true → (m : Mount ℕ) → its_in n m ≡ true
+      → is_own world names old m ≡ true
+  own_in n own m = by m.namespace
+    where
+      by : (o : Option ℕ) → holds_of (nat_eq n) o ≡ true
+          → holds_of (λ i. list_any (λ (t : Task ℕ). nat_eq i t.namespace) old) o ≡ true
+      by None h = absurd (true≢false (sym h))
+      by (Some j) h = ap (λ i. list_any (λ (t : Task ℕ). nat_eq i t.namespace) old) (sym (eqb-true n j h)) ∙ own
+
+  pub own_kept : (m : Mount ℕ) → is_own world names old m ≡ true → keep world names old m ≡ Some m
+  own_kept m own =
+      kept_whole world names old m
+      (or_left (is_own world names old m) (is_at nat_eq (roots_and_directories old) m) own)
+
+  -- the mounts of a namespace of theirs are in the part
+  pub space_in_part : (n : ℕ) → list_any (λ (t : Task ℕ). nat_eq n t.namespace) old ≡ true
+      → mounts_of nat_eq part n ≡ mounts_of nat_eq world n
+  space_in_part n own =
+      filter_both (keep world names old) (its_in n) (its_in n) world.mounts
+      (λ m at h. (own_kept m (own_in n own m h), h))
+      (λ m y at h e. ⊎_elim (λ same. ap (its_in n) (sym same) ∙ h) (λ stub. ap (its_in n) (sym stub.0))
+      (kept_how world names old m y e))

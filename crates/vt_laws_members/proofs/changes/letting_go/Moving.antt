@@ -1,0 +1,228 @@
+-- Calls of close(2), chdir(2) and chroot(2) end in the part as in the world.
+use Rattle.std.proofs.Common.{◌≡◌, refl, sym, ap, subst, ◌∙◌, inl, inr, ⊎_elim, ℕ, nat_eq, true, List, [], ◌∷◌, Option, Some, None, Ok, Err, Result, filter, map, not}
+use Rattle.std.specs.Prelude.{IfOk, is_ok, ◌==◌}
+use Rattle.vt_spec.specs.declared.errors.Deny.{Deny}
+use Rattle.vt_spec.specs.declared.errors.Rule.TheVariants.{K1}
+use Rattle.vt_spec.specs.Errors.{and_then, unless}
+use Rattle.vt_spec.specs.Language.Calls.{TaskName}
+use Rattle.vt_spec.specs.Language.Calls.Call.{Chdir, Chroot, Close}
+use Rattle.vt_spec.specs.Lists.{is_among}
+use Rattle.vt_spec.specs.Machine.Invariants.{IsWorld}
+use Rattle.vt_spec.specs.Machine.Judge.{Judgement, chdir_permit, chroot_permit, close_permit, judge_in}
+use Rattle.vt_spec.specs.Machine.Looks.{Looks, looks_of}
+use Rattle.vt_spec.specs.Machine.Mounts.{Location}
+use Rattle.vt_spec.specs.Machine.Permits.{Permit}
+use Rattle.vt_spec.specs.Machine.Permits.Permit.{ToClose, ToSetDirectory, ToSetRoot}
+use Rattle.vt_spec.specs.Machine.Rules.Conditions.{lacks}
+use Rattle.vt_spec.specs.Machine.Rules.Descriptors.{descriptor_at}
+use Rattle.vt_spec.specs.Machine.Rules.Tasks.{enter_rules}
+use Rattle.vt_spec.specs.Rights.{cap_sys_chroot}
+use Rattle.vt_spec.specs.Machine.Sealed.{members, part_of, sealed, used_filesystems}
+use Rattle.vt_spec.specs.Machine.Walking.{Here, directory_walk}
+use Rattle.vt_spec.specs.Machine.World.{Descriptor, Task, World, task_called}
+use Rattle.vt_spec.proofs.Lists.{Among, among-from_filter, among-from_map, among-map}
+use Rattle.vt_laws_members.specs.Judging.{is_theirs}
+use Rattle.vt_laws_members.proofs.judging.AllJudged.{judges}
+use Rattle.vt_laws_members.proofs.judging.Grounds.{IsTheirs, theirs_from}
+use Rattle.vt_laws_members.proofs.judging.Judged.{JudgesAlike}
+use Rattle.vt_laws_members.proofs.judging.SeenInPart.{directory_theirs, root_theirs}
+use Rattle.vt_laws_members.proofs.judging.WalksLead.{HereAt, directory_agrees}
+use Rattle.vt_laws_members.specs.Changes.Changes.{EndsAlike}
+use Rattle.vt_laws_members.specs.Changes.LettingGo.{ChdirsEndAlike, ChrootsEndAlike, ClosesEndAlike}
+use Rattle.vt_laws_members.proofs.changes.looks.Granted.{of_rules, of_walk}
+use Rattle.vt_laws_members.proofs.changes.looks.Told.{member_called, ran}
+use Rattle.vt_laws_members.proofs.changes.tasks.Denied.{denial_ends_alike, run_by, same_judgement, unnamed_ends_alike}
+use Rattle.vt_laws_members.proofs.changes.letting_go.Callers.{moved_alike, spaces_kept}
+
+-- The permit of close(2)
+abbrev Closes : ℕ → Permit ℕ → Type 0
+Closes number permit = permit ≡ ToClose number
+
+closes_after : (number : ℕ) (r : Result (Descriptor ℕ) Deny) → IfOk
+    (and_then r (λ descriptor. Ok (ToClose number))) (Closes number)
+closes_after number (Ok descriptor) = refl
+closes_after number (Err deny) = tt
+
+closes : (task : Task ℕ) (number : ℕ) → IfOk (close_permit task number) (Closes number)
+unfolding close_permit
+closes task number = closes_after number (descriptor_at task number (λ descriptor. true))
+
+module _ (world : World ℕ) (names : List TaskName) (is : IsWorld nat_eq world)
+    (sealed_off : sealed nat_eq world names ≡ true) (task : Task ℕ) (member : Among task (members world names)) where
+  abbrev pub one : Looks ℕ
+  one = looks_of nat_eq world
+
+  abbrev pub other : Looks ℕ
+  other = looks_of nat_eq (part_of nat_eq world names)
+
+  abbrev pub On : ℕ → Type 0
+  On number = is_theirs world names number ≡ true
+
+  pub alike : JudgesAlike one other task (is_theirs world names)
+      (λ number. is_among nat_eq number (used_filesystems nat_eq world names))
+  alike = judges world names is sealed_off task member
+
+  abbrev pub StandsHere : Here ℕ → Type 0
+  StandsHere = HereAt one other task On alike.walks alike.directory alike.rules.removed
+
+  pub at_directory : (path : List ℕ) → IfOk (directory_walk nat_eq one task path) StandsHere
+  at_directory path = (directory_agrees one other task On alike.walks alike.directory alike.rules.removed path).1
+
+  -- The permits of chdir(2) and chroot(2)
+  abbrev pub SetsDirectory : Permit ℕ → Type 0
+  SetsDirectory permit = (l : Location ℕ) × (permit ≡ ToSetDirectory l) × On l.mount
+
+  abbrev pub SetsRoot : Permit ℕ → Type 0
+  SetsRoot permit = (l : Location ℕ) × (permit ≡ ToSetRoot l) × On l.mount
+
+  pub sets_directory : (path : List ℕ) → IfOk (chdir_permit nat_eq one task path) SetsDirectory
+  unfolding chdir_permit
+  sets_directory path =
+      of_walk StandsHere SetsDirectory (directory_walk nat_eq one task path)
+      (λ here. unless (enter_rules one task here.location) (Ok (ToSetDirectory here.location))) (at_directory path)
+      (λ here on. of_rules SetsDirectory (enter_rules one task here.location) (Ok (ToSetDirectory here.location))
+      (here.location, refl, on))
+
+  pub sets_root : (path : List ℕ) → IfOk (chroot_permit nat_eq one task path) SetsRoot
+  unfolding chroot_permit
+  sets_root path =
+      of_rules SetsRoot ((lacks task cap_sys_chroot, K1) ∷ []) _
+      (of_walk StandsHere SetsRoot (directory_walk nat_eq one task path)
+      (λ here. unless (enter_rules one task here.location) (Ok (ToSetRoot here.location))) (at_directory path)
+      (λ here on. of_rules SetsRoot (enter_rules one task here.location) (Ok (ToSetRoot here.location))
+      (here.location, refl, on)))
+
+pub closes_end_alike : ClosesEndAlike
+closes_end_alike world names name number it fresh other = by (task_called world name) refl
+  where
+    part : World ℕ
+    part = part_of nat_eq world names
+
+    granted_so : (task : Task ℕ) → task_called world name ≡ Some task
+        → judge_in nat_eq fresh world task (Close number) ≡ Ok (ToClose number)
+        → EndsAlike world names name (Close number) fresh other
+    granted_so task e judged =
+        let member = member_called world names it.is it.sealed_off name it.theirs task e in
+        moved_alike world names name (Close number) it task e
+        (record task { descriptors = filter (λ (d : Descriptor ℕ). not (number == d.number)) task.descriptors })
+        (record {
+          named = refl;
+          root = root_theirs world names it.is task member;
+          directory = directory_theirs world names it.is task member;
+          places = λ l m. inl (⊎_elim inl (λ rest. inr (⊎_elim inl (λ open_file.
+              let d = among-from_map (λ (d : Descriptor ℕ). d.location)
+              (filter (λ (d : Descriptor ℕ). not (number == d.number)) task.descriptors) l open_file in
+              inr (subst (λ (k : Location ℕ). Among k (map (λ (d : Descriptor ℕ). d.location) task.descriptors))
+              (sym d.2)
+              (among-map (λ (d : Descriptor ℕ). d.location) task.descriptors d.0
+              (among-from_filter (λ (d : Descriptor ℕ). not
+              (number == d.number)) task.descriptors d.0 d.1).0))) rest)) m);
+        }) fresh other refl
+        (spaces_kept world names name (Close number) it task e
+        (record task { descriptors = filter (λ (d : Descriptor ℕ). not (number == d.number)) task.descriptors }) refl
+        refl)
+        (ap (run_by world names name (Close number) it fresh other world fresh task) judged)
+        (ap (run_by world names name (Close number) it fresh other part other task)
+        (sym (same_judgement world names name (Close number) it fresh other task e) ∙ judged))
+
+    judged_by : (task : Task ℕ) → task_called world name ≡ Some task → (j : Judgement ℕ)
+        → judge_in nat_eq fresh world task (Close number) ≡ j → IfOk j (Closes number)
+        → EndsAlike world names name (Close number) fresh other
+    judged_by task e (Ok permit) judged its = granted_so task e (judged ∙ ap Ok its)
+    judged_by task e (Err deny) judged its =
+        denial_ends_alike world names name (Close number) it fresh other
+        (ap (λ o. is_ok (ran name (Close number) world fresh o).answer) e
+        ∙ ap (λ j. is_ok (run_by world names name (Close number) it fresh other world fresh task j).answer) judged)
+
+    by : (o : Option (Task ℕ)) → task_called world name ≡ o → EndsAlike world names name (Close number) fresh other
+    by None e = unnamed_ends_alike world names name (Close number) it fresh other e
+    by (Some task) e =
+        judged_by task e (judge_in nat_eq fresh world task (Close number)) refl (closes task number)
+
+pub chdirs_end_alike : ChdirsEndAlike
+chdirs_end_alike world names name path it fresh other = by (task_called world name) refl
+  where
+    part : World ℕ
+    part = part_of nat_eq world names
+
+    granted_so : (task : Task ℕ) (member : Among task (members world names)) → task_called world name ≡ Some task
+        → (l : Location ℕ) → IsTheirs world names it.is.mounts l.mount
+        → judge_in nat_eq fresh world task (Chdir path) ≡ Ok (ToSetDirectory l)
+        → EndsAlike world names name (Chdir path) fresh other
+    granted_so task member e l on judged =
+        moved_alike world names name (Chdir path) it task e (record task { directory = l })
+        (record {
+          named = refl;
+          root = root_theirs world names it.is task member;
+          directory = on;
+          places = λ k m. ⊎_elim (λ root. inl (inl root)) (λ rest. ⊎_elim
+              (λ here. inr (subst (λ (q : Location ℕ). IsTheirs world names it.is.mounts q.mount) (sym here) on))
+              (λ open_file. inl (inr (inr open_file))) rest) m;
+        }) fresh other refl
+        (spaces_kept world names name (Chdir path) it task e
+        (record task { directory = l }) refl refl)
+        (ap (run_by world names name (Chdir path) it fresh other world fresh task) judged)
+        (ap (run_by world names name (Chdir path) it fresh other part other task)
+        (sym (same_judgement world names name (Chdir path) it fresh other task e) ∙ judged))
+
+    judged_by : (task : Task ℕ) (member : Among task (members world names)) → task_called world name ≡ Some task
+        → (j : Judgement ℕ) → judge_in nat_eq fresh world task (Chdir path) ≡ j
+        → IfOk j (SetsDirectory world names it.is it.sealed_off task member)
+        → EndsAlike world names name (Chdir path) fresh other
+    judged_by task member e (Ok permit) judged its =
+        granted_so task member e its.0 (theirs_from world names it.is.mounts its.0.mount its.2) (judged ∙ ap Ok its.1)
+    judged_by task member e (Err deny) judged its =
+        denial_ends_alike world names name (Chdir path) it fresh other
+        (ap (λ o. is_ok (ran name (Chdir path) world fresh o).answer) e
+        ∙ ap (λ j. is_ok (run_by world names name (Chdir path) it fresh other world fresh task j).answer) judged)
+
+    by : (o : Option (Task ℕ)) → task_called world name ≡ o → EndsAlike world names name (Chdir path) fresh other
+    by None e = unnamed_ends_alike world names name (Chdir path) it fresh other e
+    by (Some task) e =
+        let member = member_called world names it.is it.sealed_off name it.theirs task e in
+        judged_by task member e (judge_in nat_eq fresh world task (Chdir path)) refl
+        (sets_directory world names it.is it.sealed_off task member path)
+
+pub chroots_end_alike : ChrootsEndAlike
+chroots_end_alike world names name path it fresh other = by (task_called world name) refl
+  where
+    part : World ℕ
+    part = part_of nat_eq world names
+
+    granted_so : (task : Task ℕ) (member : Among task (members world names)) → task_called world name ≡ Some task
+        → (l : Location ℕ) → IsTheirs world names it.is.mounts l.mount
+        → judge_in nat_eq fresh world task (Chroot path) ≡ Ok (ToSetRoot l)
+        → EndsAlike world names name (Chroot path) fresh other
+    granted_so task member e l on judged =
+        moved_alike world names name (Chroot path) it task e (record task { root = l })
+        (record {
+          named = refl;
+          root = on;
+          directory = directory_theirs world names it.is task member;
+          places = λ k m. ⊎_elim
+              (λ here. inr (subst (λ (q : Location ℕ). IsTheirs world names it.is.mounts q.mount) (sym here) on))
+              (λ rest. inl (inr rest)) m;
+        }) fresh other refl
+        (spaces_kept world names name (Chroot path) it task e
+        (record task { root = l }) refl refl)
+        (ap (run_by world names name (Chroot path) it fresh other world fresh task) judged)
+        (ap (run_by world names name (Chroot path) it fresh other part other task)
+        (sym (same_judgement world names name (Chroot path) it fresh other task e) ∙ judged))
+
+    judged_by : (task : Task ℕ) (member : Among task (members world names)) → task_called world name ≡ Some task
+        → (j : Judgement ℕ) → judge_in nat_eq fresh world task (Chroot path) ≡ j
+        → IfOk j (SetsRoot world names it.is it.sealed_off task member)
+        → EndsAlike world names name (Chroot path) fresh other
+    judged_by task member e (Ok permit) judged its =
+        granted_so task member e its.0 (theirs_from world names it.is.mounts its.0.mount its.2) (judged ∙ ap Ok its.1)
+    judged_by task member e (Err deny) judged its =
+        denial_ends_alike world names name (Chroot path) it fresh other
+        (ap (λ o. is_ok (ran name (Chroot path) world fresh o).answer) e
+        ∙ ap (λ j. is_ok (run_by world names name (Chroot path) it fresh other world fresh task j).answer) judged)
+
+    by : (o : Option (Task ℕ)) → task_called world name ≡ o → EndsAlike world names name (Chroot path) fresh other
+    by None e = unnamed_ends_alike world names name (Chroot path) it fresh other e
+    by (Some task) e =
+        let member = member_called world names it.is it.sealed_off name it.theirs task e in
+        judged_by task member e (judge_in nat_eq fresh world task (Chroot path)) refl
+        (sets_root world names it.is it.sealed_off task member path)

@@ -1,0 +1,69 @@
+-- Filesystems of a part: their numbers, layers and cuts.
+use Rattle.std.proofs.Common.{◌≡◌, refl, sym, ap, subst, ◌∙◌, ⊎_elim, ℕ, nat_eq, true, false, List, Option, Some, None, filter}
+use Rattle.std.specs.List.{list_any}
+use Rattle.vt_spec.specs.Language.Calls.{TaskName}
+use Rattle.vt_spec.specs.Lists.{any_pair, is_among}
+use Rattle.vt_spec.specs.Machine.Invariants.{IsWorld}
+use Rattle.vt_spec.specs.Machine.Sealed.{lies_in_own_lower, own_lowers, part_of, part_of_filesystem, used_filesystems}
+use Rattle.vt_spec.specs.Machine.Settled.{has_layer_on}
+use Rattle.vt_spec.specs.Machine.World.{Filesystem, Layer, World}
+use Rattle.vt_spec.proofs.Lists.{Among, among-from_filter_map}
+use Rattle.vt_laws_sealed.proofs.part.part.PartOfPart.{shown_how}
+use Rattle.vt_laws_members.proofs.changes.letting_go.LessSeen.{AreLess, has_lowers}
+use Rattle.vt_laws_members.proofs.changes.letting_go.Ready.{IsCut, numbers_kept}
+use Rattle.vt_laws_members.proofs.changes.letting_go.WorldReady.{plain_in, whole_cut}
+
+module _ (world : World ℕ) (names : List TaskName) (is : IsWorld nat_eq world) where
+  abbrev part : World ℕ
+  part = part_of nat_eq world names
+
+  abbrev shown : Filesystem ℕ → Option (Filesystem ℕ)
+  shown = part_of_filesystem nat_eq world names
+
+  shown_number : (x y : Filesystem ℕ) → shown x ≡ Some y → (y.number ≡ x.number) × (y.overlay ≡ x.overlay)
+  shown_number x y e =
+      ⊎_elim
+      (λ whole. (ap (λ (f : Filesystem ℕ). f.number) (sym whole.0), ap (λ (f : Filesystem ℕ). f.overlay) (sym whole.0)))
+      (λ low. (ap (λ (f : Filesystem ℕ). f.number) (sym low.0), ap (λ (f : Filesystem ℕ). f.overlay) (sym low.0)))
+      (shown_how world names x y e)
+
+  pub numbers_in_part : any_pair (λ (x y : Filesystem ℕ). nat_eq x.number y.number) part.filesystems ≡ false
+  numbers_in_part =
+      numbers_kept (λ (f : Filesystem ℕ). f.number) shown (λ x y e. (shown_number x y e).0) world.filesystems
+      is.files.one_filesystem
+
+  pub plain_in_part : (y merged : Filesystem ℕ) → Among y part.filesystems → Among merged part.filesystems
+      → has_layer_on nat_eq y.number merged ≡ true → y.overlay ≡ None
+  plain_in_part y merged m n has =
+      let one = among-from_filter_map shown world.filesystems y m in
+      let two = among-from_filter_map shown world.filesystems merged n in
+      let its = shown_number one.0 y one.2 in
+      let other = shown_number two.0 merged two.2 in
+      cc (
+        its.1,
+        plain_in world names is one.0 two.0 one.1 two.1 (ap (λ o. has_layer_on nat_eq one.0.number (record merged {
+          overlay = o;
+        })) (sym other.1) ∙ ap (λ k. has_layer_on nat_eq k merged) (sym its.0) ∙ has),
+      )
+
+  module _ (set : List TaskName) (next next_part : World ℕ) (less : AreLess world names set next next_part) where
+    abbrev now : World ℕ
+    now = record next { filesystems = world.filesystems }
+
+    pub cut_in_part : (y : Filesystem ℕ) → Among y part.filesystems
+        → is_among nat_eq y.number (used_filesystems nat_eq now set) ≡ false
+        → list_any (λ (layer : Layer ℕ). nat_eq y.number layer.filesystem) (own_lowers nat_eq now set) ≡ true
+        → IsCut y.number (own_lowers nat_eq now set) y.files
+    cut_in_part y m unused low =
+        let from = among-from_filter_map shown world.filesystems y m in
+        ⊎_elim
+        (λ whole. subst (λ (f : Filesystem ℕ). IsCut f.number (own_lowers nat_eq now set) f.files) whole.0
+        (whole_cut world is (own_lowers nat_eq now set) from.0 from.1))
+        (λ lower. subst (λ (f : Filesystem ℕ). IsCut f.number (own_lowers nat_eq now set) f.files) lower.0
+        (record {
+          whole = from.0.files;
+          chosen = filter (lies_in_own_lower nat_eq world names from.0.number) from.0.files.numbers;
+          has = has_lowers world names is set next next_part less from.0 from.1 lower.1 lower.2;
+          same = refl;
+        }))
+        (shown_how world names from.0 y from.2)

@@ -1,0 +1,100 @@
+-- The part of a sealed set has the invariants of mounts.
+use Rattle.std.proofs.Common.{◌≡◌, refl, sym, ap, subst, ◌∙◌, ⊎_elim, ℕ, nat_eq, true, false, List, [], ◌∷◌, Option, Some, None, is_some, ◌&&◌}
+use Rattle.std.specs.List.{cons_option, filter_map, list_any}
+use Rattle.std.proofs.lemmas.Bool.{or_from, or_parts}
+use Rattle.vt_spec.specs.Language.Calls.{TaskName}
+use Rattle.vt_spec.specs.Lists.{any_pair, same_option}
+use Rattle.vt_spec.specs.Machine.Invariants.{HasLivingGroups, IsWorld, Lives, MountInvariants, is_nowhere_or_attached, share_a_mount_point}
+use Rattle.vt_spec.specs.Machine.Invariants.Lives.{has_master, has_no_master}
+use Rattle.vt_spec.specs.Machine.Mounts.{Location, Mount, same_location}
+use Rattle.vt_spec.specs.Machine.Receives.{has_members, is_member_of}
+use Rattle.vt_spec.specs.Machine.Sealed.{members, part_of, sealed}
+use Rattle.vt_spec.specs.Machine.World.{World}
+use Rattle.vt_spec.proofs.Lists.{all_from_among, among-from_filter_map, among_from_list_all, any_from_among, list_all_from_among, none_among, none_from_among}
+use Rattle.vt_laws_sealed.proofs.part.groups.EventsApart.{Hears}
+use Rattle.vt_laws_sealed.proofs.part.groups.ReceiversAlike.{Living, own_member}
+use Rattle.vt_laws_sealed.proofs.part.part.PartOfPart.{keep, kept_how}
+use Rattle.vt_laws_members.proofs.judging.MountTrees.{part_one_number, part_stands}
+use Rattle.vt_laws_members.proofs.changes.letting_go.Heard.{above_heard, apart, heard_by_own, master_same, own_in_part, part_source}
+
+module _ (world : World ℕ) (names : List TaskName) where
+  abbrev kept : Mount ℕ → Option (Mount ℕ)
+  kept = keep world names (members world names)
+
+  -- what is kept has no mount points in common that the mounts had not
+  share_less : (x y u z : Mount ℕ) → kept x ≡ Some y → kept u ≡ Some z → share_a_mount_point nat_eq x u ≡ false
+      → share_a_mount_point nat_eq y z ≡ false
+  share_less x y u z e f apart_so =
+      ⊎_elim
+      (λ same. ⊎_elim
+      (λ too. ap (λ k. share_a_mount_point nat_eq k z) (sym same) ∙ ap (share_a_mount_point nat_eq x) (sym too)
+      ∙ apart_so)
+      (λ stub. ap (λ (k : Mount ℕ). share_a_mount_point nat_eq y k) (sym stub.0) ∙ none y.mount_point)
+      (kept_how world names (members world names) u z f))
+      (λ stub. ap (λ (k : Mount ℕ). share_a_mount_point nat_eq k z) (sym stub.0))
+      (kept_how world names (members world names) x y e)
+    where
+      none : (o : Option (Location ℕ)) → (is_some o && same_option (same_location nat_eq) o None) ≡ false
+      none None = refl
+      none (Some l) = refl
+
+  one_child_kept : (list : List (Mount ℕ)) → any_pair (share_a_mount_point nat_eq) list ≡ false
+      → any_pair (share_a_mount_point nat_eq) (filter_map kept list) ≡ false
+  one_child_kept [] e = refl
+  one_child_kept (x ∷ rest) e =
+      let parts = or_parts (list_any (share_a_mount_point nat_eq x) rest)
+      (any_pair (share_a_mount_point nat_eq) rest) e in
+      by (kept x) refl parts.0 (one_child_kept rest parts.1)
+    where
+      by : (o : Option (Mount ℕ)) → kept x ≡ o → list_any (share_a_mount_point nat_eq x) rest ≡ false
+          → any_pair (share_a_mount_point nat_eq) (filter_map kept rest) ≡ false
+          → any_pair (share_a_mount_point nat_eq) (cons_option o (filter_map kept rest)) ≡ false
+      by None f none later = later
+      by (Some y) f none later =
+          or_from (list_any (share_a_mount_point nat_eq y) (filter_map kept rest))
+          (any_pair (share_a_mount_point nat_eq) (filter_map kept rest))
+          (none_from_among (share_a_mount_point nat_eq y) (filter_map kept rest) (λ z m.
+          let from = among-from_filter_map kept rest z m in
+          share_less x y from.0 z f from.2 (none_among (share_a_mount_point nat_eq x) rest none from.0 from.1))) later
+
+module _ (world : World ℕ) (names : List TaskName) (is : IsWorld nat_eq world)
+    (sealed_off : sealed nat_eq world names ≡ true) where
+  abbrev part : World ℕ
+  part = part_of nat_eq world names
+
+  -- a group that is heard has members in the part, and lives there
+  in_it : (g : ℕ) → Hears world names is.mounts (apart world names is sealed_off).events g
+      → Living world names is.mounts (apart world names is sealed_off).events g
+      → has_members nat_eq part.mounts g ≡ true
+  in_it g heard lives =
+      let own = own_member world names is.mounts (apart world names is sealed_off).events g heard lives in
+      any_from_among (is_member_of nat_eq g) part.mounts own.0 (own_in_part world names is sealed_off own.0 own.1) own.2
+
+  lives_there : (g : ℕ) → Hears world names is.mounts (apart world names is sealed_off).events g
+      → Living world names is.mounts (apart world names is sealed_off).events g
+      → Lives (has_members nat_eq part.mounts) part.master g
+  lives_there g heard (has_no_master it members_are none) =
+      has_no_master it (in_it it heard (has_no_master it members_are none))
+      (master_same world names is sealed_off it (heard, has_no_master it members_are none) ∙ none)
+  lives_there g heard (has_master it above members_are e later) =
+      has_master it above (in_it it heard (has_master it above members_are e later))
+      (master_same world names is sealed_off it (heard, has_master it above members_are e later) ∙ e)
+      (lives_there above
+      (above_heard world names is sealed_off above it e (heard, has_master it above members_are e later)).0 later)
+
+  pub part_mounts : MountInvariants nat_eq part
+  part_mounts = record {
+    one_number = part_one_number world names is;
+    one_child = one_child_kept world names world.mounts is.mounts.one_child;
+    standing = part_stands world names is;
+    nowhere = list_all_from_among is_nowhere_or_attached part.mounts (λ y m.
+        let from = among-from_filter_map (keep world names (members world names)) world.mounts y m in
+        ⊎_elim
+        (λ same. subst (λ k. is_nowhere_or_attached k ≡ true) same
+        (among_from_list_all is_nowhere_or_attached world.mounts is.mounts.nowhere from.0 from.1))
+        (λ stub. ap (λ (k : Mount ℕ). is_nowhere_or_attached k) (sym stub.0))
+        (kept_how world names (members world names) from.0 y from.2));
+    groups = all_from_among (HasLivingGroups nat_eq part) part.mounts (λ y m g e.
+        let heard = heard_by_own world names is sealed_off y (part_source world names is sealed_off y m g e) g e in
+        lives_there g heard.0 heard.1);
+  }

@@ -1,0 +1,197 @@
+-- So is the part, where the tasks let go in it what they let go in the world.
+use Rattle.std.proofs.Common.{◌≡◌, refl, sym, ap, subst, ◌∙◌, ◌⊎◌, inl, inr, ⊎_elim, ℕ, nat_eq, true, List, Option, Some, None, filter, is_some, eq-eqb}
+use Rattle.std.specs.List.{list_any}
+use Rattle.std.proofs.lemmas.Bool.{or_left, or_right}
+use Rattle.vt_spec.specs.Language.Calls.{TaskName}
+use Rattle.vt_spec.specs.Lists.{holds_of}
+use Rattle.vt_spec.specs.Machine.Invariants.{IsWorld}
+use Rattle.vt_spec.specs.Machine.Mounts.{Location, Mount}
+use Rattle.vt_spec.specs.Machine.Sealed.{is_at, is_member_task, locations, members, own_lowers, part_of, roots_and_directories, sealed, used_filesystems}
+use Rattle.vt_spec.specs.Machine.Settled.{is_located, mount_lives, without_dead_mounts}
+use Rattle.vt_spec.specs.Machine.World.{Task, World, all_locations, locations_of}
+use Rattle.vt_spec.proofs.Lists.{Among, among-filter, among-filter_map, among-flat_map, among-from_filter, among-from_filter_map, among-from_flat_map, any_from_among, pair-filter}
+use Rattle.vt_spec.proofs.Options.{none_is_some}
+use Rattle.vt_laws_mounts.specs.Mounts.Invariants.{OneNumberEach}
+use Rattle.vt_laws_sealed.proofs.part.part.Observed.{lowers_same, used_same}
+use Rattle.vt_laws_sealed.proofs.part.part.PartOfPart.{is_own, keep, kept_how, kept_whole}
+use Rattle.vt_laws_sealed.proofs.outsiders.SeenLater.{shown_at}
+use Rattle.vt_laws_members.proofs.judging.Grounds.{IsTheirs, nowhere_stands}
+use Rattle.vt_laws_members.proofs.judging.MountPoints.{part_mount}
+use Rattle.vt_laws_members.proofs.judging.MountTrees.{part_one_number}
+use Rattle.vt_laws_members.proofs.changes.letting_go.Changed.{LetsGo, ground_is, ground_whole, owned_same, mount_parent, placed_on, sees_less}
+use Rattle.vt_laws_members.proofs.changes.letting_go.Ready.{NoOthers, Ready}
+use Rattle.vt_laws_members.proofs.changes.letting_go.LessSeen.{AreLess, less_lowers, less_used}
+use Rattle.vt_laws_members.proofs.changes.letting_go.PartFiles.{cut_in_part, numbers_in_part, plain_in_part}
+use Rattle.vt_laws_members.proofs.changes.letting_go.SeeLess.{SeeLess, now_less}
+use Rattle.vt_laws_members.proofs.changes.letting_go.WorldReady.{sees_living}
+
+module _ (world : World ℕ) (names : List TaskName) (is : IsWorld nat_eq world)
+    (sealed_off : sealed nat_eq world names ≡ true) (set : List TaskName) (tasks tasks_too : List (Task ℕ))
+    (change change_too : ℕ) (it : LetsGo world names is sealed_off set tasks)
+    (same : filter (is_member_task set) tasks_too ≡ filter (is_member_task set) tasks)
+    (all : (t : Task ℕ) → Among t tasks_too → is_member_task set t ≡ true) where
+  abbrev part : World ℕ
+  part = part_of nat_eq world names
+
+  abbrev later : World ℕ
+  later = record world { tasks = tasks; change = change }
+
+  abbrev later_part : World ℕ
+  later_part = record part { tasks = tasks_too; change = change_too }
+
+  abbrev living : World ℕ
+  living = without_dead_mounts nat_eq later_part
+
+  abbrev old : List (Task ℕ)
+  old = members world names
+
+  abbrev new : List (Task ℕ)
+  new = members later set
+
+  abbrev kept : Mount ℕ → Option (Mount ℕ)
+  kept = keep world names old
+
+  less : SeeLess world names set tasks change
+  less = sees_less world names is sealed_off set tasks change it
+
+  there : (y : Mount ℕ) → Among y living.mounts → Among y part.mounts
+  there y n = (among-from_filter (mount_lives nat_eq later_part) part.mounts y n).0
+
+  was : (y : Mount ℕ) → Among y living.mounts → (m : Mount ℕ) × Among m world.mounts × (kept m ≡ Some y)
+  was y n = among-from_filter_map kept world.mounts y (there y n)
+
+  number_kept : (m y : Mount ℕ) → kept m ≡ Some y → y.number ≡ m.number
+  number_kept m y e =
+      ⊎_elim (λ its. ap (λ (k : Mount ℕ). k.number) (sym its)) (λ stub. ap (λ (k : Mount ℕ). k.number) (sym stub.0))
+      (kept_how world names old m y e)
+
+  attached_lives : (y : Mount ℕ) (n : ℕ) → Among y part.mounts → y.namespace ≡ Some n → Among y living.mounts
+  attached_lives y n at e =
+      among-filter (mount_lives nat_eq later_part) part.mounts y at
+      (or_left (is_some y.namespace) (is_located nat_eq later_part y.number) (ap is_some e))
+
+  located_lives : (y : Mount ℕ) (l : Location ℕ) → Among y part.mounts → Among l (all_locations later_part)
+      → l.mount ≡ y.number → Among y living.mounts
+  located_lives y l at n e =
+      among-filter (mount_lives nat_eq later_part) part.mounts y at
+      (or_right (is_some y.namespace) (is_located nat_eq later_part y.number)
+      (any_from_among (λ (k : Location ℕ). nat_eq y.number k.mount) (all_locations later_part) l n
+      (eq-eqb y.number l.mount (sym e))))
+
+  -- a location of the set is on a mount of the part
+  located_so : (l : Location ℕ) → Among l (locations (filter (is_member_task set) tasks_too))
+      → (y : Mount ℕ) × Among y living.mounts × (l.mount ≡ y.number)
+  located_so l m =
+      let theirs : Among l (locations new) = subst (λ ts. Among l (locations ts)) same m in
+      let on = placed_on world names is sealed_off set tasks change it l theirs in
+      let shows = by on.0 on.1 (it.places l theirs) on.2 in
+      let there_too = among-filter_map kept world.mounts on.0 shows.0 on.1 shows.1 in
+      let t = among-from_flat_map locations_of (filter (is_member_task set) tasks_too) l m in
+      let number : l.mount ≡ shows.0.number = on.2 ∙ sym (number_kept on.0 shows.0 shows.1) in (
+        shows.0,
+        located_lives shows.0 l there_too
+            (among-flat_map locations_of tasks_too t.0 l
+            (among-from_filter (is_member_task set) tasks_too t.0 t.1).0 t.2)
+            number,
+        number,
+      )
+    where
+      by : (m : Mount ℕ) → Among m world.mounts
+          → Among l (locations old) ⊎ IsTheirs world names is.mounts l.mount
+          → l.mount ≡ m.number → (y : Mount ℕ) × (kept m ≡ Some y)
+      by m n (inl before) e =
+          shown_at world names m (any_from_among (λ (k : Location ℕ). nat_eq k.mount m.number) (locations old) l before
+          (eq-eqb l.mount m.number e))
+      by m n (inr theirs) e = (
+        m,
+        kept_whole world names old m
+            (ground_whole world names is sealed_off set tasks change it m
+            (ground_is world names is sealed_off set tasks change it m n
+            l.mount e theirs)),
+      )
+
+  -- a mount of the part with a mount point is theirs, and whole
+  whole_point : (m y : Mount ℕ) (l : Location ℕ) → Among m world.mounts → kept m ≡ Some y → y.mount_point ≡ Some l
+      → (m ≡ y) × (is_own world names old y ≡ true)
+  whole_point m y l n e point =
+      ⊎_elim
+      (λ its. (
+        its,
+        ⊎_elim (λ own. own)
+            (λ none. absurd (nowhere_stands world names is.mounts y l
+            (subst (λ k. Among k world.mounts) its n) none point))
+            (part_mount world names is m y n e),
+      ))
+      (λ stub. none_is_some l (ap (λ (k : Mount ℕ). k.mount_point) stub.0 ∙ point))
+      (kept_how world names old m y e)
+
+  own_whole : (k : Mount ℕ) → Among k world.mounts → is_own world names old k ≡ true → Among k part.mounts
+  own_whole k n own =
+      among-filter_map kept world.mounts k k n
+      (kept_whole world names old k
+      (or_left (is_own world names old k) (is_at nat_eq (roots_and_directories old) k) own))
+
+  parents_so : (y : Mount ℕ) (l : Location ℕ) → Among y living.mounts → y.mount_point ≡ Some l
+      → (n : ℕ) × (y.namespace ≡ Some n) × (k : Mount ℕ) × Among k living.mounts × (l.mount ≡ k.number)
+      × (k.namespace ≡ Some n)
+  parents_so y l n point =
+      let from = was y n in
+      let whole = whole_point from.0 y l from.1 from.2 point in
+      let up = mount_parent world is.mounts y l (subst (λ k. Among k world.mounts) whole.0 from.1) point in
+      let own : is_own world names old up.2 ≡ true =
+      ap (holds_of (λ i. list_any (λ (t : Task ℕ). nat_eq i t.namespace) old)) (up.5 ∙ sym up.1) ∙ whole.1 in
+      (up.0, up.1, up.2, attached_lives up.2 up.0 (own_whole up.2 up.3 own) up.5, up.4, up.5)
+
+  -- owned by the set of before, so by that of now
+  owned_now : (y : Mount ℕ) → is_own world names old y ≡ true
+      → is_own world names (filter (is_member_task set) tasks_too) y ≡ true
+  owned_now y own = cc (same, owned_same world names is sealed_off set tasks change it y)
+
+  stood_there : (y : Mount ℕ) → Among y living.mounts
+      → is_at nat_eq (roots_and_directories (filter (is_member_task set) tasks_too)) y ≡ true
+      → (is_own world names (filter (is_member_task set) tasks_too) y ≡ true) ⊎ (y.mount_point ≡ None)
+  stood_there y n h = by y.mount_point refl
+    where
+      by : (o : Option (Location ℕ)) → y.mount_point ≡ o
+          → (is_own world names (filter (is_member_task set) tasks_too) y ≡ true) ⊎ (y.mount_point ≡ None)
+      by None e = inr e
+      by (Some l) e =
+          let from = was y n in inl (owned_now y (whole_point from.0 y l from.1 from.2 e).1)
+
+  -- all is theirs
+  pub no_others_there : (number : ℕ) → NoOthers living set number
+  no_others_there number = record {
+    mounts = λ y n e. let from = was y n in
+        ⊎_elim (λ own. inl (owned_now y own)) inr (part_mount world names is from.0 y from.1 from.2);
+    locations = λ l m e. let t = among-from_flat_map locations_of tasks_too l m in
+        among-flat_map locations_of (filter (is_member_task set) tasks_too) t.0 l
+        (among-filter (is_member_task set) tasks_too t.0 t.1 (all t.0 t.1)) t.2;
+  }
+
+  sees : AreLess world names set later later_part
+  sees = now_less world names is set tasks tasks_too change change_too less same
+
+  one_number : OneNumberEach living
+  one_number =
+      pair-filter (λ (p q : Mount ℕ). nat_eq p.number q.number) (mount_lives nat_eq later_part) part.mounts
+      (part_one_number world names is)
+
+  pub part_ready : Ready living set (used_filesystems nat_eq later set) (own_lowers nat_eq later set)
+  part_ready = record {
+    used_are = used_same later_part living set (sees_living later_part set)
+        ∙ less_used world names is set later later_part sees;
+    lowers_are = lowers_same later_part living set (sees_living later_part set)
+        ∙ less_lowers world names is set later later_part sees;
+    one = one_number;
+    lives = λ y n. (among-from_filter (mount_lives nat_eq later_part) part.mounts y n).1;
+    located = located_so;
+    parents = parents_so;
+    stood = stood_there;
+    one_filesystem = numbers_in_part world names is;
+    plain = plain_in_part world names is;
+    free = λ y m u. inl (record {
+      itself = no_others_there y.number;
+      overlays = λ merged n has. no_others_there merged.number;
+    });
+    cut = cut_in_part world names is set later later_part sees;
+  }

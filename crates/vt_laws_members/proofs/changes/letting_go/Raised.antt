@@ -1,0 +1,100 @@
+-- Where tasks change alone and the rest is swept, change numbers of tasks and of the world are raised, and no others.
+use Rattle.std.proofs.Common.{◌≡◌, refl, sym, ap, ◌∙◌, ℕ, nat_eq, Bool, true, false, cond, true≢false, List, [], Option, Some, None, filter, is_some, map}
+use Rattle.std.proofs.lemmas.Bool.{or_left}
+use Rattle.vt_spec.specs.Language.Calls.{TaskName}
+use Rattle.vt_spec.specs.Lists.{holds_of, same_list}
+use Rattle.vt_spec.specs.Machine.Filesystems.{raised, raised_if_changed}
+use Rattle.vt_spec.specs.Machine.Invariants.{is_private}
+use Rattle.vt_spec.specs.Machine.Mounts.{Mount, Propagation, group_of}
+use Rattle.vt_spec.specs.Machine.Mounts.Propagation.{Private, Shared, Slave, Unbindable}
+use Rattle.vt_spec.specs.Machine.Policy.{numbers_raised, raised_namespace, raised_task, same_mount, same_mounts_in}
+use Rattle.vt_spec.specs.Machine.Receives.{has_members, is_member_of}
+use Rattle.vt_spec.specs.Machine.Settled.{is_located, mount_lives, settled}
+use Rattle.vt_spec.specs.Machine.World.{Namespace, Task, World, mounts_of}
+use Rattle.vt_spec.proofs.Lists.{Among, among-filter, any_among, any_from_among, map_same}
+use Rattle.vt_laws_mounts.specs.LettingGo.InUse.{AllInUse}
+use Rattle.vt_laws_members.proofs.changes.letting_go.SeeLess.{filter_less}
+use Rattle.vt_laws_members.proofs.changes.tasks.RaisedTasks.{all_themselves}
+
+-- a mount in a namespace
+attached : (number : ℕ) (o : Option ℕ) → holds_of (nat_eq number) o ≡ true → is_some o ≡ true
+attached number None h = h
+attached number (Some n) h = refl
+
+-- a private mount is in no group
+in_no_group : (group : ℕ) (kind : Propagation ℕ) → is_private kind ≡ true → holds_of (nat_eq group) (group_of kind)
+    ≡ false
+in_no_group group (Shared other) e = absurd (true≢false (sym e))
+in_no_group group (Slave master) e = refl
+in_no_group group Private e = refl
+in_no_group group Unbindable e = refl
+
+-- mounts outside every namespace are private
+abbrev pub DetachedArePrivate : World ℕ → Type 0
+DetachedArePrivate before =
+    (m : Mount ℕ) → Among m before.mounts → m.namespace ≡ None → is_private m.propagation ≡ true
+
+module _ (before : World ℕ) (in_use : AllInUse before) (private_ones : DetachedArePrivate before) (name : TaskName)
+    (tasks : List (Task ℕ)) where
+  abbrev later : World ℕ
+  later = record before { tasks = tasks }
+
+  abbrev after : World ℕ
+  after = settled nat_eq later
+
+  abbrev lives : Mount ℕ → Bool
+  lives = mount_lives nat_eq later
+
+  mounts_stay : (n : ℕ) → mounts_of nat_eq after n ≡ mounts_of nat_eq before n
+  mounts_stay n =
+      filter_less (λ (m : Mount ℕ). holds_of (nat_eq n) m.namespace) lives before.mounts
+      (λ m h. or_left (is_some m.namespace) (is_located nat_eq later m.number) (attached n m.namespace h))
+
+  -- a group with a member keeps one
+  members_stay : (group : ℕ) → has_members nat_eq before.mounts group ≡ true
+      → has_members nat_eq after.mounts group ≡ true
+  members_stay group h =
+      let at = any_among (is_member_of nat_eq group) before.mounts h in
+      by at.0 at.1 at.2 at.0.namespace refl
+    where
+      by : (m : Mount ℕ) → Among m before.mounts → is_member_of nat_eq group m ≡ true → (o : Option ℕ) → m.namespace ≡ o
+          → has_members nat_eq after.mounts group ≡ true
+      by m n its None e =
+          absurd (true≢false (sym its ∙ in_no_group group m.propagation (private_ones m n e)))
+      by m n its (Some k) e =
+          any_from_among (is_member_of nat_eq group) (filter lives before.mounts) m
+          (among-filter lives before.mounts m n
+          (or_left (is_some m.namespace) (is_located nat_eq later m.number) (ap is_some e))) its
+
+  masters_stay : (group : ℕ) → after.master group ≡ before.master group
+  masters_stay group = by (has_members nat_eq before.mounts group) refl
+    where
+      same : (b : Bool) (o : Option ℕ) → o ≡ None → cond b o None ≡ o
+      same true o e = refl
+      same false o e = sym e
+
+      by : (b : Bool) → has_members nat_eq before.mounts group ≡ b
+          → cond (has_members nat_eq after.mounts group) (before.master group) None ≡ before.master group
+      by true e = ap (λ c. cond c (before.master group) None) (members_stay group e)
+      by false e =
+          same (has_members nat_eq after.mounts group) (before.master group) (in_use.groups group e)
+
+  same_mounts : (n : ℕ) → same_mounts_in nat_eq before after n ≡ true
+  same_mounts n =
+      (λ i. same_list (same_mount nat_eq before (record before { master = λ group. masters_stay group i }))
+      (mounts_of nat_eq before n) (mounts_stay n i))
+      ∙ all_themselves before name tasks (mounts_of nat_eq before n)
+
+  namespace_stays : (namespace : Namespace ℕ) → raised_namespace nat_eq before after namespace ≡ namespace
+  namespace_stays namespace = cc (same_mounts namespace.number)
+
+  pub swept_raised : numbers_raised nat_eq before name [] after
+      ≡ record after { tasks = map (raised_task name) tasks; change = raised before.change }
+  swept_raised i = record {
+    mounts = after.mounts;
+    master = after.master;
+    filesystems = map_same (raised_if_changed nat_eq []) after.filesystems (λ f m. refl) i;
+    namespaces = map_same (raised_namespace nat_eq before after) after.namespaces (λ n m. namespace_stays n) i;
+    tasks = map (raised_task name) tasks;
+    change = raised before.change;
+  }

@@ -1,0 +1,60 @@
+-- The sweep of a part is the part of the sweep, where the tasks of a sealed set use no more than before.
+use Rattle.std.proofs.Common.{◌≡◌, sym, subst, inl, ⊎_elim, ℕ, nat_eq, true, List, [], ◌∷◌, filter, not}
+use Rattle.vt_spec.specs.Language.Calls.{TaskName}
+use Rattle.vt_spec.specs.Machine.Invariants.{IsWorld}
+use Rattle.vt_spec.specs.Machine.Mounts.{Location}
+use Rattle.vt_spec.specs.Machine.Sealed.{is_member_task, locations, members, outsiders, part_of, roots_and_directories, sealed}
+use Rattle.vt_spec.specs.Machine.World.{Task, World}
+use Rattle.vt_spec.proofs.Lists.{Among, among-from_filter, among-from_flat_map, among_from_contains, contains_from_among}
+use Rattle.vt_laws_sealed.proofs.part.Kept.{filter_again}
+use Rattle.vt_laws_members.proofs.judging.Grounds.{IsTheirs}
+use Rattle.vt_laws_members.proofs.judging.SeenInPart.{directory_theirs, root_theirs}
+use Rattle.vt_laws_members.specs.Changes.LettingGo.{LessIsSeenAlike, SweepsAlike, UsesNoMore}
+use Rattle.vt_laws_members.proofs.changes.letting_go.Changed.{LetsGo, sees_less}
+use Rattle.vt_laws_members.proofs.changes.letting_go.SeeLess.{part_of_less}
+use Rattle.vt_laws_members.proofs.changes.letting_go.SweptAlike.{swept_alike}
+
+module _ (world : World ℕ) (names set : List TaskName) (is : IsWorld nat_eq world)
+    (sealed_off : sealed nat_eq world names ≡ true) (tasks : List (Task ℕ))
+    (uses : UsesNoMore world names set tasks) where
+  abbrev old : List (Task ℕ)
+  old = members world names
+
+  abbrev new : List (Task ℕ)
+  new = filter (is_member_task set) tasks
+
+  -- a root or working directory of theirs
+  stood : (l : Location ℕ) → Among l (roots_and_directories old) → IsTheirs world names is.mounts l.mount
+  stood l m =
+      let from = among-from_flat_map (λ (t : Task ℕ). t.root ∷ t.directory ∷ []) old l m in
+      ⊎_elim
+      (λ e. subst (λ (k : Location ℕ). IsTheirs world names is.mounts k.mount) (sym e)
+      (root_theirs world names is from.0 from.1))
+      (λ rest. ⊎_elim
+      (λ e. subst (λ (k : Location ℕ). IsTheirs world names is.mounts k.mount) (sym e)
+      (directory_theirs world names is from.0 from.1))
+      (λ none. absurd none) rest) from.2
+
+  lets_go : LetsGo world names is sealed_off set tasks
+  lets_go = record {
+    own = uses.namespaces;
+    roots = λ l m. stood l (among_from_contains (roots_and_directories old) l
+        (uses.roots l (contains_from_among (roots_and_directories new) l m)));
+    places = λ l m. inl (among_from_contains (locations old) l
+        (uses.locations_used l (contains_from_among (locations new) l m)));
+    others = λ l m. among_from_contains (locations (outsiders world names)) l
+        (uses.others l (contains_from_among (locations (filter (λ t. not (is_member_task set t)) tasks)) l m));
+  }
+
+pub less_is_seen_alike : LessIsSeenAlike
+less_is_seen_alike world names set is sealed_off tasks uses =
+    let lets = lets_go world names set is sealed_off tasks uses in
+    sym (part_of_less world names is set tasks (filter (is_member_task set) tasks) world.change
+    (part_of nat_eq world names).change (sees_less world names is sealed_off set tasks world.change lets)
+    (filter_again (is_member_task set) tasks))
+
+pub sweeps_alike : SweepsAlike
+sweeps_alike world names set is sealed_off tasks uses =
+    swept_alike world names set is sealed_off tasks (filter (is_member_task set) tasks)
+    (lets_go world names set is sealed_off tasks uses) (filter_again (is_member_task set) tasks)
+    (λ t m. (among-from_filter (is_member_task set) tasks t m).1)

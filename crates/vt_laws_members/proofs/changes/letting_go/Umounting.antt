@@ -1,0 +1,204 @@
+-- Each umount(2) ends in the part as in the world.
+use Rattle.std.proofs.Common.{◌≡◌, refl, sym, ap, subst, ◌∙◌, ⊎_elim, ℕ, nat_eq, Bool, true, false, true≢false, List, [], ◌∷◌, Option, Some, None, Ok, Err, is_some, not}
+use Rattle.std.specs.Prelude.{⊤, IfOk, is_ok}
+use Rattle.std.proofs.lemmas.Bool.{or_parts}
+use Rattle.vt_spec.specs.Errors.{Rules, unless}
+use Rattle.vt_spec.specs.Language.Answers.Answer.{Done}
+use Rattle.vt_spec.specs.Language.Calls.{Call, TaskName}
+use Rattle.vt_spec.specs.Language.Calls.Call.{Umount}
+use Rattle.vt_spec.specs.Lists.{Fresh}
+use Rattle.vt_spec.specs.Machine.Detach.{going, has_child, is_going, taken_away, unmounted}
+use Rattle.vt_spec.specs.Machine.Invariants.{IsWorld, MountInvariants}
+use Rattle.vt_spec.specs.Machine.Judge.{Judgement, judge_in, umount_permit}
+use Rattle.vt_spec.specs.Machine.Mounts.{Location, Mount, stands_on}
+use Rattle.vt_spec.specs.Machine.Outcomes.{Outcome, granted}
+use Rattle.vt_spec.specs.Machine.Permits.{Permit}
+use Rattle.vt_spec.specs.Machine.Permits.Permit.{ToUnmount}
+use Rattle.vt_spec.specs.Machine.Policy.{numbers_raised, policy}
+use Rattle.vt_spec.specs.Machine.Rules.Mounting.{admin_rules, umount_rules}
+use Rattle.vt_spec.specs.Machine.Sealed.{members, part_of, sealed}
+use Rattle.vt_spec.specs.Machine.Settled.{settled}
+use Rattle.vt_spec.specs.Machine.Walking.{directory_walk}
+use Rattle.vt_spec.specs.Machine.World.{Task, World, mount_at, mount_numbered, task_called}
+use Rattle.vt_spec.proofs.Lists.{Among, among-from_filter_map, among_numbers, none_among, none_from_among}
+use Rattle.vt_laws_mounts.proofs.ends.Ending.{unmount_keeps_mounts}
+use Rattle.vt_laws_sealed.proofs.part.part.PartOfPart.{is_own, keep, kept_how}
+use Rattle.vt_laws_members.specs.Judging.{is_theirs}
+use Rattle.vt_laws_members.proofs.judging.Busy.{going_alike, going_own}
+use Rattle.vt_laws_members.proofs.judging.Grounds.{IsTheirs, nowhere_stands, numbered, same_mount, theirs_from}
+use Rattle.vt_laws_members.specs.Changes.Changes.{EndAlike, EndsAlike, IsCallOfTheirs, grown}
+use Rattle.vt_laws_members.specs.Changes.LettingGo.{UmountsEndAlike}
+use Rattle.vt_laws_members.proofs.changes.looks.Granted.{of_rules, of_walk}
+use Rattle.vt_laws_members.proofs.changes.looks.Told.{member_called, ran, same_caller}
+use Rattle.vt_laws_members.proofs.changes.tasks.Denied.{denial_ends_alike, run_by, same_judgement, unnamed_ends_alike}
+use Rattle.vt_laws_members.proofs.changes.letting_go.Moving.{StandsHere, at_directory, one}
+use Rattle.vt_laws_members.proofs.changes.letting_go.PartMounts.{part_mounts}
+use Rattle.vt_laws_members.proofs.changes.letting_go.Taken.{taken_parts}
+
+-- What is granted has passed all rules.
+abbrev pub Passed : Rules → Type 0
+Passed [] = ⊤
+Passed ((failed, rule) ∷ rules) = (failed ≡ false) × Passed rules
+
+pub of_passed : (P : Permit ℕ → Type 0) (rules : Rules) (r : Judgement ℕ) → (Passed rules → IfOk r P) → IfOk
+    (unless rules r) P
+of_passed P [] r next = next tt
+of_passed P ((true, rule) ∷ rules) r next = tt
+of_passed P ((false, rule) ∷ rules) r next = of_passed P rules r (λ passed. next (refl, passed))
+
+-- What a granted umount takes away
+module _ (world : World ℕ) (names : List TaskName) (is : IsWorld nat_eq world)
+    (sealed_off : sealed nat_eq world names ≡ true) (task : Task ℕ) (member : Among task (members world names)) where
+  abbrev On : ℕ → Type 0
+  On number = is_theirs world names number ≡ true
+
+  abbrev Unmounts : Permit ℕ → Type 0
+  Unmounts permit =
+      (here : Location ℕ) × (permit ≡ ToUnmount here.mount) × On here.mount
+      × (is_some (mount_at nat_eq world here).mount_point ≡ true) × (has_child nat_eq world here.mount ≡ false)
+
+  pointed : (b : Bool) → not b ≡ false → b ≡ true
+  pointed true e = refl
+  pointed false e = sym e
+
+  unmounts : (path : List ℕ) → IfOk
+      (umount_permit nat_eq (one world names is sealed_off task member) task path) Unmounts
+  unfolding umount_permit
+  unmounts path =
+      of_rules Unmounts (admin_rules task) _
+      (of_walk (StandsHere world names is sealed_off task member) Unmounts
+      (directory_walk nat_eq (one world names is sealed_off task member) task path)
+      (λ here. unless (umount_rules nat_eq (one world names is sealed_off task member) task here.location)
+      (Ok (ToUnmount here.location.mount))) (at_directory world names is sealed_off task member path)
+      (λ here on. of_passed Unmounts
+      (umount_rules nat_eq (one world names is sealed_off task member) task here.location)
+      (Ok (ToUnmount here.location.mount))
+      (λ passed. (
+        here.location,
+        refl,
+        on,
+        pointed (is_some (mount_at nat_eq world here.location).mount_point) passed.1.1.1.0,
+        (or_parts (has_child nat_eq world here.location.mount) _ passed.1.1.0).0,
+      ))))
+
+-- what goes with a mount of theirs is theirs
+module _ (world : World ℕ) (names : List TaskName) (is : IsWorld nat_eq world)
+    (sealed_off : sealed nat_eq world names ≡ true) (mount : Mount ℕ) (there : Among mount world.mounts)
+    (own : is_own world names (members world names) mount ≡ true) where
+  own_go : (m : Mount ℕ) → Among m world.mounts → is_going nat_eq (going nat_eq world mount) m.number ≡ true
+      → is_own world names (members world names) m ≡ true
+  own_go m n h =
+      let its = going_own world names is sealed_off mount m.number there own
+      (among_numbers (going nat_eq world mount) m.number h) in
+      let same : its.0 ≡ m =
+      sym (numbered world names is.mounts its.0 its.1) ∙ ap (mount_numbered nat_eq world) its.3
+      ∙ numbered world names is.mounts m n in
+      ap (is_own world names (members world names)) (sym same) ∙ its.2
+
+-- A call that detaches a mount of theirs without children
+module _ (world : World ℕ) (names : List TaskName) (name : TaskName) (call : Call)
+    (it : IsCallOfTheirs world names name call) (task : Task ℕ) (called : task_called world name ≡ Some task)
+    (number : ℕ) (on : is_theirs world names number ≡ true)
+    (has_point : is_some (mount_numbered nat_eq world number).mount_point ≡ true)
+    (alone : has_child nat_eq world number ≡ false) where
+  abbrev there : World ℕ
+  there = part_of nat_eq world names
+
+  abbrev mount_of : Mount ℕ
+  mount_of = mount_numbered nat_eq world number
+
+  theirs : IsTheirs world names it.is.mounts number
+  theirs = theirs_from world names it.is.mounts number on
+
+  is_it : mount_of ≡ theirs.0
+  is_it = ap (mount_numbered nat_eq world) (sym theirs.2) ∙ numbered world names it.is.mounts theirs.0 theirs.1
+
+  mount_there : Among mount_of world.mounts
+  mount_there = subst (λ m. Among m world.mounts) (sym is_it) theirs.1
+
+  mount_own : is_own world names (members world names) mount_of ≡ true
+  mount_own =
+      ⊎_elim (λ own. ap (is_own world names (members world names)) is_it ∙ own)
+      (λ stood. absurd (by stood.0 mount_of.mount_point refl has_point))
+      theirs.3
+    where
+      by : theirs.0.namespace ≡ None → (o : Option (Location ℕ)) → mount_of.mount_point ≡ o → is_some o ≡ true → ⊥
+      by none None e h = true≢false (sym h)
+      by none (Some l) e h =
+          nowhere_stands world names it.is.mounts mount_of l mount_there
+          (ap (λ (m : Mount ℕ). m.namespace) is_it ∙ none) e
+
+  same_going : going nat_eq there (mount_numbered nat_eq there number) ≡ going nat_eq world mount_of
+  same_going = cc (
+    same_mount world names it.is.mounts number theirs,
+    going_alike world names it.is it.sealed_off mount_of mount_there mount_own,
+  )
+
+  pub alone_there : has_child nat_eq there number ≡ false
+  alone_there =
+      none_from_among (stands_on nat_eq number) there.mounts (λ y m.
+      let from = among-from_filter_map (keep world names (members world names)) world.mounts y m in
+      ⊎_elim
+      (λ same. ap (stands_on nat_eq number) (sym same)
+      ∙ none_among (stands_on nat_eq number) world.mounts alone from.0 from.1)
+      (λ stub. ap (λ (q : Mount ℕ). stands_on nat_eq number q) (sym stub.0))
+      (kept_how world names (members world names) from.0 y from.2))
+
+  kept_world : MountInvariants nat_eq (taken_away nat_eq world (going nat_eq world mount_of))
+  kept_world = unmount_keeps_mounts world number it.is.mounts alone
+
+  kept_part : MountInvariants nat_eq (taken_away nat_eq there (going nat_eq world mount_of))
+  kept_part =
+      subst (λ l. MountInvariants nat_eq (taken_away nat_eq there l)) same_going
+      (unmount_keeps_mounts there number (part_mounts world names it.is it.sealed_off) alone_there)
+
+  -- the outcome
+  abbrev pub detaches : World ℕ → Outcome ℕ
+  detaches w = granted Done (numbers_raised nat_eq w name [] (settled nat_eq (unmounted nat_eq w number)))
+
+  pub detached_alike : (fresh other : Fresh ℕ) → grown names name call (Ok Done) ≡ names
+      → ran name call world fresh (Some task) ≡ detaches world → ran name call there other (Some task) ≡ detaches there
+      → EndsAlike world names name call fresh other
+  detached_alike fresh other stays one two =
+      let first : policy nat_eq fresh world name call ≡ detaches world =
+      ap (ran name call world fresh) called ∙ one in
+      let second : policy nat_eq other there name call ≡ granted Done (numbers_raised nat_eq there name []
+      (settled nat_eq (taken_away nat_eq there (going nat_eq world mount_of)))) =
+      ap (ran name call there other) (same_caller world names it.is it.sealed_off name it.theirs ∙ called) ∙ two
+      ∙ ap (λ l. granted Done
+      (numbers_raised nat_eq there name [] (settled nat_eq (taken_away nat_eq there l)))) same_going in
+      subst (λ p. EndAlike (grown names name call (policy nat_eq fresh world name call).answer)
+      (policy nat_eq fresh world name call) p) (sym second)
+      (subst (λ o. EndAlike (grown names name call o.answer) o (granted Done (numbers_raised nat_eq there name []
+      (settled nat_eq (taken_away nat_eq there (going nat_eq world mount_of)))))) (sym first)
+      (subst (λ s. EndAlike s (detaches world) (granted Done (numbers_raised nat_eq there name []
+      (settled nat_eq (taken_away nat_eq there (going nat_eq world mount_of)))))) (sym stays)
+      (record {
+        answer = refl;
+        part = taken_parts world names it.is it.sealed_off (going nat_eq world mount_of)
+            (own_go world names it.is it.sealed_off mount_of mount_there mount_own) name kept_world kept_part;
+      })))
+
+pub umounts_end_alike : UmountsEndAlike
+umounts_end_alike world names name path it fresh other = by (task_called world name) refl
+  where
+    judged_by : (task : Task ℕ) (member : Among task (members world names)) → task_called world name ≡ Some task
+        → (j : Judgement ℕ) → judge_in nat_eq fresh world task (Umount path) ≡ j
+        → IfOk j (Unmounts world names it.is it.sealed_off task member)
+        → EndsAlike world names name (Umount path) fresh other
+    judged_by task member e (Ok permit) judged its =
+        detached_alike world names name (Umount path) it task e its.0.mount its.2 its.3 its.4 fresh other refl
+        (ap (run_by world names name (Umount path) it fresh other world fresh task) (judged ∙ ap Ok its.1))
+        (ap (run_by world names name (Umount path) it fresh other (part_of nat_eq world names) other task)
+        (sym (same_judgement world names name (Umount path) it fresh other task e) ∙ judged ∙ ap Ok its.1))
+    judged_by task member e (Err deny) judged its =
+        denial_ends_alike world names name (Umount path) it fresh other
+        (ap (λ o. is_ok (ran name (Umount path) world fresh o).answer) e
+        ∙ ap (λ j. is_ok (run_by world names name (Umount path) it fresh other world fresh task j).answer) judged)
+
+    by : (o : Option (Task ℕ)) → task_called world name ≡ o → EndsAlike world names name (Umount path) fresh other
+    by None e = unnamed_ends_alike world names name (Umount path) it fresh other e
+    by (Some task) e =
+        let member = member_called world names it.is it.sealed_off name it.theirs task e in
+        judged_by task member e (judge_in nat_eq fresh world task (Umount path)) refl
+        (unmounts world names it.is it.sealed_off task member path)

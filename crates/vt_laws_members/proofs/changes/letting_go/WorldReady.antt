@@ -1,0 +1,238 @@
+-- A world in which tasks of a sealed set let locations go is ready to be swept.
+use Rattle.std.proofs.Common.{◌≡◌, refl, sym, ap, subst, ◌∙◌, ◌⊎◌, inl, inr, ⊎_elim, ℕ, nat_eq, Bool, true, false, true≢false, List, [], Option, Some, None, filter, is_some, not, ◌&&◌, ◌||◌, eq-eqb, eqb-true}
+use Rattle.std.specs.List.{list_all, list_any}
+use Rattle.std.proofs.lemmas.Bool.{and_parts, not-true, or_cases, or_left, or_right}
+use Rattle.vt_spec.specs.Language.Calls.{TaskName}
+use Rattle.vt_spec.specs.Lists.{holds_of, is_among}
+use Rattle.vt_spec.specs.Machine.Invariants.{IsWorld, ListsNumbers}
+use Rattle.vt_spec.specs.Machine.Locked.{overlay_or, overlays}
+use Rattle.vt_spec.specs.Machine.Mounts.{Location, Mount}
+use Rattle.vt_spec.specs.Machine.Sealed.{all_named, is_lower_root, is_member_task, is_own_namespace, locations, members, no_outsider_on, other_mounts, outsiders, own_lowers, part_of, sealed, used_alone, used_filesystems, wholly_locked}
+use Rattle.vt_spec.specs.Machine.Settled.{has_layer_on, is_located, mount_lives, named_in, without_dead_mounts}
+use Rattle.vt_spec.specs.Machine.World.{Filesystem, Layer, Overlay, Task, World, all_locations, filesystem_numbered, is_overlay, layers_of, locations_of, mount_at, mount_numbered}
+use Rattle.vt_spec.specs.TreeInvariant.{IsTree}
+use Rattle.vt_spec.proofs.Lists.{Among, among-filter, among-flat_map, among-from_filter, among-from_flat_map, among_from_all, among_from_list_all, among_numbers, any_among, any_from_among, is_among_numbers, none_among, pair-filter}
+use Rattle.vt_spec.proofs.Options.{none_from_not_some}
+use Rattle.vt_laws_mounts.proofs.letting_go.sweeps.OfWorlds.{found_filesystem}
+use Rattle.vt_laws_mounts.proofs.mounts.MountsReplaced.{found_itself}
+use Rattle.vt_laws_sealed.specs.Part.Parts.{SeesTheSame}
+use Rattle.vt_laws_sealed.proofs.part.part.DeadMounts.{mounts_kept}
+use Rattle.vt_laws_sealed.proofs.part.part.PartOfPart.{is_own}
+use Rattle.vt_laws_sealed.proofs.part.part.Observed.{lowers_same, used_same}
+use Rattle.vt_laws_sealed.proofs.part.seals.ByPart.{layer_plain, used_are_free}
+use Rattle.vt_laws_members.proofs.changes.letting_go.Changed.{LetsGo, mount_under, owned_same, mount_parent, placed_on, sees_less, stood_so}
+use Rattle.vt_laws_members.proofs.changes.letting_go.CutAgain.{uncut}
+use Rattle.vt_laws_members.proofs.changes.letting_go.Ready.{AllNamed, Alone, IsCut, NoOthers, Ready, layered_overlay}
+use Rattle.vt_laws_members.proofs.changes.letting_go.LessSeen.{used_was}
+use Rattle.vt_laws_members.proofs.changes.letting_go.SeeLess.{now_less}
+
+-- without dead mounts the set sees what it saw
+pub sees_living : (b : World ℕ) (set : List TaskName) → SeesTheSame b (without_dead_mounts nat_eq b) set
+sees_living b set = record {
+  tasks = refl;
+  mounts = mounts_kept b set b.mounts;
+  masters = λ group e. refl;
+  direct = λ number m. refl;
+  filesystems = refl;
+  namespaces = refl;
+}
+
+-- a layer is in a plain tree
+pub plain_in : (world : World ℕ) (names : List TaskName) (is : IsWorld nat_eq world) (x merged : Filesystem ℕ)
+    → Among x world.filesystems → Among merged world.filesystems → has_layer_on nat_eq x.number merged ≡ true
+    → x.overlay ≡ None
+plain_in world names is x merged m n has = by merged.overlay refl has
+  where
+    by : (o : Option (Overlay ℕ)) → merged.overlay ≡ o
+        → overlay_or false (λ (overlay : Overlay ℕ). list_any (λ (layer : Layer ℕ). nat_eq x.number layer.filesystem)
+        (layers_of overlay)) o ≡ true
+        → x.overlay ≡ None
+    by None e h = absurd (true≢false (sym h))
+    by (Some overlay) e h =
+        let at = any_among (λ (layer : Layer ℕ). nat_eq x.number layer.filesystem) (layers_of overlay) h in
+        none_from_not_some x.overlay
+        (ap is_overlay (sym (found_filesystem world.filesystems is.files.one_filesystem x m))
+        ∙ ap (λ k. is_overlay (filesystem_numbered nat_eq world k)) (eqb-true x.number at.0.filesystem at.2)
+        ∙ layer_plain world names is merged n at.0 (subst (Among at.0) (sym (ap (overlay_or [] layers_of) e)) at.1))
+
+-- a whole tree has all that lies under lower layers
+pub whole_cut : (world : World ℕ) (is : IsWorld nat_eq world) (lowers : List (Layer ℕ)) (x : Filesystem ℕ)
+    → Among x world.filesystems → IsCut x.number lowers x.files
+whole_cut world is lowers x m =
+    let listed : ListsNumbers nat_eq x.files =
+    among_from_all (λ (f : Filesystem ℕ). ListsNumbers nat_eq f.files) world.filesystems is.files.numbers x m in
+    record {
+      whole = x.files;
+      chosen = x.files.numbers;
+      has = record {
+        tree = among_from_all (λ (f : Filesystem ℕ). IsTree f.files.tree) world.filesystems is.files.trees x m;
+        listed = listed;
+        all = λ object n h. is_among_numbers x.files.numbers object n;
+      };
+      same = uncut x.files listed;
+    }
+
+-- where each inode has a name
+pub all_named_there : (world : World ℕ) (names : List TaskName) (is : IsWorld nat_eq world) (x : Filesystem ℕ)
+    → Among x world.filesystems → wholly_locked nat_eq world names x.number ≡ true
+    → AllNamed x
+all_named_there world names is x m locked object n =
+    let all : all_named nat_eq x.files ≡ true =
+    ap (λ (f : Filesystem ℕ). all_named nat_eq f.files)
+    (sym (found_filesystem world.filesystems is.files.one_filesystem x m))
+    ∙ (and_parts (list_any (λ merged. is_lower_root nat_eq x.number
+    (filesystem_numbered nat_eq world x.number).files.tree.root merged
+    && used_alone nat_eq world names merged.number) (overlays world))
+    (all_named nat_eq (filesystem_numbered nat_eq world x.number).files) locked).1 in
+    ⊎_elim (λ root. inl (eqb-true object x.files.tree.root root))
+    (λ named. inr (among_numbers (named_in x.files) object named))
+    (or_cases (nat_eq object x.files.tree.root) (is_among nat_eq object (named_in x.files))
+    (among_from_list_all (λ k. nat_eq k x.files.tree.root || is_among nat_eq k (named_in x.files)) x.files.numbers all
+    object n))
+
+module _ (world : World ℕ) (names : List TaskName) (is : IsWorld nat_eq world)
+    (sealed_off : sealed nat_eq world names ≡ true) (set : List TaskName) (tasks : List (Task ℕ)) (change : ℕ)
+    (it : LetsGo world names is sealed_off set tasks) where
+  abbrev later : World ℕ
+  later = record world { tasks = tasks; change = change }
+
+  abbrev living : World ℕ
+  living = without_dead_mounts nat_eq later
+
+  abbrev new : List (Task ℕ)
+  new = members later set
+
+  there : (m : Mount ℕ) → Among m living.mounts → Among m world.mounts
+  there m n = (among-from_filter (mount_lives nat_eq later) world.mounts m n).0
+
+  attached_lives : (m : Mount ℕ) (n : ℕ) → Among m world.mounts → m.namespace ≡ Some n → Among m living.mounts
+  attached_lives m n at e =
+      among-filter (mount_lives nat_eq later) world.mounts m at
+      (or_left (is_some m.namespace) (is_located nat_eq later m.number) (ap is_some e))
+
+  located_lives : (m : Mount ℕ) (l : Location ℕ) → Among m world.mounts → Among l (all_locations later)
+      → l.mount ≡ m.number → Among m living.mounts
+  located_lives m l at n e =
+      among-filter (mount_lives nat_eq later) world.mounts m at
+      (or_right (is_some m.namespace) (is_located nat_eq later m.number)
+      (any_from_among (λ (k : Location ℕ). nat_eq m.number k.mount) (all_locations later) l n
+      (eq-eqb m.number l.mount (sym e))))
+
+  of_all : (l : Location ℕ) → Among l (locations new) → Among l (all_locations later)
+  of_all l m =
+      let t = among-from_flat_map locations_of new l m in
+      among-flat_map locations_of tasks t.0 l (among-from_filter (is_member_task set) tasks t.0 t.1).0 t.2
+
+  -- where others have no foothold
+  module _ (number : ℕ) (none : no_outsider_on nat_eq world names number ≡ true) where
+    abbrev nobody : (list_any (λ (m : Mount ℕ). nat_eq number m.filesystem) (other_mounts nat_eq world names) ≡ false)
+        × (list_any (λ l. nat_eq number (mount_at nat_eq world l).filesystem) (locations (outsiders world names))
+        ≡ false)
+    nobody =
+        let both = and_parts (not
+        (list_any (λ (m : Mount ℕ). nat_eq number m.filesystem) (other_mounts nat_eq world names)))
+        (not (list_any (λ l. nat_eq number (mount_at nat_eq world l).filesystem)
+        (locations (outsiders world names)))) none in
+        (not-true _ both.0, not-true _ both.1)
+
+    mounts_own : (m : Mount ℕ) → Among m living.mounts → m.filesystem ≡ number
+        → (is_own world names new m ≡ true) ⊎ (m.namespace ≡ None)
+    mounts_own m n e = by m.namespace refl
+      where
+        by : (o : Option ℕ) → m.namespace ≡ o → (is_own world names new m ≡ true) ⊎ (m.namespace ≡ None)
+        by None f = inr f
+        by (Some k) f = which (is_own_namespace nat_eq world names k) refl
+          where
+            which : (b : Bool) → is_own_namespace nat_eq world names k ≡ b
+                → (is_own world names new m ≡ true) ⊎ (m.namespace ≡ None)
+            which true own =
+                inl (owned_same world names is sealed_off set tasks change it m
+                ∙ ap (holds_of (is_own_namespace nat_eq world names)) f ∙ own)
+            which false other =
+                absurd (true≢false
+                (sym (eq-eqb number m.filesystem (sym e))
+                ∙ none_among (λ (y : Mount ℕ). nat_eq number y.filesystem) (other_mounts nat_eq world names) nobody.0 m
+                (among-filter (λ (y : Mount ℕ). holds_of (λ i. not (is_own_namespace nat_eq world names i)) y.namespace)
+                world.mounts m (there m n)
+                (ap (holds_of (λ i. not (is_own_namespace nat_eq world names i))) f ∙ ap not other))))
+
+    locations_own : (l : Location ℕ) → Among l (all_locations living) → (mount_at nat_eq living l).filesystem ≡ number
+        → Among l (locations new)
+    locations_own l m e =
+        let t = among-from_flat_map locations_of tasks l m in
+        by t.0 t.1 t.2 (is_member_task set t.0) refl
+      where
+        by : (t : Task ℕ) → Among t tasks → Among l (locations_of t) → (b : Bool) → is_member_task set t ≡ b
+            → Among l (locations new)
+        by t n at true member =
+            among-flat_map locations_of new t l (among-filter (is_member_task set) tasks t n member) at
+        by t n at false other =
+            let out = it.others l (among-flat_map locations_of (filter (λ y. not (is_member_task set y)) tasks) t l
+            (among-filter (λ y. not (is_member_task set y)) tasks t n (ap not other)) at) in
+            let from = among-from_flat_map locations_of (outsiders world names) l out in
+            let under = mount_under world names is sealed_off l
+            (among-flat_map locations_of world.tasks from.0 l
+            (among-from_filter (λ y. not (is_member_task names y)) world.tasks from.0 from.1).0 from.2) in
+            let alive = located_lives under.0 l under.1 m under.2 in
+            let same : mount_at nat_eq living l ≡ mount_at nat_eq world l =
+            ap (mount_numbered nat_eq living) under.2
+            ∙ found_itself living.mounts
+            (pair-filter (λ (p q : Mount ℕ). nat_eq p.number q.number) (mount_lives nat_eq later) world.mounts
+            is.mounts.one_number) under.0 alive
+            ∙ sym (found_itself world.mounts is.mounts.one_number under.0 under.1)
+            ∙ sym (ap (mount_numbered nat_eq world) under.2) in
+            absurd (true≢false
+            (sym (eq-eqb number (mount_at nat_eq world l).filesystem
+            (sym (ap (λ (k : Mount ℕ). k.filesystem) (sym same) ∙ e)))
+            ∙ none_among (λ k. nat_eq number (mount_at nat_eq world k).filesystem) (locations (outsiders world names))
+            nobody.1 l out))
+
+    pub no_others : NoOthers living set number
+    no_others = record { mounts = mounts_own; locations = locations_own }
+
+  pub alone : (number : ℕ) → used_alone nat_eq world names number ≡ true → Alone living set number
+  alone number h =
+      let both = and_parts (no_outsider_on nat_eq world names number)
+      (list_all (λ merged. not (has_layer_on nat_eq number merged) || no_outsider_on nat_eq world names merged.number)
+      (overlays world)) h in
+      record {
+        itself = no_others number both.0;
+        overlays = λ merged m has. no_others merged.number (by both.1 merged m has);
+      }
+    where
+      is_one : (merged : Filesystem ℕ) → has_layer_on nat_eq number merged ≡ true → is_overlay merged ≡ true
+      is_one merged = layered_overlay number merged
+
+      by : list_all (λ merged. not (has_layer_on nat_eq number merged)
+          || no_outsider_on nat_eq world names merged.number)
+          (overlays world) ≡ true → (merged : Filesystem ℕ) → Among merged world.filesystems
+          → has_layer_on nat_eq number merged ≡ true → no_outsider_on nat_eq world names merged.number ≡ true
+      by all merged m has =
+          ⊎_elim (λ none. absurd (true≢false (sym has ∙ not-true (has_layer_on nat_eq number merged) none))) (λ h. h)
+          (or_cases (not (has_layer_on nat_eq number merged)) (no_outsider_on nat_eq world names merged.number)
+          (among_from_list_all (λ y. not (has_layer_on nat_eq number y) || no_outsider_on nat_eq world names y.number)
+          (overlays world) all merged (among-filter is_overlay world.filesystems merged m (is_one merged has))))
+
+  pub world_ready : Ready living set (used_filesystems nat_eq later set) (own_lowers nat_eq later set)
+  world_ready = record {
+    used_are = used_same later living set (sees_living later set);
+    lowers_are = lowers_same later living set (sees_living later set);
+    one = pair-filter (λ (p q : Mount ℕ). nat_eq p.number q.number) (mount_lives nat_eq later) world.mounts
+        is.mounts.one_number;
+    lives = λ m n. (among-from_filter (mount_lives nat_eq later) world.mounts m n).1;
+    located = λ l m. let on = placed_on world names is sealed_off set tasks change it l m in
+        (on.0, located_lives on.0 l on.1 (of_all l m) on.2, on.2);
+    parents = λ m l n point. let up = mount_parent world is.mounts m l (there m n) point in
+        (up.0, up.1, up.2, attached_lives up.2 up.0 up.3 up.5, up.4, up.5);
+    stood = λ m n h. stood_so world names is sealed_off set tasks change it m (there m n) h;
+    one_filesystem = is.files.one_filesystem;
+    plain = plain_in world names is;
+    free = λ x m u. ⊎_elim (λ h. inl (alone x.number h)) (λ h. inr (all_named_there world names is x m h))
+        (or_cases (used_alone nat_eq world names x.number) (wholly_locked nat_eq world names x.number)
+        (used_are_free world names sealed_off x.number
+        (among_numbers (used_filesystems nat_eq world names) x.number
+        (used_was world names is set later (record (part_of nat_eq world names) { tasks = tasks; change = change })
+        (now_less world names is set tasks tasks change change (sees_less world names is sealed_off set tasks change it)
+        refl) x.number u))));
+    cut = λ x m unused low. whole_cut world is (own_lowers nat_eq later set) x m;
+  }

@@ -1,0 +1,171 @@
+-- Calls of theirs that only look are answered in the part as in the world.
+use Rattle.std.proofs.Common.{◌≡◌, refl, sym, ap, subst, ◌∙◌, ℕ, nat_eq, true, List, Option, Some, None, Ok, Err, not, drop, ◌||◌}
+use Rattle.std.specs.Prelude.{IfOk, is_ok, ok_or, take}
+use Rattle.vt_spec.specs.declared.errors.Rule.TheVariants.{S2}
+use Rattle.vt_spec.specs.Errors.{denial}
+use Rattle.vt_spec.specs.Language.Answers.Answer.{Bytes, MountList, Names, Told}
+use Rattle.vt_spec.specs.Language.Calls.{Call, TaskName, same_name}
+use Rattle.vt_spec.specs.Lists.{Fresh, is_among}
+use Rattle.vt_spec.specs.Machine.Apply.{apply, overfills, stat_line}
+use Rattle.vt_spec.specs.Machine.Invariants.{IsWorld}
+use Rattle.vt_spec.specs.Machine.Judge.{Judgement, judge_in}
+use Rattle.vt_spec.specs.Machine.Mounts.{Location}
+use Rattle.vt_spec.specs.Machine.Outcomes.{Outcome, after}
+use Rattle.vt_spec.specs.Machine.Permits.{Permit}
+use Rattle.vt_spec.specs.Machine.Permits.Permit.{Allowed, ToList, ToListMounts, ToRead, ToReadPart, ToStat}
+use Rattle.vt_spec.specs.Machine.Policy.{call_outcome, filesystems_changed_by, finished, finished_by, policy}
+use Rattle.vt_spec.specs.Machine.Sealed.{is_member_task, locations, members, part_of, sealed}
+use Rattle.vt_spec.specs.Machine.World.{Task, World, mount_at, node_at, task_called}
+use Rattle.vt_spec.specs.Tree.{bytes_in, names_in}
+use Rattle.vt_spec.proofs.Found.{found_among, found_passes}
+use Rattle.vt_spec.proofs.Lists.{Among, among-filter, contains_from_among}
+use Rattle.vt_spec.proofs.Worlds.{same_task_name}
+use Rattle.vt_laws_sealed.proofs.part.part.PartOfPart.{found, located}
+use Rattle.vt_laws_members.specs.Judging.{is_theirs}
+use Rattle.vt_laws_members.proofs.judging.AllJudged.{called_alike, walks}
+use Rattle.vt_laws_members.proofs.judging.ByPart.{members_are_judged_by_their_part}
+use Rattle.vt_laws_members.proofs.judging.SeenInPart.{located_used}
+use Rattle.vt_laws_members.specs.Changes.Changes.{EndAlike, LooksEndAlike, grown, left}
+use Rattle.vt_laws_members.proofs.changes.looks.Granted.{IsLook, looked}
+use Rattle.vt_laws_members.proofs.changes.looks.Listed.{lines_alike}
+use Rattle.vt_laws_members.proofs.changes.part.PartAgain.{part_again}
+
+module _ (world : World ℕ) (names : List TaskName) (is : IsWorld nat_eq world)
+    (sealed_off : sealed nat_eq world names ≡ true) where
+  abbrev part : World ℕ
+  part = part_of nat_eq world names
+
+  -- who has a name of theirs, in the part
+  pub same_caller : (name : TaskName) → is_among same_name name names ≡ true
+      → task_called part name ≡ task_called world name
+  same_caller name theirs = called_alike names name theirs world.tasks
+
+  pub member_called : (name : TaskName) → is_among same_name name names ≡ true → (task : Task ℕ)
+      → task_called world name ≡ Some task → Among task (members world names)
+  member_called name theirs task e =
+      among-filter (is_member_task names) world.tasks task
+      (found_among (λ (t : Task ℕ). same_name name t.name) world.tasks task e)
+      (ap (λ n. is_among same_name n names)
+      (sym (same_task_name name task.name (found_passes (λ (t : Task ℕ). same_name name t.name) world.tasks task e)))
+      ∙ theirs)
+
+  -- an open file of theirs
+  pub open_file : (file : Location ℕ) → Among file (locations (members world names))
+      → node_at nat_eq world file ≡ node_at nat_eq part file
+  open_file file m =
+      cc (
+        found world names (mount_at nat_eq world file).filesystem (located_used world names is file m),
+        located world names file m,
+      )
+
+  module _ (task : Task ℕ) (member : Among task (members world names)) (fresh other : Fresh ℕ) where
+    abbrev Looked : Permit ℕ → Type 0
+    Looked = IsLook (is_theirs world names) (locations (members world names))
+
+    -- what is told, and that nothing changes
+    abbrev ToldAlike : Permit ℕ → Type 0
+    ToldAlike permit =
+        ((apply nat_eq fresh world task permit).answer ≡ (apply nat_eq other part task permit).answer)
+        × ((apply nat_eq fresh world task permit).world ≡ world) × ((apply nat_eq other part task permit).world ≡ part)
+
+    told : (permit : Permit ℕ) → Looked permit → ToldAlike permit
+    told Allowed on = (refl, refl, refl)
+    told (ToList directory) on = (
+      ap (λ n. Ok (Names (names_in n))) ((walks world names is sealed_off task member).node directory on),
+      refl,
+      refl,
+    )
+    told (ToStat object) on =
+        (ap (λ n. Ok (Told (stat_line n))) ((walks world names is sealed_off task member).node object on), refl, refl)
+    told (ToRead file) on =
+        (ap (λ n. Ok (Bytes (bytes_in n))) ((walks world names is sealed_off task member).node file on), refl, refl)
+    told (ToReadPart file offset size) on =
+        (ap (λ n. Ok (Bytes (take size (drop offset (bytes_in n))))) (open_file file on), refl, refl)
+    told ToListMounts on = (ap (λ l. Ok (MountList l)) (sym (lines_alike world names is task member)), refl, refl)
+    told permit on = absurd on
+
+    -- an answer that leaves the set
+    stays : (name : TaskName) (call : Call) → left names name call ≡ names → (permit : Permit ℕ) → Looked permit
+        → grown names name call (apply nat_eq fresh world task permit).answer ≡ names
+    stays name call same Allowed on = same
+    stays name call same (ToList directory) on = refl
+    stays name call same (ToStat object) on = refl
+    stays name call same (ToRead file) on = refl
+    stays name call same (ToReadPart file offset size) on = refl
+    stays name call same ToListMounts on = refl
+    stays name call same permit on = absurd on
+
+    looks_by : (name : TaskName) (call : Call) → left names name call ≡ names → (j : Judgement ℕ) → IfOk j Looked
+        → EndAlike (grown names name call (after world j (apply nat_eq fresh world task)).answer)
+        (after world j (apply nat_eq fresh world task)) (after part j (apply nat_eq other part task))
+    looks_by name call same (Ok permit) on =
+        let it = told permit on in
+        subst (λ set. EndAlike set (apply nat_eq fresh world task permit) (apply nat_eq other part task permit))
+        (sym (stays name call same permit on))
+        (record {
+          answer = it.0;
+          part = cc (it.1, part_again world names is, it.2);
+        })
+    looks_by name call same (Err deny) on = record { answer = refl; part = sym (part_again world names is) }
+
+-- a call by the task that is found
+abbrev pub ran : TaskName → Call → World ℕ → Fresh ℕ → Option (Task ℕ) → Outcome ℕ
+ran name call world fresh found =
+    after world (ok_or found (denial S2)) (λ task.
+    finished nat_eq world name call (filesystems_changed_by nat_eq world (judge_in nat_eq fresh world task call))
+    (call_outcome nat_eq fresh world task call))
+
+pub looks_end_alike : LooksEndAlike
+looks_end_alike world names name call it looks fresh other =
+    by (task_called world name) refl
+  where
+    part : World ℕ
+    part = part_of nat_eq world names
+
+    also : (found : Option (Task ℕ)) → task_called world name ≡ found
+        → EndAlike (grown names name call (ran name call world fresh found).answer) (ran name call world fresh found)
+        (ran name call part other found)
+        → EndAlike (grown names name call (policy nat_eq fresh world name call).answer)
+        (policy nat_eq fresh world name call)
+        (policy nat_eq other part name call)
+    also found e alike =
+        subst (λ p. EndAlike (grown names name call (policy nat_eq fresh world name call).answer)
+        (policy nat_eq fresh world name call) p)
+        (sym (ap (ran name call part other) (same_caller world names it.is it.sealed_off name it.theirs ∙ e)))
+        (subst (λ o. EndAlike (grown names name call o.answer) o (ran name call part other found))
+        (sym (ap (ran name call world fresh) e)) alike)
+
+    looking : (w : World ℕ) (fr : Fresh ℕ) (task : Task ℕ)
+        → ran name call w fr (Some task) ≡ call_outcome nat_eq fr w task call
+    looking w fr task =
+        ap (λ b. finished_by nat_eq (b || not (is_ok (call_outcome nat_eq fr w task call).answer)) w name
+        (filesystems_changed_by nat_eq w (judge_in nat_eq fr w task call)) (call_outcome nat_eq fr w task call)) looks
+
+    by : (found : Option (Task ℕ)) → task_called world name ≡ found
+        → EndAlike (grown names name call (policy nat_eq fresh world name call).answer)
+        (policy nat_eq fresh world name call)
+        (policy nat_eq other part name call)
+    by None e = also None e (record { answer = refl; part = sym (part_again world names it.is) })
+    by (Some task) e =
+        let member = member_called world names it.is it.sealed_off name it.theirs task e in
+        let granted = looked world names it.is it.sealed_off task member
+        (overfills nat_eq fresh world task) names name call
+        looks in
+        let judged : judge_in nat_eq fresh world task call ≡ judge_in nat_eq other part task call =
+        members_are_judged_by_their_part world names task call
+        (record {
+          is = it.is;
+          sealed_off = it.sealed_off;
+          member = contains_from_among (members world names) task member;
+          among_them = it.among_them;
+        })
+        fresh other in
+        also (Some task) e
+        (subst (λ p. EndAlike (grown names name call (ran name call world fresh (Some task)).answer)
+        (ran name call world fresh (Some task)) p)
+        (sym (looking part other task ∙ ap (λ j. after part j (apply nat_eq other part task)) (sym judged)))
+        (subst (λ o. EndAlike (grown names name call o.answer) o
+        (after part (judge_in nat_eq fresh world task call) (apply nat_eq other part task)))
+        (sym (looking world fresh task))
+        (looks_by world names it.is it.sealed_off task member fresh other name call granted.1
+        (judge_in nat_eq fresh world task call) granted.0)))

@@ -1,0 +1,153 @@
+-- Each mount(2) with MS_REMOUNT and MS_BIND ends in the part as in the world.
+use Rattle.std.proofs.Common.{◌≡◌, refl, sym, ap, subst, ◌∙◌, ℕ, nat_eq, Bool, true, false, List, [], Option, Some, None, Ok, Err, not}
+use Rattle.std.specs.Prelude.{IfOk, is_ok}
+use Rattle.vt_spec.specs.Errors.{unless}
+use Rattle.vt_spec.specs.Language.Answers.Answer.{Done}
+use Rattle.vt_spec.specs.Language.Calls.{MountFlags, TaskName}
+use Rattle.vt_spec.specs.Language.Calls.Call.{Remount}
+use Rattle.vt_spec.specs.Lists.{Fresh, holds_of}
+use Rattle.vt_spec.specs.Machine.Invariants.{IsWorld}
+use Rattle.vt_spec.specs.Machine.Judge.{Judgement, judge_in, remount_permit}
+use Rattle.vt_spec.specs.Machine.Mounts.{Location, Mount, with_mount}
+use Rattle.vt_spec.specs.Machine.Outcomes.{granted}
+use Rattle.vt_spec.specs.Machine.Permits.{Permit}
+use Rattle.vt_spec.specs.Machine.Permits.Permit.{ToSetFlags}
+use Rattle.vt_spec.specs.Machine.Policy.{numbers_raised, policy}
+use Rattle.vt_spec.specs.Machine.Rules.Mounting.{admin_rules, remount_rules}
+use Rattle.vt_spec.specs.Machine.Sealed.{members, part_of, sealed}
+use Rattle.vt_spec.specs.Machine.Walking.{directory_walk}
+use Rattle.vt_spec.specs.Machine.World.{Task, World, mount_at, mount_numbered, task_called, with_mounts}
+use Rattle.vt_spec.proofs.Lists.{Among}
+use Rattle.vt_laws_mounts.proofs.letting_go.leaving.UsesKept.{set_flags_keep_all}
+use Rattle.vt_laws_mounts.proofs.letting_go.sweeps.OfWorlds.{all_in_use}
+use Rattle.vt_laws_sealed.proofs.part.part.PartOfPart.{is_own}
+use Rattle.vt_laws_members.specs.Judging.{is_theirs}
+use Rattle.vt_laws_members.proofs.judging.Grounds.{IsTheirs, its_mount, same_mount, theirs_from}
+use Rattle.vt_laws_members.proofs.judging.MountPoints.{in_own}
+use Rattle.vt_laws_members.specs.Changes.Changes.{EndAlike, EndsAlike, IsCallOfTheirs, grown}
+use Rattle.vt_laws_members.specs.Changes.MountChanges.{RemountsEndAlike}
+use Rattle.vt_laws_members.proofs.changes.looks.Granted.{of_rules, of_walk}
+use Rattle.vt_laws_members.proofs.changes.looks.Told.{member_called, ran, same_caller}
+use Rattle.vt_laws_members.proofs.changes.tasks.Denied.{denial_ends_alike, run_by, same_judgement, unnamed_ends_alike}
+use Rattle.vt_laws_members.proofs.changes.letting_go.Moving.{StandsHere, at_directory, one}
+use Rattle.vt_laws_members.proofs.changes.letting_go.PartMounts.{part_mounts}
+use Rattle.vt_laws_members.proofs.changes.letting_go.Umounting.{of_passed}
+use Rattle.vt_laws_members.proofs.changes.mounts.FlagsLeft.{later, later_part, parts_left}
+use Rattle.vt_laws_members.proofs.changes.part.SettledPart.{part_in_use}
+
+-- What a granted remount sets
+module _ (world : World ℕ) (names : List TaskName) (is : IsWorld nat_eq world)
+    (sealed_off : sealed nat_eq world names ≡ true) (task : Task ℕ) (member : Among task (members world names))
+    (flags : MountFlags) where
+  abbrev On : ℕ → Type 0
+  On number = is_theirs world names number ≡ true
+
+  abbrev SetsFlags : Permit ℕ → Type 0
+  SetsFlags permit =
+      (here : Location ℕ) × (permit ≡ ToSetFlags here.mount flags) × On here.mount
+      × (is_own world names (members world names) (mount_at nat_eq world here) ≡ true)
+
+  is_so : (b : Bool) → not b ≡ false → b ≡ true
+  is_so true e = refl
+  is_so false e = sym e
+
+  sets_flags : (path : List ℕ) → IfOk
+      (remount_permit nat_eq (one world names is sealed_off task member) task path flags) SetsFlags
+  unfolding remount_permit
+  sets_flags path =
+      of_rules SetsFlags (admin_rules task) _
+      (of_walk (StandsHere world names is sealed_off task member) SetsFlags
+      (directory_walk nat_eq (one world names is sealed_off task member) task path)
+      (λ here. unless (remount_rules nat_eq (one world names is sealed_off task member) task here.location flags)
+      (Ok (ToSetFlags here.location.mount flags))) (at_directory world names is sealed_off task member path)
+      (λ here on. of_passed SetsFlags
+      (remount_rules nat_eq (one world names is sealed_off task member) task here.location flags)
+      (Ok (ToSetFlags here.location.mount flags))
+      (λ passed. (
+        here.location,
+        refl,
+        on,
+        in_own world names is task member (mount_at nat_eq world here.location)
+            (is_so (holds_of (nat_eq task.namespace) (mount_at nat_eq world here.location).namespace) passed.0),
+      ))))
+
+-- A granted remount
+module _ (world : World ℕ) (names : List TaskName) (name : TaskName) (path : List ℕ) (flags : MountFlags)
+    (it : IsCallOfTheirs world names name (Remount path flags)) (task : Task ℕ)
+    (called : task_called world name ≡ Some task) (fresh other : Fresh ℕ) (here : Location ℕ)
+    (on : is_theirs world names here.mount ≡ true)
+    (own : is_own world names (members world names) (mount_at nat_eq world here) ≡ true)
+    (judged : judge_in nat_eq fresh world task (Remount path flags) ≡ Ok (ToSetFlags here.mount flags)) where
+  abbrev there : World ℕ
+  there = part_of nat_eq world names
+
+  abbrev mount_of : Mount ℕ
+  mount_of = mount_numbered nat_eq world here.mount
+
+  theirs : IsTheirs world names it.is.mounts here.mount
+  theirs = theirs_from world names it.is.mounts here.mount on
+
+  mount_there : Among mount_of world.mounts
+  mount_there =
+      subst (λ m. Among m world.mounts) (sym (its_mount world names it.is.mounts here.mount theirs)) theirs.1
+
+  abbrev now : World ℕ
+  now = later world names it.is it.sealed_off mount_of mount_there own flags
+
+  abbrev now_there : World ℕ
+  now_there = later_part world names it.is it.sealed_off mount_of mount_there own flags
+
+  first : policy nat_eq fresh world name (Remount path flags) ≡ granted Done (numbers_raised nat_eq world name [] now)
+  first =
+      ap (ran name (Remount path flags) world fresh) called
+      ∙ ap (run_by world names name (Remount path flags) it fresh other world fresh task) judged
+      ∙ ap (λ w. granted Done (numbers_raised nat_eq world name [] w))
+      (set_flags_keep_all fresh world task here.mount flags it.is.mounts.one_number (all_in_use world it.is))
+
+  second : policy nat_eq other there name (Remount path flags)
+      ≡ granted Done (numbers_raised nat_eq there name [] now_there)
+  second =
+      ap (ran name (Remount path flags) there other)
+      (same_caller world names it.is it.sealed_off name it.theirs ∙ called)
+      ∙ ap (run_by world names name (Remount path flags) it fresh other there other task)
+      (sym (same_judgement world names name (Remount path flags) it fresh other task called) ∙ judged)
+      ∙ ap (λ w. granted Done (numbers_raised nat_eq there name [] w))
+      (set_flags_keep_all other there task here.mount flags (part_mounts world names it.is it.sealed_off).one_number
+      (part_in_use world names it.is it.sealed_off)
+      ∙ ap (λ (m : Mount ℕ). with_mounts there (with_mount nat_eq there.mounts (record m { flags = flags })))
+      (same_mount world names it.is.mounts here.mount theirs))
+
+  remount_alike : EndsAlike world names name (Remount path flags) fresh other
+  remount_alike =
+      subst (λ p. EndAlike
+      (grown names name (Remount path flags) (policy nat_eq fresh world name (Remount path flags)).answer)
+      (policy nat_eq fresh world name (Remount path flags)) p) (sym second)
+      (subst (λ o. EndAlike (grown names name (Remount path flags) o.answer) o
+      (granted Done (numbers_raised nat_eq there name [] now_there))) (sym first)
+      (record {
+        answer = refl;
+        part = parts_left world names it.is it.sealed_off mount_of mount_there own flags name;
+      }))
+
+pub remounts_end_alike : RemountsEndAlike
+remounts_end_alike world names name path flags it fresh other = by (task_called world name) refl
+  where
+    judged_by : (task : Task ℕ) (member : Among task (members world names)) → task_called world name ≡ Some task
+        → (j : Judgement ℕ) → judge_in nat_eq fresh world task (Remount path flags) ≡ j
+        → IfOk j (SetsFlags world names it.is it.sealed_off task member flags)
+        → EndsAlike world names name (Remount path flags) fresh other
+    judged_by task member e (Ok permit) judged its =
+        remount_alike world names name path flags it task e fresh other its.0 its.2 its.3 (judged ∙ ap Ok its.1)
+    judged_by task member e (Err deny) judged its =
+        denial_ends_alike world names name (Remount path flags) it fresh other
+        (ap (λ o. is_ok (ran name (Remount path flags) world fresh o).answer) e
+        ∙ ap (λ j. is_ok
+        (run_by world names name (Remount path flags) it fresh other world fresh task j).answer) judged)
+
+    by : (o : Option (Task ℕ)) → task_called world name ≡ o
+        → EndsAlike world names name (Remount path flags) fresh other
+    by None e = unnamed_ends_alike world names name (Remount path flags) it fresh other e
+    by (Some task) e =
+        let member = member_called world names it.is it.sealed_off name it.theirs task e in
+        judged_by task member e (judge_in nat_eq fresh world task (Remount path flags)) refl
+        (sets_flags world names it.is it.sealed_off task member flags path)

@@ -1,0 +1,179 @@
+-- What a granted call of theirs that makes, gives or takes a name asks of a plain tree.
+use Rattle.std.proofs.Common.{◌≡◌, refl, sym, ap, subst, ◌∙◌, ⊎_elim, ℕ, nat_eq, eqb-true, eq-eqb, Bool, true, false, true≢false, List, [], ◌∷◌, Some, Ok, is_some, map, ◌||◌, ◌&&◌}
+use Rattle.std.specs.List.{list_all}
+use Rattle.std.proofs.lemmas.Bool.{or_cases}
+use Rattle.vt_spec.specs.FileTree.{FileTree}
+use Rattle.vt_spec.specs.Language.Calls.{Call, TaskName}
+use Rattle.vt_spec.specs.Language.Changes.{Change, changed}
+use Rattle.vt_spec.specs.Language.Changes.Change.{AddName, CopyUp, Make, Move, Remove, SetAttr, SetBytes, SetMark}
+use Rattle.vt_spec.specs.Lists.{Fresh, is_among}
+use Rattle.vt_spec.specs.Machine.Filesystems.{with_files}
+use Rattle.vt_spec.specs.Machine.Invariants.{IsWorld, ListsNumbers}
+use Rattle.vt_spec.specs.Machine.Judge.{judge_in}
+use Rattle.vt_spec.specs.Machine.Mounts.{Location}
+use Rattle.vt_spec.specs.Machine.Permits.{Permit}
+use Rattle.vt_spec.specs.Machine.Run.{Serves}
+use Rattle.vt_spec.specs.Machine.Sealed.{sealed, used_alone, used_filesystems, wholly_locked}
+use Rattle.vt_spec.specs.Machine.Settled.{named_in, objects_of_overlay}
+use Rattle.vt_spec.specs.Machine.World.{Filesystem, Task, World, filesystem_at, is_overlay, mount_at, task_called}
+use Rattle.vt_spec.specs.TreeInvariant.{IsTree}
+use Rattle.vt_spec.proofs.Lists.{among_numbers}
+use Rattle.vt_laws_trees.specs.Trees.{IsProper}
+use Rattle.vt_laws_trees.proofs.trees.ChangesKeepTrees.{changes_keep_numbers, changes_keep_trees}
+use Rattle.vt_laws_trees.proofs.trees.TreesOfWorlds.{numbered_all, numbered_anyhow}
+use Rattle.vt_laws_mounts.specs.LettingGo.FileChanges.{MayChange, names_lost}
+use Rattle.vt_laws_mounts.specs.LettingGo.InUse.{IsListedTree}
+use Rattle.vt_laws_mounts.specs.LettingGo.OneByOne.{Inode, is_inode_among}
+use Rattle.vt_laws_mounts.specs.LettingGo.TreeChanges.{ChangesTree}
+use Rattle.vt_laws_mounts.specs.LettingGo.TreesOverlays.{ChangesFilesystem, upper_objects}
+use Rattle.vt_laws_mounts.proofs.letting_go.Lists.{all_pass, among-map, any_passes, or_first, or_second, passes}
+use Rattle.vt_laws_mounts.proofs.letting_go.leaving.NamesKept.{changes_keep_names}
+use Rattle.vt_laws_mounts.proofs.letting_go.sweeps.InUse.{no_objects}
+use Rattle.vt_laws_worlds.proofs.worlds.CallsKept.{name_found}
+use Rattle.vt_laws_worlds.specs.OverlayPermits.Asked.{AsksWell, AsksWellIf, change_asked}
+use Rattle.vt_laws_worlds.specs.OverlayPermits.Unlocked.{SparesLocked, SparesLockedIf}
+use Rattle.vt_laws_worlds.proofs.overlay_permits.asked.Asked.{permits_ask_well}
+use Rattle.vt_laws_worlds.proofs.overlay_permits.asked.AskedOverlays.{permits_ask_properly}
+use Rattle.vt_laws_worlds.proofs.overlay_permits.asked.Unlocked.{permits_spare_what_is_locked}
+use Rattle.vt_laws_sealed.proofs.part.locks.LockedTrees.{all_locked}
+use Rattle.vt_laws_sealed.proofs.part.seals.ByPart.{used_are_free}
+use Rattle.vt_laws_sealed.proofs.outsiders.FilesChanged.{IsCopy, written_not_spared, written_there, written_to}
+use Rattle.vt_laws_members.proofs.changes.names.GrantedNames.{Names}
+
+-- A plain tree that changes, and the names that it loses
+module _ (world : World ℕ) (old : Filesystem ℕ) (files : FileTree ℕ) (plain : is_overlay old ≡ false) (unnamed : List ℕ)
+    (changes : ChangesTree old.files files unnamed) where
+  abbrev pub lost : List Inode
+  lost = map (λ inode. (old.number, inode)) unnamed
+
+  lost_name : (inode : ℕ) → is_among nat_eq inode unnamed ≡ true → is_inode_among old.number inode lost ≡ true
+  lost_name inode is =
+      any_passes (λ (loser : Inode). nat_eq old.number loser.0 && nat_eq inode loser.1) lost (old.number, inode)
+      (among-map (λ k. (old.number, k)) unnamed inode (among_numbers unnamed inode is))
+      (ap (λ b. b && nat_eq inode inode) (eq-eqb old.number old.number refl) ∙ eq-eqb inode inode refl)
+
+  pub tree_changes : (after : World ℕ) → ChangesFilesystem after lost old (with_files old files)
+  tree_changes after = record {
+    number = refl;
+    root = changes.root;
+    layers = refl;
+    inodes = all_pass (λ k. is_among nat_eq k old.files.numbers || is_among nat_eq k (named_in files)
+        || is_among nat_eq k (upper_objects after old.number))
+        files.numbers (λ k m. or_first (is_among nat_eq k old.files.numbers || is_among nat_eq k (named_in files))
+        (is_among nat_eq k (upper_objects after old.number))
+        (passes (λ n. is_among nat_eq n old.files.numbers || is_among nat_eq n (named_in files)) files.numbers
+        changes.inodes k m));
+    names = all_pass (λ k. is_among nat_eq k (named_in files) || is_inode_among old.number k lost) (named_in old.files)
+        (λ k m. ⊎_elim (or_first (is_among nat_eq k (named_in files)) (is_inode_among old.number k lost))
+        (λ gone. or_second (is_among nat_eq k (named_in files)) (is_inode_among old.number k lost) (lost_name k gone))
+        (or_cases (is_among nat_eq k (named_in files)) (is_among nat_eq k unnamed)
+        (passes (λ n. is_among nat_eq n (named_in files) || is_among nat_eq n unnamed) (named_in old.files)
+        changes.names k m)));
+    objects = λ target. ap (list_all (λ k. is_among nat_eq k (objects_of_overlay nat_eq target (with_files old files))
+        || is_inode_among target k lost)) (no_objects world target old plain);
+  }
+
+  -- they are of it
+  pub lost_here : (number object : ℕ) → nat_eq old.number number ≡ false → is_inode_among number object lost ≡ false
+  lost_here number object e = by unnamed
+    where
+      apart : nat_eq number old.number ≡ false
+      apart = differs (nat_eq number old.number) refl
+        where
+          differs : (b : Bool) → nat_eq number old.number ≡ b → nat_eq number old.number ≡ false
+          differs true f = absurd (true≢false (sym (eq-eqb old.number number (sym (eqb-true number old.number f))) ∙ e))
+          differs false f = f
+
+      by : (list : List ℕ) → is_inode_among number object (map (λ inode. (old.number, inode)) list) ≡ false
+      by [] = refl
+      by (first ∷ rest) = cc (apart, by rest)
+
+-- A call that is granted
+module _ (world : World ℕ) (names : List TaskName) (name : TaskName) (call : Call) (is : IsWorld nat_eq world)
+    (sealed_off : sealed nat_eq world names ≡ true) (task : Task ℕ) (found : task_called world name ≡ Some task)
+    (fresh : Fresh ℕ) (serves : Serves nat_eq world fresh) (permit : Permit ℕ)
+    (judged : judge_in nat_eq fresh world task call ≡ Ok permit) (location : Location ℕ) (change : Change ℕ)
+    (asks : change_asked fresh world permit ≡ Some (location, change)) (comes : Names change) where
+  abbrev number : ℕ
+  number = (mount_at nat_eq world location).filesystem
+
+  abbrev old : Filesystem ℕ
+  old = filesystem_at nat_eq world location
+
+  itself : task_called world task.name ≡ Some task
+  itself = ap (task_called world) (sym (name_found world name task found)) ∙ found
+
+  asked : AsksWell world location change
+  asked = (subst (AsksWellIf world) asks
+      (permits_ask_well world fresh task call permit is serves itself judged)).0
+
+  pub proper : IsProper old.files.tree change
+  proper = (permits_ask_properly world fresh task call permit location change is serves itself judged asks).0
+
+  node_there : is_some (old.files.tree.node (written_to change)) ≡ true
+  node_there = by change comes asked
+    where
+      by : (c : Change ℕ) → Names c → AsksWell world location c
+          → is_some (old.files.tree.node (written_to c)) ≡ true
+      by (Make directory entry inode node) any well =
+          written_there world location (Make directory entry inode node) well tt
+      by (AddName directory entry object) any well =
+          written_there world location (AddName directory entry object) well tt
+      by (Remove directory entry object) any well = written_there world location (Remove directory entry object) well tt
+      by (Move from entry to new object) any well = written_there world location (Move from entry to new object) well tt
+      by (SetBytes file bytes) none well = absurd none
+      by (SetAttr object attr) none well = absurd none
+      by (SetMark directory opaque) none well = absurd none
+      by (CopyUp object) none well = absurd none
+
+  pub old_listed : IsListedTree old.files
+  old_listed = record {
+    tree = ⊎_elim (λ tree. tree)
+        (λ missing. absurd (true≢false (sym node_there
+        ∙ ap (λ (f : Filesystem ℕ). is_some (f.files.tree.node (written_to change))) missing.0)))
+        (numbered_all (λ (f : Filesystem ℕ). IsTree f.files.tree) number world.filesystems is.files.trees);
+    numbers = numbered_anyhow (λ (f : Filesystem ℕ). ListsNumbers nat_eq f.files) number world.filesystems
+        is.files.numbers (λ k. refl);
+  }
+
+  pub listed_after : IsListedTree (changed nat_eq old.files change)
+  listed_after = record {
+    tree = changes_keep_trees old.files change old_listed.tree proper;
+    numbers = changes_keep_numbers old.files change old_listed.numbers;
+  }
+
+  may : MayChange old.files change
+  may = by change comes proper
+    where
+      by : (c : Change ℕ) → Names c → IsProper old.files.tree c → MayChange old.files c
+      by (Make directory entry inode node) any it =
+          record { in_directory = it.name_is_free.in_directory; is_new = it.number_is_new }
+      by (AddName directory entry object) any it = tt
+      by (Remove directory entry object) any it = tt
+      by (Move from entry to new object) any it = record { named = it.named; in_directory = it.in_directory }
+      by (SetBytes file bytes) none it = absurd none
+      by (SetAttr object attr) none it = absurd none
+      by (SetMark directory opaque) none it = absurd none
+      by (CopyUp object) none it = absurd none
+
+  pub changes_so : ChangesTree old.files (changed nat_eq old.files change) (names_lost old.files change)
+  changes_so = changes_keep_names old.files change old_listed listed_after may
+
+  spared : SparesLocked world location change
+  spared = subst (SparesLockedIf world) asks
+      (permits_spare_what_is_locked world fresh task call permit is serves itself judged)
+
+  -- others have no foothold on it: what is wholly locked is not changed
+  pub old_alone : is_among nat_eq number (used_filesystems nat_eq world names) ≡ true
+      → used_alone nat_eq world names number ≡ true
+  old_alone used =
+      ⊎_elim (λ alone. alone)
+      (λ locked. absurd (no_copy change comes (written_not_spared old.files change
+      (spared.spares (written_to change)
+      (all_locked world names number old_listed.tree old_listed.numbers locked (written_to change) node_there)))))
+      (or_cases (used_alone nat_eq world names number) (wholly_locked nat_eq world names number)
+      (used_are_free world names sealed_off number (among_numbers (used_filesystems nat_eq world names) number used)))
+    where
+      no_copy : (c : Change ℕ) → Names c → IsCopy c → ⊥
+      no_copy (CopyUp object) none copy = none
+      no_copy c any copy = absurd copy

@@ -1,0 +1,125 @@
+-- Where a granted call of theirs makes, gives or takes a name: in a directory on a mount of theirs.
+use Rattle.std.proofs.Common.{◌≡◌, subst, ℕ, nat_eq, Bool, true, false, ◌∷◌, [], List, Option, Some, Ok, Result}
+use Rattle.std.specs.Prelude.{⊤, IfOk}
+use Rattle.std.proofs.lemmas.Option.{same_Some}
+use Rattle.vt_spec.specs.Language.Calls.{Call, TaskName}
+use Rattle.vt_spec.specs.Language.Changes.{Change}
+use Rattle.vt_spec.specs.Language.Changes.Change.{AddName, CopyUp, Make, Move, Remove, SetAttr, SetBytes, SetMark}
+use Rattle.vt_spec.specs.Lists.{Fresh, is_among, when}
+use Rattle.vt_spec.specs.Machine.Apply.{overfills}
+use Rattle.vt_spec.specs.Machine.Descriptors.{is_copied_up}
+use Rattle.vt_spec.specs.Machine.Invariants.{IsWorld}
+use Rattle.vt_spec.specs.Machine.Judge.{judge_in}
+use Rattle.vt_spec.specs.Machine.Looks.{Looks, looks_of}
+use Rattle.vt_spec.specs.Machine.Mounts.{Location}
+use Rattle.vt_spec.specs.Machine.Permits.{Permit}
+use Rattle.vt_spec.specs.Machine.Sealed.{members, part_of, sealed, used_filesystems}
+use Rattle.vt_spec.specs.Machine.Walking.{Place, Stop}
+use Rattle.vt_spec.specs.Machine.World.{Task, World}
+use Rattle.vt_spec.proofs.Lists.{Among}
+use Rattle.vt_spec.proofs.Options.{none_is_some}
+use Rattle.vt_laws_rules.specs.Granted.{IsGranted}
+use Rattle.vt_laws_rules.specs.Granted.IsGranted.{changes_mark, changes_mode, changes_owner, creates, creates_exclusively, makes_directory, makes_hard_link, makes_symlink, makes_whiteout, opens, opens_existing, overwrites_file, removes_directory, renames, unlinks, writes_new_file, writes_part}
+use Rattle.vt_laws_rules.proofs.given.Inversion.{calls_are_granted}
+use Rattle.vt_laws_trees.specs.Calls.Inodes.{written_if_some}
+use Rattle.vt_laws_worlds.specs.OverlayPermits.Asked.{change_asked}
+use Rattle.vt_laws_members.specs.Judging.{is_theirs}
+use Rattle.vt_laws_members.proofs.judging.AllJudged.{judges}
+use Rattle.vt_laws_members.proofs.judging.Judged.{JudgesAlike}
+use Rattle.vt_laws_members.proofs.judging.WalksLead.{PlaceAt, file_agrees, new_agrees, new_leaf_agrees, old_agrees, old_leaf_agrees}
+
+-- a change by which a name comes or goes
+abbrev pub Names : Change ℕ → Type 0
+Names (Make directory name number node) = ⊤
+Names (AddName directory name object) = ⊤
+Names (Remove directory name object) = ⊤
+Names (Move from old to new object) = ⊤
+Names (SetBytes file bytes) = ⊥
+Names (SetAttr object attr) = ⊥
+Names (SetMark directory opaque) = ⊥
+Names (CopyUp object) = ⊥
+
+module _ (world : World ℕ) (names : List TaskName) (is : IsWorld nat_eq world)
+    (sealed_off : sealed nat_eq world names ≡ true) (task : Task ℕ) (member : Among task (members world names))
+    (fresh : Fresh ℕ) where
+  abbrev one : Looks ℕ
+  one = looks_of nat_eq world
+
+  abbrev other : Looks ℕ
+  other = looks_of nat_eq (part_of nat_eq world names)
+
+  abbrev On : ℕ → Type 0
+  On number = is_theirs world names number ≡ true
+
+  alike : JudgesAlike one other task (is_theirs world names)
+      (λ number. is_among nat_eq number (used_filesystems nat_eq world names))
+  alike = judges world names is sealed_off task member
+
+  abbrev IsPlaced : Place ℕ → Type 0
+  IsPlaced = PlaceAt one other task On alike.walks alike.directory alike.rules.removed
+
+  abbrev AreTheirs : Option (Location ℕ × Change ℕ) → Type 0
+  AreTheirs asked = (made : Location ℕ × Change ℕ) → asked ≡ Some made → Names made.1 → On made.0.mount
+
+  of : (location : Location ℕ) (change : Change ℕ) → (Names change → On location.mount)
+      → AreTheirs (Some (location, change))
+  of location change on made e = subst (λ (m : Location ℕ × Change ℕ). Names m.1 → On m.0.mount)
+      (same_Some (location, change) made e) on
+
+  placed : (walk : Result (Place ℕ) (Stop ℕ)) (place : Place ℕ) (change : Change ℕ) → IfOk walk IsPlaced
+      → walk ≡ Ok place → AreTheirs (Some (place.parent, change))
+  placed walk place change ends e = of place.parent change (λ any. (subst (λ r. IfOk r IsPlaced) e ends).0)
+
+  opened : (file : Location ℕ) (copied : Bool) → AreTheirs (when copied (file, CopyUp file.node))
+  opened file true = of file (CopyUp file.node) (λ none. absurd none)
+  opened file false = λ made e. none_is_some made e
+
+  written : (file : Location ℕ) (offset : ℕ) (bytes : List ℕ) → AreTheirs (written_if_some world file offset bytes)
+  written file offset [] = λ made e. none_is_some made e
+  written file offset (byte ∷ bytes) = of file _ (λ none. absurd none)
+
+  names_theirs : (asked : Call) (permit : Permit ℕ)
+      → IsGranted nat_eq one (overfills nat_eq fresh world task) task asked permit
+      → AreTheirs (change_asked fresh world permit)
+  names_theirs asked permit (overwrites_file path bytes place file walk named is_there passed) =
+      of file _ (λ none. absurd none)
+  names_theirs asked permit (writes_new_file path bytes place walk named missing fits passed) =
+      placed _ place _ (file_agrees one other task On alike.walks alike.directory alike.rules.removed path).1 walk
+  names_theirs asked permit (makes_directory path mode place walk passed) =
+      placed _ place _ (new_agrees one other task On alike.walks alike.directory alike.rules.removed path).1 walk
+  names_theirs asked permit (makes_symlink text path place fits walk passed) =
+      placed _ place _ (new_leaf_agrees one other task On alike.walks alike.directory alike.rules.removed path).1 walk
+  names_theirs asked permit (makes_whiteout path place walk passed) =
+      placed _ place _ (new_leaf_agrees one other task On alike.walks alike.directory alike.rules.removed path).1 walk
+  names_theirs asked permit (makes_hard_link old new from place from_walk walk named passed) =
+      placed _ place _ (new_leaf_agrees one other task On alike.walks alike.directory alike.rules.removed new).1 walk
+  names_theirs asked permit (unlinks path place walk named passed) =
+      placed _ place _ (old_leaf_agrees one other task On alike.walks alike.directory alike.rules.removed path).1 walk
+  names_theirs asked permit (removes_directory path place walk word passed) =
+      placed _ place _ (old_agrees one other task On alike.walks alike.directory alike.rules.removed path).1 walk
+  names_theirs asked permit (renames old new from to both two passed) =
+      placed _ from _ (old_leaf_agrees one other task On alike.walks alike.directory alike.rules.removed old).1
+      both.from_end
+  names_theirs asked permit (changes_mode path mode here walk passed) = of here.location _ (λ none. absurd none)
+  names_theirs asked permit (changes_owner path uid gid here walk passed) = of here.location _ (λ none. absurd none)
+  names_theirs asked permit (changes_mark path mark here admin walk passed) = of here.location _ (λ none. absurd none)
+  names_theirs asked permit (opens path access here few walk passed) =
+      opened here.location (is_copied_up nat_eq world here.location access)
+  names_theirs asked permit (opens_existing path access mode place file few walk named is_there passed) =
+      opened file (is_copied_up nat_eq world file access)
+  names_theirs asked permit (creates path access mode place few walk named missing passed) =
+      placed _ place _ (file_agrees one other task On alike.walks alike.directory alike.rules.removed path).1 walk
+  names_theirs asked permit (creates_exclusively path access mode place few walk named passed) =
+      placed _ place _ (new_agrees one other task On alike.walks alike.directory alike.rules.removed path).1 walk
+  names_theirs asked permit (writes_part number offset bytes descriptor found passed) =
+      written descriptor.location offset bytes
+  names_theirs asked permit granted = λ made e. none_is_some made e
+
+  -- the directory is on a mount of theirs
+  pub granted_theirs : (call : Call) (permit : Permit ℕ) → judge_in nat_eq fresh world task call ≡ Ok permit
+      → (location : Location ℕ) (change : Change ℕ) → change_asked fresh world permit ≡ Some (location, change)
+      → Names change → On location.mount
+  granted_theirs call permit judged location change asks comes =
+      names_theirs call permit
+      (calls_are_granted nat_eq one (overfills nat_eq fresh world task) task call permit judged)
+      (location, change) asks comes

@@ -1,0 +1,132 @@
+-- An open of theirs that makes the file, on a plain filesystem, ends in the part as in the world.
+use Rattle.std.proofs.Common.{◌≡◌, refl, sym, ap, subst, ◌∙◌, ℕ, nat_eq, eqb-true, Bool, true, false, true≢false, List, [], ◌∷◌}
+use Rattle.std.specs.Prelude.{option_to_list}
+use Rattle.vt_spec.specs.FileTree.{FileTree}
+use Rattle.vt_spec.specs.Language.Answers.Answer.{Opened}
+use Rattle.vt_spec.specs.Language.Calls.{Access, Call, Creation, TaskName}
+use Rattle.vt_spec.specs.Language.Calls.Call.{OpenFile}
+use Rattle.vt_spec.specs.Language.Changes.{Change, changed}
+use Rattle.vt_spec.specs.Language.Changes.Change.{Make}
+use Rattle.vt_spec.specs.Lists.{Fresh, evens, is_among, odds}
+use Rattle.vt_spec.specs.Machine.Descriptors.{free_number, opened, with_descriptor}
+use Rattle.vt_spec.specs.Machine.Filesystems.{changed_at, filesystem_changed, numbers_of_change, with_change}
+use Rattle.vt_spec.specs.Machine.Mounts.{Location}
+use Rattle.vt_spec.specs.Machine.Outcomes.{granted}
+use Rattle.vt_spec.specs.Machine.Permits.Permit.{ToOpenNew}
+use Rattle.vt_spec.specs.Machine.Policy.{finished, numbers_raised}
+use Rattle.vt_spec.specs.Machine.Sealed.{part_of, used_filesystems}
+use Rattle.vt_spec.specs.Machine.Settled.{settled}
+use Rattle.vt_spec.specs.Machine.World.{Filesystem, Task, World, filesystem_at, is_overlay, mount_at, with_task}
+use Rattle.vt_spec.proofs.Lists.{Among}
+use Rattle.vt_laws_mounts.specs.LettingGo.InUse.{AllInUse}
+use Rattle.vt_laws_mounts.specs.LettingGo.TreeChanges.{ChangesTree}
+use Rattle.vt_laws_mounts.proofs.letting_go.sweeps.OfWorlds.{all_in_use}
+use Rattle.vt_laws_sealed.proofs.part.part.PartOfPart.{same_used}
+use Rattle.vt_laws_members.proofs.judging.Grounds.{IsTheirs, theirs_from}
+use Rattle.vt_laws_members.proofs.judging.SeenInPart.{filesystem_alike, theirs_used}
+use Rattle.vt_laws_members.specs.Changes.NameChanges.{NewOpensEndAlike}
+use Rattle.vt_laws_members.proofs.changes.files.FilesChanged.{part_with_files}
+use Rattle.vt_laws_members.proofs.changes.files.FilesEnding.{no_overlay}
+use Rattle.vt_laws_members.proofs.changes.files.FilesInUse.{in_use_changed}
+use Rattle.vt_laws_members.proofs.changes.files.FilesRaised.{both, both_kept, both_numbered, both_overlaid, swap}
+use Rattle.vt_laws_members.proofs.changes.files.OneFilesystem.{old_used, one_in_part, one_in_world}
+use Rattle.vt_laws_members.proofs.changes.looks.Told.{member_called}
+use Rattle.vt_laws_members.proofs.changes.names.AskedNames.{changes_so, proper, tree_changes}
+use Rattle.vt_laws_members.proofs.changes.names.GrantedNames.{granted_theirs}
+use Rattle.vt_laws_members.proofs.changes.names.Swept.{swap_changes}
+use Rattle.vt_laws_members.proofs.changes.part.SettledPart.{part_in_use}
+use Rattle.vt_laws_members.proofs.changes.tasks.Denied.{run_by, same_judgement}
+use Rattle.vt_laws_members.proofs.changes.tasks.OpenedFiles.{MovesIn, opened_ends, opened_with}
+
+-- so ends a granted open that gives a plain filesystem another tree
+new_run : (w : World ℕ) (name : TaskName) (path : List ℕ) (access : Access) (how : Creation) (supply : Fresh ℕ)
+    (location : Location ℕ) (change : Change ℕ) (old : Filesystem ℕ) (task : Task ℕ) (file : Location ℕ)
+    (wanted : Access)
+    → filesystem_at nat_eq w location ≡ old → is_overlay old ≡ false
+    → finished nat_eq w name (OpenFile path access how) (changed_at nat_eq w location)
+    (opened (with_change nat_eq supply w location change) task file wanted)
+    ≡ opened_with w name (swap old (changed nat_eq old.files change)) (old.number ∷ []) task file wanted
+new_run w name path access how supply location change old task file wanted e plain =
+    ap (λ f. granted (Opened (free_number task)) (numbers_raised nat_eq w name (numbers_of_change nat_eq w f f.overlay)
+    (settled nat_eq (with_task (filesystem_changed nat_eq supply w f f.overlay change)
+    (with_descriptor task file wanted))))) e
+    ∙ ap (λ o. granted (Opened (free_number task)) (numbers_raised nat_eq w name (numbers_of_change nat_eq w old o)
+    (settled nat_eq (with_task (filesystem_changed nat_eq supply w old o change) (with_descriptor task file wanted)))))
+    (no_overlay old.overlay plain)
+
+pub new_opens_end_alike : NewOpensEndAlike
+new_opens_end_alike world names name path access how it task found fresh serves directory entry node wanted judged
+    plain =
+    opened_ends world names name path access how it fresh task found file ground wanted (swap old files)
+    (old.number ∷ [])
+    (moves world (all_in_use world it.is) (one_in_world world names it.is number used)
+    (old_used world names it.is number used))
+    (moves part (part_in_use world names it.is it.sealed_off) (one_in_part world names it.is number used)
+    (ap (is_among nat_eq old.number) (same_used world names) ∙ old_used world names it.is number used))
+    (ap (run_by world names name call it fresh fresh world fresh task) judged
+    ∙ new_run world name path access how (odds fresh) directory change old task file wanted refl plain)
+    (ap (run_by world names name call it fresh fresh part fresh task)
+    (sym (same_judgement world names name call it fresh fresh task found) ∙ judged)
+    ∙ new_run part name path access how (odds fresh) directory change old task file wanted
+    (sym (filesystem_alike world names it.is directory ground)) plain)
+  where
+    call : Call
+    call = OpenFile path access how
+
+    part : World ℕ
+    part = part_of nat_eq world names
+
+    number : ℕ
+    number = (mount_at nat_eq world directory).filesystem
+
+    old : Filesystem ℕ
+    old = filesystem_at nat_eq world directory
+
+    change : Change ℕ
+    change = Make directory.node entry (evens fresh 0) node
+
+    files : FileTree ℕ
+    files = changed nat_eq old.files change
+
+    file : Location ℕ
+    file = record { mount = directory.mount; node = evens fresh 0 }
+
+    ground : IsTheirs world names it.is.mounts directory.mount
+    ground =
+        theirs_from world names it.is.mounts directory.mount
+        (granted_theirs world names it.is it.sealed_off task
+        (member_called world names it.is it.sealed_off name it.theirs task found) fresh call
+        (ToOpenNew directory entry node wanted) judged directory change refl tt)
+
+    used : is_among nat_eq number (used_filesystems nat_eq world names) ≡ true
+    used = theirs_used world names it.is directory ground
+
+    none_lost : ChangesTree old.files files []
+    none_lost =
+        subst (ChangesTree old.files files)
+        (ap option_to_list
+        (proper world names name call it.is it.sealed_off task found fresh serves
+        (ToOpenNew directory entry node wanted)
+        judged directory change refl tt).name_is_free.free)
+        (changes_so world names name call it.is it.sealed_off task found fresh serves
+        (ToOpenNew directory entry node wanted) judged directory change refl tt)
+
+    moves : (w : World ℕ) → AllInUse w
+        → ((x : Filesystem ℕ) → Among x w.filesystems → nat_eq old.number x.number ≡ true → x ≡ old)
+        → is_among nat_eq old.number (used_filesystems nat_eq w names) ≡ true
+        → MovesIn world names name path access how it fresh task found file ground wanted (swap old files)
+        (old.number ∷ []) w
+    moves w in_use one used_there = record {
+      in_use = in_use_changed w in_use (swap old files)
+          (swap_changes w in_use old files plain [] (tree_changes world old files plain [] none_lost)
+          (λ number object e. refl) one);
+      part_moved = part_with_files w names (both old files) (both_numbered old files)
+          (λ x m. both_overlaid old files x (one x m)) (λ x unused. kept x unused (nat_eq old.number x.number) refl);
+    }
+      where
+        kept : (x : Filesystem ℕ) → is_among nat_eq x.number (used_filesystems nat_eq w names) ≡ false → (b : Bool)
+            → nat_eq old.number x.number ≡ b → both old files x ≡ x
+        kept x unused true e =
+            absurd (true≢false (sym used_there
+            ∙ ap (λ n. is_among nat_eq n (used_filesystems nat_eq w names)) (eqb-true old.number x.number e) ∙ unused))
+        kept x unused false e = both_kept old files x e

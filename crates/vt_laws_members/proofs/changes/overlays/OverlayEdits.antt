@@ -1,0 +1,208 @@
+-- Calls of theirs that edit a file through an overlay: write(2), chmod(2), chown(2), pwrite(2).
+use Rattle.std.proofs.Common.{◌≡◌, refl, sym, ap, subst, ◌∙◌, ℕ, nat_eq, true, false, true≢false, List, ◌∷◌, Option, Some, None, Ok, is_some, map, ◌||◌}
+use Rattle.std.specs.Prelude.{IfOk}
+use Rattle.vt_spec.specs.Language.Answers.Answer.{Done}
+use Rattle.vt_spec.specs.Language.Calls.{Call, TaskName}
+use Rattle.vt_spec.specs.Language.Calls.Call.{Chmod, Chown, Pwrite, Write}
+use Rattle.vt_spec.specs.Language.Changes.{Change}
+use Rattle.vt_spec.specs.Language.Changes.Change.{AddName, CopyUp, Make, Move, Remove, SetAttr, SetBytes, SetMark}
+use Rattle.vt_spec.specs.Lists.{Fresh}
+use Rattle.vt_spec.specs.Machine.Descriptors.{overwritten}
+use Rattle.vt_spec.specs.Machine.Filesystems.{changed_at, filesystem_changed, numbers_of_change, numbers_over, overlay_changed, with_change}
+use Rattle.vt_spec.specs.Machine.Judge.{judge_in}
+use Rattle.vt_spec.specs.Machine.Mounts.{Location}
+use Rattle.vt_spec.specs.Machine.Outcomes.{granted}
+use Rattle.vt_spec.specs.Machine.Permits.Permit.{ToChange, ToWritePart}
+use Rattle.vt_spec.specs.Machine.Policy.{finished, finished_by, numbers_raised, only_looks}
+use Rattle.vt_spec.specs.Machine.Run.{Serves}
+use Rattle.vt_spec.specs.Machine.Sealed.{locations, members, own_mounts, part_of, used_directly}
+use Rattle.vt_spec.specs.Machine.Settled.{settled}
+use Rattle.vt_spec.specs.Machine.World.{Filesystem, Layer, Overlay, Task, World, filesystem_at, filesystem_numbered, is_overlay, mount_at, node_at, task_called}
+use Rattle.vt_spec.specs.Tree.{bytes_in}
+use Rattle.vt_spec.proofs.Lists.{Among, among-append_right, among-map}
+use Rattle.vt_laws_worlds.proofs.worlds.CallsKept.{name_found}
+use Rattle.vt_laws_worlds.specs.OverlayPermits.Asked.{AsksWell}
+use Rattle.vt_laws_worlds.proofs.overlay_permits.asked.Asked.{permits_ask_well}
+use Rattle.vt_laws_worlds.proofs.overlay_permits.changed.ChangedOverlays.{permits_can_change}
+use Rattle.vt_laws_worlds.specs.OverlaysLetGo.OverlayChanges.{CanChange}
+use Rattle.vt_laws_sealed.proofs.part.part.PartOfPart.{found, located}
+use Rattle.vt_laws_members.specs.Judging.{is_theirs}
+use Rattle.vt_laws_members.proofs.judging.Grounds.{IsTheirs, theirs_from}
+use Rattle.vt_laws_members.proofs.judging.SeenInPart.{filesystem_alike, located_used, theirs_directly}
+use Rattle.vt_laws_members.specs.Changes.Changes.{EndsAlike, IsCallOfTheirs, grown}
+use Rattle.vt_laws_members.specs.Changes.OverlayEdits.{OverlayChmodsEndAlike, OverlayChownsEndAlike, OverlayPartWritesEndAlike, OverlayWritesEndAlike}
+use Rattle.vt_laws_members.proofs.changes.files.Edits.{Edits, IsEdit, chmods_edit, chowns_edit, writes_edit}
+use Rattle.vt_laws_members.proofs.changes.files.PartWritten.{Writes, writes_theirs}
+use Rattle.vt_laws_members.proofs.changes.looks.Told.{member_called, open_file, ran}
+use Rattle.vt_laws_members.proofs.changes.overlays.CopiesEnding.{copy_ends}
+use Rattle.vt_laws_members.proofs.changes.overlays.Copying.{Copies}
+use Rattle.vt_laws_members.proofs.changes.tasks.Denied.{run_by, same_judgement}
+use Rattle.vt_laws_members.proofs.changes.tasks.Ending.{with_tasks}
+use Rattle.vt_laws_members.proofs.changes.tasks.Rights.{idle_end_alike}
+
+-- without an upper layer nothing is changed
+pub unwritten_run : (w : World ℕ) (name : TaskName) (call : Call) (supply : Fresh ℕ) (location : Location ℕ)
+    (change : Change ℕ) (merged : Filesystem ℕ) (overlay : Overlay ℕ) → only_looks call ≡ false
+    → filesystem_at nat_eq w location ≡ merged → merged.overlay ≡ Some overlay → overlay.upper ≡ None
+    → finished nat_eq w name call (changed_at nat_eq w location)
+    (granted Done (with_change nat_eq supply w location change))
+    ≡ with_tasks w name Done w.tasks
+unwritten_run w name call supply location change merged overlay looks same overlaid none =
+    ap (λ b. finished_by nat_eq (b || false) w name (changed_at nat_eq w location)
+    (granted Done (with_change nat_eq supply w location change))) looks
+    ∙ ap (λ f. granted Done (numbers_raised nat_eq w name (numbers_of_change nat_eq w f f.overlay)
+    (settled nat_eq (filesystem_changed nat_eq supply w f f.overlay change)))) same
+    ∙ ap (λ o. granted Done (numbers_raised nat_eq w name (numbers_of_change nat_eq w merged o)
+    (settled nat_eq (filesystem_changed nat_eq supply w merged o change)))) overlaid
+    ∙ ap (λ u. granted Done (numbers_raised nat_eq w name (numbers_over nat_eq w merged u)
+    (settled nat_eq (overlay_changed nat_eq supply w merged overlay u change)))) none
+
+-- With one the file is copied up.
+module _ (world : World ℕ) (names : List TaskName) (name : TaskName) (call : Call)
+    (it : IsCallOfTheirs world names name call)
+    (fresh : Fresh ℕ) (task : Task ℕ) (found_task : task_called world name ≡ Some task)
+    (looks : only_looks call ≡ false)
+    (stays : grown names name call (Ok Done) ≡ names) (location : Location ℕ) (change : Change ℕ)
+    (copies : Copies change)
+    (direct : Among (mount_at nat_eq world location).filesystem (used_directly nat_eq world names))
+    (alike : filesystem_at nat_eq world location ≡ filesystem_at nat_eq (part_of nat_eq world names) location)
+    (is : is_overlay (filesystem_at nat_eq world location) ≡ true)
+    (can : (overlay : Overlay ℕ) (upper : Layer ℕ) → (filesystem_at nat_eq world location).overlay ≡ Some overlay
+    → overlay.upper ≡ Some upper → CanChange fresh world location change overlay upper) where
+  abbrev part : World ℕ
+  part = part_of nat_eq world names
+
+  abbrev merged : Filesystem ℕ
+  merged = filesystem_at nat_eq world location
+
+  pub through_ends : ran name call world fresh (Some task)
+      ≡ finished nat_eq world name call (changed_at nat_eq world location)
+      (granted Done (with_change nat_eq fresh world location change))
+      → ran name call part fresh (Some task)
+      ≡ finished nat_eq part name call (changed_at nat_eq part location)
+      (granted Done (with_change nat_eq fresh part location change))
+      → EndsAlike world names name call fresh fresh
+  through_ends one two = by merged.overlay refl
+    where
+      layered : (overlay : Overlay ℕ) → merged.overlay ≡ Some overlay → (o : Option (Layer ℕ)) → overlay.upper ≡ o
+          → EndsAlike world names name call fresh fresh
+      layered overlay overlaid None none =
+          idle_end_alike world names name call it task found_task fresh fresh Done stays
+          (one ∙ unwritten_run world name call fresh location change merged overlay looks refl overlaid none)
+          (two ∙ unwritten_run part name call fresh location change merged overlay looks (sym alike) overlaid none)
+      layered overlay overlaid (Some upper) has =
+          copy_ends world names name call it fresh task found_task looks stays location change overlay upper
+          (can overlay upper overlaid has) copies direct alike one two
+
+      by : (o : Option (Overlay ℕ)) → merged.overlay ≡ o → EndsAlike world names name call fresh fresh
+      by None none = absurd (true≢false (sym is ∙ ap is_some none))
+      by (Some overlay) overlaid = layered overlay overlaid overlay.upper refl
+
+-- an edit that may be made through an overlay sets no mark
+edits_copy : (world : World ℕ) (location : Location ℕ) (change : Change ℕ) → IsEdit change
+    → is_overlay (filesystem_at nat_eq world location) ≡ true → AsksWell world location change → Copies change
+edits_copy world location (SetBytes file bytes) edit is asked = tt
+edits_copy world location (SetAttr object attr) edit is asked = tt
+edits_copy world location (SetMark directory opaque) edit is asked = absurd (true≢false (sym is ∙ asked))
+edits_copy world location (CopyUp object) none is asked = absurd none
+edits_copy world location (Make directory name number node) none is asked = absurd none
+edits_copy world location (AddName directory name object) none is asked = absurd none
+edits_copy world location (Remove directory name object) none is asked = absurd none
+edits_copy world location (Move from old to new object) none is asked = absurd none
+
+-- A call whose walk leads to what it edits
+module _ (world : World ℕ) (names : List TaskName) (name : TaskName) (call : Call)
+    (it : IsCallOfTheirs world names name call)
+    (task : Task ℕ) (found_task : task_called world name ≡ Some task) (fresh : Fresh ℕ)
+    (serves : Serves nat_eq world fresh)
+    (location : Location ℕ) (change : Change ℕ)
+    (judged : judge_in nat_eq fresh world task call ≡ Ok (ToChange location change))
+    (is : is_overlay (filesystem_at nat_eq world location) ≡ true) (looks : only_looks call ≡ false)
+    (stays : grown names name call (Ok Done) ≡ names)
+    (edits : IfOk (judge_in nat_eq fresh world task call) (Edits (is_theirs world names))) where
+  edit : (is_theirs world names location.mount ≡ true) × IsEdit change
+  edit = subst (λ j. IfOk j (Edits (is_theirs world names))) judged edits
+
+  ground : IsTheirs world names it.is.mounts location.mount
+  ground = theirs_from world names it.is.mounts location.mount edit.0
+
+  itself : task_called world task.name ≡ Some task
+  itself = ap (task_called world) (sym (name_found world name task found_task)) ∙ found_task
+
+  pub walked_copy_ends : EndsAlike world names name call fresh fresh
+  walked_copy_ends =
+      through_ends world names name call it fresh task found_task looks stays location change
+      (edits_copy world location change edit.1 is
+      (permits_ask_well world fresh task call (ToChange location change) it.is serves itself judged).0)
+      (theirs_directly world names it.is location ground) (filesystem_alike world names it.is location ground) is
+      (λ overlay upper overlaid has. permits_can_change world fresh task call (ToChange location change) location change
+      overlay upper it.is serves itself judged refl overlaid has)
+      (ap (run_by world names name call it fresh fresh world fresh task) judged)
+      (ap (run_by world names name call it fresh fresh (part_of nat_eq world names) fresh task)
+      (sym (same_judgement world names name call it fresh fresh task found_task) ∙ judged))
+
+pub overlay_writes_end_alike : OverlayWritesEndAlike
+overlay_writes_end_alike world names name path bytes it task called fresh serves location change judged is =
+    walked_copy_ends world names name (Write path bytes) it task called fresh serves location change judged is refl refl
+    (writes_edit world names it.is it.sealed_off task
+    (member_called world names it.is it.sealed_off name it.theirs task called) path bytes)
+
+pub overlay_chmods_end_alike : OverlayChmodsEndAlike
+overlay_chmods_end_alike world names name path mode it task called fresh serves location change judged is =
+    walked_copy_ends world names name (Chmod path mode) it task called fresh serves location change judged is refl refl
+    (chmods_edit world names it.is it.sealed_off task
+    (member_called world names it.is it.sealed_off name it.theirs task called) path mode)
+
+pub overlay_chowns_end_alike : OverlayChownsEndAlike
+overlay_chowns_end_alike world names name path uid gid it task called fresh serves location change judged is =
+    walked_copy_ends world names name
+    (Chown path uid gid) it task called fresh serves location change judged is refl refl
+    (chowns_edit world names it.is it.sealed_off task
+    (member_called world names it.is it.sealed_off name it.theirs task called) path uid gid)
+
+pub overlay_part_writes_end_alike : OverlayPartWritesEndAlike
+overlay_part_writes_end_alike world names name descriptor offset byte bytes it task called fresh serves file at written
+    granted_so is =
+    through_ends world names name call it fresh task called refl refl file
+    (SetBytes file.node (overwritten at (byte ∷ bytes) (bytes_in (node_at nat_eq world file)))) tt direct alike is
+    (λ overlay upper overlaid has. permits_can_change world fresh task call (ToWritePart file at (byte ∷ bytes)) file
+    (SetBytes file.node (overwritten at (byte ∷ bytes) (bytes_in (node_at nat_eq world file)))) overlay upper it.is
+    serves
+    itself judged refl overlaid has)
+    (ap (run_by world names name call it fresh fresh world fresh task) judged)
+    (ap (run_by world names name call it fresh fresh part fresh task)
+    (sym (same_judgement world names name call it fresh fresh task called) ∙ judged)
+    ∙ ap (λ node. run_by world names name call it fresh fresh part fresh task
+    (Ok (ToChange file (SetBytes file.node (overwritten at (byte ∷ bytes) (bytes_in node))))))
+    (sym (open_file world names it.is it.sealed_off file theirs.0)))
+  where
+    call : Call
+    call = Pwrite descriptor offset (byte ∷ bytes)
+
+    part : World ℕ
+    part = part_of nat_eq world names
+
+    theirs : Among file (locations (members world names)) × (written ≡ byte ∷ bytes)
+    theirs =
+        subst (λ j. IfOk j (Writes (locations (members world names)) (byte ∷ bytes))) granted_so
+        (writes_theirs world names it.is it.sealed_off task
+        (member_called world names it.is it.sealed_off name it.theirs task called) (byte ∷ bytes) descriptor offset)
+
+    judged : judge_in nat_eq fresh world task call ≡ Ok (ToWritePart file at (byte ∷ bytes))
+    judged = granted_so ∙ ap (λ w. Ok (ToWritePart file at w)) theirs.1
+
+    itself : task_called world task.name ≡ Some task
+    itself = ap (task_called world) (sym (name_found world name task called)) ∙ called
+
+    direct : Among (mount_at nat_eq world file).filesystem (used_directly nat_eq world names)
+    direct =
+        among-append_right (map (λ mount. mount.filesystem) (own_mounts nat_eq world names))
+        (map (λ (location : Location ℕ). (mount_at nat_eq world location).filesystem) (locations (members world names)))
+        (mount_at nat_eq world file).filesystem
+        (among-map (λ (location : Location ℕ). (mount_at nat_eq world location).filesystem)
+        (locations (members world names)) file theirs.0)
+
+    alike : filesystem_at nat_eq world file ≡ filesystem_at nat_eq part file
+    alike =
+        sym (found world names (mount_at nat_eq world file).filesystem (located_used world names it.is file theirs.0))
+        ∙ ap (filesystem_numbered nat_eq part) (sym (located world names file theirs.0))

@@ -1,0 +1,192 @@
+-- An open of theirs that copies the file up ends in the part as in the world.
+use Rattle.std.proofs.Common.{◌≡◌, refl, sym, ap, subst, ◌∙◌, ℕ, nat_eq, Bool, true, false, true≢false, List, Option, Some, None, Ok, is_some, not, ◌&&◌}
+use Rattle.std.specs.Prelude.{IfOk}
+use Rattle.std.proofs.lemmas.Bool.{and_parts}
+use Rattle.vt_spec.specs.Language.Answers.Answer.{Opened}
+use Rattle.vt_spec.specs.Language.Calls.{Access, Call, Creation, TaskName, opens_for_writing}
+use Rattle.vt_spec.specs.Language.Calls.Call.{OpenFile}
+use Rattle.vt_spec.specs.Language.Changes.Change.{CopyUp}
+use Rattle.vt_spec.specs.Lists.{Fresh, is_among, when}
+use Rattle.vt_spec.specs.Machine.Apply.{changed_if, overfills}
+use Rattle.vt_spec.specs.Machine.Descriptors.{free_number, is_copied_up, opened, with_copy, with_descriptor}
+use Rattle.vt_spec.specs.Machine.Filesystems.{changed_at, lies_only_in_lowers, with_change}
+use Rattle.vt_spec.specs.Machine.Judge.{judge_in}
+use Rattle.vt_spec.specs.Machine.Locked.{overlay_or}
+use Rattle.vt_spec.specs.Machine.Looks.{looks_of}
+use Rattle.vt_spec.specs.Machine.Mounts.{Location}
+use Rattle.vt_spec.specs.Machine.Outcomes.{Outcome, granted}
+use Rattle.vt_spec.specs.Machine.Permits.{Permit}
+use Rattle.vt_spec.specs.Machine.Permits.Permit.{ToOpen}
+use Rattle.vt_spec.specs.Machine.Policy.{finished, numbers_raised}
+use Rattle.vt_spec.specs.Machine.Rules.Conditions.{has_no_upper}
+use Rattle.vt_spec.specs.Machine.Sealed.{part_of, used_directly}
+use Rattle.vt_spec.specs.Machine.Settled.{settled}
+use Rattle.vt_spec.specs.Machine.World.{Filesystem, Layer, Overlay, Task, World, filesystem_at, mount_at, task_called, with_task}
+use Rattle.vt_spec.proofs.Lists.{Among}
+use Rattle.vt_laws_rules.specs.Granted.{IsGranted}
+use Rattle.vt_laws_rules.specs.Granted.IsGranted.{opens, opens_existing}
+use Rattle.vt_laws_rules.proofs.given.Inversion.{calls_are_granted}
+use Rattle.vt_laws_mounts.specs.LettingGo.TreesOverlays.{with_filesystems}
+use Rattle.vt_laws_mounts.proofs.letting_go.sweeps.OfWorlds.{all_in_use}
+use Rattle.vt_laws_worlds.proofs.worlds.CallsKept.{name_found}
+use Rattle.vt_laws_worlds.specs.OverlayPermits.Asked.{change_asked}
+use Rattle.vt_laws_worlds.proofs.overlay_permits.changed.ChangedOverlays.{permits_can_change}
+use Rattle.vt_laws_worlds.specs.OverlaysLetGo.OverlayChanges.{CanChange}
+use Rattle.vt_laws_sealed.proofs.part.part.PartOfPart.{same_used}
+use Rattle.vt_laws_members.specs.Judging.{is_theirs}
+use Rattle.vt_laws_members.proofs.judging.Grounds.{IsTheirs, theirs_from}
+use Rattle.vt_laws_members.proofs.judging.SeenInPart.{filesystem_alike, theirs_directly}
+use Rattle.vt_laws_members.specs.Changes.Changes.{EndsAlike, IsCallOfTheirs}
+use Rattle.vt_laws_members.specs.Changes.OverlayEdits.{OverlayOpensEndAlike}
+use Rattle.vt_laws_members.proofs.changes.files.StepsInUse.{in_use_stepped}
+use Rattle.vt_laws_members.proofs.changes.looks.Told.{member_called}
+use Rattle.vt_laws_members.proofs.changes.overlays.Copying.{both_numbers, changes_in_part, changes_in_world, kept_on, numbers_in_part, numbers_in_world, ones_in_part, ones_in_world, part_moved, step, stepped_in_part, stepped_in_world}
+use Rattle.vt_laws_members.proofs.changes.part.SettledPart.{part_in_use}
+use Rattle.vt_laws_members.proofs.changes.tasks.Denied.{run_by, same_judgement}
+use Rattle.vt_laws_members.proofs.changes.tasks.OpenedFiles.{opened_ends, opened_with}
+use Rattle.vt_laws_members.proofs.changes.tasks.Opening.{OpensOn, opens_theirs}
+
+-- F2: what is opened for writing through an overlay has an upper layer
+writes_above : (world : World ℕ) (fresh : Fresh ℕ) (task : Task ℕ) (asked : Call) (permit : Permit ℕ)
+    → IsGranted nat_eq (looks_of nat_eq world) (overfills nat_eq fresh world task) task asked permit
+    → (file : Location ℕ) (wanted : Access) → permit ≡ ToOpen file wanted
+    → (opens_for_writing wanted && has_no_upper (looks_of nat_eq world) file) ≡ false
+writes_above world fresh task asked permit (opens path access here few walk passed) file wanted e =
+    let same : here.location ≡ file = cc in
+    let kind : access ≡ wanted = cc in
+    (λ i. opens_for_writing (sym kind i) && has_no_upper (looks_of nat_eq world) (sym same i)) ∙ passed.1.1.1.0
+writes_above world fresh task asked permit
+    (opens_existing path access mode place own_file few walk named is_there passed) file wanted e =
+    let same : own_file ≡ file = cc in
+    let kind : access ≡ wanted = cc in
+    (λ i. opens_for_writing (sym kind i) && has_no_upper (looks_of nat_eq world) (sym same i)) ∙ passed.1.1.1.0
+writes_above world fresh task asked permit other_way file wanted e = absurd cc
+
+module _ (world : World ℕ) (names : List TaskName) (name : TaskName) (path : List ℕ) (access : Access) (how : Creation)
+    (it : IsCallOfTheirs world names name (OpenFile path access how))
+    (task : Task ℕ) (called : task_called world name ≡ Some task) (fresh : Fresh ℕ) (file : Location ℕ)
+    (wanted : Access)
+    (ground : IsTheirs world names it.is.mounts file.mount)
+    (copied : is_copied_up nat_eq world file wanted ≡ true)
+    (given : judge_in nat_eq fresh world task (OpenFile path access how) ≡ Ok (ToOpen file wanted))
+    (overlay : Overlay ℕ) (upper : Layer ℕ) (can : CanChange fresh world file (CopyUp file.node) overlay upper) where
+  abbrev part : World ℕ
+  part = part_of nat_eq world names
+
+  abbrev call : Call
+  call = OpenFile path access how
+
+  direct : Among (mount_at nat_eq world file).filesystem (used_directly nat_eq world names)
+  direct = theirs_directly world names it.is file ground
+
+  alike : filesystem_at nat_eq world file ≡ filesystem_at nat_eq part file
+  alike = filesystem_alike world names it.is file ground
+
+  abbrev moved : Filesystem ℕ → Filesystem ℕ
+  moved = step fresh world names file (CopyUp file.node) overlay upper it.is can direct alike
+
+  abbrev numbers : List ℕ
+  numbers = both_numbers fresh world names file (CopyUp file.node) overlay upper it.is can direct alike
+
+  -- the copy is made, and the file opened
+  run_opened : (w : World ℕ) → is_copied_up nat_eq w file wanted ≡ true
+      → with_change nat_eq fresh w file (CopyUp file.node) ≡ with_filesystems w moved
+      → changed_at nat_eq w file ≡ numbers
+      → run_by world names name call it fresh fresh w fresh task (Ok (ToOpen file wanted))
+      ≡ opened_with w name moved numbers task file wanted
+  run_opened w copies made listed =
+      ap by copies
+      ∙ ap (λ l. granted (Opened (free_number task)) (numbers_raised nat_eq w name l (settled nat_eq
+      (with_task (with_change nat_eq fresh w file (CopyUp file.node)) (with_descriptor task file wanted))))) listed
+      ∙ ap (λ v. granted (Opened (free_number task)) (numbers_raised nat_eq w name numbers (settled nat_eq
+      (with_task v (with_descriptor task file wanted))))) made
+    where
+      by : Bool → Outcome ℕ
+      by b =
+          finished nat_eq w name call (changed_if nat_eq b w file)
+          (opened (with_copy nat_eq b fresh w file) task file wanted)
+
+  copied_in_part : is_copied_up nat_eq part file wanted ≡ true
+  copied_in_part =
+      sym (ap (λ (f : Filesystem ℕ). opens_for_writing wanted
+      && overlay_or false (λ overlay. lies_only_in_lowers overlay file.node) f.overlay) alike)
+      ∙ copied
+
+  pub open_through_ends : EndsAlike world names name call fresh fresh
+  open_through_ends =
+      opened_ends world names name path access how it fresh task called file ground wanted moved numbers
+      (record {
+        in_use = in_use_stepped world (all_in_use world it.is) moved
+            (changes_in_world fresh world names file (CopyUp file.node) overlay upper it.is can direct alike tt);
+        part_moved = part_moved fresh world names file (CopyUp file.node) overlay upper it.is can direct alike world
+            (ones_in_world fresh world names file (CopyUp file.node) overlay upper it.is can direct alike)
+            (kept_on fresh world names file (CopyUp file.node) overlay upper it.is can direct alike);
+      })
+      (record {
+        in_use = in_use_stepped part (part_in_use world names it.is it.sealed_off) moved
+            (changes_in_part fresh world names file (CopyUp file.node) overlay upper it.is can direct alike tt);
+        part_moved = part_moved fresh world names file (CopyUp file.node) overlay upper it.is can direct alike part
+            (ones_in_part fresh world names file (CopyUp file.node) overlay upper it.is can direct alike)
+            (λ x e. kept_on fresh world names file (CopyUp file.node) overlay upper it.is can direct alike x
+            (sym (ap (is_among nat_eq x.number) (same_used world names)) ∙ e));
+      })
+      (ap (run_by world names name call it fresh fresh world fresh task) given
+      ∙ run_opened world copied
+      (stepped_in_world fresh world names file (CopyUp file.node) overlay upper it.is can direct alike)
+      (numbers_in_world fresh world names file (CopyUp file.node) overlay upper it.is can direct alike))
+      (ap (run_by world names name call it fresh fresh part fresh task)
+      (sym (same_judgement world names name call it fresh fresh task called) ∙ given)
+      ∙ run_opened part copied_in_part
+      (stepped_in_part fresh world names file (CopyUp file.node) overlay upper it.is can direct alike tt)
+      (numbers_in_part fresh world names file (CopyUp file.node) overlay upper it.is can direct alike))
+
+pub overlay_opens_end_alike : OverlayOpensEndAlike
+overlay_opens_end_alike world names name path access how it task called fresh serves file wanted given copied =
+    by (filesystem_at nat_eq world file).overlay refl
+  where
+    call : Call
+    call = OpenFile path access how
+
+    itself : task_called world task.name ≡ Some task
+    itself = ap (task_called world) (sym (name_found world name task called)) ∙ called
+
+    parts : (opens_for_writing wanted ≡ true)
+        × (overlay_or false (λ overlay. lies_only_in_lowers overlay file.node) (filesystem_at nat_eq world file).overlay
+        ≡ true)
+    parts = and_parts (opens_for_writing wanted) _ copied
+
+    above : (opens_for_writing wanted && has_no_upper (looks_of nat_eq world) file) ≡ false
+    above =
+        writes_above world fresh task call (ToOpen file wanted)
+        (calls_are_granted nat_eq (looks_of nat_eq world) (overfills nat_eq fresh world task) task call
+        (ToOpen file wanted) given) file wanted refl
+
+    ground : IsTheirs world names it.is.mounts file.mount
+    ground =
+        theirs_from world names it.is.mounts file.mount
+        (subst (λ j. IfOk j (OpensOn (is_theirs world names))) given
+        (opens_theirs world names it.is it.sealed_off task
+        (member_called world names it.is it.sealed_off name it.theirs task called) path access how))
+
+    asks : change_asked fresh world (ToOpen file wanted) ≡ Some (file, CopyUp file.node)
+    asks = ap (λ b. when b (file, CopyUp file.node)) copied
+
+    layered : (overlay : Overlay ℕ) → (filesystem_at nat_eq world file).overlay ≡ Some overlay → (o : Option (Layer ℕ))
+        → overlay.upper ≡ o → EndsAlike world names name call fresh fresh
+    layered overlay overlaid None none =
+        absurd (true≢false
+        (sym ((λ i. parts.0 i && overlay_or false (λ (v : Overlay ℕ). not (is_some v.upper)) (overlaid i))
+        ∙ ap (λ o. not (is_some o)) none) ∙ above))
+    layered overlay overlaid (Some upper) has =
+        open_through_ends world names name path access how it task called fresh file wanted ground copied given overlay
+        upper
+        (permits_can_change world fresh task call (ToOpen file wanted) file
+        (CopyUp file.node) overlay upper it.is serves
+        itself given asks overlaid has)
+
+    by : (o : Option (Overlay ℕ)) → (filesystem_at nat_eq world file).overlay ≡ o
+        → EndsAlike world names name call fresh fresh
+    by None none =
+        absurd (true≢false (sym parts.1
+        ∙ ap (overlay_or false (λ overlay. lies_only_in_lowers overlay file.node)) none))
+    by (Some overlay) overlaid = layered overlay overlaid overlay.upper refl

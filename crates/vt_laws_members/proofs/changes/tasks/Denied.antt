@@ -1,0 +1,143 @@
+-- A call of theirs that is refused leaves their part, and is refused alike.
+use Rattle.std.proofs.Common.{◌≡◌, refl, sym, ap, subst, ◌∙◌, ℕ, nat_eq, Bool, true, false, true≢false, not, List, [], Option, Some, None, Ok, Err, ◌||◌}
+use Rattle.std.specs.Prelude.{is_ok}
+use Rattle.vt_spec.specs.declared.errors.Deny.{Deny}
+use Rattle.vt_spec.specs.Language.Calls.{Call, TaskName}
+use Rattle.vt_spec.specs.Lists.{Fresh}
+use Rattle.vt_spec.specs.Machine.Apply.{apply}
+use Rattle.vt_spec.specs.Machine.Judge.{Judgement, judge_in}
+use Rattle.vt_spec.specs.Machine.Outcomes.{Outcome, after, denied}
+use Rattle.vt_spec.specs.Machine.Permits.{Permit}
+use Rattle.vt_spec.specs.Machine.Permits.Permit.{Allowed, ToBind, ToChange, ToClose, ToEnterNamespace, ToExit, ToFork, ToList, ToListMounts, ToMake, ToMountOverlay, ToMountPlain, ToMove, ToOpen, ToOpenNew, ToPivot, ToRead, ToReadPart, ToRemoveDirectory, ToRename, ToSetCredentials, ToSetDirectory, ToSetFlags, ToSetRoot, ToSetType, ToSetUmask, ToStat, ToUnmount, ToUnmountLazily, ToUnshare, ToWritePart}
+use Rattle.vt_spec.specs.Machine.Policy.{filesystems_changed_by, finished, finished_by, only_looks, policy}
+use Rattle.vt_spec.specs.Machine.Sealed.{members, part_of}
+use Rattle.vt_spec.specs.Machine.World.{Task, World, task_called}
+use Rattle.vt_spec.proofs.Lists.{contains_from_among}
+use Rattle.vt_laws_members.proofs.judging.ByPart.{members_are_judged_by_their_part}
+use Rattle.vt_laws_members.specs.Changes.Changes.{DenialsEndAlike, EndAlike, EndsAlike, IsCallOfTheirs, grown}
+use Rattle.vt_laws_members.proofs.changes.looks.Told.{member_called, ran, same_caller}
+use Rattle.vt_laws_members.proofs.changes.part.PartAgain.{part_again}
+
+-- what is permitted is answered
+applied_ok : (fresh : Fresh ℕ) (world : World ℕ) (task : Task ℕ) (permit : Permit ℕ)
+    → is_ok (apply nat_eq fresh world task permit).answer ≡ true
+applied_ok fresh world task Allowed = refl
+applied_ok fresh world task (ToList directory) = refl
+applied_ok fresh world task (ToStat object) = refl
+applied_ok fresh world task (ToRead file) = refl
+applied_ok fresh world task (ToReadPart file offset size) = refl
+applied_ok fresh world task (ToChange location change) = refl
+applied_ok fresh world task (ToMake directory name node) = refl
+applied_ok fresh world task (ToRemoveDirectory parent name directory) = refl
+applied_ok fresh world task (ToRename from old to new object replaced) = refl
+applied_ok fresh world task (ToOpen file access) = refl
+applied_ok fresh world task (ToOpenNew directory name node access) = refl
+applied_ok fresh world task (ToWritePart file offset bytes) = refl
+applied_ok fresh world task (ToClose descriptor) = refl
+applied_ok fresh world task (ToSetDirectory directory) = refl
+applied_ok fresh world task (ToSetRoot root) = refl
+applied_ok fresh world task (ToSetUmask umask) = refl
+applied_ok fresh world task (ToSetCredentials credentials) = refl
+applied_ok fresh world task (ToFork credentials) = refl
+applied_ok fresh world task ToExit = refl
+applied_ok fresh world task ToUnshare = refl
+applied_ok fresh world task (ToEnterNamespace namespace) = refl
+applied_ok fresh world task (ToMountPlain destination flags) = refl
+applied_ok fresh world task (ToMountOverlay destination overlay flags) = refl
+applied_ok fresh world task (ToBind source destination recursive) = refl
+applied_ok fresh world task (ToMove mount destination) = refl
+applied_ok fresh world task (ToUnmount mount) = refl
+applied_ok fresh world task (ToUnmountLazily mount) = refl
+applied_ok fresh world task (ToSetFlags mount flags) = refl
+applied_ok fresh world task (ToSetType mount word recursive) = refl
+applied_ok fresh world task (ToPivot new put) = refl
+applied_ok fresh world task ToListMounts = refl
+
+module _ (world : World ℕ) (names : List TaskName) (name : TaskName) (call : Call)
+    (it : IsCallOfTheirs world names name call)
+    (fresh other : Fresh ℕ) where
+  abbrev part : World ℕ
+  part = part_of nat_eq world names
+
+  -- the two runs, by the task that is found
+  pub by_runs : (found : Option (Task ℕ)) → task_called world name ≡ found
+      → EndAlike (grown names name call (ran name call world fresh found).answer) (ran name call world fresh found)
+      (ran name call part other found)
+      → EndsAlike world names name call fresh other
+  by_runs found e alike =
+      subst (λ p. EndAlike (grown names name call (policy nat_eq fresh world name call).answer)
+      (policy nat_eq fresh world name call) p)
+      (sym (ap (ran name call part other) (same_caller world names it.is it.sealed_off name it.theirs ∙ e)))
+      (subst (λ o. EndAlike (grown names name call o.answer) o (ran name call part other found))
+      (sym (ap (ran name call world fresh) e)) alike)
+
+  pub unnamed_ends_alike : task_called world name ≡ None → EndsAlike world names name call fresh other
+  unnamed_ends_alike e = by_runs None e (record { answer = refl; part = sym (part_again world names it.is) })
+
+  -- the judgement is the same
+  pub same_judgement : (task : Task ℕ) → task_called world name ≡ Some task
+      → judge_in nat_eq fresh world task call ≡ judge_in nat_eq other part task call
+  same_judgement task e =
+      members_are_judged_by_their_part world names task call
+      (record {
+        is = it.is;
+        sealed_off = it.sealed_off;
+        member = contains_from_among (members world names) task
+            (member_called world names it.is it.sealed_off name it.theirs task e);
+        among_them = it.among_them;
+      })
+      fresh other
+
+  -- a call by its judgement
+  abbrev pub run_by : World ℕ → Fresh ℕ → Task ℕ → Judgement ℕ → Outcome ℕ
+  run_by w supply task j =
+      finished nat_eq w name call (filesystems_changed_by nat_eq w j) (after w j (apply nat_eq supply w task))
+
+  -- a refusal is the end
+  refused_by : (w : World ℕ) (supply : Fresh ℕ) (task : Task ℕ) (deny : Deny)
+      → run_by w supply task (Err deny) ≡ denied w deny
+  refused_by w supply task deny = by (only_looks call)
+    where
+      by : (b : Bool) → finished_by nat_eq (b || not (is_ok (denied w deny).answer)) w name [] (denied w deny)
+          ≡ denied w deny
+      by true = refl
+      by false = refl
+
+  answer_kept : (w : World ℕ) (supply : Fresh ℕ) (task : Task ℕ) (j : Judgement ℕ)
+      → (run_by w supply task j).answer ≡ (after w j (apply nat_eq supply w task)).answer
+  answer_kept w supply task j =
+      by (only_looks call || not (is_ok (after w j (apply nat_eq supply w task)).answer))
+    where
+      by : (b : Bool) → (finished_by nat_eq b w name (filesystems_changed_by nat_eq w j)
+          (after w j (apply nat_eq supply w task))).answer ≡ (after w j (apply nat_eq supply w task)).answer
+      by true = refl
+      by false = refl
+
+  pub denial_ends_alike : is_ok (policy nat_eq fresh world name call).answer ≡ false
+      → EndsAlike world names name call fresh other
+  denial_ends_alike refused = by (task_called world name) refl
+    where
+      judged : (task : Task ℕ) → task_called world name ≡ Some task → (j : Judgement ℕ)
+          → judge_in nat_eq fresh world task call ≡ j → EndsAlike world names name call fresh other
+      judged task e (Ok permit) same =
+          absurd (true≢false
+          (sym (applied_ok fresh world task permit)
+          ∙ sym (ap is_ok (answer_kept world fresh task (Ok permit)))
+          ∙ sym (ap (λ j. is_ok (run_by world fresh task j).answer) same)
+          ∙ sym (ap (λ o. is_ok (ran name call world fresh o).answer) e) ∙ refused))
+      judged task e (Err deny) same =
+          by_runs (Some task) e
+          (subst (λ p. EndAlike (grown names name call (ran name call world fresh (Some task)).answer)
+          (ran name call world fresh (Some task)) p)
+          (sym (ap (run_by part other task) (sym (same_judgement task e) ∙ same) ∙ refused_by part other task deny))
+          (subst (λ o. EndAlike (grown names name call o.answer) o (denied part deny))
+          (sym (ap (run_by world fresh task) same ∙ refused_by world fresh task deny))
+          (record { answer = refl; part = sym (part_again world names it.is) })))
+
+      by : (o : Option (Task ℕ)) → task_called world name ≡ o → EndsAlike world names name call fresh other
+      by None e = unnamed_ends_alike e
+      by (Some task) e = judged task e (judge_in nat_eq fresh world task call) refl
+
+pub denials_end_alike : DenialsEndAlike
+denials_end_alike world names name call it fresh other refused =
+    denial_ends_alike world names name call it fresh other refused

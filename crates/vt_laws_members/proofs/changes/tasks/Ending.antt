@@ -1,0 +1,84 @@
+-- A call that changes tasks alone, and lets nothing go, ends in the part as in the world.
+use Rattle.std.proofs.Common.{◌≡◌, refl, sym, ap, subst, ◌∙◌, ℕ, nat_eq, List, [], Some, Ok, filter, flat_map, map}
+use Rattle.vt_spec.specs.Language.Answers.{Answer}
+use Rattle.vt_spec.specs.Language.Calls.{Call, TaskName}
+use Rattle.vt_spec.specs.Lists.{Fresh}
+use Rattle.vt_spec.specs.Machine.Filesystems.{raised}
+use Rattle.vt_spec.specs.Machine.Mounts.{Location}
+use Rattle.vt_spec.specs.Machine.Outcomes.{Outcome, granted}
+use Rattle.vt_spec.specs.Machine.Policy.{numbers_raised, policy, raised_task}
+use Rattle.vt_spec.specs.Machine.Sealed.{is_member_task, part_of}
+use Rattle.vt_spec.specs.Machine.Settled.{settled}
+use Rattle.vt_spec.specs.Machine.World.{Task, World, all_locations, locations_of, task_called}
+use Rattle.vt_spec.proofs.Lists.{Among}
+use Rattle.vt_laws_mounts.specs.LettingGo.InUse.{AllInUse}
+use Rattle.vt_laws_mounts.proofs.letting_go.sweeps.InUse.{nothing_goes}
+use Rattle.vt_laws_mounts.proofs.letting_go.sweeps.OfWorlds.{all_in_use}
+use Rattle.vt_laws_members.specs.Changes.Changes.{EndAlike, EndsAlike, IsCallOfTheirs, grown}
+use Rattle.vt_laws_members.proofs.changes.looks.Told.{ran, same_caller}
+use Rattle.vt_laws_members.proofs.changes.part.PartAgain.{part_again}
+use Rattle.vt_laws_members.proofs.changes.part.SettledPart.{part_in_use}
+use Rattle.vt_laws_members.proofs.changes.tasks.MoreLocations.{in_use_later}
+use Rattle.vt_laws_members.proofs.changes.tasks.RaisedTasks.{tasks_raised}
+use Rattle.vt_laws_members.proofs.changes.tasks.Retasked.{SeeAlike, retasked}
+
+-- the tasks that a call of a task leaves, in a world where it finds these
+pub record LeavesTasks (world : World ℕ) (names set : List TaskName) (name : TaskName)
+    (tasks : List (Task ℕ)) : Type 0 where
+  pub more : (location : Location ℕ) → Among location (all_locations world)
+      → Among location (flat_map locations_of tasks)
+  pub sees : SeeAlike world names set (map (raised_task name) tasks) (raised world.change)
+
+-- the outcome with these tasks
+abbrev pub with_tasks : World ℕ → TaskName → Answer → List (Task ℕ) → Outcome ℕ
+with_tasks world name answer tasks =
+    granted answer (numbers_raised nat_eq world name [] (settled nat_eq (record world { tasks = tasks })))
+
+module _ (world : World ℕ) (name : TaskName) (answer : Answer) (in_use : AllInUse world) (names set : List TaskName)
+    (tasks : List (Task ℕ)) (leaves : LeavesTasks world names set name tasks) where
+  abbrev ended : World ℕ
+  ended = record world { tasks = map (raised_task name) tasks; change = raised world.change }
+
+  pub ends_so : with_tasks world name answer tasks ≡ granted answer ended
+  ends_so =
+      ap (λ w. granted answer (numbers_raised nat_eq world name [] w))
+      (nothing_goes (record world { tasks = tasks })
+      (in_use_later world tasks world.change in_use leaves.more))
+      ∙ ap (granted answer) (tasks_raised world name tasks)
+
+  pub part_of_ended : part_of nat_eq ended set
+      ≡ record (part_of nat_eq world names) { tasks = filter (is_member_task set) (map (raised_task name) tasks) }
+  part_of_ended = retasked world names set (map (raised_task name) tasks) (raised world.change) leaves.sees
+
+pub tasks_end_alike : (world : World ℕ) (names set : List TaskName) (name : TaskName) (call : Call)
+    → (it : IsCallOfTheirs world names name call) (task : Task ℕ) → task_called world name ≡ Some task
+    → (fresh other : Fresh ℕ) (answer : Answer) → grown names name call (Ok answer) ≡ set
+    → (tasks tasks_too : List (Task ℕ))
+    → ran name call world fresh (Some task) ≡ with_tasks world name answer tasks
+    → ran name call (part_of nat_eq world names) other (Some task)
+    ≡ with_tasks (part_of nat_eq world names) name answer tasks_too
+    → LeavesTasks world names set name tasks → LeavesTasks (part_of nat_eq world names) names set name tasks_too
+    → filter (is_member_task set) (map (raised_task name) tasks)
+    ≡ filter (is_member_task set) (map (raised_task name) tasks_too)
+    → EndsAlike world names name call fresh other
+tasks_end_alike world names set name call it task found fresh other answer stays tasks tasks_too one two leaves
+    leaves_too same =
+    let part : World ℕ = part_of nat_eq world names in
+    let in_world : AllInUse world = all_in_use world it.is in
+    let in_part : AllInUse part = part_in_use world names it.is it.sealed_off in
+    let left : World ℕ = record world { tasks = map (raised_task name) tasks; change = raised world.change } in
+    let left_too : World ℕ = record part { tasks = map (raised_task name) tasks_too; change = raised part.change } in
+    let first : policy nat_eq fresh world name call ≡ granted answer left =
+    ap (ran name call world fresh) found ∙ one ∙ ends_so world name answer in_world names set tasks leaves in
+    let second : policy nat_eq other part name call ≡ granted answer left_too =
+    ap (ran name call part other) (same_caller world names it.is it.sealed_off name it.theirs ∙ found) ∙ two
+    ∙ ends_so part name answer in_part names set tasks_too leaves_too in
+    let parts : part_of nat_eq left set ≡ part_of nat_eq left_too set =
+    part_of_ended world name answer in_world names set tasks leaves
+    ∙ (λ i. record (sym (part_again world names it.is) i) { tasks = same i })
+    ∙ sym (part_of_ended part name answer in_part names set tasks_too leaves_too) in
+    subst (λ p. EndAlike (grown names name call (policy nat_eq fresh world name call).answer)
+    (policy nat_eq fresh world name call) p) (sym second)
+    (subst (λ o. EndAlike (grown names name call o.answer) o (granted answer left_too)) (sym first)
+    (subst (λ s. EndAlike s (granted answer left) (granted answer left_too)) (sym stays)
+    (record { answer = refl; part = parts })))

@@ -1,0 +1,235 @@
+-- Where mounts of a sealed set are detached, its mounts share no events with others, neither in the world nor in
+-- the part.
+use Rattle.std.proofs.Common.{◌≡◌, refl, sym, ap, ◌∙◌, ⊎_elim, ℕ, nat_eq, eq-eqb, Bool, true, false, cond, true≢false, List, Option, Some, None, length, not}
+use Rattle.std.specs.List.{list_all, list_any}
+use Rattle.std.proofs.lemmas.Bool.{false_from_ne_true, or_from}
+use Rattle.vt_spec.specs.Language.Calls.{TaskName}
+use Rattle.vt_spec.specs.Lists.{holds_of}
+use Rattle.vt_spec.specs.Machine.Detach.{is_going}
+use Rattle.vt_spec.specs.Machine.Invariants.{HasLivingGroups, IsWorld}
+use Rattle.vt_spec.specs.Machine.Mounts.{Mount, Propagation, group_of, source_of}
+use Rattle.vt_spec.specs.Machine.Mounts.Propagation.{Private, Shared, Slave, Unbindable}
+use Rattle.vt_spec.specs.Machine.Receives.{groups_up, has_members, heir, inherited, is_member_of, slave_of_heir}
+use Rattle.vt_spec.specs.Machine.Sealed.{is_own_mount, is_own_namespace, master_of, members, other_mounts, own_mounts, part_of, receives_events_of, sealed, share_events, shares_no_events}
+use Rattle.vt_spec.specs.Machine.World.{Task, World}
+use Rattle.vt_spec.proofs.Found.{found_among}
+use Rattle.vt_spec.proofs.Lists.{Among, among-filter, among-from_filter, among-from_filter_map, among-from_map, among_from_all, filter_none, is_among_numbers, list_all_from_among, none_from_among}
+use Rattle.vt_spec.proofs.Options.{none_is_some}
+use Rattle.vt_laws_mounts.proofs.mounts.Receivers.{along_chain}
+use Rattle.vt_laws_sealed.proofs.part.groups.EventsApart.{none_hears}
+use Rattle.vt_laws_sealed.proofs.part.groups.ReceiversAlike.{OtherLives, member_group, none_other, other_above, start_hears}
+use Rattle.vt_laws_sealed.proofs.part.part.PartOfPart.{is_own, keep, same_members}
+use Rattle.vt_laws_members.proofs.judging.MountPoints.{part_mount}
+use Rattle.vt_laws_members.proofs.changes.letting_go.Heard.{IsHeard, above_heard, apart, heard_by_own}
+use Rattle.vt_laws_members.proofs.changes.letting_go.NamespaceLess.{ended, ended_by, ended_mount, ended_part, member_was, placed_so}
+use Rattle.vt_laws_members.proofs.changes.letting_go.Regrouped.{left, left_part, master_after}
+use Rattle.vt_laws_members.proofs.changes.letting_go.Taken.{all_last, set_stays}
+
+-- a member receives from its group
+group_source : (kind : Propagation ℕ) (g : ℕ) → group_of kind ≡ Some g → source_of kind ≡ Some g
+group_source (Shared h) g e = e
+group_source (Slave h) g e = none_is_some g e
+group_source Private g e = none_is_some g e
+group_source Unbindable g e = none_is_some g e
+
+module _ (world : World ℕ) (names : List TaskName) (is : IsWorld nat_eq world)
+    (sealed_off : sealed nat_eq world names ≡ true) (gone : List ℕ)
+    (own_go : (m : Mount ℕ) → Among m world.mounts → is_going nat_eq gone m.number ≡ true
+    → is_own world names (members world names) m ≡ true) (b : Bool) where
+  abbrev theirs : List (Task ℕ)
+  theirs = members world names
+
+  abbrev part : World ℕ
+  part = part_of nat_eq world names
+
+  abbrev t : World ℕ
+  t = left world names is sealed_off gone own_go
+
+  abbrev here : World ℕ
+  here = ended world names is sealed_off names gone own_go (all_last world names is sealed_off gone own_go) world.tasks
+      part.tasks world.change part.change (same_members world names) (set_stays world names is sealed_off gone own_go) b
+
+  abbrev there : World ℕ
+  there =
+      ended_part world names is sealed_off names gone own_go
+      (all_last world names is sealed_off gone own_go) world.tasks
+      part.tasks world.change part.change (same_members world names) (set_stays world names is sealed_off gone own_go) b
+
+  abbrev after : Mount ℕ → Mount ℕ
+  after = ended_mount b t world gone
+
+  abbrev after_part : Mount ℕ → Mount ℕ
+  after_part = ended_mount b (left_part world names is sealed_off gone own_go) part gone
+
+  abbrev events : shares_no_events nat_eq world names ≡ true
+  events = (apart world names is sealed_off).events
+
+  -- Masters after
+
+  kind_after : (m : Mount ℕ) → is_going nat_eq gone m.number ≡ false
+      → (after m).propagation ≡ cond b (inherited nat_eq t m.propagation) m.propagation
+  kind_after m e = ap (λ c. (ended_by b c t world gone m).propagation) e ∙ by b
+    where
+      by : (c : Bool) → (ended_by c false t world gone m).propagation
+          ≡ cond c (inherited nat_eq t m.propagation) m.propagation
+      by true = refl
+      by false = refl
+
+  abbrev masters : Bool → Propagation ℕ → Option ℕ
+  masters c (Shared s) = master_after c t s
+  masters c (Slave s) = Some s
+  masters c Private = None
+  masters c Unbindable = None
+
+  told : (kind : Propagation ℕ) → master_of here kind ≡ masters b kind
+  told (Shared s) = refl
+  told (Slave s) = refl
+  told Private = refl
+  told Unbindable = refl
+
+  -- what holds of a mount's source and up the masters holds of its master after
+  module _ (P : ℕ → Type 0) (up : (g lower : ℕ) → world.master lower ≡ Some g → P lower → P g) where
+    from_heir : (o : Option ℕ) → ((s : ℕ) → o ≡ Some s → P s) → (g : ℕ) → heir nat_eq t o ≡ Some g → P g
+    from_heir None start g e = none_is_some g e
+    from_heir (Some s) start g e =
+        along_chain world.master P up (length t.mounts) s g (start s refl)
+        (is_among_numbers (groups_up t s) g (found_among (has_members nat_eq t.mounts) (groups_up t s) g e))
+
+    from_kind : (c : Bool) (kind : Propagation ℕ) → ((s : ℕ) → source_of kind ≡ Some s → P s) → (g : ℕ)
+        → masters c (cond c (inherited nat_eq t kind) kind) ≡ Some g → P g
+    from_kind true (Shared s) start g e = from_heir (world.master s) (λ a f. up a s f (start s refl)) g e
+    from_kind true (Slave s) start g e = by (heir nat_eq t (Some s)) refl e
+      where
+        by : (o : Option ℕ) → heir nat_eq t (Some s) ≡ o → masters true (slave_of_heir o) ≡ Some g → P g
+        by None f h = none_is_some g h
+        by (Some found) f h = from_heir (Some s) start g (f ∙ h)
+    from_kind true Private start g e = none_is_some g e
+    from_kind true Unbindable start g e = none_is_some g e
+    from_kind false (Shared s) start g e = up g s e (start s refl)
+    from_kind false (Slave s) start g e = start g e
+    from_kind false Private start g e = none_is_some g e
+    from_kind false Unbindable start g e = none_is_some g e
+
+    master_reached : (m : Mount ℕ) → is_going nat_eq gone m.number ≡ false
+        → ((s : ℕ) → source_of m.propagation ≡ Some s → P s) → (g : ℕ) → master_of here (after m).propagation ≡ Some g
+        → P g
+    master_reached m stays start g e =
+        from_kind b m.propagation start g
+        (sym (told (cond b (inherited nat_eq t m.propagation) m.propagation))
+        ∙ ap (master_of here) (sym (kind_after m stays)) ∙ e)
+
+  -- In the world
+
+  -- a mount that is in some namespace after was in it before, and stays
+  was : (p : ℕ → Bool) (y : Mount ℕ) → Among y here.mounts → holds_of p y.namespace ≡ true
+      → (x : Mount ℕ) × Among x world.mounts × (y ≡ after x) × (is_going nat_eq gone x.number ≡ false)
+      × (holds_of p x.namespace ≡ true)
+  was p y m h =
+      let from = among-from_map after world.mounts y m in
+      let placed : holds_of p (after from.0).namespace ≡ true =
+      ap (λ (q : Mount ℕ). holds_of p q.namespace) (sym from.2) ∙ h in
+      ⊎_elim
+      (λ out. absurd (true≢false (sym placed ∙ ap (holds_of p) out.0)))
+      (λ stays. (from.0, from.1, from.2, stays.2, ap (holds_of p) (sym stays.0) ∙ placed))
+      (placed_so b t world gone from.0)
+
+  group_was : (x : Mount ℕ) (g : ℕ) → group_of (after x).propagation ≡ Some g → group_of x.propagation ≡ Some g
+  group_was x g e =
+      member_group g x (member_was b t world gone g x (ap (holds_of (nat_eq g)) e ∙ eq-eqb g g refl))
+
+  -- a mount receives nothing from one that is a member of none of these groups
+  none_held : (z : Mount ℕ) (o : Option ℕ) → ((g : ℕ) → o ≡ Some g → is_member_of nat_eq g z ≡ true → ⊥)
+      → holds_of (λ g. is_member_of nat_eq g z) o ≡ false
+  none_held z None never = refl
+  none_held z (Some g) never = false_from_ne_true _ (never g refl)
+
+  hears_not : (P : ℕ → Type 0) (y z : Mount ℕ) → ((g : ℕ) → group_of y.propagation ≡ Some g → P g)
+      → ((g : ℕ) → master_of here y.propagation ≡ Some g → P g)
+      → ((g : ℕ) → P g → is_member_of nat_eq g z ≡ true → ⊥) → receives_events_of nat_eq here y z ≡ false
+  hears_not P y z grouped mastered never =
+      or_from (holds_of (λ g. is_member_of nat_eq g z) (group_of y.propagation))
+      (holds_of (λ g. is_member_of nat_eq g z) (master_of here y.propagation))
+      (none_held z (group_of y.propagation) (λ g e. never g (grouped g e)))
+      (none_held z (master_of here y.propagation) (λ g e. never g (mastered g e)))
+
+  abbrev IsOther : ℕ → Bool
+  IsOther n = not (is_own_namespace nat_eq world names n)
+
+  share_none : (y z : Mount ℕ) → Among y (own_mounts nat_eq here names) → Among z (other_mounts nat_eq here names)
+      → share_events nat_eq here y z ≡ false
+  share_none y z m n =
+      let in_own = among-from_filter (is_own_mount nat_eq here names) here.mounts y m in
+      let in_other = among-from_filter (λ (q : Mount ℕ). holds_of IsOther q.namespace) here.mounts z n in
+      let x = was (is_own_namespace nat_eq world names) y in_own.0 in_own.1 in
+      let u = was IsOther z in_other.0 in_other.1 in
+      let mine : Among x.0 (own_mounts nat_eq world names) =
+      among-filter (is_own_mount nat_eq world names) world.mounts x.0 x.1 x.4 in
+      let other : Among u.0 (other_mounts nat_eq world names) =
+      among-filter (λ (q : Mount ℕ). holds_of IsOther q.namespace) world.mounts u.0 u.1 u.4 in
+      or_from (receives_events_of nat_eq here y z) (receives_events_of nat_eq here z y)
+      (hears_not (IsHeard world names is sealed_off) y z
+      (λ g e. heard_by_own world names is sealed_off x.0 mine g
+      (group_source x.0.propagation g (group_was x.0 g (ap (λ (q : Mount ℕ). group_of q.propagation) (sym x.2) ∙ e))))
+      (λ g e. master_reached (IsHeard world names is sealed_off) (above_heard world names is sealed_off) x.0 x.3
+      (heard_by_own world names is sealed_off x.0 mine) g
+      (ap (λ (q : Mount ℕ). master_of here q.propagation) (sym x.2) ∙ e))
+      (λ g heard h. none_hears world names is.mounts events g u.0 heard.0 other
+      (member_was b t world gone g u.0 (ap (is_member_of nat_eq g) (sym u.2) ∙ h))))
+      (hears_not (OtherLives world names is.mounts events) z y
+      (λ g e. start u.0 u.1 other g
+      (group_source u.0.propagation g (group_was u.0 g (ap (λ (q : Mount ℕ). group_of q.propagation) (sym u.2) ∙ e))))
+      (λ g e. master_reached (OtherLives world names is.mounts events)
+      (other_above world names is.mounts events) u.0 u.3
+      (start u.0 u.1 other) g (ap (λ (q : Mount ℕ). master_of here q.propagation) (sym u.2) ∙ e))
+      (λ g lives h. none_other world names is.mounts events g x.0 lives.0 mine
+      (member_was b t world gone g x.0 (ap (is_member_of nat_eq g) (sym x.2) ∙ h))))
+    where
+      start : (q : Mount ℕ) → Among q world.mounts → Among q (other_mounts nat_eq world names) → (s : ℕ)
+          → source_of q.propagation ≡ Some s → OtherLives world names is.mounts events s
+      start q there_is other s e = (
+        (q, other, start_hears world s q.propagation e),
+        among_from_all (HasLivingGroups nat_eq world) world.mounts is.mounts.groups q there_is s e,
+      )
+
+  pub apart_here : shares_no_events nat_eq here names ≡ true
+  apart_here =
+      list_all_from_among
+      (λ own. list_all (λ other. not (share_events nat_eq here own other)) (other_mounts nat_eq here names))
+      (own_mounts nat_eq here names)
+      (λ y m. list_all_from_among (λ other. not (share_events nat_eq here y other)) (other_mounts nat_eq here names)
+      (λ z n. ap not (share_none y z m n)))
+
+  -- In the part, where no mount is another's
+
+  none_other_there : (y : Mount ℕ) → Among y there.mounts
+      → holds_of (λ n. not (is_own_namespace nat_eq there names n)) y.namespace ≡ false
+  none_other_there y m =
+      let from = among-from_map after_part part.mounts y m in
+      ap (λ (q : Mount ℕ). holds_of (λ n. not (is_own_namespace nat_eq there names n)) q.namespace) from.2
+      ∙ ap (λ ts. holds_of (λ n. not (list_any (λ (q : Task ℕ). nat_eq n q.namespace) ts))
+      (after_part from.0).namespace)
+      (same_members world names)
+      ∙ ⊎_elim
+      (λ out. ap (holds_of IsOther) out.0)
+      (λ stays. ap (holds_of IsOther) stays.0 ∙ of_part from.0 from.1)
+      (placed_so b (left_part world names is sealed_off gone own_go) part gone from.0)
+    where
+      by : (o : Option ℕ) → holds_of (is_own_namespace nat_eq world names) o ≡ true → holds_of IsOther o ≡ false
+      by None h = refl
+      by (Some n) h = ap not h
+
+      of_part : (z : Mount ℕ) → Among z part.mounts → holds_of IsOther z.namespace ≡ false
+      of_part z n =
+          let from = among-from_filter_map (keep world names theirs) world.mounts z n in
+          ⊎_elim (by z.namespace) (λ none. ap (holds_of IsOther) none)
+          (part_mount world names is from.0 z from.1 from.2)
+
+  pub apart_there : shares_no_events nat_eq there names ≡ true
+  apart_there =
+      ap (λ list. list_all (λ own. list_all (λ other. not (share_events nat_eq there own other)) list)
+      (own_mounts nat_eq there names))
+      (filter_none (λ (y : Mount ℕ). holds_of (λ n. not
+      (is_own_namespace nat_eq there names n)) y.namespace) there.mounts
+      (none_from_among (λ (y : Mount ℕ). holds_of (λ n. not (is_own_namespace nat_eq there names n)) y.namespace)
+      there.mounts none_other_there))
+      ∙ list_all_from_among (λ own. true) (own_mounts nat_eq there names) (λ y m. refl)

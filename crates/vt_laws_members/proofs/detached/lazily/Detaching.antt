@@ -1,0 +1,174 @@
+-- Each umount(2) with MNT_DETACH ends in the part as in the world.
+use Rattle.std.proofs.Common.{◌≡◌, refl, sym, ap, subst, ◌∙◌, ⊎_elim, ℕ, nat_eq, eq-eqb, true, true≢false, List, [], Option, Some, None, Ok, Err}
+use Rattle.std.specs.Prelude.{is_ok}
+use Rattle.vt_spec.specs.Language.Answers.Answer.{Done}
+use Rattle.vt_spec.specs.Language.Calls.{Call, TaskName}
+use Rattle.vt_spec.specs.Language.Calls.Call.{Lazy}
+use Rattle.vt_spec.specs.Lists.{Fresh, folded, holds_of}
+use Rattle.vt_spec.specs.Machine.Apply.{overfills}
+use Rattle.vt_spec.specs.Machine.Detach.{is_going, lazily_unmounted, taken_away, unmounted_if_there}
+use Rattle.vt_spec.specs.Machine.Invariants.{IsWorld, MountInvariants}
+use Rattle.vt_spec.specs.Machine.Judge.{Judgement, judge_in}
+use Rattle.vt_spec.specs.Machine.Looks.{looks_of}
+use Rattle.vt_spec.specs.Machine.Mounts.{Mount}
+use Rattle.vt_spec.specs.Machine.Outcomes.{Outcome, granted}
+use Rattle.vt_spec.specs.Machine.Permits.{Permit}
+use Rattle.vt_spec.specs.Machine.Permits.Permit.{ToUnmountLazily}
+use Rattle.vt_spec.specs.Machine.Policy.{numbers_raised, policy}
+use Rattle.vt_spec.specs.Machine.Sealed.{members, part_of, sealed}
+use Rattle.vt_spec.specs.Machine.Settled.{settled}
+use Rattle.vt_spec.specs.Machine.World.{Task, World, mount_numbered, task_called}
+use Rattle.vt_spec.proofs.Lists.{Among}
+use Rattle.vt_spec.proofs.Options.{none_is_some}
+use Rattle.vt_spec.proofs.Worlds.{found_or_none}
+use Rattle.vt_laws_rules.specs.Granted.{IsGranted}
+use Rattle.vt_laws_rules.specs.Granted.IsGranted.{unmounts_lazily}
+use Rattle.vt_laws_rules.proofs.given.Inversion.{calls_are_granted}
+use Rattle.vt_laws_mounts.proofs.letting_go.SweptBetween.{settled_without_groups}
+use Rattle.vt_laws_mounts.proofs.ends.EndingLazy.{IsUnderWay, begun}
+use Rattle.vt_laws_mounts.proofs.ends.EndingOrder.{taken_in_turn}
+use Rattle.vt_laws_worlds.proofs.worlds.CallsKept.{name_found}
+use Rattle.vt_laws_worlds.proofs.worlds.FitPermitsNamed.{all_permits_fit}
+use Rattle.vt_laws_sealed.proofs.part.part.PartOfPart.{is_own}
+use Rattle.vt_laws_members.proofs.judging.MountPoints.{in_own}
+use Rattle.vt_laws_members.specs.Changes.Changes.{EndAlike, EndsAlike, IsCallOfTheirs, grown}
+use Rattle.vt_laws_members.proofs.changes.letting_go.PartMounts.{part_mounts}
+use Rattle.vt_laws_members.proofs.changes.letting_go.Taken.{taken_parts}
+use Rattle.vt_laws_members.proofs.changes.looks.Told.{member_called, ran, same_caller}
+use Rattle.vt_laws_members.proofs.changes.names.NamesEnding.{unused_numbers, unused_serve}
+use Rattle.vt_laws_members.proofs.changes.tasks.Denied.{denial_ends_alike, run_by, same_judgement, unnamed_ends_alike}
+use Rattle.vt_laws_members.specs.Detached.Lazily.{LazyUmountsDetachAlike}
+use Rattle.vt_laws_members.proofs.detached.lazily.Order.{same_turns, turns_own}
+use Rattle.vt_laws_members.proofs.detached.lazily.Turns.{SameButGroups, TookAway, events_alike, kept_but_groups, took, took_none}
+
+-- worlds that differ in dead groups are swept to one
+settled_but_groups : (one other : World ℕ) → SameButGroups one other → settled nat_eq one ≡ settled nat_eq other
+settled_but_groups one other same =
+    sym (settled_without_groups one) ∙ ap (settled nat_eq) same ∙ settled_without_groups other
+
+module _ (world : World ℕ) (names : List TaskName) (is : IsWorld nat_eq world)
+    (sealed_off : sealed nat_eq world names ≡ true) (name : TaskName) (number : ℕ)
+    (there : Among (mount_numbered nat_eq world number) world.mounts)
+    (own : is_own world names (members world names) (mount_numbered nat_eq world number) ≡ true) where
+  abbrev part : World ℕ
+  part = part_of nat_eq world names
+
+  abbrev in_part : MountInvariants nat_eq part
+  in_part = part_mounts world names is sealed_off
+
+  abbrev turns : List (Mount ℕ)
+  turns = taken_in_turn world number
+
+  same : taken_in_turn part number ≡ turns
+  same = same_turns world names is sealed_off number there own
+
+  abbrev left_there : World ℕ
+  left_there = folded (unmounted_if_there nat_eq) part turns
+
+  -- all that goes, in both
+  all_gone : (gone : List ℕ)
+      × ((m : Mount ℕ) → Among m world.mounts
+      → is_going nat_eq gone m.number ≡ true
+      → is_own world names (members world names) m ≡ true)
+      × TookAway world (lazily_unmounted nat_eq world number) gone × TookAway part left_there gone
+  all_gone =
+      events_alike world names is sealed_off number turns world part [] (begun world is.mounts number)
+      (subst (IsUnderWay part in_part number part) same (begun part in_part number))
+      (λ m n none. absurd (true≢false (sym none))) (took_none world is.mounts) (took_none part in_part)
+      (turns_own world names is sealed_off number there own)
+
+  abbrev gone : List ℕ
+  gone = all_gone.0
+
+  same_here : SameButGroups (lazily_unmounted nat_eq world number) (taken_away nat_eq world gone)
+  same_here = took world (lazily_unmounted nat_eq world number) gone all_gone.2
+
+  same_there : SameButGroups left_there (taken_away nat_eq part gone)
+  same_there = took part left_there gone all_gone.3
+
+  pub lazy_parts : part_of nat_eq (numbers_raised nat_eq world name [] (settled nat_eq
+      (lazily_unmounted nat_eq world number))) names
+      ≡ part_of nat_eq (numbers_raised nat_eq part name [] (settled nat_eq (lazily_unmounted nat_eq part number))) names
+  lazy_parts =
+      ap (λ w. part_of nat_eq (numbers_raised nat_eq world name [] w) names)
+      (settled_but_groups (lazily_unmounted nat_eq world number) (taken_away nat_eq world gone) same_here)
+      ∙ taken_parts world names is sealed_off gone all_gone.1 name
+      (kept_but_groups (lazily_unmounted nat_eq world number) (taken_away nat_eq world gone) same_here all_gone.2.kept)
+      (kept_but_groups left_there (taken_away nat_eq part gone) same_there all_gone.3.kept)
+      ∙ sym (ap (λ w. part_of nat_eq (numbers_raised nat_eq part name [] w) names)
+      (ap (λ list. settled nat_eq (folded (unmounted_if_there nat_eq) part list)) same
+      ∙ settled_but_groups left_there (taken_away nat_eq part gone) same_there))
+
+-- a granted call detaches a mount
+detaches : (world : World ℕ) (fresh : Fresh ℕ) (task : Task ℕ) (path : List ℕ) (asked : Call) (permit : Permit ℕ)
+    → IsGranted nat_eq (looks_of nat_eq world) (overfills nat_eq fresh world task) task asked permit
+    → asked ≡ Lazy path → (number : ℕ) × (permit ≡ ToUnmountLazily number)
+detaches world fresh task path asked permit (unmounts_lazily own_path here admin walk passed) e =
+    (here.location.mount, refl)
+detaches world fresh task path asked permit other_way e = absurd cc
+
+module _ (world : World ℕ) (names : List TaskName) (name : TaskName) (path : List ℕ)
+    (it : IsCallOfTheirs world names name (Lazy path)) (fresh other : Fresh ℕ) (task : Task ℕ)
+    (found : task_called world name ≡ Some task) (number : ℕ)
+    (judged : judge_in nat_eq fresh world task (Lazy path) ≡ Ok (ToUnmountLazily number)) where
+  abbrev its_part : World ℕ
+  its_part = part_of nat_eq world names
+
+  -- its mount is in the caller's namespace
+  in_callers : (mount_numbered nat_eq world number).namespace ≡ Some task.namespace
+  in_callers =
+      (all_permits_fit world (unused_numbers world) task (Lazy path) (ToUnmountLazily number) it.is (unused_serve world)
+      (ap (task_called world) (sym (name_found world name task found)) ∙ found) refl judged).names.0
+
+  is_there : Among (mount_numbered nat_eq world number) world.mounts
+  is_there =
+      ⊎_elim (λ m. m)
+      (λ none. none_is_some task.namespace (sym (ap (λ (m : Mount ℕ). m.namespace) none) ∙ in_callers))
+      (found_or_none world.mounts number)
+
+  is_theirs : is_own world names (members world names) (mount_numbered nat_eq world number) ≡ true
+  is_theirs =
+      in_own world names it.is task (member_called world names it.is it.sealed_off name it.theirs task found)
+      (mount_numbered nat_eq world number)
+      (ap (holds_of (nat_eq task.namespace)) in_callers ∙ eq-eqb task.namespace task.namespace refl)
+
+  abbrev outcome : World ℕ → Outcome ℕ
+  outcome w =
+      granted Done (numbers_raised nat_eq w name [] (settled nat_eq (lazily_unmounted nat_eq w number)))
+
+  granted_ends : EndsAlike world names name (Lazy path) fresh other
+  granted_ends =
+      let first : policy nat_eq fresh world name (Lazy path) ≡ outcome world =
+      ap (ran name (Lazy path) world fresh) found
+      ∙ ap (run_by world names name (Lazy path) it fresh other world fresh task) judged in
+      let second : policy nat_eq other its_part name (Lazy path) ≡ outcome its_part =
+      ap (ran name (Lazy path) its_part other) (same_caller world names it.is it.sealed_off name it.theirs ∙ found)
+      ∙ ap (run_by world names name (Lazy path) it fresh other its_part other task)
+      (sym (same_judgement world names name (Lazy path) it fresh other task found) ∙ judged) in
+      subst (λ p. EndAlike (grown names name (Lazy path) (policy nat_eq fresh world name (Lazy path)).answer)
+      (policy nat_eq fresh world name (Lazy path)) p) (sym second)
+      (subst (λ o. EndAlike (grown names name (Lazy path) o.answer) o (outcome its_part)) (sym first)
+      (record {
+        answer = refl;
+        part = lazy_parts world names it.is it.sealed_off name number is_there is_theirs;
+      }))
+
+pub lazy_umounts_detach_alike : LazyUmountsDetachAlike
+lazy_umounts_detach_alike world names name path it fresh other = by (task_called world name) refl
+  where
+    judged_by : (task : Task ℕ) → task_called world name ≡ Some task → (j : Judgement ℕ)
+        → judge_in nat_eq fresh world task (Lazy path) ≡ j → EndsAlike world names name (Lazy path) fresh other
+    judged_by task e (Ok permit) judged =
+        let its = detaches world fresh task path (Lazy path) permit
+        (calls_are_granted nat_eq (looks_of nat_eq world) (overfills nat_eq fresh world task) task
+        (Lazy path) permit judged)
+        refl in
+        granted_ends world names name path it fresh other task e its.0 (judged ∙ ap Ok its.1)
+    judged_by task e (Err deny) judged =
+        denial_ends_alike world names name (Lazy path) it fresh other
+        (ap (λ o. is_ok (ran name (Lazy path) world fresh o).answer) e
+        ∙ ap (λ j. is_ok (run_by world names name (Lazy path) it fresh other world fresh task j).answer) judged)
+
+    by : (o : Option (Task ℕ)) → task_called world name ≡ o → EndsAlike world names name (Lazy path) fresh other
+    by None e = unnamed_ends_alike world names name (Lazy path) it fresh other e
+    by (Some task) e = judged_by task e (judge_in nat_eq fresh world task (Lazy path)) refl

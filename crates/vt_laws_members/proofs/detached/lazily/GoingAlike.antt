@@ -1,0 +1,268 @@
+-- What an unmount event of a mount of theirs detaches is theirs, and the same in the part, as soon as mounts have their
+-- invariants and share no events with others.
+use Rattle.std.proofs.Common.{◌≡◌, refl, sym, ap, subst, ◌∙◌, ⊎_elim, inl, ℕ, nat_eq, Bool, true, false, true≢false, not, List, [], ◌∷◌, Option, Some, None, map, is_some, ◌&&◌, ◌||◌}
+use Rattle.std.specs.Prelude.{option_map, unwrap_or}
+use Rattle.std.specs.List.{filter_map}
+use Rattle.std.proofs.lemmas.Bool.{and_parts, or_left}
+use Rattle.std.proofs.lemmas.Option.{same_Some}
+use Rattle.vt_spec.specs.Language.Calls.{TaskName}
+use Rattle.vt_spec.specs.Lists.{holds_of, is_among, then_some, when}
+use Rattle.vt_spec.specs.Machine.Attach.{receivers_of}
+use Rattle.vt_spec.specs.Machine.Detach.{going, going_at, going_from, goes_at, may_go}
+use Rattle.vt_spec.specs.Machine.Invariants.{MountInvariants, is_nowhere_or_attached, is_private}
+use Rattle.vt_spec.specs.Machine.Mounts.{Location, Mount, Propagation, child_at, children, group_of, is_shared, source_of, stands_at, stands_on}
+use Rattle.vt_spec.specs.Machine.Mounts.Propagation.{Private, Shared, Slave, Unbindable}
+use Rattle.vt_spec.specs.Machine.Receives.{groups_up, receivers, receives}
+use Rattle.vt_spec.specs.Machine.Sealed.{is_at, is_own_mount, is_own_namespace, members, other_mounts, own_mounts, part_of, roots_and_directories, shares_no_events}
+use Rattle.vt_spec.specs.Machine.World.{Task, World, mount_at, mount_numbered}
+use Rattle.vt_spec.proofs.Found.{found_among, found_passes}
+use Rattle.vt_spec.proofs.Lists.{Among, among-filter, among-from_filter, among-from_filter_map, among-from_map, among_from_list_all, contains_from_among}
+use Rattle.vt_spec.proofs.Options.{none_is_some}
+use Rattle.vt_laws_mounts.proofs.mounts.MountsPlaces.{stands_there}
+use Rattle.vt_laws_worlds.proofs.worlds.Reached.{namespace_below}
+use Rattle.vt_laws_sealed.specs.Part.Groups.{SharesNoEvents}
+use Rattle.vt_laws_sealed.proofs.part.Kept.{filter_both, filter_map_same}
+use Rattle.vt_laws_sealed.proofs.part.groups.ReceiversAlike.{no_event_of_theirs_reaches_others, their_groups_receive_alike}
+use Rattle.vt_laws_sealed.proofs.part.part.MountsOver.{same_child}
+use Rattle.vt_laws_sealed.proofs.part.part.PartOfPart.{is_own, keep, kept_how, kept_whole}
+use Rattle.vt_laws_members.proofs.judging.Grounds.{IsTheirs, child_theirs, its_mount, numbered, own_by, parent_theirs, same_mount, stands_itself, theirs_whole}
+use Rattle.vt_laws_members.proofs.judging.MountTrees.{stands_where}
+
+-- a mount in no namespace receives from no group
+alone_source : (world : World ℕ) (mount : Mount ℕ) → MountInvariants nat_eq world → Among mount world.mounts
+    → mount.namespace ≡ None → source_of mount.propagation ≡ None
+alone_source world mount is m none =
+    private_none mount.propagation
+    (and_parts (not (is_some mount.mount_point)) (is_private mount.propagation)
+    (sym (ap (λ n. is_some n || (not (is_some mount.mount_point) && is_private mount.propagation)) none)
+    ∙ among_from_list_all is_nowhere_or_attached world.mounts is.nowhere mount m)).1
+  where
+    private_none : (kind : Propagation ℕ) → is_private kind ≡ true → source_of kind ≡ None
+    private_none (Shared g) e = absurd (true≢false (sym e))
+    private_none (Slave g) e = absurd (true≢false (sym e))
+    private_none Private e = refl
+    private_none Unbindable e = absurd (true≢false (sym e))
+
+module _ (world : World ℕ) (names : List TaskName) (invariants : MountInvariants nat_eq world)
+    (events : shares_no_events nat_eq world names ≡ true) where
+  abbrev theirs : List (Task ℕ)
+  theirs = members world names
+
+  abbrev part : World ℕ
+  part = part_of nat_eq world names
+
+  abbrev owns : Mount ℕ → Bool
+  owns = is_own world names theirs
+
+  abbrev kept : Mount ℕ → Option (Mount ℕ)
+  kept = keep world names theirs
+
+  abbrev On : ℕ → Type 0
+  On = IsTheirs world names invariants
+
+  apart : SharesNoEvents world names
+  apart = record { mounts = invariants; apart = events }
+
+  -- Children
+
+  own_whole : (mount : Mount ℕ) → owns mount ≡ true → kept mount ≡ Some mount
+  own_whole mount own =
+      kept_whole world names theirs mount
+      (or_left (owns mount) (is_at nat_eq (roots_and_directories theirs) mount) own)
+
+  own_theirs : (mount : Mount ℕ) → Among mount world.mounts → owns mount ≡ true → On mount.number
+  own_theirs mount m own = (mount, m, refl, inl own)
+
+  child_own : (number : ℕ) (child : Mount ℕ) → On number → Among child world.mounts
+      → stands_on nat_eq number child ≡ true → owns child ≡ true
+  child_own number child own m h =
+      let at = stands_where number child h in
+      child_theirs world names invariants at.0 child (subst On at.2 own) m at.1
+
+  children_alike : (number : ℕ) → On number → children nat_eq part.mounts number ≡ children nat_eq world.mounts number
+  children_alike number own =
+      filter_both kept (stands_on nat_eq number) (stands_on nat_eq number) world.mounts
+      (λ x m h. (own_whole x (child_own number x own m h), h))
+      (λ x y m h e.
+      ⊎_elim (λ same. ap (stands_on nat_eq number) (sym same) ∙ h) (λ stub. ap (stands_on nat_eq number) (sym stub.0))
+      (kept_how world names theirs x y e))
+
+  -- Receivers
+
+  receivers_own : (mount receiver : Mount ℕ) → Among mount world.mounts → owns mount ≡ true
+      → Among receiver (receivers_of nat_eq world mount) → Among receiver world.mounts × (owns receiver ≡ true)
+  receivers_own mount receiver m own at = by (group_of mount.propagation) refl at
+    where
+      side : Among receiver world.mounts → (group : ℕ) → group_of mount.propagation ≡ Some group
+          → receives nat_eq world group receiver ≡ true → (o : Option ℕ) → receiver.namespace ≡ o → owns receiver ≡ true
+      side there group e hears None f =
+          absurd (true≢false (sym hears
+          ∙ ap (holds_of (λ source. is_among nat_eq group (groups_up world source)))
+          (alone_source world receiver invariants there f)))
+      side there group e hears (Some n) f = which (is_own_namespace nat_eq world names n) refl
+        where
+          which : (b : Bool) → is_own_namespace nat_eq world names n ≡ b → owns receiver ≡ true
+          which true its = ap (holds_of (is_own_namespace nat_eq world names)) f ∙ its
+          which false other =
+              absurd (true≢false
+              (sym hears ∙ no_event_of_theirs_reaches_others world names mount receiver group apart
+              (contains_from_among (own_mounts nat_eq world names) mount
+              (among-filter (is_own_mount nat_eq world names) world.mounts mount m own))
+              (contains_from_among (other_mounts nat_eq world names) receiver
+              (among-filter (λ (x : Mount ℕ). holds_of (λ k. not (is_own_namespace nat_eq world names k)) x.namespace)
+              world.mounts receiver there
+              (ap (holds_of (λ k. not (is_own_namespace nat_eq world names k))) f ∙ ap not other))) e))
+
+      by : (o : Option ℕ) → group_of mount.propagation ≡ o
+          → Among receiver (unwrap_or (option_map (receivers nat_eq world) o) [])
+          → Among receiver world.mounts × (owns receiver ≡ true)
+      by None e at = absurd at
+      by (Some group) e at =
+          let from = among-from_filter (receives nat_eq world group) world.mounts receiver at in
+          (from.0, side from.0 group e from.1 receiver.namespace refl)
+
+  receivers_alike : (mount : Mount ℕ) → Among mount world.mounts → owns mount ≡ true
+      → receivers_of nat_eq part mount ≡ receivers_of nat_eq world mount
+  receivers_alike mount m own = by (group_of mount.propagation) refl
+    where
+      by : (o : Option ℕ) → group_of mount.propagation ≡ o
+          → unwrap_or (option_map (receivers nat_eq part) o) [] ≡ unwrap_or (option_map (receivers nat_eq world) o) []
+      by None e = refl
+      by (Some group) e =
+          their_groups_receive_alike world names mount group apart
+          (contains_from_among (own_mounts nat_eq world names) mount
+          (among-filter (is_own_mount nat_eq world names) world.mounts mount m own)) e
+
+  -- What an event detaches
+
+  standing_own : (at : Location ℕ) (child : Mount ℕ) → On at.mount → child_at nat_eq world.mounts at ≡ Some child
+      → Among child world.mounts × (owns child ≡ true)
+  standing_own at child own e =
+      let m = found_among (stands_at nat_eq at) world.mounts child e in (
+        m,
+        child_theirs world names invariants at child own m
+            (stands_there at child (found_passes (stands_at nat_eq at) world.mounts child e)),
+      )
+
+  goes_alike : (node : ℕ) (receiver : Mount ℕ) → Among receiver world.mounts → owns receiver ≡ true
+      → goes_at nat_eq part node receiver ≡ goes_at nat_eq world node receiver
+  goes_alike node receiver m own =
+      let it : On receiver.number = own_theirs receiver m own in
+      cc (
+        same_child world names invariants at (theirs_whole world names invariants at.mount it),
+        by (child_at nat_eq world.mounts at) (λ child e. standing_own at child it e),
+      )
+    where
+      at : Location ℕ
+      at = record { mount = receiver.number; node = node }
+
+      by : (o : Option (Mount ℕ)) → ((child : Mount ℕ) → o ≡ Some child → Among child world.mounts
+          × (owns child ≡ true))
+          → then_some o (λ (child : Mount ℕ). when (may_go nat_eq part child) child)
+          ≡ then_some o (λ (child : Mount ℕ). when (may_go nat_eq world child) child)
+      by None its = refl
+      by (Some child) its =
+          let t = its child refl in
+          cc (children_alike child.number (own_theirs child t.0 t.1))
+
+  -- the mount below one of theirs
+  below_own : (mount : Mount ℕ) (point : Location ℕ) → Among mount world.mounts → owns mount ≡ true
+      → mount.mount_point ≡ Some point
+      → On point.mount × Among (mount_at nat_eq world point) world.mounts × (owns (mount_at nat_eq world point) ≡ true)
+  below_own mount point m own e =
+      let at : (mount_numbered nat_eq world mount.number).mount_point ≡ Some point =
+      ap (λ (x : Mount ℕ). x.mount_point) (numbered world names invariants mount m) ∙ e in
+      let below = parent_theirs world names invariants mount.number point (own_theirs mount m own) at in (
+        below,
+        subst (λ x. Among x world.mounts) (sym (its_mount world names invariants point.mount below)) below.1,
+        own_by world names invariants (mount_at nat_eq world point) mount
+            (sym (namespace_below world mount.number point (stands_itself world names invariants mount m) at)
+            ∙ ap (λ (x : Mount ℕ). x.namespace) (numbered world names invariants mount m)) own,
+      )
+
+  from_alike : (mount : Mount ℕ) (point : Location ℕ) → Among mount world.mounts → owns mount ≡ true
+      → mount.mount_point ≡ Some point
+      → going_from nat_eq part mount point (is_shared (mount_at nat_eq part point).propagation)
+      ≡ going_from nat_eq world mount point (is_shared (mount_at nat_eq world point).propagation)
+  from_alike mount point m own e =
+      let below = below_own mount point m own e in
+      let parent : Mount ℕ = mount_at nat_eq world point in
+      cc (
+        same_mount world names invariants point.mount below.0,
+        by parent below.1 below.2 (is_shared parent.propagation),
+      )
+    where
+      by_parent : World ℕ → Mount ℕ → Bool → List ℕ
+      by_parent w parent true =
+          map (λ (gone : Mount ℕ). gone.number) (filter_map (goes_at nat_eq w point.node)
+          (receivers_of nat_eq w parent))
+      by_parent w parent false = mount.number ∷ []
+
+      by : (parent : Mount ℕ) → Among parent world.mounts → owns parent ≡ true → (b : Bool)
+          → by_parent part parent b ≡ by_parent world parent b
+      by parent there its true = cc (
+        receivers_alike parent there its,
+        filter_map_same (goes_at nat_eq part point.node) (goes_at nat_eq world point.node) (receivers_of nat_eq
+            world parent) (λ receiver at. let t = receivers_own parent receiver there its at in goes_alike point.node
+            receiver t.0 t.1),
+      )
+      by parent there its false = refl
+
+  pub going_alike : (mount : Mount ℕ) → Among mount world.mounts → owns mount ≡ true
+      → going nat_eq part mount ≡ going nat_eq world mount
+  going_alike mount m own = by mount.mount_point refl
+    where
+      by : (o : Option (Location ℕ)) → mount.mount_point ≡ o
+          → going_at nat_eq part mount o ≡ going_at nat_eq world mount o
+      by None e = refl
+      by (Some point) e = from_alike mount point m own e
+
+  -- what goes is theirs
+  goes_own : (node : ℕ) (receiver gone : Mount ℕ) → Among receiver world.mounts → owns receiver ≡ true
+      → goes_at nat_eq world node receiver ≡ Some gone → Among gone world.mounts × (owns gone ≡ true)
+  goes_own node receiver gone m own e = by (child_at nat_eq world.mounts at) refl e
+    where
+      at : Location ℕ
+      at = record { mount = receiver.number; node = node }
+
+      which : (child : Mount ℕ) → child_at nat_eq world.mounts at ≡ Some child → (b : Bool) → when b child ≡ Some gone
+          → Among gone world.mounts × (owns gone ≡ true)
+      which child f true e =
+          subst (λ (x : Mount ℕ). Among x world.mounts × (owns x ≡ true)) (same_Some child gone e)
+          (standing_own at child (own_theirs receiver m own) f)
+      which child f false e = none_is_some gone e
+
+      by : (o : Option (Mount ℕ)) → child_at nat_eq world.mounts at ≡ o
+          → then_some o (λ (child : Mount ℕ). when (may_go nat_eq world child) child) ≡ Some gone
+          → Among gone world.mounts × (owns gone ≡ true)
+      by None f e = none_is_some gone e
+      by (Some child) f e = which child f (may_go nat_eq world child) e
+
+  pub going_own : (mount : Mount ℕ) (number : ℕ) → Among mount world.mounts → owns mount ≡ true
+      → Among number (going nat_eq world mount)
+      → (gone : Mount ℕ) × Among gone world.mounts × (owns gone ≡ true) × (gone.number ≡ number)
+  going_own mount number m own at = by mount.mount_point refl at
+    where
+      alone : Among number (mount.number ∷ [])
+          → (gone : Mount ℕ) × Among gone world.mounts × (owns gone ≡ true) × (gone.number ≡ number)
+      alone at = ⊎_elim (λ same. (mount, m, own, sym same)) (λ none. absurd none) at
+
+      which : (point : Location ℕ) → mount.mount_point ≡ Some point → (b : Bool)
+          → Among number (going_from nat_eq world mount point b)
+          → (gone : Mount ℕ) × Among gone world.mounts × (owns gone ≡ true) × (gone.number ≡ number)
+      which point e true at =
+          let from = among-from_map (λ (gone : Mount ℕ). gone.number)
+          (filter_map (goes_at nat_eq world point.node) (receivers_of nat_eq world
+          (mount_at nat_eq world point))) number at in
+          let gone = among-from_filter_map (goes_at nat_eq world point.node)
+          (receivers_of nat_eq world (mount_at nat_eq world point)) from.0 from.1 in
+          let below = below_own mount point m own e in
+          let receiver = receivers_own (mount_at nat_eq world point) gone.0 below.1 below.2 gone.1 in
+          let its = goes_own point.node gone.0 from.0 receiver.0 receiver.1 gone.2 in
+          (from.0, its.0, its.1, sym from.2)
+      which point e false at = alone at
+
+      by : (o : Option (Location ℕ)) → mount.mount_point ≡ o → Among number (going_at nat_eq world mount o)
+          → (gone : Mount ℕ) × Among gone world.mounts × (owns gone ≡ true) × (gone.number ≡ number)
+      by None e at = alone at
+      by (Some point) e at = which point e (is_shared (mount_at nat_eq world point).propagation) at

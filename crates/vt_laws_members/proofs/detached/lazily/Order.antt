@@ -1,0 +1,166 @@
+-- The events of a lazy unmount of a mount of theirs are the same in the part, in the same order.
+use Rattle.std.proofs.Common.{◌≡◌, refl, sym, ap, subst, ◌∙◌, inl, inr, ⊎_elim, ℕ, zero, suc, nat_eq, arith, true, List, [], ◌∷◌, Option, Some, None, length, ◌≤◌}
+use Rattle.std.specs.Prelude.{if◌then◌else◌, nat_lt, option_map}
+use Rattle.vt_spec.specs.Language.Calls.{TaskName}
+use Rattle.vt_spec.specs.Lists.{chain, folded}
+use Rattle.vt_spec.specs.Machine.Detach.{depth_of, insert_deepest}
+use Rattle.vt_spec.specs.Machine.Invariants.{IsWorld, MountInvariants}
+use Rattle.vt_spec.specs.Machine.Mounts.{Location, Mount, children, mount_tree, stands_on, tree_from}
+use Rattle.vt_spec.specs.Machine.Sealed.{members, part_of, sealed}
+use Rattle.vt_spec.specs.Machine.World.{Task, World, mount_at, mount_numbered}
+use Rattle.vt_spec.proofs.Lists.{Among, among-from_filter, among-from_flat_map, chain_ends}
+use Rattle.vt_spec.proofs.Worlds.{number-mount_in}
+use Rattle.vt_laws_mounts.specs.Mounts.Invariants.{OneNumberEach}
+use Rattle.vt_laws_mounts.specs.Mounts.Standing.{AllStand}
+use Rattle.vt_laws_mounts.proofs.ends.EndingOrder.{among_inserted, from_tree, taken_in_turn}
+use Rattle.vt_laws_mounts.proofs.mounts.Standing.{depth_by_rank, rank, rank_child}
+use Rattle.vt_laws_sealed.proofs.part.part.PartOfPart.{is_own}
+use Rattle.vt_laws_members.proofs.judging.Grounds.{IsTheirs, numbered, parent_theirs, same_mount}
+use Rattle.vt_laws_members.proofs.judging.MountTrees.{child_own, own_theirs, tree_alike}
+use Rattle.vt_laws_members.proofs.changes.letting_go.PartMounts.{part_mounts}
+
+-- a mount without a mount point has no ancestors
+depth_of_root : (w : World ℕ) (mount : Mount ℕ) → mount.mount_point ≡ None → depth_of nat_eq w mount ≡ 1
+depth_of_root w mount e = by (length w.mounts)
+  where
+    by : (n : ℕ)
+        → length (chain n (λ (child : Mount ℕ). option_map (mount_at nat_eq w) child.mount_point) mount) ≡ 1
+    by zero = refl
+    by (suc n) =
+        ap length (chain_ends (λ (child : Mount ℕ). option_map (mount_at nat_eq w) child.mount_point) n mount
+        (ap (option_map (mount_at nat_eq w)) e))
+
+-- another one is one deeper than its parent
+depth_of_child : (w : World ℕ) → OneNumberEach w → AllStand w → (k : ℕ) (place : Location ℕ)
+    → (mount_numbered nat_eq w k).mount_point ≡ Some place
+    → depth_of nat_eq w (mount_numbered nat_eq w k) ≡ suc (depth_of nat_eq w (mount_numbered nat_eq w place.mount))
+depth_of_child w one all k place e =
+    cc (depth_by_rank w one all k, rank_child w one all k place e, depth_by_rank w one all place.mount)
+
+module _ (world : World ℕ) (names : List TaskName) (is : IsWorld nat_eq world)
+    (sealed_off : sealed nat_eq world names ≡ true) where
+  abbrev theirs : List (Task ℕ)
+  theirs = members world names
+
+  abbrev part : World ℕ
+  part = part_of nat_eq world names
+
+  abbrev On : ℕ → Type 0
+  On = IsTheirs world names is.mounts
+
+  in_part : MountInvariants nat_eq part
+  in_part = part_mounts world names is sealed_off
+
+  abbrev deep : ℕ → ℕ
+  deep = rank world is.mounts.one_number is.mounts.standing
+
+  abbrev DeepAlike : ℕ → Type 0
+  DeepAlike k =
+      depth_of nat_eq part (mount_numbered nat_eq part k) ≡ depth_of nat_eq world (mount_numbered nat_eq world k)
+
+  root_alike : (k : ℕ) → On k → (mount_numbered nat_eq world k).mount_point ≡ None → DeepAlike k
+  root_alike k on e =
+      depth_of_root part (mount_numbered nat_eq part k)
+      (ap (λ (m : Mount ℕ). m.mount_point) (same_mount world names is.mounts k on) ∙ e)
+      ∙ sym (depth_of_root world (mount_numbered nat_eq world k) e)
+
+  deep_alike : (n k : ℕ) → On k → deep k ≤ n → DeepAlike k
+  deep_alike zero k on l = by (mount_numbered nat_eq world k).mount_point refl
+    where
+      by : (o : Option (Location ℕ)) → (mount_numbered nat_eq world k).mount_point ≡ o → DeepAlike k
+      by None e = root_alike k on e
+      by (Some place) e =
+          let child : deep k ≡ suc (deep place.mount) =
+          rank_child world is.mounts.one_number is.mounts.standing k place e in
+          absurd (omega (arith, child, l))
+  deep_alike (suc n) k on l = by (mount_numbered nat_eq world k).mount_point refl (deep_alike n)
+    where
+      by : (o : Option (Location ℕ)) → (mount_numbered nat_eq world k).mount_point ≡ o
+          → ((j : ℕ) → On j → deep j ≤ n → DeepAlike j) → DeepAlike k
+      by None e later = root_alike k on e
+      by (Some place) e later =
+          let child : deep k ≡ suc (deep place.mount) =
+          rank_child world is.mounts.one_number is.mounts.standing k place e in
+          let less : deep place.mount ≤ n = omega (arith, child, l) in
+          depth_of_child part in_part.one_number in_part.standing k place
+          (ap (λ (m : Mount ℕ). m.mount_point) (same_mount world names is.mounts k on) ∙ e)
+          ∙ ap suc (later place.mount (parent_theirs world names is.mounts k place on e) less)
+          ∙ sym (depth_of_child world is.mounts.one_number is.mounts.standing k place e)
+
+  -- a mount of theirs is as deep in the part
+  abbrev SameDepth : Mount ℕ → Type 0
+  SameDepth mount = depth_of nat_eq part mount ≡ depth_of nat_eq world mount
+
+  same_depth : (mount : Mount ℕ) → Among mount world.mounts → is_own world names theirs mount ≡ true → SameDepth mount
+  same_depth mount m own =
+      let on = own_theirs world names is mount m own in
+      let itself = numbered world names is.mounts mount m in
+      cc (
+        same_mount world names is.mounts mount.number on,
+        itself,
+        deep_alike (deep mount.number) mount.number on (omega arith),
+      )
+
+  -- so are ordered alike
+  inserted_alike : (mount : Mount ℕ) → SameDepth mount → (list : List (Mount ℕ))
+      → ((x : Mount ℕ) → Among x list → SameDepth x)
+      → insert_deepest nat_eq part mount list ≡ insert_deepest nat_eq world mount list
+  inserted_alike mount same [] all = refl
+  inserted_alike mount same (other ∷ rest) all = λ i.
+      if nat_lt (same i) (all other (inl refl) i) then other ∷ inserted_alike mount same rest (λ x m. all x (inr m)) i
+      else mount ∷ other ∷ rest
+
+  sorted_alike : (list sorted : List (Mount ℕ)) → ((x : Mount ℕ) → Among x list → SameDepth x)
+      → ((x : Mount ℕ) → Among x sorted → SameDepth x)
+      → folded (λ done mount. insert_deepest nat_eq part mount done) sorted list
+      ≡ folded (λ done mount. insert_deepest nat_eq world mount done) sorted list
+  sorted_alike [] sorted all all_sorted = refl
+  sorted_alike (mount ∷ rest) sorted all all_sorted =
+      cc (
+        inserted_alike mount (all mount (inl refl)) sorted all_sorted,
+        sorted_alike rest (insert_deepest nat_eq world mount sorted) (λ x m. all x (inr m)) (λ x m. ⊎_elim (λ e.
+            subst SameDepth (sym e) (all mount (inl refl))) (all_sorted x) (among_inserted world mount sorted x m)),
+      )
+
+  -- what stands in a tree of theirs is theirs
+  tree_own : (n : ℕ) (top x : Mount ℕ) → Among top world.mounts → is_own world names theirs top ≡ true
+      → Among x (tree_from nat_eq n world.mounts top)
+      → Among x world.mounts × (is_own world names theirs x ≡ true)
+  tree_own zero top x m own at =
+      ⊎_elim (λ e. subst (λ (y : Mount ℕ). Among y world.mounts × (is_own world names theirs y ≡ true)) (sym e)
+      (m, own))
+      (λ none. absurd none) at
+  tree_own (suc n) top x m own at =
+      ⊎_elim (λ e. subst (λ (y : Mount ℕ). Among y world.mounts × (is_own world names theirs y ≡ true)) (sym e)
+      (m, own))
+      (λ later.
+      let from = among-from_flat_map (tree_from nat_eq n world.mounts)
+      (children nat_eq world.mounts top.number) x later in
+      let child = among-from_filter (stands_on nat_eq top.number) world.mounts from.0 from.1 in
+      tree_own n from.0 x child.0
+      (child_own world names is top.number from.0 (own_theirs world names is top m own) child.0 child.1) from.2) at
+
+  module _ (number : ℕ) (there : Among (mount_numbered nat_eq world number) world.mounts)
+      (own : is_own world names theirs (mount_numbered nat_eq world number) ≡ true) where
+    abbrev top : Mount ℕ
+    top = mount_numbered nat_eq world number
+
+    on : On number
+    on = subst On (number-mount_in world.mounts number) (own_theirs world names is top there own)
+
+    in_tree : (x : Mount ℕ) → Among x (mount_tree nat_eq world.mounts top)
+        → Among x world.mounts × (is_own world names theirs x ≡ true)
+    in_tree x m = tree_own (length world.mounts) top x there own m
+
+    pub same_turns : taken_in_turn part number ≡ taken_in_turn world number
+    same_turns = cc (
+      same_mount world names is.mounts number on,
+      tree_alike world names is top (own_theirs world names is top there own),
+      sorted_alike (mount_tree nat_eq world.mounts top) [] (λ x m. let its = in_tree x m in same_depth x its.0
+          its.1) (λ x none. absurd none),
+    )
+
+    -- each event is of a mount of theirs
+    pub turns_own : (x : Mount ℕ) → Among x (taken_in_turn world number)
+        → Among x world.mounts × (is_own world names theirs x ≡ true)
+    turns_own x m = in_tree x (from_tree world number x m)

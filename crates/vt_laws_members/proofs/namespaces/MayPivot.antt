@@ -1,0 +1,91 @@
+-- What a granted pivot_root(2) has passed, in any world whose mounts have their invariants.
+use Rattle.std.proofs.Common.{◌≡◌, sym, ap, ℕ, nat_eq, Bool, true, false, true≢false, List, [], ◌∷◌, Option, Some, None, Ok, Err, Result, not, eqb-true}
+use Rattle.std.specs.Prelude.{⊤, IfOk}
+use Rattle.std.proofs.lemmas.Bool.{not-false, or_parts}
+use Rattle.vt_spec.specs.declared.errors.Rule.TheVariants.{W8}
+use Rattle.vt_spec.specs.Errors.{unless}
+use Rattle.vt_spec.specs.Lists.{holds_of}
+use Rattle.vt_spec.specs.Machine.Invariants.{MountInvariants}
+use Rattle.vt_spec.specs.Machine.Judge.{pivot_permit}
+use Rattle.vt_spec.specs.Machine.Looks.{Looks, looks_of, topmost}
+use Rattle.vt_spec.specs.Machine.Mounts.{Location, child_at}
+use Rattle.vt_spec.specs.Machine.Permits.{Permit}
+use Rattle.vt_spec.specs.Machine.Permits.Permit.{ToPivot}
+use Rattle.vt_spec.specs.Machine.Rules.Conditions.{is_elsewhere, is_no_root}
+use Rattle.vt_spec.specs.Machine.Rules.Mounting.{admin_rules, at_topmost, destination_walk, is_on_descendant, lies_under_location, pivot_rules, source_walk}
+use Rattle.vt_spec.specs.Machine.Walking.{Here, Stop, then_walk, walk_unless}
+use Rattle.vt_spec.specs.Machine.World.{Task, World, mount_at, mount_numbered}
+use Rattle.vt_laws_mounts.specs.Mounts.Namespaces.{CanPivot, IsIn}
+use Rattle.vt_laws_mounts.proofs.namespaces.Pivoting.{numbered_mounts_can_pivot}
+use Rattle.vt_laws_mounts.proofs.namespaces.Topmost.{topmost_is_free}
+use Rattle.vt_laws_worlds.proofs.worlds.FitPermits.{first_two}
+use Rattle.vt_laws_members.proofs.changes.looks.Granted.{of_rules, of_walk}
+use Rattle.vt_laws_members.proofs.changes.letting_go.Umounting.{Passed, of_passed}
+
+-- wherever a walk ends
+ends_somewhere : (r : Result (Here ℕ) (Stop ℕ)) → IfOk r (λ here. ⊤)
+ends_somewhere (Ok here) = tt
+ends_somewhere (Err stop) = tt
+
+module _ (w : World ℕ) (kept : MountInvariants nat_eq w) (task : Task ℕ) where
+  abbrev looks : Looks ℕ
+  looks = looks_of nat_eq w
+
+  -- the mounts that it names may change places
+  abbrev pub PivotsThere : Permit ℕ → Type 0
+  PivotsThere (ToPivot mount put) =
+      CanPivot w task.namespace (mount_at nat_eq w task.root) (mount_numbered nat_eq w mount) put
+  PivotsThere permit = ⊥
+
+  -- M2
+  inside : (l : Location ℕ) → is_elsewhere nat_eq looks task l ≡ false → IsIn w task.namespace l.mount
+  inside l = by (mount_at nat_eq w l).namespace
+    where
+      by : (o : Option ℕ) → not (holds_of (nat_eq task.namespace) o) ≡ false → o ≡ Some task.namespace
+      by None h = absurd (true≢false h)
+      by (Some n) h = ap Some (sym (eqb-true task.namespace n (not-false (nat_eq task.namespace n) h)))
+
+  -- no mount is attached where a destination is
+  abbrev Free : Here ℕ → Type 0
+  Free here = child_at nat_eq w.mounts here.location ≡ None
+
+  destination_free : (path : List ℕ) → IfOk (destination_walk nat_eq looks task path) Free
+  destination_free path = by (source_walk nat_eq looks task path)
+    where
+      kept_there : (here : Here ℕ) (b : Bool)
+          → IfOk (walk_unless here.steps ((b, W8) ∷ []) (at_topmost looks here)) Free
+      kept_there here true = tt
+      kept_there here false = topmost_is_free w here.location kept
+
+      by : (r : Result (Here ℕ) (Stop ℕ))
+          → IfOk (then_walk r (λ here. walk_unless here.steps
+          ((looks.is_removed (topmost looks here.location), W8) ∷ []) (at_topmost looks here))) Free
+      by (Ok here) = kept_there here (looks.is_removed (topmost looks here.location))
+      by (Err stop) = tt
+
+  passes : (new put : Location ℕ) → child_at nat_eq w.mounts put ≡ None
+      → Passed (pivot_rules nat_eq looks task new put) → PivotsThere (ToPivot new.mount put)
+  passes new put free passed =
+      let own = or_parts (is_elsewhere nat_eq looks task task.root) _ passed.0 in
+      let others = or_parts (is_elsewhere nat_eq looks task new) _ own.1 in
+      let put_own = or_parts (is_elsewhere nat_eq looks task put) false others.1 in
+      let tops = or_parts (is_no_root nat_eq looks new) (is_no_root nat_eq looks task.root) passed.1.0 in
+      let lie = first_two (not (is_on_descendant nat_eq looks task.root.mount new))
+      (not (lies_under_location nat_eq looks new put)) _ _ _ passed.1.1.1.0 in
+      numbered_mounts_can_pivot w task.namespace task.root.mount new put (inside task.root own.0) (inside new others.0)
+      (inside put put_own.0)
+      (eqb-true new.node (mount_at nat_eq w new).root (not-false (nat_eq new.node (mount_at nat_eq w new).root) tops.0))
+      (not-false (is_on_descendant nat_eq looks task.root.mount new) lie.0)
+      (not-false (lies_under_location nat_eq looks new put) lie.1) free
+
+  pub pivots_there : (new put : List ℕ) → IfOk (pivot_permit nat_eq looks task new put) PivotsThere
+  unfolding pivot_permit
+  pivots_there new put =
+      of_rules PivotsThere (admin_rules task) _
+      (of_walk (λ root. ⊤) PivotsThere (source_walk nat_eq looks task new) _
+      (ends_somewhere (source_walk nat_eq looks task new))
+      (λ root done. of_walk Free PivotsThere (destination_walk nat_eq looks task put)
+      (λ here. unless (pivot_rules nat_eq looks task root.location here.location)
+      (Ok (ToPivot root.location.mount here.location))) (destination_free put)
+      (λ here free. of_passed PivotsThere (pivot_rules nat_eq looks task root.location here.location)
+      (Ok (ToPivot root.location.mount here.location)) (passes root.location here.location free))))

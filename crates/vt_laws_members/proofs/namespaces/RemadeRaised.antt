@@ -1,0 +1,216 @@
+-- Where mounts of theirs change and new ones come, the change numbers of namespaces are raised alike.
+use Rattle.std.proofs.Common.{◌≡◌, refl, sym, ap, subst, ◌∙◌, ⊎_elim, ℕ, nat_eq, Bool, true, cond, true≢false, List, ◌++◌, Option, Some, None, filter, is_some, map, not, ◌&&◌, ◌||◌, eqb-true}
+use Rattle.std.proofs.lemmas.Bool.{and_parts, or_left}
+use Rattle.std.proofs.lemmas.List.Elements.{filter-append}
+use Rattle.vt_spec.specs.Language.Calls.{TaskName}
+use Rattle.vt_spec.specs.Lists.{holds_of, same_list, same_option, then_some}
+use Rattle.vt_spec.specs.Machine.Filesystems.{raised}
+use Rattle.vt_spec.specs.Machine.Invariants.{HasLivingGroups, Lives, MountInvariants, is_nowhere_or_attached, is_private}
+use Rattle.vt_spec.specs.Machine.Invariants.Lives.{has_master, has_no_master}
+use Rattle.vt_spec.specs.Machine.Mounts.{Mount, same_location, source_of}
+use Rattle.vt_spec.specs.Machine.Policy.{master_above, raised_namespace, same_flags, same_mount, same_mounts_in, same_propagation}
+use Rattle.vt_spec.specs.Machine.Receives.{has_members, is_member_of}
+use Rattle.vt_spec.specs.Machine.Sealed.{is_member_task, is_own_mount, members, part_of}
+use Rattle.vt_spec.specs.Machine.Settled.{is_located, mount_lives, settled}
+use Rattle.vt_spec.specs.Machine.World.{Namespace, Task, World, mounts_of}
+use Rattle.vt_spec.proofs.Lists.{Among, among-filter, among-from_filter, among_from_all, among_from_list_all, any_among, any_from_among, map_alike}
+use Rattle.vt_spec.proofs.Options.{none_is_some}
+use Rattle.vt_laws_mounts.proofs.letting_go.Lists.{filter-map}
+use Rattle.vt_laws_sealed.proofs.part.Kept.{filter_both}
+use Rattle.vt_laws_sealed.proofs.part.groups.ReceiversAlike.{member_group}
+use Rattle.vt_laws_sealed.proofs.part.part.PartOfPart.{is_own, keep, kept_how}
+use Rattle.vt_laws_members.proofs.changes.letting_go.EndedRaised.{raised_number, same_list_alike}
+use Rattle.vt_laws_members.proofs.changes.letting_go.Heard.{heard_by_own, master_same, own_kept, private_source}
+use Rattle.vt_laws_members.proofs.changes.letting_go.SeeLess.{filter_less}
+use Rattle.vt_laws_members.proofs.namespaces.Remade.{ChangesTheirs, MovesTheirs, Remaking, group_source, in_spaces, namespaces_less, own_before, own_was, source_heard, v, v_part}
+
+abbrev its_in : ℕ → Mount ℕ → Bool
+its_in n m = holds_of (nat_eq n) m.namespace
+
+attached : (n : ℕ) (m : Mount ℕ) → its_in n m ≡ true → is_some m.namespace ≡ true
+attached n m = by m.namespace
+  where
+    by : (o : Option ℕ) → holds_of (nat_eq n) o ≡ true → is_some o ≡ true
+    by None h = h
+    by (Some j) h = refl
+
+-- The sweep leaves mounts of namespaces,
+settled_mounts : (w : World ℕ) (n : ℕ) → mounts_of nat_eq (settled nat_eq w) n ≡ filter (its_in n) w.mounts
+settled_mounts w n =
+    filter_less (its_in n) (mount_lives nat_eq w) w.mounts
+    (λ m h. or_left (is_some m.namespace) (is_located nat_eq w m.number) (attached n m h))
+
+lives_members : (members : ℕ → Bool) (master : ℕ → Option ℕ) (g : ℕ) → Lives members master g → members g ≡ true
+lives_members members master g (has_no_master it here none) = here
+lives_members members master g (has_master it above here e later) = here
+
+-- and so a member of each group from which a mount receives
+module _ (b : World ℕ) (kept : MountInvariants nat_eq b) where
+  -- a member is in a namespace
+  member_attached : (z : Mount ℕ) → Among z b.mounts → (g : ℕ) → is_member_of nat_eq g z ≡ true
+      → is_some z.namespace ≡ true
+  member_attached z n g h = by z.namespace refl
+    where
+      by : (o : Option ℕ) → z.namespace ≡ o → is_some o ≡ true
+      by (Some j) e = refl
+      by None e =
+          none_is_some g
+          (sym (private_source z.propagation (and_parts (not (is_some z.mount_point)) (is_private z.propagation)
+          (sym (ap (λ o. is_some o || (not (is_some z.mount_point) && is_private z.propagation)) e)
+          ∙ among_from_list_all is_nowhere_or_attached b.mounts kept.nowhere z n)).1)
+          ∙ group_source z.propagation g (member_group g z h))
+
+  settled_members : (y : Mount ℕ) → Among y b.mounts → (g : ℕ) → source_of y.propagation ≡ Some g
+      → has_members nat_eq (settled nat_eq b).mounts g ≡ true
+  settled_members y n g e =
+      let z = any_among (is_member_of nat_eq g) b.mounts
+      (lives_members (has_members nat_eq b.mounts) b.master g
+      (among_from_all (HasLivingGroups nat_eq b) b.mounts kept.groups y n g e)) in
+      any_from_among (is_member_of nat_eq g) (filter (mount_lives nat_eq b) b.mounts) z.0
+      (among-filter (mount_lives nat_eq b) b.mounts z.0 z.1
+      (or_left (is_some z.0.namespace) (is_located nat_eq b z.0.number) (member_attached z.0 z.1 g z.2))) z.2
+
+module _ (it : Remaking) (does : ChangesTheirs it) (moves : MovesTheirs it) where
+  abbrev world : World ℕ
+  world = it.world
+
+  abbrev names : List TaskName
+  names = it.names
+
+  abbrev part : World ℕ
+  part = part_of nat_eq world names
+
+  abbrev turn : Mount ℕ → Mount ℕ
+  turn = it.plan.turn
+
+  abbrev old : List (Task ℕ)
+  old = members world names
+
+  abbrev new : List (Task ℕ)
+  new = filter (is_member_task names) it.tasks
+
+  abbrev kept : Mount ℕ → Option (Mount ℕ)
+  kept = keep world names old
+
+  abbrev after : World ℕ
+  after = v it does moves
+
+  abbrev after_part : World ℕ
+  after_part = v_part it does moves
+
+  abbrev u : World ℕ
+  u = settled nat_eq after
+
+  abbrev u_part : World ℕ
+  u_part = settled nat_eq after_part
+
+  -- the mounts of a namespace of theirs
+  module _ (n : ℕ) (entered : in_spaces new n ≡ true) where
+    owned : (m : Mount ℕ) → its_in n m ≡ true → is_own world names new m ≡ true
+    owned m = by m.namespace
+      where
+        by : (o : Option ℕ) → holds_of (nat_eq n) o ≡ true → holds_of (in_spaces new) o ≡ true
+        by None h = absurd (true≢false (sym h))
+        by (Some j) h = ap (in_spaces new) (sym (eqb-true n j h)) ∙ entered
+
+    before : mounts_of nat_eq part n ≡ mounts_of nat_eq world n
+    before =
+        filter_both kept (its_in n) (its_in n) world.mounts
+        (λ m at h. (own_kept world names it.is it.sealed_off m (own_was it does moves m at (owned m h)), h))
+        (λ m y at h e. ⊎_elim (λ same. ap (its_in n) (sym same) ∙ h) (λ stub. ap (its_in n) (sym stub.0))
+        (kept_how world names old m y e))
+
+    turned : filter (λ m. its_in n (turn m)) part.mounts ≡ filter (λ m. its_in n (turn m)) world.mounts
+    turned =
+        filter_both kept (λ m. its_in n (turn m)) (λ m. its_in n (turn m)) world.mounts
+        (λ m at h. (
+          own_kept world names it.is it.sealed_off m (own_before it does moves m at (owned (turn m) h)),
+          h,
+        ))
+        (λ m y at h e. ⊎_elim (λ same. ap (λ x. its_in n (turn x)) (sym same) ∙ h)
+        (λ stub. ap (λ x. its_in n (turn x)) (sym stub.0) ∙ ap (its_in n) (does.others m at stub.1).1)
+        (kept_how world names old m y e))
+
+    split : (w : World ℕ) → filter (its_in n) (map turn w.mounts ++ it.plan.added)
+        ≡ map turn (filter (λ m. its_in n (turn m)) w.mounts) ++ filter (its_in n) it.plan.added
+    split w =
+        filter-append (its_in n) (map turn w.mounts) it.plan.added
+        ∙ ap (λ l. l ++ filter (its_in n) it.plan.added) (filter-map (its_in n) turn w.mounts (λ m. refl))
+
+    later : mounts_of nat_eq u_part n ≡ mounts_of nat_eq u n
+    later =
+        settled_mounts after_part n ∙ split part
+        ∙ ap (λ l. map turn l ++ filter (its_in n) it.plan.added) turned
+        ∙ sym (split world) ∙ sym (settled_mounts after n)
+
+    -- masters above
+    above_before : (m : Mount ℕ) → Among m (mounts_of nat_eq world n) → master_above part m ≡ master_above world m
+    above_before m at = by (source_of m.propagation) refl
+      where
+        from : Among m world.mounts × (its_in n m ≡ true)
+        from = among-from_filter (its_in n) world.mounts m at
+
+        by : (o : Option ℕ) → source_of m.propagation ≡ o → then_some o part.master ≡ then_some o world.master
+        by None e = refl
+        by (Some g) e =
+            master_same world names it.is it.sealed_off g
+            (heard_by_own world names it.is it.sealed_off m
+            (among-filter (is_own_mount nat_eq world names) world.mounts m from.0
+            (own_was it does moves m from.0 (owned m from.1))) g e)
+
+    above_after : (y : Mount ℕ) → Among y (mounts_of nat_eq u n) → master_above u_part y ≡ master_above u y
+    above_after y at = by (source_of y.propagation) refl
+      where
+        from : Among y after.mounts × (its_in n y ≡ true)
+        from = among-from_filter (its_in n) after.mounts y (subst (Among y) (settled_mounts after n) at)
+
+        there : Among y after_part.mounts
+        there =
+            (among-from_filter (its_in n) after_part.mounts y
+            (subst (Among y) (sym later ∙ settled_mounts after_part n) at)).0
+
+        by : (o : Option ℕ) → source_of y.propagation ≡ o → then_some o u_part.master ≡ then_some o u.master
+        by None e = refl
+        by (Some g) e =
+            ap (λ c. cond c (part.master g) None) (settled_members after_part does.kept_there y there g e)
+            ∙ master_same world names it.is it.sealed_off g
+            (source_heard it does moves y from.0 (owned y from.1) g e)
+            ∙ sym (ap (λ c. cond c (world.master g) None) (settled_members after does.kept y from.0 g e))
+
+    -- they changed in both, or in none
+    spaces_alike : same_mounts_in nat_eq part u_part n ≡ same_mounts_in nat_eq world u n
+    spaces_alike =
+        ap (λ l. same_list (same_mount nat_eq part u_part) l (mounts_of nat_eq u_part n)) before
+        ∙ ap (same_list (same_mount nat_eq part u_part) (mounts_of nat_eq world n)) later
+        ∙ same_list_alike (same_mount nat_eq part u_part) (same_mount nat_eq world u) (mounts_of nat_eq world n)
+        (mounts_of nat_eq u n)
+        (λ x y m l. compared x y (above_before x m) (above_after y l))
+      where
+        same_ones : Mount ℕ → Mount ℕ → Bool
+        same_ones x y =
+            nat_eq x.number y.number && same_option (same_location nat_eq) x.mount_point y.mount_point
+            && same_flags x.flags y.flags && same_propagation nat_eq x.propagation y.propagation
+
+        compared : (x y : Mount ℕ) → master_above part x ≡ master_above world x
+            → master_above u_part y ≡ master_above u y
+            → same_mount nat_eq part u_part x y ≡ same_mount nat_eq world u x y
+        compared x y e f =
+            ap (λ o. same_ones x y && same_option nat_eq o (master_above u_part y)) e
+            ∙ ap (λ o. same_ones x y && same_option nat_eq (master_above world x) o) f
+
+  abbrev spaces : List (Task ℕ) → Namespace ℕ → Bool
+  spaces ts n = in_spaces ts n.number
+
+  -- the namespaces of the set, raised
+  pub raised_alike : filter (spaces new) (map (raised_namespace nat_eq part u_part) after_part.namespaces)
+      ≡ filter (spaces new) (map (raised_namespace nat_eq world u) after.namespaces)
+  raised_alike =
+      filter-map (spaces new) (raised_namespace nat_eq part u_part) after_part.namespaces
+      (λ n. ap (in_spaces new) (raised_number part u_part n))
+      ∙ ap (map (raised_namespace nat_eq part u_part)) (namespaces_less it does moves)
+      ∙ map_alike (raised_namespace nat_eq part u_part) (raised_namespace nat_eq world u)
+      (filter (spaces new) after.namespaces)
+      (λ n m. ap (λ c. cond c n (record n { change = raised n.change }))
+      (spaces_alike n.number (among-from_filter (spaces new) after.namespaces n m).1))
+      ∙ sym (filter-map (spaces new) (raised_namespace nat_eq world u) after.namespaces
+      (λ n. ap (in_spaces new) (raised_number world u n)))

@@ -1,0 +1,275 @@
+-- Where mounts of theirs change and new ones come, the world is ready to be swept.
+use Rattle.std.proofs.Common.{◌≡◌, refl, sym, ap, subst, ◌∙◌, ◌⊎◌, inl, inr, ⊎_elim, ℕ, nat_eq, Bool, true, false, true≢false, List, Option, Some, None, filter, is_some, map, not, ◌||◌, ◌&&◌, eq-eqb, eqb-true}
+use Rattle.std.specs.List.{list_all, list_any}
+use Rattle.std.proofs.lemmas.Bool.{and_parts, not-true, or_cases, or_left, or_right}
+use Rattle.vt_spec.specs.Language.Calls.{TaskName}
+use Rattle.vt_spec.specs.Lists.{holds_of}
+use Rattle.vt_spec.specs.Machine.Invariants.{MountInvariants, is_nowhere_or_attached, is_private}
+use Rattle.vt_spec.specs.Machine.Locked.{overlays}
+use Rattle.vt_spec.specs.Machine.Mounts.{Location, Mount}
+use Rattle.vt_spec.specs.Machine.Sealed.{is_at, is_member_task, is_own_namespace, locations, members, no_outsider_on, other_mounts, outsiders, own_lowers, roots_and_directories, used_alone, used_filesystems, wholly_locked}
+use Rattle.vt_spec.specs.Machine.Settled.{has_layer_on, is_located, mount_lives, without_dead_mounts}
+use Rattle.vt_spec.specs.Machine.World.{Filesystem, Task, World, all_locations, is_overlay, locations_of, mount_at, mount_numbered}
+use Rattle.vt_spec.proofs.Lists.{Among, among-append, among-append_right, among-filter, among-flat_map, among-from_filter, among-from_flat_map, among-from_map, among_from_list_all, among_numbers, any_among, any_from_among, none_among, pair-filter}
+use Rattle.vt_laws_mounts.specs.Mounts.Invariants.{OneNumberEach}
+use Rattle.vt_laws_mounts.proofs.mounts.MountsReplaced.{found_itself}
+use Rattle.vt_laws_sealed.proofs.part.part.Observed.{lowers_same, used_same}
+use Rattle.vt_laws_sealed.proofs.part.part.PartOfPart.{is_own}
+use Rattle.vt_laws_sealed.proofs.part.seals.ByPart.{used_are_free}
+use Rattle.vt_laws_members.proofs.judging.Grounds.{IsTheirs}
+use Rattle.vt_laws_members.proofs.changes.letting_go.Changed.{mount_parent, mount_under}
+use Rattle.vt_laws_members.proofs.changes.letting_go.LessSeen.{used_was}
+use Rattle.vt_laws_members.proofs.changes.letting_go.NamespaceLess.{ground_at}
+use Rattle.vt_laws_members.proofs.changes.letting_go.Ready.{Alone, NoOthers, Ready, layered_overlay}
+use Rattle.vt_laws_members.proofs.changes.letting_go.WorldReady.{all_named_there, plain_in, sees_living, whole_cut}
+use Rattle.vt_laws_members.proofs.namespaces.Remade.{ChangesTheirs, MovesTheirs, OnAdded, Remaking, filesystem_after, placed_old, remade_less, shown_after, turned_in, v, v_part}
+
+-- a mount of no namespace has no mount point
+pub nowhere_pointed : (b : World ℕ) → MountInvariants nat_eq b → (m : Mount ℕ) → Among m b.mounts
+    → m.namespace ≡ None → m.mount_point ≡ None
+nowhere_pointed b kept m n none =
+    by m.mount_point
+    (and_parts (not (is_some m.mount_point)) (is_private m.propagation)
+    (sym (ap (λ o. is_some o || (not (is_some m.mount_point) && is_private m.propagation)) none)
+    ∙ among_from_list_all is_nowhere_or_attached b.mounts kept.nowhere m n)).0
+  where
+    by : (o : Option (Location ℕ)) → not (is_some o) ≡ true → o ≡ None
+    by None e = refl
+    by (Some l) e = absurd (true≢false (sym e))
+
+-- a parent lives
+pub parent_lives : (b : World ℕ) → MountInvariants nat_eq b → (y : Mount ℕ) (l : Location ℕ)
+    → Among y (without_dead_mounts nat_eq b).mounts → y.mount_point ≡ Some l
+    → (n : ℕ) × (y.namespace ≡ Some n) × (k : Mount ℕ) × Among k (without_dead_mounts nat_eq b).mounts
+    × (l.mount ≡ k.number) × (k.namespace ≡ Some n)
+parent_lives b kept y l n point =
+    let up = mount_parent b kept y l (among-from_filter (mount_lives nat_eq b) b.mounts y n).0 point in (
+      up.0,
+      up.1,
+      up.2,
+      among-filter (mount_lives nat_eq b) b.mounts up.2 up.3
+          (or_left (is_some up.2.namespace) (is_located nat_eq b up.2.number) (ap is_some up.5)),
+      up.4,
+      up.5,
+    )
+
+-- a mount with a location lives
+pub located_lives : (b : World ℕ) (y : Mount ℕ) (l : Location ℕ) → Among y b.mounts → Among l (all_locations b)
+    → l.mount ≡ y.number → Among y (without_dead_mounts nat_eq b).mounts
+located_lives b y l n m e =
+    among-filter (mount_lives nat_eq b) b.mounts y n
+    (or_right (is_some y.namespace) (is_located nat_eq b y.number)
+    (any_from_among (λ (p : Location ℕ). nat_eq y.number p.mount) (all_locations b) l m
+    (eq-eqb y.number l.mount (sym e))))
+
+-- of some of the tasks
+pub of_all : (names : List TaskName) (tasks : List (Task ℕ)) (l : Location ℕ)
+    → Among l (locations (filter (is_member_task names) tasks)) → Among l (locations tasks)
+of_all names tasks l m =
+    let t = among-from_flat_map locations_of (filter (is_member_task names) tasks) l m in
+    among-flat_map locations_of tasks t.0 l (among-from_filter (is_member_task names) tasks t.0 t.1).0 t.2
+
+module _ (it : Remaking) (does : ChangesTheirs it) (moves : MovesTheirs it) where
+  abbrev world : World ℕ
+  world = it.world
+
+  abbrev names : List TaskName
+  names = it.names
+
+  abbrev turn : Mount ℕ → Mount ℕ
+  turn = it.plan.turn
+
+  abbrev old : List (Task ℕ)
+  old = members world names
+
+  abbrev new : List (Task ℕ)
+  new = filter (is_member_task names) it.tasks
+
+  abbrev after : World ℕ
+  after = v it does moves
+
+  abbrev living : World ℕ
+  living = without_dead_mounts nat_eq after
+
+  abbrev Fits : Mount ℕ → Type 0
+  Fits y = (is_own world names new y ≡ true) ⊎ (y.namespace ≡ None)
+
+  was : (y : Mount ℕ) → Among y living.mounts → Among y after.mounts
+  was y n = (among-from_filter (mount_lives nat_eq after) after.mounts y n).0
+
+  one_living : OneNumberEach living
+  one_living =
+      pair-filter (λ (p q : Mount ℕ). nat_eq p.number q.number) (mount_lives nat_eq after) after.mounts
+      does.kept.one_number
+
+  -- a mount of theirs is theirs after, or in no namespace; one of none stays so
+  pub own_after : (m : Mount ℕ) → Among m world.mounts → is_own world names old m ≡ true → Fits (turn m)
+  own_after m n own =
+      ⊎_elim inr
+      (λ stays. inl (ap (holds_of (λ i. list_any (λ (t : Task ℕ). nat_eq i t.namespace) new)) stays.0 ∙ stays.1))
+      (does.placed m n own)
+
+  pub none_after : (m : Mount ℕ) → Among m world.mounts → m.namespace ≡ None → Fits (turn m)
+  none_after m n none =
+      inr (ap (λ (x : Mount ℕ). x.namespace)
+      (does.others m n (ap (holds_of (λ i. list_any (λ (t : Task ℕ). nat_eq i t.namespace) old)) none)).0 ∙ none)
+
+  -- where others have no foothold
+  module _ (number : ℕ) (none : no_outsider_on nat_eq world names number ≡ true) where
+    abbrev nobody : (list_any (λ (m : Mount ℕ). nat_eq number m.filesystem) (other_mounts nat_eq world names) ≡ false)
+        × (list_any (λ l. nat_eq number (mount_at nat_eq world l).filesystem) (locations (outsiders world names))
+        ≡ false)
+    nobody =
+        let both = and_parts (not
+        (list_any (λ (m : Mount ℕ). nat_eq number m.filesystem) (other_mounts nat_eq world names)))
+        (not (list_any (λ l. nat_eq number (mount_at nat_eq world l).filesystem)
+        (locations (outsiders world names)))) none in
+        (not-true _ both.0, not-true _ both.1)
+
+    by_mount : (m : Mount ℕ) → Among m world.mounts → m.filesystem ≡ number → (o : Option ℕ) → m.namespace ≡ o
+        → Fits (turn m)
+    by_mount m n e None f = none_after m n f
+    by_mount m n e (Some j) f = which (is_own_namespace nat_eq world names j) refl
+      where
+        which : (c : Bool) → is_own_namespace nat_eq world names j ≡ c → Fits (turn m)
+        which true own = own_after m n (ap (holds_of (is_own_namespace nat_eq world names)) f ∙ own)
+        which false other =
+            absurd (true≢false
+            (sym (eq-eqb number m.filesystem (sym e))
+            ∙ none_among (λ (y : Mount ℕ). nat_eq number y.filesystem) (other_mounts nat_eq world names) nobody.0 m
+            (among-filter (λ (y : Mount ℕ). holds_of (λ i. not (is_own_namespace nat_eq world names i)) y.namespace)
+            world.mounts m n
+            (ap (holds_of (λ i. not (is_own_namespace nat_eq world names i))) f ∙ ap not other))))
+
+    mounts_own : (y : Mount ℕ) → Among y living.mounts → y.filesystem ≡ number → Fits y
+    mounts_own y n e =
+        ⊎_elim
+        (λ turned. let from = among-from_map turn world.mounts y turned in
+        subst Fits (sym from.2)
+        (by_mount from.0 from.1
+        (sym (does.shape from.0).filesystem ∙ ap (λ (q : Mount ℕ). q.filesystem) (sym from.2) ∙ e)
+        from.0.namespace refl))
+        (λ fresh. inl (does.owned y fresh))
+        (among-append (map turn world.mounts) it.plan.added y (was y n))
+
+    -- a location of others shows what it showed
+    other_shows : (l : Location ℕ) → Among l (all_locations after) → Among l (locations (outsiders world names))
+        → (mount_at nat_eq living l).filesystem ≡ (mount_at nat_eq world l).filesystem
+    other_shows l m out =
+        let from = among-from_flat_map locations_of (outsiders world names) l out in
+        let under = mount_under world names it.is it.sealed_off l
+        (among-flat_map locations_of world.tasks from.0 l
+        (among-from_filter (λ y. not (is_member_task names y)) world.tasks from.0 from.1).0 from.2) in
+        let number : l.mount ≡ (turn under.0).number = under.2 ∙ sym (does.shape under.0).number in
+        let there = turned_in it does moves under.0 under.1 in
+        ap (λ i. (mount_numbered nat_eq living i).filesystem) number
+        ∙ ap (λ (q : Mount ℕ). q.filesystem)
+        (found_itself living.mounts one_living (turn under.0) (located_lives after (turn under.0) l there m number))
+        ∙ ap (λ (q : Mount ℕ). q.filesystem) (sym (shown_after it does moves (turn under.0) there l number))
+        ∙ filesystem_after it does moves under.0 under.1 l under.2
+
+    locations_own : (l : Location ℕ) → Among l (all_locations living) → (mount_at nat_eq living l).filesystem ≡ number
+        → Among l (locations new)
+    locations_own l m e =
+        let t = among-from_flat_map locations_of it.tasks l m in
+        by t.0 t.1 t.2 (is_member_task names t.0) refl
+      where
+        by : (t : Task ℕ) → Among t it.tasks → Among l (locations_of t) → (c : Bool) → is_member_task names t ≡ c
+            → Among l (locations new)
+        by t n at true member =
+            among-flat_map locations_of new t l (among-filter (is_member_task names) it.tasks t n member) at
+        by t n at false other =
+            let out = moves.outside l (among-flat_map locations_of (filter (λ y. not (is_member_task names y)) it.tasks)
+            t l (among-filter (λ y. not (is_member_task names y)) it.tasks t n (ap not other)) at) in
+            absurd (true≢false
+            (sym (eq-eqb number (mount_at nat_eq world l).filesystem (sym (sym (other_shows l m out) ∙ e)))
+            ∙ none_among (λ q. nat_eq number (mount_at nat_eq world q).filesystem) (locations (outsiders world names))
+            nobody.1 l out))
+
+    pub no_others : NoOthers living names number
+    no_others = record { mounts = mounts_own; locations = locations_own }
+
+  alone : (number : ℕ) → used_alone nat_eq world names number ≡ true → Alone living names number
+  alone number h =
+      let both = and_parts (no_outsider_on nat_eq world names number)
+      (list_all (λ merged. not (has_layer_on nat_eq number merged) || no_outsider_on nat_eq world names merged.number)
+      (overlays world)) h in
+      record {
+        itself = no_others number both.0;
+        overlays = λ merged m has. no_others merged.number (by both.1 merged m has);
+      }
+    where
+      by : list_all (λ merged. not (has_layer_on nat_eq number merged)
+          || no_outsider_on nat_eq world names merged.number)
+          (overlays world) ≡ true → (merged : Filesystem ℕ) → Among merged world.filesystems
+          → has_layer_on nat_eq number merged ≡ true → no_outsider_on nat_eq world names merged.number ≡ true
+      by all merged m has =
+          ⊎_elim (λ none. absurd (true≢false (sym has ∙ not-true (has_layer_on nat_eq number merged) none))) (λ h. h)
+          (or_cases (not (has_layer_on nat_eq number merged)) (no_outsider_on nat_eq world names merged.number)
+          (among_from_list_all (λ y. not (has_layer_on nat_eq number y) || no_outsider_on nat_eq world names y.number)
+          (overlays world) all merged
+          (among-filter is_overlay world.filesystems merged m (layered_overlay number merged has))))
+
+  located_so : (l : Location ℕ) → Among l (locations new) → (y : Mount ℕ) × Among y living.mounts × (l.mount ≡ y.number)
+  located_so l m =
+      ⊎_elim (λ before. let on = placed_old it does moves l before in of_before on.0 on.1 on.2)
+      (λ rest. ⊎_elim (λ on. of_before on.0 on.1 (sym on.2))
+      (λ fresh. (
+        fresh.0,
+        located_lives after fresh.0 l
+            (among-append_right (map turn world.mounts) it.plan.added fresh.0 fresh.1) all fresh.2,
+        fresh.2,
+      )) rest)
+      (moves.places l m)
+    where
+      all : Among l (all_locations after)
+      all = of_all names it.tasks l m
+
+      of_before : (k : Mount ℕ) → Among k world.mounts → l.mount ≡ k.number
+          → (y : Mount ℕ) × Among y living.mounts × (l.mount ≡ y.number)
+      of_before k n e =
+          let number : l.mount ≡ (turn k).number = e ∙ sym (does.shape k).number in
+          (turn k, located_lives after (turn k) l (turned_in it does moves k n) all number, number)
+
+  stood_so : (y : Mount ℕ) → Among y living.mounts → is_at nat_eq (roots_and_directories new) y ≡ true
+      → (is_own world names new y ≡ true) ⊎ (y.mount_point ≡ None)
+  stood_so y n h =
+      ⊎_elim turned (λ fresh. inl (does.owned y fresh))
+      (among-append (map turn world.mounts) it.plan.added y (was y n))
+    where
+      point_too : Fits y → (is_own world names new y ≡ true) ⊎ (y.mount_point ≡ None)
+      point_too (inl own) = inl own
+      point_too (inr none) = inr (nowhere_pointed after does.kept y (was y n) none)
+
+      turned : Among y (map turn world.mounts) → (is_own world names new y ≡ true) ⊎ (y.mount_point ≡ None)
+      turned m =
+          let from = among-from_map turn world.mounts y m in
+          let l = any_among (λ (p : Location ℕ). nat_eq p.mount y.number) (roots_and_directories new) h in
+          let on : l.0.mount ≡ from.0.number =
+          eqb-true l.0.mount y.number l.2 ∙ ap (λ (q : Mount ℕ). q.number) from.2 ∙ (does.shape from.0).number in
+          point_too (subst Fits (sym from.2) (by from.0 from.1 l.0 on (moves.roots l.0 l.1)))
+        where
+          by : (m : Mount ℕ) → Among m world.mounts → (l : Location ℕ) → l.mount ≡ m.number
+              → IsTheirs world names it.is.mounts l.mount ⊎ OnAdded it.plan l → Fits (turn m)
+          by m k l e (inl theirs) =
+              ⊎_elim (own_after m k) (λ stood. none_after m k stood.0) (ground_at world names it.is l theirs m k e)
+          by m k l e (inr (y, c, f)) = absurd (does.apart y m c k (sym f ∙ e))
+
+  pub remade_ready : Ready living names (used_filesystems nat_eq after names) (own_lowers nat_eq after names)
+  remade_ready = record {
+    used_are = used_same after living names (sees_living after names);
+    lowers_are = lowers_same after living names (sees_living after names);
+    one = one_living;
+    lives = λ y n. (among-from_filter (mount_lives nat_eq after) after.mounts y n).1;
+    located = located_so;
+    parents = parent_lives after does.kept;
+    stood = stood_so;
+    one_filesystem = it.is.files.one_filesystem;
+    plain = plain_in world names it.is;
+    free = λ x m u. ⊎_elim (λ h. inl (alone x.number h)) (λ h. inr (all_named_there world names it.is x m h))
+        (or_cases (used_alone nat_eq world names x.number) (wholly_locked nat_eq world names x.number)
+        (used_are_free world names it.sealed_off x.number
+        (among_numbers (used_filesystems nat_eq world names) x.number
+        (used_was world names it.is names after (v_part it does moves) (remade_less it does moves) x.number u))));
+    cut = λ x m unused low. whole_cut world it.is (own_lowers nat_eq after names) x m;
+  }

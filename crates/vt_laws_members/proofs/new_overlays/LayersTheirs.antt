@@ -1,0 +1,164 @@
+-- The layers of an overlay that a task of a sealed set mounts lie in filesystems that the set uses.
+use Rattle.std.proofs.Common.{◌≡◌, refl, sym, subst, inl, ⊎_elim, ℕ, nat_eq, true, List, [], ◌∷◌, ◌++◌, Option, Some, None, Ok, Err, Result}
+use Rattle.std.specs.Prelude.{IfOk, option_map, option_to_list}
+use Rattle.vt_spec.specs.declared.errors.Deny.{Deny}
+use Rattle.vt_spec.specs.Errors.{and_then}
+use Rattle.vt_spec.specs.Language.Calls.{MountFlags, OverlayWords, TaskName}
+use Rattle.vt_spec.specs.Language.Calls.Call.{MountOverlay}
+use Rattle.vt_spec.specs.Lists.{Fresh, is_among}
+use Rattle.vt_spec.specs.Machine.Apply.{overfills}
+use Rattle.vt_spec.specs.Machine.Invariants.{IsWorld}
+use Rattle.vt_spec.specs.Machine.Looks.{looks_of}
+use Rattle.vt_spec.specs.Machine.Mounts.{Location}
+use Rattle.vt_spec.specs.Machine.Permits.{Permit}
+use Rattle.vt_spec.specs.Machine.Permits.Permit.{ToMountOverlay}
+use Rattle.vt_spec.specs.Machine.Rules.Mounting.{LayerLocations, each_walked, layer_at, layer_locations, layers_walked, overlay_at, source_walk, walked_if_given, work_walked}
+use Rattle.vt_spec.specs.Machine.Sealed.{members, sealed, used_directly, used_filesystems}
+use Rattle.vt_spec.specs.Machine.Walking.{Here, Stop, walk_end}
+use Rattle.vt_spec.specs.Machine.World.{Layer, Overlay, Task, World, layers_of, mount_at, shown_layers}
+use Rattle.vt_spec.proofs.Lists.{Among, among-append, among-append_left, among-append_right, among-from_map}
+use Rattle.vt_laws_rules.specs.Granted.{IsGranted}
+use Rattle.vt_laws_rules.specs.Granted.IsGranted.{mounts_overlayfs}
+use Rattle.vt_laws_trees.specs.Layers.Layers.Mounted.{AreLayers}
+use Rattle.vt_laws_trees.proofs.layers.mounting.Walked.{are_walked, has_layers, shown_plain}
+use Rattle.vt_laws_sealed.proofs.part.part.PartOfPart.{is_own, used_directly_used}
+use Rattle.vt_laws_sealed.proofs.part.walks.WalksAgree.{Each}
+use Rattle.vt_laws_members.specs.Judging.{is_theirs}
+use Rattle.vt_laws_members.proofs.judging.AllJudged.{owned}
+use Rattle.vt_laws_members.proofs.judging.Grounds.{theirs_from}
+use Rattle.vt_laws_members.proofs.judging.SeenInPart.{theirs_directly}
+use Rattle.vt_laws_members.proofs.changes.letting_go.Moving.{StandsHere}
+use Rattle.vt_laws_members.proofs.attached.Destination.{at_destination, at_source}
+
+-- what a result gives, if it is none of a refusal
+then_ok : {A B : Type 0} (Q : A → Type 0) (R : B → Type 0) (r : Result A Deny) (next : A → Result B Deny) → IfOk r Q
+    → ((a : A) → Q a → IfOk (next a) R) → IfOk (and_then r next) R
+then_ok Q R (Ok a) next q h = h a q
+then_ok Q R (Err deny) next q h = tt
+
+end_ok : {A : Type 0} (Q : A → Type 0) (r : Result A (Stop ℕ)) → IfOk r Q → IfOk (walk_end r) Q
+end_ok Q (Ok a) q = q
+end_ok Q (Err stop) q = tt
+
+module _ (world : World ℕ) (names : List TaskName) (is : IsWorld nat_eq world)
+    (sealed_off : sealed nat_eq world names ≡ true) (task : Task ℕ) (member : Among task (members world names)) where
+  abbrev At : Location ℕ → Type 0
+  At l = is_theirs world names l.mount ≡ true
+
+  abbrev AreAt : LayerLocations ℕ → Type 0
+  AreAt places = Each At (layer_locations places)
+
+  abbrev StandsThere : Here ℕ → Type 0
+  StandsThere = StandsHere world names is sealed_off task member
+
+  -- Walks of the layers
+  each_at : (paths : List (List ℕ)) → IfOk (each_walked nat_eq (looks_of nat_eq world) task paths) (Each At)
+  each_at [] = λ l m. absurd m
+  each_at (path ∷ paths) =
+      then_ok StandsThere (Each At) (walk_end (source_walk nat_eq (looks_of nat_eq world) task path)) _
+      (end_ok StandsThere (source_walk nat_eq (looks_of nat_eq world) task path)
+      (at_source world names is sealed_off task member path)) (λ here on.
+      then_ok (Each At) (Each At) (each_walked nat_eq (looks_of nat_eq world) task paths) _ (each_at paths)
+      (λ rest all l m. ⊎_elim (λ same. subst At (sym same) on) (λ later. all l later) m))
+
+  given_at : (path : Option (List ℕ))
+      → IfOk (walked_if_given nat_eq (looks_of nat_eq world) task path) (λ place. Each At (option_to_list place))
+  given_at None = λ l m. absurd m
+  given_at (Some path) =
+      then_ok StandsThere (λ place. Each At (option_to_list place))
+      (walk_end (source_walk nat_eq (looks_of nat_eq world) task path)) _
+      (end_ok StandsThere (source_walk nat_eq (looks_of nat_eq world) task path)
+      (at_source world names is sealed_off task member path))
+      (λ here on l m. ⊎_elim (λ same. subst At (sym same) on) (λ none. absurd none) m)
+
+  layers_at : (words : OverlayWords) → IfOk (layers_walked nat_eq (looks_of nat_eq world) task words) AreAt
+  layers_at words =
+      then_ok (Each At) AreAt (each_walked nat_eq (looks_of nat_eq world) task words.lowers) _ (each_at words.lowers)
+      (λ lowers below.
+      then_ok (λ place. Each At (option_to_list place)) AreAt
+      (walked_if_given nat_eq (looks_of nat_eq world) task words.upper) _ (given_at words.upper) (λ upper above.
+      then_ok (λ place. Each At (option_to_list place)) AreAt
+      (walked_if_given nat_eq (looks_of nat_eq world) task (work_walked words)) _ (given_at (work_walked words))
+      (λ work beside l m.
+      ⊎_elim (λ some. ⊎_elim (below l) (above l) (among-append lowers (option_to_list upper) l some)) (beside l)
+      (among-append (lowers ++ option_to_list upper) (option_to_list work) l m))))
+
+  -- Layers at these places
+  module _ (places : LayerLocations ℕ) (all : AreAt places) where
+    abbrev overlay : Overlay ℕ
+    overlay = overlay_at (looks_of nat_eq world) task places
+
+    abbrev layer_there : Location ℕ → Layer ℕ
+    layer_there = layer_at (looks_of nat_eq world)
+
+    abbrev IsUsed : Layer ℕ → Type 0
+    IsUsed layer = Among layer.filesystem (used_directly nat_eq world names)
+
+    used_at : (l : Location ℕ) → At l → IsUsed (layer_there l)
+    used_at l on = theirs_directly world names is l (theirs_from world names is.mounts l.mount on)
+
+    given_used : (o : Option (Location ℕ)) → Each At (option_to_list o)
+        → Each IsUsed (option_to_list (option_map layer_there o))
+    given_used None at layer m = absurd m
+    given_used (Some l) at layer m =
+        ⊎_elim (λ same. subst IsUsed (sym same) (used_at l (at l (inl refl)))) (λ none. absurd none) m
+
+    lowers_used : Each IsUsed overlay.lowers
+    lowers_used layer m =
+        let from = among-from_map layer_there places.lowers layer m in
+        subst IsUsed (sym from.2) (used_at from.0 (all from.0
+        (among-append_left (places.lowers ++ option_to_list places.upper) (option_to_list places.work) from.0
+        (among-append_left places.lowers (option_to_list places.upper) from.0 from.1))))
+
+    upper_used : Each IsUsed (option_to_list overlay.upper)
+    upper_used =
+        given_used places.upper (λ l m. all l
+        (among-append_left (places.lowers ++ option_to_list places.upper) (option_to_list places.work) l
+        (among-append_right places.lowers (option_to_list places.upper) l m)))
+
+    work_used : Each IsUsed (option_to_list overlay.work)
+    work_used =
+        given_used places.work (λ l m. all l
+        (among-append_right (places.lowers ++ option_to_list places.upper) (option_to_list places.work) l m))
+
+    pub all_used : Each IsUsed (layers_of overlay)
+    all_used layer m =
+        ⊎_elim
+        (λ written. ⊎_elim (upper_used layer) (work_used layer)
+        (among-append (option_to_list overlay.upper) (option_to_list overlay.work) layer written))
+        (lowers_used layer)
+        (among-append (option_to_list overlay.upper ++ option_to_list overlay.work) overlay.lowers layer m)
+
+    pub shown_used : (layer : Layer ℕ) → Among layer (shown_layers overlay)
+        → is_among nat_eq layer.filesystem (used_filesystems nat_eq world names) ≡ true
+    shown_used layer m =
+        used_directly_used world names layer.filesystem
+        (⊎_elim (upper_used layer) (lowers_used layer)
+        (among-append (option_to_list overlay.upper) overlay.lowers layer m))
+
+  -- What a granted mount of an overlay attaches
+  pub record MountsOverlay (flags : MountFlags) (permit : Permit ℕ) : Type 0 where
+    pub here : Location ℕ
+    pub places : LayerLocations ℕ
+    pub is_so : permit ≡ ToMountOverlay here (overlay_at (looks_of nat_eq world) task places) flags
+    pub on : At here
+    pub own : is_own world names (members world names) (mount_at nat_eq world here) ≡ true
+    pub all : AreAt places
+    pub are_layers : AreLayers world (overlay_at (looks_of nat_eq world) task places)
+
+  pub mounts_overlay : (fresh : Fresh ℕ) (path : List ℕ) (options : Option OverlayWords) (flags : MountFlags)
+      (permit : Permit ℕ)
+      → IsGranted nat_eq (looks_of nat_eq world) (overfills nat_eq fresh world task) task
+      (MountOverlay path options flags) permit
+      → MountsOverlay flags permit
+  mounts_overlay fresh path options flags permit
+      (mounts_overlayfs _ words _ here places admin end walked layered passed) =
+      let are = are_walked world task words places walked in record {
+        here = here.location;
+        places = places;
+        is_so = refl;
+        on = subst (λ r. IfOk r StandsThere) end (at_destination world names is sealed_off task member path);
+        own = owned world names is sealed_off task member here.location passed.0;
+        all = subst (λ r. IfOk r AreAt) walked (layers_at words);
+        are_layers = (has_layers world task places are layered, shown_plain world task places are layered);
+      }

@@ -1,0 +1,128 @@
+-- Each mount(2) of a new overlay ends in the part as in the world.
+use Rattle.std.proofs.Common.{◌≡◌, refl, sym, ap, subst, ◌∙◌, ℕ, nat_eq, true, List, [], Option, Some, None, Ok, Err}
+use Rattle.std.specs.Prelude.{is_ok}
+use Rattle.vt_spec.specs.Language.Answers.Answer.{Done}
+use Rattle.vt_spec.specs.Language.Calls.{Call, MountFlags, OverlayWords, TaskName}
+use Rattle.vt_spec.specs.Language.Calls.Call.{MountOverlay}
+use Rattle.vt_spec.specs.Lists.{Fresh, evens, odds}
+use Rattle.vt_spec.specs.Machine.Apply.{overfills}
+use Rattle.vt_spec.specs.Machine.Judge.{Judgement, judge_in}
+use Rattle.vt_spec.specs.Machine.Looks.{looks_of}
+use Rattle.vt_spec.specs.Machine.NewMounts.{mounted, overlay_filesystem}
+use Rattle.vt_spec.specs.Machine.Outcomes.{granted}
+use Rattle.vt_spec.specs.Machine.Permits.{Permit}
+use Rattle.vt_spec.specs.Machine.Permits.Permit.{ToMountOverlay}
+use Rattle.vt_spec.specs.Machine.Policy.{numbers_raised, policy}
+use Rattle.vt_spec.specs.Machine.Rules.Mounting.{overlay_at}
+use Rattle.vt_spec.specs.Machine.Run.{Serves}
+use Rattle.vt_spec.specs.Machine.Sealed.{members, part_of, used_directly}
+use Rattle.vt_spec.specs.Machine.Settled.{settled}
+use Rattle.vt_spec.specs.Machine.World.{Filesystem, Layer, Overlay, Task, World, layers_of, task_called}
+use Rattle.vt_spec.proofs.FreshNumbers.{evens-distinct, served-distinct}
+use Rattle.vt_spec.proofs.Lists.{Among}
+use Rattle.vt_laws_rules.proofs.given.Inversion.{calls_are_granted}
+use Rattle.vt_laws_mounts.specs.LettingGo.Keeping.{has_only_named}
+use Rattle.vt_laws_worlds.proofs.overlays_let_go.mounting.NewOverlays.{new_overlays_are_named}
+use Rattle.vt_laws_members.specs.Changes.Changes.{EndAlike, EndsAlike, IsCallOfTheirs, grown}
+use Rattle.vt_laws_members.proofs.changes.looks.Told.{member_called, ran, same_caller}
+use Rattle.vt_laws_members.proofs.changes.tasks.Denied.{denial_ends_alike, run_by, same_judgement, unnamed_ends_alike}
+use Rattle.vt_laws_members.specs.NewOverlays.OverlayMounts.{OverlayMountsEndAlike}
+use Rattle.vt_laws_members.proofs.new_overlays.LayersTheirs.{MountsOverlay, all_used, mounts_overlay, shown_used}
+use Rattle.vt_laws_members.proofs.new_overlays.NewFilesystem.{mounted_alike, now, now_there, settled_here, settled_there}
+use Rattle.vt_laws_members.proofs.new_overlays.SameOverlay.{same_overlay}
+
+-- A granted mount of an overlay
+module _ (world : World ℕ) (names : List TaskName) (name : TaskName) (path : List ℕ) (options : Option OverlayWords)
+    (flags : MountFlags) (it : IsCallOfTheirs world names name (MountOverlay path options flags)) (task : Task ℕ)
+    (member : Among task (members world names)) (called : task_called world name ≡ Some task) (fresh : Fresh ℕ)
+    (serves : Serves nat_eq world fresh) (permit : Permit ℕ)
+    (its : MountsOverlay world names it.is it.sealed_off task member flags permit)
+    (judged : judge_in nat_eq fresh world task (MountOverlay path options flags) ≡ Ok permit) where
+  abbrev part : World ℕ
+  part = part_of nat_eq world names
+
+  abbrev call : Call
+  call = MountOverlay path options flags
+
+  abbrev overlay : Overlay ℕ
+  overlay = overlay_at (looks_of nat_eq world) task its.places
+
+  abbrev new_one : Filesystem ℕ
+  new_one = overlay_filesystem nat_eq (evens fresh) world overlay
+
+  new_named : has_only_named new_one ≡ true
+  new_named =
+      new_overlays_are_named (evens fresh) world overlay it.is its.are_layers
+      (evens-distinct fresh (served-distinct world fresh serves))
+
+  new_layers : (layer : Layer ℕ) → Among layer (layers_of overlay)
+      → Among layer.filesystem (used_directly nat_eq world names)
+  new_layers = all_used world names it.is it.sealed_off task member its.places its.all
+
+  abbrev later : World ℕ
+  later = now world names it.is it.sealed_off fresh serves its.here its.on its.own new_one refl new_layers new_named flags
+
+  abbrev later_there : World ℕ
+  later_there =
+      now_there world names it.is it.sealed_off fresh serves its.here its.on its.own new_one refl new_layers new_named
+      flags
+
+  granted_so : judge_in nat_eq fresh world task call ≡ Ok (ToMountOverlay its.here overlay flags)
+  granted_so = judged ∙ ap Ok its.is_so
+
+  first : policy nat_eq fresh world name call ≡ granted Done (numbers_raised nat_eq world name [] later)
+  first =
+      ap (ran name call world fresh) called
+      ∙ ap (run_by world names name call it fresh fresh world fresh task) granted_so
+      ∙ ap (λ w. granted Done (numbers_raised nat_eq world name [] w))
+      (settled_here world names it.is it.sealed_off fresh serves its.here its.on its.own new_one refl new_layers
+      new_named flags)
+
+  second : policy nat_eq fresh part name call ≡ granted Done (numbers_raised nat_eq part name [] later_there)
+  second =
+      ap (ran name call part fresh) (same_caller world names it.is it.sealed_off name it.theirs ∙ called)
+      ∙ ap (run_by world names name call it fresh fresh part fresh task)
+      (sym (same_judgement world names name call it fresh fresh task called) ∙ granted_so)
+      ∙ ap (λ f. granted Done (numbers_raised nat_eq part name []
+      (settled nat_eq (mounted nat_eq (odds fresh) part its.here f flags))))
+      (same_overlay world names it.is overlay its.are_layers
+      (shown_used world names it.is it.sealed_off task member its.places its.all) (evens fresh))
+      ∙ ap (λ w. granted Done (numbers_raised nat_eq part name [] w))
+      (settled_there world names it.is it.sealed_off fresh serves its.here its.on its.own new_one refl new_layers
+      new_named flags)
+
+  mount_alike : EndsAlike world names name call fresh fresh
+  mount_alike =
+      subst (λ p. EndAlike (grown names name call (policy nat_eq fresh world name call).answer)
+      (policy nat_eq fresh world name call) p) (sym second)
+      (subst (λ o. EndAlike (grown names name call o.answer) o
+      (granted Done (numbers_raised nat_eq part name [] later_there))) (sym first)
+      (record {
+        answer = refl;
+        part = mounted_alike world names it.is it.sealed_off fresh serves its.here its.on its.own new_one refl
+            new_layers new_named flags name;
+      }))
+
+pub overlay_mounts_end_alike : OverlayMountsEndAlike
+overlay_mounts_end_alike world names name path options flags it fresh serves = by (task_called world name) refl
+  where
+    judged_by : (task : Task ℕ) → Among task (members world names) → task_called world name ≡ Some task
+        → (j : Judgement ℕ) → judge_in nat_eq fresh world task (MountOverlay path options flags) ≡ j
+        → EndsAlike world names name (MountOverlay path options flags) fresh fresh
+    judged_by task member e (Ok permit) judged =
+        mount_alike world names name path options flags it task member e fresh serves permit
+        (mounts_overlay world names it.is it.sealed_off task member fresh path options flags permit
+        (calls_are_granted nat_eq (looks_of nat_eq world) (overfills nat_eq fresh world task) task
+        (MountOverlay path options flags) permit judged)) judged
+    judged_by task member e (Err deny) judged =
+        denial_ends_alike world names name (MountOverlay path options flags) it fresh fresh
+        (ap (λ o. is_ok (ran name (MountOverlay path options flags) world fresh o).answer) e
+        ∙ ap (λ j. is_ok (run_by world names name (MountOverlay path options flags) it fresh fresh world fresh task
+        j).answer) judged)
+
+    by : (o : Option (Task ℕ)) → task_called world name ≡ o
+        → EndsAlike world names name (MountOverlay path options flags) fresh fresh
+    by None e = unnamed_ends_alike world names name (MountOverlay path options flags) it fresh fresh e
+    by (Some task) e =
+        judged_by task (member_called world names it.is it.sealed_off name it.theirs task e) e
+        (judge_in nat_eq fresh world task (MountOverlay path options flags)) refl

@@ -1,0 +1,200 @@
+-- The overlay that is made of layers which a sealed set uses is the same in the part of the set.
+use Rattle.std.proofs.Common.{◌≡◌, ◌≤◌, refl, sym, ap, subst, ◌∙◌, inl, inr, true≢false, arith, ℕ, zero, suc, ◌+◌, nat_eq, true, List, [], ◌∷◌, ◌++◌, flat_map, length, map, not, Bool, Option, Some, None, is_some, option_and_then, slice_get}
+use Rattle.std.proofs.lemmas.Grind.{common_steps}
+use Rattle.std.specs.List.{filter_map, find, sum}
+use Rattle.std.specs.Prelude.{option_map, unwrap_or}
+use Rattle.std.proofs.lemmas.Bool.{and_parts}
+use Rattle.std.proofs.lemmas.List.Sums.{sum_by-cons}
+use Rattle.std.proofs.lemmas.Option.{same_Some, slice_get-map}
+use Rattle.vt_spec.specs.FileTree.{FileTree}
+use Rattle.vt_spec.specs.Language.Calls.{TaskName}
+use Rattle.vt_spec.specs.Lists.{Fresh, evens, is_among, odds}
+use Rattle.vt_spec.specs.Machine.Invariants.{IsWorld, ListsNumbers, is_plain_layer}
+use Rattle.vt_spec.specs.Machine.Layers.{OpenLayer, Shown, names_shown, paths_from, shown}
+use Rattle.vt_spec.specs.Machine.Merging.{merged_at, merged_inodes, merged_objects}
+use Rattle.vt_spec.specs.Machine.NewMounts.{inode_count, overlay_filesystem, overlay_of_inodes}
+use Rattle.vt_spec.specs.Machine.Sealed.{part_of, used_filesystems}
+use Rattle.vt_spec.specs.Machine.World.{Filesystem, Layer, Overlay, World, filesystem_numbered, is_overlay, no_filesystem, open_layer, shown_layers}
+use Rattle.vt_spec.specs.Tree.{is_directory_node}
+use Rattle.vt_spec.specs.TreeInvariant.{IsTree, entry_at, led}
+use Rattle.vt_spec.proofs.Lists.{Among, among_from_list_all, contains_from_among, map_alike}
+use Rattle.vt_spec.proofs.Options.{none_is_some}
+use Rattle.vt_laws_mounts.proofs.letting_go.Lists.{flat_map_alike}
+use Rattle.vt_laws_trees.specs.Layers.Layers.Mounted.{AreLayers}
+use Rattle.vt_laws_trees.proofs.layers.layers.ShownAtPath.{computed}
+use Rattle.vt_laws_trees.proofs.layers.layers.ShownDirectories.{last_of}
+use Rattle.vt_laws_trees.proofs.layers.layers.ShownMounted.{bounded}
+use Rattle.vt_laws_trees.proofs.layers.layers.ShownNames.{last_name, names_are_those_shown}
+use Rattle.vt_laws_trees.proofs.layers.layers.ShownPaths.{depth_of_led, length_longer, not_empty}
+use Rattle.vt_laws_trees.proofs.layers.layers.UpperChain.{depth_below}
+use Rattle.vt_laws_trees.proofs.layers.layers.UpperLine.{has_entries, is_reached_in}
+use Rattle.vt_laws_trees.proofs.layers.layers.UpperWorld.{all_found}
+use Rattle.vt_laws_sealed.proofs.part.part.PartOfPart.{found}
+
+slice_among : {A : Type 0} (xs : List A) (k : ℕ) (a : A) → slice_get xs k ≡ Some a → Among a xs
+slice_among [] k a e = none_is_some a e
+slice_among (x ∷ xs) zero a e = inl (sym (same_Some x a e))
+slice_among (x ∷ xs) (suc k) a e = inr (slice_among xs k a e)
+
+-- a path in a tree is no longer than there are inodes
+led_bounded : (files : FileTree ℕ) → IsTree files.tree → ListsNumbers nat_eq files → (start object : ℕ)
+    (path : List (List ℕ)) → led files.tree start path ≡ Some object → length path ≤ length files.numbers
+led_bounded files tree listed start object [] e = omega arith
+led_bounded files tree listed start object (name ∷ path) e =
+    let last = last_of (name ∷ path) (not_empty name path) in
+    by last.0 last.1 (sym (length_longer last.0 last.1) ∙ ap length last.2) (led files.tree start last.0) refl
+    (sym (last_name files.tree start last.0 last.1) ∙ ap (led files.tree start) last.2 ∙ e)
+  where
+    deep : (front : List (List ℕ)) (last : List ℕ) (directory : ℕ) → led files.tree start front ≡ Some directory
+        → entry_at files.tree directory last ≡ Some object → suc (length front) ≤ length files.numbers
+    deep [] last directory l e =
+        let reached = is_reached_in files tree directory last object e in
+        let below = depth_below files tree listed reached.0 directory reached.1 in
+        omega arith
+    deep (first ∷ rest) last directory l e =
+        let reached = depth_of_led files.tree tree start (first ∷ rest) directory (not_empty first rest) l
+        (has_entries files.tree directory last object e) in
+        let below = depth_below files tree listed (reached.0 + length (first ∷ rest)) directory reached.2 in
+        omega arith
+
+    by : (front : List (List ℕ)) (last : List ℕ) → suc (length front) ≡ length (name ∷ path) → (o : Option ℕ)
+        → led files.tree start front ≡ o
+        → option_and_then (λ directory. entry_at files.tree directory last) o ≡ Some object
+        → length (name ∷ path) ≤ length files.numbers
+    by front last longer None l e = none_is_some object e
+    by front last longer (Some directory) l e = let h = deep front last directory l e in omega (arith, h, longer)
+
+-- a part of a sum is no more than the sum
+in_sum : (test : Filesystem ℕ → Bool) (list : List (Filesystem ℕ)) (filesystem : Filesystem ℕ)
+    → find test list ≡ Some filesystem
+    → length filesystem.files.numbers ≤ sum (map (λ (f : Filesystem ℕ). length f.files.numbers) list)
+in_sum test [] filesystem e = none_is_some filesystem e
+in_sum test (first ∷ list) filesystem e =
+    let added = sum_by-cons (λ n. n) (length first.files.numbers)
+    (map (λ (f : Filesystem ℕ). length f.files.numbers) list) in
+    grind (arith, common_steps, in_sum test list filesystem)
+
+-- where a directory is, a filesystem is found
+found_there : (w : World ℕ) (n directory : ℕ)
+    → is_directory_node ((filesystem_numbered nat_eq w n).files.tree.node directory) ≡ true
+    → find (λ (f : Filesystem ℕ). nat_eq n f.number) w.filesystems ≡ Some (filesystem_numbered nat_eq w n)
+found_there w n directory is = by (find (λ (f : Filesystem ℕ). nat_eq n f.number) w.filesystems) refl
+  where
+    by : (o : Option (Filesystem ℕ)) → find (λ (f : Filesystem ℕ). nat_eq n f.number) w.filesystems ≡ o
+        → find (λ (f : Filesystem ℕ). nat_eq n f.number) w.filesystems ≡ Some (filesystem_numbered nat_eq w n)
+    by None e =
+        absurd (true≢false (sym is
+        ∙ ap (λ o. is_directory_node ((unwrap_or o (no_filesystem n)).files.tree.node directory)) e))
+    by (Some f) e = e ∙ ap Some (sym (ap (λ o. unwrap_or o (no_filesystem n)) e))
+
+-- Paths of what layers show
+module _ (layers : List (OpenLayer ℕ)) where
+  abbrev Bounded : ℕ → Type 0
+  Bounded most = (path : List (List ℕ)) (seen : Shown ℕ) → shown layers path ≡ Some seen → length path ≤ most
+
+  no_names : (most : ℕ) → Bounded most → (base : List (List ℕ)) → most ≤ length base → names_shown layers base ≡ []
+  no_names most within base less = by (names_shown layers base) refl
+    where
+      by : (names : List (List ℕ)) → names_shown layers base ≡ names → names_shown layers base ≡ []
+      by [] e = e
+      by (name ∷ rest) e =
+          let is = (names_are_those_shown layers base name).0 (contains_from_among (names_shown layers base) name
+          (subst (Among name) (sym e) (inl refl))) in
+          let long = within (base ++ name ∷ []) is.0 ((computed layers (base ++ name ∷ []) is.0).1 is.1) in
+          let longer = length_longer base name in
+          let no : ⊥ = omega (arith, long, longer, less) in absurd no
+
+  -- any two bounds give the same paths
+  paths_alike : (most other : ℕ) → Bounded most → Bounded other → (n k : ℕ) (base : List (List ℕ))
+      → most ≤ n + length base → other ≤ k + length base → paths_from n layers base ≡ paths_from k layers base
+  paths_alike most other within among zero zero base l m = refl
+  paths_alike most other within among zero (suc k) base l m =
+      ap (λ names. base ∷ flat_map (λ name. paths_from k layers (base ++ name ∷ [])) names)
+      (sym (no_names most within base (omega (arith, l))))
+  paths_alike most other within among (suc n) zero base l m =
+      ap (λ names. base ∷ flat_map (λ name. paths_from n layers (base ++ name ∷ [])) names)
+      (no_names other among base (omega (arith, m)))
+  paths_alike most other within among (suc n) (suc k) base l m =
+      ap (λ list. base ∷ list)
+      (flat_map_alike (λ name. paths_from n layers (base ++ name ∷ []))
+      (λ name. paths_from k layers (base ++ name ∷ []))
+      (names_shown layers base)
+      (λ name at. let longer = length_longer base name in
+      paths_alike most other within among n k (base ++ name ∷ []) (omega (arith, l, longer))
+      (omega (arith, m, longer))))
+
+  pub objects_alike : (most other : ℕ) → Bounded most → Bounded other
+      → merged_objects layers most ≡ merged_objects layers other
+  objects_alike most other within among =
+      ap (filter_map (merged_at layers)) (paths_alike most other within among most other [] (omega arith) (omega arith))
+
+module _ (world : World ℕ) (names : List TaskName) (is : IsWorld nat_eq world) (overlay : Overlay ℕ)
+    (are_layers : AreLayers world overlay)
+    (used : (layer : Layer ℕ) → Among layer (shown_layers overlay)
+    → is_among nat_eq layer.filesystem (used_filesystems nat_eq world names) ≡ true) where
+  abbrev part : World ℕ
+  part = part_of nat_eq world names
+
+  abbrev opened : World ℕ → List (OpenLayer ℕ)
+  opened w = map (open_layer nat_eq w) (shown_layers overlay)
+
+  opened_alike : opened part ≡ opened world
+  opened_alike =
+      map_alike (open_layer nat_eq part) (open_layer nat_eq world) (shown_layers overlay)
+      (λ layer m. ap (λ (f : Filesystem ℕ). record { tree = f.files.tree; directory = layer.directory })
+      (found world names layer.filesystem (used layer m)))
+
+  -- a path in a layer is no longer than the part has inodes
+  in_layer : (layer : Layer ℕ) → Among layer (shown_layers overlay) → (path : List (List ℕ)) (object : ℕ)
+      → led (filesystem_numbered nat_eq world layer.filesystem).files.tree layer.directory path ≡ Some object
+      → length path ≤ inode_count part
+  in_layer layer m path object e =
+      let n = layer.filesystem in
+      let directory = (and_parts (not (is_overlay (filesystem_numbered nat_eq world n)))
+      (is_directory_node ((filesystem_numbered nat_eq world n).files.tree.node layer.directory))
+      (among_from_list_all (is_plain_layer nat_eq world) (shown_layers overlay)
+      are_layers.1 layer m)).1 in
+      let here = found_there world n layer.directory directory in
+      let there = found_there part n layer.directory
+      (ap (λ (f : Filesystem ℕ). is_directory_node (f.files.tree.node layer.directory))
+      (found world names n (used layer m)) ∙ directory) in
+      let few : length path ≤ length (filesystem_numbered nat_eq world n).files.numbers =
+      led_bounded (filesystem_numbered nat_eq world n).files
+      (all_found (λ f. IsTree f.files.tree) (λ (f : Filesystem ℕ). nat_eq n f.number) world.filesystems is.files.trees
+      (filesystem_numbered nat_eq world n) here)
+      (all_found (λ f. ListsNumbers nat_eq f.files) (λ (f : Filesystem ℕ). nat_eq n f.number) world.filesystems
+      is.files.numbers (filesystem_numbered nat_eq world n) here) layer.directory object path e in
+      let some : length (filesystem_numbered nat_eq part n).files.numbers ≤ inode_count part =
+      in_sum (λ (f : Filesystem ℕ). nat_eq n f.number) part.filesystems (filesystem_numbered nat_eq part n)
+      there in
+      let same : length (filesystem_numbered nat_eq part n).files.numbers
+      ≡ length (filesystem_numbered nat_eq world n).files.numbers =
+      ap (λ (f : Filesystem ℕ). length f.files.numbers) (found world names n (used layer m)) in
+      omega (arith, few, some, same)
+
+  bounded_there : Bounded (opened world) (inode_count part)
+  bounded_there path seen s =
+      let has = ((computed (opened world) path seen).0 s).has_uncut.0 in
+      by (slice_get (shown_layers overlay) seen.layer) refl
+      (sym (slice_get-map (open_layer nat_eq world) (shown_layers overlay) seen.layer) ∙ has.1)
+      has.2
+    where
+      by : (o : Option (Layer ℕ)) → slice_get (shown_layers overlay) seen.layer ≡ o → {layer : OpenLayer ℕ}
+          → option_map (open_layer nat_eq world) o ≡ Some layer
+          → led layer.tree layer.directory path ≡ Some seen.object → length path ≤ inode_count part
+      by None f {layer} e l = none_is_some layer e
+      by (Some plain) f {layer} e l =
+          in_layer plain (slice_among (shown_layers overlay) seen.layer plain f) path seen.object
+          (ap (λ (x : OpenLayer ℕ). led x.tree x.directory path) (same_Some (open_layer nat_eq world plain) layer e)
+          ∙ l)
+
+  pub same_overlay : (fresh : Fresh ℕ)
+      → overlay_filesystem nat_eq fresh part overlay ≡ overlay_filesystem nat_eq fresh world overlay
+  same_overlay fresh =
+      ap (λ layers. overlay_of_inodes nat_eq (evens fresh 0) (odds fresh 0) overlay
+      (merged_inodes nat_eq (odds fresh) (is_some overlay.upper) layers (merged_objects layers (inode_count part))))
+      opened_alike
+      ∙ ap (λ objects. overlay_of_inodes nat_eq (evens fresh 0) (odds fresh 0) overlay
+      (merged_inodes nat_eq (odds fresh) (is_some overlay.upper) (opened world) objects))
+      (objects_alike (opened world) (inode_count part) (inode_count world) bounded_there
+      (bounded world is overlay are_layers))

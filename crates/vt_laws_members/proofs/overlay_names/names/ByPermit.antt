@@ -1,0 +1,34 @@
+-- A call of theirs that ends in the part as in the world if it is granted does so if it is refused.
+use Rattle.std.proofs.Common.{◌≡◌, refl, ap, ◌∙◌, ℕ, nat_eq, true, false, [], List, Option, Some, None, Ok, Err, ◌||◌}
+use Rattle.std.specs.Prelude.{is_ok}
+use Rattle.vt_spec.specs.Language.Calls.{Call, TaskName}
+use Rattle.vt_spec.specs.Lists.{Fresh}
+use Rattle.vt_spec.specs.Machine.Judge.{Judgement, judge_in}
+use Rattle.vt_spec.specs.Machine.Outcomes.{denied}
+use Rattle.vt_spec.specs.Machine.Permits.{Permit}
+use Rattle.vt_spec.specs.Machine.Policy.{finished_by, only_looks}
+use Rattle.vt_spec.specs.Machine.World.{Task, World, task_called}
+use Rattle.vt_laws_members.specs.Changes.Changes.{EndsAlike, IsCallOfTheirs}
+use Rattle.vt_laws_members.proofs.changes.looks.Told.{ran}
+use Rattle.vt_laws_members.proofs.changes.tasks.Denied.{denial_ends_alike, run_by, unnamed_ends_alike}
+
+module _ (world : World ℕ) (names : List TaskName) (name : TaskName) (call : Call)
+    (it : IsCallOfTheirs world names name call)
+    (fresh other : Fresh ℕ) (looks : only_looks call ≡ false) where
+  pub by_permit : ((task : Task ℕ) → task_called world name ≡ Some task → (permit : Permit ℕ)
+      → judge_in nat_eq fresh world task call ≡ Ok permit → EndsAlike world names name call fresh other)
+      → EndsAlike world names name call fresh other
+  by_permit granted_so = by (task_called world name) refl
+    where
+      judged_by : (task : Task ℕ) → task_called world name ≡ Some task → (j : Judgement ℕ)
+          → judge_in nat_eq fresh world task call ≡ j → EndsAlike world names name call fresh other
+      judged_by task called (Ok permit) judged = granted_so task called permit judged
+      judged_by task called (Err deny) judged =
+          denial_ends_alike world names name call it fresh other
+          (ap (λ o. is_ok (ran name call world fresh o).answer) called
+          ∙ ap (λ j. is_ok (run_by world names name call it fresh other world fresh task j).answer) judged
+          ∙ ap (λ b. is_ok (finished_by nat_eq (b || true) world name [] (denied world deny)).answer) looks)
+
+      by : (o : Option (Task ℕ)) → task_called world name ≡ o → EndsAlike world names name call fresh other
+      by None none = unnamed_ends_alike world names name call it fresh other none
+      by (Some task) called = judged_by task called (judge_in nat_eq fresh world task call) refl

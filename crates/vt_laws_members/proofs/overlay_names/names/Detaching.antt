@@ -1,0 +1,151 @@
+-- Where mounts of theirs go, and filesystems change that a sealed set uses alone, the part is what is left of the part.
+use Rattle.std.proofs.Common.{◌≡◌, sym, ap, subst, ◌∙◌, ℕ, nat_eq, Bool, true, List, filter, map}
+use Rattle.std.specs.List.{list_any}
+use Rattle.vt_spec.specs.Language.Calls.{TaskName}
+use Rattle.vt_spec.specs.Lists.{is_among}
+use Rattle.vt_spec.specs.Machine.Detach.{is_going, taken_away}
+use Rattle.vt_spec.specs.Machine.Filesystems.{raised_if_changed}
+use Rattle.vt_spec.specs.Machine.Invariants.{IsWorld, MountInvariants}
+use Rattle.vt_spec.specs.Machine.Mounts.{Mount}
+use Rattle.vt_spec.specs.Machine.Policy.{numbers_raised, raised_namespace, raised_task}
+use Rattle.vt_spec.specs.Machine.Sealed.{is_member_task, members, own_lowers, part_of, sealed, used_alone, used_filesystems}
+use Rattle.vt_spec.specs.Machine.Settled.{settled, without_dead_mounts}
+use Rattle.vt_spec.specs.Machine.World.{Filesystem, Layer, Namespace, Task, World}
+use Rattle.vt_spec.proofs.Lists.{Among, among-from_filter}
+use Rattle.vt_laws_mounts.specs.LettingGo.TreesOverlays.{with_filesystems}
+use Rattle.vt_laws_sealed.proofs.part.part.PartOfPart.{is_own, same_members}
+use Rattle.vt_laws_members.proofs.changes.files.FilesChanged.{part_with_layers}
+use Rattle.vt_laws_members.proofs.changes.letting_go.EndedPartReady as InPart
+use Rattle.vt_laws_members.proofs.changes.letting_go.EndedPartReady.{ended_part_ready}
+use Rattle.vt_laws_members.proofs.changes.letting_go.EndedRaised.{raised_alike}
+use Rattle.vt_laws_members.proofs.changes.letting_go.EndedReady as InWorld
+use Rattle.vt_laws_members.proofs.changes.letting_go.EndedReady.{ended_ready}
+use Rattle.vt_laws_members.proofs.changes.letting_go.Ends.{raised_members}
+use Rattle.vt_laws_members.proofs.changes.letting_go.LessSeen.{AreLess, less_used, one_part}
+use Rattle.vt_laws_members.proofs.changes.letting_go.NamespaceLess.{ended_less}
+use Rattle.vt_laws_members.proofs.changes.letting_go.Ready.{Alone, NoOthers, Ready}
+use Rattle.vt_laws_members.proofs.changes.letting_go.Sweep.{part_of_settled, swept_of}
+use Rattle.vt_laws_members.proofs.changes.letting_go.Taken.{all_last, group_lost, part_after, part_taken, set_stays, world_after, world_taken}
+use Rattle.vt_laws_members.proofs.overlay_names.names.Raising.{raised_part}
+use Rattle.vt_laws_members.proofs.overlay_names.names.SteppedReady.{ChangesTheirs, stepped_ready}
+
+module _ (world : World ℕ) (names : List TaskName) (is : IsWorld nat_eq world)
+    (sealed_off : sealed nat_eq world names ≡ true) (gone : List ℕ)
+    (own_go : (m : Mount ℕ) → Among m world.mounts → is_going nat_eq gone m.number ≡ true
+    → is_own world names (members world names) m ≡ true)
+    (kept_world : MountInvariants nat_eq (taken_away nat_eq world gone))
+    (kept_part : MountInvariants nat_eq (taken_away nat_eq (part_of nat_eq world names) gone)) where
+  abbrev part : World ℕ
+  part = part_of nat_eq world names
+
+  abbrev pub here : World ℕ
+  here = world_after world names is sealed_off gone own_go
+
+  abbrev pub there : World ℕ
+  there = part_after world names is sealed_off gone own_go
+
+  abbrev pub living : World ℕ
+  living = without_dead_mounts nat_eq here
+
+  abbrev pub living_part : World ℕ
+  living_part = without_dead_mounts nat_eq there
+
+  abbrev pub used_now : List ℕ
+  used_now = used_filesystems nat_eq here names
+
+  abbrev lowers_now : List (Layer ℕ)
+  lowers_now = own_lowers nat_eq here names
+
+  abbrev kept_here : MountInvariants nat_eq here
+  kept_here = subst (MountInvariants nat_eq) (world_taken world names is sealed_off gone own_go) kept_world
+
+  abbrev kept_there : MountInvariants nat_eq there
+  kept_there = subst (MountInvariants nat_eq) (part_taken world names is sealed_off gone own_go) kept_part
+
+  all_members : (t : Task ℕ) → Among t part.tasks → is_member_task names t ≡ true
+  all_members t m = (among-from_filter (is_member_task names) world.tasks t m).1
+
+  -- what they use alone they use alone then
+  pub alone_here : (n : ℕ) → used_alone nat_eq world names n ≡ true → Alone living names n
+  alone_here =
+      InWorld.alone world names is sealed_off names gone own_go (all_last world names is sealed_off gone own_go)
+      world.tasks part.tasks world.change part.change (same_members world names)
+      (set_stays world names is sealed_off gone own_go) (λ l m. m) (λ m n out its. its)
+      (group_lost world names is sealed_off gone own_go) kept_here
+
+  none_other : (n : ℕ) → NoOthers living_part names n
+  none_other =
+      InPart.alone world names is sealed_off names gone own_go (all_last world names is sealed_off gone own_go)
+      world.tasks part.tasks world.change part.change (same_members world names)
+      (set_stays world names is sealed_off gone own_go) all_members (λ m n out its. its)
+      (group_lost world names is sealed_off gone own_go) kept_there
+
+  pub alone_there : (n : ℕ) → Alone living_part names n
+  alone_there n = record { itself = none_other n; overlays = λ merged m has. none_other merged.number }
+
+  module _ (step : Filesystem ℕ → Filesystem ℕ) (theirs : ChangesTheirs living names used_now step)
+      (theirs_there : ChangesTheirs living_part names used_now step) where
+    -- both worlds are ready to be swept
+    ready_here : Ready (without_dead_mounts nat_eq (with_filesystems here step)) names used_now lowers_now
+    ready_here =
+        stepped_ready living names used_now lowers_now
+        (ended_ready world names is sealed_off names gone own_go (all_last world names is sealed_off gone own_go)
+        world.tasks part.tasks world.change part.change (same_members world names)
+        (set_stays world names is sealed_off gone own_go) (λ l m. m) (λ m n out its. its)
+        (group_lost world names is sealed_off gone own_go) kept_here)
+        step theirs
+
+    ready_there : Ready (without_dead_mounts nat_eq (with_filesystems there step)) names used_now lowers_now
+    ready_there =
+        stepped_ready living_part names used_now lowers_now
+        (ended_part_ready world names is sealed_off names gone own_go (all_last world names is sealed_off gone own_go)
+        world.tasks part.tasks world.change part.change (same_members world names)
+        (set_stays world names is sealed_off gone own_go) all_members (λ m n out its. its)
+        (group_lost world names is sealed_off gone own_go) kept_there)
+        step theirs_there
+
+    -- their parts before the sweep
+    abbrev is_less : AreLess world names names here there
+    is_less =
+        ended_less world names is sealed_off names gone own_go (all_last world names is sealed_off gone own_go)
+        world.tasks part.tasks world.change part.change (same_members world names)
+        (set_stays world names is sealed_off gone own_go) (group_lost world names is sealed_off gone own_go)
+
+    parts_before : part_of nat_eq (with_filesystems here step) names
+        ≡ part_of nat_eq (with_filesystems there step) names
+    parts_before =
+        part_with_layers here names step theirs.numbered theirs.changing theirs.lowering theirs.kept
+        ∙ ap (λ w. with_filesystems w step) (sym (one_part world names is names here there is_less))
+        ∙ sym (part_with_layers there names step theirs_there.numbered theirs_there.changing theirs_there.lowering
+        (λ x unused. theirs_there.kept x
+        (ap (is_among nat_eq x.number) (sym (less_used world names is names here there is_less)) ∙ unused)))
+
+    swept_alike : part_of nat_eq (settled nat_eq (with_filesystems here step)) names
+        ≡ part_of nat_eq (settled nat_eq (with_filesystems there step)) names
+    swept_alike =
+        part_of_settled (with_filesystems here step) names used_now lowers_now ready_here
+        ∙ ap (swept_of names) parts_before
+        ∙ sym (part_of_settled (with_filesystems there step) names used_now lowers_now ready_there)
+
+    abbrev spaces : List (Task ℕ) → Namespace ℕ → Bool
+    spaces ts n = list_any (λ (t : Task ℕ). nat_eq n.number t.namespace) ts
+
+    pub detached_and_changed : (name : TaskName) (numbers : List ℕ)
+        → ((n : ℕ) → Among n numbers → is_among nat_eq n used_now ≡ true)
+        → part_of nat_eq (numbers_raised nat_eq world name numbers (settled nat_eq (with_filesystems here step))) names
+        ≡ part_of nat_eq (numbers_raised nat_eq part name numbers (settled nat_eq (with_filesystems there step))) names
+    detached_and_changed name numbers used =
+        raised_part (with_filesystems here step) names used_now lowers_now ready_here numbers used world name
+        ∙ (λ i. record (with_filesystems (swept_alike i) (raised_if_changed nat_eq numbers)) {
+          namespaces = (sym (raised_alike world names is sealed_off names gone own_go
+              (all_last world names is sealed_off gone own_go) world.tasks part.tasks world.change part.change
+              (same_members world names) (set_stays world names is sealed_off gone own_go)
+              (group_lost world names is sealed_off gone own_go))
+              ∙ ap (λ ts. filter (spaces ts)
+              (map (raised_namespace nat_eq part (settled nat_eq there)) there.namespaces))
+              (sym (same_members world names))) i;
+          tasks = (raised_members names name world.tasks
+              ∙ ap (map (raised_task name)) (sym (same_members world names))
+              ∙ sym (raised_members names name part.tasks)) i;
+        })
+        ∙ sym (raised_part (with_filesystems there step) names used_now lowers_now ready_there numbers used part name)

@@ -1,0 +1,213 @@
+-- Calls of theirs that make, give and take names through overlays end in the part as in the world.
+use Rattle.std.proofs.Common.{◌≡◌, refl, sym, ap, subst, ◌∙◌, inl, ⊎_elim, ℕ, nat_eq, true, false, true≢false, List, [], ◌∷◌, Option, Some, None, Ok, is_some, ◌||◌}
+use Rattle.vt_spec.specs.Language.Answers.Answer.{Done}
+use Rattle.vt_spec.specs.Language.Calls.{Call, TaskName}
+use Rattle.vt_spec.specs.Language.Calls.Call.{LinkTo, Mkdir, SymlinkAt, Unlink, Write}
+use Rattle.vt_spec.specs.Language.Changes.{Change}
+use Rattle.vt_spec.specs.Language.Changes.Change.{Make}
+use Rattle.vt_spec.specs.Lists.{Fresh, evens}
+use Rattle.vt_spec.specs.Machine.Apply.{overfills}
+use Rattle.vt_spec.specs.Machine.Filesystems.{changed_at, with_change}
+use Rattle.vt_spec.specs.Machine.Invariants.{IsWorld}
+use Rattle.vt_spec.specs.Machine.Judge.{judge_in}
+use Rattle.vt_spec.specs.Machine.Looks.{looks_of}
+use Rattle.vt_spec.specs.Machine.Mounts.{Location}
+use Rattle.vt_spec.specs.Machine.Outcomes.{granted}
+use Rattle.vt_spec.specs.Machine.Permits.{Permit}
+use Rattle.vt_spec.specs.Machine.Permits.Permit.{ToChange, ToMake}
+use Rattle.vt_spec.specs.Machine.Policy.{finished, finished_by, numbers_raised, only_looks}
+use Rattle.vt_spec.specs.Machine.Rows.{linking}
+use Rattle.vt_spec.specs.Machine.Rules.Removing.{object_there, removing}
+use Rattle.vt_spec.specs.Machine.Run.{Serves}
+use Rattle.vt_spec.specs.Machine.Sealed.{is_member_task, members, part_of, sealed, used_directly}
+use Rattle.vt_spec.specs.Machine.Settled.{settled}
+use Rattle.vt_spec.specs.Machine.World.{Filesystem, Layer, Overlay, Task, World, filesystem_at, is_overlay, mount_at, task_called}
+use Rattle.vt_spec.proofs.Lists.{Among, among-from_filter, among-from_flat_map}
+use Rattle.vt_laws_rules.specs.Granted.{IsGranted}
+use Rattle.vt_laws_rules.specs.Granted.IsGranted.{makes_hard_link, unlinks}
+use Rattle.vt_laws_rules.proofs.given.Inversion.{calls_are_granted}
+use Rattle.vt_laws_mounts.specs.LettingGo.TreesOverlays.{with_filesystems}
+use Rattle.vt_laws_worlds.proofs.worlds.CallsKept.{name_found}
+use Rattle.vt_laws_worlds.specs.OverlaysLetGo.OverlayChanges.{CanChange}
+use Rattle.vt_laws_worlds.specs.OverlayPermits.Asked.{change_asked}
+use Rattle.vt_laws_worlds.specs.OverlayPermits.Changed.{numbers_left}
+use Rattle.vt_laws_worlds.proofs.overlay_permits.changed.ChangedOverlays.{permits_can_change}
+use Rattle.vt_laws_sealed.proofs.part.part.PartOfPart.{same_members}
+use Rattle.vt_laws_members.proofs.judging.Grounds.{IsTheirs, theirs_from}
+use Rattle.vt_laws_members.proofs.judging.SeenInPart.{directory_theirs, filesystem_alike, root_theirs, theirs_directly}
+use Rattle.vt_laws_members.specs.Changes.Changes.{EndsAlike, IsCallOfTheirs, grown}
+use Rattle.vt_laws_members.proofs.changes.letting_go.Changed.{LetsGo}
+use Rattle.vt_laws_members.proofs.changes.looks.Told.{member_called, ran}
+use Rattle.vt_laws_members.proofs.changes.names.GrantedNames.{Names, granted_theirs}
+use Rattle.vt_laws_members.proofs.changes.overlays.OverlayEdits.{unwritten_run}
+use Rattle.vt_laws_members.proofs.changes.tasks.Denied.{run_by, same_judgement}
+use Rattle.vt_laws_members.proofs.changes.tasks.Rights.{idle_end_alike}
+use Rattle.vt_laws_members.specs.OverlayNames.OverlayNames.{OverlayLinksEndAlike, OverlayMakingEndsAlike, OverlayMkdirsEndAlike, OverlayNewFilesEndAlike, OverlaySymlinksEndAlike, OverlayUnlinksEndAlike}
+use Rattle.vt_laws_members.proofs.overlay_names.names.OverlayNaming.{changed_ends, changed_in_part, changed_in_world, listed_in_part, listed_in_world}
+
+-- tasks that stay let nothing go
+pub tasks_stay : (world : World ℕ) (names : List TaskName) (is : IsWorld nat_eq world)
+    (sealed_off : sealed nat_eq world names ≡ true) → LetsGo world names is sealed_off names world.tasks
+tasks_stay world names is sealed_off = record {
+  own = λ n. refl;
+  roots = λ l m. let from = among-from_flat_map (λ (t : Task ℕ). t.root ∷ t.directory ∷ []) (members world names) l m in
+      ⊎_elim
+      (λ e. subst (λ (k : Location ℕ). IsTheirs world names is.mounts k.mount) (sym e)
+      (root_theirs world names is from.0 from.1))
+      (λ rest. ⊎_elim
+      (λ e. subst (λ (k : Location ℕ). IsTheirs world names is.mounts k.mount) (sym e)
+      (directory_theirs world names is from.0 from.1))
+      (λ none. absurd none) rest) from.2;
+  places = λ l m. inl m;
+  others = λ l m. m;
+}
+
+-- so ends a granted change of filesystems, before which mounts may go
+pub stepped_run : (before w : World ℕ) (name : TaskName) (call : Call) (supply : Fresh ℕ) (location : Location ℕ)
+    (change : Change ℕ) (step : Filesystem ℕ → Filesystem ℕ) (numbers : List ℕ) → only_looks call ≡ false
+    → with_change nat_eq supply w location change ≡ with_filesystems w step → changed_at nat_eq w location ≡ numbers
+    → finished nat_eq before name call (changed_at nat_eq w location)
+    (granted Done (with_change nat_eq supply w location change))
+    ≡ granted Done (numbers_raised nat_eq before name numbers (settled nat_eq (with_filesystems w step)))
+stepped_run before w name call supply location change step numbers looks made listed =
+    ap (λ b. finished_by nat_eq (b || false) before name (changed_at nat_eq w location)
+    (granted Done (with_change nat_eq supply w location change))) looks
+    ∙ ap (λ l. granted Done (numbers_raised nat_eq before name l
+    (settled nat_eq (with_change nat_eq supply w location change)))) listed
+    ∙ ap (λ v. granted Done (numbers_raised nat_eq before name numbers (settled nat_eq v))) made
+
+-- A granted call by which a name comes or goes through an overlay
+module _ (world : World ℕ) (names : List TaskName) (name : TaskName) (call : Call)
+    (it : IsCallOfTheirs world names name call)
+    (fresh : Fresh ℕ) (serves : Serves nat_eq world fresh) (task : Task ℕ) (found : task_called world name ≡ Some task)
+    (looks : only_looks call ≡ false) (stays : grown names name call (Ok Done) ≡ names) (permit : Permit ℕ)
+    (judged : judge_in nat_eq fresh world task call ≡ Ok permit) (location : Location ℕ) (change : Change ℕ)
+    (asks : change_asked fresh world permit ≡ Some (location, change)) (names_it : Names change)
+    (is : is_overlay (filesystem_at nat_eq world location) ≡ true) where
+  abbrev part : World ℕ
+  part = part_of nat_eq world names
+
+  abbrev merged : Filesystem ℕ
+  merged = filesystem_at nat_eq world location
+
+  abbrev supply : Fresh ℕ
+  supply = numbers_left fresh permit
+
+  on : IsTheirs world names it.is.mounts location.mount
+  on =
+      theirs_from world names it.is.mounts location.mount
+      (granted_theirs world names it.is it.sealed_off task
+      (member_called world names it.is it.sealed_off name it.theirs task found) fresh call permit judged location change
+      asks names_it)
+
+  direct : Among (mount_at nat_eq world location).filesystem (used_directly nat_eq world names)
+  direct = theirs_directly world names it.is location on
+
+  alike : filesystem_at nat_eq world location ≡ filesystem_at nat_eq part location
+  alike = filesystem_alike world names it.is location on
+
+  can : (overlay : Overlay ℕ) (upper : Layer ℕ) → merged.overlay ≡ Some overlay → overlay.upper ≡ Some upper
+      → CanChange supply world location change overlay upper
+  can overlay upper overlaid has =
+      permits_can_change world fresh task call permit location change overlay upper it.is serves
+      (ap (task_called world) (sym (name_found world name task found)) ∙ found) judged asks overlaid has
+
+  pub naming_through_ends : ran name call world fresh (Some task)
+      ≡ finished nat_eq world name call (changed_at nat_eq world location)
+      (granted Done (with_change nat_eq supply world location change))
+      → ran name call part fresh (Some task)
+      ≡ finished nat_eq part name call (changed_at nat_eq part location)
+      (granted Done (with_change nat_eq supply part location change))
+      → EndsAlike world names name call fresh fresh
+  naming_through_ends one two = by merged.overlay refl
+    where
+      layered : (overlay : Overlay ℕ) → merged.overlay ≡ Some overlay → (o : Option (Layer ℕ)) → overlay.upper ≡ o
+          → EndsAlike world names name call fresh fresh
+      layered overlay overlaid None none =
+          idle_end_alike world names name call it task found fresh fresh Done stays
+          (one ∙ unwritten_run world name call supply location change merged overlay looks refl overlaid none)
+          (two ∙ unwritten_run part name call supply location change merged overlay looks (sym alike) overlaid none)
+      layered overlay overlaid (Some upper) has =
+          let may = can overlay upper overlaid has in
+          changed_ends world names name call it supply location change overlay upper may direct alike world.tasks
+          part.tasks
+          (tasks_stay world names it.is it.sealed_off) (same_members world names)
+          (λ t m. (among-from_filter (is_member_task names) world.tasks t m).1) direct task found fresh Done stays
+          (one ∙ stepped_run world world name call supply location change _ _ looks
+          (changed_in_world world names name call it supply location change overlay upper may direct alike)
+          (listed_in_world world names name call it supply location change overlay upper may direct alike))
+          (two ∙ stepped_run part part name call supply location change _ _ looks
+          (changed_in_part world names name call it supply location change overlay upper may direct alike)
+          (listed_in_part world names name call it supply location change overlay upper may direct alike))
+
+      by : (o : Option (Overlay ℕ)) → merged.overlay ≡ o → EndsAlike world names name call fresh fresh
+      by None none = absurd (true≢false (sym is ∙ ap is_some none))
+      by (Some overlay) overlaid = layered overlay overlaid overlay.upper refl
+
+-- calls that make an inode
+pub overlay_makings_end : (world : World ℕ) (names : List TaskName) (name : TaskName) (call : Call)
+    → only_looks call ≡ false → grown names name call (Ok Done) ≡ names → OverlayMakingEndsAlike world names name call
+overlay_makings_end world names name call looks stays it task found fresh serves directory entry node judged is =
+    naming_through_ends world names name call it fresh serves task found looks stays (ToMake directory entry node)
+    judged
+    directory (Make directory.node entry (evens fresh 0) node) refl tt is
+    (ap (run_by world names name call it fresh fresh world fresh task) judged)
+    (ap (run_by world names name call it fresh fresh (part_of nat_eq world names) fresh task)
+    (sym (same_judgement world names name call it fresh fresh task found) ∙ judged))
+
+pub overlay_mkdirs_end_alike : OverlayMkdirsEndAlike
+overlay_mkdirs_end_alike world names name path mode = overlay_makings_end world names name (Mkdir path mode) refl refl
+
+pub overlay_symlinks_end_alike : OverlaySymlinksEndAlike
+overlay_symlinks_end_alike world names name text path =
+    overlay_makings_end world names name (SymlinkAt text path) refl refl
+
+pub overlay_new_files_end_alike : OverlayNewFilesEndAlike
+overlay_new_files_end_alike world names name path bytes =
+    overlay_makings_end world names name (Write path bytes) refl refl
+
+-- calls that give or take a name
+pub overlay_changes_end : (world : World ℕ) (names : List TaskName) (name : TaskName) (call : Call)
+    (it : IsCallOfTheirs world names name call) (task : Task ℕ) → task_called world name ≡ Some task
+    → (fresh : Fresh ℕ) → Serves nat_eq world fresh → only_looks call ≡ false → grown names name call (Ok Done) ≡ names
+    → (location : Location ℕ) (change : Change ℕ)
+    → judge_in nat_eq fresh world task call ≡ Ok (ToChange location change) → Names change
+    → is_overlay (filesystem_at nat_eq world location) ≡ true → EndsAlike world names name call fresh fresh
+overlay_changes_end world names name call it task found fresh serves looks stays location change judged names_it is =
+    naming_through_ends world names name call it fresh serves task found looks stays (ToChange location change) judged
+    location change refl names_it is
+    (ap (run_by world names name call it fresh fresh world fresh task) judged)
+    (ap (run_by world names name call it fresh fresh (part_of nat_eq world names) fresh task)
+    (sym (same_judgement world names name call it fresh fresh task found) ∙ judged))
+
+links_name : (world : World ℕ) (fresh : Fresh ℕ) (task : Task ℕ) (asked : Call) (permit : Permit ℕ)
+    → IsGranted nat_eq (looks_of nat_eq world) (overfills nat_eq fresh world task) task asked permit
+    → (first second : List ℕ) → asked ≡ LinkTo first second → (location : Location ℕ) (change : Change ℕ)
+    → permit ≡ ToChange location change → Names change
+links_name world fresh task asked permit (makes_hard_link old new from place from_walk walk named passed) first second e
+    location change f =
+    let same : linking from.location place ≡ change = cc in subst Names same tt
+links_name world fresh task asked permit other_way first second e location change f = absurd cc
+
+pub overlay_links_end_alike : OverlayLinksEndAlike
+overlay_links_end_alike world names name first second it task found fresh serves location change judged is =
+    overlay_changes_end world names name (LinkTo first second) it task found fresh serves refl refl location change
+    judged
+    (links_name world fresh task (LinkTo first second) (ToChange location change)
+    (calls_are_granted nat_eq (looks_of nat_eq world) (overfills nat_eq fresh world task) task (LinkTo first second)
+    (ToChange location change) judged) first second refl location change refl) is
+
+unlinks_name : (world : World ℕ) (fresh : Fresh ℕ) (task : Task ℕ) (asked : Call) (permit : Permit ℕ)
+    → IsGranted nat_eq (looks_of nat_eq world) (overfills nat_eq fresh world task) task asked permit
+    → (path : List ℕ) → asked ≡ Unlink path → (location : Location ℕ) (change : Change ℕ)
+    → permit ≡ ToChange location change → Names change
+unlinks_name world fresh task asked permit (unlinks own_path place walk named passed) path e location change f =
+    let same : removing place (object_there place) ≡ change = cc in subst Names same tt
+unlinks_name world fresh task asked permit other_way path e location change f = absurd cc
+
+pub overlay_unlinks_end_alike : OverlayUnlinksEndAlike
+overlay_unlinks_end_alike world names name path it task found fresh serves location change judged is =
+    overlay_changes_end world names name (Unlink path) it task found fresh serves refl refl location change judged
+    (unlinks_name world fresh task (Unlink path) (ToChange location change)
+    (calls_are_granted nat_eq (looks_of nat_eq world) (overfills nat_eq fresh world task) task (Unlink path)
+    (ToChange location change) judged) path refl location change refl) is

@@ -1,0 +1,268 @@
+-- A granted call of theirs by which a name comes or goes through an overlay ends in the part as in the world.
+use Rattle.std.proofs.Common.{◌≡◌, refl, sym, ap, subst, ◌∙◌, ◌⊎◌, inl, inr, ⊎_elim, ℕ, nat_eq, eqb-true, Bool, true, false, true≢false, List, [], ◌∷◌, ◌++◌, Option, Some, None, Ok, is_some, map, filter}
+use Rattle.std.specs.Prelude.{option_to_list}
+use Rattle.std.proofs.lemmas.Bool.{or_cases}
+use Rattle.vt_spec.specs.Language.Answers.{Answer}
+use Rattle.vt_spec.specs.Language.Calls.{Call, TaskName}
+use Rattle.vt_spec.specs.Language.Changes.{Change}
+use Rattle.vt_spec.specs.Lists.{Fresh, is_among}
+use Rattle.vt_spec.specs.Machine.Filesystems.{changed_at, stack_of, with_change}
+use Rattle.vt_spec.specs.Machine.Invariants.{IsWorld}
+use Rattle.vt_spec.specs.Machine.Locked.{of_overlay, overlay_or}
+use Rattle.vt_spec.specs.Machine.Mounts.{Location}
+use Rattle.vt_spec.specs.Machine.Outcomes.{granted}
+use Rattle.vt_spec.specs.Machine.Policy.{numbers_raised}
+use Rattle.vt_spec.specs.Machine.Sealed.{is_member_task, part_of, sealed, used_alone, used_directly, used_filesystems, wholly_locked}
+use Rattle.vt_spec.specs.Machine.Settled.{settled}
+use Rattle.vt_spec.specs.Machine.World.{Filesystem, Layer, Overlay, Real, Task, World, filesystem_at, filesystem_numbered, is_overlay, layers_of, mount_at, open_layer, task_called}
+use Rattle.vt_spec.proofs.Lists.{Among, among-append_left, among-append_right, among-flat_map, among-from_filter, among_numbers}
+use Rattle.vt_laws_mounts.specs.LettingGo.TreesOverlays.{with_filesystems}
+use Rattle.vt_laws_worlds.specs.OverlaysLetGo.OverlayChanges.{CanChange}
+use Rattle.vt_laws_sealed.proofs.part.part.PartOfPart.{used_directly_used}
+use Rattle.vt_laws_sealed.proofs.part.seals.ByPart.{layer_directory, layer_plain, used_are_free}
+use Rattle.vt_laws_members.proofs.judging.Anywhere.{not_whole}
+use Rattle.vt_laws_members.proofs.judging.Locks.{whole_how}
+use Rattle.vt_laws_members.proofs.judging.LowersSeen.{lower_view, overlay_there}
+use Rattle.vt_laws_members.specs.Changes.Changes.{EndsAlike, IsCallOfTheirs, grown}
+use Rattle.vt_laws_members.proofs.changes.files.FilesChanged.{lowers_in}
+use Rattle.vt_laws_members.proofs.changes.files.OneFilesystem.{found_numbered, one_in_part, one_in_world}
+use Rattle.vt_laws_members.proofs.changes.letting_go.Changed.{LetsGo}
+use Rattle.vt_laws_members.proofs.changes.letting_go.PartReady.{no_others_there}
+use Rattle.vt_laws_members.proofs.changes.letting_go.Ready.{Alone}
+use Rattle.vt_laws_members.proofs.changes.letting_go.WorldReady.{alone}
+use Rattle.vt_laws_members.proofs.changes.looks.Told.{ran}
+use Rattle.vt_laws_members.proofs.changes.overlays.Copying.{both_numbers, layer_found, made_of, numbers_in_part, numbers_in_world, overlays_stay, step, step_kept, step_numbered, stepped_if_made, stepped_in_world, upper_in_use}
+use Rattle.vt_laws_members.proofs.overlay_names.names.LayersAlike.{AllAlike, ViewsAlike, made_same}
+use Rattle.vt_laws_members.proofs.overlay_names.names.SteppedAlike.{living, living_part, stepped_ends}
+use Rattle.vt_laws_members.proofs.overlay_names.names.SteppedReady.{ChangesTheirs}
+
+overlay_test : (x : Filesystem ℕ) → is_overlay x ≡ of_overlay false (λ (o : Overlay ℕ). true) x
+overlay_test x = by x.overlay
+  where
+    by : (o : Option (Overlay ℕ)) → is_some o ≡ overlay_or false (λ (v : Overlay ℕ). true) o
+    by None = refl
+    by (Some overlay) = refl
+
+-- layers that have the same each
+all_alike : (one other : World ℕ) (list : List (Layer ℕ))
+    → ((l : Layer ℕ) → Among l list → ViewsAlike (open_layer nat_eq one l) (open_layer nat_eq other l))
+    → AllAlike (map (open_layer nat_eq one) list) (map (open_layer nat_eq other) list)
+all_alike one other [] same = tt
+all_alike one other (l ∷ rest) same =
+    (refl, same l (inl refl), all_alike one other rest (λ k m. same k (inr m)))
+
+-- They use alone each overlay that they use, and the filesystem of its upper layer: neither is wholly locked.
+module _ (world : World ℕ) (names : List TaskName) (is : IsWorld nat_eq world)
+    (sealed_off : sealed nat_eq world names ≡ true) (number : ℕ) (overlay : Overlay ℕ)
+    (overlaid : (filesystem_numbered nat_eq world number).overlay ≡ Some overlay)
+    (direct : Among number (used_directly nat_eq world names)) where
+  free : (n : ℕ) → is_among nat_eq n (used_filesystems nat_eq world names) ≡ true
+      → (wholly_locked nat_eq world names n ≡ true → ⊥) → used_alone nat_eq world names n ≡ true
+  free n used whole =
+      ⊎_elim (λ h. h) (λ locked. absurd (whole locked))
+      (or_cases (used_alone nat_eq world names n) (wholly_locked nat_eq world names n)
+      (used_are_free world names sealed_off n (among_numbers (used_filesystems nat_eq world names) n used)))
+
+  -- an overlay is no layer
+  no_layer : wholly_locked nat_eq world names number ≡ true → ⊥
+  no_layer locked =
+      let how = whole_how world names is sealed_off number locked in
+      true≢false
+      (sym (ap (λ o. is_some o) overlaid)
+      ∙ ap (λ n. is_overlay (filesystem_numbered nat_eq world n)) how.inside
+      ∙ layer_plain world names is how.merged (among-from_filter is_overlay world.filesystems how.merged how.overlaid).0
+      how.layer how.layered)
+
+  pub merged_alone : used_alone nat_eq world names number ≡ true
+  merged_alone = free number (used_directly_used world names number direct) no_layer
+
+  -- and an upper layer is no lower one
+  pub upper_alone : (upper : Layer ℕ) → overlay.upper ≡ Some upper
+      → used_alone nat_eq world names upper.filesystem ≡ true
+  upper_alone upper has =
+      free upper.filesystem (upper_in_use world names number overlay upper overlaid has direct)
+      (not_whole world names is sealed_off (filesystem_numbered nat_eq world number)
+      (overlay_there world names is number overlay overlaid) overlay overlaid upper
+      (among-append_left (option_to_list overlay.upper) (option_to_list overlay.work) upper
+      (subst (λ o. Among upper (option_to_list o)) (sym has) (inl refl))))
+
+-- An overlay with an upper layer, in whose tree a name comes or goes
+module _ (world : World ℕ) (names : List TaskName) (name : TaskName) (call : Call)
+    (it : IsCallOfTheirs world names name call)
+    (supply : Fresh ℕ) (location : Location ℕ) (change : Change ℕ) (overlay : Overlay ℕ) (upper : Layer ℕ)
+    (can : CanChange supply world location change overlay upper)
+    (direct : Among (mount_at nat_eq world location).filesystem (used_directly nat_eq world names))
+    (alike : filesystem_at nat_eq world location ≡ filesystem_at nat_eq (part_of nat_eq world names) location) where
+  abbrev part : World ℕ
+  part = part_of nat_eq world names
+
+  abbrev number : ℕ
+  number = (mount_at nat_eq world location).filesystem
+
+  abbrev pub moved : Filesystem ℕ → Filesystem ℕ
+  moved = step supply world names location change overlay upper it.is can direct alike
+
+  abbrev pub numbers : List ℕ
+  numbers = both_numbers supply world names location change overlay upper it.is can direct alike
+
+  abbrev one : Filesystem ℕ
+  one = filesystem_numbered nat_eq world number
+
+  abbrev two : Filesystem ℕ
+  two = filesystem_numbered nat_eq world upper.filesystem
+
+  there : Among one world.filesystems
+  there = overlay_there world names it.is number overlay can.overlay_there
+
+  one_number : one.number ≡ number
+  one_number = found_numbered number world.filesystems
+
+  two_number : two.number ≡ upper.filesystem
+  two_number = found_numbered upper.filesystem world.filesystems
+
+  pub one_alone : used_alone nat_eq world names one.number ≡ true
+  one_alone =
+      ap (used_alone nat_eq world names) one_number
+      ∙ merged_alone world names it.is it.sealed_off number overlay can.overlay_there direct
+
+  pub two_alone : used_alone nat_eq world names two.number ≡ true
+  two_alone =
+      ap (used_alone nat_eq world names) two_number
+      ∙ upper_alone world names it.is it.sealed_off number overlay can.overlay_there direct upper can.upper_there
+
+  -- The change is one of filesystems that they use alone.
+  module _ (w : World ℕ) (used : List ℕ) (one_used : is_among nat_eq one.number used ≡ true)
+      (two_used : is_among nat_eq two.number used ≡ true)
+      (ones : (x : Filesystem ℕ) → Among x w.filesystems → nat_eq one.number x.number ≡ true → x ≡ one)
+      (twos : (x : Filesystem ℕ) → Among x w.filesystems → nat_eq two.number x.number ≡ true → x ≡ two)
+      (alone_one : Alone w names one.number) (alone_two : Alone w names two.number) where
+    stays : {A : Type 0} (default : A) (what : Overlay ℕ → A)
+        → ((real : ℕ → Option (Real ℕ)) → what (record overlay { real = real }) ≡ what overlay)
+        → (x : Filesystem ℕ) → Among x w.filesystems → of_overlay default what (moved x) ≡ of_overlay default what x
+    stays default what same =
+        overlays_stay supply world names location change overlay upper it.is can direct alike w
+        (record { one_merged = ones; one_layer = twos }) default what (λ merge. same merge.real)
+
+    kept : (x : Filesystem ℕ) → is_among nat_eq x.number used ≡ false → moved x ≡ x
+    kept x unused =
+        step_kept supply world names location change overlay upper it.is can direct alike x
+        (apart one.number one_used (nat_eq one.number x.number) refl)
+        (apart two.number two_used (nat_eq two.number x.number) refl)
+      where
+        apart : (n : ℕ) → is_among nat_eq n used ≡ true → (b : Bool) → nat_eq n x.number ≡ b → nat_eq n x.number ≡ false
+        apart n is true e =
+            absurd (true≢false (sym is ∙ ap (λ k. is_among nat_eq k used) (eqb-true n x.number e) ∙ unused))
+        apart n is false e = e
+
+    changes : (x : Filesystem ℕ) → (a : Bool) → nat_eq one.number x.number ≡ a → (b : Bool)
+        → nat_eq two.number x.number ≡ b → (moved x ≡ x) ⊎ Alone w names x.number
+    changes x true e b f = inr (subst (Alone w names) (eqb-true one.number x.number e) alone_one)
+    changes x false e true f = inr (subst (Alone w names) (eqb-true two.number x.number f) alone_two)
+    changes x false e false f =
+        inl (step_kept supply world names location change overlay upper it.is can direct alike x e f)
+
+    pub theirs : ChangesTheirs w names used moved
+    theirs = record {
+      numbered = step_numbered supply world names location change overlay upper it.is can direct alike;
+      layers = stays [] layers_of (λ real. refl);
+      changing = stays [] (λ (o : Overlay ℕ). map (λ (l : Layer ℕ). l.filesystem)
+          (option_to_list o.upper ++ option_to_list o.work)) (λ real. refl);
+      lowering = stays [] (λ (o : Overlay ℕ). o.lowers) (λ real. refl);
+      overlaid = λ x m. overlay_test (moved x) ∙ stays false (λ o. true) (λ real. refl) x m ∙ sym (overlay_test x);
+      kept = kept;
+      moved = λ x m. changes x (nat_eq one.number x.number) refl (nat_eq two.number x.number) refl;
+    }
+
+  -- lower layers show the same in the part
+  lowers_same : AllAlike (map (open_layer nat_eq part) overlay.lowers) (map (open_layer nat_eq world) overlay.lowers)
+  lowers_same =
+      all_alike part world overlay.lowers (λ l m.
+      lower_view world names it.is l
+      (among-flat_map (λ n. lowers_in (filesystem_numbered nat_eq world n)) (used_directly nat_eq world names) number l
+      direct (subst (λ o. Among l (overlay_or [] (λ (v : Overlay ℕ). v.lowers) o)) (sym can.overlay_there) m))
+      (layer_directory world names it.is one there l
+      (subst (λ o. Among l (overlay_or [] layers_of o)) (sym can.overlay_there)
+      (among-append_right (option_to_list overlay.upper ++ option_to_list overlay.work) overlay.lowers l m))))
+
+  pub changed_in_world : with_change nat_eq supply world location change ≡ with_filesystems world moved
+  changed_in_world = stepped_in_world supply world names location change overlay upper it.is can direct alike
+
+  pub made_in_part : made_of supply world names location change overlay upper it.is can direct alike
+      (stack_of nat_eq part overlay upper) two
+      ≡ made_of supply world names location change overlay upper it.is can direct alike
+      (stack_of nat_eq world overlay upper) two
+  made_in_part =
+      made_same (stack_of nat_eq part overlay upper) (stack_of nat_eq world overlay upper) refl refl lowers_same supply
+      (record { files = one.files; real = overlay.real; upper = two.files }) change
+
+  pub changed_in_part : with_change nat_eq supply part location change ≡ with_filesystems part moved
+  changed_in_part =
+      stepped_if_made supply world names location change overlay upper it.is can direct alike part (sym alike)
+      (layer_found supply world names location change overlay upper it.is can direct alike) made_in_part
+
+  pub listed_in_world : changed_at nat_eq world location ≡ numbers
+  listed_in_world = numbers_in_world supply world names location change overlay upper it.is can direct alike
+
+  pub listed_in_part : changed_at nat_eq part location ≡ numbers
+  listed_in_part = numbers_in_part supply world names location change overlay upper it.is can direct alike
+
+  -- With the tasks that a call leaves
+  module _ (tasks tasks_too : List (Task ℕ)) (lets : LetsGo world names it.is it.sealed_off names tasks)
+      (same : filter (is_member_task names) tasks_too ≡ filter (is_member_task names) tasks)
+      (all : (t : Task ℕ) → Among t tasks_too → is_member_task names t ≡ true)
+      (direct_now : Among number (used_directly nat_eq (record world { tasks = tasks }) names)) where
+    abbrev later : World ℕ
+    later = record world { tasks = tasks }
+
+    one_used_now : is_among nat_eq one.number (used_filesystems nat_eq later names) ≡ true
+    one_used_now =
+        ap (λ n. is_among nat_eq n (used_filesystems nat_eq later names)) one_number
+        ∙ used_directly_used later names number direct_now
+
+    two_used_now : is_among nat_eq two.number (used_filesystems nat_eq later names) ≡ true
+    two_used_now =
+        ap (λ n. is_among nat_eq n (used_filesystems nat_eq later names)) two_number
+        ∙ upper_in_use later names number overlay upper can.overlay_there can.upper_there direct_now
+
+    alone_there : (n : ℕ) → Alone
+        (living_part world names names name call it tasks tasks_too lets same all moved) names n
+    alone_there n = record {
+      itself = no_others_there world names it.is it.sealed_off names tasks tasks_too world.change part.change lets same
+          all n;
+      overlays = λ merged m has. no_others_there world names it.is it.sealed_off names tasks tasks_too world.change
+          part.change lets same all merged.number;
+    }
+
+    numbers_used : (n : ℕ) → Among n numbers → is_among nat_eq n (used_filesystems nat_eq later names) ≡ true
+    numbers_used n m =
+        ⊎_elim
+        (λ e. ap (λ k. is_among nat_eq k (used_filesystems nat_eq later names)) e ∙ one_used_now)
+        (λ rest. ⊎_elim
+        (λ e. ap (λ k. is_among nat_eq k (used_filesystems nat_eq later names)) e ∙ two_used_now)
+        (λ none. absurd none) rest) m
+
+    pub changed_ends : (task : Task ℕ) → task_called world name ≡ Some task → (fresh : Fresh ℕ)
+        (answer : Answer) → grown names name call (Ok answer) ≡ names
+        → ran name call world fresh (Some task)
+        ≡ granted answer (numbers_raised nat_eq world name numbers
+        (settled nat_eq (with_filesystems (record world { tasks = tasks }) moved)))
+        → ran name call part fresh (Some task)
+        ≡ granted answer (numbers_raised nat_eq part name numbers
+        (settled nat_eq (with_filesystems (record part { tasks = tasks_too }) moved)))
+        → EndsAlike world names name call fresh fresh
+    changed_ends task called fresh answer same_set =
+        stepped_ends world names names name call it tasks tasks_too lets same all moved
+        (theirs (living world names names name call it tasks tasks_too lets same all moved)
+        (used_filesystems nat_eq later names) one_used_now two_used_now
+        (one_in_world world names it.is number (used_directly_used world names number direct))
+        (one_in_world world names it.is upper.filesystem
+        (upper_in_use world names number overlay upper can.overlay_there can.upper_there direct))
+        (alone world names it.is it.sealed_off names tasks world.change lets one.number one_alone)
+        (alone world names it.is it.sealed_off names tasks world.change lets two.number two_alone))
+        (theirs (living_part world names names name call it tasks tasks_too lets same all moved)
+        (used_filesystems nat_eq later names) one_used_now two_used_now
+        (one_in_part world names it.is number (used_directly_used world names number direct))
+        (one_in_part world names it.is upper.filesystem
+        (upper_in_use world names number overlay upper can.overlay_there can.upper_there direct))
+        (alone_there one.number) (alone_there two.number))
+        numbers numbers_used task called fresh fresh answer same_set

@@ -1,0 +1,204 @@
+-- An open of theirs that makes the file through an overlay ends in the part as in the world.
+use Rattle.std.proofs.Common.{◌≡◌, refl, sym, ap, subst, ◌∙◌, inl, inr, ⊎_elim, ℕ, nat_eq, Bool, true, false, cond, true≢false, List, [], ◌∷◌, Option, Some, None, is_some, map, not}
+use Rattle.std.specs.Prelude.{nat_lt}
+use Rattle.std.specs.List.{list_any}
+use Rattle.vt_spec.specs.Language.Answers.Answer.{Opened}
+use Rattle.vt_spec.specs.Language.Calls.{Access, Call, Creation, TaskName}
+use Rattle.vt_spec.specs.Language.Calls.Call.{OpenFile}
+use Rattle.vt_spec.specs.Language.Changes.{Change}
+use Rattle.vt_spec.specs.Language.Changes.Change.{Make}
+use Rattle.vt_spec.specs.Lists.{Fresh, evens, odds}
+use Rattle.vt_spec.specs.Machine.Descriptors.{free_number, inserted, opened, with_descriptor}
+use Rattle.vt_spec.specs.Machine.Filesystems.{changed_at, with_change}
+use Rattle.vt_spec.specs.Machine.Locked.{overlay_or}
+use Rattle.vt_spec.specs.Machine.Mounts.{Location}
+use Rattle.vt_spec.specs.Machine.Outcomes.{granted}
+use Rattle.vt_spec.specs.Machine.Permits.Permit.{ToOpenNew}
+use Rattle.vt_spec.specs.Machine.Policy.{finished, numbers_raised}
+use Rattle.vt_spec.specs.Machine.Sealed.{locations, members, own_mounts, part_of, used_directly}
+use Rattle.vt_spec.specs.Machine.Settled.{settled}
+use Rattle.vt_spec.specs.Machine.World.{Descriptor, Filesystem, Layer, Overlay, Task, World, filesystem_at, locations_of, mount_at, replaced_if_called, task_called, with_task}
+use Rattle.vt_spec.proofs.Lists.{Among, among-append_right, among-flat_map, among-from_map, among-map}
+use Rattle.vt_spec.proofs.Worlds.{same_name_itself}
+use Rattle.vt_laws_mounts.specs.LettingGo.TreesOverlays.{with_filesystems}
+use Rattle.vt_laws_worlds.proofs.worlds.CallsKept.{name_found}
+use Rattle.vt_laws_worlds.proofs.worlds.Placed.{among-inserted}
+use Rattle.vt_laws_worlds.specs.OverlayPermits.Unlocked.{SparesLocked}
+use Rattle.vt_laws_worlds.proofs.overlay_permits.asked.Unlocked.{permits_spare_what_is_locked}
+use Rattle.vt_laws_worlds.proofs.overlay_permits.changed.ChangedOverlays.{permits_can_change}
+use Rattle.vt_laws_members.proofs.judging.Grounds.{IsTheirs, theirs_from}
+use Rattle.vt_laws_members.proofs.judging.SeenInPart.{directory_theirs, filesystem_alike, root_theirs, theirs_directly}
+use Rattle.vt_laws_members.specs.Changes.Changes.{EndsAlike, IsCallOfTheirs}
+use Rattle.vt_laws_members.proofs.changes.letting_go.Callers.{StandsOnTheirs, all_in_set, of_set, others_left, places_left, roots_left, same_set, spaces_kept}
+use Rattle.vt_laws_members.proofs.changes.letting_go.Changed.{LetsGo}
+use Rattle.vt_laws_members.proofs.changes.looks.Told.{member_called}
+use Rattle.vt_laws_members.proofs.changes.names.GrantedNames.{granted_theirs}
+use Rattle.vt_laws_members.proofs.changes.tasks.Denied.{run_by, same_judgement}
+use Rattle.vt_laws_members.specs.OverlayNames.OverlayNames.{OverlayNewOpensEndAlike}
+use Rattle.vt_laws_members.proofs.overlay_names.names.OverlayNaming.{changed_ends, changed_in_part, changed_in_world, listed_in_part, listed_in_world}
+
+-- a new descriptor is one of the task's
+new_inserted : (new : Descriptor ℕ) (list : List (Descriptor ℕ)) → Among new (inserted new list)
+new_inserted new [] = inl refl
+new_inserted new (first ∷ rest) = by (nat_lt new.number first.number) (new_inserted new rest)
+  where
+    by : (b : Bool) → Among new (inserted new rest)
+        → Among new (cond b (new ∷ first ∷ rest) (first ∷ inserted new rest))
+    by true later = inl refl
+    by false later = inr later
+
+-- The caller opens a file where members get.
+module _ (world : World ℕ) (names : List TaskName) (name : TaskName) (call : Call)
+    (it : IsCallOfTheirs world names name call)
+    (task : Task ℕ) (found : task_called world name ≡ Some task) (file : Location ℕ) (wanted : Access)
+    (ground : IsTheirs world names it.is.mounts file.mount) where
+  abbrev pub mine : Task ℕ
+  mine = with_descriptor task file wanted
+
+  abbrev theirs : List (Task ℕ)
+  theirs = members world names
+
+  abbrev pub replaced : Task ℕ → Task ℕ
+  replaced = replaced_if_called mine
+
+  member : Among task theirs
+  member = member_called world names it.is it.sealed_off name it.theirs task found
+
+  abbrev at_file : Descriptor ℕ → Location ℕ
+  at_file d = d.location
+
+  pub stands : StandsOnTheirs world names name call it task mine
+  stands = record {
+    named = refl;
+    root = root_theirs world names it.is task member;
+    directory = directory_theirs world names it.is task member;
+    places = λ l m. ⊎_elim (λ root. inl (inl root)) (λ rest. ⊎_elim (λ directory. inl (inr (inl directory)))
+        (λ open_file. let from = among-from_map at_file mine.descriptors l open_file in
+        ⊎_elim
+        (λ new. inr (subst (λ (k : Location ℕ). IsTheirs world names it.is.mounts k.mount)
+        (sym (from.2 ∙ ap at_file new)) ground))
+        (λ old. inl (inr (inr (subst (λ k. Among k (map at_file task.descriptors)) (sym from.2)
+        (among-map at_file task.descriptors from.0 old)))))
+        (among-inserted _ task.descriptors from.0 from.1)) rest) m;
+  }
+
+  pub lets : LetsGo world names it.is it.sealed_off names (map replaced world.tasks)
+  lets = record {
+    own = λ n. ap (list_any (λ (t : Task ℕ). nat_eq n t.namespace))
+        (of_set world names name call it task found mine stands world.tasks)
+        ∙ spaces_kept world names name call it task found mine refl refl n;
+    roots = roots_left world names name call it task found mine stands;
+    places = places_left world names name call it task found mine stands;
+    others = others_left world names name call it task found mine stands;
+  }
+
+  -- so the set uses its filesystem
+  file_used : Among (mount_at nat_eq world file).filesystem
+      (used_directly nat_eq (record world { tasks = map replaced world.tasks }) names)
+  file_used =
+      among-append_right
+      (map (λ mount. mount.filesystem) (own_mounts nat_eq (record world { tasks = map replaced world.tasks }) names))
+      (map shows (locations (members (record world { tasks = map replaced world.tasks }) names))) (shows file)
+      (among-map shows (locations (members (record world { tasks = map replaced world.tasks }) names)) file
+      (subst (λ ts. Among file (locations ts))
+      (sym (of_set world names name call it task found mine stands world.tasks))
+      (among-flat_map locations_of (map replaced theirs) (replaced task) file (among-map replaced theirs task member)
+      (subst (λ (t : Task ℕ). Among file (locations_of t)) (sym mine_there)
+      (inr (inr (among-map at_file mine.descriptors _ (new_inserted _ task.descriptors))))))))
+    where
+      shows : Location ℕ → ℕ
+      shows l = (mount_at nat_eq world l).filesystem
+
+      mine_there : replaced task ≡ mine
+      mine_there = ap (λ b. cond b mine task) (same_name_itself task.name)
+
+-- so ends a granted open by which filesystems change
+opened_run : (w : World ℕ) (name : TaskName) (path : List ℕ) (access : Access) (how : Creation) (supply : Fresh ℕ)
+    (location : Location ℕ) (change : Change ℕ) (task : Task ℕ) (file : Location ℕ) (wanted : Access)
+    (step : Filesystem ℕ → Filesystem ℕ) (numbers : List ℕ)
+    → with_change nat_eq supply w location change ≡ with_filesystems w step → changed_at nat_eq w location ≡ numbers
+    → finished nat_eq w name (OpenFile path access how) (changed_at nat_eq w location)
+    (opened (with_change nat_eq supply w location change) task file wanted)
+    ≡ granted (Opened (free_number task)) (numbers_raised nat_eq w name numbers (settled nat_eq (with_filesystems
+    (record w { tasks = map (replaced_if_called (with_descriptor task file wanted)) w.tasks }) step)))
+opened_run w name path access how supply location change task file wanted step numbers made listed =
+    ap (λ l. granted (Opened (free_number task)) (numbers_raised nat_eq w name l
+    (settled nat_eq (with_task (with_change nat_eq supply w location change) (with_descriptor task file wanted)))))
+    listed
+    ∙ ap (λ v. granted (Opened (free_number task)) (numbers_raised nat_eq w name numbers
+    (settled nat_eq (with_task v (with_descriptor task file wanted))))) made
+
+pub overlay_new_opens_end_alike : OverlayNewOpensEndAlike
+overlay_new_opens_end_alike world names name path access how it task found fresh serves directory entry node wanted
+    judged is =
+    by merged.overlay refl
+  where
+    call : Call
+    call = OpenFile path access how
+
+    part : World ℕ
+    part = part_of nat_eq world names
+
+    merged : Filesystem ℕ
+    merged = filesystem_at nat_eq world directory
+
+    change : Change ℕ
+    change = Make directory.node entry (evens fresh 0) node
+
+    file : Location ℕ
+    file = record { mount = directory.mount; node = evens fresh 0 }
+
+    itself : task_called world task.name ≡ Some task
+    itself = ap (task_called world) (sym (name_found world name task found)) ∙ found
+
+    ground : IsTheirs world names it.is.mounts directory.mount
+    ground =
+        theirs_from world names it.is.mounts directory.mount
+        (granted_theirs world names it.is it.sealed_off task
+        (member_called world names it.is it.sealed_off name it.theirs task found) fresh call
+        (ToOpenNew directory entry node wanted) judged directory change refl tt)
+
+    direct : Among (mount_at nat_eq world directory).filesystem (used_directly nat_eq world names)
+    direct = theirs_directly world names it.is directory ground
+
+    alike : filesystem_at nat_eq world directory ≡ filesystem_at nat_eq part directory
+    alike = filesystem_alike world names it.is directory ground
+
+    spared : SparesLocked world directory change
+    spared =
+        permits_spare_what_is_locked world fresh task call (ToOpenNew directory entry node wanted) it.is serves itself
+        judged
+
+    layered : (overlay : Overlay ℕ) → merged.overlay ≡ Some overlay → (o : Option (Layer ℕ)) → overlay.upper ≡ o
+        → EndsAlike world names name call fresh fresh
+    layered overlay overlaid None none =
+        absurd (true≢false
+        (sym (ap (λ o. not (is_some o)) none)
+        ∙ sym (ap (overlay_or false (λ (v : Overlay ℕ). not (is_some v.upper))) overlaid) ∙ spared.layer))
+    layered overlay overlaid (Some upper) has =
+        let may =
+        permits_can_change world fresh task call (ToOpenNew directory entry node wanted) directory change overlay
+        upper it.is serves itself judged refl overlaid has in
+        changed_ends world names name call it (odds fresh) directory change overlay upper may direct alike
+        (map (replaced_if_called (with_descriptor task file wanted)) world.tasks)
+        (map (replaced_if_called (with_descriptor task file wanted)) part.tasks)
+        (lets world names name call it task found file wanted ground)
+        (same_set world names name call it task found (with_descriptor task file wanted)
+        (stands world names name call it task found file wanted ground))
+        (all_in_set world names name call it task found (with_descriptor task file wanted)
+        (stands world names name call it task found file wanted ground))
+        (file_used world names name call it task found file wanted ground) task found fresh
+        (Opened (free_number task)) refl
+        (ap (run_by world names name call it fresh fresh world fresh task) judged
+        ∙ opened_run world name path access how (odds fresh) directory change task file wanted _ _
+        (changed_in_world world names name call it (odds fresh) directory change overlay upper may direct alike)
+        (listed_in_world world names name call it (odds fresh) directory change overlay upper may direct alike))
+        (ap (run_by world names name call it fresh fresh part fresh task)
+        (sym (same_judgement world names name call it fresh fresh task found) ∙ judged)
+        ∙ opened_run part name path access how (odds fresh) directory change task file wanted _ _
+        (changed_in_part world names name call it (odds fresh) directory change overlay upper may direct alike)
+        (listed_in_part world names name call it (odds fresh) directory change overlay upper may direct alike))
+
+    by : (o : Option (Overlay ℕ)) → merged.overlay ≡ o → EndsAlike world names name call fresh fresh
+    by None none = absurd (true≢false (sym is ∙ ap is_some none))
+    by (Some overlay) overlaid = layered overlay overlaid overlay.upper refl

@@ -1,0 +1,373 @@
+-- A call of theirs that removes a directory, or that renames, through an overlay ends in the part as in the world, with
+-- the mounts on what goes.
+use Rattle.std.proofs.Common.{◌≡◌, refl, sym, ap, subst, ◌∙◌, ⊎_elim, ℕ, nat_eq, eqb-true, true, false, true≢false, List, [], Option, Some, None, Ok, is_some, ◌||◌}
+use Rattle.std.specs.Prelude.{option_map, option_to_list}
+use Rattle.std.specs.List.{list_all}
+use Rattle.std.proofs.lemmas.Bool.{and_parts}
+use Rattle.vt_spec.specs.Language.Answers.Answer.{Done}
+use Rattle.vt_spec.specs.Language.Calls.{Call, TaskName}
+use Rattle.vt_spec.specs.Language.Calls.Call.{Rename, Rmdir}
+use Rattle.vt_spec.specs.Language.Changes.{Change}
+use Rattle.vt_spec.specs.Language.Changes.Change.{Move, Remove}
+use Rattle.vt_spec.specs.Lists.{Fresh, holds_of, is_among, then_some}
+use Rattle.vt_spec.specs.Machine.Apply.{overfills}
+use Rattle.vt_spec.specs.Machine.Detach.{is_going, mounts_on, points_of, taken_away, upper_points, without_mounts_on}
+use Rattle.vt_spec.specs.Machine.Filesystems.{changed_at, filesystem_changed, numbers_of_change, numbers_over, overlay_changed, with_change}
+use Rattle.vt_spec.specs.Machine.Invariants.{IsWorld, MountInvariants}
+use Rattle.vt_spec.specs.Machine.Judge.{judge_in}
+use Rattle.vt_spec.specs.Machine.Locked.{is_locked_at, overlay_or}
+use Rattle.vt_spec.specs.Machine.Looks.{looks_of}
+use Rattle.vt_spec.specs.Machine.Mounts.{Location, Mount}
+use Rattle.vt_spec.specs.Machine.Outcomes.{granted}
+use Rattle.vt_spec.specs.Machine.Permits.{Permit}
+use Rattle.vt_spec.specs.Machine.Permits.Permit.{ToRemoveDirectory, ToRename}
+use Rattle.vt_spec.specs.Machine.Policy.{finished, finished_by, numbers_raised, only_looks}
+use Rattle.vt_spec.specs.Machine.Rules.Conditions.{is_mount_point_in}
+use Rattle.vt_spec.specs.Machine.Run.{Serves}
+use Rattle.vt_spec.specs.Machine.Sealed.{is_own_namespace, members, part_of, sealed, used_alone, used_directly, used_filesystems}
+use Rattle.vt_spec.specs.Machine.Settled.{settled}
+use Rattle.vt_spec.specs.Machine.World.{Filesystem, Layer, Overlay, Task, World, filesystem_at, filesystem_numbered, is_overlay, mount_at, mount_numbered, task_called, upper_object}
+use Rattle.vt_spec.proofs.Lists.{Among}
+use Rattle.vt_laws_rules.proofs.given.Inversion.{calls_are_granted}
+use Rattle.vt_laws_mounts.proofs.ends.Ending.{points_keep_mounts}
+use Rattle.vt_laws_mounts.specs.LettingGo.TreesOverlays.{with_filesystems}
+use Rattle.vt_laws_worlds.specs.Worlds.Permits.{IsReached}
+use Rattle.vt_laws_worlds.proofs.worlds.CallsKept.{name_found}
+use Rattle.vt_laws_worlds.specs.OverlaysLetGo.OverlayChanges.{CanChange}
+use Rattle.vt_laws_worlds.specs.OverlayPermits.Asked.{change_asked}
+use Rattle.vt_laws_worlds.specs.OverlayPermits.Changed.{numbers_left}
+use Rattle.vt_laws_worlds.proofs.overlay_permits.changed.ChangedOverlays.{permits_can_change}
+use Rattle.vt_laws_sealed.proofs.part.part.PartOfPart.{is_own, used_directly_used}
+use Rattle.vt_laws_members.specs.Judging.{is_theirs}
+use Rattle.vt_laws_members.proofs.judging.Grounds.{IsTheirs, its_mount, theirs_from}
+use Rattle.vt_laws_members.proofs.judging.SeenInPart.{filesystem_alike, theirs_directly}
+use Rattle.vt_laws_members.specs.Changes.Changes.{EndAlike, EndsAlike, IsCallOfTheirs, grown}
+use Rattle.vt_laws_members.proofs.changes.files.OneFilesystem.{found_numbered, one_in_part, one_in_world}
+use Rattle.vt_laws_members.proofs.changes.letting_go.PartMounts.{part_mounts}
+use Rattle.vt_laws_members.proofs.changes.letting_go.Taken.{part_after, part_taken, taken_parts, world_after, world_taken}
+use Rattle.vt_laws_members.proofs.changes.looks.Told.{member_called, ran}
+use Rattle.vt_laws_members.proofs.changes.names.Elsewhere.{own_here}
+use Rattle.vt_laws_members.proofs.changes.names.RemovalsEnding.{removed_free, replaced_free}
+use Rattle.vt_laws_members.proofs.changes.overlays.Copying.{layer_found, numbers_if_seen, stepped_if_made, upper_in_use}
+use Rattle.vt_laws_members.proofs.changes.tasks.Denied.{by_runs, run_by, same_judgement}
+use Rattle.vt_laws_members.proofs.detached.removals.Going.{caller_stays, going_with, own_go, same_going}
+use Rattle.vt_laws_members.proofs.detached.removals.Removing.{names_there}
+use Rattle.vt_laws_members.proofs.detached.removals.StillUsed.{seen_here, seen_there, still_direct}
+use Rattle.vt_laws_members.specs.OverlayNames.OverlayNames.{OverlayRenamesEndAlike, OverlayRmdirsEndAlike}
+use Rattle.vt_laws_members.proofs.overlay_names.names.Detaching.{alone_here, alone_there, detached_and_changed, living, living_part}
+use Rattle.vt_laws_members.proofs.overlay_names.names.OverlayEnding.{naming_through_ends, stepped_run}
+use Rattle.vt_laws_members.proofs.overlay_names.names.OverlayNaming.{made_in_part, merged_alone, moved, numbers, one_alone, theirs, two_alone, upper_alone}
+
+-- without an upper layer nothing is changed, after mounts may have gone
+unwritten_after : (before w : World ℕ) (name : TaskName) (call : Call) (supply : Fresh ℕ) (location : Location ℕ)
+    (change : Change ℕ) (merged : Filesystem ℕ) (overlay : Overlay ℕ) → only_looks call ≡ false
+    → filesystem_at nat_eq w location ≡ merged → merged.overlay ≡ Some overlay → overlay.upper ≡ None
+    → finished nat_eq before name call (changed_at nat_eq w location)
+    (granted Done (with_change nat_eq supply w location change))
+    ≡ granted Done (numbers_raised nat_eq before name [] (settled nat_eq w))
+unwritten_after before w name call supply location change merged overlay looks same overlaid none =
+    ap (λ b. finished_by nat_eq (b || false) before name (changed_at nat_eq w location)
+    (granted Done (with_change nat_eq supply w location change))) looks
+    ∙ ap (λ f. granted Done (numbers_raised nat_eq before name (numbers_of_change nat_eq w f f.overlay)
+    (settled nat_eq (filesystem_changed nat_eq supply w f f.overlay change)))) same
+    ∙ ap (λ o. granted Done (numbers_raised nat_eq before name (numbers_of_change nat_eq w merged o)
+    (settled nat_eq (filesystem_changed nat_eq supply w merged o change)))) overlaid
+    ∙ ap (λ u. granted Done (numbers_raised nat_eq before name (numbers_over nat_eq w merged u)
+    (settled nat_eq (overlay_changed nat_eq supply w merged overlay u change)))) none
+
+-- What stands for a directory of an overlay is in filesystems that they use alone.
+module _ (world : World ℕ) (names : List TaskName) (is : IsWorld nat_eq world)
+    (sealed_off : sealed nat_eq world names ≡ true) (gone : Location ℕ) (overlay : Overlay ℕ)
+    (overlaid : (filesystem_at nat_eq world gone).overlay ≡ Some overlay)
+    (direct : Among (mount_at nat_eq world gone).filesystem (used_directly nat_eq world names)) where
+  abbrev number : ℕ
+  number = (mount_at nat_eq world gone).filesystem
+
+  pub points_alone : (point : ℕ × ℕ) → Among point (points_of nat_eq world gone)
+      → used_alone nat_eq world names point.0 ≡ true
+  points_alone point m =
+      ⊎_elim
+      (λ same. ap (λ (p : ℕ × ℕ). used_alone nat_eq world names p.0) same
+      ∙ ap (used_alone nat_eq world names) (found_numbered number world.filesystems)
+      ∙ merged_alone world names is sealed_off number overlay overlaid direct)
+      (λ more. above overlay.upper refl
+      (subst (λ o. Among point (overlay_or [] (λ (v : Overlay ℕ).
+      upper_points world (filesystem_at nat_eq world gone) v gone.node) o)) overlaid more))
+      m
+    where
+      object_of : Layer ℕ → Option ℕ → Option (ℕ × ℕ)
+      object_of layer o = option_map (λ object. (layer.filesystem, object)) o
+
+      of_object : (layer : Layer ℕ) → overlay.upper ≡ Some layer → (o : Option ℕ)
+          → Among point (option_to_list (object_of layer o)) → used_alone nat_eq world names point.0 ≡ true
+      of_object layer has None n = absurd n
+      of_object layer has (Some object) n =
+          ⊎_elim
+          (λ same. ap (λ (p : ℕ × ℕ). used_alone nat_eq world names p.0) same
+          ∙ upper_alone world names is sealed_off number overlay overlaid direct layer has)
+          (λ none. absurd none) n
+
+      above : (o : Option (Layer ℕ)) → overlay.upper ≡ o
+          → Among point (option_to_list (then_some o
+          (λ layer. object_of layer (upper_object (overlay.real gone.node)))))
+          → used_alone nat_eq world names point.0 ≡ true
+      above None e n = absurd n
+      above (Some layer) e n = of_object layer e (upper_object (overlay.real gone.node)) n
+
+-- The change is made after the mounts on what goes are taken away.
+module _ (world : World ℕ) (names : List TaskName) (name : TaskName) (call : Call)
+    (it : IsCallOfTheirs world names name call)
+    (fresh : Fresh ℕ) (serves : Serves nat_eq world fresh) (task : Task ℕ) (found : task_called world name ≡ Some task)
+    (looks : only_looks call ≡ false) (stays : grown names name call (Ok Done) ≡ names) (gone : Location ℕ)
+    (permit : Permit ℕ) (judged : judge_in nat_eq fresh world task call ≡ Ok permit) (location : Location ℕ)
+    (change : Change ℕ) (asks : change_asked fresh world permit ≡ Some (location, change))
+    (is : is_overlay (filesystem_at nat_eq world location) ≡ true) (reached : IsReached world task location)
+    (free : (is_theirs world names gone.mount ≡ true) × (is_locked_at nat_eq world gone ≡ false)
+    × (is_mount_point_in nat_eq (looks_of nat_eq world) task.namespace gone ≡ false) × (gone.mount ≡ location.mount))
+    (runs : (w : World ℕ) → run_by world names name call it fresh fresh w fresh task (Ok permit)
+    ≡ finished nat_eq w name call (changed_at nat_eq (without_mounts_on nat_eq w gone) location)
+    (granted Done (with_change nat_eq (numbers_left fresh permit) (without_mounts_on nat_eq w gone) location change)))
+  where
+    abbrev part : World ℕ
+    part = part_of nat_eq world names
+
+    abbrev merged : Filesystem ℕ
+    merged = filesystem_at nat_eq world location
+
+    abbrev supply : Fresh ℕ
+    supply = numbers_left fresh permit
+
+    one_filesystem : filesystem_at nat_eq world gone ≡ merged
+    one_filesystem = ap (λ m. filesystem_numbered nat_eq world (mount_numbered nat_eq world m).filesystem) free.3
+
+    on_gone : IsTheirs world names it.is.mounts gone.mount
+    on_gone = theirs_from world names it.is.mounts gone.mount free.0
+
+    on : IsTheirs world names it.is.mounts location.mount
+    on = theirs_from world names it.is.mounts location.mount (ap (is_theirs world names) (sym free.3) ∙ free.0)
+
+    direct : Among (mount_at nat_eq world location).filesystem (used_directly nat_eq world names)
+    direct = theirs_directly world names it.is location on
+
+    alike : filesystem_at nat_eq world location ≡ filesystem_at nat_eq part location
+    alike = filesystem_alike world names it.is location on
+
+    module _ (overlay : Overlay ℕ) (overlaid : merged.overlay ≡ Some overlay) where
+      abbrev only_own : (mount : Mount ℕ) → Among mount (mounts_on nat_eq world gone) → (n : ℕ)
+          → mount.namespace ≡ Some n → is_own_namespace nat_eq world names n ≡ true
+      only_own =
+          own_here world names it.is gone
+          (points_alone world names it.is it.sealed_off gone overlay
+          (ap (λ (f : Filesystem ℕ). f.overlay) one_filesystem ∙ overlaid)
+          (theirs_directly world names it.is gone on_gone))
+
+      abbrev list : List ℕ
+      list = going_with world names it.is gone on_gone only_own
+
+      abbrev own : (m : Mount ℕ) → Among m world.mounts → is_going nat_eq list m.number ≡ true
+          → is_own world names (members world names) m ≡ true
+      own = own_go world names it.is gone on_gone only_own
+
+      same_list : taken_away nat_eq part list ≡ without_mounts_on nat_eq part gone
+      same_list = ap (taken_away nat_eq part) (sym (same_going world names it.is gone on_gone only_own))
+
+      kept_world : MountInvariants nat_eq (taken_away nat_eq world list)
+      kept_world = points_keep_mounts world gone it.is.mounts
+
+      kept_part : MountInvariants nat_eq (taken_away nat_eq part list)
+      kept_part =
+          subst (MountInvariants nat_eq) (sym same_list)
+          (points_keep_mounts part gone (part_mounts world names it.is it.sealed_off))
+
+      abbrev here : World ℕ
+      here = world_after world names it.is it.sealed_off list own
+
+      abbrev there : World ℕ
+      there = part_after world names it.is it.sealed_off list own
+
+      -- the mount of the directory is in the caller's namespace, and stays
+      directory_stays : is_own world names (members world names) on.0 ≡ true → is_going nat_eq list on.0.number ≡ false
+      directory_stays its = by on.0.namespace refl
+        where
+          by : (o : Option ℕ) → on.0.namespace ≡ o → is_going nat_eq list on.0.number ≡ false
+          by None e = absurd (true≢false (sym its ∙ ap (holds_of (is_own_namespace nat_eq world names)) e))
+          by (Some n) e =
+              let seen : list_all (nat_eq task.namespace) (option_to_list (Some n)) ≡ true =
+              ap (λ o. list_all (nat_eq task.namespace) (option_to_list o))
+              (sym (ap (λ (m : Mount ℕ). m.namespace) (its_mount world names it.is.mounts location.mount on) ∙ e))
+              ∙ reached.seen in
+              caller_stays world names it.is gone on_gone only_own task free.2 on.0 on.1
+              (e ∙ ap Some (sym (eqb-true task.namespace n (and_parts (nat_eq task.namespace n) true seen).0)))
+
+      -- so both runs go on with what is left
+      run_here : run_by world names name call it fresh fresh world fresh task (Ok permit)
+          ≡ finished nat_eq world name call (changed_at nat_eq here location)
+          (granted Done (with_change nat_eq supply here location change))
+      run_here =
+          runs world
+          ∙ ap (λ w. finished nat_eq world name call (changed_at nat_eq w location)
+          (granted Done (with_change nat_eq supply w location change)))
+          (world_taken world names it.is it.sealed_off list own)
+
+      run_there : run_by world names name call it fresh fresh part fresh task (Ok permit)
+          ≡ finished nat_eq part name call (changed_at nat_eq there location)
+          (granted Done (with_change nat_eq supply there location change))
+      run_there =
+          runs part
+          ∙ ap (λ w. finished nat_eq part name call (changed_at nat_eq w location)
+          (granted Done (with_change nat_eq supply w location change)))
+          (sym same_list ∙ part_taken world names it.is it.sealed_off list own)
+
+      seen : filesystem_at nat_eq here location ≡ merged
+      seen = seen_here world names it.is it.sealed_off list own location
+
+      seen_too : filesystem_at nat_eq there location ≡ merged
+      seen_too = seen_there world names it.is it.sealed_off list own location ∙ sym alike
+
+      ends : (one other : World ℕ)
+          → run_by world names name call it fresh fresh world fresh task (Ok permit) ≡ granted Done one
+          → run_by world names name call it fresh fresh part fresh task (Ok permit) ≡ granted Done other
+          → part_of nat_eq one names ≡ part_of nat_eq other names → EndsAlike world names name call fresh fresh
+      ends one other runs_so runs_too same =
+          by_runs world names name call it fresh fresh (Some task) found
+          (subst (λ p. EndAlike (grown names name call (ran name call world fresh (Some task)).answer)
+          (ran name call world fresh (Some task)) p)
+          (sym (ap (run_by world names name call it fresh fresh part fresh task)
+          (sym (same_judgement world names name call it fresh fresh task found) ∙ judged) ∙ runs_too))
+          (subst (λ o. EndAlike (grown names name call o.answer) o (granted Done other))
+          (sym (ap (run_by world names name call it fresh fresh world fresh task) judged ∙ runs_so))
+          (subst (λ s. EndAlike s (granted Done one) (granted Done other)) (sym stays)
+          (record { answer = refl; part = same }))))
+
+      layered : (o : Option (Layer ℕ)) → overlay.upper ≡ o → EndsAlike world names name call fresh fresh
+      layered None none =
+          ends (numbers_raised nat_eq world name [] (settled nat_eq here))
+          (numbers_raised nat_eq part name [] (settled nat_eq there))
+          (run_here ∙ unwritten_after world here name call supply location change merged overlay looks seen overlaid
+          none)
+          (run_there ∙ unwritten_after part there name call supply location change merged overlay looks seen_too
+          overlaid none)
+          (sym (ap (λ w. part_of nat_eq (numbers_raised nat_eq world name [] (settled nat_eq w)) names)
+          (world_taken world names it.is it.sealed_off list own))
+          ∙ taken_parts world names it.is it.sealed_off list own name kept_world kept_part
+          ∙ ap (λ w. part_of nat_eq (numbers_raised nat_eq part name [] (settled nat_eq w)) names)
+          (part_taken world names it.is it.sealed_off list own))
+      layered (Some upper) has =
+          ends (numbers_raised nat_eq world name both (settled nat_eq (with_filesystems here step)))
+          (numbers_raised nat_eq part name both (settled nat_eq (with_filesystems there step)))
+          (run_here ∙ stepped_run world here name call supply location change step both looks
+          (stepped_if_made supply world names location change overlay upper it.is can direct alike here seen refl refl)
+          (numbers_if_seen supply world names location change overlay upper it.is can direct alike here seen refl))
+          (run_there ∙ stepped_run part there name call supply location change step both looks
+          (stepped_if_made supply world names location change overlay upper it.is can direct alike there seen_too
+          (layer_found supply world names location change overlay upper it.is can direct alike)
+          (made_in_part world names name call it supply location change overlay upper can direct alike))
+          (numbers_if_seen supply world names location change overlay upper it.is can direct alike there seen_too
+          (layer_found supply world names location change overlay upper it.is can direct alike)))
+          (detached_and_changed world names it.is it.sealed_off list own kept_world kept_part step
+          (theirs world names name call it supply location change overlay upper can direct alike
+          (living world names it.is it.sealed_off list own kept_world kept_part) used_then one_used two_used
+          (one_in_world world names it.is number (used_directly_used world names number direct))
+          (one_in_world world names it.is upper.filesystem
+          (upper_in_use world names number overlay upper overlaid has direct))
+          (alone_here world names it.is it.sealed_off list own kept_world kept_part merged.number
+          (one_alone world names name call it supply location change overlay upper can direct alike))
+          (alone_here world names it.is it.sealed_off list own kept_world kept_part two.number
+          (two_alone world names name call it supply location change overlay upper can direct alike)))
+          (theirs world names name call it supply location change overlay upper can direct alike
+          (living_part world names it.is it.sealed_off list own kept_world kept_part) used_then one_used two_used
+          (one_in_part world names it.is number (used_directly_used world names number direct))
+          (one_in_part world names it.is upper.filesystem
+          (upper_in_use world names number overlay upper overlaid has direct))
+          (alone_there world names it.is it.sealed_off list own kept_world kept_part merged.number)
+          (alone_there world names it.is it.sealed_off list own kept_world kept_part two.number))
+          name both both_used)
+        where
+          number : ℕ
+          number = (mount_at nat_eq world location).filesystem
+
+          two : Filesystem ℕ
+          two = filesystem_numbered nat_eq world upper.filesystem
+
+          can : CanChange supply world location change overlay upper
+          can =
+              permits_can_change world fresh task call permit location change overlay upper it.is serves
+              (ap (task_called world) (sym (name_found world name task found)) ∙ found) judged asks overlaid has
+
+          step : Filesystem ℕ → Filesystem ℕ
+          step = moved world names name call it supply location change overlay upper can direct alike
+
+          both : List ℕ
+          both = numbers world names name call it supply location change overlay upper can direct alike
+
+          used_then : List ℕ
+          used_then = used_filesystems nat_eq here names
+
+          direct_then : Among number (used_directly nat_eq here names)
+          direct_then = still_direct world names it.is it.sealed_off list own location on directory_stays
+
+          one_used : is_among nat_eq merged.number used_then ≡ true
+          one_used =
+              ap (λ n. is_among nat_eq n used_then) (found_numbered number world.filesystems)
+              ∙ used_directly_used here names number direct_then
+
+          two_used : is_among nat_eq two.number used_then ≡ true
+          two_used =
+              ap (λ n. is_among nat_eq n used_then) (found_numbered upper.filesystem world.filesystems)
+              ∙ upper_in_use here names number overlay upper overlaid has direct_then
+
+          both_used : (n : ℕ) → Among n both → is_among nat_eq n used_then ≡ true
+          both_used n m =
+              ⊎_elim (λ e. ap (λ k. is_among nat_eq k used_then) e ∙ one_used)
+              (λ rest. ⊎_elim (λ e. ap (λ k. is_among nat_eq k used_then) e ∙ two_used) (λ none. absurd none) rest) m
+
+    pub removal_through_ends : EndsAlike world names name call fresh fresh
+    removal_through_ends = by merged.overlay refl
+      where
+        by : (o : Option (Overlay ℕ)) → merged.overlay ≡ o → EndsAlike world names name call fresh fresh
+        by None none = absurd (true≢false (sym is ∙ ap is_some none))
+        by (Some overlay) overlaid = layered overlay overlaid overlay.upper refl
+
+pub overlay_rmdirs_end_alike : OverlayRmdirsEndAlike
+overlay_rmdirs_end_alike world names name path it task found fresh serves parent entry directory judged is =
+    removal_through_ends world names name (Rmdir path) it fresh serves task found refl refl directory
+    (ToRemoveDirectory parent entry directory) judged parent (Remove parent.node entry directory.node) refl is
+    (names_there world names name (Rmdir path) it task found (ToRemoveDirectory parent entry directory) refl
+    judged).0.reached
+    (removed_free world names it.is it.sealed_off task
+    (member_called world names it.is it.sealed_off name it.theirs task found) fresh (Rmdir path)
+    (ToRemoveDirectory parent entry directory)
+    (calls_are_granted nat_eq (looks_of nat_eq world) (overfills nat_eq fresh world task) task (Rmdir path)
+    (ToRemoveDirectory parent entry directory) judged)
+    parent entry directory refl)
+    (λ w. refl)
+
+pub overlay_renames_end_alike : OverlayRenamesEndAlike
+overlay_renames_end_alike world names name first second it task found fresh serves from old to new object replaced
+    judged is =
+    by replaced judged
+  where
+    change : Change ℕ
+    change = Move from.node old to.node new object.node
+
+    by : (o : Option (Location ℕ))
+        → judge_in nat_eq fresh world task (Rename first second) ≡ Ok (ToRename from old to new object o)
+        → EndsAlike world names name (Rename first second) fresh fresh
+    by None so =
+        naming_through_ends world names name (Rename first second) it fresh serves task found refl refl
+        (ToRename from old to new object None) so from change refl tt is
+        (ap (run_by world names name (Rename first second) it fresh fresh world fresh task) so)
+        (ap (run_by world names name (Rename first second) it fresh fresh (part_of nat_eq world names) fresh task)
+        (sym (same_judgement world names name (Rename first second) it fresh fresh task found) ∙ so))
+    by (Some gone) so =
+        removal_through_ends world names name (Rename first second) it fresh serves task found refl refl gone
+        (ToRename from old to new object (Some gone)) so from change refl is
+        (names_there world names name (Rename first second) it task found
+        (ToRename from old to new object (Some gone)) refl so).0.reached
+        (replaced_free world names it.is it.sealed_off task
+        (member_called world names it.is it.sealed_off name it.theirs task found) fresh (Rename first second)
+        (ToRename from old to new object (Some gone))
+        (calls_are_granted nat_eq (looks_of nat_eq world) (overfills nat_eq fresh world task) task
+        (Rename first second) (ToRename from old to new object (Some gone)) so)
+        from old to new object gone refl)
+        (λ w. refl)

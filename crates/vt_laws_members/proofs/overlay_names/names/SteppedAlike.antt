@@ -1,0 +1,154 @@
+-- Where filesystems change that a sealed set uses alone, the world and the part leave it one part.
+use Rattle.std.proofs.Common.{◌≡◌, sym, ap, subst, ◌∙◌, refl, ℕ, nat_eq, true, List, Some, Ok, filter, map}
+use Rattle.vt_spec.specs.Language.Answers.{Answer}
+use Rattle.vt_spec.specs.Language.Calls.{Call, TaskName}
+use Rattle.vt_spec.specs.Lists.{Fresh, is_among}
+use Rattle.vt_spec.specs.Machine.Filesystems.{raised_if_changed}
+use Rattle.vt_spec.specs.Machine.Outcomes.{granted}
+use Rattle.vt_spec.specs.Machine.Policy.{numbers_raised, policy, raised_task}
+use Rattle.vt_spec.specs.Machine.Sealed.{is_member_task, is_own_namespace, own_lowers, part_of, used_filesystems}
+use Rattle.vt_spec.specs.Machine.Settled.{settled, without_dead_mounts}
+use Rattle.vt_spec.specs.Machine.World.{Filesystem, Layer, Namespace, Task, World, task_called}
+use Rattle.vt_spec.proofs.Lists.{Among}
+use Rattle.vt_laws_mounts.specs.LettingGo.InUse.{AllInUse}
+use Rattle.vt_laws_mounts.specs.LettingGo.TreesOverlays.{with_filesystems}
+use Rattle.vt_laws_mounts.proofs.letting_go.sweeps.OfWorlds.{all_in_use}
+use Rattle.vt_laws_members.specs.Changes.Changes.{EndAlike, EndsAlike, IsCallOfTheirs, grown}
+use Rattle.vt_laws_members.proofs.changes.files.FilesChanged.{part_with_layers}
+use Rattle.vt_laws_members.proofs.changes.letting_go.Changed.{LetsGo, sees_less}
+use Rattle.vt_laws_members.proofs.changes.letting_go.Ends.{private_in_part, private_in_world, raised_members}
+use Rattle.vt_laws_members.proofs.changes.letting_go.LessSeen.{less_used}
+use Rattle.vt_laws_members.proofs.changes.letting_go.PartReady.{part_ready}
+use Rattle.vt_laws_members.proofs.changes.letting_go.Raised.{DetachedArePrivate, swept_raised}
+use Rattle.vt_laws_members.proofs.changes.letting_go.Ready.{Ready}
+use Rattle.vt_laws_members.proofs.changes.letting_go.SeeLess.{now_less, part_of_less}
+use Rattle.vt_laws_members.proofs.changes.letting_go.Sweep.{part_of_settled, swept_of}
+use Rattle.vt_laws_members.proofs.changes.letting_go.WorldReady.{world_ready}
+use Rattle.vt_laws_members.proofs.changes.looks.Told.{ran, same_caller}
+use Rattle.vt_laws_members.proofs.changes.part.SettledPart.{part_in_use}
+use Rattle.vt_laws_members.proofs.overlay_names.names.Raising.{raised_part}
+use Rattle.vt_laws_members.proofs.overlay_names.names.SteppedReady.{ChangesTheirs, stepped_ready}
+
+-- A world after the last step, in which mounts stay
+module _ (before : World ℕ) (in_use : AllInUse before) (private_ones : DetachedArePrivate before) (set : List TaskName)
+    (tasks : List (Task ℕ)) (step : Filesystem ℕ → Filesystem ℕ) (name : TaskName) (numbers used : List ℕ)
+    (lowers : List (Layer ℕ))
+    (ready : Ready (without_dead_mounts nat_eq (with_filesystems (record before { tasks = tasks }) step)) set used
+    lowers)
+    (theirs : (n : ℕ) → Among n numbers → is_among nat_eq n used ≡ true) where
+  abbrev changed : World ℕ
+  changed = with_filesystems (record before { tasks = tasks }) step
+
+  part_of_raised : part_of nat_eq (numbers_raised nat_eq before name numbers (settled nat_eq changed)) set
+      ≡ record (with_filesystems (part_of nat_eq (settled nat_eq changed) set) (raised_if_changed nat_eq numbers)) {
+        tasks = filter (is_member_task set) (map (raised_task name) tasks);
+      }
+  part_of_raised =
+      raised_part changed set used lowers ready numbers theirs before name
+      ∙ (λ i. record (with_filesystems (part_of nat_eq (settled nat_eq changed) set)
+      (raised_if_changed nat_eq numbers)) {
+        namespaces = filter (λ (n : Namespace ℕ). is_own_namespace nat_eq changed set n.number)
+            (ap (λ (w : World ℕ). w.namespaces) (swept_raised before in_use private_ones name tasks) i);
+        tasks = filter (is_member_task set) (map (raised_task name) tasks);
+      })
+
+-- The world and the part
+module _ (world : World ℕ) (names set : List TaskName) (name : TaskName) (call : Call)
+    (it : IsCallOfTheirs world names name call) (tasks tasks_too : List (Task ℕ))
+    (lets : LetsGo world names it.is it.sealed_off set tasks)
+    (same : filter (is_member_task set) tasks_too ≡ filter (is_member_task set) tasks)
+    (all : (t : Task ℕ) → Among t tasks_too → is_member_task set t ≡ true) (step : Filesystem ℕ → Filesystem ℕ) where
+  abbrev part : World ℕ
+  part = part_of nat_eq world names
+
+  abbrev pub now : World ℕ
+  now = record world { tasks = tasks }
+
+  abbrev pub now_part : World ℕ
+  now_part = record part { tasks = tasks_too }
+
+  abbrev pub used_now : List ℕ
+  used_now = used_filesystems nat_eq now set
+
+  abbrev lowers_now : List (Layer ℕ)
+  lowers_now = own_lowers nat_eq now set
+
+  abbrev pub living : World ℕ
+  living = without_dead_mounts nat_eq now
+
+  abbrev pub living_part : World ℕ
+  living_part = without_dead_mounts nat_eq now_part
+
+  module _ (theirs : ChangesTheirs living set used_now step)
+      (theirs_there : ChangesTheirs living_part set used_now step)
+    where
+      ready : Ready (without_dead_mounts nat_eq (with_filesystems now step)) set used_now lowers_now
+      ready =
+          stepped_ready living set used_now lowers_now
+          (world_ready world names it.is it.sealed_off set tasks world.change lets) step theirs
+
+      ready_there : Ready (without_dead_mounts nat_eq (with_filesystems now_part step)) set used_now lowers_now
+      ready_there =
+          stepped_ready living_part set used_now lowers_now
+          (part_ready world names it.is it.sealed_off set tasks tasks_too world.change part.change lets same all) step
+          theirs_there
+
+      used_there : used_filesystems nat_eq now_part set ≡ used_now
+      used_there =
+          less_used world names it.is set now now_part
+          (now_less world names it.is set tasks tasks_too world.change part.change
+          (sees_less world names it.is it.sealed_off set tasks world.change lets) same)
+
+      parts_stepped : part_of nat_eq (with_filesystems now step) set
+          ≡ part_of nat_eq (with_filesystems now_part step) set
+      parts_stepped =
+          part_with_layers now set step theirs.numbered theirs.changing theirs.lowering theirs.kept
+          ∙ ap (λ w. with_filesystems w step)
+          (sym (part_of_less world names it.is set tasks tasks_too world.change part.change
+          (sees_less world names it.is it.sealed_off set tasks world.change lets) same))
+          ∙ sym (part_with_layers now_part set step theirs_there.numbered theirs_there.changing theirs_there.lowering
+          (λ x e. theirs_there.kept x (ap (is_among nat_eq x.number) (sym used_there) ∙ e)))
+
+      swept_parts : part_of nat_eq (settled nat_eq (with_filesystems now step)) set
+          ≡ part_of nat_eq (settled nat_eq (with_filesystems now_part step)) set
+      swept_parts =
+          part_of_settled (with_filesystems now step) set used_now lowers_now ready
+          ∙ ap (swept_of set) parts_stepped
+          ∙ sym (part_of_settled (with_filesystems now_part step) set used_now lowers_now ready_there)
+
+      -- So a call by which they change ends alike.
+      module _ (numbers : List ℕ) (used : (n : ℕ) → Among n numbers → is_among nat_eq n used_now ≡ true) where
+        abbrev ends_here : World ℕ
+        ends_here = numbers_raised nat_eq world name numbers (settled nat_eq (with_filesystems now step))
+
+        abbrev ends_there : World ℕ
+        ends_there = numbers_raised nat_eq part name numbers (settled nat_eq (with_filesystems now_part step))
+
+        parts_left : part_of nat_eq ends_here set ≡ part_of nat_eq ends_there set
+        parts_left =
+            part_of_raised world (all_in_use world it.is) (private_in_world world it.is) set tasks step name numbers
+            used_now
+            lowers_now ready used
+            ∙ (λ i. record (with_filesystems (swept_parts i) (raised_if_changed nat_eq numbers)) {
+              tasks = (raised_members set name tasks ∙ ap (map (raised_task name)) (sym same)
+                  ∙ sym (raised_members set name tasks_too)) i;
+            })
+            ∙ sym (part_of_raised part (part_in_use world names it.is it.sealed_off)
+            (private_in_part world names it.is) set
+            tasks_too step name numbers used_now lowers_now ready_there used)
+
+        pub stepped_ends : (task : Task ℕ) → task_called world name ≡ Some task → (fresh other : Fresh ℕ)
+            (answer : Answer)
+            → grown names name call (Ok answer) ≡ set → ran name call world fresh (Some task) ≡ granted answer ends_here
+            → ran name call part other (Some task) ≡ granted answer ends_there
+            → EndsAlike world names name call fresh other
+        stepped_ends task called fresh other answer stays one two =
+            let first : policy nat_eq fresh world name call ≡ granted answer ends_here =
+            ap (ran name call world fresh) called ∙ one in
+            let second : policy nat_eq other part name call ≡ granted answer ends_there =
+            ap (ran name call part other) (same_caller world names it.is it.sealed_off name it.theirs ∙ called) ∙ two in
+            subst (λ p. EndAlike (grown names name call (policy nat_eq fresh world name call).answer)
+            (policy nat_eq fresh world name call) p) (sym second)
+            (subst (λ o. EndAlike (grown names name call o.answer) o (granted answer ends_there)) (sym first)
+            (subst (λ s. EndAlike s (granted answer ends_here) (granted answer ends_there)) (sym stays)
+            (record { answer = refl; part = parts_left })))

@@ -1,0 +1,105 @@
+-- Groups whose members have changed: what mounts and groups inherit, and what the sweep leaves of them.
+use Rattle.std.proofs.Common.{◌≡◌, refl, sym, ap, ◌∙◌, ℕ, nat_eq, Bool, true, false, cond, Option, Some, None, length, map}
+use Rattle.std.specs.List.{list_any}
+use Rattle.std.proofs.lemmas.Bool.{not-false, or_parts}
+use Rattle.vt_spec.specs.Lists.{then_some}
+use Rattle.vt_spec.specs.Machine.Mounts.{Mount, Propagation, group_of, source_of}
+use Rattle.vt_spec.specs.Machine.Mounts.Propagation.{Private, Shared, Slave, Unbindable}
+use Rattle.vt_spec.specs.Machine.Receives.{has_members, heir, inherited, inheriting, is_lost_group, is_member_of, lost_a_group, regrouped, regrouped_by}
+use Rattle.vt_spec.specs.Machine.Settled.{settled}
+use Rattle.vt_spec.specs.Machine.World.{World}
+use Rattle.vt_spec.proofs.Found.{find-chain_start}
+use Rattle.vt_spec.proofs.Lists.{any_among, map_twice, none_among}
+use Rattle.vt_spec.proofs.Options.{none_is_some}
+use Rattle.vt_laws_mounts.proofs.Groups.{members-inherited, mounts-regrouped}
+use Rattle.vt_laws_mounts.specs.LettingGo.Detaching.{with_changed}
+use Rattle.vt_laws_mounts.specs.LettingGo.InUse.{AllInUse}
+use Rattle.vt_laws_mounts.proofs.letting_go.leaving.UsesKept.{types_keep_all}
+use Rattle.vt_laws_sealed.proofs.part.groups.ReceiversAlike.{member_group}
+
+-- a member of a group receives from it
+pub source_from : (kind : Propagation ℕ) (group : ℕ) → group_of kind ≡ Some group → source_of kind ≡ Some group
+source_from (Shared g) group e = e
+source_from (Slave g) group e = none_is_some group e
+source_from Private group e = none_is_some group e
+source_from Unbindable group e = none_is_some group e
+
+-- a group that has a member inherits its master, also where nothing is lost
+pub master-inherited : (t : World ℕ) (group : ℕ) → has_members nat_eq t.mounts group ≡ true
+    → (regrouped nat_eq t).master group ≡ heir nat_eq t (t.master group)
+master-inherited t group h = by (list_any (lost_a_group nat_eq t) t.mounts) refl
+  where
+    unlost : (o : Option ℕ) → t.master group ≡ o → list_any (lost_a_group nat_eq t) t.mounts ≡ false
+        → o ≡ heir nat_eq t o
+    unlost None e kept = refl
+    unlost (Some above) e kept =
+        let y = any_among (is_member_of nat_eq group) t.mounts h in
+        let gone = or_parts (is_lost_group nat_eq t (source_of y.0.propagation))
+        (is_lost_group nat_eq t (then_some (source_of y.0.propagation) t.master))
+        (none_among (lost_a_group nat_eq t) t.mounts kept y.0 y.1) in
+        let its = ap (λ o. then_some o t.master)
+        (source_from y.0.propagation group (member_group group y.0 y.2)) ∙ e in
+        sym (find-chain_start (has_members nat_eq t.mounts) t.master (length t.mounts) above
+        (not-false (has_members nat_eq t.mounts above) (sym (ap (is_lost_group nat_eq t) its) ∙ gone.1)))
+
+    by : (b : Bool) → list_any (lost_a_group nat_eq t) t.mounts ≡ b
+        → (regrouped_by nat_eq b t).master group ≡ heir nat_eq t (t.master group)
+    by true e = refl
+    by false e = unlost (t.master group) refl e
+
+module _ (w : World ℕ) (kind : Mount ℕ → Propagation ℕ) (masters : ℕ → Option ℕ) where
+  -- the world with other types and masters, before groups inherit
+  abbrev pub between : World ℕ
+  between = with_changed w (λ m. record m { propagation = kind m }) masters
+
+  abbrev pub kind_left : Mount ℕ → Propagation ℕ
+  kind_left m = inherited nat_eq between (kind m)
+
+  abbrev after : Mount ℕ → Mount ℕ
+  after m = record m { propagation = kind_left m }
+
+  -- the masters of the groups that have members
+  abbrev pub master_left : ℕ → Option ℕ
+  master_left group =
+      cond (has_members nat_eq (map after w.mounts) group) ((regrouped nat_eq between).master group) None
+
+  regrouped_keeps : (b : Bool) → regrouped_by nat_eq b between ≡ record between {
+    mounts = (regrouped_by nat_eq b between).mounts;
+    master = (regrouped_by nat_eq b between).master;
+  }
+  regrouped_keeps true = refl
+  regrouped_keeps false = refl
+
+  mounts_left : (regrouped nat_eq between).mounts ≡ map after w.mounts
+  mounts_left =
+      mounts-regrouped between
+      ∙ map_twice (inheriting nat_eq between) (λ (m : Mount ℕ). record m { propagation = kind m }) w.mounts
+
+  regrouped_so : regrouped nat_eq between ≡ with_changed w after (regrouped nat_eq between).master
+  regrouped_so =
+      regrouped_keeps (list_any (lost_a_group nat_eq between) between.mounts)
+      ∙ ap (λ l. record between { mounts = l; master = (regrouped nat_eq between).master }) mounts_left
+
+  -- nothing but groups goes
+  pub settled_so : AllInUse w → settled nat_eq (regrouped nat_eq between) ≡ with_changed w after master_left
+  settled_so all =
+      ap (settled nat_eq) regrouped_so
+      ∙ ap (λ (x : World ℕ). record x {
+        master = λ group. cond (has_members nat_eq x.mounts group) ((regrouped nat_eq between).master group) None;
+      })
+      (types_keep_all w after (λ group. None) all (record {
+        number = λ m. refl;
+        namespace = λ m. refl;
+        mount_point = λ m. refl;
+        filesystem = λ m. refl;
+        root = λ m. refl;
+      }) (λ group none. refl))
+
+  pub master_left_so : (group : ℕ) → has_members nat_eq between.mounts group ≡ true
+      → master_left group ≡ heir nat_eq between (masters group)
+  master_left_so group h =
+      ap (λ l. cond (has_members nat_eq l group) ((regrouped nat_eq between).master group) None)
+      (sym (map_twice (inheriting nat_eq between) (λ (m : Mount ℕ). record m { propagation = kind m }) w.mounts))
+      ∙ ap (λ b. cond b ((regrouped nat_eq between).master group) None)
+      (members-inherited between between.mounts group ∙ h)
+      ∙ master-inherited between group h

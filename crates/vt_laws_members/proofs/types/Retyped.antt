@@ -1,0 +1,497 @@
+-- Where mounts of a sealed set change their types, types and masters are left in the part as in the world.
+use Rattle.std.proofs.Common.{◌≡◌, refl, sym, ap, subst, ◌∙◌, ◌⊎◌, inl, inr, ⊎_elim, ℕ, zero, suc, nat_eq, Bool, true, false, cond, true≢false, List, [], ◌∷◌, Option, Some, None, find, is_some, length, not, ◌||◌, ◌&&◌, eq-eqb, eqb-true}
+use Rattle.std.specs.Prelude.{option_to_list}
+use Rattle.std.specs.List.{list_any}
+use Rattle.std.proofs.lemmas.Bool.{and_parts, false_from_ne_true}
+use Rattle.std.proofs.lemmas.List.{length-map}
+use Rattle.std.proofs.lemmas.Option.{same_Some}
+use Rattle.vt_spec.specs.Language.Calls.{TaskName, TypeWord}
+use Rattle.vt_spec.specs.Language.Calls.TypeWord.{ToPrivate, ToShared, ToSlave, ToUnbindable}
+use Rattle.vt_spec.specs.Lists.{Fresh, chain, holds_of}
+use Rattle.vt_spec.specs.Machine.Invariants.{IsWorld, is_nowhere_or_attached, is_private}
+use Rattle.vt_spec.specs.Machine.Mounts.{Mount, Propagation, group_of, index_of, numbers_by, source_of}
+use Rattle.vt_spec.specs.Machine.Mounts.Propagation.{Private, Shared, Slave, Unbindable}
+use Rattle.vt_spec.specs.Machine.Receives.{groups_up, has_members, heir, inherited, is_member_of, slave_of_heir}
+use Rattle.vt_spec.specs.Machine.Run.{Serves, numbers_in_use}
+use Rattle.vt_spec.specs.Machine.Sealed.{is_own_mount, members, own_mounts, part_of, sealed, shares_no_events}
+use Rattle.vt_spec.specs.Machine.Types.{master_after, retyped_mount, type_after, with_master, with_new_groups}
+use Rattle.vt_spec.specs.Machine.World.{Task, World, mount_numbered}
+use Rattle.vt_spec.proofs.Found.{found_among, found_passes}
+use Rattle.vt_spec.proofs.Lists.{Among, among-filter, among-from_filter, among-from_filter_map, among-from_map, among-map, among_from_list_all, any_among, any_from_among, chain_ends, chain_goes_on, is_among_numbers}
+use Rattle.vt_spec.proofs.Options.{none_is_some}
+use Rattle.vt_spec.proofs.Truths.{same_truth}
+use Rattle.vt_laws_mounts.proofs.mounts.MountsNumbered.{mount_uses}
+use Rattle.vt_laws_mounts.proofs.letting_go.sweeps.OfWorlds.{all_in_use}
+use Rattle.vt_laws_sealed.proofs.part.groups.EventsApart.{none_hears, sides}
+use Rattle.vt_laws_sealed.proofs.part.groups.ReceiversAlike.{member_group, own_member, same_up}
+use Rattle.vt_laws_sealed.proofs.part.part.PartOfPart.{keep, kept_how}
+use Rattle.vt_laws_members.proofs.judging.Grounds.{numbered}
+use Rattle.vt_laws_members.proofs.changes.letting_go.Heard.{IsHeard, above_heard, apart, heard_by_own, master_same, own_in_part, part_source, up_heard}
+use Rattle.vt_laws_members.specs.Types.TypeChanges.{takes_groups}
+use Rattle.vt_laws_members.proofs.types.Inherited.{between, kind_left, master_left, master_left_so, source_from}
+use Rattle.vt_laws_members.proofs.types.TypesLeft.{AreTypedAlike}
+
+-- a search by tests that agree on a list
+find_alike : (p q : ℕ → Bool) (xs : List ℕ) → ((x : ℕ) → Among x xs → p x ≡ q x) → find p xs ≡ find q xs
+find_alike p q [] same = refl
+find_alike p q (x ∷ xs) same =
+    ap (λ b. cond b (Some x) (find p xs)) (same x (inl refl))
+    ∙ ap (cond (q x) (Some x)) (find_alike p q xs (λ y m. same y (inr m)))
+
+-- chains by steps that agree on the way
+chain_alike : (f g : ℕ → Option ℕ) (P : ℕ → Type 0) → ((a b : ℕ) → f a ≡ Some b → P a → P b)
+    → ((a : ℕ) → P a → g a ≡ f a) → (n a : ℕ) → P a → chain n g a ≡ chain n f a
+chain_alike f g P on same zero a p = refl
+chain_alike f g P on same (suc n) a p = by (f a) refl (chain_alike f g P on same n)
+  where
+    by : (o : Option ℕ) → f a ≡ o → ((b : ℕ) → P b → chain n g b ≡ chain n f b) → chain (suc n) g a ≡ chain (suc n) f a
+    by None e later = chain_ends g n a (same a p ∙ e) ∙ sym (chain_ends f n a e)
+    by (Some b) e later =
+        chain_goes_on g n a b (same a p ∙ e) ∙ ap (λ l. a ∷ l) (later b (on a b e p)) ∙ sym (chain_goes_on f n a b e)
+
+-- what a private mount inherits
+private_alike : (t u : World ℕ) (kind : Propagation ℕ) → is_private kind ≡ true
+    → inherited nat_eq t kind ≡ inherited nat_eq u kind
+private_alike t u (Shared g) e = absurd (true≢false (sym e))
+private_alike t u (Slave g) e = absurd (true≢false (sym e))
+private_alike t u Private e = refl
+private_alike t u Unbindable e = absurd (true≢false (sym e))
+
+-- who becomes a slave was one, or a member
+slave_was : (new : ℕ) (word : TypeWord) (kind : Propagation ℕ) (g : ℕ)
+    → master_after (type_after new word kind) ≡ Some g → source_of kind ≡ Some g
+slave_was new ToShared (Shared h) g e = none_is_some g e
+slave_was new ToShared (Slave h) g e = none_is_some g e
+slave_was new ToShared Private g e = none_is_some g e
+slave_was new ToShared Unbindable g e = none_is_some g e
+slave_was new ToSlave (Shared h) g e = e
+slave_was new ToSlave (Slave h) g e = e
+slave_was new ToSlave Private g e = none_is_some g e
+slave_was new ToSlave Unbindable g e = none_is_some g e
+slave_was new ToPrivate kind g e = none_is_some g e
+slave_was new ToUnbindable kind g e = none_is_some g e
+
+-- who becomes shared was so, or has a new group
+shared_was : (new : ℕ) (word : TypeWord) (kind : Propagation ℕ) (g : ℕ)
+    → group_of (type_after new word kind) ≡ Some g
+    → (source_of kind ≡ Some g) ⊎ ((takes_groups word ≡ true) × (new ≡ g))
+shared_was new ToShared (Shared h) g e = inl e
+shared_was new ToShared (Slave h) g e = inr (refl, same_Some new g e)
+shared_was new ToShared Private g e = inr (refl, same_Some new g e)
+shared_was new ToShared Unbindable g e = inr (refl, same_Some new g e)
+shared_was new ToSlave (Shared h) g e = none_is_some g e
+shared_was new ToSlave (Slave h) g e = none_is_some g e
+shared_was new ToSlave Private g e = none_is_some g e
+shared_was new ToSlave Unbindable g e = none_is_some g e
+shared_was new ToPrivate kind g e = none_is_some g e
+shared_was new ToUnbindable kind g e = none_is_some g e
+
+-- the type does not depend on the number of a group that is not taken
+same_after : (a b : ℕ) (word : TypeWord) (kind : Propagation ℕ) → takes_groups word ≡ false
+    → type_after a word kind ≡ type_after b word kind
+same_after a b ToShared kind e = absurd (true≢false e)
+same_after a b ToSlave (Shared h) e = refl
+same_after a b ToSlave (Slave h) e = refl
+same_after a b ToSlave Private e = refl
+same_after a b ToSlave Unbindable e = refl
+same_after a b ToPrivate kind e = refl
+same_after a b ToUnbindable kind e = refl
+
+master_source : (kind : Propagation ℕ) (g : ℕ) → master_after kind ≡ Some g → source_of kind ≡ Some g
+master_source (Shared h) g e = none_is_some g e
+master_source (Slave h) g e = e
+master_source Private g e = none_is_some g e
+master_source Unbindable g e = none_is_some g e
+
+module _ (fresh : Fresh ℕ) (word : TypeWord) (named : List (Mount ℕ)) where
+  abbrev number_for : ℕ → ℕ
+  number_for = numbers_by nat_eq fresh named
+
+  abbrev pub is_named : Mount ℕ → Bool
+  is_named m = list_any (λ (other : Mount ℕ). nat_eq m.number other.number) named
+
+  abbrev pub kind_by : Bool → Mount ℕ → Propagation ℕ
+  kind_by chosen m = cond chosen (type_after (number_for m.number) word m.propagation) m.propagation
+
+  -- types and masters before groups inherit
+  abbrev pub new_kind : Mount ℕ → Propagation ℕ
+  new_kind m = kind_by (is_named m) m
+
+  abbrev pub new_masters : World ℕ → ℕ → Option ℕ
+  new_masters w = with_new_groups nat_eq number_for w.master named
+
+  abbrev pub retyped_between : World ℕ → World ℕ
+  retyped_between w = between w new_kind (new_masters w)
+
+  abbrev cut : Mount ℕ → Mount ℕ
+  cut m = record m { propagation = new_kind m }
+
+  pub retyped_so : (m : Mount ℕ) → retyped_mount nat_eq number_for word named m ≡ cut m
+  retyped_so m = by (is_named m)
+    where
+      by : (b : Bool) → cond b (record m { propagation = type_after (number_for m.number) word m.propagation }) m
+          ≡ record m { propagation = kind_by b m }
+      by true = refl
+      by false = refl
+
+  -- masters of new groups are set alike
+  new_alike : (a b : ℕ → Option ℕ) (g : ℕ) → a g ≡ b g → (list : List (Mount ℕ))
+      → with_new_groups nat_eq number_for a list g ≡ with_new_groups nat_eq number_for b list g
+  new_alike a b g e [] = e
+  new_alike a b g e (m ∷ rest) =
+      new_alike (with_master nat_eq a (number_for m.number) (master_after m.propagation))
+      (with_master nat_eq b (number_for m.number) (master_after m.propagation)) g
+      (ap (cond (nat_eq g (number_for m.number)) (master_after m.propagation)) e) rest
+
+  -- those of other groups stay
+  old_kept : (a : ℕ → Option ℕ) (g : ℕ) → ((k : ℕ) → nat_eq g (fresh k) ≡ false) → (list : List (Mount ℕ))
+      → with_new_groups nat_eq number_for a list g ≡ a g
+  old_kept a g old [] = refl
+  old_kept a g old (m ∷ rest) =
+      old_kept (with_master nat_eq a (number_for m.number) (master_after m.propagation)) g old rest
+      ∙ ap (λ b. cond b (master_after m.propagation) (a g)) (old (index_of nat_eq named m.number))
+
+-- a number that a mount's group or master has is none of those handed in
+unlike : (w : World ℕ) (supply : Fresh ℕ) → Serves nat_eq w supply → (m : Mount ℕ) → Among m w.mounts → (g : ℕ)
+    → source_of m.propagation ≡ Some g → (k : ℕ) → nat_eq g (supply k) ≡ false
+unlike w supply serves m n g e k =
+    false_from_ne_true (nat_eq g (supply k)) (λ same.
+    true≢false (sym (ap (λ i. list_any (nat_eq i) (numbers_in_use w)) (sym (eqb-true g (supply k) same))
+    ∙ is_among_numbers (numbers_in_use w) g
+    (mount_uses w m n g (inr (subst (λ o. Among g (option_to_list o)) (sym e) (inl refl))))) ∙ serves.unused k))
+
+-- the group of this number is new
+abbrev pub IsNewGroup : Fresh ℕ → TypeWord → ℕ → Type 0
+IsNewGroup fresh word g = (takes_groups word ≡ true) × (k : ℕ) × (fresh k ≡ g)
+
+-- it has no master yet
+new_none : (world : World ℕ) → IsWorld nat_eq world → (fresh : Fresh ℕ)
+    → Serves nat_eq world fresh → (k : ℕ) → world.master (fresh k) ≡ None
+new_none world is fresh serves k =
+    (all_in_use world is).groups (fresh k) (false_from_ne_true (has_members nat_eq world.mounts (fresh k)) (λ h.
+    let y = any_among (is_member_of nat_eq (fresh k)) world.mounts h in
+    true≢false (sym (eq-eqb (fresh k) (fresh k) refl) ∙ unlike world fresh serves y.0 y.1 (fresh k)
+    (source_from y.0.propagation (fresh k) (member_group (fresh k) y.0 y.2)) k)))
+
+module _ (world : World ℕ) (names : List TaskName) (is : IsWorld nat_eq world)
+    (sealed_off : sealed nat_eq world names ≡ true) (fresh : Fresh ℕ) (serves : Serves nat_eq world fresh)
+    (word : TypeWord) (named : List (Mount ℕ))
+    (named_own : (m : Mount ℕ) → Among m named → Among m (own_mounts nat_eq world names))
+    (masters_there : ℕ → Option ℕ)
+    (kept_there : (g : ℕ) → IsHeard world names is sealed_off g
+    → masters_there g ≡ (part_of nat_eq world names).master g)
+    (agree : (g : ℕ) → IsNewGroup fresh word g → masters_there g ≡ new_masters fresh word named world g) where
+  abbrev part : World ℕ
+  part = part_of nat_eq world names
+
+  abbrev theirs : List (Task ℕ)
+  theirs = members world names
+
+  abbrev owns : List (Mount ℕ)
+  owns = own_mounts nat_eq world names
+
+  abbrev events : shares_no_events nat_eq world names ≡ true
+  events = (apart world names is sealed_off).events
+
+  abbrev Heard : ℕ → Type 0
+  Heard g = IsHeard world names is sealed_off g
+
+  abbrev kind : Mount ℕ → Propagation ℕ
+  kind = new_kind fresh word named
+
+  abbrev changed : Mount ℕ → Mount ℕ
+  changed m = record m { propagation = kind m }
+
+  abbrev t : World ℕ
+  t = retyped_between fresh word named world
+
+  abbrev t_part : World ℕ
+  t_part = between part kind masters_there
+
+  abbrev has : World ℕ → ℕ → Bool
+  has w g = has_members nat_eq w.mounts g
+
+  in_world : (m : Mount ℕ) → Among m owns → Among m world.mounts
+  in_world m own = (among-from_filter (is_own_mount nat_eq world names) world.mounts m own).0
+
+  -- The mounts named are theirs, and no others have their numbers
+  own_named : (m : Mount ℕ) → Among m world.mounts → is_named fresh word named m ≡ true → Among m owns
+  own_named m n h =
+      let other = any_among (λ (o : Mount ℕ). nat_eq m.number o.number) named h in
+      let own = named_own other.0 other.1 in
+      let same : other.0 ≡ m =
+      sym (numbered world names is.mounts other.0 (in_world other.0 own))
+      ∙ ap (mount_numbered nat_eq world) (sym (eqb-true m.number other.0.number other.2))
+      ∙ numbered world names is.mounts m n in
+      subst (λ k. Among k owns) same own
+
+  part_named : (m : Mount ℕ) → Among m part.mounts → is_named fresh word named m ≡ true → Among m owns
+  part_named m n h =
+      let from = among-from_filter_map (keep world names theirs) world.mounts m n in
+      ⊎_elim
+      (λ same. own_named m (subst (λ k. Among k world.mounts) same from.1) h)
+      (λ stub. absurd (true≢false (sym (among-from_filter (is_own_mount nat_eq world names) world.mounts from.0
+      (own_named from.0 from.1 (ap (is_named fresh word named) stub.0 ∙ h))).1 ∙ stub.1)))
+      (kept_how world names theirs from.0 m from.2)
+
+  -- Members before inheritance
+  member_was : (m : Mount ℕ) (g : ℕ) → is_named fresh word named m ≡ false → is_member_of nat_eq g (changed m) ≡ true
+      → is_member_of nat_eq g m ≡ true
+  member_was m g e h = sym (ap (λ c. holds_of (nat_eq g) (group_of (kind_by fresh word named c m))) e) ∙ h
+
+  member_own : (m : Mount ℕ) → Among m world.mounts → (g : ℕ) → Heard g → is_member_of nat_eq g (changed m) ≡ true
+      → Among m owns
+  member_own m n g heard h = by (is_named fresh word named m) refl
+    where
+      by : (b : Bool) → is_named fresh word named m ≡ b → Among m owns
+      by true e = own_named m n e
+      by false e =
+          ⊎_elim (λ own. own)
+          (λ other. absurd (none_hears world names is.mounts events g m heard.0 other (member_was m g e h)))
+          (sides world names is.mounts events m g n (member_group g m (member_was m g e h)))
+
+  part_member_own : (m : Mount ℕ) → Among m part.mounts → (g : ℕ) → is_member_of nat_eq g (changed m) ≡ true
+      → Among m owns
+  part_member_own m n g h = by (is_named fresh word named m) refl
+    where
+      by : (b : Bool) → is_named fresh word named m ≡ b → Among m owns
+      by true e = part_named m n e
+      by false e =
+          part_source world names is sealed_off m n g
+          (source_from m.propagation g (member_group g m (member_was m g e h)))
+
+  is_in : (m : Mount ℕ) → Among m owns → (g : ℕ) → is_member_of nat_eq g (changed m) ≡ true
+      → (has t g ≡ true) × (has t_part g ≡ true)
+  is_in m own g h = (
+    any_from_among (is_member_of nat_eq g) t.mounts (changed m) (among-map changed world.mounts m (in_world m own)) h,
+    any_from_among (is_member_of nat_eq g) t_part.mounts (changed m)
+        (among-map changed part.mounts m (own_in_part world names is sealed_off m own)) h,
+  )
+
+  has_alike : (g : ℕ) → Heard g → has t_part g ≡ has t g
+  has_alike g heard =
+      same_truth (has t_part g) (has t g)
+      (λ h. let y = any_among (is_member_of nat_eq g) t_part.mounts h in
+      let from = among-from_map changed part.mounts y.0 y.1 in
+      let its = ap (is_member_of nat_eq g) (sym from.2) ∙ y.2 in
+      (is_in from.0 (part_member_own from.0 from.1 g its) g its).0)
+      (λ h. let y = any_among (is_member_of nat_eq g) t.mounts h in
+      let from = among-from_map changed world.mounts y.0 y.1 in
+      let its = ap (is_member_of nat_eq g) (sym from.2) ∙ y.2 in
+      (is_in from.0 (member_own from.0 from.1 g heard its) g its).1)
+
+  -- Groups of before and their masters
+  heard_old : (g : ℕ) → Heard g → (k : ℕ) → nat_eq g (fresh k) ≡ false
+  heard_old g heard =
+      let own = own_member world names is.mounts events g heard.0 heard.1 in
+      unlike world fresh serves own.0 (in_world own.0 own.1) g
+      (source_from own.0.propagation g (member_group g own.0 own.2))
+
+  -- a group of theirs, or a new one
+  abbrev IsGroup : ℕ → Type 0
+  IsGroup g = Heard g ⊎ IsNewGroup fresh word g
+
+  base_heard : (g above : ℕ) → IsGroup g → world.master g ≡ Some above → Heard above
+  base_heard g above group e =
+      ⊎_elim (above_heard world names is sealed_off above g e) (λ new. none_is_some above
+      (sym (ap world.master (sym new.2) ∙ new_none world is fresh serves new.1) ∙ e)) group
+
+  masters_agree : (g : ℕ) → IsGroup g → masters_there g ≡ t.master g
+  masters_agree g group =
+      ⊎_elim
+      (λ heard. kept_there g heard ∙ master_same world names is sealed_off g heard
+      ∙ sym (old_kept fresh word named world.master g (heard_old g heard) named))
+      (agree g) group
+
+  -- the masters of groups after are heard
+  heard_from : (a : ℕ → Option ℕ) (g above : ℕ) → (a g ≡ Some above → Heard above) → (list : List (Mount ℕ))
+      → ((m : Mount ℕ) → Among m list → Among m owns)
+      → with_new_groups nat_eq (numbers_by nat_eq fresh named) a list g ≡ Some above → Heard above
+  heard_from a g above base [] own e = base e
+  heard_from a g above base (m ∷ rest) own e =
+      heard_from (with_master nat_eq a (numbers_by nat_eq fresh named m.number) (master_after m.propagation)) g above
+      (by (nat_eq g (numbers_by nat_eq fresh named m.number))) rest (λ x n. own x (inr n)) e
+    where
+      by : (b : Bool) → cond b (master_after m.propagation) (a g) ≡ Some above → Heard above
+      by true f =
+          heard_by_own world names is sealed_off m (own m (inl refl)) above (master_source m.propagation above f)
+      by false f = base f
+
+  -- Heirs
+  up_world : (g : ℕ) → Heard g → groups_up t g ≡ groups_up world g
+  up_world g heard =
+      ap (λ n. chain n t.master g) (length-map world.mounts changed)
+      ∙ chain_alike world.master t.master Heard (λ a b e. above_heard world names is sealed_off b a e)
+      (λ a p. old_kept fresh word named world.master a (heard_old a p) named) (length world.mounts) g heard
+
+  up_part : (g : ℕ) → Heard g → groups_up t_part g ≡ groups_up world g
+  up_part g heard =
+      ap (λ n. chain n t_part.master g) (length-map part.mounts changed)
+      ∙ chain_alike part.master masters_there Heard
+      (λ a b e p. above_heard world names is sealed_off b a (sym (master_same world names is sealed_off a p) ∙ e) p)
+      kept_there (length part.mounts) g heard
+      ∙ same_up world names is.mounts events g heard.0 heard.1
+
+  heir_alike : (o : Option ℕ) → ((g : ℕ) → o ≡ Some g → Heard g) → heir nat_eq t_part o ≡ heir nat_eq t o
+  heir_alike None heard = refl
+  heir_alike (Some g) heard =
+      ap (find (has t_part)) (up_part g (heard g refl))
+      ∙ find_alike (has t_part) (has t) (groups_up world g)
+      (λ x m. has_alike x (up_heard world names is sealed_off g x (heard g refl) m))
+      ∙ ap (find (has t)) (sym (up_world g (heard g refl)))
+
+  -- Types after
+  slave_heard : (m : Mount ℕ) → Among m owns → (g : ℕ) → master_after (kind m) ≡ Some g → Heard g
+  slave_heard m own g = by (is_named fresh word named m)
+    where
+      by : (b : Bool) → master_after (kind_by fresh word named b m) ≡ Some g → Heard g
+      by true e =
+          heard_by_own world names is sealed_off m own g
+          (slave_was (numbers_by nat_eq fresh named m.number) word m.propagation g e)
+      by false e = heard_by_own world names is sealed_off m own g (master_source m.propagation g e)
+
+  own_alike : (m : Mount ℕ) → Among m owns → inherited nat_eq t_part (kind m) ≡ inherited nat_eq t (kind m)
+  own_alike m own = by (kind m) refl
+    where
+      by : (k : Propagation ℕ) → kind m ≡ k → inherited nat_eq t_part k ≡ inherited nat_eq t k
+      by (Shared g) e = refl
+      by (Slave g) e =
+          ap slave_of_heir (heir_alike (Some g) (λ h f. slave_heard m own h (ap master_after e ∙ f)))
+      by Private e = refl
+      by Unbindable e = refl
+
+  nowhere_alike : (m : Mount ℕ) → Among m world.mounts → m.namespace ≡ None
+      → inherited nat_eq t_part (kind m) ≡ inherited nat_eq t (kind m)
+  nowhere_alike m n none = by (is_named fresh word named m) refl
+    where
+      alone : is_private m.propagation ≡ true
+      alone =
+          (and_parts (not (is_some m.mount_point)) (is_private m.propagation)
+          (sym (ap (λ o. is_some o || (not (is_some m.mount_point) && is_private m.propagation)) none)
+          ∙ among_from_list_all is_nowhere_or_attached world.mounts is.mounts.nowhere m n)).1
+
+      by : (b : Bool) → is_named fresh word named m ≡ b
+          → inherited nat_eq t_part (kind m) ≡ inherited nat_eq t (kind m)
+      by true e = own_alike m (own_named m n e)
+      by false e =
+          ap (λ c. inherited nat_eq t_part (kind_by fresh word named c m)) e
+          ∙ private_alike t_part t m.propagation alone
+          ∙ sym (ap (λ c. inherited nat_eq t (kind_by fresh word named c m)) e)
+
+  -- Groups after
+  abbrev HasGroup : ℕ → Type 0
+  HasGroup g = IsGroup g × (has t g ≡ true) × (has t_part g ≡ true)
+
+  shared_group : (m : Mount ℕ) → Among m owns → (g : ℕ) → group_of (kind m) ≡ Some g → IsGroup g
+  shared_group m own g = by (is_named fresh word named m)
+    where
+      by : (b : Bool) → group_of (kind_by fresh word named b m) ≡ Some g → IsGroup g
+      by true e =
+          ⊎_elim (λ was. inl (heard_by_own world names is sealed_off m own g was))
+          (λ new. inr (new.0, index_of nat_eq named m.number, new.1))
+          (shared_was (numbers_by nat_eq fresh named m.number) word m.propagation g e)
+      by false e = inl (heard_by_own world names is sealed_off m own g (source_from m.propagation g e))
+
+  group_after : (m : Mount ℕ) → Among m owns → (g : ℕ) → source_of (inherited nat_eq t (kind m)) ≡ Some g → HasGroup g
+  group_after m own g = by (kind m) refl
+    where
+      of_heir : (s : ℕ) → Heard s → (o : Option ℕ) → heir nat_eq t (Some s) ≡ o
+          → source_of (slave_of_heir o) ≡ Some g → HasGroup g
+      of_heir s heard None f e = none_is_some g e
+      of_heir s heard (Some above) f e =
+          let its : Heard above =
+          up_heard world names is sealed_off s above heard
+          (subst (Among above) (up_world s heard) (found_among (has t) (groups_up t s) above f)) in
+          let in_it = found_passes (has t) (groups_up t s) above f in
+          subst HasGroup (same_Some above g e) (inl its, in_it, has_alike above its ∙ in_it)
+
+      by : (k : Propagation ℕ) → kind m ≡ k → source_of (inherited nat_eq t k) ≡ Some g → HasGroup g
+      by (Shared h) f e =
+          let mine = ap group_of f ∙ e in
+          let both = is_in m own g (ap (holds_of (nat_eq g)) mine ∙ eq-eqb g g refl) in
+          (shared_group m own g mine, both.0, both.1)
+      by (Slave s) f e = of_heir s (slave_heard m own s (ap master_after f)) (heir nat_eq t (Some s)) refl e
+      by Private f e = none_is_some g e
+      by Unbindable f e = none_is_some g e
+
+  pub retyped_alike : AreTypedAlike world names is sealed_off
+      (kind_left world kind (new_masters fresh word named world)) (kind_left part kind masters_there)
+      (master_left world kind (new_masters fresh word named world)) (master_left part kind masters_there)
+  retyped_alike = record {
+    types = λ m n place. ⊎_elim
+        (λ own. own_alike m (among-filter (is_own_mount nat_eq world names) world.mounts m n own))
+        (nowhere_alike m n) place;
+    masters = λ m own g e.
+        let its = group_after m own g e in
+        master_left_so part kind masters_there g its.2
+        ∙ ap (heir nat_eq t_part) (masters_agree g its.0)
+        ∙ heir_alike (t.master g)
+        (λ above f. heard_from world.master g above (base_heard g above its.0) named named_own f)
+        ∙ sym (master_left_so world kind (new_masters fresh word named world) g its.1);
+  }
+
+-- The numbers that are handed in
+module _ (world : World ℕ) (names : List TaskName) (is : IsWorld nat_eq world)
+    (sealed_off : sealed nat_eq world names ≡ true) (fresh : Fresh ℕ) (serves : Serves nat_eq world fresh)
+    (word : TypeWord) (named : List (Mount ℕ))
+    (named_own : (m : Mount ℕ) → Among m named → Among m (own_mounts nat_eq world names)) where
+  abbrev there : World ℕ
+  there = part_of nat_eq world names
+
+  abbrev taken : Mount ℕ → Propagation ℕ
+  taken = new_kind fresh word named
+
+  old_there : (supply : Fresh ℕ) → ((m : Mount ℕ) → Among m (own_mounts nat_eq world names) → (g : ℕ)
+      → source_of m.propagation ≡ Some g → (k : ℕ) → nat_eq g (supply k) ≡ false)
+      → (g : ℕ) → IsHeard world names is sealed_off g → new_masters supply word named there g ≡ there.master g
+  old_there supply unlike_own g heard =
+      let own = own_member world names is.mounts (apart world names is sealed_off).events g heard.0 heard.1 in
+      old_kept supply word named there.master g
+      (unlike_own own.0 own.1 g (source_from own.0.propagation g (member_group g own.0 own.2))) named
+
+  -- one supply for both
+  new_agree : (g : ℕ) → IsNewGroup fresh word g
+      → new_masters fresh word named there g ≡ new_masters fresh word named world g
+  new_agree g new =
+      new_alike fresh word named there.master world.master g
+      (ap (cond (list_any (is_member_of nat_eq g) (own_mounts nat_eq world names)) (world.master g)) (sym none)
+      ∙ by (list_any (is_member_of nat_eq g) (own_mounts nat_eq world names))) named
+    where
+      none : world.master g ≡ None
+      none = ap world.master (sym new.2) ∙ new_none world is fresh serves new.1
+
+      by : (b : Bool) → cond b (world.master g) (world.master g) ≡ world.master g
+      by true = refl
+      by false = refl
+
+  pub alike_by_one : AreTypedAlike world names is sealed_off
+      (kind_left world taken (new_masters fresh word named world))
+      (kind_left there taken (new_masters fresh word named there))
+      (master_left world taken (new_masters fresh word named world))
+      (master_left there taken (new_masters fresh word named there))
+  alike_by_one =
+      retyped_alike world names is sealed_off fresh serves word named named_own (new_masters fresh word named there)
+      (old_there fresh (λ m own. unlike world fresh serves m
+      (among-from_filter (is_own_mount nat_eq world names) world.mounts m own).0)) new_agree
+
+  -- two supplies, where no group is taken
+  module _ (other : Fresh ℕ) (serves_there : Serves nat_eq (part_of nat_eq world names) other)
+      (no_groups : takes_groups word ≡ false) where
+    pub same_kind : (m : Mount ℕ) → new_kind other word named m ≡ taken m
+    same_kind m = by (is_named fresh word named m)
+      where
+        by : (b : Bool) → kind_by other word named b m ≡ kind_by fresh word named b m
+        by true =
+            same_after (numbers_by nat_eq other named m.number) (numbers_by nat_eq fresh named m.number) word
+            m.propagation no_groups
+        by false = refl
+
+    pub alike_by_any : AreTypedAlike world names is sealed_off
+        (kind_left world taken (new_masters fresh word named world))
+        (kind_left there taken (new_masters other word named there))
+        (master_left world taken (new_masters fresh word named world))
+        (master_left there taken (new_masters other word named there))
+    alike_by_any =
+        retyped_alike world names is sealed_off fresh serves word named named_own (new_masters other word named there)
+        (old_there other (λ m own. unlike there other serves_there m (own_in_part world names is sealed_off m own)))
+        (λ g new. absurd (true≢false (sym new.0 ∙ no_groups)))

@@ -1,0 +1,278 @@
+-- Each mount(2) that changes a propagation type ends in the part as in the world.
+use Rattle.std.proofs.Common.{◌≡◌, refl, sym, ap, subst, ◌∙◌, ⊎_elim, ℕ, zero, suc, nat_eq, Bool, true, false, List, [], ◌∷◌, Option, Some, None, Ok, Err, map, not}
+use Rattle.std.specs.Prelude.{IfOk, is_ok}
+use Rattle.vt_spec.specs.Errors.{unless}
+use Rattle.vt_spec.specs.Language.Answers.Answer.{Done}
+use Rattle.vt_spec.specs.Language.Calls.{TaskName, TypeWord}
+use Rattle.vt_spec.specs.Language.Calls.Call.{SetType}
+use Rattle.vt_spec.specs.Lists.{Fresh, holds_of}
+use Rattle.vt_spec.specs.Machine.Invariants.{IsWorld}
+use Rattle.vt_spec.specs.Machine.Judge.{Judgement, judge_in, type_permit}
+use Rattle.vt_spec.specs.Machine.Mounts.{Location, Mount, Propagation, children, mount_tree, numbers_by, tree_from}
+use Rattle.vt_spec.specs.Machine.Outcomes.{granted}
+use Rattle.vt_spec.specs.Machine.Permits.{Permit}
+use Rattle.vt_spec.specs.Machine.Permits.Permit.{ToSetType}
+use Rattle.vt_spec.specs.Machine.Policy.{numbers_raised, policy}
+use Rattle.vt_spec.specs.Machine.Receives.{regrouped}
+use Rattle.vt_spec.specs.Machine.Rules.Mounting.{admin_rules, type_rules}
+use Rattle.vt_spec.specs.Machine.Run.{Serves}
+use Rattle.vt_spec.specs.Machine.Sealed.{is_own_mount, members, own_mounts, part_of, sealed}
+use Rattle.vt_spec.specs.Machine.Settled.{settled}
+use Rattle.vt_spec.specs.Machine.Types.{named_mounts, retyped}
+use Rattle.vt_spec.specs.Machine.Walking.{directory_walk}
+use Rattle.vt_spec.specs.Machine.World.{Task, World, mount_at, mount_numbered, task_called}
+use Rattle.vt_spec.proofs.Lists.{Among, among-filter, among-from_filter, among-from_flat_map}
+use Rattle.vt_spec.proofs.Worlds.{number-mount_in}
+use Rattle.vt_laws_mounts.specs.LettingGo.Detaching.{with_changed}
+use Rattle.vt_laws_mounts.specs.LettingGo.InUse.{AllInUse}
+use Rattle.vt_laws_mounts.proofs.letting_go.sweeps.OfWorlds.{all_in_use}
+use Rattle.vt_laws_sealed.proofs.part.part.PartOfPart.{is_own}
+use Rattle.vt_laws_members.specs.Judging.{is_theirs}
+use Rattle.vt_laws_members.proofs.judging.Grounds.{IsTheirs, its_mount, same_mount, theirs_from}
+use Rattle.vt_laws_members.proofs.judging.MountPoints.{in_own}
+use Rattle.vt_laws_members.proofs.judging.MountTrees.{children_own, own_theirs, tree_alike}
+use Rattle.vt_laws_members.specs.Changes.Changes.{EndAlike, EndsAlike, IsCallOfTheirs, grown}
+use Rattle.vt_laws_members.proofs.changes.looks.Granted.{of_rules, of_walk}
+use Rattle.vt_laws_members.proofs.changes.looks.Told.{member_called, ran, same_caller}
+use Rattle.vt_laws_members.proofs.changes.tasks.Denied.{denial_ends_alike, run_by, same_judgement, unnamed_ends_alike}
+use Rattle.vt_laws_members.proofs.changes.letting_go.Moving.{StandsHere, at_directory, one}
+use Rattle.vt_laws_members.proofs.changes.letting_go.Umounting.{of_passed}
+use Rattle.vt_laws_members.proofs.changes.part.SettledPart.{part_in_use}
+use Rattle.vt_laws_members.specs.Types.TypeChanges.{OtherTypesEndAlike, TypesEndAlike, takes_groups}
+use Rattle.vt_laws_members.proofs.types.Inherited.{kind_left, master_left, settled_so}
+use Rattle.vt_laws_members.proofs.types.Retyped.{alike_by_any, alike_by_one, new_kind, new_masters, retyped_so, same_kind}
+use Rattle.vt_laws_members.proofs.types.TypesLeft.{AreTypedAlike, types_left}
+
+-- The world after a change of types and the sweep
+module _ (w : World ℕ) (all : AllInUse w) (fresh : Fresh ℕ) (word : TypeWord) (named : List (Mount ℕ)) where
+  abbrev masters : ℕ → Option ℕ
+  masters = new_masters fresh word named w
+
+  abbrev pub after_types : World ℕ
+  after_types =
+      with_changed w (λ m. record m { propagation = kind_left w (new_kind fresh word named) masters m })
+      (master_left w (new_kind fresh word named) masters)
+
+  pub types_settled : settled nat_eq (retyped nat_eq w (numbers_by nat_eq fresh named) word named) ≡ after_types
+  types_settled =
+      (λ i. settled nat_eq (regrouped nat_eq (record w {
+        mounts = map (λ m. retyped_so fresh word named m i) w.mounts;
+        master = masters;
+      })))
+      ∙ settled_so w (new_kind fresh word named) masters all
+
+-- What a granted call sets
+module _ (world : World ℕ) (names : List TaskName) (is : IsWorld nat_eq world)
+    (sealed_off : sealed nat_eq world names ≡ true) (task : Task ℕ) (member : Among task (members world names))
+    (word : TypeWord) (recursive : Bool) where
+  abbrev On : ℕ → Type 0
+  On number = is_theirs world names number ≡ true
+
+  abbrev SetsType : Permit ℕ → Type 0
+  SetsType permit =
+      (here : Location ℕ) × (permit ≡ ToSetType here.mount word recursive) × On here.mount
+      × (is_own world names (members world names) (mount_at nat_eq world here) ≡ true)
+
+  is_so : (b : Bool) → not b ≡ false → b ≡ true
+  is_so true e = refl
+  is_so false e = sym e
+
+  sets_type : (path : List ℕ) → IfOk
+      (type_permit nat_eq (one world names is sealed_off task member) task path word recursive) SetsType
+  unfolding type_permit
+  sets_type path =
+      of_rules SetsType (admin_rules task) _
+      (of_walk (StandsHere world names is sealed_off task member) SetsType
+      (directory_walk nat_eq (one world names is sealed_off task member) task path)
+      (λ here. unless (type_rules nat_eq (one world names is sealed_off task member) task here.location)
+      (Ok (ToSetType here.location.mount word recursive))) (at_directory world names is sealed_off task member path)
+      (λ here on. of_passed SetsType
+      (type_rules nat_eq (one world names is sealed_off task member) task here.location)
+      (Ok (ToSetType here.location.mount word recursive))
+      (λ passed. (
+        here.location,
+        refl,
+        on,
+        in_own world names is task member (mount_at nat_eq world here.location)
+            (is_so (holds_of (nat_eq task.namespace) (mount_at nat_eq world here.location).namespace) passed.0),
+      ))))
+
+-- The mounts named
+module _ (world : World ℕ) (names : List TaskName) (is : IsWorld nat_eq world) where
+  abbrev part : World ℕ
+  part = part_of nat_eq world names
+
+  abbrev owns : List (Mount ℕ)
+  owns = own_mounts nat_eq world names
+
+  tree_own : (n : ℕ) (mount x : Mount ℕ) → Among mount owns → Among x (tree_from nat_eq n world.mounts mount)
+      → Among x owns
+  tree_own zero mount x own m = ⊎_elim (λ e. subst (λ k. Among k owns) (sym e) own) (λ none. absurd none) m
+  tree_own (suc n) mount x own m =
+      ⊎_elim (λ e. subst (λ k. Among k owns) (sym e) own)
+      (λ below.
+      let at = among-from_filter (is_own_mount nat_eq world names) world.mounts mount own in
+      let from = among-from_flat_map (tree_from nat_eq n world.mounts)
+      (children nat_eq world.mounts mount.number) x below in
+      let child = children_own world names is mount.number from.0 (own_theirs world names is mount at.0 at.1) from.1 in
+      tree_own n from.0 x (among-filter (is_own_mount nat_eq world names) world.mounts from.0 child.0 child.1) from.2)
+      m
+
+  module _ (number : ℕ) (theirs : IsTheirs world names is.mounts number)
+      (own : Among (mount_numbered nat_eq world number) owns) where
+    named_own : (recursive : Bool) (x : Mount ℕ) → Among x (named_mounts nat_eq world number recursive) → Among x owns
+    named_own true x m = tree_own _ (mount_numbered nat_eq world number) x own m
+    named_own false x m = ⊎_elim (λ e. subst (λ k. Among k owns) (sym e) own) (λ none. absurd none) m
+
+    named_alike : (recursive : Bool)
+        → named_mounts nat_eq part number recursive ≡ named_mounts nat_eq world number recursive
+    named_alike true =
+        ap (mount_tree nat_eq part.mounts) (same_mount world names is.mounts number theirs)
+        ∙ tree_alike world names is (mount_numbered nat_eq world number)
+        (subst (IsTheirs world names is.mounts) (sym (number-mount_in world.mounts number)) theirs)
+    named_alike false = ap (λ m. m ∷ []) (same_mount world names is.mounts number theirs)
+
+-- A granted call
+module _ (world : World ℕ) (names : List TaskName) (name : TaskName) (path : List ℕ) (word : TypeWord)
+    (recursive : Bool)
+    (it : IsCallOfTheirs world names name (SetType path word recursive)) (task : Task ℕ)
+    (called : task_called world name ≡ Some task) (fresh other : Fresh ℕ)
+    (here : Location ℕ) (on : is_theirs world names here.mount ≡ true)
+    (own : is_own world names (members world names) (mount_at nat_eq world here) ≡ true)
+    (judged : judge_in nat_eq fresh world task (SetType path word recursive)
+    ≡ Ok (ToSetType here.mount word recursive)) where
+  abbrev there : World ℕ
+  there = part_of nat_eq world names
+
+  abbrev mount_of : Mount ℕ
+  mount_of = mount_numbered nat_eq world here.mount
+
+  theirs : IsTheirs world names it.is.mounts here.mount
+  theirs = theirs_from world names it.is.mounts here.mount on
+
+  its_own : Among mount_of (own_mounts nat_eq world names)
+  its_own =
+      among-filter (is_own_mount nat_eq world names) world.mounts mount_of
+      (subst (λ m. Among m world.mounts) (sym (its_mount world names it.is.mounts here.mount theirs)) theirs.1) own
+
+  abbrev pub named : List (Mount ℕ)
+  named = named_mounts nat_eq world here.mount recursive
+
+  pub all_own : (m : Mount ℕ) → Among m named → Among m (own_mounts nat_eq world names)
+  all_own = named_own world names it.is here.mount theirs its_own recursive
+
+  abbrev kind : Mount ℕ → Propagation ℕ
+  kind = new_kind fresh word named
+
+  abbrev now : World ℕ
+  now = after_types world (all_in_use world it.is) fresh word named
+
+  module _ (kind_there : Mount ℕ → Propagation ℕ) (masters_there : ℕ → Option ℕ)
+      (settled_there : settled nat_eq (retyped nat_eq there (numbers_by nat_eq other named) word named)
+      ≡ with_changed there (λ m. record m { propagation = kind_there m }) masters_there)
+      (typed : AreTypedAlike world names it.is it.sealed_off
+      (kind_left world kind (new_masters fresh word named world)) kind_there
+      (master_left world kind (new_masters fresh word named world)) masters_there) where
+    abbrev now_there : World ℕ
+    now_there = with_changed there (λ m. record m { propagation = kind_there m }) masters_there
+
+    first : policy nat_eq fresh world name (SetType path word recursive)
+        ≡ granted Done (numbers_raised nat_eq world name [] now)
+    first =
+        ap (ran name (SetType path word recursive) world fresh) called
+        ∙ ap (run_by world names name (SetType path word recursive) it fresh other world fresh task) judged
+        ∙ ap (λ w. granted Done (numbers_raised nat_eq world name [] w))
+        (types_settled world (all_in_use world it.is) fresh word named)
+
+    second : policy nat_eq other there name (SetType path word recursive)
+        ≡ granted Done (numbers_raised nat_eq there name [] now_there)
+    second =
+        ap (ran name (SetType path word recursive) there other)
+        (same_caller world names it.is it.sealed_off name it.theirs ∙ called)
+        ∙ ap (run_by world names name (SetType path word recursive) it fresh other there other task)
+        (sym (same_judgement world names name (SetType path word recursive) it fresh other task called) ∙ judged)
+        ∙ ap (λ l. granted Done (numbers_raised nat_eq there name []
+        (settled nat_eq (retyped nat_eq there (numbers_by nat_eq other l) word l))))
+        (named_alike world names it.is here.mount theirs its_own recursive)
+        ∙ ap (λ w. granted Done (numbers_raised nat_eq there name [] w)) settled_there
+
+    pub type_alike : EndsAlike world names name (SetType path word recursive) fresh other
+    type_alike =
+        subst (λ p. EndAlike
+        (grown names name (SetType path word recursive)
+        (policy nat_eq fresh world name (SetType path word recursive)).answer)
+        (policy nat_eq fresh world name (SetType path word recursive)) p) (sym second)
+        (subst (λ o. EndAlike (grown names name (SetType path word recursive) o.answer) o
+        (granted Done (numbers_raised nat_eq there name [] now_there))) (sym first)
+        (record {
+          answer = refl;
+          part = types_left world names it.is it.sealed_off
+              (kind_left world kind (new_masters fresh word named world)) kind_there
+              (master_left world kind (new_masters fresh word named world)) masters_there typed name;
+        }))
+
+  pub by_one : Serves nat_eq world fresh → fresh ≡ other
+      → EndsAlike world names name (SetType path word recursive) fresh other
+  by_one serves same =
+      type_alike
+      (kind_left there kind (new_masters fresh word named there))
+      (master_left there kind (new_masters fresh word named there))
+      (ap (λ supply. settled nat_eq (retyped nat_eq there (numbers_by nat_eq supply named) word named)) (sym same)
+      ∙ types_settled there (part_in_use world names it.is it.sealed_off) fresh word named)
+      (alike_by_one world names it.is it.sealed_off fresh serves word named all_own)
+
+  pub by_any : Serves nat_eq world fresh → Serves nat_eq there other → takes_groups word ≡ false
+      → EndsAlike world names name (SetType path word recursive) fresh other
+  by_any serves serves_there no_groups =
+      type_alike
+      (kind_left there kind (new_masters other word named there))
+      (master_left there kind (new_masters other word named there))
+      (types_settled there (part_in_use world names it.is it.sealed_off) other word named
+      ∙ (λ i. with_changed there
+      (λ m. record m { propagation = kind_left there (λ x. same x i) (new_masters other word named there) m })
+      (master_left there (λ x. same x i) (new_masters other word named there))))
+      (alike_by_any world names it.is it.sealed_off fresh serves word named all_own other serves_there no_groups)
+    where
+      same : (m : Mount ℕ) → new_kind other word named m ≡ kind m
+      same = same_kind world names it.is it.sealed_off fresh serves word named all_own other serves_there no_groups
+
+-- A call, granted or refused
+module _ (world : World ℕ) (names : List TaskName) (name : TaskName) (path : List ℕ) (word : TypeWord)
+    (recursive : Bool) (it : IsCallOfTheirs world names name (SetType path word recursive)) (fresh other : Fresh ℕ)
+    (ends : (task : Task ℕ) → task_called world name ≡ Some task
+    → (here : Location ℕ) → is_theirs world names here.mount ≡ true
+    → is_own world names (members world names) (mount_at nat_eq world here) ≡ true
+    → judge_in nat_eq fresh world task (SetType path word recursive) ≡ Ok (ToSetType here.mount word recursive)
+    → EndsAlike world names name (SetType path word recursive) fresh other) where
+  judged_by : (task : Task ℕ) (member : Among task (members world names)) → task_called world name ≡ Some task
+      → (j : Judgement ℕ) → judge_in nat_eq fresh world task (SetType path word recursive) ≡ j
+      → IfOk j (SetsType world names it.is it.sealed_off task member word recursive)
+      → EndsAlike world names name (SetType path word recursive) fresh other
+  judged_by task member e (Ok permit) judged its = ends task e its.0 its.2 its.3 (judged ∙ ap Ok its.1)
+  judged_by task member e (Err deny) judged its =
+      denial_ends_alike world names name (SetType path word recursive) it fresh other
+      (ap (λ o. is_ok (ran name (SetType path word recursive) world fresh o).answer) e
+      ∙ ap (λ j. is_ok
+      (run_by world names name (SetType path word recursive) it fresh other world fresh task j).answer) judged)
+
+  all_end : (o : Option (Task ℕ)) → task_called world name ≡ o
+      → EndsAlike world names name (SetType path word recursive) fresh other
+  all_end None e = unnamed_ends_alike world names name (SetType path word recursive) it fresh other e
+  all_end (Some task) e =
+      let member = member_called world names it.is it.sealed_off name it.theirs task e in
+      judged_by task member e (judge_in nat_eq fresh world task (SetType path word recursive)) refl
+      (sets_type world names it.is it.sealed_off task member word recursive path)
+
+pub types_end_alike : TypesEndAlike
+types_end_alike world names name path word recursive it fresh serves =
+    all_end world names name path word recursive it fresh fresh
+    (λ task e here on own judged.
+    by_one world names name path word recursive it task e fresh fresh here on own judged serves refl)
+    (task_called world name) refl
+
+pub other_types_end_alike : OtherTypesEndAlike
+other_types_end_alike world names name path word recursive it no_groups fresh other serves serves_there =
+    all_end world names name path word recursive it fresh other
+    (λ task e here on own judged.
+    by_any world names name path word recursive it task e fresh other here on own judged serves serves_there no_groups)
+    (task_called world name) refl

@@ -1,5 +1,0 @@
-use Rattle.vt_laws_members_changes.proofs.mounts.Remounting.{remounts_end_alike}
-use Rattle.vt_laws_members_changes.proofs.mounts.calls_of_theirs_that_change_mounts_end_alike.Goals as goal
-
-pub returns : goal.returns
-returns c = record { remount = remounts_end_alike }

@@ -1,5 +1,0 @@
-use Rattle.vt_laws_members_changes.proofs.names.NamesEnding.{unlinks_end_alike}
-use Rattle.vt_laws_members_changes.proofs.names.calls_of_theirs_that_take_names_end_alike.Goals as goal
-
-pub returns : goal.returns
-returns c = record { unlink = unlinks_end_alike }

@@ -1,8 +1,0 @@
-//! What calls of a task of a sealed set that make, give and take names through overlays answer and change, in the
-//! world and in the part of the set.
-//!
-//! Each public function is a theorem of the written policy, and does nothing.
-#![tactic(auto)]
-
-pub mod each_call;
-pub mod names;

@@ -1,8 +1,0 @@
-use Rattle.vt_laws_members_turns.proofs.turns.InRounds.{their_turns_leave_as_alone, their_turns_reply_as_alone}
-use Rattle.vt_laws_members_turns.proofs.turns.turns_of_theirs_reply_as_alone.Goals as goal
-
-pub returns-clause-alone : goal.returns-clause-alone
-returns-clause-alone c = their_turns_reply_as_alone
-
-pub returns-clause-left : goal.returns-clause-left
-returns-clause-left c = their_turns_leave_as_alone

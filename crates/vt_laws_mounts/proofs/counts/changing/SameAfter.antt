@@ -1,0 +1,74 @@
+-- The world with the changed inodes in it is the world after the change.
+use Rattle.std.proofs.Common.{◌≡◌, refl, sym, ap, subst, ◌∙◌, ℕ, nat_eq, Bool, true, false, cond, List, [], ◌∷◌, map, is_some}
+use Rattle.vt_spec.specs.FileTree.{FileTree}
+use Rattle.vt_spec.specs.Machine.Filesystems.{with_files}
+use Rattle.vt_spec.specs.Machine.SameWorlds.{SameFilesystem, SameFilesystems, SameWorlds}
+use Rattle.vt_spec.specs.Machine.World.{Filesystem, filesystem_numbered, replaced_if_numbered}
+use Rattle.vt_spec.specs.Inodes.{changed, node_in}
+use Rattle.vt_laws_mounts.specs.LettingGo.TreeChanges.{with_tree}
+use Rattle.vt_laws_mounts.specs.Counts.BesideOverlays.{CountedChangesAreSweptBesideOverlays}
+use Rattle.vt_laws_mounts.specs.Counts.Changing.{CountedChangesAreSwept, filesystem_of}
+use Rattle.vt_laws_mounts.proofs.counts.changing.Changes as Changes
+use Rattle.vt_laws_mounts.proofs.counts.Listed.{among_by_times, same_numbers_are_permuted}
+use Rattle.vt_laws_rules.proofs.same.SameMany.{same_filesystem_itself}
+
+-- two worlds that differ in the order of the numbers of one filesystem
+same_filesystems : (one other : Filesystem ℕ) → one.number ≡ other.number → SameFilesystem one other
+    → (filesystems : List (Filesystem ℕ))
+    → SameFilesystems (map (replaced_if_numbered nat_eq one) filesystems)
+    (map (replaced_if_numbered nat_eq other) filesystems)
+same_filesystems one other number same [] = tt
+same_filesystems one other number same (first ∷ rest) = (
+  subst (λ n. SameFilesystem (cond (nat_eq one.number first.number) one first)
+      (cond (nat_eq n first.number) other first)) number
+      (by (nat_eq one.number first.number)),
+  same_filesystems one other number same rest,
+)
+  where
+    by : (b : Bool) → SameFilesystem (cond b one first) (cond b other first)
+    by true = same
+    by false = same_filesystem_itself first
+
+pub counted_changes_are_swept_beside_overlays : CountedChangesAreSweptBesideOverlays
+counted_changes_are_swept_beside_overlays fresh world location inodes change is files tree once lists =
+    subst (SameWorlds (with_tree world (filesystem_of world location) files))
+    (sym (Changes.after_is fresh world location inodes change is)) (record {
+      mounts = refl;
+      master = refl;
+      filesystems = same_filesystems (with_files old files) (with_files old left) refl
+          (record { number = refl; files = record { tree = same_tree; numbers = same_numbers }; overlay = refl })
+          world.filesystems;
+      namespaces = refl;
+      tasks = refl;
+    })
+  where
+    old : Filesystem ℕ
+    old = filesystem_numbered nat_eq world (filesystem_of world location)
+
+    left : FileTree ℕ
+    left = Changes.left fresh world location inodes change is
+
+    same_tree : files.tree ≡ left.tree
+    same_tree =
+        tree ∙ (λ i. record {
+          root = (Changes.counted_then fresh world location inodes change is).root i;
+          node = λ n. (Changes.counted_then fresh world location inodes change is).node n i;
+        })
+
+    same_numbers : Rattle.std.specs.List.Sorted.IsPermutation files.numbers left.numbers
+    same_numbers =
+        same_numbers_are_permuted files.numbers left.numbers once
+        (Changes.counted_then fresh world location inodes change is).once
+        (λ n. lists n ∙ ap (λ t. is_some (t.node n)) tree ∙ there ((changed nat_eq inodes change).inode n)
+        ∙ sym (among_by_times n left.numbers (is_some ((changed nat_eq inodes change).inode n))
+        (Changes.left_times fresh world location inodes change is n)))
+      where
+        there : (o : Rattle.std.specs.Prelude.Option (Rattle.vt_spec.specs.Inodes.Inode ℕ))
+            → is_some (node_in o) ≡ is_some o
+        there Rattle.std.specs.Prelude.None = refl
+        there (Rattle.std.specs.Prelude.Some inode) = refl
+
+pub counted_changes_are_swept : CountedChangesAreSwept
+counted_changes_are_swept fresh world location inodes change is files tree once lists =
+    counted_changes_are_swept_beside_overlays fresh world location inodes change
+    (Changes.is_change_of_plain world location inodes change is) files tree once lists

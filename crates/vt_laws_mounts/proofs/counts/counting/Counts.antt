@@ -1,0 +1,273 @@
+-- Inodes that count their uses, after each step of a change.
+use Rattle.std.proofs.Common.{◌≡◌, ◌≢◌, refl, sym, ap, subst, ◌∙◌, ⊎_elim, ℕ, suc, ◌+◌, ◌-◌, ◌≤◌, nat_eq, nat_le, eq-eqb, ne_eqb, true, false, cond, List, [], ◌∷◌, length, Option, Some, None, is_some, arith}
+use Rattle.std.proofs.lemmas.Bool.Decides.{eqb_tells, leb_tells}
+use Rattle.vt_spec.specs.FileTree.{targets_in}
+use Rattle.vt_spec.specs.Inodes.{Inode, Inodes, count_after, inode_with_node, node_in, pinned, unpinned, used_once_less, used_once_more, uses_in, with_changed, with_inode}
+use Rattle.vt_spec.specs.Tree.{Node}
+use Rattle.vt_laws_mounts.proofs.counts.counting.Entries.{changed_at, one_if}
+use Rattle.vt_laws_mounts.proofs.counts.counting.Times.{length_removed, removed, times_in, times_removed}
+
+-- Inodes that count these uses, have these nodes so far as they are there, and are as many as they count.
+pub record IsCounted (uses : ℕ → ℕ) (node : ℕ → Option (Node ℕ)) (inodes : Inodes ℕ) : Type 0 where
+  pub uses_are : (number : ℕ) → uses_in (inodes.inode number) ≡ uses number
+  pub in_use : (number : ℕ) → is_some (inodes.inode number) ≡ true → 1 ≤ uses_in (inodes.inode number)
+  pub kept : (number : ℕ) → is_some (inodes.inode number) ≡ true → node number ≡ node_in (inodes.inode number)
+  pub emptied : (number : ℕ) → is_some (inodes.inode number) ≡ false → targets_in (node number) ≡ []
+  pub list : List ℕ
+  pub listed : (number : ℕ) → times_in number list ≡ cond (is_some (inodes.inode number)) 1 0
+  pub as_many : inodes.count ≡ length list
+
+-- what holds of a changed inode, and of the others, holds of each
+pub at_or : (P : ℕ → Option (Inode ℕ) → Type 0) (inode : ℕ → Option (Inode ℕ)) (place : ℕ) (new : Option (Inode ℕ))
+    → P place new → ((number : ℕ) → number ≢ place → P number (inode number))
+    → (number : ℕ) → P number (cond (nat_eq number place) new (inode number))
+at_or P inode place new here there number =
+    ⊎_elim
+    (λ t. subst (λ b. P number (cond b new (inode number))) (sym t.0) (subst (λ n. P n new) (sym t.1) here))
+    (λ t. subst (λ b. P number (cond b new (inode number))) (sym t.0) (there number t.1))
+    (eqb_tells number place)
+
+pub one_if-itself : (number : ℕ) → one_if number number ≡ 1
+one_if-itself number = ap (λ b. cond b 1 0) (eq-eqb number number refl)
+
+pub other_if : (number other : ℕ) → number ≢ other → one_if number other ≡ 0
+other_if number other apart = ap (λ b. cond b 1 0) (ne_eqb number other apart)
+
+pub apart_one : (number other : ℕ) → one_if number other ≡ 0 → number ≢ other
+apart_one number other none same =
+    let one : one_if number other ≡ 1 = ap (λ b. cond b 1 0) (eq-eqb number other same) in
+    omega arith
+
+-- an inode that is there
+pub some_inode : (o : Option (Inode ℕ)) → is_some o ≡ true → (inode : Inode ℕ) × (o ≡ Some inode)
+some_inode None e = cc
+some_inode (Some inode) e = (inode, refl)
+
+module _ (uses : ℕ → ℕ) (node : ℕ → Option (Node ℕ)) (inodes : Inodes ℕ) (counted : IsCounted uses node inodes)
+    (place : ℕ)
+    (inode : Inode ℕ) (is : inodes.inode place ≡ Some inode) where
+  here_uses : inode.uses ≡ uses place
+  here_uses = sym (ap uses_in is) ∙ counted.uses_are place
+
+  here_in_use : 1 ≤ inode.uses
+  here_in_use = subst (λ o. 1 ≤ uses_in o) is (counted.in_use place (ap is_some is))
+
+  here_node : node place ≡ Some inode.node
+  here_node = counted.kept place (ap is_some is) ∙ ap node_in is
+
+  here_listed : times_in place counted.list ≡ 1
+  here_listed = counted.listed place ∙ ap (λ o. cond (is_some o) 1 0) is
+
+  -- one use more
+  pub counted_pinned : IsCounted (λ number. one_if number place + uses number) node (pinned nat_eq inodes place)
+  counted_pinned = subst (λ o. IsCounted (λ number. one_if number place + uses number) node
+      (with_inode nat_eq inodes place o)) (sym (ap used_once_more is)) (record {
+        uses_are = at_or (λ number o. uses_in o ≡ one_if number place + uses number) inodes.inode place more
+            (let e = here_uses in let one : one_if place place ≡ 1 = one_if-itself place in omega arith)
+            (λ number apart. let e = counted.uses_are number in let none : one_if number place
+            ≡ 0 = other_if number place apart in
+            omega arith);
+        in_use =
+            at_or (λ number o. is_some o ≡ true → 1 ≤ uses_in o) inodes.inode place more (λ e. omega arith)
+            (λ number apart. counted.in_use number);
+        kept =
+            at_or (λ number o. is_some o ≡ true → node number ≡ node_in o) inodes.inode place more (λ e. here_node)
+            (λ number apart. counted.kept number);
+        emptied =
+            at_or (λ number o. is_some o ≡ false → targets_in (node number) ≡ []) inodes.inode place more (λ e. cc)
+            (λ number apart. counted.emptied number);
+        list = counted.list;
+        listed =
+            at_or (λ number o. times_in number counted.list ≡ cond (is_some o) 1 0) inodes.inode place more here_listed
+            (λ number apart. counted.listed number);
+        as_many = counted.as_many;
+      })
+    where
+      more : Option (Inode ℕ)
+      more = Some (record { node = inode.node; uses = inode.uses + 1 })
+
+  -- one use less, after which an inode without entries may go
+  pub counted_unpinned : (left : ℕ → ℕ) → ((number : ℕ) → one_if number place + left number ≡ uses number)
+      → targets_in (node place) ≡ [] → IsCounted left node (unpinned nat_eq inodes place)
+  counted_unpinned left less empty =
+      subst (λ o. IsCounted left node
+      (record (with_inode nat_eq inodes place (used_once_less o)) {
+        count = cond (is_some o)
+            (count_after inodes.count (used_once_less o)) inodes.count;
+      })) (sym is)
+      (⊎_elim (λ t. last t.0 t.1) (λ t. kept t.0 (let h = t.1 in omega arith)) (leb_tells inode.uses 1))
+    where
+      left_here : suc (left place) ≡ inode.uses
+      left_here =
+          let e = here_uses in let one : one_if place place ≡ 1 = one_if-itself place in let f = less place in omega
+          arith
+
+      left_there : (number : ℕ) → number ≢ place → uses_in (inodes.inode number) ≡ left number
+      left_there number apart =
+          let e =
+          counted.uses_are number in let none : one_if number place ≡ 0 = other_if number place apart in let f =
+          less number in omega arith
+
+      last : nat_le inode.uses 1 ≡ true → inode.uses ≤ 1
+          → IsCounted left node
+          (record (with_inode nat_eq inodes place
+          (cond (nat_le inode.uses 1) None (Some (record inode { uses = inode.uses - 1 })))) {
+            count = count_after inodes.count
+                (cond (nat_le inode.uses 1) None (Some (record inode { uses = inode.uses - 1 })));
+          })
+      last e low = subst (λ b. IsCounted left node
+          (record (with_inode nat_eq inodes place
+          (cond b None (Some (record inode { uses = inode.uses - 1 })))) {
+            count =
+                count_after inodes.count (cond b None (Some (record inode { uses = inode.uses - 1 })));
+          })) (sym e) (record {
+            uses_are =
+                at_or (λ number o. uses_in o ≡ left number) inodes.inode place None
+                (let h = left_here in let g = here_in_use in
+                omega arith) left_there;
+            in_use =
+                at_or (λ number o. is_some o ≡ true → 1 ≤ uses_in o) inodes.inode place None (λ e. cc)
+                (λ number apart. counted.in_use number);
+            kept =
+                at_or (λ number o. is_some o ≡ true → node number ≡ node_in o) inodes.inode place None (λ e. cc)
+                (λ number apart. counted.kept number);
+            emptied =
+                at_or (λ number o. is_some o ≡ false → targets_in (node number) ≡ []) inodes.inode place None
+                (λ e. empty)
+                (λ number apart. counted.emptied number);
+            list = removed place counted.list;
+            listed = at_or (λ number o. times_in number (removed place counted.list)
+                ≡ cond (is_some o) 1 0) inodes.inode place None
+                (let all : one_if place place + times_in place
+                (removed place counted.list) ≡ times_in place counted.list = times_removed place place counted.list
+                (let h = here_listed in omega arith) in
+                let one : one_if place place ≡ 1 = one_if-itself place in let h = here_listed in omega arith)
+                (λ number apart.
+                (let all : one_if number place + times_in number
+                (removed place counted.list) ≡ times_in number counted.list = times_removed place number counted.list
+                (let h = here_listed in omega arith) in
+                let none : one_if number place ≡ 0 = other_if number place apart in
+                let same : times_in number (removed place counted.list) ≡ times_in number counted.list =
+                omega arith in same) ∙ counted.listed number);
+            as_many =
+                let h : suc (length (removed place counted.list)) ≡ length counted.list =
+                length_removed place counted.list (let h = here_listed in omega arith) in let g = counted.as_many in
+                omega arith;
+          })
+
+      kept : nat_le inode.uses 1 ≡ false → 2 ≤ inode.uses
+          → IsCounted left node
+          (record (with_inode nat_eq inodes place
+          (cond (nat_le inode.uses 1) None (Some (record inode { uses = inode.uses - 1 })))) {
+            count = count_after inodes.count
+                (cond (nat_le inode.uses 1) None (Some (record inode { uses = inode.uses - 1 })));
+          })
+      kept e high = subst (λ b. IsCounted left node
+          (record (with_inode nat_eq inodes place
+          (cond b None (Some (record inode { uses = inode.uses - 1 })))) {
+            count =
+                count_after inodes.count (cond b None (Some (record inode { uses = inode.uses - 1 })));
+          })) (sym e) (record {
+            uses_are =
+                at_or (λ number o. uses_in o ≡ left number) inodes.inode place
+                (Some (record inode { uses = inode.uses - 1 }))
+                (let h = left_here in omega arith) left_there;
+            in_use =
+                at_or (λ number o. is_some o ≡ true → 1 ≤ uses_in o) inodes.inode place
+                (Some (record inode { uses = inode.uses - 1 })) (λ e. omega arith)
+                (λ number apart. counted.in_use number);
+            kept =
+                at_or (λ number o. is_some o ≡ true → node number ≡ node_in o) inodes.inode place
+                (Some (record inode { uses = inode.uses - 1 })) (λ e. here_node) (λ number apart. counted.kept number);
+            emptied =
+                at_or (λ number o. is_some o ≡ false → targets_in (node number) ≡ []) inodes.inode place
+                (Some (record inode { uses = inode.uses - 1 })) (λ e. cc) (λ number apart. counted.emptied number);
+            list = counted.list;
+            listed =
+                at_or (λ number o. times_in number counted.list ≡ cond (is_some o) 1 0) inodes.inode place
+                (Some (record inode { uses = inode.uses - 1 })) here_listed (λ number apart. counted.listed number);
+            as_many = counted.as_many;
+          })
+
+  -- another node
+  pub counted_changed : (change : Option (Node ℕ) → Option (Node ℕ)) (new : Node ℕ)
+      → change (Some inode.node) ≡ Some new
+      → IsCounted uses (changed_at node place (change (node place))) (with_changed nat_eq inodes place change)
+  counted_changed change new becomes =
+      subst (λ o. IsCounted uses (changed_at node place (change (node place)))
+      (with_inode nat_eq inodes place (inode_with_node (change (node_in o)) o))) (sym is)
+      (subst (λ o. IsCounted uses (changed_at node place (change (node place)))
+      (with_inode nat_eq inodes place (inode_with_node o (Some inode)))) (sym becomes) (record {
+        uses_are = at_or (λ number o. uses_in o ≡ uses number) inodes.inode place now here_uses
+            (λ number apart. counted.uses_are number);
+        in_use =
+            at_or (λ number o. is_some o ≡ true → 1 ≤ uses_in o) inodes.inode place now (λ e. here_in_use)
+            (λ number apart. counted.in_use number);
+        kept = at_or (λ number o. is_some o ≡ true
+            → changed_at node place (change (node place)) number ≡ node_in o) inodes.inode place now
+            (λ e. ap (λ b. cond b (change (node place)) (node place)) (eq-eqb place place refl) ∙ ap change here_node
+            ∙ becomes)
+            (λ number apart e. ap (λ b. cond b (change (node place)) (node number)) (ne_eqb number place apart)
+            ∙ counted.kept number e);
+        emptied =
+            at_or (λ number o. is_some o ≡ false
+            → targets_in (changed_at node place (change (node place)) number) ≡ []) inodes.inode place now (λ e. cc)
+            (λ number apart e. ap (λ b. targets_in (cond b (change (node place)) (node number)))
+            (ne_eqb number place apart)
+            ∙ counted.emptied number e);
+        list = counted.list;
+        listed =
+            at_or (λ number o. times_in number counted.list ≡ cond (is_some o) 1 0) inodes.inode place now here_listed
+            (λ number apart. counted.listed number);
+        as_many = counted.as_many;
+      }))
+    where
+      now : Option (Inode ℕ)
+      now = Some (record { node = new; uses = inode.uses })
+
+-- an inode more
+pub counted_new : (uses : ℕ → ℕ) (node : ℕ → Option (Node ℕ)) (inodes : Inodes ℕ) → IsCounted uses node inodes
+    → (number : ℕ) (new : Node ℕ) → inodes.inode number ≡ None
+    → IsCounted (λ other. one_if other number + uses other) (changed_at node number (Some new))
+    (record (with_inode nat_eq inodes number (Some (record { node = new; uses = 1 }))) { count = inodes.count + 1 })
+counted_new uses node inodes counted number new vacant = record {
+  uses_are = at_or (λ other o. uses_in o ≡ one_if other number + uses other) inodes.inode number now
+      (let none : 0 ≡ uses number = sym (ap uses_in vacant) ∙ counted.uses_are number in
+      let one : one_if number number ≡ 1 = one_if-itself number in omega arith)
+      (λ other apart. let e = counted.uses_are other in let none : one_if other number
+      ≡ 0 = other_if other number apart in omega arith);
+  in_use =
+      at_or (λ other o. is_some o ≡ true → 1 ≤ uses_in o) inodes.inode number now (λ e. omega arith)
+      (λ other apart. counted.in_use other);
+  kept = at_or (λ other o. is_some o ≡ true
+      → changed_at node number (Some new) other ≡ node_in o) inodes.inode number now
+      (λ e. ap (λ b. cond b (Some new) (node number)) (eq-eqb number number refl))
+      (λ other apart e. ap (λ b. cond b (Some new) (node other)) (ne_eqb other number apart) ∙ counted.kept other e);
+  emptied =
+      at_or (λ other o. is_some o ≡ false
+      → targets_in (changed_at node number (Some new) other) ≡ []) inodes.inode number now (λ e. cc)
+      (λ other apart e. ap (λ b. targets_in (cond b (Some new) (node other))) (ne_eqb other number apart)
+      ∙ counted.emptied other e);
+  list = number ∷ counted.list;
+  listed = at_or (λ other o. one_if other number + times_in other counted.list
+      ≡ cond (is_some o) 1 0) inodes.inode number now
+      (let none : times_in number counted.list ≡ 0 = counted.listed number ∙ ap (λ o. cond (is_some o) 1 0) vacant in
+      let one : one_if number number ≡ 1 = one_if-itself number in omega arith)
+      (λ other apart. (let none : one_if other number ≡ 0 = other_if other number apart in
+      let same : one_if other number + times_in other counted.list ≡ times_in other counted.list = omega arith in
+      same) ∙ counted.listed other);
+  as_many = let g = counted.as_many in omega arith;
+}
+  where
+    now : Option (Inode ℕ)
+    now = Some (record { node = new; uses = 1 })
+
+-- what has a use is there
+pub counted_some : (uses : ℕ → ℕ) (node : ℕ → Option (Node ℕ)) (inodes : Inodes ℕ) → IsCounted uses node inodes
+    → (number : ℕ)
+    → 1 ≤ uses number → is_some (inodes.inode number) ≡ true
+counted_some uses node inodes counted number some = by (inodes.inode number) (counted.uses_are number)
+  where
+    by : (o : Option (Inode ℕ)) → uses_in o ≡ uses number → is_some o ≡ true
+    by None e = absurd (let h : 0 ≡ uses number = e in omega arith)
+    by (Some inode) e = refl

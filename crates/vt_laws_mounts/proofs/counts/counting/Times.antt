@@ -1,0 +1,159 @@
+-- How often a number stands in a list.
+use Rattle.std.proofs.Common.{◌≡◌, ◌≢◌, refl, sym, ap, subst, ◌∙◌, ⊎_elim, ℕ, suc, ◌+◌, ◌≤◌, nat_eq, eq-eqb, Bool, true, false, cond, ◌&&◌, ◌||◌, List, [], ◌∷◌, ◌++◌, length, filter, arith}
+use Rattle.std.specs.List.{list_all}
+use Rattle.std.proofs.lemmas.Bool.{and_parts}
+use Rattle.std.proofs.lemmas.Bool.Decides.{eqb_tells}
+use Rattle.vt_spec.specs.Lists.{is_among}
+use Rattle.vt_laws_mounts.specs.LettingGo.Counts.{times}
+
+-- how often this number stands in a list
+abbrev pub times_in : ℕ → List ℕ → ℕ
+times_in number = times (nat_eq number)
+
+-- what stands in a list, and what does not
+pub among_times : (number : ℕ) (list : List ℕ) → is_among nat_eq number list ≡ true → 1 ≤ times_in number list
+among_times number [] e = cc
+among_times number (other ∷ rest) e = by (nat_eq number other) e (among_times number rest)
+  where
+    by : (b : Bool) → (b || is_among nat_eq number rest) ≡ true
+        → (is_among nat_eq number rest ≡ true → 1 ≤ times_in number rest) → 1 ≤ cond b 1 0 + times_in number rest
+    by true e later = omega arith
+    by false e later = let h : 1 ≤ times_in number rest = later e in omega arith
+
+pub times_among : (number : ℕ) (list : List ℕ) → 1 ≤ times_in number list → is_among nat_eq number list ≡ true
+times_among number [] e = absurd (omega arith)
+times_among number (other ∷ rest) e = by (nat_eq number other) e (times_among number rest)
+  where
+    by : (b : Bool) → 1 ≤ cond b 1 0 + times_in number rest
+        → (1 ≤ times_in number rest → is_among nat_eq number rest ≡ true)
+        → (b || is_among nat_eq number rest) ≡ true
+    by true e later = refl
+    by false e later = later (omega arith)
+
+-- a list without the first place of a number
+abbrev pub removed : ℕ → List ℕ → List ℕ
+removed number [] = []
+removed number (other ∷ rest) = cond (nat_eq number other) rest (other ∷ removed number rest)
+
+pub times_removed : (number z : ℕ) (list : List ℕ) → 1 ≤ times_in number list
+    → times_in z (number ∷ removed number list) ≡ times_in z list
+times_removed number z [] e = absurd (omega arith)
+times_removed number z (other ∷ rest) e = ⊎_elim here (later (times_removed number z rest)) (eqb_tells number other)
+  where
+    here : (nat_eq number other ≡ true) × (number ≡ other)
+        → times_in z (number ∷ removed number (other ∷ rest)) ≡ times_in z (other ∷ rest)
+    here t =
+        ap (λ b. cond (nat_eq z number) 1 0 + times_in z (cond b rest (other ∷ removed number rest))) t.0
+        ∙ ap (λ n. cond (nat_eq z n) 1 0 + times_in z rest) t.1
+
+    later : (1 ≤ times_in number rest → times_in z (number ∷ removed number rest) ≡ times_in z rest)
+        → (nat_eq number other ≡ false) × (number ≢ other)
+        → times_in z (number ∷ removed number (other ∷ rest)) ≡ times_in z (other ∷ rest)
+    later rec t =
+        let more : 1 ≤ 0 + times_in number rest = subst (λ b. 1 ≤ cond b 1 0 + times_in number rest) t.0 e in
+        let same : cond (nat_eq z number) 1 0 + times_in z (removed number rest) ≡ times_in z rest =
+        rec (omega arith) in
+        ap (λ b. cond (nat_eq z number) 1 0 + times_in z (cond b rest (other ∷ removed number rest))) t.0
+        ∙ (let aside : cond (nat_eq z number) 1 0 + (cond (nat_eq z other) 1 0 + times_in z (removed number rest))
+        ≡ cond
+        (nat_eq z other) 1 0 + times_in z rest = omega arith in aside)
+
+pub length_removed : (number : ℕ) (list : List ℕ) → 1 ≤ times_in number list
+    → suc (length (removed number list)) ≡ length list
+length_removed number [] e = absurd (omega arith)
+length_removed number (other ∷ rest) e = by (nat_eq number other) e (length_removed number rest)
+  where
+    by : (b : Bool) → 1 ≤ cond b 1 0 + times_in number rest
+        → (1 ≤ times_in number rest → suc (length (removed number rest)) ≡ length rest)
+        → suc (length (cond b rest (other ∷ removed number rest))) ≡ suc (length rest)
+    by true e later = refl
+    by false e later = ap suc (later (omega arith))
+
+-- a list that has no number more often than another is no longer
+pub no_longer : (list other : List ℕ) → ((number : ℕ) → times_in number list ≤ times_in number other)
+    → length list ≤ length other
+no_longer [] other less = omega arith
+no_longer (first ∷ list) other less =
+    let own : nat_eq first first ≡ true = eq-eqb first first refl in
+    let here : cond (nat_eq first first) 1 0 + times_in first list ≤ times_in first other = less first in
+    let there : 1 + times_in first list ≤ times_in first other =
+    subst (λ b. cond b 1 0 + times_in first list ≤ times_in first other) own here in
+    let found : 1 ≤ times_in first other = omega arith in
+    let shorter : length list ≤ length (removed first other) = no_longer list (removed first other) (λ number.
+    let same : cond (nat_eq number first) 1 0 + times_in number (removed first other) ≡ times_in number other =
+    times_removed first number other found in
+    let all : cond (nat_eq number first) 1 0 + times_in number list ≤ times_in number other = less number in
+    omega arith) in
+    let long : suc (length (removed first other)) ≡ length other = length_removed first other found in
+    omega arith
+
+-- so lists that have each number as often are as long
+pub as_long : (list other : List ℕ) → ((number : ℕ) → times_in number list ≡ times_in number other)
+    → length list ≡ length other
+as_long list other same =
+    let one : length list ≤ length other = no_longer list other (λ number. let e = same number in omega arith) in
+    let two : length other ≤ length list = no_longer other list (λ number. let e = same number in omega arith) in
+    omega arith
+
+pub times_append : (number : ℕ) (list other : List ℕ)
+    → times_in number (list ++ other) ≡ times_in number list + times_in number other
+times_append number [] other = omega arith
+times_append number (first ∷ list) other =
+    let e : times_in number (list ++ other) ≡ times_in number list + times_in number other =
+    times_append number list other in omega arith
+
+-- a list of which all pass, and of which some do not
+filter_all : (p : ℕ → Bool) (list : List ℕ) → list_all p list ≡ true → filter p list ≡ list
+filter_all p [] e = refl
+filter_all p (first ∷ rest) e = by (p first) e (filter_all p rest)
+  where
+    by : (b : Bool) → (b && list_all p rest) ≡ true → (list_all p rest ≡ true → filter p rest ≡ rest)
+        → cond b (first ∷ filter p rest) (filter p rest) ≡ first ∷ rest
+    by true e later = ap (λ l. first ∷ l) (later e)
+    by false e later = cc
+
+all_among : (p : ℕ → Bool) (number : ℕ) (list : List ℕ) → list_all p list ≡ true → 1 ≤ times_in number list
+    → p number ≡ true
+all_among p number [] e found = absurd (omega arith)
+all_among p number (first ∷ rest) e found =
+    ⊎_elim
+    (λ t. ap p t.1 ∙ (and_parts (p first) (list_all p rest) e).0)
+    (λ t. all_among p number rest (and_parts (p first) (list_all p rest) e).1
+    (let h : 1 ≤ 0 + times_in number rest = subst
+    (λ b. 1 ≤ cond b 1 0 + times_in number rest) t.0 found in omega arith))
+    (eqb_tells number first)
+
+pub times_filter : (p : ℕ → Bool) (number : ℕ) (list : List ℕ)
+    → times_in number (filter p list) ≡ cond (p number) (times_in number list) 0
+times_filter p number [] = by (p number)
+  where
+    by : (b : Bool) → ◌≡◌ {A = ℕ} 0 (cond b 0 0)
+    by true = refl
+    by false = refl
+times_filter p number (first ∷ rest) =
+    ⊎_elim
+    (λ t. here (p first) (p number) (ap p t.1) t.0 (times_filter p number rest))
+    (λ t. later (p first) (p number) t.0 (times_filter p number rest))
+    (eqb_tells number first)
+  where
+    here : (a b : Bool) → b ≡ a → nat_eq number first ≡ true
+        → times_in number (filter p rest) ≡ cond b (times_in number rest) 0
+        → times_in number (cond a (first ∷ filter p rest) (filter p rest)) ≡ cond b
+        (cond (nat_eq number first) 1 0 + times_in number rest) 0
+    here true true e same h = ap (λ n. cond (nat_eq number first) 1 0 + n) h
+    here true false e same h = cc
+    here false true e same h = cc
+    here false false e same h = h
+
+    later : (a b : Bool) → nat_eq number first ≡ false
+        → times_in number (filter p rest) ≡ cond b (times_in number rest) 0
+        → times_in number (cond a (first ∷ filter p rest) (filter p rest)) ≡ cond b
+        (cond (nat_eq number first) 1 0 + times_in number rest) 0
+    later true true e h = ap (λ n. cond (nat_eq number first) 1 0 + n) h
+    later true false e h =
+        ap (λ c. cond c 1 0 + times_in number (filter p rest)) e
+        ∙ (let g : times_in number (filter p rest) ≡ 0 = h in omega arith)
+    later false true e h =
+        h ∙ (let g : times_in number rest ≡ 0 + times_in number rest = omega arith in g)
+        ∙ ap (λ c. cond c 1 0 + times_in number rest) (sym e)
+    later false false e h = h

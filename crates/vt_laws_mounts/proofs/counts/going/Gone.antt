@@ -1,0 +1,79 @@
+-- Mounts and filesystems that go at zero.
+use Rattle.std.proofs.Common.{◌≡◌, refl, sym, ap, ◌∙◌, ℕ, ◌+◌, nat_eq, eqb-true, Bool, true, false, true≢false, cond, not, ◌||◌, List, [], ◌∷◌, map, filter, find, Some, is_some, unwrap_or, arith}
+use Rattle.std.specs.List.{list_any}
+use Rattle.std.proofs.lemmas.Bool.{or_parts}
+use Rattle.vt_spec.specs.Lists.{any_pair, is_among}
+use Rattle.vt_spec.specs.Machine.Mounts.{Mount, mount_in, no_mount}
+use Rattle.vt_spec.specs.Machine.Settled.{is_mounted}
+use Rattle.vt_spec.specs.Machine.World.{mount_numbered}
+use Rattle.vt_laws_mounts.specs.LettingGo.Counts.{times}
+use Rattle.vt_laws_mounts.specs.LettingGo.OneByOne.{without_filesystem, without_mount}
+use Rattle.vt_laws_mounts.proofs.letting_go.Lists.{fails}
+use Rattle.vt_laws_mounts.proofs.letting_go.sweeps.LookedUp.{filesystem_is_looked_up, mount_is_looked_up}
+use Rattle.vt_laws_mounts.proofs.letting_go.leaving.PlacesLeft.{no_layers}
+use Rattle.vt_laws_mounts.proofs.letting_go.sweeps.UsesCounted.{located_while_counted, mounted_while_counted}
+use Rattle.vt_laws_mounts.specs.Counts.Going.{FilesystemGoesAtZero, MountGoesAtZero, MountTakesItsCount}
+use Rattle.vt_laws_mounts.proofs.counts.using.Swept.{plain_of}
+use Rattle.std.proofs.Math.Bool.{or-false}
+use Rattle.vt_spec.proofs.Found.{filter_all}
+use Rattle.vt_spec.proofs.Truths.{nat_eq-swapped}
+
+pub mount_goes_at_zero : MountGoesAtZero
+mount_goes_at_zero world number one =
+    mount_is_looked_up world number one
+    ∙ ap (λ b. cond (is_some (mount_numbered nat_eq world number).namespace || b) world (without_mount world number))
+    (located_while_counted world number)
+
+pub filesystem_goes_at_zero : FilesystemGoesAtZero
+filesystem_goes_at_zero world number plain =
+    filesystem_is_looked_up world number
+    ∙ ap (λ b. cond (is_mounted nat_eq world number || b) world (without_filesystem world number))
+    (no_layers number world world.filesystems (plain_of world plain))
+    ∙ ap (λ b. cond b world (without_filesystem world number))
+    (or-false (is_mounted nat_eq world number) ∙ mounted_while_counted world number)
+
+-- a list without its one element of a number
+one_taken : (test : Mount ℕ → Bool) (mounts : List (Mount ℕ)) (number : ℕ)
+    → any_pair (λ (a b : Mount ℕ). nat_eq a.number b.number) mounts ≡ false
+    → is_among nat_eq number (map (λ mount. mount.number) mounts) ≡ true
+    → times test mounts ≡ times test (filter (λ mount. not (nat_eq mount.number number)) mounts) + cond
+    (test (mount_in nat_eq mounts number)) 1 0
+one_taken test [] number one there = absurd (true≢false (sym there))
+one_taken test (first ∷ rest) number one there =
+    by (nat_eq number first.number) refl there (one_taken test rest number parts.1)
+  where
+    parts : (list_any (λ b. nat_eq first.number b.number) rest ≡ false)
+        × (any_pair (λ (a b : Mount ℕ). nat_eq a.number b.number) rest ≡ false)
+    parts = or_parts (list_any (λ b. nat_eq first.number b.number) rest)
+        (any_pair (λ (a b : Mount ℕ). nat_eq a.number b.number) rest) one
+
+    left : List (Mount ℕ)
+    left = filter (λ mount. not (nat_eq mount.number number)) rest
+
+    by : (b : Bool) → nat_eq number first.number ≡ b
+        → (b || is_among nat_eq number (map (λ mount. mount.number) rest)) ≡ true
+        → (is_among nat_eq number (map (λ mount. mount.number) rest) ≡ true → times test rest
+        ≡ times test left + cond (test (mount_in nat_eq rest number)) 1 0)
+        → times test (first ∷ rest) ≡ times test (cond (not (nat_eq first.number number)) (first ∷ left) left)
+        + cond (test (unwrap_or (cond b (Some first) (find (λ mount. nat_eq number mount.number) rest))
+        (no_mount number))) 1 0
+    by true e h later =
+        let all : left ≡ rest = filter_all (λ mount. not (nat_eq mount.number number)) rest
+        (λ mount m. ap not (nat_eq-swapped number mount.number false
+        (ap (λ k. nat_eq k mount.number) (eqb-true number first.number e)
+        ∙ fails (λ b. nat_eq first.number b.number) rest parts.0 mount m))) in
+        (let aside : cond (test first) 1 0 + times test rest
+        ≡ times test rest + cond (test first) 1 0 = omega arith in aside)
+        ∙ ap (λ l. times test l + cond (test first) 1 0) (sym all)
+        ∙ ap (λ b. times test (cond (not b) (first ∷ left) left) + cond (test first) 1 0)
+        (sym (nat_eq-swapped number first.number true e))
+    by false e h later =
+        (let l = later h in
+        let aside : cond (test first) 1 0 + times test rest ≡ (cond (test first) 1 0 + times test left) + cond
+        (test (mount_in nat_eq rest number)) 1 0 = omega arith in aside)
+        ∙ ap (λ b. times test (cond (not b) (first ∷ left) left) + cond (test (mount_in nat_eq rest number)) 1 0)
+        (sym (nat_eq-swapped number first.number false e))
+
+pub mount_takes_its_count : MountTakesItsCount
+mount_takes_its_count world number filesystem one there = one_taken
+    (λ mount. nat_eq filesystem mount.filesystem) world.mounts number one there

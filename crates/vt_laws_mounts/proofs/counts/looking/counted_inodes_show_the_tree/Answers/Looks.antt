@@ -1,0 +1,88 @@
+-- Looks at counted inodes and at the tree.
+use Rattle.std.proofs.Common.{◌≡◌, refl, sym, ap, ◌∙◌, ⊎_elim, ℕ, zero, suc, nat_eq, Bool, true, false, true≢false, cond, ◌||◌, List, [], ◌∷◌, length, Option, Some, None}
+use Rattle.vt_spec.specs.FileTree.{has_entry_to, named_parent}
+use Rattle.vt_spec.specs.Lists.{chain, is_among, when}
+use Rattle.vt_spec.specs.Rights.{is_directory}
+use Rattle.vt_spec.specs.Tree.{Content, Node, Tree, entries_in, is_directory_node, kind_of, parent_in, parent_of}
+use Rattle.vt_spec.specs.Tree.Content.{Directory, Regular, Symlink, Whiteout}
+use Rattle.vt_spec.specs.TreeInvariant.{HasOwnParents, IsTree}
+use Rattle.vt_laws_mounts.specs.Counts.Looking.{CountedTreeIsTheTree, DirectoriesLieAlike}
+use Rattle.std.proofs.Math.Bool.{or-false}
+use Rattle.std.proofs.lemmas.Bool.{cases_Bool}
+use Rattle.vt_spec.proofs.Found.{among_targets}
+
+pub counted_tree_is_the_tree : CountedTreeIsTheTree
+counted_tree_is_the_tree world filesystem inodes counted =
+    λ i. record { root = counted.root i; node = λ n. counted.node n i }
+
+-- what is no directory is its own parent
+own_parent : (own : ℕ) (o : Option (Node ℕ)) → is_directory_node o ≡ false → parent_in own o ≡ own
+own_parent own None e = refl
+own_parent own (Some node) e = by node.content e
+  where
+    by : (content : Content ℕ) → is_directory (kind_of content) ≡ false → parent_of own content ≡ own
+    by (Directory parent entries opaque) e = cc
+    by (Regular bytes) e = refl
+    by (Symlink text) e = refl
+    by Whiteout e = refl
+
+twice : (a : Bool) → (a || a) ≡ a
+twice true = refl
+twice false = refl
+
+module _ (tree : Tree ℕ) (is : IsTree tree) (own : HasOwnParents tree) (top : ℕ) where
+  abbrev above : ℕ → Option ℕ
+  above d = cond (nat_eq d tree.root) None (Some (parent_in d (tree.node d)))
+
+  abbrev named : ℕ → Option ℕ
+  named = named_parent nat_eq tree
+
+  abbrev among : List ℕ → Bool
+  among list = is_among nat_eq top list
+
+  abbrev next_of : (ℕ → List ℕ) → ℕ → Option ℕ → List ℕ
+  next_of rest d o = elim o [ None ↦ d ∷ [] | Some b ↦ d ∷ rest b ]
+
+  -- a directory without a name is its own parent
+  parent_is_own : (d : ℕ) → has_entry_to nat_eq tree (parent_in d (tree.node d)) d ≡ false
+      → parent_in d (tree.node d) ≡ d
+  parent_is_own d unnamed =
+      ⊎_elim
+      (λ directory. own d directory (λ name.
+      true≢false (sym (among_targets name.1 (entries_in (tree.node name.0)) d name.2)
+      ∙ ap (λ p. has_entry_to nat_eq tree p d) (sym (is.one_parent name.0 name.1 d name.2 directory)) ∙ unnamed)))
+      (λ none. own_parent d (tree.node d) none)
+      (cases_Bool (is_directory_node (tree.node d)))
+
+  repeats : (d : ℕ) → above d ≡ Some d → (most : ℕ) → among (chain most above d) ≡ nat_eq top d
+  repeats d self zero = or-false (nat_eq top d)
+  repeats d self (suc most) =
+      ap (λ o. among (next_of (chain most above) d o)) self
+      ∙ ap (λ b. nat_eq top d || b) (repeats d self most) ∙ twice (nat_eq top d)
+
+  alike : (most d : ℕ) → among (chain most above d) ≡ among (chain most named d)
+  alike zero d = refl
+  alike (suc most) d =
+      at (nat_eq d tree.root) refl (has_entry_to nat_eq tree (parent_in d (tree.node d)) d) refl
+      (alike most (parent_in d (tree.node d)))
+      (λ self. repeats d self most)
+    where
+      at : (r : Bool) → nat_eq d tree.root ≡ r → (e : Bool) → has_entry_to nat_eq tree (parent_in d (tree.node d)) d ≡ e
+          → among (chain most above (parent_in d (tree.node d))) ≡ among (chain most named (parent_in d (tree.node d)))
+          → (above d ≡ Some d → among (chain most above d) ≡ nat_eq top d)
+          → among (next_of (chain most above) d (cond r None (Some (parent_in d (tree.node d)))))
+          ≡ among (next_of (chain most named) d (cond r None (when e (parent_in d (tree.node d)))))
+      at true root e entry later self = refl
+      at false root true entry later self = ap (λ b. nat_eq top d || b) later
+      at false root false entry later self =
+          let same : parent_in d (tree.node d) ≡ d = parent_is_own d entry in
+          ap (λ p. nat_eq top d || among (chain most above p)) same
+          ∙ ap (λ b. nat_eq top d || b) (self
+          (ap (λ b. cond b None (Some (parent_in d (tree.node d)))) root ∙ ap Some same))
+          ∙ twice (nat_eq top d) ∙ sym (or-false (nat_eq top d))
+
+pub directories_lie_alike : DirectoriesLieAlike
+directories_lie_alike world filesystem inodes top directory is own counted =
+    (λ i. is_among nat_eq top (chain (counted.count i)
+    (λ d. cond (nat_eq d (counted.root i)) None (Some (parent_in d (counted.node d i)))) directory))
+    ∙ alike filesystem.files.tree is own top (length filesystem.files.numbers) directory

@@ -1,0 +1,540 @@
+-- The sweep after a change of one plain tree, where inodes count their uses.
+use Rattle.std.proofs.Common.{◌≡◌, ◌≢◌, refl, sym, ap, subst, ◌∙◌, ⊎_elim, inl, inr, ℕ, ◌+◌, ◌≤◌, nat_eq, eqb-true, eq-eqb, ne_eqb, Bool, true, false, true≢false, cond, not, ◌||◌, List, [], ◌∷◌, ◌++◌, map, filter, find, flat_map, Option, Some, None, is_some, option_map, unwrap_or, arith}
+use Rattle.std.specs.List.{list_all}
+use Rattle.std.proofs.lemmas.Bool.{or_cases}
+use Rattle.vt_spec.specs.FileTree.{FileTree, targets_in}
+use Rattle.vt_spec.specs.Lists.{any_pair, is_among}
+use Rattle.vt_spec.specs.Machine.Filesystems.{with_files}
+use Rattle.vt_spec.specs.Machine.Locked.{of_overlay, overlay_or}
+use Rattle.vt_spec.specs.Machine.Settled.{filesystem_lives, layers_in, located_in, named_in, objects_of_overlay, only_among, only_used, only_used_by, real_among, settled, used_in, without_dead_filesystems, without_dead_groups, without_dead_in, without_dead_inodes, without_dead_mounts}
+use Rattle.vt_spec.specs.Machine.World.{Filesystem, Overlay, World, filesystem_numbered, is_overlay, layers_of, no_filesystem, replaced_if_numbered}
+use Rattle.vt_spec.specs.Inodes.{Inode, Inodes, node_in, uses_in}
+use Rattle.vt_spec.specs.Tree.{Node}
+use Rattle.vt_laws_mounts.specs.LettingGo.Counts.{inode_uses, times}
+use Rattle.vt_laws_mounts.specs.LettingGo.InUse.{AllInUse, IsListedTree, has_upper_in, is_inode_used}
+use Rattle.vt_laws_mounts.specs.LettingGo.OneByOne as LettingGo
+use Rattle.vt_laws_mounts.specs.LettingGo.TreeChanges.{with_tree}
+use Rattle.vt_laws_mounts.proofs.letting_go.sweeps.InUse.{UnusedAreEmpty, filesystems_stay, groups_stay, mounts_stay, named-left, no_objects, no_upper_objects}
+use Rattle.vt_laws_mounts.proofs.letting_go.Lists.{Among, all_pass, among-from_map, among_from_all, among_numbers, flat_map-step, flat_map_none, none_passes, passes}
+use Rattle.vt_laws_mounts.proofs.counts.counting.Counts as Counts
+use Rattle.vt_laws_mounts.proofs.counts.counting.Counts.{one_if-itself}
+use Rattle.vt_laws_mounts.proofs.counts.counting.Entries.{named_by, one_if}
+use Rattle.vt_laws_mounts.proofs.counts.counting.Times.{among_times, as_long, times_among, times_append, times_filter, times_in}
+use Rattle.vt_laws_mounts.specs.Counts.Counted.{IsCounted, IsPlain}
+use Rattle.vt_laws_mounts.specs.Counts.BesideOverlays.{HasNoUpperIn}
+use Rattle.vt_laws_mounts.proofs.counts.Listed.{no_repeats, once_or_none}
+use Rattle.vt_laws_mounts.proofs.counts.changing.TreeCounts.{IsStart, IsTallied, other_uses, uses_of}
+use Rattle.vt_spec.proofs.Inodes.{is_some-node_in, node_in-none, node_in_is_there, uses_in-none}
+use Rattle.vt_spec.proofs.Lists.{map_alike, map_twice}
+use Rattle.vt_laws_mounts.proofs.letting_go.leaving.TreesWithOverlays.{lives_alike}
+use Rattle.vt_laws_mounts.proofs.letting_go.sweeps.OfWorlds.{found_filesystem}
+
+pub plain_of : (world : World ℕ) → IsPlain world → LettingGo.IsPlain world
+plain_of world plain = none_passes is_overlay world.filesystems
+    (λ f m. among_from_all (λ g. is_overlay g ≡ false) world.filesystems plain f m)
+
+-- What uses an inode
+
+pub uses_split : (world : World ℕ) (f : Filesystem ℕ) (n : ℕ)
+    → inode_uses world f n ≡ one_if n f.files.tree.root +
+    (((times_in n (named_in f.files) + times_in n (located_in nat_eq world f.number))
+    + times_in n (layers_in nat_eq world f.number)) + times_in n
+    (flat_map (objects_of_overlay nat_eq f.number) world.filesystems))
+uses_split world f n =
+    let one : times_in n (((named ++ located) ++ layers) ++ objects) ≡ times_in n
+    ((named ++ located) ++ layers) + times_in n objects = times_append n ((named ++ located) ++ layers) objects in
+    let two : times_in n ((named ++ located) ++ layers) ≡ times_in n (named ++ located) + times_in n layers =
+    times_append n
+    (named ++ located) layers in
+    let three : times_in n (named ++ located) ≡ times_in n named + times_in n located = times_append n named located in
+    let split : times_in n (used_in nat_eq world f) ≡ one_if n f.files.tree.root + times_in n
+    (((named ++ located) ++ layers) ++ objects) = refl in
+    omega arith
+  where
+    named : List ℕ
+    named = named_in f.files
+
+    located : List ℕ
+    located = located_in nat_eq world f.number
+
+    layers : List ℕ
+    layers = layers_in nat_eq world f.number
+
+    objects : List ℕ
+    objects = flat_map (objects_of_overlay nat_eq f.number) world.filesystems
+
+-- Names aside: the root, locations, layers, and objects of overlays.
+
+abbrev pub base_of : World ℕ → Filesystem ℕ → ℕ → ℕ
+base_of world filesystem n = one_if n filesystem.files.tree.root +
+    ((times_in n (located_in nat_eq world filesystem.number)
+    + times_in n (layers_in nat_eq world filesystem.number))
+    + times_in n (flat_map (objects_of_overlay nat_eq filesystem.number) world.filesystems))
+
+pub uses_are : (world : World ℕ) (filesystem : Filesystem ℕ) (n : ℕ)
+    → inode_uses world filesystem n
+    ≡ uses_of (base_of world filesystem) filesystem.files.tree.node filesystem.files.numbers n
+uses_are world filesystem n = let split = uses_split world filesystem n in omega arith
+
+-- where no overlay has its upper layer in a filesystem, none has objects there
+pub no_objects_in : (number : ℕ) (world : World ℕ) → HasNoUpperIn number world
+    → flat_map (objects_of_overlay nat_eq number) world.filesystems ≡ []
+no_objects_in number world apart =
+    flat_map_none (objects_of_overlay nat_eq number) world.filesystems
+    (λ f m. no_upper_objects world number f
+    (among_from_all (λ merged. has_upper_in number merged ≡ false) world.filesystems apart f m))
+
+-- Filesystems by their numbers
+
+pub found_changed : (filesystems : List (Filesystem ℕ)) (number : ℕ) (new : Filesystem ℕ) → new.number ≡ number
+    → is_among nat_eq number (map (λ f. f.number) filesystems) ≡ true
+    → unwrap_or (find (λ f. nat_eq number f.number) (map (replaced_if_numbered nat_eq new) filesystems))
+    (no_filesystem number) ≡ new
+found_changed [] number new is there = absurd (true≢false (sym there))
+found_changed (first ∷ rest) number new is there =
+    by (nat_eq new.number first.number) refl (found_changed rest number new is)
+  where
+    Found : Filesystem ℕ → Type 0
+    Found f = unwrap_or (cond (nat_eq number f.number) (Some f)
+        (find (λ f. nat_eq number f.number) (map (replaced_if_numbered nat_eq new) rest))) (no_filesystem number) ≡ new
+
+    by : (b : Bool) → nat_eq new.number first.number ≡ b
+        → (is_among nat_eq number (map (λ f. f.number) rest) ≡ true
+        → unwrap_or (find (λ f. nat_eq number f.number) (map (replaced_if_numbered nat_eq new) rest))
+        (no_filesystem number) ≡ new)
+        → Found (cond b new first)
+    by true e later = ap (λ b. unwrap_or (cond b (Some new)
+        (find (λ f. nat_eq number f.number) (map (replaced_if_numbered nat_eq new) rest))) (no_filesystem number))
+        (eq-eqb number new.number (sym is))
+    by false e later =
+        let apart : nat_eq number first.number ≡ false = ap (λ k. nat_eq k first.number) (sym is) ∙ e in
+        ap (λ b. unwrap_or (cond b (Some first)
+        (find (λ f. nat_eq number f.number) (map (replaced_if_numbered nat_eq new) rest)))
+        (no_filesystem number)) apart
+        ∙ later (⊎_elim (λ here. absurd (true≢false (sym here ∙ apart))) (λ rest. rest)
+        (or_cases (nat_eq number first.number) (is_among nat_eq number (map (λ f. f.number) rest)) there))
+
+pub found_other : (filesystems : List (Filesystem ℕ)) (other : ℕ) (new : Filesystem ℕ) → other ≢ new.number
+    → unwrap_or (find (λ f. nat_eq other f.number) (map (replaced_if_numbered nat_eq new) filesystems))
+    (no_filesystem other)
+    ≡ unwrap_or (find (λ f. nat_eq other f.number) filesystems) (no_filesystem other)
+found_other [] other new apart = refl
+found_other (first ∷ rest) other new apart = by (nat_eq new.number first.number) refl (found_other rest other new apart)
+  where
+    later_new : Option (Filesystem ℕ)
+    later_new = find (λ f. nat_eq other f.number) (map (replaced_if_numbered nat_eq new) rest)
+
+    later_old : Option (Filesystem ℕ)
+    later_old = find (λ f. nat_eq other f.number) rest
+
+    by : (b : Bool) → nat_eq new.number first.number ≡ b → unwrap_or later_new (no_filesystem other)
+        ≡ unwrap_or later_old (no_filesystem other)
+        → unwrap_or (cond (nat_eq other (cond b new first).number) (Some (cond b new first)) later_new)
+        (no_filesystem other)
+        ≡ unwrap_or (cond (nat_eq other first.number) (Some first) later_old) (no_filesystem other)
+    by true e later =
+        ap (λ c. unwrap_or (cond c (Some new) later_new) (no_filesystem other)) (ne_eqb other new.number apart)
+        ∙ later
+        ∙ sym (ap (λ c. unwrap_or (cond c (Some first) later_old) (no_filesystem other))
+        (ne_eqb other first.number (λ same. apart (same ∙ sym (eqb-true new.number first.number e)))))
+    by false e later = here (nat_eq other first.number)
+      where
+        here : (c : Bool) → unwrap_or (cond c (Some first) later_new) (no_filesystem other)
+            ≡ unwrap_or (cond c (Some first) later_old) (no_filesystem other)
+        here true = refl
+        here false = later
+
+pub found_is : (filesystems : List (Filesystem ℕ)) (number : ℕ)
+    → is_among nat_eq number (map (λ f. f.number) filesystems) ≡ true
+    → Among (unwrap_or (find (λ f. nat_eq number f.number) filesystems) (no_filesystem number)) filesystems
+found_is [] number there = absurd (true≢false (sym there))
+found_is (first ∷ rest) number there = by (nat_eq number first.number) refl (found_is rest number)
+  where
+    by : (b : Bool) → nat_eq number first.number ≡ b → (is_among nat_eq number (map (λ f. f.number) rest) ≡ true
+        → Among (unwrap_or (find (λ f. nat_eq number f.number) rest) (no_filesystem number)) rest)
+        → Among (unwrap_or (cond b (Some first) (find (λ f. nat_eq number f.number) rest)) (no_filesystem number))
+        (first ∷ rest)
+    by true e later = inl refl
+    by false e later = inr (later (⊎_elim (λ here. absurd (true≢false (sym here ∙ e))) (λ rest. rest)
+        (or_cases (nat_eq number first.number) (is_among nat_eq number (map (λ f. f.number) rest)) there)))
+
+pub found_number : (filesystems : List (Filesystem ℕ)) (number : ℕ)
+    → (unwrap_or (find (λ f. nat_eq number f.number) filesystems) (no_filesystem number)).number ≡ number
+found_number [] number = refl
+found_number (first ∷ rest) number = by (nat_eq number first.number) refl (found_number rest number)
+  where
+    by : (b : Bool) → nat_eq number first.number ≡ b
+        → (unwrap_or (find (λ f. nat_eq number f.number) rest) (no_filesystem number)).number ≡ number
+        → (unwrap_or (cond b (Some first) (find (λ f. nat_eq number f.number) rest)) (no_filesystem number)).number
+        ≡ number
+    by true e later = sym (eqb-true number first.number e)
+    by false e later = later
+
+pub not_found : (filesystems : List (Filesystem ℕ)) (number : ℕ)
+    → is_among nat_eq number (map (λ f. f.number) filesystems) ≡ false
+    → unwrap_or (find (λ f. nat_eq number f.number) filesystems) (no_filesystem number) ≡ no_filesystem number
+not_found [] number none = refl
+not_found (first ∷ rest) number none = by (nat_eq number first.number) none (not_found rest number)
+  where
+    by : (b : Bool) → (b || is_among nat_eq number (map (λ f. f.number) rest)) ≡ false
+        → (is_among nat_eq number (map (λ f. f.number) rest) ≡ false
+        → unwrap_or (find (λ f. nat_eq number f.number) rest)
+        (no_filesystem number) ≡ no_filesystem number)
+        → unwrap_or (cond b (Some first) (find (λ f. nat_eq number f.number) rest)) (no_filesystem number)
+        ≡ no_filesystem number
+    by true e later = absurd (true≢false e)
+    by false e later = later e
+
+-- a filesystem with counted inodes is there
+pub there_if_some : (searched world : World ℕ) (number : ℕ) (inodes : Inodes ℕ)
+    → IsCounted world (filesystem_numbered nat_eq searched number) inodes
+    → is_among nat_eq number (map (λ f. f.number) searched.filesystems) ≡ true
+there_if_some searched world number inodes counted =
+    by (is_among nat_eq number (map (λ f. f.number) searched.filesystems)) refl
+  where
+    by : (b : Bool) → is_among nat_eq number (map (λ f. f.number) searched.filesystems) ≡ b
+        → is_among nat_eq number (map (λ f. f.number) searched.filesystems) ≡ true
+    by true e = e
+    by false e =
+        let missing : IsCounted world (no_filesystem number) inodes = subst (λ f. IsCounted world f inodes)
+        (not_found searched.filesystems number e) counted in
+        let none : uses_in (inodes.inode number) ≡ 0 = unused (inodes.inode number) (missing.node number) in
+        let all : uses_in (inodes.inode number) ≡ times (nat_eq number)
+        (used_in nat_eq world (no_filesystem number)) = missing.uses number in
+        let own = one_if-itself number in
+        let some : times (nat_eq number) (used_in nat_eq world (no_filesystem number))
+        ≡ one_if number number + times (nat_eq number) others = refl in
+        absurd (omega arith)
+      where
+        unused : (o : Option (Inode ℕ)) → node_in o ≡ None → uses_in o ≡ 0
+        unused None e = refl
+        unused (Some inode) e = cc
+
+        others : List ℕ
+        others = named_in (no_filesystem number).files ++ located_in nat_eq world number
+            ++ layers_in nat_eq world number ++ flat_map (objects_of_overlay nat_eq number) world.filesystems
+
+pub there_if_counted : (world : World ℕ) (number : ℕ) (inodes : Inodes ℕ)
+    → IsCounted world (filesystem_numbered nat_eq world number) inodes
+    → is_among nat_eq number (map (λ f. f.number) world.filesystems) ≡ true
+there_if_counted world number inodes counted = there_if_some world world number inodes counted
+
+pub start_counts : (world : World ℕ) (filesystem : Filesystem ℕ) (inodes : Inodes ℕ) → IsListedTree filesystem.files
+    → list_all (is_inode_used world filesystem) filesystem.files.numbers ≡ true → IsCounted world filesystem inodes
+    → Counts.IsCounted (inode_uses world filesystem) filesystem.files.tree.node inodes
+start_counts world filesystem inodes tree used counted = record {
+  uses_are = counted.uses;
+  in_use = λ n there.
+      let e = counted.uses n in
+      let some = among_times n (used_in nat_eq world filesystem)
+      (passes (is_inode_used world filesystem) filesystem.files.numbers used n
+      (among_numbers n filesystem.files.numbers (tree.numbers n ∙ sym (same_there n) ∙ there))) in
+      omega arith;
+  kept = λ n there. sym (counted.node n);
+  emptied = λ n none. ap targets_in (sym (counted.node n)) ∙ ap targets_in (node_in-none (inodes.inode n) none);
+  list = filesystem.files.numbers;
+  listed = λ n. once_or_none n filesystem.files.numbers counted.once
+      ∙ ap (λ b. cond b 1 0) (tree.numbers n ∙ sym (same_there n));
+  as_many = counted.count;
+}
+  where
+    same_there : (n : ℕ) → is_some (inodes.inode n) ≡ is_some (filesystem.files.tree.node n)
+    same_there n = sym (is_some-node_in (inodes.inode n)) ∙ ap is_some (counted.node n)
+
+-- The counted inodes before a change
+pub counted_start : (world : World ℕ) (filesystem : Filesystem ℕ) (inodes : Inodes ℕ)
+    → IsListedTree filesystem.files
+    → list_all (is_inode_used world filesystem) filesystem.files.numbers ≡ true → IsCounted world filesystem inodes
+    → IsStart (base_of world filesystem) filesystem.files.tree.node filesystem.files.numbers inodes
+counted_start world filesystem inodes tree used counted = record {
+  tallied = record {
+    counted = other_uses (inode_uses world filesystem)
+        (uses_of (base_of world filesystem) filesystem.files.tree.node filesystem.files.numbers)
+        filesystem.files.tree.node inodes
+        (uses_are world filesystem) (start_counts world filesystem inodes tree used counted);
+    once = λ n. once_or_none n filesystem.files.numbers counted.once ∙ ap (λ b. cond b 1 0) (tree.numbers n);
+  };
+  same = counted.node;
+  in_order = tree.tree.in_order;
+}
+
+-- The sweep
+module _ (world : World ℕ) (number : ℕ) (files : FileTree ℕ) (in_use : AllInUse world)
+    (one : any_pair (λ (a b : Filesystem ℕ). nat_eq a.number b.number) world.filesystems ≡ false)
+    (plain : is_overlay (filesystem_numbered nat_eq world number) ≡ false)
+    (there : is_among nat_eq number (map (λ f. f.number) world.filesystems) ≡ true) where
+  abbrev pub old : Filesystem ℕ
+  old = filesystem_numbered nat_eq world number
+
+  abbrev pub new : Filesystem ℕ
+  new = with_files old files
+
+  abbrev pub raw : World ℕ
+  raw = with_tree world number files
+
+  abbrev pub used : List ℕ
+  used = used_in nat_eq raw new
+
+  abbrev pub swept : FileTree ℕ
+  swept = only_among nat_eq used files
+
+  abbrev pub done : World ℕ
+  done = with_tree world number swept
+
+  -- the one of that number is the old one
+  is_old : (f : Filesystem ℕ) → Among f world.filesystems → nat_eq old.number f.number ≡ true → f ≡ old
+  is_old f m e =
+      sym (found_filesystem world.filesystems one f m)
+      ∙ ap (filesystem_numbered nat_eq world)
+      (sym (eqb-true old.number f.number e) ∙ found_number world.filesystems number)
+
+  -- each keeps its number and its overlay
+  number_kept : (some : FileTree ℕ) (f : Filesystem ℕ) → Among f world.filesystems
+      → (replaced_if_numbered nat_eq (with_files old some) f).number ≡ f.number
+  number_kept some f m = by (nat_eq old.number f.number) refl
+    where
+      by : (b : Bool) → nat_eq old.number f.number ≡ b → (cond b (with_files old some) f).number ≡ f.number
+      by true e = eqb-true old.number f.number e
+      by false e = refl
+
+  overlay_kept : (some : FileTree ℕ) (f : Filesystem ℕ) → Among f world.filesystems
+      → (replaced_if_numbered nat_eq (with_files old some) f).overlay ≡ f.overlay
+  overlay_kept some f m = by (nat_eq old.number f.number) refl
+    where
+      by : (b : Bool) → nat_eq old.number f.number ≡ b → (cond b (with_files old some) f).overlay ≡ f.overlay
+      by true e = ap (λ (g : Filesystem ℕ). g.overlay) (sym (is_old f m e))
+      by false e = refl
+
+  layers_kept : (some : FileTree ℕ) (k : ℕ)
+      → layers_in nat_eq (with_tree world number some) k ≡ layers_in nat_eq world k
+  layers_kept some k =
+      ap (λ layers. map (λ layer. layer.directory) (filter (λ layer. nat_eq k layer.filesystem) layers))
+      (flat_map-step (replaced_if_numbered nat_eq (with_files old some)) (of_overlay [] layers_of) world.filesystems
+      (λ f m. ap (overlay_or [] layers_of) (overlay_kept some f m)))
+
+  objects_kept : (some : FileTree ℕ) (k : ℕ)
+      → flat_map (objects_of_overlay nat_eq k) (with_tree world number some).filesystems
+      ≡ flat_map (objects_of_overlay nat_eq k) world.filesystems
+  objects_kept some k =
+      flat_map-step (replaced_if_numbered nat_eq (with_files old some)) (objects_of_overlay nat_eq k) world.filesystems
+      (λ f m. by f m (nat_eq old.number f.number) refl)
+    where
+      by : (f : Filesystem ℕ) → Among f world.filesystems → (b : Bool) → nat_eq old.number f.number ≡ b
+          → objects_of_overlay nat_eq k (cond b (with_files old some) f) ≡ objects_of_overlay nat_eq k f
+      by f m true e =
+          no_objects world k (with_files old some) plain
+          ∙ sym (no_objects world k f (ap is_overlay (is_old f m e) ∙ plain))
+      by f m false e = refl
+
+  -- so no mount and no filesystem goes
+  same_living : without_dead_filesystems nat_eq (without_dead_mounts nat_eq raw) ≡ raw
+  same_living =
+      ap (without_dead_filesystems nat_eq) (mounts_stay raw in_use.mounts)
+      ∙ filesystems_stay raw
+      (all_pass (filesystem_lives nat_eq raw) raw.filesystems (λ g m.
+      let from = among-from_map (replaced_if_numbered nat_eq new) world.filesystems g m in
+      ap (filesystem_lives nat_eq raw) from.2
+      ∙ lives_alike world (replaced_if_numbered nat_eq new) (number_kept files)
+      (λ f n. ap (overlay_or [] layers_of) (overlay_kept files f n)) from.0 from.1
+      ∙ passes (filesystem_lives nat_eq world) world.filesystems in_use.filesystems from.0 from.1))
+
+  -- inodes of other filesystems stay
+  used_same : (some : FileTree ℕ) (f : Filesystem ℕ)
+      → used_in nat_eq (with_tree world number some) f ≡ used_in nat_eq world f
+  used_same some f = λ i. f.files.tree.root ∷ (named_in f.files ++ located_in nat_eq world f.number
+      ++ layers_kept some f.number i ++ objects_kept some f.number i)
+
+  base_same : (some : FileTree ℕ) (n : ℕ) → base_of (with_tree world number some) old n ≡ base_of world old n
+  base_same some n = λ i. one_if n old.files.tree.root +
+      ((times_in n (located_in nat_eq world old.number) + times_in n (layers_kept some old.number i))
+      + times_in n (objects_kept some old.number i))
+
+  -- what was there is used still
+  all_used : (f : Filesystem ℕ) → Among f world.filesystems
+      → list_all (λ n. is_among nat_eq n (used_in nat_eq raw f)) f.files.numbers ≡ true
+  all_used f m =
+      ap (λ u. list_all (λ n. is_among nat_eq n u) f.files.numbers) (used_same files f)
+      ∙ among_from_all (λ g. list_all (is_inode_used world g) g.files.numbers
+      ≡ true) world.filesystems in_use.inodes f m
+
+  stays_chosen : (chosen : Bool) (f : Filesystem ℕ) → Among f world.filesystems → only_used nat_eq raw chosen f ≡ f
+  stays_chosen true f m = ap (λ b. only_used_by nat_eq b (used_in nat_eq raw f) f) (all_used f m)
+  stays_chosen false f m = refl
+
+  -- nothing of an overlay goes
+  no_overlays : without_dead_in nat_eq is_overlay raw ≡ raw
+  no_overlays =
+      ap (λ filesystems. record raw { filesystems = filesystems })
+      (map_twice (λ f. only_used nat_eq raw (is_overlay f) f) (replaced_if_numbered nat_eq new) world.filesystems
+      ∙ map_alike (λ f. only_used nat_eq raw (is_overlay (replaced_if_numbered nat_eq new f))
+      (replaced_if_numbered nat_eq new f)) (replaced_if_numbered nat_eq new) world.filesystems
+      (λ f m. by f m (nat_eq old.number f.number)))
+    where
+      by : (f : Filesystem ℕ) → Among f world.filesystems → (b : Bool)
+          → only_used nat_eq raw (is_overlay (cond b new f)) (cond b new f) ≡ cond b new f
+      by f m true = ap (λ b. only_used nat_eq raw b new) plain
+      by f m false = stays_chosen (is_overlay f) f m
+
+  abbrev step : Filesystem ℕ → Filesystem ℕ
+  step f = only_used nat_eq raw (not (is_overlay f)) f
+
+  stays : (f : Filesystem ℕ) → Among f world.filesystems → step f ≡ f
+  stays f m = stays_chosen (not (is_overlay f)) f m
+
+  module _ (once : (n : ℕ) → times_in n files.numbers ≡ cond (is_some (files.tree.node n)) 1 0) where
+    -- where all are used, all are kept
+    pub all_kept : list_all (λ n. is_among nat_eq n used) files.numbers ≡ true → files ≡ swept
+    all_kept all = λ i. record {
+      tree = record { root = files.tree.root; node = λ n. kept n i };
+      numbers = same i;
+    }
+      where
+        kept : (n : ℕ) → files.tree.node n ≡ cond (is_among nat_eq n used) (files.tree.node n) None
+        kept n = by (is_some (files.tree.node n)) refl
+          where
+            none : (o : Option (Node ℕ)) (b : Bool) → is_some o ≡ false → o ≡ cond b o None
+            none None true e = refl
+            none None false e = refl
+            none (Some x) b e = cc
+
+            by : (b : Bool) → is_some (files.tree.node n) ≡ b
+                → files.tree.node n ≡ cond (is_among nat_eq n used) (files.tree.node n) None
+            by true e =
+                sym (ap (λ b. cond b (files.tree.node n) None) (passes (λ m. is_among nat_eq m used) files.numbers all n
+                (among_numbers n files.numbers (times_among n files.numbers
+                (let one : times_in n files.numbers ≡ 1 = once n ∙ ap (λ b. cond b 1 0) e in omega arith)))))
+            by false e = none (files.tree.node n) (is_among nat_eq n used) e
+
+        same : files.numbers ≡ filter (λ n. is_among nat_eq n used) files.numbers
+        same = sym (Rattle.vt_laws_mounts.proofs.letting_go.Lists.filter_all (λ n. is_among nat_eq n used) files.numbers
+            (passes (λ n. is_among nat_eq n used) files.numbers all))
+
+    step_new : step new ≡ with_files old swept
+    step_new = ap (λ b. only_used nat_eq raw (not b) new) plain
+        ∙ by (list_all (λ n. is_among nat_eq n used) files.numbers) refl
+      where
+        no_real : (o : Option (Overlay ℕ)) → is_some o ≡ false → option_map (real_among nat_eq used) o ≡ o
+        no_real None e = refl
+        no_real (Some overlay) e = cc
+
+        by : (b : Bool) → list_all (λ n. is_among nat_eq n used) files.numbers ≡ b
+            → only_used_by nat_eq b used new ≡ with_files old swept
+        by true e = ap (with_files old) (all_kept e)
+        by false e = λ i. record old {
+          files = swept;
+          overlay =
+              no_real old.overlay plain i;
+        }
+
+    inodes_swept : without_dead_in nat_eq (λ f. not (is_overlay f)) raw ≡ done
+    inodes_swept =
+        ap (λ filesystems. record world { filesystems = filesystems })
+        (map_twice step (replaced_if_numbered nat_eq new) world.filesystems
+        ∙ map_alike (λ f. step (replaced_if_numbered nat_eq new f))
+        (replaced_if_numbered nat_eq (with_files old swept)) world.filesystems
+        (λ f m. by f m (nat_eq old.number f.number)))
+      where
+        by : (f : Filesystem ℕ) → Among f world.filesystems → (b : Bool)
+            → step (cond b new f) ≡ cond b (with_files old swept) f
+        by f m true = step_new
+        by f m false = stays f m
+
+    pub settled_is : settled nat_eq raw ≡ done
+    settled_is =
+        ap (λ w. without_dead_groups nat_eq (without_dead_inodes nat_eq w))
+        same_living
+        ∙ ap (λ w. without_dead_groups nat_eq (without_dead_in nat_eq (λ f. not (is_overlay f)) w)) no_overlays
+        ∙ ap (without_dead_groups nat_eq) inodes_swept
+        ∙ groups_stay done in_use.groups
+
+    pub found_done : filesystem_numbered nat_eq done number ≡ with_files old swept
+    found_done = found_changed world.filesystems number (with_files old swept)
+        (found_number world.filesystems number) there
+
+  -- the inodes of other filesystems are used as before
+  pub others_stay : (other : ℕ) (inodes : Inodes ℕ) → other ≢ number
+      → IsCounted world (filesystem_numbered nat_eq world other) inodes
+      → IsCounted done (filesystem_numbered nat_eq done other) inodes
+  others_stay other inodes apart counted =
+      subst (λ f. IsCounted done f inodes)
+      (sym (found_other world.filesystems other (with_files old swept)
+      (λ e. apart (e ∙ found_number world.filesystems number))))
+      (record {
+        root = counted.root;
+        node = counted.node;
+        uses = λ n. counted.uses n ∙ ap (times (nat_eq n))
+            (sym (used_same swept (filesystem_numbered nat_eq world other)));
+        count = counted.count;
+        once = counted.once;
+      })
+
+  -- what is left are the counted inodes
+  module _ (inodes : Inodes ℕ) (root : inodes.root ≡ files.tree.root)
+      (root_same : files.tree.root ≡ old.files.tree.root)
+      (tallied : IsTallied (base_of world old) files.tree.node files.numbers inodes) where
+    -- the uses but by names, with another root
+    abbrev base_from : World ℕ → ℕ → ℕ → ℕ
+    base_from some root n = one_if n root +
+        ((times_in n (located_in nat_eq some old.number) + times_in n (layers_in nat_eq some old.number))
+        + times_in n (flat_map (objects_of_overlay nat_eq old.number) some.filesystems))
+
+    used_times : (n : ℕ) → uses_in (inodes.inode n) ≡ times_in n used
+    used_times n =
+        tallied.counted.uses_are n
+        ∙ ap (λ m. m + times_in n (named_by files.tree.node files.numbers)) (sym (base_same files n))
+        ∙ ap (λ r. uses_of (base_from raw r) files.tree.node files.numbers n) (sym root_same)
+        ∙ sym (uses_are raw new n)
+
+    pub used_there : (n : ℕ) → is_among nat_eq n used ≡ is_some (inodes.inode n)
+    used_there n = by (is_some (inodes.inode n)) refl
+      where
+        none : (b : Bool) → is_among nat_eq n used ≡ b → times_in n used ≡ 0 → b ≡ false
+        none true e zero_times = absurd (let some = among_times n used e in omega arith)
+        none false e zero_times = refl
+
+        by : (b : Bool) → is_some (inodes.inode n) ≡ b → is_among nat_eq n used ≡ b
+        by true e = times_among n used (let some = tallied.counted.in_use n e in let same = used_times n in omega arith)
+        by false e = none (is_among nat_eq n used) refl (sym (used_times n) ∙ uses_in-none (inodes.inode n) e)
+
+    unused_empty : UnusedAreEmpty used new
+    unused_empty n e = tallied.counted.emptied n (sym (used_there n) ∙ e)
+
+    node_left : (n : ℕ) → node_in (inodes.inode n) ≡ cond (is_among nat_eq n used) (files.tree.node n) None
+    node_left n = by (is_some (inodes.inode n)) refl ∙ sym (ap (λ b. cond b (files.tree.node n) None) (used_there n))
+      where
+        by : (b : Bool) → is_some (inodes.inode n) ≡ b
+            → node_in (inodes.inode n) ≡ cond (is_some (inodes.inode n)) (files.tree.node n) None
+        by true e = sym (tallied.counted.kept n e) ∙ sym (ap (λ b. cond b (files.tree.node n) None) e)
+        by false e = node_in-none (inodes.inode n) e ∙ sym (ap (λ b. cond b (files.tree.node n) None) e)
+
+    pub times_left : (n : ℕ) → times_in n swept.numbers ≡ cond (is_some (inodes.inode n)) 1 0
+    times_left n =
+        times_filter (λ m. is_among nat_eq m used) n files.numbers
+        ∙ ap (λ b. cond b (times_in n files.numbers) 0) (used_there n)
+        ∙ by (is_some (inodes.inode n)) refl
+      where
+        by : (b : Bool) → is_some (inodes.inode n) ≡ b → cond b (times_in n files.numbers) 0 ≡ cond b 1 0
+        by true e = tallied.once n ∙ ap (λ b. cond b 1 0)
+            (ap is_some (tallied.counted.kept n e) ∙ node_in_is_there (inodes.inode n) e)
+        by false e = refl
+
+    few : (n : ℕ) → times_in n swept.numbers ≤ 1
+    few n = by (is_some (inodes.inode n)) (times_left n)
+      where
+        by : (b : Bool) → times_in n swept.numbers ≡ cond b 1 0 → times_in n swept.numbers ≤ 1
+        by true e = omega arith
+        by false e = omega arith
+
+    pub counted_done : IsCounted done (with_files old swept) inodes
+    counted_done = record {
+      root = root;
+      node = node_left;
+      uses = λ n.
+          tallied.counted.uses_are n
+          ∙ ap (λ m. m + times_in n (named_by files.tree.node files.numbers)) (sym (base_same swept n))
+          ∙ (λ i. base_from done (sym root_same i) n + times_in n (sym (named-left used new unused_empty false) i))
+          ∙ sym (uses_are done (with_files old swept) n);
+      count = tallied.counted.as_many
+          ∙ as_long tallied.counted.list swept.numbers (λ n. tallied.counted.listed n ∙ sym (times_left n));
+      once = no_repeats swept.numbers few;
+    }

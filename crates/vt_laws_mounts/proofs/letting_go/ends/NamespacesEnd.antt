@@ -1,0 +1,200 @@
+-- A namespace ends with its last task, and how many mounts a namespace has.
+use Rattle.std.proofs.lemmas.Grind.{common_steps}
+use Rattle.std.proofs.Common.{◌≡◌, refl, sym, ap, ◌∙◌, ⊎_elim, ℕ, zero, suc, nat_eq, eqb-true, eq-eqb, Bool, true, false, cond, not, ◌||◌, ◌&&◌, ◌+◌, ◌++◌, ◌≤◌, List, [], ◌∷◌, filter, length, map, Option, Some, None, option_map, option_to_list, arith}
+use Rattle.std.specs.Prelude.{nat_lt}
+use Rattle.std.specs.List.{list_all, list_any}
+use Rattle.std.proofs.Math.Bool.{or-false}
+use Rattle.std.proofs.lemmas.Bool.{and_parts, cases_Bool}
+use Rattle.std.proofs.lemmas.Bool.Decides.{nat_tests}
+use Rattle.vt_spec.specs.Language.Limits.{most_mounts}
+use Rattle.vt_spec.specs.Machine.Detach.{after_going, mount_point_of_parent, mount_point_left, taken_away}
+use Rattle.vt_spec.specs.Lists.{chain, holds_of, is_among, last_or}
+use Rattle.vt_spec.specs.Machine.Mounts.{Location, Mount}
+use Rattle.vt_spec.specs.Machine.Namespaces.{has_tasks, is_in_ended}
+use Rattle.vt_spec.specs.Machine.Receives.{lost_a_group, regrouped, regrouped_by}
+use Rattle.vt_spec.specs.Machine.World.{Namespace, World, mounts_of, with_mounts}
+use Rattle.vt_spec.specs.Machine.Invariants.{is_listed}
+use Rattle.vt_laws_mounts.specs.LettingGo.Ends.{AddedMountsCount, AddedMountsCountInNoOther, AddedMountsCountInTheirOwn, MountsAreListed, NoNamespaceEnds, OneNamespaceEnds, TooManyIsOfOne, TooManyIsOfSome, is_in, mount_count}
+use Rattle.vt_laws_mounts.proofs.letting_go.Lists.{Among, among-from_map, among_numbers, any_passes, fails, map_same, none_passes, nothing_passes, one_passes, passes}
+use Rattle.vt_spec.proofs.Found.{filter_alike, filter_all}
+use Rattle.vt_spec.proofs.Truths.{or_false_left}
+
+-- Where nothing is taken away, places stay.
+module _ (world : World ℕ) where
+  place_stays : (place : Location ℕ) → mount_point_left nat_eq world [] place ≡ place
+  place_stays place = grind (arith, common_steps)
+
+  pub nothing_taken : taken_away nat_eq world [] ≡ regrouped nat_eq world
+  nothing_taken =
+      ap (λ mounts. regrouped nat_eq (with_mounts world mounts))
+      (map_same (after_going nat_eq world []) world.mounts
+      (λ mount m. ap (λ place. record mount { mount_point = place }) (same mount.mount_point)))
+    where
+      same : (o : Option (Location ℕ)) → option_map (mount_point_left nat_eq world []) o ≡ o
+      same None = refl
+      same (Some place) = ap Some (place_stays place)
+
+  -- the namespace of a mount is there
+  its_namespace : (number : ℕ) → is_listed nat_eq world number ≡ true
+      → (namespace : Namespace ℕ) × Among namespace world.namespaces × (number ≡ namespace.number)
+  its_namespace number e = among-from_map (λ n. n.number) world.namespaces number
+      (among_numbers number (map (λ n. n.number) world.namespaces) e)
+
+  abbrev lives_on : ℕ → Bool
+  lives_on number = list_any (λ namespace. nat_eq number namespace.number
+      && has_tasks nat_eq world namespace) world.namespaces
+
+  its_tasks : (number : ℕ) (namespace : Namespace ℕ) → Among namespace world.namespaces → number ≡ namespace.number
+      → has_tasks nat_eq world namespace ≡ true
+      → lives_on number ≡ true
+  its_tasks number namespace m same has =
+      any_passes (λ n. nat_eq number n.number && has_tasks nat_eq world n) world.namespaces namespace m
+      (ap (λ b. b && has_tasks nat_eq world namespace) (eq-eqb number namespace.number same) ∙ has)
+
+  listed_of : MountsAreListed world → (mount : Mount ℕ) → Among mount world.mounts → (number : ℕ)
+      → mount.namespace ≡ Some number
+      → is_listed nat_eq world number ≡ true
+  listed_of listed mount m number e =
+      (and_parts (is_listed nat_eq world number) true
+      (sym (ap (λ o. list_all (is_listed nat_eq world) (option_to_list o)) e)
+      ∙ passes (λ x. list_all (is_listed nat_eq world) (option_to_list x.namespace)) world.mounts listed mount m)).0
+
+-- groups are no namespaces
+namespaces-regrouped : (world : World ℕ) → (regrouped nat_eq world).namespaces ≡ world.namespaces
+namespaces-regrouped world = grind (arith, common_steps)
+
+pub no_namespace_ends : NoNamespaceEnds
+no_namespace_ends world listed all =
+    (λ i. record (taken_away nat_eq world (ap (map (λ (mount : Mount ℕ). mount.number)) none i)) {
+      namespaces = filter_all (has_tasks nat_eq world) world.namespaces
+          (passes (has_tasks nat_eq world) world.namespaces all) i;
+    })
+    ∙ (λ i. record (nothing_taken world i) { namespaces = same_namespaces i })
+  where
+    by : (mount : Mount ℕ) → Among mount world.mounts → (o : Option ℕ) → mount.namespace ≡ o
+        → holds_of (λ number. not (lives_on world number)) o ≡ false
+    by mount m None e = refl
+    by mount m (Some number) e =
+        let t = its_namespace world number (listed_of world listed mount m number e) in
+        ap not (its_tasks world number t.0 t.1 t.2 (passes (has_tasks nat_eq world) world.namespaces all t.0 t.1))
+
+    none : filter (is_in_ended nat_eq world) world.mounts ≡ []
+    none = nothing_passes (is_in_ended nat_eq world) world.mounts (λ mount m. by mount m mount.namespace refl)
+
+    same_namespaces : world.namespaces ≡ (regrouped nat_eq world).namespaces
+    same_namespaces = sym (namespaces-regrouped world)
+
+pub one_namespace_ends : OneNamespaceEnds
+one_namespace_ends world number listed empty others = λ i. record (taken_away nat_eq world
+    (map (λ (mount : Mount ℕ). mount.number) (same_mounts i))) {
+      namespaces = filter_alike (has_tasks nat_eq world)
+          (λ namespace. not (nat_eq number namespace.number)) world.namespaces
+          (λ namespace m. has_or_is namespace m (nat_eq number namespace.number) refl) i;
+    }
+  where
+    no_tasks : (namespace : Namespace ℕ) → nat_eq number namespace.number ≡ true
+        → has_tasks nat_eq world namespace ≡ false
+    no_tasks namespace e = ap (λ n. list_any (λ task. nat_eq n task.namespace) world.tasks)
+        (sym (eqb-true number namespace.number e))
+        ∙ empty
+
+    its_others : (namespace : Namespace ℕ) → Among namespace world.namespaces → nat_eq number namespace.number ≡ false
+        → has_tasks nat_eq world namespace ≡ true
+    its_others namespace m e =
+        sym (ap (λ b. b || has_tasks nat_eq world namespace) e)
+        ∙ passes (λ n. nat_eq number n.number || has_tasks nat_eq world n) world.namespaces others namespace m
+
+    has_or_is : (namespace : Namespace ℕ) → Among namespace world.namespaces → (b : Bool)
+        → nat_eq number namespace.number ≡ b
+        → has_tasks nat_eq world namespace ≡ not b
+    has_or_is namespace m true e = no_tasks namespace e
+    has_or_is namespace m false e = its_others namespace m e
+
+    ends : (mount : Mount ℕ) → Among mount world.mounts → (o : Option ℕ) → mount.namespace ≡ o
+        → holds_of (λ n. not (lives_on world n)) o ≡ holds_of (nat_eq number) o
+    ends mount m None e = refl
+    ends mount m (Some n) e = by (nat_eq number n) refl
+      where
+        by : (b : Bool) → nat_eq number n ≡ b → not (lives_on world n) ≡ b
+        by true f =
+            ap not (none_passes (λ namespace. nat_eq n namespace.number
+            && has_tasks nat_eq world namespace) world.namespaces
+            (λ namespace k. none namespace (nat_eq n namespace.number) refl))
+          where
+            none : (namespace : Namespace ℕ) (b : Bool) → nat_eq n namespace.number ≡ b
+                → (b && has_tasks nat_eq world namespace) ≡ false
+            none namespace true g = no_tasks namespace (ap (λ k. nat_eq k namespace.number) (eqb-true number n f) ∙ g)
+            none namespace false g = refl
+        by false f =
+            let t = its_namespace world n (listed_of world listed mount m n e) in
+            ap not (its_tasks world n t.0 t.1 t.2 (its_others t.0 t.1 (ap (nat_eq number) (sym t.2) ∙ f)))
+
+    same_mounts : filter (is_in_ended nat_eq world) world.mounts ≡ mounts_of nat_eq world number
+    same_mounts = filter_alike (is_in_ended nat_eq world)
+        (λ mount. holds_of (nat_eq number) mount.namespace) world.mounts
+        (λ mount m. ends mount m mount.namespace refl)
+
+-- How many mounts
+count_both : (p : Mount ℕ → Bool) (before added : List (Mount ℕ))
+    → length (filter p (before ++ added)) ≡ length (filter p before) + length (filter p added)
+count_both p [] added = omega arith
+count_both p (mount ∷ before) added = grind (arith, common_steps, count_both p before added)
+
+pub added_mounts_count_in_their_own : AddedMountsCountInTheirOwn
+added_mounts_count_in_their_own world added namespace = count_both (is_in namespace) world.mounts added
+
+pub added_mounts_count : AddedMountsCount
+added_mounts_count world added namespace all =
+    added_mounts_count_in_their_own world added namespace
+    ∙ ap (λ (list : List (Mount ℕ)). mount_count world namespace + length list)
+    (filter_all (is_in namespace) added (passes (is_in namespace) added all))
+
+pub added_mounts_count_in_no_other : AddedMountsCountInNoOther
+added_mounts_count_in_no_other world added namespace other all differ =
+    added_mounts_count_in_their_own world added other
+    ∙ ap (λ (list : List (Mount ℕ)). mount_count world other + length list)
+    (nothing_passes (is_in other) added
+    (λ mount m. elsewhere mount.namespace (passes (is_in namespace) added all mount m)))
+    ∙ omega arith
+  where
+    elsewhere : (o : Option ℕ) → holds_of (nat_eq namespace) o ≡ true → holds_of (nat_eq other) o ≡ false
+    elsewhere None e = refl
+    elsewhere (Some number) e = ap (nat_eq other) (sym (eqb-true namespace number e)) ∙ differ
+
+no_more : (most few some : ℕ) → nat_lt most few ≡ false → some ≤ few → nat_lt most some ≡ false
+no_more most few some e h = grind (arith, nat_tests)
+
+module _ (world after : World ℕ) where
+  abbrev overfull : ℕ → Bool
+  overfull namespace = nat_lt most_mounts (mount_count after namespace)
+
+  -- a namespace that is there is one of those that are counted
+  counted_there : (number : ℕ) → is_listed nat_eq world number ≡ true → overfull number ≡ true
+      → list_any (λ namespace. overfull namespace.number) world.namespaces ≡ true
+  counted_there number listed e =
+      let t = its_namespace world number listed in
+      any_passes (λ n. overfull n.number) world.namespaces t.0 t.1 (ap overfull (sym t.2) ∙ e)
+
+pub too_many_is_of_some : TooManyIsOfSome
+too_many_is_of_some world after namespaces few same listed others =
+    ap (list_any (λ n. overfull world after n.number)) same
+    ∙ by (list_any (overfull world after) namespaces) refl
+  where
+    by : (b : Bool) → list_any (overfull world after) namespaces ≡ b
+        → list_any (λ n. overfull world after n.number) world.namespaces ≡ b
+    by true e =
+        let t = one_passes (overfull world after) namespaces e in
+        counted_there world after t.0 (passes (is_listed nat_eq world) namespaces listed t.0 t.1) t.2
+    by false e =
+        none_passes (λ n. overfull world after n.number) world.namespaces (λ n m.
+        ⊎_elim
+        (λ is. fails (overfull world after) namespaces e n.number (among_numbers n.number namespaces is))
+        (λ isnt. no_more most_mounts (mount_count world n.number) (mount_count after n.number)
+        (fails (λ k. nat_lt most_mounts (mount_count world k.number)) world.namespaces few n m) (others n.number isnt))
+        (cases_Bool (is_among nat_eq n.number namespaces)))
+
+pub too_many_is_of_one : TooManyIsOfOne
+too_many_is_of_one world after namespace few same listed others =
+    too_many_is_of_some world after (namespace ∷ []) few same (ap (λ b. b && true) listed)
+    (λ other isnt. others other (or_false_left (nat_eq other namespace) false isnt))
+    ∙ or-false (overfull world after namespace)

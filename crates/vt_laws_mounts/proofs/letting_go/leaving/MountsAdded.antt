@@ -1,0 +1,73 @@
+-- Mounts and filesystems that are added.
+use Rattle.std.proofs.Common.{arith}
+use Rattle.std.proofs.lemmas.Grind.{common_steps}
+use Rattle.std.proofs.Common.{◌≡◌, refl, sym, ap, inl, inr, ⊎_elim, ℕ, nat_eq, Bool, true, false, cond, ◌||◌, List, [], ◌∷◌, find, map, true≢false, ◌++◌, Option, Some, is_some, unwrap_or}
+use Rattle.std.specs.List.{list_all}
+use Rattle.vt_spec.specs.Lists.{is_among}
+use Rattle.vt_spec.specs.Machine.Mounts.{Mount, mount_in, no_mount}
+use Rattle.vt_spec.specs.Machine.Settled.{is_located, is_mounted, mount_lives}
+use Rattle.vt_spec.specs.Machine.Invariants.{is_nowhere_or_attached}
+use Rattle.vt_spec.specs.Machine.World.{Filesystem, World}
+use Rattle.vt_laws_mounts.specs.LettingGo.InUse.{AllInUse}
+use Rattle.vt_laws_mounts.specs.LettingGo.Keeping.{LocationsStand, NewMountsKeepAll, has_only_named, with_new}
+use Rattle.vt_laws_mounts.specs.LettingGo.Leaving.{MountsStand}
+use Rattle.vt_laws_mounts.proofs.letting_go.mounting.MountingLosers.{Comes, Loses, places_stand}
+use Rattle.vt_laws_mounts.proofs.letting_go.mounting.MountingOverlays.{nothing_lost}
+use Rattle.vt_laws_mounts.proofs.letting_go.Lists.{Among, one_passes, all_pass, among-append, among-append_left, or_first, passes}
+
+-- a mount that is there is found, whatever follows
+pub found_before : (mounts added : List (Mount ℕ)) (number : ℕ)
+    → is_among nat_eq number (map (λ mount. mount.number) mounts) ≡ true
+    → mount_in nat_eq (mounts ++ added) number ≡ mount_in nat_eq mounts number
+found_before [] added number h = absurd (true≢false (sym h))
+found_before (first ∷ rest) added number h = grind (arith, common_steps, found_before rest added number)
+
+module _ (world : World ℕ) (mounts : List (Mount ℕ)) (filesystems : List (Filesystem ℕ)) (master : ℕ → Option ℕ)
+    (in_use : AllInUse world) (stand : MountsStand world) (located : LocationsStand world)
+    (attached : list_all (λ mount. is_some mount.namespace) mounts ≡ true) where
+  abbrev after : World ℕ
+  after = with_new world mounts filesystems master
+
+  in_one : (mount : Mount ℕ) → Among mount mounts → is_some mount.namespace ≡ true
+  in_one = passes (λ x. is_some x.namespace) mounts attached
+
+  still_there : (mount : Mount ℕ) → Among mount world.mounts → Among mount after.mounts
+  still_there mount m = among-append_left world.mounts mounts mount m
+
+  lives : (mount : Mount ℕ) → Among mount after.mounts → mount_lives nat_eq after mount ≡ true
+  lives mount m =
+      ⊎_elim
+      (passes (mount_lives nat_eq world) world.mounts in_use.mounts mount)
+      (λ new. or_first (is_some mount.namespace) (is_located nat_eq after mount.number) (in_one mount new))
+      (among-append world.mounts mounts mount m)
+
+  loses : Loses world after [] []
+  loses = record {
+    images = λ mount m. (mount, (still_there mount m, (refl, refl)));
+    shown = λ location m. ap (λ x. x.filesystem) (found_before world.mounts mounts location.mount
+        (places_stand world stand located location m));
+    live = λ mount m isnt. lives mount m;
+    locations = λ location m. inl (inl m);
+    places = λ mount m place p. inl (mount, (still_there mount m, (p, inl refl)));
+    nowhere = all_pass is_nowhere_or_attached after.mounts (λ mount m.
+        ⊎_elim (passes is_nowhere_or_attached world.mounts stand.nowhere mount)
+        (λ new. or_first (is_some mount.namespace) _ (in_one mount new))
+        (among-append world.mounts mounts mount m));
+  }
+
+  come : list_all (λ filesystem. is_mounted nat_eq after filesystem.number) filesystems ≡ true
+      → list_all has_only_named filesystems ≡ true → Comes world after
+  come shown named = record {
+    kept = λ f m. among-append_left world.filesystems filesystems f m;
+    new = λ f m. ⊎_elim inl
+        (λ new. let t = one_passes (λ mount. nat_eq f.number mount.filesystem) after.mounts
+        (passes (λ x. is_mounted nat_eq after x.number) filesystems shown f new) in
+        inr (t.0, (t.1, (lives t.0 t.1, (t.2, passes has_only_named filesystems named f new)))))
+        (among-append world.filesystems filesystems f m);
+  }
+
+pub new_mounts_keep_all : NewMountsKeepAll
+new_mounts_keep_all world mounts filesystems master in_use stand located attached shown named groups =
+    nothing_lost world (world.mounts ++ mounts) master (world.filesystems ++ filesystems) in_use stand
+    (loses world mounts filesystems master in_use stand located attached) groups
+    (come world mounts filesystems master in_use stand located attached shown named)

@@ -1,0 +1,188 @@
+-- What goes when a plain tree changes.
+use Rattle.std.proofs.Common.{arith}
+use Rattle.std.proofs.lemmas.Grind.{common_steps}
+use Rattle.std.proofs.Common.{◌≡◌, refl, sym, ap, subst, ◌∙◌, ◌⊎◌, inl, inr, ⊎_elim, ℕ, nat_eq, eqb-true, eq-eqb, Bool, true, false, cond, ◌||◌, ◌&&◌, List, [], ◌∷◌, find, map, true≢false, flat_map, ◌++◌, Some, unwrap_or}
+use Rattle.std.specs.List.{list_all}
+use Rattle.std.proofs.lemmas.Bool.{or_cases}
+use Rattle.vt_spec.specs.FileTree.{FileTree}
+use Rattle.vt_spec.specs.Machine.Filesystems.{with_files}
+use Rattle.vt_spec.specs.Lists.{is_among}
+use Rattle.vt_spec.specs.Machine.Settled.{filesystem_lives, is_mounted, layers_in, located_in, named_in, objects_of_overlay, settled, without_dead_filesystems, without_dead_mounts}
+use Rattle.vt_spec.specs.Machine.World.{Filesystem, World, filesystem_numbered, is_overlay, no_filesystem, replaced_if_numbered}
+use Rattle.vt_laws_mounts.specs.LettingGo.InUse.{FilesystemsInUse, HasTrees, IsListedTree, is_inode_used, AllInUse}
+use Rattle.vt_laws_mounts.specs.LettingGo.Leaving.{IsSettledPlain}
+use Rattle.vt_laws_mounts.specs.LettingGo.OneByOne.{FilesystemsInUseBut, GroupsInUseBut, InodesInUseBut, IsPlain, Losers, is_inode_among, is_used_or_among, let_go}
+use Rattle.vt_laws_mounts.specs.LettingGo.TreeChanges.{ChangesTree, NamedStay, UnnamedGo, with_tree}
+use Rattle.vt_laws_mounts.proofs.letting_go.sweeps.InUse.{filesystems_stay, mounts_stay}
+use Rattle.vt_laws_mounts.proofs.letting_go.sweeps.Inodes.{all_goes_one_by_one}
+use Rattle.vt_laws_mounts.proofs.letting_go.Lists.{Among, all_from_among, all_pass, among-from_map, among-map, among_from_all, among_numbers, any_passes, fails, is_among_numbers, none_passes, or_first, or_second, passes}
+use Rattle.vt_laws_mounts.proofs.letting_go.leaving.PlacesLeft.{no_layers, plain_uses}
+use Rattle.vt_spec.proofs.Found.{is_among_left, is_among_right}
+
+-- a filesystem that is there is found
+found_filesystem : (filesystems : List (Filesystem ℕ)) (number : ℕ)
+    → is_among nat_eq number (map (λ f. f.number) filesystems) ≡ true
+    → Among (unwrap_or (find (λ f. nat_eq number f.number) filesystems) (no_filesystem number)) filesystems
+    × ((unwrap_or (find (λ f. nat_eq number f.number) filesystems) (no_filesystem number)).number ≡ number)
+found_filesystem [] number h = absurd (true≢false (sym h))
+found_filesystem (first ∷ rest) number h = grind (arith, common_steps, found_filesystem rest number, eqb-true)
+
+-- Another tree in one filesystem of a plain world in which all is in use
+module _ (world : World ℕ) (number : ℕ) (files : FileTree ℕ) (in_use : AllInUse world) (plain : IsPlain world)
+    (there : is_among nat_eq number (map (λ filesystem. filesystem.number) world.filesystems) ≡ true) where
+  abbrev before : Filesystem ℕ
+  before = filesystem_numbered nat_eq world number
+
+  abbrev with_new : World ℕ
+  with_new = with_tree world number files
+
+  pub old_there : Among before world.filesystems
+  old_there = (found_filesystem world.filesystems number there).0
+
+  -- a filesystem of the changed world is the changed one, or was there
+  is_new_or_old : (filesystem : Filesystem ℕ) → Among filesystem with_new.filesystems
+      → (filesystem ≡ with_files before files) ⊎ Among filesystem world.filesystems
+  is_new_or_old filesystem m =
+      let from = among-from_map (replaced_if_numbered nat_eq (with_files before files)) world.filesystems filesystem
+      m in grind (arith, common_steps)
+
+  pub for_each : (P : Filesystem ℕ → Type 0) → P (with_files before files)
+      → ((f : Filesystem ℕ) → Among f world.filesystems → P f)
+      → (filesystem : Filesystem ℕ) → Among filesystem with_new.filesystems → P filesystem
+  for_each P here others filesystem m =
+      ⊎_elim (λ e. subst P (sym e) here) (λ n. others filesystem n) (is_new_or_old filesystem m)
+
+  pub plain_old : is_overlay before ≡ false
+  plain_old = fails is_overlay world.filesystems plain before old_there
+
+  pub plain_after : IsPlain with_new
+  plain_after =
+      none_passes is_overlay with_new.filesystems (for_each (λ f. is_overlay f ≡ false) plain_old
+      (λ f m. fails is_overlay world.filesystems plain f m))
+
+  mounted_old : (f : Filesystem ℕ) → Among f world.filesystems → is_mounted nat_eq world f.number ≡ true
+  mounted_old f m =
+      ⊎_elim (λ e. e) (λ layered. absurd
+      (true≢false (sym layered ∙ no_layers f.number world world.filesystems plain)))
+      (or_cases (is_mounted nat_eq world f.number) _
+      (passes (filesystem_lives nat_eq world) world.filesystems in_use.filesystems f m))
+
+  pub filesystems_after : FilesystemsInUse with_new
+  filesystems_after =
+      all_pass (filesystem_lives nat_eq with_new) with_new.filesystems
+      (for_each (λ f. filesystem_lives nat_eq with_new f ≡ true)
+      (or_first (is_mounted nat_eq with_new before.number) _ (mounted_old before old_there))
+      (λ f m. or_first (is_mounted nat_eq with_new f.number) _ (mounted_old f m)))
+
+  -- so no mount and no filesystem goes
+  pub same_living : without_dead_filesystems nat_eq (without_dead_mounts nat_eq with_new) ≡ with_new
+  same_living =
+      ap (without_dead_filesystems nat_eq) (mounts_stay with_new in_use.mounts)
+      ∙ filesystems_stay with_new filesystems_after
+
+module _ (world : World ℕ) (number : ℕ) (files : FileTree ℕ) (unnamed : List ℕ) (settles : IsSettledPlain world)
+    (there : is_among nat_eq number (map (λ filesystem. filesystem.number) world.filesystems) ≡ true)
+    (changes : ChangesTree (filesystem_numbered nat_eq world number).files files unnamed) where
+  abbrev old : Filesystem ℕ
+  old = filesystem_numbered nat_eq world number
+
+  abbrev new : Filesystem ℕ
+  new = with_files old files
+
+  abbrev after : World ℕ
+  after = with_tree world number files
+
+  abbrev losers : Losers
+  losers = record { mounts = []; filesystems = []; inodes = map (λ inode. (number, inode)) unnamed; groups = [] }
+
+  old_number : old.number ≡ number
+  old_number = (found_filesystem world.filesystems number there).1
+
+  trees_after : HasTrees after
+  trees_after =
+      all_from_among (λ f. IsListedTree f.files) after.filesystems
+      (for_each world number files settles.in_use settles.plain there (λ f. IsListedTree f.files) changes.tree
+      (λ f m. among_from_all (λ g. IsListedTree g.files) world.filesystems settles.trees f m))
+
+  same_mounted : without_dead_mounts nat_eq after ≡ after
+  same_mounted = mounts_stay after settles.in_use.mounts
+
+  -- what is at a place, or has a name, is used
+  used_after : (f : Filesystem ℕ) (inode : ℕ)
+      → (inode ≡ f.files.tree.root) ⊎ (is_among nat_eq inode (named_in f.files) ≡ true)
+      ⊎ Among inode (located_in nat_eq world f.number)
+      → is_inode_used after f inode ≡ true
+  used_after f inode how = grind (arith, common_steps, is_among_left, eq-eqb, is_among_right, is_among_numbers)
+
+  -- an inode of the changed tree is used, or may go
+  of_new : (inode : ℕ) → Among inode files.numbers → is_used_or_among losers.inodes after new inode ≡ true
+  of_new inode m =
+      ⊎_elim
+      (λ was. ⊎_elim
+      (λ root. still (inl (root ∙ sym changes.root)))
+      (λ rest. ⊎_elim
+      (λ name. ⊎_elim
+      (λ named. still (inr (inl named)))
+      (λ lost. or_first (is_inode_among new.number inode losers.inodes) _
+      (any_passes (λ loser. nat_eq new.number loser.0 && nat_eq inode loser.1) losers.inodes (number, inode)
+      (among-map (λ k. (number, k)) unnamed inode (among_numbers inode unnamed lost))
+      (ap (λ b. b && nat_eq inode inode) (eq-eqb new.number number old_number) ∙ eq-eqb inode inode refl)))
+      (or_cases (is_among nat_eq inode (named_in files)) (is_among nat_eq inode unnamed)
+      (passes (λ k. is_among nat_eq k (named_in files) || is_among nat_eq k unnamed)
+      (named_in old.files) changes.names inode
+      (among_numbers inode (named_in old.files) name))))
+      (λ located. still (inr (inr located)))
+      rest)
+      (plain_uses world settles.plain old inode
+      (passes (is_inode_used world old) old.files.numbers
+      (among_from_all (λ f. list_all (is_inode_used world f) f.files.numbers
+      ≡ true) world.filesystems settles.in_use.inodes old
+      (old_there world number files settles.in_use settles.plain there))
+      inode (among_numbers inode old.files.numbers was))))
+      (λ named. still (inr (inl named)))
+      (or_cases (is_among nat_eq inode old.files.numbers) (is_among nat_eq inode (named_in files))
+      (passes (λ k. is_among nat_eq k old.files.numbers
+      || is_among nat_eq k (named_in files)) files.numbers changes.inodes inode m))
+    where
+      still : (inode ≡ new.files.tree.root) ⊎ (is_among nat_eq inode (named_in new.files) ≡ true)
+          ⊎ Among inode (located_in nat_eq world new.number)
+          → is_used_or_among losers.inodes after new inode ≡ true
+      still how = or_second (is_inode_among new.number inode losers.inodes) _ (used_after new inode how)
+
+  of_others : (f : Filesystem ℕ) → Among f world.filesystems → (inode : ℕ) → Among inode f.files.numbers
+      → is_used_or_among losers.inodes after f inode ≡ true
+  of_others f n inode m =
+      or_second (is_inode_among f.number inode losers.inodes) _
+      (used_after f inode
+      (plain_uses world settles.plain f inode
+      (passes (is_inode_used world f) f.files.numbers
+      (among_from_all (λ g. list_all (is_inode_used world g) g.files.numbers
+      ≡ true) world.filesystems settles.in_use.inodes f n) inode m)))
+
+  inodes_after : InodesInUseBut losers.inodes after
+  inodes_after =
+      all_from_among (λ f. list_all (is_used_or_among losers.inodes after f) f.files.numbers ≡ true) after.filesystems
+      (for_each world number files settles.in_use settles.plain there
+      (λ f. list_all (is_used_or_among losers.inodes after f) f.files.numbers ≡ true)
+      (all_pass (is_used_or_among losers.inodes after new) files.numbers of_new)
+      (λ f n. all_pass (is_used_or_among losers.inodes after f) f.files.numbers (of_others f n)))
+
+  unnamed_goes : settled nat_eq after ≡ let_go after losers
+  unnamed_goes =
+      all_goes_one_by_one after losers (plain_after world number files settles.in_use settles.plain there) trees_after
+      (record {
+        mounts = settles.in_use.mounts;
+        filesystems = subst (FilesystemsInUseBut []) (sym same_mounted)
+            (filesystems_after world number files settles.in_use settles.plain there);
+        inodes = subst (InodesInUseBut losers.inodes) (sym (same_living world number files settles.in_use
+            settles.plain there))
+            inodes_after;
+        groups = subst (GroupsInUseBut []) (sym same_mounted) (λ group among none. settles.in_use.groups group none);
+      })
+
+pub unnamed_go : UnnamedGo
+unnamed_go world number files unnamed settles there changes =
+    unnamed_goes world number files unnamed settles there changes
+
+pub named_stay : NamedStay
+named_stay world number files settles there changes = unnamed_goes world number files [] settles there changes

@@ -1,0 +1,204 @@
+-- What goes when mounts are taken away.
+use Rattle.std.proofs.Common.{arith}
+use Rattle.std.proofs.lemmas.Grind.{common_steps}
+use Rattle.std.proofs.Common.{◌≡◌, refl, sym, ap, subst, ◌∙◌, inl, inr, ⊎_elim, ℕ, zero, suc, nat_eq, Bool, true, false, cond, not, ◌||◌, ◌&&◌, List, [], ◌∷◌, filter, length, map, Option, Some, None, is_some, option_map, true≢false}
+use Rattle.std.specs.List.{list_any}
+use Rattle.std.proofs.lemmas.Bool.{or_parts, cases_Bool}
+use Rattle.vt_spec.specs.Machine.Detach.{after_going, is_going, mount_point_of_parent, mount_point_left, taken_away}
+use Rattle.vt_spec.specs.Lists.{chain, holds_of, is_among, last_or}
+use Rattle.vt_spec.specs.Machine.Mounts.{Location, Mount, Propagation, detached, mount_in, root_of}
+use Rattle.vt_spec.specs.Machine.Mounts.Propagation.{Private, Shared, Slave, Unbindable}
+use Rattle.vt_spec.specs.Machine.Namespaces.{has_tasks}
+use Rattle.vt_spec.specs.Machine.Receives.{heir, inherited, inheriting, lost_a_group, regrouped_by}
+use Rattle.vt_spec.specs.Machine.Settled.{is_located, mount_lives, settled}
+use Rattle.vt_spec.specs.Machine.World.{Namespace, World, mount_at, with_mounts}
+use Rattle.vt_spec.specs.Machine.Invariants.{is_nowhere_or_attached, is_private}
+use Rattle.vt_laws_mounts.specs.LettingGo.InUse.{AllInUse}
+use Rattle.vt_laws_mounts.specs.LettingGo.Leaving.{IsSettledPlain, MountsStand}
+use Rattle.vt_laws_mounts.specs.LettingGo.Mounting.{EndingLetsGo, TakingAwayLetsGo, ended_mounts, loses_its_place, places_lost, used_by_mounts}
+use Rattle.vt_laws_mounts.specs.LettingGo.OneByOne.{GroupsInUseBut, let_go}
+use Rattle.vt_laws_mounts.proofs.letting_go.leaving.Detached.{found-map, not_found-map}
+use Rattle.vt_laws_mounts.proofs.letting_go.Lists.{all_pass, among-filter, among-filter_map, among-from_map, among-map, passes}
+use Rattle.vt_laws_mounts.proofs.letting_go.mounting.MountingLosers.{Loses, changed, losers_go}
+use Rattle.vt_laws_mounts.proofs.letting_go.leaving.PlacesLeft.{nowhere_parts}
+use Rattle.vt_spec.proofs.Lists.{map_twice}
+
+module _ (world : World ℕ) (gone : List ℕ) (namespaces : List (Namespace ℕ)) where
+  abbrev pub without : World ℕ
+  without = with_mounts world (map (after_going nat_eq world gone) world.mounts)
+
+  -- a mount afterwards, where groups were handed on and where none was
+  abbrev pub change : Bool → Mount ℕ → Mount ℕ
+  change true mount = inheriting nat_eq without (after_going nat_eq world gone mount)
+  change false mount = after_going nat_eq world gone mount
+
+  abbrev pub masters : Bool → ℕ → Option ℕ
+  masters true = λ group. heir nat_eq without (world.master group)
+  masters false = world.master
+
+  abbrev pub after : Bool → World ℕ
+  after b = changed world (map (change b) world.mounts) (masters b) namespaces world.tasks
+
+  pub is_changed : (b : Bool) → record (regrouped_by nat_eq b without) { namespaces = namespaces } ≡ after b
+  is_changed true =
+      ap (λ mounts. changed world mounts (masters true) namespaces world.tasks)
+      (map_twice (inheriting nat_eq without) (after_going nat_eq world gone) world.mounts)
+  is_changed false = refl
+
+  -- what a mount shows stays
+  same_part : {A : Type 0} (part : Mount ℕ → A) (mount : Mount ℕ) → part (detached mount) ≡ part mount
+      → part (record mount { mount_point = option_map (mount_point_left nat_eq world gone) mount.mount_point })
+      ≡ part mount
+      → part (after_going nat_eq world gone mount) ≡ part mount
+  same_part part mount down up = grind (arith, common_steps)
+
+  pub same_root : (b : Bool) (mount : Mount ℕ) → root_of (change b mount) ≡ root_of mount
+  same_root true mount = same_part root_of mount refl refl
+  same_root false mount = same_part root_of mount refl refl
+
+  pub same_number : (b : Bool) (mount : Mount ℕ) → (change b mount).number ≡ mount.number
+  same_number true mount = same_part (λ m. m.number) mount refl refl
+  same_number false mount = same_part (λ m. m.number) mount refl refl
+
+  pub same_filesystem : (b : Bool) (mount : Mount ℕ) → (change b mount).filesystem ≡ mount.filesystem
+  same_filesystem true mount = same_part (λ m. m.filesystem) mount refl refl
+  same_filesystem false mount = same_part (λ m. m.filesystem) mount refl refl
+
+  pub shows_the_same : (b : Bool) (number : ℕ) → (mount_in nat_eq (map (change b) world.mounts) number).filesystem
+      ≡ (mount_in nat_eq world.mounts number).filesystem
+  shows_the_same b number =
+      ⊎_elim (λ e. e)
+      (λ found. ap (λ x. x.filesystem)
+      (found-map (change b) (same_number b) world.mounts number found.0 found.1 found.2 found.3)
+      ∙ same_filesystem b (mount_in nat_eq world.mounts number))
+      (not_found-map (change b) (same_number b) world.mounts number)
+
+  -- a mount that does not go
+  pub stays : (mount : Mount ℕ) → is_going nat_eq gone mount.number ≡ false
+      → after_going nat_eq world gone mount ≡ record mount {
+        mount_point = option_map
+            (mount_point_left nat_eq world gone) mount.mount_point;
+      }
+  stays mount isnt = ap (λ c. cond c (detached mount)
+      (record mount { mount_point = option_map (mount_point_left nat_eq world gone) mount.mount_point })) isnt
+
+  pub same_namespace : (b : Bool) (mount : Mount ℕ) → is_going nat_eq gone mount.number ≡ false
+      → (change b mount).namespace ≡ mount.namespace
+  same_namespace true mount isnt = ap (λ m. m.namespace) (stays mount isnt)
+  same_namespace false mount isnt = ap (λ m. m.namespace) (stays mount isnt)
+
+  stays_at : (place : Location ℕ) → is_going nat_eq gone place.mount ≡ false
+      → mount_point_left nat_eq world gone place ≡ place
+  stays_at place isnt = grind (arith, common_steps)
+
+  pub same_place : (b : Bool) (mount : Mount ℕ) (place : Location ℕ) → mount.mount_point ≡ Some place
+      → is_going nat_eq gone mount.number ≡ false
+      → is_going nat_eq gone place.mount ≡ false → (change b mount).mount_point ≡ Some place
+  same_place true mount place p isnt on =
+      ap (λ m. m.mount_point) (stays mount isnt) ∙ ap (option_map (mount_point_left nat_eq world gone)) p
+      ∙ ap Some (stays_at place on)
+  same_place false mount place p isnt on =
+      ap (λ m. m.mount_point) (stays mount isnt) ∙ ap (option_map (mount_point_left nat_eq world gone)) p
+      ∙ ap Some (stays_at place on)
+
+  -- one outside every namespace has no place and is private
+  private_still : (propagation : Propagation ℕ) → is_private propagation ≡ true
+      → is_private (inherited nat_eq without propagation) ≡ true
+  private_still (Shared group) h = h
+  private_still (Slave master) h = absurd (true≢false (sym h))
+  private_still Private h = h
+  private_still Unbindable h = h
+
+  pub nowhere_after : (b : Bool) (mount : Mount ℕ) → is_nowhere_or_attached mount ≡ true
+      → is_nowhere_or_attached (change b mount) ≡ true
+  nowhere_after b mount h = grind (arith, common_steps, true≢false, nowhere_parts, stays, private_still)
+
+  module _ (in_use : AllInUse world) (stand : MountsStand world) where
+    pub loses : (b : Bool) → Loses world (after b) gone (places_lost world gone)
+    loses b = record {
+      images = λ mount m. (
+        change b mount,
+        (among-map (change b) world.mounts mount m, (same_root b mount, same_filesystem b mount)),
+      );
+      shown = λ location m. shows_the_same b location.mount;
+      live = λ last m isnt. let from = among-from_map (change b) world.mounts last m in
+          let other : is_going nat_eq gone from.0.number ≡ false = ap (λ n. is_among nat_eq n gone)
+          (sym (same_number b from.0) ∙ ap (λ x. x.number) (sym from.2)) ∙ isnt in
+          ap (mount_lives nat_eq world) from.2
+          ∙ (λ i. is_some (same_namespace b from.0 other i) || is_located nat_eq world (same_number b from.0 i))
+          ∙ passes (mount_lives nat_eq world) world.mounts in_use.mounts from.0 from.1;
+      locations = λ location m. inl (inl m);
+      places = λ mount m place p. ⊎_elim
+          (λ is. inr (among-filter_map (λ x. x.mount_point) (filter (loses_its_place gone) world.mounts) mount place
+          (among-filter (loses_its_place gone) world.mounts mount m is) p))
+          (λ isnt. let parts = or_parts (is_going nat_eq gone mount.number)
+          (holds_of (λ l. is_going nat_eq gone l.mount) mount.mount_point) isnt in
+          let on : is_going nat_eq gone place.mount ≡ false =
+          sym (ap (holds_of (λ l. is_going nat_eq gone l.mount)) p) ∙ parts.1 in
+          inl (
+            change b mount,
+            (
+              among-map (change b) world.mounts mount m,
+              (same_place b mount place p parts.0 on, inl on),
+            ),
+          ))
+          (cases_Bool (loses_its_place gone mount));
+      nowhere = all_pass is_nowhere_or_attached (map (change b) world.mounts) (λ last m.
+          let from = among-from_map (change b) world.mounts last m in
+          ap is_nowhere_or_attached from.2
+          ∙ nowhere_after b from.0 (passes is_nowhere_or_attached world.mounts stand.nowhere from.0 from.1));
+    }
+
+-- the world without mounts, with other namespaces
+taken_with_namespaces : (world : World ℕ) (gone groups : List ℕ) (namespaces : List (Namespace ℕ))
+    → IsSettledPlain world
+    → GroupsInUseBut groups (record (taken_away nat_eq world gone) { namespaces = namespaces })
+    → settled nat_eq (record (taken_away nat_eq world gone) { namespaces = namespaces })
+    ≡ let_go (record (taken_away nat_eq world gone) { namespaces = namespaces })
+    (used_by_mounts world gone (places_lost world gone) groups)
+taken_with_namespaces world gone groups namespaces settles hears =
+    by (list_any (lost_a_group nat_eq (without world gone namespaces)) (without world gone namespaces).mounts) hears
+  where
+    taken : Bool → World ℕ
+    taken b = record (regrouped_by nat_eq b (without world gone namespaces)) { namespaces = namespaces }
+
+    by : (b : Bool) → GroupsInUseBut groups (taken b) → settled nat_eq (taken b)
+        ≡ let_go (taken b) (used_by_mounts world gone (places_lost world gone) groups)
+    by b h =
+        subst (λ w. settled nat_eq w ≡ let_go w (used_by_mounts world gone (places_lost world gone) groups))
+        (sym (is_changed world gone namespaces b))
+        (losers_go world (map (change world gone namespaces b) world.mounts)
+        (masters world gone namespaces b) namespaces world.tasks gone
+        (places_lost world gone) groups settles (loses world gone namespaces settles.in_use settles.mounts b)
+        (subst (GroupsInUseBut groups) (is_changed world gone namespaces b) h))
+
+pub same_namespaces : (world : World ℕ) (b : Bool)
+    → record (regrouped_by nat_eq b world) { namespaces = world.namespaces }
+    ≡ regrouped_by nat_eq b world
+same_namespaces world true = refl
+same_namespaces world false = refl
+
+-- the event in which mounts are taken away is a change of each mount
+abbrev pub hands_on : World ℕ → List ℕ → Bool
+hands_on world gone = list_any (lost_a_group nat_eq (without world gone world.namespaces))
+    (without world gone world.namespaces).mounts
+
+pub taken_is : (world : World ℕ) (gone : List ℕ)
+    → taken_away nat_eq world gone ≡ after world gone world.namespaces (hands_on world gone)
+taken_is world gone =
+    sym (same_namespaces (without world gone world.namespaces) (hands_on world gone))
+    ∙ is_changed world gone world.namespaces (hands_on world gone)
+
+pub taking_away_lets_go : TakingAwayLetsGo
+taking_away_lets_go world gone groups settles hears =
+    grind (
+      arith,
+      common_steps,
+      taken_with_namespaces world gone groups world.namespaces settles hears,
+      same_namespaces,
+    )
+
+pub ending_lets_go : EndingLetsGo
+ending_lets_go world groups settles hears =
+    taken_with_namespaces world (ended_mounts world) groups
+    (filter (has_tasks nat_eq world) world.namespaces) settles hears

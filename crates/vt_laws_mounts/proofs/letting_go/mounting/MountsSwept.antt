@@ -1,0 +1,140 @@
+-- What the sweep leaves of mounts: those in namespaces stay, with all their groups, and those outside are private.
+use Rattle.std.proofs.Common.{◌≡◌, refl, sym, ap, subst, ◌∙◌, ℕ, nat_eq, true, false, cond, not, ◌&&◌, List, ◌≤◌, filter, length, map, true≢false, Option, Some, None, is_some, unwrap_or, arith}
+use Rattle.std.specs.Prelude.{option_to_list}
+use Rattle.std.specs.List.{list_all}
+use Rattle.std.proofs.lemmas.Bool.{or_parts}
+use Rattle.std.proofs.lemmas.List.Filters.{length-filter_both}
+use Rattle.std.proofs.lemmas.Option.{same_Some}
+use Rattle.vt_spec.specs.Machine.Invariants.{Lives, MountInvariants, Stands, is_nowhere_or_attached, is_private}
+use Rattle.vt_spec.specs.Machine.Invariants.Lives.{has_master, has_no_master}
+use Rattle.vt_spec.specs.Machine.Invariants.Stands.{at_root, on_parent}
+use Rattle.vt_spec.specs.Machine.Mounts.{Location, Mount, group_of, mount_in}
+use Rattle.vt_spec.specs.Machine.Receives.{has_members, is_member_of}
+use Rattle.vt_spec.specs.Machine.Settled.{is_located, mount_lives, settled}
+use Rattle.vt_spec.specs.Machine.World.{World, mount_at, mount_numbered}
+use Rattle.vt_laws_mounts.specs.LettingGo.Leaving.{MountsStand, stands_on_attached}
+use Rattle.vt_laws_mounts.proofs.letting_go.Chains.{Way}
+use Rattle.vt_laws_mounts.proofs.letting_go.Chains.Way.{ends, goes_on}
+use Rattle.vt_laws_mounts.proofs.letting_go.Lists.{Among, all_pass, among-filter, among-from_filter, among-map, among_from_all, any-filter, one_passes, or_first, passes, held_number}
+use Rattle.vt_laws_mounts.proofs.letting_go.leaving.PlacesLeft.{found_in_filter, found_is_there, found_itself, nowhere_parts, placed_is_attached, private_is_no_member}
+use Rattle.vt_spec.proofs.Worlds.{number-mount_in}
+
+-- By their invariants mounts stand, each on one of its namespace.
+module _ (world : World ℕ) (kept : MountInvariants nat_eq world) where
+  parent : (mount : Mount ℕ) → (place : Location ℕ) → mount.mount_point ≡ Some place
+      → (number : ℕ) → Stands nat_eq world number → mount_numbered nat_eq world number ≡ mount
+      → mount.namespace ≡ (mount_at nat_eq world place).namespace
+  parent mount place p number (at_root it e) itself =
+      absurd (true≢false (sym (ap is_some (ap (λ (x : Mount ℕ). x.mount_point) itself ∙ p)) ∙ ap is_some e))
+  parent mount place p number (on_parent it below e same rest) itself =
+      let at : below ≡ place = same_Some below place (sym e ∙ ap (λ (x : Mount ℕ). x.mount_point) itself ∙ p) in
+      ap (λ (x : Mount ℕ). x.namespace) (sym itself) ∙ same
+      ∙ ap (λ (l : Location ℕ). (mount_at nat_eq world l).namespace) at
+
+  pub beside_parent : (mount : Mount ℕ) → Among mount world.mounts → (place : Location ℕ)
+      → mount.mount_point ≡ Some place → mount.namespace ≡ (mount_at nat_eq world place).namespace
+  beside_parent mount m place p =
+      parent mount place p mount.number
+      (among_from_all (λ x. Stands nat_eq world x.number) world.mounts kept.standing mount m)
+      (found_itself world.mounts kept.one_number mount m)
+
+  on : (mount : Mount ℕ) → Among mount world.mounts → (o : Option (Location ℕ)) → mount.mount_point ≡ o
+      → list_all (λ place. is_some (mount_at nat_eq world place).namespace) (option_to_list o) ≡ true
+  on mount m None e = refl
+  on mount m (Some place) e =
+      ap (λ b. b && true)
+      (ap is_some (sym (beside_parent mount m place e))
+      ∙ placed_is_attached mount (passes is_nowhere_or_attached world.mounts kept.nowhere mount m) place e)
+
+  pub mounts_stand : MountsStand world
+  mounts_stand = record {
+    one_number = kept.one_number;
+    nowhere = kept.nowhere;
+    on_attached = all_pass (stands_on_attached world) world.mounts (λ mount m. on mount m mount.mount_point refl);
+  }
+
+  abbrev pub first_mounts : List (Mount ℕ)
+  first_mounts = filter (mount_lives nat_eq world) world.mounts
+
+  pub of_world : (mount : Mount ℕ) → Among mount first_mounts → Among mount world.mounts
+  of_world mount m = (among-from_filter (mount_lives nat_eq world) world.mounts mount m).0
+
+  pub attached_lives : (mount : Mount ℕ) → is_some mount.namespace ≡ true → mount_lives nat_eq world mount ≡ true
+  attached_lives mount e = or_first (is_some mount.namespace) (is_located nat_eq world mount.number) e
+
+  abbrev pub IsAttached : ℕ → Type 0
+  IsAttached number = is_some (mount_in nat_eq world.mounts number).namespace ≡ true
+
+  abbrev pub numbers : List ℕ
+  numbers = map (λ (mount : Mount ℕ). mount.number) first_mounts
+
+  pub the_one : (number : ℕ) → IsAttached number → (mount : Mount ℕ) → Among mount world.mounts → mount.number ≡ number
+      → is_some mount.namespace ≡ true
+  the_one number attached mount m same =
+      ap (λ (x : Mount ℕ). is_some x.namespace)
+      (sym (found_itself world.mounts kept.one_number mount m) ∙ ap (mount_in nat_eq world.mounts) same) ∙ attached
+
+  pub same_found : (number : ℕ) → IsAttached number
+      → mount_in nat_eq first_mounts number ≡ mount_in nat_eq world.mounts number
+  same_found number attached =
+      found_in_filter (mount_lives nat_eq world) world.mounts number
+      (λ mount m same. attached_lives mount (the_one number attached mount m same))
+
+  pub number_there : (number : ℕ) → IsAttached number → Among number numbers
+  number_there number attached =
+      let found = mount_in nat_eq world.mounts number in
+      subst (λ n. Among n numbers) (number-mount_in world.mounts number)
+      (among-map (λ (x : Mount ℕ). x.number) first_mounts found
+      (among-filter (mount_lives nat_eq world) world.mounts found (found_is_there world.mounts number attached)
+      (attached_lives found attached)))
+
+  pub standing_at : (number : ℕ) → IsAttached number → Stands nat_eq world number
+  standing_at number attached =
+      subst (Stands nat_eq world) (number-mount_in world.mounts number)
+      (among_from_all (λ x. Stands nat_eq world x.number) world.mounts kept.standing
+      (mount_in nat_eq world.mounts number) (found_is_there world.mounts number attached))
+
+  pub shorter : length first_mounts ≤ length world.mounts
+  shorter = omega (
+    arith,
+    length-filter_both (mount_lives nat_eq world) (λ mount. not (mount_lives nat_eq world mount))
+        (λ mount. refl) world.mounts,
+  )
+
+  pub unused_private : (mount : Mount ℕ) → Among mount world.mounts → mount_lives nat_eq world mount ≡ false
+      → is_private mount.propagation ≡ true
+  unused_private mount m dead =
+      (nowhere_parts mount (passes is_nowhere_or_attached world.mounts kept.nowhere mount m)
+      (or_parts (is_some mount.namespace) (is_located nat_eq world mount.number) dead).0).1
+
+  pub members_first : (group : ℕ) → has_members nat_eq first_mounts group ≡ has_members nat_eq world.mounts group
+  members_first group =
+      any-filter (is_member_of nat_eq group) (mount_lives nat_eq world) world.mounts
+      (λ mount m dead. private_is_no_member group mount (unused_private mount m dead))
+
+  abbrev pub LivesIn : ℕ → Type 0
+  LivesIn = Lives (has_members nat_eq world.mounts) world.master
+
+  pub master_kept : (group : ℕ) → has_members nat_eq world.mounts group ≡ true
+      → (settled nat_eq world).master group ≡ world.master group
+  master_kept group has = ap (λ b. cond b (world.master group) None) (members_first group ∙ has)
+
+  pub master_of : (group : ℕ) → LivesIn group → (settled nat_eq world).master group ≡ world.master group
+  master_of group (has_no_master it has e) = master_kept it has
+  master_of group (has_master it above has e rest) = master_kept it has
+
+  abbrev pub groups_there : List ℕ
+  groups_there = map (λ (mount : Mount ℕ). unwrap_or (group_of mount.propagation) 0) first_mounts
+
+  pub group_there : (group : ℕ) → has_members nat_eq world.mounts group ≡ true → Among group groups_there
+  group_there group has =
+      let t = one_passes (is_member_of nat_eq group) first_mounts (members_first group ∙ has) in
+      subst (λ n. Among n groups_there)
+      (ap (λ o. unwrap_or o 0) (held_number group (group_of t.0.propagation) t.2))
+      (among-map (λ (mount : Mount ℕ). unwrap_or (group_of mount.propagation) 0) first_mounts t.0 t.1)
+
+  pub way_up : (group : ℕ) → LivesIn group
+      → Way world.master (settled nat_eq world).master (λ (g : ℕ). g) groups_there group
+  way_up group (has_no_master it has e) = ends it e (master_kept it has ∙ e)
+  way_up group (has_master it above has e rest) =
+      goes_on it above e (master_kept it has ∙ e) (group_there it has) (way_up above rest)

@@ -1,0 +1,162 @@
+-- What a world is by its conditions.
+use Rattle.std.proofs.Common.{◌≡◌, refl, sym, ap, subst, ◌∙◌, inl, ℕ, nat_eq, eqb-true, Bool, true, false, not, ◌&&◌, ◌++◌, List, find, map, true≢false, Option, Some, None, is_some, option_to_list, unwrap_or}
+use Rattle.std.specs.Prelude.{All}
+use Rattle.std.specs.List.{list_all}
+use Rattle.std.proofs.lemmas.Bool.{and_parts, not-true}
+use Rattle.vt_spec.specs.Lists.{any_pair, holds_of, is_among}
+use Rattle.vt_spec.specs.Machine.Locked.{of_overlay, overlay_or}
+use Rattle.vt_spec.specs.Machine.Mounts.{Location, Mount}
+use Rattle.vt_spec.specs.Machine.World.{Filesystem, Layer, Overlay, World, all_locations, filesystem_numbered, is_overlay, layers_of, mount_at, mount_numbered, no_filesystem}
+use Rattle.vt_spec.specs.Machine.Invariants.{IsWorld, ListsNumbers, Stands, is_located_well, is_nowhere_or_attached, is_plain_layer}
+use Rattle.vt_spec.specs.TreeInvariant.{IsTree}
+use Rattle.vt_laws_mounts.specs.LettingGo.InUse.{AllInUse, IsListedTree, has_upper_in}
+use Rattle.vt_laws_mounts.specs.LettingGo.Leaving.{stands_on_attached}
+use Rattle.vt_laws_mounts.specs.LettingGo.Overlays.{real_in}
+use Rattle.vt_laws_mounts.specs.LettingGo.Worlds.{LocationsOfWorldsStand, MountsOfWorldsStand, PlainWorldsAreSettled, RealsOfWorldsAreThere, UppersOfWorldsArePlain, WorldsAreSettled, WorldsHaveTrees}
+use Rattle.vt_laws_mounts.proofs.letting_go.sweeps.InUse.{what_is_left_is_in_use}
+use Rattle.vt_laws_mounts.proofs.letting_go.Lists.{found_by, Among, all_from_among, all_pass, among-append_left, among_from_all, passes}
+use Rattle.vt_laws_mounts.proofs.letting_go.leaving.PlacesLeft.{found_itself, nowhere_parts}
+use Rattle.std.proofs.lemmas.Option.{same_Some}
+use Rattle.vt_spec.specs.Machine.Invariants.Stands.{at_root, on_parent}
+
+pub worlds_have_trees : WorldsHaveTrees
+worlds_have_trees world is =
+    all_from_among (λ f. IsListedTree f.files) world.filesystems (λ f m. record {
+      tree = among_from_all (λ g. IsTree g.files.tree) world.filesystems is.files.trees f m;
+      numbers = among_from_all (λ g. ListsNumbers nat_eq g.files) world.filesystems is.files.numbers f m;
+    })
+
+module _ (world : World ℕ) (is : IsWorld nat_eq world) where
+  -- a mount with a place is in a namespace
+  attached : (mount : Mount ℕ) → Among mount world.mounts → is_some mount.mount_point ≡ true
+      → is_some mount.namespace ≡ true
+  attached mount m placed = by (is_some mount.namespace) refl
+    where
+      by : (b : Bool) → is_some mount.namespace ≡ b → is_some mount.namespace ≡ true
+      by true e = e
+      by false e =
+          absurd (true≢false
+          (sym placed ∙ (nowhere_parts mount
+          (passes is_nowhere_or_attached world.mounts is.mounts.nowhere mount m) e).0))
+
+  on_attached : (mount : Mount ℕ) → Among mount world.mounts → (place : Location ℕ) → mount.mount_point ≡ Some place
+      → is_some (mount_at nat_eq world place).namespace ≡ true
+  on_attached mount m place p =
+      by (among_from_all (λ (x : Mount ℕ). Stands nat_eq world x.number) world.mounts is.mounts.standing mount m)
+      (found_itself world.mounts is.mounts.one_number mount m)
+    where
+      by : Stands nat_eq world mount.number → mount_numbered nat_eq world mount.number ≡ mount
+          → is_some (mount_at nat_eq world place).namespace ≡ true
+      by (at_root number e) itself =
+          absurd (true≢false (sym (ap is_some p) ∙ sym (ap (λ (x : Mount ℕ). is_some x.mount_point) itself)
+          ∙ ap is_some e))
+      by (on_parent number at e same stands) itself =
+          let it : at ≡ place = same_Some at place (sym e ∙ ap (λ (x : Mount ℕ). x.mount_point) itself ∙ p) in
+          ap (λ l. is_some (mount_at nat_eq world l).namespace) (sym it)
+          ∙ ap is_some (sym same) ∙ ap (λ (x : Mount ℕ). is_some x.namespace) itself
+          ∙ attached mount m (ap is_some p)
+
+pub mounts_of_worlds_stand : MountsOfWorldsStand
+mounts_of_worlds_stand world is = record {
+  one_number = is.mounts.one_number;
+  nowhere = is.mounts.nowhere;
+  on_attached = all_pass (stands_on_attached world) world.mounts (λ mount m. by mount m mount.mount_point refl);
+}
+  where
+    by : (mount : Mount ℕ) → Among mount world.mounts → (o : Option (Location ℕ)) → mount.mount_point ≡ o
+        → list_all (λ place. is_some (mount_at nat_eq world place).namespace) (option_to_list o) ≡ true
+    by mount m None e = refl
+    by mount m (Some place) e = ap (λ b. b && true) (on_attached world is mount m place e)
+
+-- Filesystems by their numbers
+pub found_filesystem : (filesystems : List (Filesystem ℕ))
+    → any_pair (λ (a b : Filesystem ℕ). nat_eq a.number b.number) filesystems ≡ false
+    → (f : Filesystem ℕ) → Among f filesystems
+    → unwrap_or (find (λ x. nat_eq f.number x.number) filesystems) (no_filesystem f.number) ≡ f
+found_filesystem filesystems one f m =
+    found_by (λ (x : Filesystem ℕ). x.number) (no_filesystem f.number) filesystems one f m
+
+pub uppers_of_worlds_are_plain : UppersOfWorldsArePlain
+uppers_of_worlds_are_plain world is =
+    all_from_among (λ f. is_overlay f ≡ true
+    → All (λ merged. has_upper_in f.number merged ≡ false) world.filesystems) world.filesystems
+    (λ f m overlay. all_from_among (λ merged. has_upper_in f.number merged ≡ false) world.filesystems
+    (λ merged n. by f m overlay merged.overlay
+    (passes (of_overlay true (λ o. list_all (is_plain_layer nat_eq world)
+    (layers_of o))) world.filesystems is.overlays.plain_layers merged n)))
+  where
+    by : (f : Filesystem ℕ) → Among f world.filesystems → is_overlay f ≡ true → (o : Option (Overlay ℕ))
+        → overlay_or true (λ overlay. list_all (is_plain_layer nat_eq world) (layers_of overlay)) o ≡ true
+        → overlay_or false (λ overlay. holds_of (λ layer. nat_eq f.number layer.filesystem) overlay.upper) o ≡ false
+    by f m is_one None h = refl
+    by f m is_one (Some overlay) h = upper overlay.upper refl
+      where
+        plain_layer : (layer : Layer ℕ) → overlay.upper ≡ Some layer
+            → is_overlay (filesystem_numbered nat_eq world layer.filesystem) ≡ false
+        plain_layer layer e =
+            let parts = and_parts (not (is_overlay (filesystem_numbered nat_eq world layer.filesystem))) _
+            (passes (is_plain_layer nat_eq world) (layers_of overlay) h layer
+            (among-append_left (option_to_list overlay.upper ++ option_to_list overlay.work) overlay.lowers layer
+            (among-append_left (option_to_list overlay.upper) (option_to_list overlay.work) layer
+            (subst (λ o. Among layer (option_to_list o)) (sym e) (inl refl))))) in
+            not-true (is_overlay (filesystem_numbered nat_eq world layer.filesystem)) parts.0
+
+        upper : (o : Option (Layer ℕ)) → overlay.upper ≡ o
+            → holds_of (λ layer. nat_eq f.number layer.filesystem) o ≡ false
+        upper None e = refl
+        upper (Some layer) e = same (nat_eq f.number layer.filesystem) refl
+          where
+            same : (b : Bool) → nat_eq f.number layer.filesystem ≡ b → b ≡ false
+            same false g = refl
+            same true g =
+                absurd (true≢false
+                (sym is_one
+                ∙ ap is_overlay (sym (found_filesystem world.filesystems is.files.one_filesystem f m))
+                ∙ ap (λ n. is_overlay (filesystem_numbered nat_eq world n)) (eqb-true f.number layer.filesystem g)
+                ∙ plain_layer layer e))
+
+-- An inode of an overlay that is not there has no real object.
+pub reals_of_worlds_are_there : RealsOfWorldsAreThere
+reals_of_worlds_are_there world is =
+    all_from_among (λ f. (number : ℕ) → f.files.tree.node number ≡ None → real_in f number ≡ None) world.filesystems
+    (λ f m.
+    by f f.overlay refl (found_filesystem world.filesystems is.files.one_filesystem f m))
+  where
+    by : (f : Filesystem ℕ) (o : Option (Overlay ℕ)) → f.overlay ≡ o → filesystem_numbered nat_eq world f.number ≡ f
+        → (number : ℕ) → f.files.tree.node number ≡ None
+        → overlay_or None (λ overlay. overlay.real number) f.overlay ≡ None
+    by f None e found number none = ap (overlay_or None (λ overlay. overlay.real number)) e
+    by f (Some overlay) e found number none =
+        ap (overlay_or None (λ overlay. overlay.real number)) e
+        ∙ (is.overlays.overlays_merge f.number overlay
+        (ap (λ (x : Filesystem ℕ). x.overlay) found ∙ e)).real_there number
+        (ap (λ (x : Filesystem ℕ). x.files.tree.node number) found ∙ none)
+
+pub locations_of_worlds_stand : LocationsOfWorldsStand
+locations_of_worlds_stand world is =
+    all_pass (λ location. is_among nat_eq location.mount (map (λ mount. mount.number) world.mounts))
+    (all_locations world) (λ location m.
+    (and_parts (is_among nat_eq location.mount (map (λ (mount : Mount ℕ). mount.number) world.mounts)) _
+    (passes (is_located_well nat_eq world) (all_locations world) is.tasks.locations_live location m)).0)
+
+pub all_in_use : (world : World ℕ) → IsWorld nat_eq world → AllInUse world
+all_in_use world is =
+    subst AllInUse is.nothing_unused
+    (what_is_left_is_in_use world (worlds_have_trees world is) (uppers_of_worlds_are_plain world is))
+
+pub worlds_are_settled : WorldsAreSettled
+worlds_are_settled world is = record {
+  in_use = all_in_use world is;
+  trees = worlds_have_trees world is;
+  uppers = uppers_of_worlds_are_plain world is;
+  reals = reals_of_worlds_are_there world is;
+  mounts = mounts_of_worlds_stand world is;
+}
+
+pub plain_worlds_are_settled : PlainWorldsAreSettled
+plain_worlds_are_settled world is plain = record {
+  in_use = all_in_use world is;
+  plain = plain;
+  trees = worlds_have_trees world is;
+  mounts = mounts_of_worlds_stand world is;
+}

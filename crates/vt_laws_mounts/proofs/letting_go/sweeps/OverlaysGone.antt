@@ -1,0 +1,153 @@
+-- An overlay that goes takes the uses of its layers and of its upper objects away.
+use Rattle.std.proofs.Common.{◌≡◌, refl, sym, ap, subst, ◌∙◌, ◌⊎◌, inl, inr, ⊎_elim, ℕ, nat_eq, eq-eqb, Bool, true, cond, ◌||◌, ◌&&◌, List, [], ◌∷◌, filter, map, flat_map, ◌++◌, Option, option_to_list}
+use Rattle.std.specs.List.{list_all}
+use Rattle.std.proofs.lemmas.Bool.{or_cases}
+use Rattle.std.proofs.lemmas.List.Folds.{list_any-append}
+use Rattle.vt_spec.specs.Lists.{is_among}
+use Rattle.vt_spec.specs.Machine.Locked.{of_overlay, overlay_or}
+use Rattle.vt_spec.specs.Machine.Settled.{filesystem_lives, layers_in, located_in, named_in, objects_of_overlay, without_dead_filesystems}
+use Rattle.vt_spec.specs.Machine.World.{Filesystem, Layer, World, layers_of}
+use Rattle.vt_laws_mounts.specs.LettingGo.InUse.{is_inode_used}
+use Rattle.vt_laws_mounts.specs.LettingGo.OneByOne.{FilesystemsInUseBut, Inode, is_inode_among, is_used_or_among}
+use Rattle.vt_laws_mounts.specs.LettingGo.Overlays.{FilesystemsTakeTheirUses, used_by_filesystem, used_by_filesystems, used_by_numbered, uppers_in}
+use Rattle.vt_laws_mounts.proofs.letting_go.Lists.{Among, all_from_among, all_pass, among-append_left, among-append_right, among-filter, among-flat_map, among-from_filter, among-from_flat_map, among-from_map, among-map, among_from_all, among_numbers, any_passes, is_among_numbers, one_passes, or_first, or_second, passes}
+use Rattle.vt_laws_mounts.proofs.letting_go.sweeps.WithOverlays.{object_parts}
+use Rattle.vt_spec.proofs.Found.{is_among_left, is_among_right}
+
+module _ (world : World ℕ) (losers : List ℕ) (others : FilesystemsInUseBut losers world) where
+  abbrev living : World ℕ
+  living = without_dead_filesystems nat_eq world
+
+  abbrev taken : List Inode
+  taken = used_by_filesystems world losers
+
+  -- a filesystem lives, or what it used is named
+  lives_or_named : (g : Filesystem ℕ) → Among g world.filesystems
+      → (filesystem_lives nat_eq world g ≡ true) ⊎ (is_among nat_eq g.number losers ≡ true)
+  lives_or_named g m =
+      ⊎_elim inr inl
+      (or_cases (is_among nat_eq g.number losers) (filesystem_lives nat_eq world g)
+      (passes (λ x. is_among nat_eq x.number losers || filesystem_lives nat_eq world x) world.filesystems others g m))
+
+  named_use : (g : Filesystem ℕ) → Among g world.filesystems → is_among nat_eq g.number losers ≡ true
+      → (filesystem number target : ℕ)
+      → nat_eq filesystem target ≡ true → Among (target, number) (used_by_filesystem g)
+      → is_inode_among filesystem number taken ≡ true
+  named_use g m loses filesystem number target same used =
+      let t = one_passes (nat_eq g.number) losers loses in
+      any_passes (λ inode. nat_eq filesystem inode.0 && nat_eq number inode.1) taken (target, number)
+      (among-flat_map (used_by_numbered world) losers t.0 (target, number) t.1
+      (among-flat_map (λ x. cond (nat_eq x.number t.0) (used_by_filesystem x) []) world.filesystems g (target, number) m
+      (subst (λ b. Among (target, number) (cond b (used_by_filesystem g) [])) (sym t.2) used)))
+      (ap (λ b. b && nat_eq number number) same ∙ eq-eqb number number refl)
+
+  abbrev is_on : ℕ → Layer ℕ → Bool
+  is_on filesystem layer = nat_eq filesystem layer.filesystem
+
+  layer_left : (filesystem number : ℕ) → Among number (layers_in nat_eq world filesystem)
+      → Among number (layers_in nat_eq living filesystem) ⊎ (is_inode_among filesystem number taken ≡ true)
+  layer_left filesystem number m =
+      let one = among-from_map (λ (layer : Layer ℕ). layer.directory)
+      (filter (is_on filesystem) (flat_map (of_overlay [] layers_of) world.filesystems)) number m in
+      let two = among-from_filter (is_on filesystem)
+      (flat_map (of_overlay [] layers_of) world.filesystems) one.0 one.1 in
+      let three = among-from_flat_map (of_overlay [] layers_of) world.filesystems one.0 two.0 in
+      ⊎_elim
+      (λ lives. inl (subst (λ n. Among n (layers_in nat_eq living filesystem)) (sym one.2)
+      (among-map (λ (layer : Layer ℕ). layer.directory)
+      (filter (is_on filesystem) (flat_map (of_overlay [] layers_of) living.filesystems)) one.0
+      (among-filter (is_on filesystem) (flat_map (of_overlay [] layers_of) living.filesystems) one.0
+      (among-flat_map (of_overlay [] layers_of) living.filesystems three.0 one.0
+      (among-filter (filesystem_lives nat_eq world) world.filesystems three.0 three.1 lives) three.2) two.1))))
+      (λ loses. inr (named_use three.0 three.1 loses filesystem number one.0.filesystem two.1
+      (among-append_left (map (λ (layer : Layer ℕ). (layer.filesystem, layer.directory))
+      (of_overlay [] layers_of three.0))
+      (flat_map (λ k. of_overlay [] (uppers_in k) three.0) three.0.files.numbers) (one.0.filesystem, number)
+      (subst (λ n. Among {A = Inode} (one.0.filesystem, n)
+      (map (λ (layer : Layer ℕ). (layer.filesystem, layer.directory)) (of_overlay [] layers_of three.0))) (sym one.2)
+      (among-map (λ (layer : Layer ℕ). (layer.filesystem, layer.directory))
+      (of_overlay [] layers_of three.0) one.0 three.2)))))
+      (lives_or_named three.0 three.1)
+
+  object_left : (filesystem number : ℕ)
+      → Among number (flat_map (objects_of_overlay nat_eq filesystem) world.filesystems)
+      → Among number (flat_map (objects_of_overlay nat_eq filesystem) living.filesystems)
+      ⊎ (is_inode_among filesystem number taken ≡ true)
+  object_left filesystem number m =
+      let t = among-from_flat_map (objects_of_overlay nat_eq filesystem) world.filesystems number m in
+      let p = object_parts filesystem number t.0 t.2 in
+      ⊎_elim
+      (λ lives. inl (among-flat_map (objects_of_overlay nat_eq filesystem) living.filesystems t.0 number
+      (among-filter (filesystem_lives nat_eq world) world.filesystems t.0 t.1 lives) t.2))
+      (λ loses. inr (named_use t.0 t.1 loses filesystem number p.2.filesystem p.4
+      (among-append_right (map (λ (layer : Layer ℕ). (layer.filesystem, layer.directory)) (of_overlay [] layers_of t.0))
+      (flat_map (λ k. of_overlay [] (uppers_in k) t.0) t.0.files.numbers) (p.2.filesystem, number)
+      (among-flat_map (λ k. of_overlay [] (uppers_in k) t.0) t.0.files.numbers p.5 (p.2.filesystem, number) p.6
+      (subst (λ l. Among (p.2.filesystem, number) l)
+      (sym (ap (overlay_or [] (uppers_in p.5)) p.1 ∙ (λ i. listed (p.3 i) (p.7 i)))) (inl refl))))))
+      (lives_or_named t.0 t.1)
+    where
+      listed : Option (Layer ℕ) → Option ℕ → List Inode
+      listed u o = flat_map (λ (l : Layer ℕ). map (λ x. (l.filesystem, x)) (option_to_list o)) (option_to_list u)
+
+  still_used : (f : Filesystem ℕ) (number : ℕ) → is_inode_used world f number ≡ true
+      → (is_inode_used living f number ≡ true) ⊎ (is_inode_among f.number number taken ≡ true)
+  still_used f number h =
+      ⊎_elim
+      (λ before. ⊎_elim
+      (λ a. inl (is_among_left number (front ++ layers_in nat_eq living f.number) objects
+      (is_among_left number front (layers_in nat_eq living f.number) a)))
+      (λ a. ⊎_elim
+      (λ there. inl (is_among_left number (front ++ layers_in nat_eq living f.number) objects
+      (is_among_right number front (layers_in nat_eq living f.number)
+      (is_among_numbers number (layers_in nat_eq living f.number) there))))
+      inr (layer_left f.number number (among_numbers number (layers_in nat_eq world f.number) a)))
+      (or_cases (is_among nat_eq number front) (is_among nat_eq number (layers_in nat_eq world f.number))
+      (sym (list_any-append (nat_eq number) front (layers_in nat_eq world f.number)) ∙ before)))
+      (λ a. ⊎_elim
+      (λ there. inl (is_among_right number (front ++ layers_in nat_eq living f.number) objects
+      (is_among_numbers number objects there)))
+      inr (object_left f.number number
+      (among_numbers number (flat_map (objects_of_overlay nat_eq f.number) world.filesystems) a)))
+      (or_cases (is_among nat_eq number (front ++ layers_in nat_eq world f.number))
+      (is_among nat_eq number (flat_map (objects_of_overlay nat_eq f.number) world.filesystems))
+      (sym (list_any-append (nat_eq number) (front ++ layers_in nat_eq world f.number)
+      (flat_map (objects_of_overlay nat_eq f.number) world.filesystems)) ∙ h))
+    where
+      front : List ℕ
+      front = f.files.tree.root ∷ (named_in f.files ++ located_in nat_eq world f.number)
+
+      objects : List ℕ
+      objects = flat_map (objects_of_overlay nat_eq f.number) living.filesystems
+
+pub filesystems_take_their_uses : FilesystemsTakeTheirUses
+filesystems_take_their_uses world losers inodes others used =
+    all_from_among (λ f. list_all (is_used_or_among (inodes ++ used_by_filesystems world losers)
+    (without_dead_filesystems nat_eq world) f) f.files.numbers ≡ true)
+    (without_dead_filesystems nat_eq world).filesystems
+    (λ f m. all_pass (is_used_or_among (inodes ++ used_by_filesystems world losers)
+    (without_dead_filesystems nat_eq world) f) f.files.numbers
+    (λ number n. each f number
+    (passes (is_used_or_among inodes world f) f.files.numbers
+    (among_from_all (λ x. list_all (is_used_or_among inodes world x) x.files.numbers ≡ true) world.filesystems used f
+    (among-from_filter (filesystem_lives nat_eq world) world.filesystems f m).0) number n)))
+  where
+    more : (f : Filesystem ℕ) (number : ℕ) → (is_inode_among f.number number inodes
+        || is_inode_among f.number number (used_by_filesystems world losers)) ≡ true
+        → is_inode_among f.number number (inodes ++ used_by_filesystems world losers) ≡ true
+    more f number h = list_any-append (λ inode. nat_eq f.number inode.0 && nat_eq number inode.1) inodes
+        (used_by_filesystems world losers) ∙ h
+
+    each : (f : Filesystem ℕ) (number : ℕ) → is_used_or_among inodes world f number ≡ true
+        → is_used_or_among (inodes ++ used_by_filesystems world losers)
+        (without_dead_filesystems nat_eq world) f number ≡ true
+    each f number h =
+        ⊎_elim
+        (λ a. or_first _ (is_inode_used (without_dead_filesystems nat_eq world) f number)
+        (more f number (or_first _ _ a)))
+        (λ u. ⊎_elim
+        (λ there. or_second (is_inode_among f.number number (inodes ++ used_by_filesystems world losers)) _ there)
+        (λ named. or_first _ (is_inode_used (without_dead_filesystems nat_eq world) f number)
+        (more f number (or_second (is_inode_among f.number number inodes) _ named)))
+        (still_used world losers others f number u))
+        (or_cases (is_inode_among f.number number inodes) (is_inode_used world f number) h)

@@ -1,9 +1,0 @@
-use Rattle.vt_laws_overlay_permits.proofs.through.LayersLater.{every_call_leaves_other_layers}
-use Rattle.vt_laws_overlay_permits.proofs.through.LayersOverScripts.{layers_stay_over_scripts}
-use Rattle.vt_laws_overlay_permits.proofs.through.every_call_leaves_other_layers.Goals as goal
-
-pub returns-clause-calls : goal.returns-clause-calls
-returns-clause-calls c = every_call_leaves_other_layers
-
-pub returns-clause-scripts : goal.returns-clause-scripts
-returns-clause-scripts c = layers_stay_over_scripts

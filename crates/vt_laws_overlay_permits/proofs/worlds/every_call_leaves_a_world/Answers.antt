@@ -1,5 +1,0 @@
-use Rattle.vt_laws_overlay_permits.proofs.worlds.EveryCall.{every_call_keeps_worlds}
-use Rattle.vt_laws_overlay_permits.proofs.worlds.every_call_leaves_a_world.Goals as goal
-
-pub returns : goal.returns
-returns c = every_call_keeps_worlds

@@ -1,5 +1,0 @@
-use Rattle.vt_laws_overlays_granted.proofs.granted.Mounts.{given_overlays_may_be_mounted}
-use Rattle.vt_laws_overlays_granted.proofs.granted.what_the_mount_of_an_overlay_sees_to.Goals as goal
-
-pub returns : goal.returns
-returns c = given_overlays_may_be_mounted

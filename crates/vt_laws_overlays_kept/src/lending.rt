@@ -1,8 +1,0 @@
-//! What is lent for nodes of overlays that are kept.
-ghost use Rattle.vt_laws_overlays_kept.specs.Lending.{RealObjectsAreLent};
-
-/// If the layers of an overlay are directories of plain trees, what is lent for a node is its real object: what its
-/// path leads to in its layer, with entries and parent by slots of that layer.
-pub fn real_objects_are_lent()
-    ensures { RealObjectsAreLent }
-{}

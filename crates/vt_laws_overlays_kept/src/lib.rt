@@ -1,8 +1,0 @@
-//! Laws of stores over the events of a world: what is kept of an overlay shows the same, whatever a call has changed.
-//!
-//! Each public function is a theorem, and does nothing.
-#![tactic(auto)]
-
-pub mod events;
-pub mod inodes;
-pub mod lending;

@@ -1,8 +1,0 @@
-use Rattle.vt_laws_overlays_made.proofs.making.Serves.{new_overlays_are_same, supplies_for_overlays_serve}
-use Rattle.vt_laws_overlays_made.proofs.making.numbers_for_a_new_overlay_serve.Goals as goal
-
-pub returns-clause-serves : goal.returns-clause-serves
-returns-clause-serves c = supplies_for_overlays_serve
-
-pub returns-clause-same : goal.returns-clause-same
-returns-clause-same c = new_overlays_are_same

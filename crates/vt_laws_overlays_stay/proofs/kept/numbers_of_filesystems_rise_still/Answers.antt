@@ -1,5 +1,0 @@
-use Rattle.vt_laws_overlays_stay.proofs.kept.NumbersRise.{numbers_rise_still}
-use Rattle.vt_laws_overlays_stay.proofs.kept.numbers_of_filesystems_rise_still.Goals as goal
-
-pub returns : goal.returns
-returns c = numbers_rise_still

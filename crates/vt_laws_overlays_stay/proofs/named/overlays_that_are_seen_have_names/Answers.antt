@@ -1,8 +1,0 @@
-use Rattle.vt_laws_overlays_stay.proofs.named.SeenNames.{seen_overlays_have_names, seen_worlds_have_names}
-use Rattle.vt_laws_overlays_stay.proofs.named.overlays_that_are_seen_have_names.Goals as goal
-
-pub returns-clause-one : goal.returns-clause-one
-returns-clause-one c = seen_overlays_have_names
-
-pub returns-clause-all : goal.returns-clause-all
-returns-clause-all c = seen_worlds_have_names

@@ -1,9 +1,0 @@
-use Rattle.vt_laws_runs.proofs.runs.GrammarsPlain.{grammars_keep_overlays_out}
-use Rattle.vt_laws_runs.proofs.runs.RunsTold.{runs_have_one_text}
-use Rattle.vt_laws_runs.proofs.runs.runs_have_one_text.Goals as goal
-
-pub returns-clause-grammars : goal.returns-clause-grammars
-returns-clause-grammars c = grammars_keep_overlays_out
-
-pub returns-clause-runs : goal.returns-clause-runs
-returns-clause-runs c = runs_have_one_text

@@ -1,5 +1,0 @@
-use Rattle.vt_laws_same_sets.proofs.members.EndedAlike.{calls_end_alike_in_same_worlds}
-use Rattle.vt_laws_same_sets.proofs.members.calls_of_theirs_end_alike_in_same_worlds.Goals as goal
-
-pub returns : goal.returns
-returns c = calls_end_alike_in_same_worlds

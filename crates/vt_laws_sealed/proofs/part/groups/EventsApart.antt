@@ -1,0 +1,147 @@
+-- Events of groups of others reach no mount of a sealed set.
+use Rattle.std.proofs.lemmas.Grind.{common_steps}
+use Rattle.std.proofs.Common.{◌≡◌, refl, sym, ap, subst, ◌∙◌, ◌⊎◌, inl, inr, ⊎_elim, ℕ, nat_eq, Bool, true, false, true≢false, List, Option, Some, None, is_some, length, not, ◌||◌, ◌&&◌, eq-eqb, arith}
+use Rattle.std.specs.List.{list_all}
+use Rattle.std.proofs.lemmas.Bool.{and_parts, false_from_ne_true, not-true, or_left, or_right}
+use Rattle.std.proofs.lemmas.Option.{same_Some}
+use Rattle.vt_spec.specs.Lists.{holds_of, is_among}
+use Rattle.vt_spec.specs.Language.Calls.{TaskName}
+use Rattle.vt_spec.specs.Machine.Invariants.{HasLivingGroups, Lives, MountInvariants, is_nowhere_or_attached, is_private}
+use Rattle.vt_spec.specs.Machine.Invariants.Lives.{has_master, has_no_master}
+use Rattle.vt_spec.specs.Machine.Mounts.{Mount, Propagation, group_of, source_of}
+use Rattle.vt_spec.specs.Machine.Mounts.Propagation.{Private, Shared, Slave, Unbindable}
+use Rattle.vt_spec.specs.Machine.Receives.{groups_up, has_members, is_member_of, receives}
+use Rattle.vt_spec.specs.Machine.Sealed.{is_own_mount, is_own_namespace, master_of, other_mounts, own_mounts, receives_events_of, share_events, shares_no_events}
+use Rattle.vt_spec.specs.Machine.World.{World}
+use Rattle.vt_spec.proofs.Lists.{Among, among-filter, among-from_filter, among_from_all, among_from_contains, among_from_list_all, any_among}
+use Rattle.vt_spec.proofs.Options.{none_is_some}
+use Rattle.vt_laws_mounts.proofs.mounts.Receivers.{along_chain}
+use Rattle.vt_laws_sealed.specs.Part.Groups.{NoEventOfOthersReachesThem}
+
+module _ (world : World ℕ) (names : List TaskName) (is : MountInvariants nat_eq world)
+    (apart : shares_no_events nat_eq world names ≡ true) where
+  -- a mount of theirs hears the group: it is in it, or its slave, or in a group whose master that is
+  abbrev pub Hears : ℕ → Type 0
+  Hears group =
+      (own : Mount ℕ) × Among own (own_mounts nat_eq world names)
+      × ((group_of own.propagation ≡ Some group) ⊎ (master_of world own.propagation ≡ Some group))
+
+  -- so it receives events of each member
+  hears : (group : ℕ) (own member : Mount ℕ)
+      → (group_of own.propagation ≡ Some group) ⊎ (master_of world own.propagation ≡ Some group)
+      → is_member_of nat_eq group member ≡ true → receives_events_of nat_eq world own member ≡ true
+  hears group own member how is_in = grind (arith, common_steps, or_left, or_right)
+
+  -- no mount of another namespace is a member
+  pub none_hears : (group : ℕ) (other : Mount ℕ) → Hears group → Among other (other_mounts nat_eq world names)
+      → is_member_of nat_eq group other ≡ true → ⊥
+  none_hears group other (own, m, how) there is_in =
+      let alone = among_from_list_all
+      (λ o. list_all (λ b. not (share_events nat_eq world o b)) (other_mounts nat_eq world names))
+      (own_mounts nat_eq world names) apart own m in
+      let no = not-true _ (among_from_list_all (λ b. not (share_events nat_eq world own b))
+      (other_mounts nat_eq world names) alone other there) in
+      true≢false (sym (or_left (receives_events_of nat_eq world own other) _ (hears group own other how is_in)) ∙ no)
+
+  -- a mount that is a member of a group is attached, in a namespace of theirs or in another
+  pub sides : (member : Mount ℕ) (group : ℕ) → Among member world.mounts → group_of member.propagation ≡ Some group
+      → Among member (own_mounts nat_eq world names) ⊎ Among member (other_mounts nat_eq world names)
+  sides member group m e = by member.namespace refl
+    where
+      by : (namespace : Option ℕ) → member.namespace ≡ namespace
+          → Among member (own_mounts nat_eq world names) ⊎ Among member (other_mounts nat_eq world names)
+      by None none =
+          absurd (outside member.propagation refl none
+          (among_from_list_all is_nowhere_or_attached world.mounts is.nowhere member m))
+        where
+          outside : (kind : Propagation ℕ) → member.propagation ≡ kind → member.namespace ≡ None
+              → is_nowhere_or_attached member ≡ true → ⊥
+          outside kind k n there = private_alone kind (sym (ap group_of k) ∙ e)
+              (sym (ap (λ x. is_some x || (not (is_some member.mount_point) && is_private member.propagation)) n
+              ∙ ap (λ x. not (is_some member.mount_point) && is_private x) k) ∙ there)
+            where
+              private_alone : (kind : Propagation ℕ) → group_of kind ≡ Some group
+                  → (not (is_some member.mount_point) && is_private kind) ≡ true → ⊥
+              private_alone (Shared g) h p = true≢false (sym (and_parts (not (is_some member.mount_point)) false p).1)
+              private_alone (Slave g) h p = none_is_some group h
+              private_alone Private h p = none_is_some group h
+              private_alone Unbindable h p = none_is_some group h
+      by (Some namespace) there = which (is_own_namespace nat_eq world names namespace) refl
+        where
+          which : (b : Bool) → is_own_namespace nat_eq world names namespace ≡ b
+              → Among member (own_mounts nat_eq world names) ⊎ Among member (other_mounts nat_eq world names)
+          which true own =
+              inl (among-filter (is_own_mount nat_eq world names) world.mounts member m
+              (ap (holds_of (is_own_namespace nat_eq world names)) there ∙ own))
+          which false other =
+              inr (among-filter (λ mount. holds_of (λ n. not (is_own_namespace nat_eq world names n)) mount.namespace)
+              world.mounts member m
+              (ap (holds_of (λ n. not (is_own_namespace nat_eq world names n))) there ∙ ap not other))
+
+  -- a group that is heard and lives has a member of theirs
+  abbrev HeardAndLives : ℕ → Type 0
+  HeardAndLives group = Hears group × Lives (has_members nat_eq world.mounts) world.master group
+
+  pub members_of : (group : ℕ) → Lives (has_members nat_eq world.mounts) world.master group
+      → has_members nat_eq world.mounts group ≡ true
+  members_of group (has_no_master g e n) = e
+  members_of group (has_master g above e n l) = e
+
+  pub above_lives : (group lower : ℕ) → world.master lower ≡ Some group
+      → Lives (has_members nat_eq world.mounts) world.master lower
+      → Lives (has_members nat_eq world.mounts) world.master group
+  above_lives group lower e (has_no_master g h n) = absurd (none_is_some group (sym n ∙ e))
+  above_lives group lower e (has_master g above h n l) =
+      subst (Lives (has_members nat_eq world.mounts) world.master) (same_Some above group (sym n ∙ e)) l
+
+  pub heard_above : (group lower : ℕ) → world.master lower ≡ Some group → HeardAndLives lower → HeardAndLives group
+  heard_above group lower e (heard, lives) =
+      let found = any_among (is_member_of nat_eq lower) world.mounts (members_of lower lives) in
+      let is_in : group_of found.0.propagation ≡ Some lower = member_group lower found.0 found.2 in (
+        ⊎_elim
+            (λ own. (found.0, own, inr (master_by found.0.propagation is_in)))
+            (λ other. absurd (none_hears lower found.0 heard other found.2))
+            (sides found.0 lower found.1 is_in),
+        above_lives group lower e lives,
+      )
+    where
+      member_group : (g : ℕ) (mount : Mount ℕ) → is_member_of nat_eq g mount ≡ true
+          → group_of mount.propagation ≡ Some g
+      member_group g mount h = grind (arith, common_steps, true≢false)
+
+      master_by : (kind : Propagation ℕ) → group_of kind ≡ Some lower → master_of world kind ≡ Some group
+      master_by (Shared g) h = ap world.master (same_Some g lower h) ∙ e
+      master_by (Slave g) h = absurd (none_is_some lower h)
+      master_by Private h = absurd (none_is_some lower h)
+      master_by Unbindable h = absurd (none_is_some lower h)
+
+  -- a mount of theirs that receives from a group hears one of its members, or is one
+  pub heard_by : (group : ℕ) (own : Mount ℕ) → Among own (own_mounts nat_eq world names)
+      → receives nat_eq world group own ≡ true → HeardAndLives group
+  heard_by group own m h = by (source_of own.propagation) refl h
+    where
+      start : (source : ℕ) (kind : Propagation ℕ) → source_of kind ≡ Some source
+          → (group_of kind ≡ Some source) ⊎ (master_of world kind ≡ Some source)
+      start source (Shared g) e = inl e
+      start source (Slave g) e = inr e
+      start source Private e = none_is_some source e
+      start source Unbindable e = none_is_some source e
+
+      by : (o : Option ℕ) → source_of own.propagation ≡ o
+          → holds_of (λ source. is_among nat_eq group (groups_up world source)) o ≡ true → HeardAndLives group
+      by None e h = absurd (true≢false (sym h))
+      by (Some source) e h =
+          along_chain world.master HeardAndLives heard_above (length world.mounts) source group (
+            (own, m, start source own.propagation e),
+            among_from_all (HasLivingGroups nat_eq world) world.mounts is.groups own
+                (among-from_filter (is_own_mount nat_eq world names) world.mounts own m).0 source e,
+          )
+          h
+
+pub no_event_of_others_reaches_them : NoEventOfOthersReachesThem
+no_event_of_others_reaches_them world names own other group alone own_there other_there e =
+    false_from_ne_true _ (λ h.
+    none_hears world names alone.mounts alone.apart group other
+    (heard_by world names alone.mounts alone.apart group own (among_from_contains _ own own_there) h).0
+    (among_from_contains _ other other_there)
+    (ap (holds_of (nat_eq group)) e ∙ eq-eqb group group refl))

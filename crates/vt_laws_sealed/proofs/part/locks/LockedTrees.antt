@@ -1,0 +1,169 @@
+-- What is wholly locked is locked, and an outsider changes no file of a sealed set.
+use Rattle.std.proofs.Common.{◌≡◌, refl, sym, ap, subst, ◌∙◌, ⊎_elim, ℕ, zero, suc, nat_eq, true, false, true≢false, List, [], ◌∷◌, ◌++◌, Option, Some, None, is_some, ◌||◌, ◌&&◌, eqb-true}
+use Rattle.std.specs.Prelude.{option_to_list}
+use Rattle.std.specs.List.{list_all, list_any}
+use Rattle.std.proofs.lemmas.Bool.{and_parts, and_from, false_from_ne_true, or_cases, or_left}
+use Rattle.vt_spec.specs.FileTree.{FileTree, is_under, targets_in}
+use Rattle.vt_spec.specs.Language.Calls.{TaskName}
+use Rattle.vt_spec.specs.Language.Changes.{Change, changed}
+use Rattle.vt_spec.specs.Lists.{Fresh, is_among}
+use Rattle.vt_spec.specs.Machine.Filesystems.{filesystem_changed, with_change, with_files}
+use Rattle.vt_spec.specs.Machine.Invariants.{ListsNumbers}
+use Rattle.vt_spec.specs.Machine.Locked.{is_locked, is_locked_at, lies_in_layer, lies_or_counts_under, live_layers, of_overlay, overlay_or, overlays}
+use Rattle.vt_spec.specs.Machine.Mounts.{Location}
+use Rattle.vt_spec.specs.Machine.Sealed.{all_named, is_lower_root, no_outsider_on, own_lowers, part_of, sealed, used_alone, used_filesystems, wholly_locked}
+use Rattle.vt_spec.specs.Machine.Settled.{named_in}
+use Rattle.vt_spec.specs.Machine.World.{Filesystem, Layer, Overlay, World, filesystem_at, filesystem_numbered, layers_of, mount_at, node_at}
+use Rattle.vt_spec.specs.TreeInvariant.{IsTree}
+use Rattle.vt_spec.proofs.Lists.{Among, among-append_right, among-flat_map, among-from_flat_map, among_from_list_all, among_numbers, any_among, any_from_among, is_among_numbers}
+use Rattle.vt_spec.proofs.NodeChanges.{entry_from}
+use Rattle.vt_spec.proofs.Trees.{led-append}
+use Rattle.vt_spec.proofs.Truths.{and_true_left}
+use Rattle.vt_laws_trees.proofs.layers.layers.LowersWorld.{number_of_filesystem}
+use Rattle.vt_laws_trees.proofs.layers.layers.UpperLine.{ReachedIn, is_reached_in}
+use Rattle.vt_laws_trees.proofs.overlays.whole.ApartPaths.{Led, led_on, led_under}
+use Rattle.vt_laws_sealed.specs.Part.Locked.{OthersChangeWhatIsNotUsed, OthersChangesLeaveThePart, WhollyLockedIsLocked}
+use Rattle.vt_laws_sealed.proofs.part.part.UnusedFilesystems.{unused_filesystems_may_change}
+
+module _ (files : FileTree ℕ) (tree : IsTree files.tree) (listed : ListsNumbers nat_eq files) where
+  way_to : (steps d : ℕ) → ReachedIn files.tree steps d → Led files tree files.tree.root d
+  way_to zero d e = ([], ap Some (sym e))
+  way_to (suc steps) d r =
+      let way = way_to steps r.0 r.2 in
+      (way.0 ++ r.1 ∷ [], led-append files.tree files.tree.root way.0 r.1 r.0 d way.1 r.3)
+
+  -- what has a name lies under the root
+  pub named_under : (object : ℕ) → Among object (named_in files) → is_under nat_eq files files.tree.root object ≡ true
+  named_under object m =
+      let from = among-from_flat_map (λ directory. targets_in (files.tree.node directory)) files.numbers object m in
+      let name = entry_from files.tree tree from.0 object
+      (is_among_numbers (targets_in (files.tree.node from.0)) object from.2) in
+      let reached = is_reached_in files tree from.0 name.0 object name.1 in
+      led_under files tree files.tree.root listed tree.root_directory object
+      (led_on files tree files.tree.root from.0 name.0 object (way_to reached.0 from.0 reached.1) name.1)
+
+  pub root_under : is_under nat_eq files files.tree.root files.tree.root ≡ true
+  root_under = led_under files tree files.tree.root listed tree.root_directory files.tree.root ([], refl)
+
+module _ (world : World ℕ) (names : List TaskName) (number : ℕ)
+    (tree : IsTree (filesystem_numbered nat_eq world number).files.tree)
+    (listed : ListsNumbers nat_eq (filesystem_numbered nat_eq world number).files) where
+  abbrev files : FileTree ℕ
+  files = (filesystem_numbered nat_eq world number).files
+
+  layer_there : (merged : Filesystem ℕ) → is_lower_root nat_eq number files.tree.root merged ≡ true
+      → (layer : Layer ℕ) × Among layer (of_overlay [] layers_of merged)
+      × (nat_eq number layer.filesystem ≡ true) × (nat_eq files.tree.root layer.directory ≡ true)
+  layer_there merged h = by merged.overlay h
+    where
+      by : (o : Option (Overlay ℕ))
+          → overlay_or false (λ (overlay : Overlay ℕ). list_any (λ (layer : Layer ℕ). nat_eq number layer.filesystem
+          && nat_eq files.tree.root layer.directory) overlay.lowers) o ≡ true
+          → (layer : Layer ℕ) × Among layer (overlay_or [] layers_of o)
+          × (nat_eq number layer.filesystem ≡ true) × (nat_eq files.tree.root layer.directory ≡ true)
+      by None h = absurd (true≢false (sym h))
+      by (Some overlay) h =
+          let found = any_among (λ (layer : Layer ℕ). nat_eq number layer.filesystem
+          && nat_eq files.tree.root layer.directory) overlay.lowers h in
+          let both = and_parts (nat_eq number found.0.filesystem)
+          (nat_eq files.tree.root found.0.directory) found.2 in (
+            found.0,
+            among-append_right (option_to_list overlay.upper
+                ++ option_to_list overlay.work) overlay.lowers found.0 found.1,
+            both.0,
+            both.1,
+          )
+
+  -- each inode of a tree that is wholly locked is locked
+  pub all_locked : wholly_locked nat_eq world names number ≡ true → (object : ℕ)
+      → is_some (files.tree.node object) ≡ true → is_locked nat_eq world number object ≡ true
+  all_locked h object there =
+      let both = and_parts
+      (list_any (λ merged. is_lower_root nat_eq number files.tree.root merged
+      && used_alone nat_eq world names merged.number)
+      (overlays world)) (all_named nat_eq files) h in
+      let found = any_among
+      (λ (merged : Filesystem ℕ). is_lower_root nat_eq number files.tree.root merged
+      && used_alone nat_eq world names merged.number)
+      (overlays world) both.0 in
+      let layer = layer_there found.0 (and_true_left (is_lower_root nat_eq number files.tree.root found.0) _ found.2) in
+      any_from_among (lies_or_counts_under nat_eq world number object) (live_layers world) layer.0
+      (among-flat_map (of_overlay [] layers_of) (overlays world) found.0 layer.0 found.1 layer.1)
+      (or_left (lies_in_layer nat_eq world number object layer.0) _
+      (and_from (nat_eq number layer.0.filesystem) _ layer.2
+      (subst (λ d. is_under nat_eq files d object ≡ true) (eqb-true files.tree.root layer.0.directory layer.3)
+      (under object there))))
+    where
+      under : (object : ℕ) → is_some (files.tree.node object) ≡ true
+          → is_under nat_eq files files.tree.root object ≡ true
+      under object there =
+          let named = among_from_list_all
+          (λ number. nat_eq number files.tree.root || is_among nat_eq number (named_in files))
+          files.numbers
+          (and_parts (list_any (λ (merged : Filesystem ℕ). is_lower_root nat_eq number files.tree.root merged
+          && used_alone nat_eq world names merged.number) (overlays world)) (all_named nat_eq files) h).1
+          object (among_numbers files.numbers object (listed object ∙ there)) in
+          ⊎_elim
+          (λ root. subst (λ o. is_under nat_eq files files.tree.root o ≡ true)
+          (sym (eqb-true object files.tree.root root))
+          (root_under files tree listed))
+          (λ name. named_under files tree listed object (among_numbers (named_in files) object name))
+          (or_cases (nat_eq object files.tree.root) (is_among nat_eq object (named_in files)) named)
+
+-- A change by an outsider of what is not locked leaves the part: it is of a filesystem that they do not use.
+module _ (world : World ℕ) (names : List TaskName) (location : Location ℕ) (is : sealed nat_eq world names ≡ true) where
+  abbrev number : ℕ
+  number = (mount_at nat_eq world location).filesystem
+
+  fourth : list_all (λ filesystem. used_alone nat_eq world names filesystem
+      || wholly_locked nat_eq world names filesystem)
+      (used_filesystems nat_eq world names) ≡ true
+  unfolding sealed
+  fourth = (and_parts _ (list_all (λ filesystem. used_alone nat_eq world names filesystem
+      || wholly_locked nat_eq world names filesystem) (used_filesystems nat_eq world names)) is).1
+
+  pub not_used : IsTree (filesystem_numbered nat_eq world number).files.tree
+      → ListsNumbers nat_eq (filesystem_numbered nat_eq world number).files
+      → no_outsider_on nat_eq world names number ≡ false
+      → is_some (node_at nat_eq world location) ≡ true → is_locked_at nat_eq world location ≡ false
+      → is_among nat_eq number (used_filesystems nat_eq world names) ≡ false
+  not_used tree listed there node free =
+      false_from_ne_true _ (λ used.
+      ⊎_elim
+      (λ alone. true≢false (sym (and_true_left (no_outsider_on nat_eq world names number) _ alone) ∙ there))
+      (λ whole. true≢false (sym (all_locked world names number tree listed whole location.node node) ∙ free))
+      (or_cases (used_alone nat_eq world names number) (wholly_locked nat_eq world names number)
+      (among_from_list_all (λ f. used_alone nat_eq world names f || wholly_locked nat_eq world names f)
+      (used_filesystems nat_eq world names) fourth number
+      (among_numbers (used_filesystems nat_eq world names) number used))))
+
+  pub outsiders_change_leaves : (fresh : Fresh ℕ) (change : Change ℕ)
+      → IsTree (filesystem_numbered nat_eq world number).files.tree
+      → ListsNumbers nat_eq (filesystem_numbered nat_eq world number).files
+      → no_outsider_on nat_eq world names number ≡ false
+      → is_some (node_at nat_eq world location) ≡ true → is_locked_at nat_eq world location ≡ false
+      → (filesystem_at nat_eq world location).overlay ≡ None
+      → list_any (λ layer. nat_eq number layer.filesystem) (own_lowers nat_eq world names) ≡ false
+      → part_of nat_eq (with_change nat_eq fresh world location change) names ≡ part_of nat_eq world names
+  outsiders_change_leaves fresh change tree listed there node free plain no_lower =
+      let new : Filesystem ℕ = with_files (filesystem_at nat_eq world location)
+      (changed nat_eq (filesystem_at nat_eq world location).files change) in
+      let same : new.number ≡ number = number_of_filesystem world number in
+      ap (λ o. part_of nat_eq
+      (filesystem_changed nat_eq fresh world (filesystem_at nat_eq world location) o change) names) plain
+      ∙ unused_filesystems_may_change world names new
+      (ap (λ n. is_among nat_eq n (used_filesystems nat_eq world names)) same ∙ not_used tree listed there node free)
+      (ap (λ n. list_any (λ layer. nat_eq n layer.filesystem) (own_lowers nat_eq world names)) same ∙ no_lower)
+
+pub wholly_locked_is_locked : WhollyLockedIsLocked
+wholly_locked_is_locked world names number object listed whole there =
+    all_locked world names number listed.tree listed.numbers whole object there
+
+pub others_change_what_is_not_used : OthersChangeWhatIsNotUsed
+others_change_what_is_not_used world names location is change =
+    not_used world names location is change.listed.tree change.listed.numbers change.outsiders change.there change.free
+
+pub others_changes_leave_the_part : OthersChangesLeaveThePart
+others_changes_leave_the_part world names location fresh asked is change plain no_lower =
+    outsiders_change_leaves world names location is fresh asked change.listed.tree change.listed.numbers
+    change.outsiders change.there change.free plain no_lower

@@ -1,0 +1,180 @@
+-- A step is the same in two worlds that show the same where it meets filesystems.
+use Rattle.std.proofs.Common.{append-nil, ◌≡◌, refl, sym, ap, subst, ◌∙◌, inl, inr, ℕ, nat_eq, Bool, true, false, cond, List, [], ◌∷◌, ◌++◌, Option, Some, None, Ok, Err, Result, map, flat_map, ◌&&◌, ◌||◌}
+use Rattle.std.specs.Prelude.{IfOk, ok_or, option_map, option_to_list}
+use Rattle.std.proofs.lemmas.Bool.{and_from}
+use Rattle.std.proofs.lemmas.List.{map-append}
+use Rattle.vt_spec.specs.declared.errors.Deny.{Deny}
+use Rattle.vt_spec.specs.declared.errors.Rule.TheVariants.{W6, W8}
+use Rattle.vt_spec.specs.Errors.{denial, unless}
+use Rattle.vt_spec.specs.Lists.{last_or}
+use Rattle.vt_spec.specs.Machine.Looks.{Looks, mount_at, topmost}
+use Rattle.vt_spec.specs.Machine.Mounts.{Location, Mount, same_location}
+use Rattle.vt_spec.specs.Machine.Walking.{LastWord, entered_upward, filesystems_of, hops, is_lost, is_top, met_by, parent_location, stepped, up_from}
+use Rattle.vt_spec.specs.Machine.Walking.LastWord.{Dot, DotDot, Named, NoWord}
+use Rattle.vt_spec.specs.Machine.World.{Task}
+use Rattle.vt_spec.specs.Tree.{entries_in, entry_named, parent_in}
+use Rattle.vt_spec.proofs.Lists.{Among, among-append_left, among-append_right, among-map, among_from_contains, contains_from_among}
+use Rattle.vt_laws_sealed.proofs.part.walks.WalksAgree.{Agree, Each, each_from, last_each}
+use Rattle.vt_laws_sealed.specs.Part.Walks.{ShowAlikeWhereSeen, StepsAgree}
+
+-- What they have to show alike through some mounts, where filesystems are seen
+pub record AlikeWhereSeen (one other : Looks ℕ) (task : Task ℕ) (Own : ℕ → Type 0) (Seen : ℕ → Type 0) : Type 0 where
+  pub alike_mount : (here : Location ℕ) → Own here.mount → mount_at one here ≡ mount_at other here
+  pub over : (here : Location ℕ) → Own here.mount → one.mounts_over here ≡ other.mounts_over here
+  pub entered : (here : Location ℕ) → Own here.mount → Each (λ (l : Location ℕ). Own l.mount) (one.mounts_over here)
+  pub hops_alike : (here : Location ℕ) → Own here.mount → hops nat_eq one task here ≡ hops nat_eq other task here
+  pub hopped : (here : Location ℕ) → Own here.mount → Each (λ (l : Location ℕ). Own l.mount) (hops nat_eq one task here)
+  -- a chain begins with its start
+  pub hops_start : (here : Location ℕ) → Among here (hops nat_eq one task here)
+  pub over_start : (here : Location ℕ) → Among here (one.mounts_over here)
+  pub node : (here : Location ℕ) → Own here.mount → Seen (mount_at one here).filesystem
+      → one.node here ≡ other.node here
+  pub lost : (here : Location ℕ) → Own here.mount → Seen (mount_at one here).filesystem
+      → is_lost nat_eq one here ≡ is_lost nat_eq other here
+
+module _ (one other : Looks ℕ) (task : Task ℕ) (Own : ℕ → Type 0) (Seen : ℕ → Type 0)
+    (alike : AlikeWhereSeen one other task Own Seen) where
+  abbrev Fs : Location ℕ → ℕ
+  Fs here = (mount_at one here).filesystem
+
+  abbrev OnOwn : Location ℕ → Type 0
+  OnOwn here = Own here.mount
+
+  abbrev Good : Location ℕ → Type 0
+  Good here = Own here.mount × Seen (Fs here)
+
+  -- filesystems of these are seen
+  seen_of : (list : List (Location ℕ)) → Each Seen (filesystems_of nat_eq one list) → (l : Location ℕ) → Among l list
+      → Seen (Fs l)
+  seen_of list h l m = h (Fs l) (among-map Fs list l m)
+
+  last_among : (list : List (Location ℕ)) (a : Location ℕ) → Among a list → Among (last_or a list) list
+  last_among [] a m = absurd m
+  last_among (b ∷ list) a m = by list b
+    where
+      by : (rest : List (Location ℕ)) (b : Location ℕ) → Among (last_or b rest) (b ∷ rest)
+      by [] b = inl refl
+      by (c ∷ rest) b = inr (by rest c)
+
+  good_over : (here : Location ℕ) → Own here.mount → Each Seen (filesystems_of nat_eq one (one.mounts_over here))
+      → Good (topmost one here)
+  good_over here own seen = (
+    last_each OnOwn (one.mounts_over here) here own (alike.entered here own),
+    seen_of (one.mounts_over here) seen (topmost one here)
+        (last_among (one.mounts_over here) here (alike.over_start here)),
+  )
+
+  same_topmost : (here : Location ℕ) → Own here.mount → topmost one here ≡ topmost other here
+  same_topmost here own = ap (last_or here) (alike.over here own)
+
+  same_top : (here : Location ℕ) → Own here.mount → is_top nat_eq one task here ≡ is_top nat_eq other task here
+  same_top here own =
+      ap (λ (m : Mount ℕ). same_location nat_eq here task.root || nat_eq here.node m.root) (alike.alike_mount here own)
+
+  same_parent : (here : Location ℕ) → Good here → parent_location nat_eq one here ≡ parent_location nat_eq other here
+  same_parent here good =
+      ap (λ n. record { mount = here.mount; node = parent_in here.node n }) (alike.node here good.0 good.1)
+
+  up_by : (t l : Bool) (here there : Location ℕ) → Good here → (t ≡ false → Good there)
+      → IfOk (cond t (Ok here) (unless ((l, W8) ∷ []) (Ok there))) Good
+  up_by true l here there good after = good
+  up_by false true here there good after = tt
+  up_by false false here there good after = after refl
+
+  up_agrees : (here : Location ℕ) → Good here
+      → Each Seen (filesystems_of nat_eq one (entered_upward nat_eq one task here))
+      → Agree Good (up_from nat_eq one task here) (up_from nat_eq other task here)
+  up_agrees here good seen = (
+    ap (λ t. cond t (Ok here)
+        (unless ((is_lost nat_eq one here, W8) ∷ []) (Ok (topmost one (parent_location nat_eq one here)))))
+        (same_top here good.0)
+        ∙ ap (λ l. cond (is_top nat_eq other task here) (Ok here)
+        (unless ((l, W8) ∷ []) (Ok (topmost one (parent_location nat_eq one here))))) (alike.lost here good.0 good.1)
+        ∙ ap (λ r. cond (is_top nat_eq other task here) (Ok here)
+        (unless ((is_lost nat_eq other here, W8) ∷ []) (Ok r)))
+        (same_topmost (parent_location nat_eq one here) good.0 ∙ ap (topmost other) (same_parent here good)),
+    up_by (is_top nat_eq one task here) (is_lost nat_eq one here) here
+        (topmost one (parent_location nat_eq one here)) good
+        (λ e. good_over (parent_location nat_eq one here) good.0
+        (subst (λ b. Each Seen
+        (filesystems_of nat_eq one (cond b [] (one.mounts_over (parent_location nat_eq one here))))) e seen)),
+  )
+
+  named_by : (here : Location ℕ) → Own here.mount → (o : Option ℕ)
+      → Each Seen (filesystems_of nat_eq one
+      (flat_map one.mounts_over
+      (option_to_list (option_map (λ object. record { mount = here.mount; node = object }) o))))
+      → Agree Good
+      (ok_or (option_map (topmost one) (option_map (λ object. record { mount = here.mount; node = object }) o))
+      (denial W6))
+      (ok_or (option_map (topmost other) (option_map (λ object. record { mount = here.mount; node = object }) o))
+      (denial W6))
+  named_by here own None seen = (refl, tt)
+  named_by here own (Some object) seen =
+      let there : Location ℕ = record { mount = here.mount; node = object } in (
+        ap Ok (same_topmost there own),
+        good_over there own (λ f m. seen f
+            (subst (λ l. Among f (map Fs l)) (sym (append-nil (one.mounts_over there))) m)),
+      )
+
+  head_seen : (here : Location ℕ) (list : List (Location ℕ)) → Each Seen (filesystems_of nat_eq one (here ∷ list))
+      → Seen (Fs here)
+  head_seen here list h = h (Fs here) (inl refl)
+
+  -- a step meets where it begins and where it leads
+  stepped_agrees : (here : Location ℕ) → Own here.mount → (word : LastWord)
+      → Each Seen (met_by nat_eq one task here word)
+      → Agree Good (stepped nat_eq one task here word) (stepped nat_eq other task here word)
+  stepped_agrees here own NoWord seen = (refl, (own, head_seen here [] seen))
+  stepped_agrees here own Dot seen = (refl, (own, head_seen here [] seen))
+  stepped_agrees here own DotDot seen =
+      let way : List (Location ℕ) = hops nat_eq one task here in
+      let top : Location ℕ = last_or here way in
+      let split : filesystems_of nat_eq one (way ++ entered_upward nat_eq one task top)
+      ≡ filesystems_of nat_eq one way ++ filesystems_of nat_eq one (entered_upward nat_eq one task top) =
+      map-append Fs way (entered_upward nat_eq one task top) in
+      let good : Good top = (
+        last_each OnOwn way here own (alike.hopped here own),
+        seen (Fs top) (subst (Among (Fs top)) (sym split)
+            (among-append_left (filesystems_of nat_eq one way) _ (Fs top)
+            (among-map Fs way top (last_among way here (alike.hops_start here))))),
+      ) in
+      let up = up_agrees top good (λ f m. seen f (subst (Among f) (sym split)
+      (among-append_right (filesystems_of nat_eq one way)
+      (filesystems_of nat_eq one (entered_upward nat_eq one task top)) f m))) in
+      (up.0 ∙ ap (λ h. up_from nat_eq other task (last_or here h)) (alike.hops_alike here own), up.1)
+  stepped_agrees here own (Named name) seen =
+      let by = named_by here own (entry_named name (entries_in (one.node here))) (λ f m. seen f (inr m)) in (
+        by.0 ∙ ap (λ n. ok_or
+            (option_map (topmost other) (option_map (λ object. record { mount = here.mount; node = object })
+            (entry_named name (entries_in n)))) (denial W6)) (alike.node here own (head_seen here _ seen)),
+        by.1,
+      )
+
+module _ (one other : Looks ℕ) (task : Task ℕ) (own seen : ℕ → Bool)
+    (alike : ShowAlikeWhereSeen one other task own seen) where
+  all_alike : AlikeWhereSeen one other task (λ number. own number ≡ true) (λ filesystem. seen filesystem ≡ true)
+  all_alike = record {
+    alike_mount = alike.mount;
+    over = alike.over;
+    entered = λ here is. each_from own (one.mounts_over here) (alike.entered here is);
+    hops_alike = alike.hops_alike;
+    hopped = λ here is. each_from own (hops nat_eq one task here) (alike.hopped here is);
+    hops_start = λ here. among_from_contains (hops nat_eq one task here) here (alike.hops_start here);
+    over_start = λ here. among_from_contains (one.mounts_over here) here (alike.over_start here);
+    node = alike.node;
+    lost = alike.lost;
+  }
+
+  both_pass : (found : Result (Location ℕ) Deny)
+      → IfOk found (Good one other task (λ number. own number ≡ true) (λ filesystem. seen filesystem ≡ true) all_alike)
+      → IfOk found (λ there. (own there.mount && seen (mount_at one there).filesystem) ≡ true)
+  both_pass (Ok there) good = and_from (own there.mount) (seen (mount_at one there).filesystem) good.0 good.1
+  both_pass (Err deny) good = tt
+
+pub steps_lead_alike : StepsAgree
+steps_lead_alike one other task own seen alike here word is met =
+    let step = stepped_agrees one other task (λ number. own number ≡ true) (λ filesystem. seen filesystem ≡ true)
+    (all_alike one other task own seen alike) here is word
+    (λ filesystem m. met filesystem (contains_from_among (met_by nat_eq one task here word) filesystem m)) in
+    (step.0, both_pass one other task own seen alike (stepped nat_eq one task here word) step.1)

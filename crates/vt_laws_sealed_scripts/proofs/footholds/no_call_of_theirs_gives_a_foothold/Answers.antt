@@ -1,5 +1,0 @@
-use Rattle.vt_laws_sealed_scripts.proofs.footholds.Footholds.{no_call_gives_a_foothold}
-use Rattle.vt_laws_sealed_scripts.proofs.footholds.no_call_of_theirs_gives_a_foothold.Goals as goal
-
-pub returns : goal.returns
-returns c = record { none = no_call_gives_a_foothold }

@@ -1,9 +1,0 @@
-use Rattle.vt_laws_seen.proofs.used.NoLayers.{used_by_locations}
-use Rattle.vt_laws_seen.proofs.used.Unnamed.{unnamed_are_used_where_located}
-use Rattle.vt_laws_seen.proofs.used.overlays_are_used_by_locations.Goals as goal
-
-pub returns-clause-uses : goal.returns-clause-uses
-returns-clause-uses c = used_by_locations
-
-pub returns-clause-unnamed : goal.returns-clause-unnamed
-returns-clause-unnamed c = unnamed_are_used_where_located

@@ -1,0 +1,227 @@
+-- The layers of a newly mounted overlay lie apart from those of live ones, and what lies under a layer is as it was.
+use Rattle.std.proofs.Common.{arith}
+use Rattle.std.proofs.lemmas.Grind.{common_steps}
+use Rattle.std.proofs.Common.{◌≡◌, inl, inr, refl, sym, ap, ◌∙◌, true≢false, ℕ, zero, suc, nat_eq, eqb-true, Bool, true, false, cond, not, ◌&&◌, ◌||◌, List, [], ◌∷◌, ◌++◌, map, Option, Some, None, is_some, slice_get, unwrap_or}
+use Rattle.std.specs.List.{find, list_all, list_any}
+use Rattle.std.specs.Prelude.{option_to_list}
+use Rattle.std.proofs.lemmas.List.Elements.{filter-append}
+use Rattle.std.proofs.lemmas.List.Folds.{list_any-append}
+use Rattle.vt_spec.specs.FileTree.{is_directory_under, is_file_under, is_under}
+use Rattle.vt_spec.specs.Machine.Layers.{at_path}
+use Rattle.vt_spec.specs.Lists.{Fresh, evens, holds_of, is_among, odds}
+use Rattle.vt_spec.specs.Machine.Locked.{counts_in_layer, is_object_of, is_real_upper, lies_in_layer, lies_or_counts_under, overlaps_one_of, overlays, overlay_or}
+use Rattle.vt_spec.specs.Machine.Merging.{Merged, real_object, real_of}
+use Rattle.vt_spec.specs.Machine.NewMounts.{inode_count, overlay_filesystem, with_new_filesystem}
+use Rattle.vt_spec.specs.Machine.World.{Filesystem, Layer, Overlay, Real, World, filesystem_numbered, is_overlay, no_filesystem, open_layer, shown_layers}
+use Rattle.vt_spec.specs.Machine.World.Real.{Lower, Upper}
+use Rattle.vt_spec.specs.Machine.Invariants.{IsWorld, ListsNumbers, is_plain_layer}
+use Rattle.vt_spec.specs.Tree.{is_directory_node}
+use Rattle.vt_spec.specs.TreeInvariant.{IsTree, led}
+use Rattle.vt_laws_trees.specs.Layers.Layers.Mounted.{AreLayers}
+use Rattle.vt_laws_trees.proofs.layers.directories.Lower.{led_below}
+use Rattle.vt_laws_trees.proofs.layers.layers.ShownMerged.{InLayer, inodes}
+use Rattle.vt_laws_trees.proofs.layers.layers.ShownMounted.{are_open, bounded}
+use Rattle.vt_laws_trees.proofs.layers.layers.ShownObjects.{Among}
+use Rattle.vt_laws_trees.proofs.layers.layers.ShownWhole.{has_real}
+use Rattle.vt_laws_trees.proofs.layers.layers.UpperWorld.{all_found}
+use Rattle.std.proofs.lemmas.Option.{same_Some}
+use Rattle.vt_spec.proofs.Options.{none_is_some}
+use Rattle.vt_spec.proofs.Truths.{and_true_left, and_true_right}
+use Rattle.vt_spec.proofs.Worlds.{upper_real}
+use Rattle.vt_spec.proofs.FreshNumbers.{odds-distinct}
+
+find_skips : (test : Filesystem ℕ → Bool) (list : List (Filesystem ℕ)) (last : Filesystem ℕ) → test last ≡ false
+    → find test (list ++ last ∷ []) ≡ find test list
+find_skips test [] last e = ap (λ b. cond b (Some last) None) e
+find_skips test (first ∷ list) last e = ap (cond (test first) (Some first)) (find_skips test list last e)
+
+pub not_found : (n : ℕ) (list : List (Filesystem ℕ)) → list_any (nat_eq n) (map (λ f. f.number) list) ≡ false
+    → find (λ f. nat_eq n f.number) list ≡ None
+not_found n [] e = refl
+not_found n (first ∷ list) e = grind (arith, common_steps, not_found n list, true≢false)
+
+pub any_found : {A : Type 0} (test : A → Bool) (list : List A) → list_any test list ≡ true → (a : A) × (test a ≡ true)
+any_found test [] e = absurd (true≢false (sym e))
+any_found test (first ∷ list) e = grind (arith, common_steps, any_found test list)
+
+pub any_same : {A : Type 0} (test other : A → Bool) (list : List A) → ((a : A) → Among list a → test a ≡ other a)
+    → list_any test list ≡ list_any other list
+any_same test other [] same = refl
+any_same test other (first ∷ list) same =
+    ap (λ b. b || list_any test list) (same first (inl refl))
+    ∙ ap (λ b. other first || b) (any_same test other list (λ a among. same a (inr among)))
+
+absorbed : (l c n : Bool) → (n ≡ true → l ≡ true) → (l || (c || (n || false))) ≡ (l || c)
+absorbed true c n h = refl
+absorbed false true n h = refl
+absorbed false false false h = refl
+absorbed false false true h = sym (h refl)
+
+module _ (world : World ℕ) (conditions : IsWorld nat_eq world) (overlay : Overlay ℕ)
+    (are_layers : AreLayers world overlay)
+    (fresh : Fresh ℕ) (distinct : (j k : ℕ) → fresh j ≡ fresh k → j ≡ k)
+    (unused : is_among nat_eq (evens fresh 0) (map (λ filesystem. filesystem.number) world.filesystems) ≡ false) where
+  abbrev pub new : Filesystem ℕ
+  new = overlay_filesystem nat_eq fresh world overlay
+
+  abbrev pub later : World ℕ
+  later = with_new_filesystem world new
+
+  -- a layer that is in another filesystem
+  abbrev pub IsOld : Layer ℕ → Type 0
+  IsOld layer = nat_eq layer.filesystem new.number ≡ false
+
+  pub same_filesystem : (n : ℕ) → nat_eq n new.number ≡ false
+      → filesystem_numbered nat_eq later n ≡ filesystem_numbered nat_eq world n
+  same_filesystem n e = ap (λ o. unwrap_or o (no_filesystem n))
+      (find_skips (λ f. nat_eq n f.number) world.filesystems new e)
+
+  is_there : (layer : Layer ℕ) → is_plain_layer nat_eq world layer ≡ true
+      → is_directory_node ((filesystem_numbered nat_eq world layer.filesystem).files.tree.node layer.directory) ≡ true
+  is_there layer plain = and_true_right (not (is_overlay (filesystem_numbered nat_eq world layer.filesystem))) _ plain
+
+  plain_found : (layer : Layer ℕ) → is_plain_layer nat_eq world layer ≡ true
+      → find (λ f. nat_eq layer.filesystem f.number) world.filesystems
+      ≡ Some (filesystem_numbered nat_eq world layer.filesystem)
+  plain_found layer plain = grind (arith, common_steps, is_there layer plain, true≢false)
+
+  pub plain_is_old : (layer : Layer ℕ) → is_plain_layer nat_eq world layer ≡ true → IsOld layer
+  plain_is_old layer plain = by (nat_eq layer.filesystem new.number) refl
+    where
+      by : (b : Bool) → nat_eq layer.filesystem new.number ≡ b → b ≡ false
+      by false e = refl
+      by true e = none_is_some (filesystem_numbered nat_eq world layer.filesystem)
+          (sym (not_found layer.filesystem world.filesystems
+          (ap (λ n. list_any (nat_eq n) (map (λ f. f.number) world.filesystems))
+          (eqb-true layer.filesystem new.number e) ∙ unused))
+          ∙ plain_found layer plain)
+
+  lies_same : (fs object : ℕ) (layer : Layer ℕ) → IsOld layer
+      → lies_in_layer nat_eq later fs object layer ≡ lies_in_layer nat_eq world fs object layer
+  lies_same fs object layer old = grind (arith, common_steps, same_filesystem, eqb-true)
+
+  counts_same : (fs object : ℕ) (layer : Layer ℕ) → IsOld layer → (merged : Filesystem ℕ)
+      → counts_in_layer nat_eq later fs object layer merged ≡ counts_in_layer nat_eq world fs object layer merged
+  counts_same fs object layer old merged = grind (arith, common_steps, lies_same)
+
+  -- what is an object of the new overlay lies under its upper directory, and so where that lies
+  abbrev made : Overlay ℕ
+  made = record overlay {
+    real = real_of nat_eq
+        (inodes (map (open_layer nat_eq world) (shown_layers overlay)) (are_open world conditions overlay are_layers)
+        (inode_count world) (bounded world conditions overlay are_layers) (odds fresh)
+        (odds-distinct fresh distinct) (is_some overlay.upper));
+  }
+
+  upper_in : Real ℕ → Option ℕ
+  upper_in (Upper o) = Some o
+  upper_in (Lower layer path) = None
+
+  upper_led : (upper : Layer ℕ) → overlay.upper ≡ Some upper → (number object : ℕ)
+      → made.real number ≡ Some (Upper object)
+      → (path : List (List ℕ)) × (led
+      (filesystem_numbered nat_eq world upper.filesystem).files.tree upper.directory path ≡ Some object)
+  unfolding upper_in
+  upper_led upper is number object e =
+      let real = has_real (map (open_layer nat_eq world) (shown_layers overlay))
+      (are_open world conditions overlay are_layers) (inode_count world)
+      (bounded world conditions overlay are_layers) (odds fresh)
+      (odds-distinct fresh distinct) (is_some overlay.upper) number
+      (Upper object) e in
+      by real.object real.layer real.object.seen.layer refl
+      (real.is ∙ ap (λ o. real_object (is_some o) real.object.seen.layer real.object) is)
+    where
+      by : (m : Merged ℕ) → InLayer (map (open_layer nat_eq world) (shown_layers overlay))
+          (are_open world conditions overlay are_layers) (inode_count world)
+          (bounded world conditions overlay are_layers) (odds fresh)
+          (odds-distinct fresh distinct) (is_some overlay.upper) m → (l : ℕ)
+          → m.seen.layer ≡ l → Upper object ≡ real_object true l m
+          → (path : List (List ℕ)) × (led
+          (filesystem_numbered nat_eq world upper.filesystem).files.tree upper.directory path ≡ Some object)
+      by m found zero lm r =
+          let top : slice_get (map (open_layer nat_eq world) (shown_layers overlay)) 0
+          ≡ Some (open_layer nat_eq world upper) =
+          ap (λ o. slice_get (map (open_layer nat_eq world) (option_to_list o ++ overlay.lowers)) 0) is in
+          let same = same_Some (open_layer nat_eq world upper) found.layer
+          (sym top ∙ ap (slice_get (map (open_layer nat_eq world) (shown_layers overlay))) (sym lm)
+          ∙ found.there) in (
+            m.path,
+            ap (λ layer. at_path layer m.path) same ∙ found.at
+                ∙ ap Some (sym (same_Some object m.seen.object (ap upper_in r))),
+          )
+      by m found (suc l) lm r = none_is_some object (sym (ap upper_in r))
+
+  new_counts : (fs object : ℕ) (layer : Layer ℕ) → IsOld layer
+      → counts_in_layer nat_eq later fs object layer new ≡ true → lies_in_layer nat_eq world fs object layer ≡ true
+  new_counts fs object layer old e =
+      by overlay.upper refl (and_true_left _ _ e) (and_true_left _ _ (and_true_right _ _ e))
+      (and_true_right _ _ (and_true_right _ _ e))
+    where
+      up_plain : (upper : Layer ℕ) → overlay.upper ≡ Some upper → is_plain_layer nat_eq world upper ≡ true
+      up_plain upper is =
+          and_true_left (is_plain_layer nat_eq world upper) _
+          (ap (λ o. list_all (is_plain_layer nat_eq world) (option_to_list o ++ overlay.lowers)) (sym is)
+          ∙ are_layers.1)
+
+      by : (o : Option (Layer ℕ)) → overlay.upper ≡ o
+          → holds_of (λ upper. lies_in_layer nat_eq later upper.filesystem upper.directory layer) o ≡ true
+          → holds_of (λ upper. nat_eq fs upper.filesystem) o ≡ true
+          → list_any (is_real_upper nat_eq made object) new.files.numbers ≡ true
+          → lies_in_layer nat_eq world fs object layer ≡ true
+      by None is lies one any = absurd (true≢false (sym lies))
+      by (Some upper) is lies one any =
+          let plain = up_plain upper is in
+          let found = any_found (is_real_upper nat_eq made object) new.files.numbers any in
+          let leads = upper_led upper is found.0 object (upper_real (made.real found.0) object found.1) in
+          let filesystem = filesystem_numbered nat_eq world upper.filesystem in
+          let tree = all_found (λ f. IsTree f.files.tree)
+          (λ f. nat_eq upper.filesystem f.number) world.filesystems conditions.files.trees filesystem
+          (plain_found upper plain) in
+          let listed = all_found (λ f. ListsNumbers nat_eq f.files)
+          (λ f. nat_eq upper.filesystem f.number) world.filesystems conditions.files.numbers filesystem
+          (plain_found upper plain) in
+          let before = sym (lies_same upper.filesystem upper.directory layer old) ∙ lies in
+          let under = and_true_right (nat_eq upper.filesystem layer.filesystem) _ before in
+          let directory = is_there upper plain in
+          let directory_under = sym (ap (λ b.
+          cond b (is_directory_under nat_eq filesystem.files layer.directory upper.directory)
+          (is_file_under nat_eq filesystem.files layer.directory upper.directory)) directory) ∙ under in
+          ap (λ n. lies_in_layer nat_eq world n object layer) (eqb-true fs upper.filesystem one)
+          ∙ ap (λ b. b && is_under nat_eq filesystem.files layer.directory object)
+          (and_true_left (nat_eq upper.filesystem layer.filesystem) _ before)
+          ∙ led_below filesystem.files tree listed layer.directory upper.directory leads.0 object directory_under
+          directory leads.1
+
+  overlays_later : overlays later ≡ overlays world ++ new ∷ []
+  overlays_later = filter-append is_overlay world.filesystems (new ∷ [])
+
+  pub under_same : (fs object : ℕ) (layer : Layer ℕ) → IsOld layer
+      → lies_or_counts_under nat_eq later fs object layer ≡ lies_or_counts_under nat_eq world fs object layer
+  under_same fs object layer old =
+      ap (λ b. b || list_any (counts_in_layer nat_eq later fs object layer) (overlays later))
+      (lies_same fs object layer old)
+      ∙ ap (λ b. lies_in_layer nat_eq world fs object layer || b)
+      (ap (list_any (counts_in_layer nat_eq later fs object layer)) overlays_later
+      ∙ list_any-append (counts_in_layer nat_eq later fs object layer) (overlays world) (new ∷ [])
+      ∙ ap (λ b. b || (counts_in_layer nat_eq later fs object layer new || false))
+      (any_same (counts_in_layer nat_eq later fs object layer) (counts_in_layer nat_eq world fs object layer)
+      (overlays world) (λ merged among. counts_same fs object layer old merged)))
+      ∙ absorbed (lies_in_layer nat_eq world fs object layer)
+      (list_any (counts_in_layer nat_eq world fs object layer) (overlays world))
+      (counts_in_layer nat_eq later fs object layer new)
+      (new_counts fs object layer old)
+
+  pub overlaps_same : (others : List (Layer ℕ)) (layer : Layer ℕ) → IsOld layer
+      → ((other : Layer ℕ) → Among others other → IsOld other)
+      → overlaps_one_of nat_eq later others layer ≡ overlaps_one_of nat_eq world others layer
+  overlaps_same others layer old olds =
+      ap (λ f. list_any (λ object. lies_or_counts_under nat_eq later layer.filesystem object layer
+      && list_any (lies_or_counts_under nat_eq later layer.filesystem object) others) f.files.numbers)
+      (same_filesystem layer.filesystem old)
+      ∙ any_same _ _ (filesystem_numbered nat_eq world layer.filesystem).files.numbers (λ object among.
+      ap (λ b. b && list_any (lies_or_counts_under nat_eq later layer.filesystem object) others)
+      (under_same layer.filesystem object layer old)
+      ∙ ap (λ b. lies_or_counts_under nat_eq world layer.filesystem object layer && b)
+      (any_same (lies_or_counts_under nat_eq later layer.filesystem object)
+      (lies_or_counts_under nat_eq world layer.filesystem object) others
+      (λ other in_others. under_same layer.filesystem object other (olds other in_others))))

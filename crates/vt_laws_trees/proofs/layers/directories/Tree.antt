@@ -1,0 +1,310 @@
+-- A tree that is found one directory at a time has what layers show at every path.
+use Rattle.std.proofs.lemmas.Grind.{common_steps}
+use Rattle.std.proofs.Common.{◌≡◌, ◌≢◌, refl, sym, ap, subst, ◌∙◌, true≢false, arith, ℕ, suc, ◌+◌, Bool, true, false, cond, not, ◌||◌, List, [], ◌∷◌, ◌++◌, map, Option, Some, None, is_some, option_and_then, slice_get}
+use Rattle.std.specs.List.{All}
+use Rattle.std.specs.Prelude.{option_map, nat_eq}
+use Rattle.std.proofs.lemmas.List.Elements.{All-cons, All-head, All-nil, All-tail}
+use Rattle.std.proofs.lemmas.Option.{slice_get-map, same_Some}
+use Rattle.vt_spec.specs.FileTree.{opaque_of}
+use Rattle.vt_spec.specs.Machine.Layers.{OpenLayer, view_of}
+use Rattle.vt_spec.specs.Lists.{then_some, when}
+use Rattle.vt_spec.specs.Machine.Merging.{layer_node, real_object}
+use Rattle.vt_spec.specs.Machine.Views.{Shown, View, hides, node_led, shown, shown_over}
+use Rattle.vt_spec.specs.Machine.World.{open_layer, shown_layers}
+use Rattle.vt_spec.specs.Machine.Invariants.{SameObject}
+use Rattle.vt_spec.specs.Rights.{is_directory}
+use Rattle.vt_spec.specs.Tree.{Node, Tree, is_directory_node}
+use Rattle.vt_spec.specs.TreeInvariant.{IsDirectory, entry_at, led}
+use Rattle.vt_laws_trees.specs.Layers.Layers.Directories.{AreViews, PlacedView, merged_under, placed, placed_from, shown_in, shown_node}
+use Rattle.vt_laws_trees.specs.Layers.Layers.DirectoryTrees.{IsMergedByDirectory, IsSaidByDirectory, ObjectsAreThoseShown, OneDirectoryIsEnough, OverlaysAreMergedByDirectory, RealObjectsAreThoseShown, node_shown_by, views_of_overlay}
+use Rattle.vt_laws_trees.proofs.layers.directories.Under.{HasView, merged_are_views, placed_show_the_same, layers_are_views, shown_under_name}
+use Rattle.vt_laws_trees.proofs.layers.layers.ShownDirectories.{AreOpen, append_assoc}
+use Rattle.vt_laws_trees.proofs.layers.layers.ShownMounted.{are_open}
+use Rattle.vt_laws_trees.proofs.layers.layers.ShownNames.{last_name}
+use Rattle.vt_laws_trees.proofs.layers.layers.ShownPaths.{not_empty}
+use Rattle.vt_laws_trees.proofs.layers.layers.UpperLine.{has_entries}
+use Rattle.vt_spec.proofs.NodeChanges.{directory_no_whiteout, same_content_kind}
+use Rattle.vt_spec.proofs.Options.{none_is_some}
+
+-- what is the same is a directory or is none
+same_directory : (a b : Option (Node ℕ)) → SameObject a b → is_directory_node a ≡ is_directory_node b
+same_directory None None same = refl
+same_directory None (Some b) same = absurd same
+same_directory (Some a) None same = absurd same
+same_directory (Some a) (Some b) same = same_content_kind a.content b.content same.1
+
+-- what is no directory has no names
+nothing_led : (tree : Tree ℕ) (from : ℕ) (name other : List ℕ) (rest : List (List ℕ))
+    → is_directory_node (then_some (entry_at tree from name) tree.node) ≡ false
+    → led tree from (name ∷ other ∷ rest) ≡ None
+nothing_led tree from name other rest d = grind (arith, common_steps, true≢false, has_entries)
+
+module _ (views : List (View ℕ)) where
+  -- the inodes of these views are those of the layers at their places
+  abbrev IsOfPlace : PlacedView ℕ → Type 0
+  IsOfPlace top = (object : ℕ) → shown_node views (record { layer = top.layer; object = object }) ≡ top.view.node object
+
+  merged_of_place : (some_views : List (PlacedView ℕ)) (name : List ℕ) → All IsOfPlace some_views
+      → All IsOfPlace (merged_under some_views name)
+  merged_of_place [] name are = are
+  merged_of_place (top ∷ lower) name are =
+      by (is_directory_node (node_led top.view (name ∷ []))) (hides (node_led top.view (name ∷ [])))
+      (merged_of_place lower name (All-tail IsOfPlace top lower are))
+    where
+      own : PlacedView ℕ
+      own = record {
+        layer = top.layer;
+        view = record {
+          leads = λ rest.
+              top.view.leads (name ∷ rest);
+          node = top.view.node;
+        };
+      }
+
+      by : (d h : Bool) → All IsOfPlace (merged_under lower name)
+          → All IsOfPlace (cond d (own ∷ []) [] ++ cond h [] (merged_under lower name))
+      by true true rest = All-cons IsOfPlace own [] (All-head IsOfPlace top lower are) (All-nil IsOfPlace)
+      by true false rest = All-cons IsOfPlace own (merged_under lower name) (All-head IsOfPlace top lower are) rest
+      by false true rest = All-nil IsOfPlace
+      by false false rest = rest
+
+  -- nothing is merged under a name that shows no directory
+  nothing_merged : (some_views : List (PlacedView ℕ)) (name : List ℕ) → All HasView some_views
+      → All IsOfPlace some_views
+      → is_directory_node (node_shown_by views some_views (name ∷ [])) ≡ false → merged_under some_views name ≡ []
+  nothing_merged [] name are of d = refl
+  nothing_merged (top ∷ lower) name are of d =
+      by (top.view.leads (name ∷ [])) refl d
+      (nothing_merged lower name (All-tail HasView top lower are) (All-tail IsOfPlace top lower of))
+    where
+      own : PlacedView ℕ
+      own = record {
+        layer = top.layer;
+        view = record {
+          leads = λ rest.
+              top.view.leads (name ∷ rest);
+          node = top.view.node;
+        };
+      }
+
+      seen_by : Option ℕ → Option (Shown ℕ)
+      seen_by o = shown_over top.view top.layer o (hides (then_some o top.view.node) || false)
+          (shown_in lower (name ∷ []))
+
+      merged_by : Option (Node ℕ) → List (PlacedView ℕ)
+      merged_by o = cond (is_directory_node o) (own ∷ []) [] ++ cond (hides o) [] (merged_under lower name)
+
+      hidden : (object : ℕ) (b : Bool) → is_directory_node (top.view.node object) ≡ b → (node : Option (Node ℕ))
+          → top.view.node object ≡ node → is_some node ≡ true
+          → is_directory_node (then_some (seen_by (Some object)) (shown_node views)) ≡ false → merged_by node ≡ []
+      hidden object b t None e h d = absurd (true≢false (sym h))
+      hidden object true t (Some node) e h d =
+          absurd (true≢false (sym (
+          ap (λ w. is_directory_node (then_some (when (not w) (record { layer = top.layer; object = object }))
+          (shown_node views))) (directory_no_whiteout (top.view.node object) t)
+          ∙ ap is_directory_node (All-head IsOfPlace top lower of object) ∙ t) ∙ d))
+      hidden object false t (Some node) e h d =
+          ap (λ b. cond b (own ∷ []) [] ++ cond (not b || opaque_of node.content) [] (merged_under lower name))
+          (sym (ap is_directory_node e) ∙ t)
+
+      by : (o : Option ℕ) → top.view.leads (name ∷ []) ≡ o
+          → is_directory_node (then_some (seen_by o) (shown_node views)) ≡ false
+          → (is_directory_node (node_shown_by views lower (name ∷ [])) ≡ false → merged_under lower name ≡ [])
+          → merged_by (then_some o top.view.node) ≡ []
+      by None e d rest = rest d
+      by (Some object) e d rest =
+          hidden object (is_directory_node (top.view.node object)) refl (top.view.node object) refl
+          ((All-head HasView top lower are).there (name ∷ []) object e) d
+
+  placed_of_place : All IsOfPlace (placed views)
+  placed_of_place = by views 0 (λ k object.
+      ap (λ d. shown_node views (record { layer = d; object = object })) (let h : 0 + k ≡ k = omega arith in h))
+    where
+      by : (list : List (View ℕ)) (depth : ℕ)
+          → ((k : ℕ) (object : ℕ) → shown_node views (record { layer = depth + k; object = object })
+          ≡ shown_node list (record { layer = k; object = object })) → All IsOfPlace (placed_from depth list)
+      by [] depth is = All-nil IsOfPlace
+      by (view ∷ lower) depth is =
+          All-cons IsOfPlace (record { layer = depth; view = view }) (placed_from (depth + 1) lower)
+          (λ object. ap (λ d. shown_node views (record { layer = d; object = object }))
+          (let h : depth ≡ depth + 0 = omega arith in h) ∙ is 0 object)
+          (by lower (depth + 1) (λ k object.
+          ap (λ d. shown_node views (record { layer = d; object = object }))
+          (let h : (depth + 1) + k ≡ depth + suc k = omega arith in h) ∙ is (suc k) object))
+
+  module _ (tree : Tree ℕ) (views_of : ℕ → List (PlacedView ℕ)) (are : AreViews (placed views))
+      (is : IsMergedByDirectory views tree views_of) where
+    -- the views of a directory show what all of them show under its path
+    record ShowsFrom (front : List (List ℕ)) (directory : ℕ) : Type 0 where
+      is_led : led tree tree.root front ≡ Some directory
+      are_views : AreViews (views_of directory)
+      of_place : All IsOfPlace (views_of directory)
+      same : (rest : List (List ℕ)) → rest ≢ [] → shown_in (views_of directory) rest ≡ shown views (front ++ rest)
+
+    from_root : ShowsFrom [] tree.root
+    from_root = record {
+      is_led = refl;
+      are_views = subst AreViews (sym is.root_views) are;
+      of_place = subst (All IsOfPlace) (sym is.root_views) placed_of_place;
+      same = λ rest n. ap (λ v. shown_in v rest) is.root_views ∙ sym (placed_show_the_same views rest);
+    }
+
+    goes_on : (front : List (List ℕ)) (directory : ℕ) (name : List ℕ) (number : ℕ) → ShowsFrom front directory
+        → IsDirectory tree directory → entry_at tree directory name ≡ Some number → IsDirectory tree number
+        → ShowsFrom (front ++ name ∷ []) number
+    goes_on front directory name number from d e is_directory =
+        let merged = (is.directories front directory from.is_led d).below name number e is_directory in
+        record {
+          is_led = last_name tree tree.root front name ∙ ap (option_and_then (λ n. entry_at tree n name)) from.is_led
+              ∙ e;
+          are_views = subst AreViews (sym merged) (merged_are_views (views_of directory) name from.are_views);
+          of_place = subst (All IsOfPlace) (sym merged) (merged_of_place (views_of directory) name from.of_place);
+          same = λ rest n.
+              ap (λ v. shown_in v rest) merged
+              ∙ sym (shown_under_name (views_of directory) name rest from.are_views n)
+              ∙ from.same (name ∷ rest) (not_empty name rest)
+              ∙ ap (shown views) (sym (append_assoc front (name ∷ []) rest));
+        }
+
+    -- what is said at every path that is not the root's, of where the tree leads and what is shown, if it is said of an
+    -- entry and of nothing
+    module _ (Said : List (List ℕ) → Option ℕ → Option (Shown ℕ) → Type 0)
+        (nothing : (path : List (List ℕ)) → Said path None None)
+        (entry : (front : List (List ℕ)) (directory : ℕ) (name : List ℕ) → led tree tree.root front ≡ Some directory
+        → IsDirectory tree directory → Said (front ++ name ∷ []) (entry_at tree directory name)
+        (shown_in (views_of directory) (name ∷ [])))
+      where
+        said_below : (front : List (List ℕ)) (directory : ℕ) → ShowsFrom front directory → IsDirectory tree directory
+            → (name : List ℕ) (rest : List (List ℕ))
+            → Said (front ++ name ∷ rest) (led tree directory (name ∷ rest)) (shown views (front ++ name ∷ rest))
+        said_below front directory from d name [] =
+            subst (λ o. Said (front ++ name ∷ []) o (shown views (front ++ name ∷ [])))
+            (sym (last_name tree directory [] name))
+            (subst (Said (front ++ name ∷ []) (entry_at tree directory name))
+            (from.same (name ∷ []) (not_empty name []))
+            (entry front directory name from.is_led d))
+        said_below front directory from d name (other ∷ rest) =
+            by (entry_at tree directory name) refl
+            (is_directory_node (then_some (entry_at tree directory name) tree.node)) refl
+            (λ number e f. said_below (front ++ name ∷ []) number
+            (goes_on front directory name number from d e f) f other rest)
+          where
+            path : List (List ℕ)
+            path = front ++ name ∷ other ∷ rest
+
+            ends : is_directory_node (then_some (entry_at tree directory name) tree.node) ≡ false
+                → Said path (led tree directory (name ∷ other ∷ rest)) (shown views path)
+            ends f =
+                let none_shown = nothing_merged (views_of directory) name from.are_views from.of_place
+                (sym (same_directory _ _ ((is.directories front directory from.is_led d).entries name)) ∙ f) in
+                subst (λ o. Said path o (shown views path)) (sym (nothing_led tree directory name other rest f))
+                (subst (Said path None)
+                (sym (ap (λ v. shown_in v (other ∷ rest)) none_shown)
+                ∙ sym (shown_under_name (views_of directory) name (other ∷ rest) from.are_views (not_empty other rest))
+                ∙ from.same (name ∷ other ∷ rest) (not_empty name (other ∷ rest)))
+                (nothing path))
+
+            by : (o : Option ℕ) → entry_at tree directory name ≡ o → (b : Bool)
+                → is_directory_node (then_some (entry_at tree directory name) tree.node) ≡ b
+                → ((number : ℕ) → entry_at tree directory name ≡ Some number → IsDirectory tree number
+                → Said ((front ++ name ∷ []) ++ other ∷ rest) (led tree number (other ∷ rest))
+                (shown views ((front ++ name ∷ []) ++ other ∷ rest)))
+                → Said path (led tree directory (name ∷ other ∷ rest)) (shown views path)
+            by o e false f on = ends f
+            by None e true f on = absurd (true≢false (sym f ∙ ap (λ o. is_directory_node (then_some o tree.node)) e))
+            by (Some number) e true f on =
+                subst (λ o. Said path o (shown views path))
+                (ap (option_and_then (λ n. led tree n (other ∷ rest))) (sym e))
+                (subst (λ p. Said p (led tree number (other ∷ rest)) (shown views p))
+                (append_assoc front (name ∷ []) (other ∷ rest))
+                (on number e (sym (ap (λ o. is_directory_node (then_some o tree.node)) e) ∙ f)))
+
+        said_everywhere : Said [] (Some tree.root) (shown views []) → (path : List (List ℕ))
+            → Said path (led tree tree.root path) (shown views path)
+        said_everywhere root [] = root
+        said_everywhere root (name ∷ rest) = said_below [] tree.root from_root is.root_directory name rest
+
+    one_directory : (path : List (List ℕ))
+        → SameObject (then_some (led tree tree.root path) tree.node) (then_some (shown views path) (shown_node views))
+    one_directory path =
+        said_everywhere (λ path found seen. SameObject (then_some found tree.node) (then_some seen (shown_node views)))
+        (λ path. tt)
+        (λ front directory name l d. (is.directories front directory l d).entries name)
+        (subst (λ o. SameObject (tree.node tree.root) (then_some o (shown_node views)))
+        (sym (placed_show_the_same views [])) is.root)
+        path
+
+    module _ {A : Type 0} (of : List (List ℕ) → Shown ℕ → A) (said : ℕ → Option A)
+        (is_said : IsSaidByDirectory views tree views_of of said) where
+      said_of_shown : (path : List (List ℕ)) (number : ℕ) → led tree tree.root path ≡ Some number
+          → said number ≡ option_map (of path) (shown views path)
+      said_of_shown path =
+          said_everywhere (λ path found seen. (number : ℕ) → found ≡ Some number
+          → said number ≡ option_map (of path) seen)
+          (λ path number e. none_is_some number e)
+          (λ front directory name l d number e. is_said.entries front directory name number l e)
+          (λ number e. ap said (sym (same_Some tree.root number e)) ∙ is_said.root)
+          path
+
+pub one_directory_is_enough : OneDirectoryIsEnough
+one_directory_is_enough views tree views_of path are is = one_directory views tree views_of are is path
+
+pub objects_are_those_shown : ObjectsAreThoseShown
+objects_are_those_shown views tree views_of seen path number are is is_said e =
+    said_of_shown views tree views_of are is (λ path shown. shown) seen is_said path number e
+    ∙ itself (shown views path)
+  where
+    itself : (o : Option (Shown ℕ)) → option_map (λ seen. seen) o ≡ o
+    itself None = refl
+    itself (Some seen) = refl
+
+-- layers of a world are views
+views_of_layers : (layers : List (OpenLayer ℕ)) (depth : ℕ) → AreOpen layers
+    → AreViews (placed_from depth (map view_of layers))
+views_of_layers [] depth are = All-nil HasView
+views_of_layers (layer ∷ lower) depth are =
+    let first = are 0 layer refl in
+    All-cons HasView (record { layer = depth; view = view_of layer }) (placed_from (depth + 1) (map view_of lower))
+    (layers_are_views layer first.0 first.1)
+    (views_of_layers lower (depth + 1) (λ k l h. are (suc k) l h))
+
+nodes_of_layers : (layers : List (OpenLayer ℕ)) (seen : Shown ℕ)
+    → shown_node (map view_of layers) seen ≡ layer_node layers seen
+nodes_of_layers layers seen =
+    ap (λ o. then_some o (λ view. view.node seen.object)) (slice_get-map view_of layers seen.layer)
+    ∙ by (slice_get layers seen.layer)
+  where
+    by : (o : Option (OpenLayer ℕ))
+        → then_some (option_map view_of o) (λ view. view.node seen.object)
+        ≡ then_some o (λ layer. layer.tree.node seen.object)
+    by None = refl
+    by (Some layer) = refl
+
+pub overlays_are_merged_by_directory : OverlaysAreMergedByDirectory
+overlays_are_merged_by_directory world overlay tree views_of path conditions are_layers is =
+    subst (SameObject (then_some (led tree tree.root path) tree.node))
+    (by (shown (views_of_overlay world overlay) path))
+    (one_directory (views_of_overlay world overlay) tree views_of
+    (views_of_layers (map (open_layer nat_eq world) (shown_layers overlay)) 0
+    (are_open world conditions overlay are_layers)) is path)
+  where
+    by : (o : Option (Shown ℕ)) → then_some o (shown_node (views_of_overlay world overlay))
+        ≡ then_some o (layer_node (map (open_layer nat_eq world) (shown_layers overlay)))
+    by None = refl
+    by (Some seen) = nodes_of_layers (map (open_layer nat_eq world) (shown_layers overlay)) seen
+
+pub real_objects_are_those_shown : RealObjectsAreThoseShown
+real_objects_are_those_shown world overlay tree views_of path number conditions are_layers is is_said e =
+    said_of_shown (views_of_overlay world overlay) tree views_of
+    (views_of_layers (map (open_layer nat_eq world) (shown_layers overlay)) 0
+    (are_open world conditions overlay are_layers)) is
+    (λ path seen. real_object (is_some overlay.upper) seen.layer
+    (record { path = path; seen = seen })) overlay.real is_said path number e
+    ∙ by (shown (views_of_overlay world overlay) path)
+  where
+    by : (o : Option (Shown ℕ))
+        → option_map (λ seen. real_object (is_some overlay.upper) seen.layer (record { path = path; seen = seen })) o
+        ≡ option_map (λ object. real_object (is_some overlay.upper) object.seen.layer object)
+        (option_map (λ seen. record { path = path; seen = seen }) o)
+    by None = refl
+    by (Some seen) = refl

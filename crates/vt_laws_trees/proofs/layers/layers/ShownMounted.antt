@@ -1,0 +1,294 @@
+-- A newly mounted overlay is what its layers show.
+use Rattle.std.proofs.lemmas.Grind.{common_steps}
+use Rattle.std.proofs.Common.{◌≡◌, ◌≢◌, ◌≤◌, refl, sym, ap, subst, ◌∙◌, true≢false, arith, ℕ, zero, suc, ◌+◌, nat_eq, Bool, true, false, cond, not, List, [], ◌∷◌, ◌++◌, map, length, Option, Some, None, is_some, option_and_then, slice_get, unwrap_or}
+use Rattle.std.specs.List.{find, list_all, sum}
+use Rattle.std.specs.Prelude.{option_map, option_to_list}
+use Rattle.std.specs.Str.{bytes_eq}
+use Rattle.std.specs.Cmp.Lexicographic.{bytes_decides}
+use Rattle.std.proofs.lemmas.List.Sums.{sum_by-cons}
+use Rattle.std.proofs.lemmas.Option.{slice_get-map, same_Some}
+use Rattle.vt_spec.specs.FileTree.{FileTree}
+use Rattle.vt_spec.specs.Machine.Layers.{OpenLayer, Shown, node_at_path, shown}
+use Rattle.vt_spec.specs.Lists.{Fresh, holds_of, odds, then_some, when}
+use Rattle.vt_spec.specs.Machine.Merging.{merged_inodes, merged_objects, real_of}
+use Rattle.vt_spec.specs.Machine.NewMounts.{inode_count, overlay_filesystem}
+use Rattle.vt_spec.specs.Machine.World.{Filesystem, Layer, Overlay, Real, World, filesystem_numbered, is_overlay, no_filesystem, open_layer, shown_layers}
+use Rattle.vt_spec.specs.Machine.World.Real.{Lower, Upper}
+use Rattle.vt_spec.specs.Machine.Invariants.{IsMerged, IsWorld, ListsNumbers, SameObject, is_plain_layer, is_there, node_shown, real_node, same_content}
+use Rattle.vt_spec.specs.Tree.{Content, Node, is_directory_node}
+use Rattle.vt_spec.specs.Tree.Content.{Directory, Regular, Symlink, Whiteout}
+use Rattle.vt_spec.specs.TreeInvariant.{IsDirectory, IsTree, entry_at, led}
+use Rattle.vt_laws_trees.specs.Layers.Layers.Mounted.{AreLayers, RemountShowsTheSame}
+use Rattle.vt_laws_trees.proofs.layers.layers.ShownAlike.{shown_alike}
+use Rattle.vt_laws_trees.proofs.layers.layers.ShownAtPath.{computed}
+use Rattle.vt_laws_trees.proofs.layers.layers.ShownDirectories.{AreOpen, last_of}
+use Rattle.vt_laws_trees.proofs.layers.layers.ShownNames.{last_name}
+use Rattle.vt_laws_trees.proofs.layers.layers.ShownPaths.{depth_of_led, length_longer, not_empty}
+use Rattle.vt_laws_trees.proofs.layers.layers.ShownTree.{real_shown_there, shows_layers}
+use Rattle.vt_laws_trees.proofs.layers.layers.ShownWhole.{behind, merged_is_real, merged_no_mark, merged_no_whiteout, merged_one_to_one, merged_real_there, merged_upper}
+use Rattle.vt_laws_trees.proofs.layers.layers.UpperChain.{depth_below}
+use Rattle.vt_laws_trees.proofs.layers.layers.UpperLine.{has_entries, is_reached_in}
+use Rattle.vt_laws_trees.proofs.layers.layers.UpperWorld.{all_found, overlay_layers}
+use Rattle.vt_spec.proofs.NodeChanges.{directory_no_whiteout}
+use Rattle.vt_spec.proofs.Options.{none_is_some}
+use Rattle.vt_spec.proofs.Truths.{and_true_left, and_true_right}
+use Rattle.vt_spec.proofs.FreshNumbers.{odds-distinct}
+
+-- a part of a sum is no more than the sum
+in_sum : (test : Filesystem ℕ → Bool) (list : List (Filesystem ℕ)) (filesystem : Filesystem ℕ)
+    → find test list ≡ Some filesystem → length filesystem.files.numbers ≤ sum (map (λ f. length f.files.numbers) list)
+in_sum test [] filesystem e = none_is_some filesystem e
+in_sum test (first ∷ list) filesystem e =
+    let added = sum_by-cons (λ n. n) (length first.files.numbers) (map (λ f. length f.files.numbers) list) in grind
+    (arith, common_steps, in_sum test list filesystem)
+
+-- each of a list that all pass passes
+all_pass_at : {A : Type 0} (test : A → Bool) (list : List A) → list_all test list ≡ true → (k : ℕ) (a : A)
+    → slice_get list k ≡ Some a → test a ≡ true
+all_pass_at test [] all k a e = none_is_some a e
+all_pass_at test (first ∷ list) all zero a e = ap test (sym (same_Some first a e)) ∙ and_true_left (test first) _ all
+all_pass_at test (first ∷ list) all (suc k) a e = all_pass_at test list (and_true_right (test first) _ all) k a e
+
+-- Layers of a world
+module _ (world : World ℕ) (conditions : IsWorld nat_eq world) (overlay : Overlay ℕ)
+    (are_layers : AreLayers world overlay) where
+  abbrev pub layers : List (OpenLayer ℕ)
+  layers = map (open_layer nat_eq world) (shown_layers overlay)
+
+  -- a layer is a directory of a tree of the world
+  pub record IsOpen (layer : OpenLayer ℕ) : Type 0 where
+    pub filesystem : Filesystem ℕ
+    pub test : Filesystem ℕ → Bool
+    pub found : find test world.filesystems ≡ Some filesystem
+    pub is : layer.tree ≡ filesystem.files.tree
+    pub directory : IsDirectory layer.tree layer.directory
+
+  pub is_open : (depth : ℕ) (layer : OpenLayer ℕ) → slice_get layers depth ≡ Some layer → IsOpen layer
+  is_open depth layer e = by (slice_get (shown_layers overlay) depth) refl
+      (sym (slice_get-map (open_layer nat_eq world) (shown_layers overlay) depth) ∙ e)
+    where
+      there : (plain : Layer ℕ) → is_directory_node
+          ((filesystem_numbered nat_eq world plain.filesystem).files.tree.node plain.directory) ≡ true
+          → (o : Option (Filesystem ℕ)) → find
+          (λ filesystem. nat_eq plain.filesystem filesystem.number) world.filesystems ≡ o
+          → find (λ filesystem. nat_eq plain.filesystem filesystem.number) world.filesystems
+          ≡ Some (filesystem_numbered nat_eq world plain.filesystem)
+      there plain d None f = absurd (true≢false
+          (sym (sym (ap (λ o. is_directory_node
+          ((unwrap_or o (no_filesystem plain.filesystem)).files.tree.node plain.directory)) f) ∙ d)))
+      there plain d (Some filesystem) f = f ∙ ap Some (sym (ap (λ o. unwrap_or o (no_filesystem plain.filesystem)) f))
+
+      by : (o : Option (Layer ℕ)) → slice_get (shown_layers overlay) depth ≡ o
+          → option_map (open_layer nat_eq world) o ≡ Some layer → IsOpen layer
+      by None s m = none_is_some layer m
+      by (Some plain) s m =
+          let passes = all_pass_at (is_plain_layer nat_eq world) (shown_layers overlay) are_layers.1 depth plain s in
+          let directory = and_true_right
+          (not (is_overlay (filesystem_numbered nat_eq world plain.filesystem))) _ passes in
+          subst IsOpen (same_Some (open_layer nat_eq world plain) layer m) (record {
+            filesystem = filesystem_numbered nat_eq world plain.filesystem;
+            test = λ filesystem. nat_eq plain.filesystem filesystem.number;
+            found = there plain directory (find
+                (λ filesystem. nat_eq plain.filesystem filesystem.number) world.filesystems) refl;
+            is = refl;
+            directory = directory;
+          })
+
+  pub are_open : AreOpen layers
+  are_open depth layer e =
+      let open_one = is_open depth layer e in (
+        subst IsTree (sym open_one.is)
+            (all_found (λ filesystem.
+            IsTree filesystem.files.tree) open_one.test world.filesystems conditions.files.trees open_one.filesystem
+            open_one.found),
+        open_one.directory,
+      )
+
+  -- no path at which something is shown is longer than there are inodes
+  pub bounded : (path : List (List ℕ)) (seen : Shown ℕ) → shown layers path ≡ Some seen
+      → length path ≤ inode_count world
+  bounded [] seen s = omega arith
+  bounded (name ∷ path) seen s =
+      let shows = (computed layers (name ∷ path) seen).0 s in
+      let has = shows.has_uncut.0 in
+      let open_one = is_open seen.layer has.0 has.1 in
+      let tree = all_found (λ filesystem.
+      IsTree filesystem.files.tree) open_one.test world.filesystems conditions.files.trees open_one.filesystem
+      open_one.found in
+      let listed = all_found (λ filesystem.
+      ListsNumbers nat_eq filesystem.files) open_one.test world.filesystems conditions.files.numbers open_one.filesystem
+      open_one.found in
+      let within = in_sum open_one.test world.filesystems open_one.filesystem open_one.found in
+      let last = last_of (name ∷ path) (not_empty name path) in
+      let longer = sym (length_longer last.0 last.1) ∙ ap length last.2 in
+      by open_one.filesystem.files tree listed has.0.directory last.0 last.1 (omega arith) within
+      (sym (ap (λ p. led open_one.filesystem.files.tree has.0.directory p) (sym last.2)
+      ∙ last_name open_one.filesystem.files.tree has.0.directory last.0 last.1)
+      ∙ ap (λ t. led t has.0.directory (name ∷ path)) (sym open_one.is) ∙ has.2)
+    where
+      by : (files : FileTree ℕ) → IsTree files.tree → ListsNumbers nat_eq files
+          → (start : ℕ) (front : List (List ℕ)) (last : List ℕ) → length (name ∷ path) ≡ suc (length front)
+          → length files.numbers ≤ inode_count world
+          → option_and_then (λ directory. entry_at files.tree directory last) (led files.tree start front)
+          ≡ Some seen.object → length (name ∷ path) ≤ inode_count world
+      by files tree listed start front last counted within e = at (led files.tree start front) refl e
+        where
+          deep : (front : List (List ℕ)) (directory : ℕ) → led files.tree start front ≡ Some directory
+              → entry_at files.tree directory last ≡ Some seen.object → suc (length front) ≤ length files.numbers
+          deep [] directory l e =
+              let reached = is_reached_in files tree directory last seen.object e in
+              let below = depth_below files tree listed reached.0 directory reached.1 in
+              omega arith
+          deep (first ∷ rest) directory l e =
+              let reached = depth_of_led files.tree tree start (first ∷ rest) directory (not_empty first rest) l
+              (has_entries files.tree directory last seen.object e) in
+              let below = depth_below files tree listed (reached.0 + length (first ∷ rest)) directory reached.2 in
+              omega arith
+
+          at : (o : Option ℕ) → led files.tree start front ≡ o
+              → option_and_then (λ directory. entry_at files.tree directory last) o ≡ Some seen.object
+              → length (name ∷ path) ≤ inode_count world
+          at None l e = none_is_some seen.object e
+          at (Some directory) l e = let h = deep front directory l e in omega arith
+
+  -- the top layer's directory is shown as the root
+  pub root_shown : (top : Shown ℕ) × (shown layers [] ≡ Some top)
+  root_shown = by (shown_layers overlay) are_layers.0 are_layers.1
+    where
+      by : (list : List (Layer ℕ)) → list ≢ [] → list_all (is_plain_layer nat_eq world) list ≡ true
+          → (top : Shown ℕ) × (shown (map (open_layer nat_eq world) list) [] ≡ Some top)
+      by [] n all = absurd (n refl)
+      by (layer ∷ list) n all =
+          let directory = and_true_right (not (is_overlay (filesystem_numbered nat_eq world layer.filesystem))) _
+          (and_true_left (is_plain_layer nat_eq world layer) _ all) in (
+            record { layer = 0; object = layer.directory },
+            ap (λ b. when (not b) (record { layer = 0; object = layer.directory }))
+                (directory_no_whiteout
+                ((filesystem_numbered nat_eq world layer.filesystem).files.tree.node layer.directory) directory),
+          )
+
+  -- the inode behind a real object, by the layers that are shown, is the one that the overlay finds
+  in_lower : (layer : ℕ) (path : List (List ℕ))
+      → then_some (slice_get (map (open_layer nat_eq world) overlay.lowers) layer) (λ lower. node_at_path lower path)
+      ≡ then_some (slice_get overlay.lowers layer) (λ lower. node_at_path (open_layer nat_eq world lower) path)
+  in_lower layer path = grind (arith, common_steps, slice_get-map (open_layer nat_eq world) overlay.lowers layer)
+
+  behind_is_real : (real : Option (Real ℕ))
+      → then_some real (behind layers (is_some overlay.upper)) ≡ then_some real (real_node nat_eq world overlay)
+  behind_is_real None = refl
+  behind_is_real (Some real) = grind (arith, common_steps, in_lower)
+
+  module _ (fresh : Fresh ℕ) (distinct : (j k : ℕ) → fresh j ≡ fresh k → j ≡ k) where
+    abbrev pub made : Overlay ℕ
+    made = record overlay {
+      real = real_of nat_eq
+          (merged_inodes nat_eq (odds fresh) (is_some overlay.upper) layers
+          (merged_objects layers (inode_count world)));
+    }
+
+    pub made_merged : IsMerged nat_eq world (overlay_filesystem nat_eq fresh world overlay) made
+    made_merged = record {
+      shows = shows_layers layers are_open (inode_count world) bounded (odds fresh) (odds-distinct fresh distinct)
+          (is_some overlay.upper) root_shown.0 root_shown.1;
+      names = real_shown_there layers are_open (inode_count world) bounded (odds fresh) (odds-distinct fresh distinct)
+          (is_some overlay.upper) root_shown.0 root_shown.1;
+      real_objects = λ number.
+          subst (SameObject ((overlay_filesystem nat_eq fresh world overlay).files.tree.node number))
+          (behind_is_real (made.real number))
+          (merged_is_real layers are_open (inode_count world) bounded (odds fresh) (odds-distinct fresh distinct)
+          (is_some overlay.upper) number);
+      real_there = λ number none. merged_real_there layers are_open (inode_count world) bounded
+          (odds fresh) (odds-distinct fresh distinct) (is_some overlay.upper) number none;
+      no_whiteout = merged_no_whiteout layers are_open (inode_count world) bounded (odds fresh)
+          (odds-distinct fresh distinct)
+          (is_some overlay.upper);
+      no_mark = merged_no_mark layers are_open (inode_count world) bounded (odds fresh) (odds-distinct fresh distinct)
+          (is_some overlay.upper);
+      upper_there = λ number object e.
+          let up = merged_upper layers are_open (inode_count world) bounded (odds fresh) (odds-distinct fresh distinct)
+          (is_some overlay.upper) number object e in
+          by object overlay.upper up.0 (λ layer f. up.1 layer f);
+      one_to_one = merged_one_to_one layers are_open (inode_count world) bounded (odds fresh)
+          (odds-distinct fresh distinct)
+          (is_some overlay.upper);
+    }
+      where
+        by : (object : ℕ) (o : Option (Layer ℕ)) → is_some o ≡ true
+            → ((layer : OpenLayer ℕ) → slice_get (map (open_layer nat_eq world) (option_to_list o ++ overlay.lowers)) 0
+            ≡ Some layer → is_some (layer.tree.node object) ≡ true)
+            → holds_of (λ layer. is_there nat_eq world layer.filesystem object) o ≡ true
+        by object None h there = absurd (true≢false (sym h))
+        by object (Some layer) h there = there (open_layer nat_eq world layer) refl
+
+pub new_overlay_is_merged : (fresh : Fresh ℕ) (world : World ℕ) (overlay made : Overlay ℕ)
+    → IsWorld nat_eq world → AreLayers world overlay → ((j k : ℕ) → fresh j ≡ fresh k → j ≡ k)
+    → (overlay_filesystem nat_eq fresh world overlay).overlay ≡ Some made
+    → IsMerged nat_eq world (overlay_filesystem nat_eq fresh world overlay) made
+new_overlay_is_merged fresh world overlay made conditions are_layers distinct e =
+    subst (IsMerged nat_eq world (overlay_filesystem nat_eq fresh world overlay)) (same_Some _ made e)
+    (made_merged world conditions overlay are_layers fresh distinct)
+
+-- what is the same as a third is the same
+bytes_alike : (a b c : List ℕ) → bytes_eq a c ≡ true → bytes_eq b c ≡ true → bytes_eq a b ≡ true
+bytes_alike a b c e f = (bytes_decides a b).1 ((bytes_decides a c).0 e ∙ sym ((bytes_decides b c).0 f))
+
+content_alike : (a b c : Content ℕ) → same_content a c ≡ true → same_content b c ≡ true → same_content a b ≡ true
+content_alike (Directory p q r) (Directory s t u) c e f = refl
+content_alike (Directory p q r) (Regular y) (Directory s t u) e f = absurd (true≢false (sym f))
+content_alike (Directory p q r) (Regular y) (Regular z) e f = absurd (true≢false (sym e))
+content_alike (Directory p q r) (Regular y) (Symlink z) e f = absurd (true≢false (sym e))
+content_alike (Directory p q r) (Regular y) Whiteout e f = absurd (true≢false (sym e))
+content_alike (Directory p q r) (Symlink y) (Directory s t u) e f = absurd (true≢false (sym f))
+content_alike (Directory p q r) (Symlink y) (Regular z) e f = absurd (true≢false (sym e))
+content_alike (Directory p q r) (Symlink y) (Symlink z) e f = absurd (true≢false (sym e))
+content_alike (Directory p q r) (Symlink y) Whiteout e f = absurd (true≢false (sym e))
+content_alike (Directory p q r) Whiteout c e f = absurd (true≢false (sym f))
+content_alike (Regular x) (Directory s t u) (Directory v w o) e f = absurd (true≢false (sym e))
+content_alike (Regular x) (Directory s t u) (Regular z) e f = absurd (true≢false (sym f))
+content_alike (Regular x) (Directory s t u) (Symlink z) e f = absurd (true≢false (sym e))
+content_alike (Regular x) (Directory s t u) Whiteout e f = absurd (true≢false (sym e))
+content_alike (Regular x) (Regular y) (Directory s t u) e f = absurd (true≢false (sym e))
+content_alike (Regular x) (Regular y) (Regular z) e f = bytes_alike x y z e f
+content_alike (Regular x) (Regular y) (Symlink z) e f = absurd (true≢false (sym e))
+content_alike (Regular x) (Regular y) Whiteout e f = absurd (true≢false (sym e))
+content_alike (Regular x) (Symlink y) (Directory s t u) e f = absurd (true≢false (sym e))
+content_alike (Regular x) (Symlink y) (Regular z) e f = absurd (true≢false (sym f))
+content_alike (Regular x) (Symlink y) (Symlink z) e f = absurd (true≢false (sym e))
+content_alike (Regular x) (Symlink y) Whiteout e f = absurd (true≢false (sym e))
+content_alike (Regular x) Whiteout c e f = absurd (true≢false (sym f))
+content_alike (Symlink x) (Directory s t u) (Directory v w o) e f = absurd (true≢false (sym e))
+content_alike (Symlink x) (Directory s t u) (Regular z) e f = absurd (true≢false (sym e))
+content_alike (Symlink x) (Directory s t u) (Symlink z) e f = absurd (true≢false (sym f))
+content_alike (Symlink x) (Directory s t u) Whiteout e f = absurd (true≢false (sym e))
+content_alike (Symlink x) (Regular y) (Directory s t u) e f = absurd (true≢false (sym e))
+content_alike (Symlink x) (Regular y) (Regular z) e f = absurd (true≢false (sym e))
+content_alike (Symlink x) (Regular y) (Symlink z) e f = absurd (true≢false (sym f))
+content_alike (Symlink x) (Regular y) Whiteout e f = absurd (true≢false (sym e))
+content_alike (Symlink x) (Symlink y) (Directory s t u) e f = absurd (true≢false (sym e))
+content_alike (Symlink x) (Symlink y) (Regular z) e f = absurd (true≢false (sym e))
+content_alike (Symlink x) (Symlink y) (Symlink z) e f = bytes_alike x y z e f
+content_alike (Symlink x) (Symlink y) Whiteout e f = absurd (true≢false (sym e))
+content_alike (Symlink x) Whiteout c e f = absurd (true≢false (sym f))
+content_alike Whiteout b c e f = absurd (true≢false (sym e))
+
+objects_alike : (a b c : Option (Node ℕ)) → SameObject a c → SameObject b c → SameObject a b
+objects_alike None None c e f = tt
+objects_alike None (Some y) None e f = absurd f
+objects_alike None (Some y) (Some z) e f = absurd e
+objects_alike (Some x) None None e f = absurd e
+objects_alike (Some x) None (Some z) e f = absurd f
+objects_alike (Some x) (Some y) None e f = absurd e
+objects_alike (Some x) (Some y) (Some z) e f = (e.0 ∙ sym f.0, content_alike x.content y.content z.content e.1 f.1)
+
+pub remount_shows_the_same : RemountShowsTheSame
+remount_shows_the_same fresh before later number left anew conditions is later_conditions are_layers distinct as_left
+    path =
+    let alike : SameObject (node_shown nat_eq before left path) (node_shown nat_eq later anew path) =
+    shown_alike (map (open_layer nat_eq before) (shown_layers left))
+    (map (open_layer nat_eq later) (shown_layers anew)) as_left
+    (are_open before conditions left (overlay_layers before conditions number left is))
+    (are_open later later_conditions anew are_layers) path in
+    let anew_shows = (made_merged later later_conditions anew are_layers fresh distinct).shows path in
+    objects_alike _ _ (node_shown nat_eq before left path)
+    (objects_alike _ _ (node_shown nat_eq later anew path) anew_shows alike)
+    ((conditions.overlays.overlays_merge number left is).shows path)

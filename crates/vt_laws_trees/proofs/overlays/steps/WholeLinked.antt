@@ -1,0 +1,217 @@
+-- An object of the upper layer is put under a further name: the tree is still what the layers show.
+use Rattle.std.proofs.Common.{◌≡◌, refl, sym, ap, subst, ◌∙◌, true≢false, ℕ, nat_eq, Bool, true, false, not, cond, ◌||◌, List, [], ◌∷◌, ◌++◌, map, Option, Some, None, is_some, option_and_then}
+use Rattle.vt_spec.specs.declared.attributes.Kind.TheVariants.{White}
+use Rattle.vt_spec.specs.FileTree.{FileTree, is_kind, is_kind_in, opaque_of}
+use Rattle.vt_spec.specs.Language.Changes.{changed}
+use Rattle.vt_spec.specs.Language.Changes.Change.{AddName}
+use Rattle.vt_spec.specs.Lists.{then_some, when}
+use Rattle.vt_spec.specs.Machine.CopyUp.{Merge, Stack, merge_with_link, upper_of}
+use Rattle.vt_spec.specs.Machine.Layers.{shown, view_of}
+use Rattle.vt_spec.specs.Machine.Views.{View, hides, node_led, shown_from}
+use Rattle.vt_spec.specs.Machine.World.Real.{Upper}
+use Rattle.vt_spec.specs.Machine.Invariants.{SameObject, number_at_path, same_content}
+use Rattle.vt_spec.specs.Tree.{Content, Node, is_directory_node, kind_of}
+use Rattle.vt_spec.specs.Tree.Content.{Directory, Regular, Symlink, Whiteout}
+use Rattle.vt_spec.specs.TreeInvariant.{IsDirectory, IsTree, entry_at, led}
+use Rattle.vt_spec.proofs.Trees.{led-append}
+use Rattle.vt_laws_trees.specs.Trees.{MayAddName}
+use Rattle.vt_laws_trees.specs.Layers.Layers.ChangesUpper.{StandsInUpper}
+use Rattle.vt_laws_trees.specs.Layers.Layers.Mounted.{IsAlike}
+use Rattle.vt_laws_trees.specs.Layers.Layers.Views.{TakesName, goes_through, names_entry, view_in}
+use Rattle.vt_laws_trees.specs.Overlays.WhatIsShown.{IsWhole, LinkKeepsShown, layers_under, real_seen}
+use Rattle.vt_laws_trees.proofs.layers.layers.ShownFronts.{prefix_found, prefix_passes}
+use Rattle.vt_laws_trees.proofs.layers.layers.ShownNames.{last_name}
+use Rattle.vt_laws_trees.proofs.layers.views.After.{link_is_shown, on_top, shown_elsewhere_stays}
+use Rattle.vt_laws_trees.proofs.layers.views.Fronts.{hides_so, hiding_alike}
+use Rattle.vt_laws_trees.proofs.layers.views.Names.{add_name_adds_path, add_name_is_seen, names_leave_inodes, no_entries}
+use Rattle.vt_laws_trees.proofs.overlays.steps.WholeAttributes.{top_open, upper_real}
+use Rattle.vt_laws_trees.proofs.overlays.steps.WholeMade.{white_bare}
+use Rattle.vt_laws_trees.proofs.overlays.steps.WholeNames.{cut_shows_none, directory_above, is_fine, named_above, object_above, same_entry, same_through, through_bare, through_free}
+use Rattle.vt_laws_trees.proofs.overlays.steps.WholeParts.{IsFine, real_by, real_by_none, what_is_shown}
+use Rattle.vt_laws_trees.proofs.overlays.steps.WholeStill.{rearranged_is_fine}
+use Rattle.vt_spec.proofs.Options.{none_is_some}
+
+-- what is the same object as another is no whiteout
+pub no_white_object : (a b : Option (Node ℕ)) → SameObject a b → is_kind_in White b ≡ false
+no_white_object None None s = refl
+no_white_object None (Some b) s = absurd s
+no_white_object (Some a) None s = absurd s
+no_white_object (Some a) (Some b) s = by a.content b.content s.1
+  where
+    by : (x y : Content ℕ) → same_content x y ≡ true → is_kind White (kind_of y) ≡ false
+    by x (Directory p n o) e = refl
+    by x (Regular t) e = refl
+    by x (Symlink t) e = refl
+    by (Directory p n o) Whiteout e = absurd (true≢false (sym e))
+    by (Regular t) Whiteout e = absurd (true≢false (sym e))
+    by (Symlink t) Whiteout e = absurd (true≢false (sym e))
+    by Whiteout Whiteout e = absurd (true≢false (sym e))
+
+-- what is there and is no directory hides what is below
+pub file_hides : (o : Option (Node ℕ)) → is_some o ≡ true → is_directory_node o ≡ false → hides o ≡ true
+file_hides None t d = absurd (true≢false (sym t))
+file_hides (Some node) t d = ap (λ b. not b || opaque_of node.content) d
+
+module _ (stack : Stack ℕ) (merge : Merge ℕ) (whole : IsWhole stack merge) (d : ℕ) (w : List ℕ) (object : ℕ)
+    (stands : StandsInUpper merge d) (own : StandsInUpper merge object)
+    (may : MayAddName merge.files.tree d w object) where
+  abbrev ud : ℕ
+  ud = upper_of merge d
+
+  abbrev uo : ℕ
+  uo = upper_of merge object
+
+  abbrev lowers : List (View ℕ)
+  lowers = map view_of stack.lowers
+
+  abbrev before : View ℕ
+  before = view_in merge.upper stack.directory
+
+  abbrev files : FileTree ℕ
+  files = changed nat_eq merge.files (AddName d w object)
+
+  abbrev upper : FileTree ℕ
+  upper = changed nat_eq merge.upper (AddName ud w uo)
+
+  abbrev after : View ℕ
+  after = view_in upper stack.directory
+
+  abbrev later : Merge ℕ
+  later = record merge { files = files; upper = upper }
+
+  fine_before : IsFine stack merge
+  fine_before = is_fine stack merge whole
+
+  top_tree : IsTree merge.upper.tree
+  top_tree = (top_open stack merge whole).0
+
+  top_directory : IsDirectory merge.upper.tree stack.directory
+  top_directory = (top_open stack merge whole).1
+
+  real_d : merge.real d ≡ Some (Upper ud)
+  real_d = upper_real merge d stands
+
+  real_object : merge.real object ≡ Some (Upper uo)
+  real_object = upper_real merge object own
+
+  ud_directory : is_directory_node (merge.upper.tree.node ud) ≡ true
+  ud_directory = directory_above stack merge whole d ud real_d ∙ may.name_is_free.in_directory
+
+  uo_file : is_directory_node (merge.upper.tree.node uo) ≡ false
+  uo_file = directory_above stack merge whole object uo real_object ∙ may.no_directory
+
+  uo_not_white : is_kind_in White (merge.upper.tree.node uo) ≡ false
+  uo_not_white = no_white_object (merge.files.tree.node object) (merge.upper.tree.node uo)
+      (object_above stack merge whole object uo real_object)
+
+  abbrev way : List (List ℕ)
+  way = may.name_is_free.reached.0
+
+  nothing_here : number_at_path merge.files (way ++ w ∷ []) ≡ None
+  nothing_here =
+      last_name merge.files.tree merge.files.tree.root way w
+      ∙ ap (option_and_then (λ x. entry_at merge.files.tree x w)) may.name_is_free.reached.1 ∙ may.name_is_free.free
+
+  whiteout_there : (r : ℕ) → entry_at merge.upper.tree ud w ≡ Some r → is_kind_in White (merge.upper.tree.node r) ≡ true
+  whiteout_there r e = by (is_kind_in White (merge.upper.tree.node r)) refl
+    where
+      by : (b : Bool) → is_kind_in White (merge.upper.tree.node r) ≡ b
+          → is_kind_in White (merge.upper.tree.node r) ≡ true
+      by true k = k
+      by false k =
+          none_is_some (Upper r) (sym (ap (λ o. then_some o merge.real) nothing_here)
+          ∙ fine_before.paths (way ++ w ∷ [])
+          ∙ ap (real_by (way ++ w ∷ []))
+          (on_top before lowers (way ++ w ∷ []) r false
+          (led-append merge.upper.tree stack.directory way w ud r
+          (named_above stack merge whole way d ud may.name_is_free.reached.1 real_d) e) k))
+
+  takes : TakesName merge.upper.tree ud w
+  takes = record {
+    in_directory = ud_directory;
+    bare = λ r e.
+        white_bare (merge.upper.tree.node r) (whiteout_there r e);
+  }
+
+  takes_here : TakesName merge.files.tree d w
+  takes_here = record {
+    in_directory = may.name_is_free.in_directory;
+    bare = λ r e.
+        none_is_some r (sym may.name_is_free.free ∙ e);
+  }
+
+  leads_none : (path : List (List ℕ)) → goes_through before ud w path ≡ true → names_entry before ud w path ≡ false
+      → led upper.tree stack.directory path ≡ None
+  leads_none path through other =
+      add_name_adds_path merge.upper stack.directory ud uo w takes uo_file path
+      ∙ ap (λ b. cond b (Some uo) (led merge.upper.tree stack.directory path)) other
+      ∙ by (entry_at merge.upper.tree ud w) refl
+    where
+      by : (o : Option ℕ) → entry_at merge.upper.tree ud w ≡ o → led merge.upper.tree stack.directory path ≡ None
+      by None e = through_free merge.upper stack.directory ud w e path through
+      by (Some r) e =
+          through_bare merge.upper stack.directory ud r w e
+          (no_entries merge.upper.tree r
+          (white_bare (merge.upper.tree.node r) (whiteout_there r e))) path through other
+
+  hides_here : (front : List (List ℕ)) → names_entry before ud w front ≡ true → hides (node_led after front) ≡ true
+  hides_here front e =
+      let alike = subst (λ x. IsAlike (cond x (merge.upper.tree.node uo) (node_led before front))
+      (node_led after front)) e
+      (add_name_is_seen merge.upper stack.directory ud uo w takes uo_file front) in
+      hiding_alike (merge.upper.tree.node uo) (node_led after front)
+      (hides_so (merge.upper.tree.node uo) (node_led after front) alike)
+      ∙ file_hides (merge.upper.tree.node uo) (fine_before.upper object uo real_object) uo_file
+
+  number_none : (path : List (List ℕ)) → goes_through before ud w path ≡ true → number_at_path merge.files path ≡ None
+  number_none path through =
+      through_free merge.files merge.files.tree.root d w may.name_is_free.free path
+      (same_through stack merge whole d ud real_d ud_directory w path ∙ through)
+
+  shown_same : (path : List (List ℕ)) → names_entry before ud w path ≡ false
+      → shown_from 0 (after ∷ lowers) path ≡ shown_from 0 (before ∷ lowers) path
+  shown_same path other = by (goes_through before ud w path) refl
+    where
+      by : (b : Bool) → goes_through before ud w path ≡ b
+          → shown_from 0 (after ∷ lowers) path ≡ shown_from 0 (before ∷ lowers) path
+      by true through =
+          let found = prefix_found (names_entry before ud w) path through in
+          cut_shows_none after lowers path (leads_none path through other)
+          (prefix_passes (λ front. hides (node_led after front)) path found.0 found.1.0 found.1.1 found.1.2
+          (hides_here found.0 found.2))
+          ∙ sym (real_by_none path (shown (layers_under stack merge) path)
+          (sym (fine_before.paths path) ∙ ap (λ o. then_some o merge.real) (number_none path through)))
+      by false elsewhere = shown_elsewhere_stays merge.upper
+          (AddName ud w uo) stack.directory lowers top_tree top_directory (takes, uo_file) path elsewhere
+
+  paths_later : (path : List (List ℕ)) → then_some (number_at_path files path) merge.real ≡ real_seen stack later path
+  paths_later path = by (names_entry before ud w path) refl
+    where
+      goes : (b : Bool) → names_entry before ud w path ≡ b
+          → number_at_path files path ≡ cond b (Some object) (number_at_path merge.files path)
+      goes b e =
+          add_name_adds_path merge.files merge.files.tree.root d object w takes_here may.no_directory path
+          ∙ ap (λ x. cond x (Some object) (number_at_path merge.files path))
+          (same_entry stack merge whole d ud real_d ud_directory w path ∙ e)
+
+      by : (b : Bool) → names_entry before ud w path ≡ b
+          → then_some (number_at_path files path) merge.real ≡ real_seen stack later path
+      by true e =
+          ap (λ o. then_some o merge.real) (goes true e) ∙ real_object
+          ∙ sym (ap (real_by path)
+          (link_is_shown merge.upper stack.directory ud uo w lowers takes uo_file path e
+          ∙ ap (λ b. when (not b) (record { layer = 0; object = uo })) uo_not_white))
+      by false e =
+          ap (λ o. then_some o merge.real) (goes false e) ∙ fine_before.paths path
+          ∙ sym (ap (real_by path) (shown_same path e))
+
+  pub later_is_fine : IsFine stack later
+  later_is_fine =
+      rearranged_is_fine stack merge fine_before files upper
+      (λ n. names_leave_inodes merge.files (AddName d w object) merge.files.tree.root n refl)
+      (λ n u r. names_leave_inodes merge.upper (AddName ud w uo) stack.directory u refl) paths_later
+
+pub link_keeps_shown : LinkKeepsShown
+link_keeps_shown stack merge d w object whole stands own may =
+    what_is_shown stack (merge_with_link nat_eq merge d w object)
+    (later_is_fine stack merge whole d w object stands own may)

@@ -1,0 +1,232 @@
+-- Where names lead in the tree of an overlay and in its upper layer.
+use Rattle.std.proofs.Common.{◌≡◌, refl, sym, ap, subst, ◌∙◌, true≢false, eqb-true, eq-eqb, ℕ, zero, suc, nat_eq, Bool, true, false, not, ◌&&◌, List, [], ◌∷◌, ◌++◌, map, Option, Some, None, is_some, option_and_then, slice_get}
+use Rattle.std.specs.Str.{bytes_eq}
+use Rattle.vt_spec.specs.declared.attributes.Kind.TheVariants.{White}
+use Rattle.vt_spec.specs.FileTree.{FileTree, is_kind_in}
+use Rattle.vt_spec.specs.Lists.{without_last, is_empty_list, last_or, same_option, then_some, when}
+use Rattle.vt_spec.specs.Machine.CopyUp.{Merge, Stack}
+use Rattle.vt_spec.specs.Machine.Layers.{OpenLayer, Shown, at_path, shown, view_of}
+use Rattle.vt_spec.specs.Machine.Merging.{real_object}
+use Rattle.vt_spec.specs.Machine.Views.{View, cuts, shown_from, shown_over}
+use Rattle.vt_spec.specs.Machine.World.{upper_object}
+use Rattle.vt_spec.specs.Machine.World.Real.{Upper}
+use Rattle.vt_spec.specs.Machine.Invariants.{ListsNumbers, SameObject, number_at_path}
+use Rattle.vt_spec.specs.Tree.{is_directory_node}
+use Rattle.vt_spec.specs.TreeInvariant.{IsDirectory, IsReached, IsTree, entry_at, led}
+use Rattle.vt_laws_trees.specs.Layers.Layers.Shown.{IsShown}
+use Rattle.vt_laws_trees.specs.Layers.Layers.Views.{goes_through, names_entry, view_in}
+use Rattle.vt_laws_trees.specs.Overlays.WhatIsShown.{IsWhole, inode_behind, layers_under}
+use Rattle.vt_laws_trees.proofs.layers.layers.ShownAtPath.{computed}
+use Rattle.vt_laws_trees.proofs.layers.layers.ShownPaths.{last_of_longer}
+use Rattle.vt_laws_trees.proofs.layers.layers.UpperFit.{same_directory}
+use Rattle.vt_laws_trees.proofs.layers.layers.UpperShown.{without_last_of_longer}
+use Rattle.vt_laws_trees.proofs.layers.views.After.{on_top}
+use Rattle.vt_laws_trees.proofs.layers.layers.ShownNames.{last_name}
+use Rattle.vt_laws_trees.proofs.layers.views.Lower.{is_named}
+use Rattle.vt_laws_trees.proofs.layers.views.Fronts.{prefixes_agree}
+use Rattle.vt_laws_trees.proofs.layers.views.Moves.{led_parts, through_is_split}
+use Rattle.vt_laws_trees.proofs.overlays.whole.UpperGoes.{IsGood}
+use Rattle.vt_laws_trees.proofs.overlays.steps.WholeAttributes.{top_open}
+use Rattle.vt_laws_trees.proofs.overlays.steps.WholeParts.{IsFine, fine, real_by, what_is_shown}
+use Rattle.std.proofs.lemmas.Option.{same_Some}
+use Rattle.vt_spec.proofs.NodeChanges.{directory_no_whiteout}
+use Rattle.vt_spec.proofs.Options.{none_is_some}
+use Rattle.vt_spec.proofs.Truths.{bytes_eq_itself}
+
+pub same_is : (o : Option ℕ) (n : ℕ) → same_option nat_eq o (Some n) ≡ true → o ≡ Some n
+same_is None n e = absurd (true≢false (sym e))
+same_is (Some m) n e = ap Some (eqb-true m n e)
+
+pub same_holds : (o : Option ℕ) (n : ℕ) → o ≡ Some n → same_option nat_eq o (Some n) ≡ true
+same_holds o n e = ap (λ p. same_option nat_eq p (Some n)) e ∙ eq-eqb n n refl
+
+-- the path of an entry names it
+pub entry_named_so : (files : FileTree ℕ) (top directory : ℕ) (name : List ℕ) (way : List (List ℕ))
+    → led files.tree top way ≡ Some directory
+    → names_entry (view_in files top) directory name (way ++ name ∷ []) ≡ true
+entry_named_so files top directory name way e =
+    ap (λ b. not b && (same_option nat_eq (led files.tree top (without_last (way ++ name ∷ []))) (Some directory)
+    && bytes_eq (last_or [] (way ++ name ∷ [])) name)) (longer way)
+    ∙ ap (λ b. b && bytes_eq (last_or [] (way ++ name ∷ [])) name)
+    (ap (λ p. same_option nat_eq (led files.tree top p) (Some directory)) (without_last_of_longer way name)
+    ∙ same_holds (led files.tree top way) directory e)
+    ∙ ap (λ w. bytes_eq w name) (last_of_longer way name []) ∙ bytes_eq_itself name
+  where
+    longer : (way : List (List ℕ)) → is_empty_list (way ++ name ∷ []) ≡ false
+    longer [] = refl
+    longer (word ∷ way) = refl
+
+-- and leads where the entry does
+pub named_led : (files : FileTree ℕ) (top directory : ℕ) (name : List ℕ) (path : List (List ℕ))
+    → names_entry (view_in files top) directory name path ≡ true
+    → led files.tree top path ≡ entry_at files.tree directory name
+named_led files top directory name path e =
+    let named = is_named files top directory name path e in
+    ap (led files.tree top) (sym named.1) ∙ last_name files.tree top named.0 name
+    ∙ ap (option_and_then (λ d. entry_at files.tree d name)) named.2
+
+-- a path through a name that is free leads nowhere
+pub through_free : (files : FileTree ℕ) (top directory : ℕ) (name : List ℕ) → entry_at files.tree directory name ≡ None
+    → (path : List (List ℕ))
+    → goes_through (view_in files top) directory name path ≡ true → led files.tree top path ≡ None
+through_free files top directory name free path through =
+    let parts = through_is_split files top directory name path through in
+    ap (led files.tree top) (sym parts.2) ∙ led_parts files.tree parts.0 (name ∷ parts.1) top directory parts.3
+    ∙ ap (option_and_then (λ next. led files.tree next parts.1)) free
+
+-- and one through what has no names in it too, but for its own path
+pub through_bare : (files : FileTree ℕ) (top directory object : ℕ) (name : List ℕ)
+    → entry_at files.tree directory name ≡ Some object
+    → ((word : List ℕ) → entry_at files.tree object word ≡ None) → (path : List (List ℕ))
+    → goes_through (view_in files top) directory name path ≡ true
+    → names_entry (view_in files top) directory name path ≡ false
+    → led files.tree top path ≡ None
+through_bare files top directory object name e bare path through other =
+    let parts = through_is_split files top directory name path through in
+    ap (led files.tree top) (sym parts.2) ∙ led_parts files.tree parts.0 (name ∷ parts.1) top directory parts.3
+    ∙ ap (option_and_then (λ next. led files.tree next parts.1)) e ∙ by parts.0 parts.1 parts.2 parts.3
+  where
+    by : (way rest : List (List ℕ)) → way ++ name ∷ rest ≡ path → led files.tree top way ≡ Some directory
+        → led files.tree object rest ≡ None
+    by way [] is l =
+        absurd (true≢false (sym (entry_named_so files top directory name way l)
+        ∙ ap (names_entry (view_in files top) directory name) is ∙ other))
+    by way (word ∷ rest) is l = ap (option_and_then (λ next. led files.tree next rest)) (bare word)
+
+-- Views that differ in what they lead to and hide at other paths
+pub over_same : (one other : View ℕ) (lowers : List (View ℕ)) (path : List (List ℕ)) → other.leads path ≡ one.leads path
+    → ((object : ℕ) → one.leads path ≡ Some object
+    → is_kind_in White (other.node object) ≡ is_kind_in White (one.node object))
+    → cuts other path ≡ cuts one path → shown_from 0 (other ∷ lowers) path ≡ shown_from 0 (one ∷ lowers) path
+over_same one other lowers path leads white cut =
+    ap (λ b. shown_over other 0 (other.leads path) b (shown_from 1 lowers path)) cut
+    ∙ ap (λ o. shown_over other 0 o (cuts one path) (shown_from 1 lowers path)) leads
+    ∙ by (one.leads path) refl (cuts one path)
+  where
+    by : (o : Option ℕ) → one.leads path ≡ o → (b : Bool)
+        → shown_over other 0 o b (shown_from 1 lowers path) ≡ shown_over one 0 o b (shown_from 1 lowers path)
+    by None e true = refl
+    by None e false = refl
+    by (Some object) e b = ap (λ w. when (not w) (record { layer = 0; object = object })) (white object e)
+
+pub cut_shows_none : (view : View ℕ) (lowers : List (View ℕ)) (path : List (List ℕ)) → view.leads path ≡ None
+    → cuts view path ≡ true → shown_from 0 (view ∷ lowers) path ≡ None
+cut_shows_none view lowers path leads cut =
+    ap (λ o. shown_over view 0 o (cuts view path) (shown_from 1 lowers path)) leads
+    ∙ ap (λ b. shown_over view 0 None b (shown_from 1 lowers path)) cut
+
+-- names lead to the upper layer's directory in its tree
+pub top_good : (stack : Stack ℕ) (merge : Merge ℕ) → IsWhole stack merge → IsGood stack.directory merge.upper
+top_good stack merge whole =
+    let top = top_open stack merge whole in record { tree = top.0; directory = top.1; reached = whole.reached }
+
+module _ (stack : Stack ℕ) (merge : Merge ℕ) (whole : IsWhole stack merge) where
+  pub is_fine : IsFine stack merge
+  is_fine = fine stack merge whole.layers whole.shown
+
+  abbrev layers : List (OpenLayer ℕ)
+  layers = layers_under stack merge
+
+  abbrev top : OpenLayer ℕ
+  top = record { tree = merge.upper.tree; directory = stack.directory }
+
+  -- what names lead to in the overlay they lead to in the upper layer, if it stands there
+  pub named_above : (path : List (List ℕ)) (number u : ℕ) → number_at_path merge.files path ≡ Some number
+      → merge.real number ≡ Some (Upper u)
+      → led merge.upper.tree stack.directory path ≡ Some u
+  named_above path number u e r =
+      by (shown layers path) refl (sym r ∙ sym (ap (λ o. then_some o merge.real) e) ∙ is_fine.paths path)
+    where
+      at : (layer object : ℕ) → IsShown layers path (record { layer = layer; object = object })
+          → Some (Upper u) ≡ Some (real_object true layer
+          (record { path = path; seen = record { layer = layer; object = object } }))
+          → led merge.upper.tree stack.directory path ≡ Some u
+      at zero object is q =
+          ap (λ l. at_path l path) (same_Some top is.has_uncut.0.0 is.has_uncut.0.1) ∙ is.has_uncut.0.2
+          ∙ ap Some (sym (same_Some u object (ap upper_object q)))
+      at (suc layer) object is q = none_is_some u (sym (ap upper_object q))
+
+      by : (o : Option (Shown ℕ)) → shown layers path ≡ o → Some (Upper u) ≡ real_by path o
+          → led merge.upper.tree stack.directory path ≡ Some u
+      by None e q = none_is_some (Upper u) (sym q)
+      by (Some seen) e q = at seen.layer seen.object ((computed layers path seen).0 e) q
+
+  -- and the other way, but for whiteouts
+  pub above_named : (path : List (List ℕ)) (u : ℕ) → led merge.upper.tree stack.directory path ≡ Some u
+      → is_kind_in White (merge.upper.tree.node u) ≡ false
+      → (number : ℕ) × (number_at_path merge.files path ≡ Some number) × (merge.real number ≡ Some (Upper u))
+  above_named path u e white =
+      by (number_at_path merge.files path) refl
+      (is_fine.paths path ∙ ap (real_by path)
+      (on_top (view_in merge.upper stack.directory) (map view_of stack.lowers) path u false e white))
+    where
+      by : (o : Option ℕ) → number_at_path merge.files path ≡ o → then_some o merge.real ≡ Some (Upper u)
+          → (number : ℕ) × (number_at_path merge.files path ≡ Some number) × (merge.real number ≡ Some (Upper u))
+      by None f q = none_is_some (Upper u) q
+      by (Some number) f q = (number, f, q)
+
+  pub object_above : (number u : ℕ) → merge.real number ≡ Some (Upper u)
+      → SameObject (merge.files.tree.node number) (merge.upper.tree.node u)
+  object_above number u r =
+      subst (λ o. SameObject (merge.files.tree.node number) (then_some o (inode_behind stack merge))) r
+      (is_fine.objects number)
+
+  pub directory_above : (number u : ℕ) → merge.real number ≡ Some (Upper u)
+      → is_directory_node (merge.upper.tree.node u) ≡ is_directory_node (merge.files.tree.node number)
+  directory_above number u r = same_directory (merge.files.tree.node number) (merge.upper.tree.node u)
+      (object_above number u r)
+
+  module _ (d ud : ℕ) (r : merge.real d ≡ Some (Upper ud))
+      (is_directory : is_directory_node (merge.upper.tree.node ud) ≡ true) where
+    pub same_place : (path : List (List ℕ))
+        → same_option nat_eq (number_at_path merge.files path) (Some d)
+        ≡ same_option nat_eq (led merge.upper.tree stack.directory path) (Some ud)
+    same_place path =
+        by (same_option nat_eq (number_at_path merge.files path) (Some d)) refl
+        (same_option nat_eq (led merge.upper.tree stack.directory path) (Some ud)) refl
+      where
+        back : led merge.upper.tree stack.directory path ≡ Some ud → number_at_path merge.files path ≡ Some d
+        back e =
+            let found = above_named path ud e (directory_no_whiteout (merge.upper.tree.node ud) is_directory) in
+            found.1 ∙ ap Some (is_fine.one found.0 d (ap is_some found.2) (found.2 ∙ sym r))
+
+        by : (a : Bool) → same_option nat_eq (number_at_path merge.files path) (Some d) ≡ a → (b : Bool)
+            → same_option nat_eq (led merge.upper.tree stack.directory path) (Some ud) ≡ b → a ≡ b
+        by true e true f = refl
+        by false e false f = refl
+        by true e false f = sym (same_holds _ ud (named_above path d ud (same_is _ d e) r)) ∙ f
+        by false e true f = sym e ∙ same_holds _ d (back (same_is _ ud f))
+
+    pub same_entry : (name : List ℕ) (path : List (List ℕ))
+        → names_entry (view_in merge.files merge.files.tree.root) d name path
+        ≡ names_entry (view_in merge.upper stack.directory) ud name path
+    same_entry name path = ap (λ b. not (is_empty_list path) && (b && bytes_eq (last_or [] path) name))
+        (same_place (without_last path))
+
+    pub same_through : (name : List ℕ) (path : List (List ℕ))
+        → goes_through (view_in merge.files merge.files.tree.root) d name path
+        ≡ goes_through (view_in merge.upper stack.directory) ud name path
+    same_through name path =
+        prefixes_agree (names_entry (view_in merge.upper stack.directory) ud name)
+        (names_entry (view_in merge.files merge.files.tree.root) d name) path
+        (λ front is. same_entry name front)
+
+-- an overlay that is fine is whole, where its trees are
+pub whole_again : (stack : Stack ℕ) (merge later : Merge ℕ) → IsWhole stack merge → IsTree later.files.tree
+    → ListsNumbers nat_eq later.files
+    → IsTree later.upper.tree → IsDirectory later.upper.tree stack.directory
+    → IsReached later.upper.tree stack.directory
+    → IsFine stack later → IsWhole stack later
+whole_again stack merge later whole tree numbers upper directory reached is = record {
+  tree = tree;
+  numbers = numbers;
+  layers = by;
+  reached = reached;
+  shown = what_is_shown stack later is;
+}
+  where
+    by : (depth : ℕ) (layer : OpenLayer ℕ) → slice_get (layers_under stack later) depth ≡ Some layer
+        → IsTree layer.tree × IsDirectory layer.tree layer.directory
+    by zero layer e = subst (λ l. IsTree l.tree × IsDirectory l.tree l.directory) (same_Some _ layer e)
+        (upper, directory)
+    by (suc depth) layer e = whole.layers (suc depth) layer e

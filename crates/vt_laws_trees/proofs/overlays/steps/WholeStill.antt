@@ -1,0 +1,45 @@
+-- An overlay in which all inodes and their real objects are as they were, but for names.
+use Rattle.std.proofs.Common.{◌≡◌, refl, ◌∙◌, ℕ, List, Option, Some, None}
+use Rattle.vt_spec.specs.FileTree.{FileTree}
+use Rattle.vt_spec.specs.Lists.{then_some}
+use Rattle.vt_spec.specs.Machine.CopyUp.{Merge, Stack}
+use Rattle.vt_spec.specs.Machine.World.{Real}
+use Rattle.vt_spec.specs.Machine.World.Real.{Lower, Upper}
+use Rattle.vt_spec.specs.Machine.Invariants.{SameObject, number_at_path}
+use Rattle.vt_laws_trees.specs.Layers.Layers.Mounted.{IsAlike}
+use Rattle.vt_laws_trees.specs.Overlays.WhatIsShown.{inode_behind, real_seen}
+use Rattle.vt_laws_trees.proofs.layers.layers.ShownAlike.{white_alike}
+use Rattle.vt_laws_trees.proofs.overlays.steps.WholeGrown.{alike_objects}
+use Rattle.vt_laws_trees.proofs.overlays.steps.WholeParts.{IsFine}
+use Rattle.vt_laws_trees.proofs.layers.views.Names.{make_seen}
+use Rattle.vt_spec.proofs.Options.{none_before}
+
+module _ (stack : Stack ℕ) (merge : Merge ℕ) (is_fine : IsFine stack merge) (files upper : FileTree ℕ)
+    (others : (n : ℕ) → IsAlike (merge.files.tree.node n) (files.tree.node n))
+    (above : (n u : ℕ) → merge.real n ≡ Some (Upper u) → IsAlike (merge.upper.tree.node u) (upper.tree.node u)) where
+  abbrev pub rearranged : Merge ℕ
+  rearranged = record merge { files = files; upper = upper }
+
+  object_same : (n : ℕ) (o : Option (Real ℕ)) → merge.real n ≡ o
+      → SameObject (merge.files.tree.node n) (then_some o (inode_behind stack merge))
+      → SameObject (files.tree.node n) (then_some o (inode_behind stack rearranged))
+  object_same n None r same = alike_objects (merge.files.tree.node n) None (files.tree.node n) None same (others n)
+      (make_seen None)
+  object_same n (Some (Upper u)) r same =
+      alike_objects (merge.files.tree.node n) (merge.upper.tree.node u) (files.tree.node n) (upper.tree.node u) same
+      (others n) (above n u r)
+  object_same n (Some (Lower layer path)) r same =
+      alike_objects (merge.files.tree.node n) (inode_behind stack merge (Lower layer path)) (files.tree.node n)
+      (inode_behind stack merge (Lower layer path)) same (others n) (make_seen _)
+
+  pub rearranged_is_fine : ((path : List (List ℕ))
+      → then_some (number_at_path files path) merge.real ≡ real_seen stack rearranged path) → IsFine stack rearranged
+  rearranged_is_fine paths = record {
+    paths = paths;
+    objects = λ n. object_same n (merge.real n) refl (is_fine.objects n);
+    there = λ n none. is_fine.there n (none_before (merge.files.tree.node n) (files.tree.node n) (others n).there none);
+    whiteout = λ n. white_alike (merge.files.tree.node n) (files.tree.node n) (others n) ∙ is_fine.whiteout n;
+    mark = λ n. (others n).mark ∙ is_fine.mark n;
+    upper = λ n u r. (above n u r).there ∙ is_fine.upper n u r;
+    one = is_fine.one;
+  }

@@ -1,0 +1,72 @@
+-- A grammar without the mount of an overlay asks for none.
+use Rattle.std.proofs.Common.{◌≡◌, ◌∙◌, refl, ℕ, Bool, true, false, cond, List, [], ◌∷◌, Option, Some, None, option_map, arith}
+use Rattle.std.proofs.lemmas.List.Elements.{All-cons}
+use Rattle.vt_laws_trees.specs.Runs.Runs.{GrammarsKeepOverlaysOut}
+use Rattle.vt_spec.specs.Language.Calls.Call.{MountOverlay}
+use Rattle.vt_spec.specs.Language.Calls.{Call, Directive, OverlayWords, TaskName}
+use Rattle.vt_spec.specs.Language.Script.{Grammar, Who, asked_by, call_asked, call_read, call_words, directive_asked, directive_words, each_of, raw_tokens, request_of, request_of_texts, token_text, who_of}
+use Rattle.vt_spec.specs.Language.Script.Request.{Asking, Calling}
+use Rattle.vt_spec.specs.Language.Script.Who.{Nobody, Someone}
+use Rattle.vt_spec.specs.Lists.{then_some, when}
+use Rattle.vt_laws_trees.specs.Trees.Calls.{HasNoOverlays, asks_for_overlay, mounts_overlay}
+
+-- what is read of a call's options makes no mount of an overlay of it
+read_plain : (known : OverlayWords → Bool) (call : Call) → mounts_overlay (call_read known call) ≡ mounts_overlay call
+read_plain known (MountOverlay path options flags) = refl
+read_plain known call = refl
+
+module _ (grammar : Grammar) (out : (call : Call) → grammar.has call ≡ true → mounts_overlay call ≡ false) where
+  call_plain : (task : TaskName) (words : Option Call)
+      → asks_for_overlay (option_map (Calling task) (then_some words
+      (λ call. when (grammar.has call) (call_read grammar.options call)))) ≡ false
+  call_plain task None = refl
+  call_plain task (Some call) = by (grammar.has call) refl
+    where
+      by : (there : Bool) → grammar.has call ≡ there
+          → asks_for_overlay (option_map (Calling task) (when there (call_read grammar.options call))) ≡ false
+      by true is = read_plain grammar.options call ∙ out call is
+      by false is = refl
+
+  calls_plain : (task : TaskName) (words : List (List ℕ)) → asks_for_overlay (call_asked grammar task words) ≡ false
+  calls_plain task [] = refl
+  calls_plain task (name ∷ words) = by (grammar.knows name)
+    where
+      by : (known : Bool)
+          → asks_for_overlay (cond known (option_map (Calling task)
+          (then_some (call_words grammar.version name words)
+          (λ call. when (grammar.has call) (call_read grammar.options call)))) None) ≡ false
+      by true = call_plain task (call_words grammar.version name words)
+      by false = refl
+
+  directive_plain : (words : List (List ℕ)) → asks_for_overlay (directive_asked grammar words) ≡ false
+  directive_plain [] = refl
+  directive_plain (name ∷ words) = by (grammar.directs name) (directive_words name words)
+    where
+      by : (known : Bool) (directive : Option Directive)
+          → asks_for_overlay (cond known (option_map Asking directive) None) ≡ false
+      by true None = refl
+      by true (Some directive) = refl
+      by false directive = refl
+
+  asked_plain : (who : Option Who) (words : List (List ℕ)) → asks_for_overlay (asked_by grammar who words) ≡ false
+  asked_plain None words = refl
+  asked_plain (Some (Someone task)) words = calls_plain task words
+  asked_plain (Some Nobody) words = directive_plain words
+
+  texts_plain : (texts : Option (List (List ℕ))) → asks_for_overlay (then_some texts (request_of_texts grammar)) ≡ false
+  texts_plain None = refl
+  texts_plain (Some []) = refl
+  texts_plain (Some (first ∷ words)) = asked_plain (who_of first) words
+
+  line_plain : (line : List ℕ) → asks_for_overlay (request_of grammar line) ≡ false
+  unfolding request_of
+  line_plain line = texts_plain (each_of token_text (raw_tokens line))
+
+  lines_plain : (lines : List (List ℕ)) → HasNoOverlays grammar lines
+  lines_plain [] = λ k d below. absurd (omega arith)
+  lines_plain (line ∷ lines) =
+      All-cons (λ line. asks_for_overlay (request_of grammar line) ≡ false) line lines (line_plain line)
+      (lines_plain lines)
+
+pub grammars_keep_overlays_out : GrammarsKeepOverlaysOut
+grammars_keep_overlays_out grammar out lines = lines_plain grammar out lines

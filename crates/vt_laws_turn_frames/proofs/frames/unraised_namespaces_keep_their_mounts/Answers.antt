@@ -1,9 +1,0 @@
-use Rattle.vt_laws_turn_frames.proofs.frames.PivotsRaise.{other_tasks_of_unraised_namespaces_stay}
-use Rattle.vt_laws_turn_frames.proofs.frames.Unraised.{unraised_namespaces_keep_mounts}
-use Rattle.vt_laws_turn_frames.proofs.frames.unraised_namespaces_keep_their_mounts.Goals as goal
-
-pub returns-clause-mounts : goal.returns-clause-mounts
-returns-clause-mounts c = unraised_namespaces_keep_mounts
-
-pub returns-clause-tasks : goal.returns-clause-tasks
-returns-clause-tasks c = other_tasks_of_unraised_namespaces_stay

@@ -1,9 +1,0 @@
-use Rattle.vt_laws_turn_walks.proofs.alike.InTurn.{first_words_lead_alike_in_turn}
-use Rattle.vt_laws_turn_walks.proofs.alike.WalkersAlike.{first_words_lead_alike}
-use Rattle.vt_laws_turn_walks.proofs.alike.half_done_walks_stand_where_they_stood.Goals as goal
-
-pub returns-clause-worlds : goal.returns-clause-worlds
-returns-clause-worlds c = first_words_lead_alike
-
-pub returns-clause-in_turn : goal.returns-clause-in_turn
-returns-clause-in_turn c = first_words_lead_alike_in_turn

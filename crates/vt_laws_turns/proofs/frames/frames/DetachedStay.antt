@@ -1,0 +1,285 @@
+-- No call gives a detached mount other flags, a mount point or a namespace.
+use Rattle.std.proofs.lemmas.Grind.{common_steps}
+use Rattle.std.proofs.Common.{◌≡◌, refl, sym, ap, subst, ◌∙◌, ⊎_elim, ℕ, suc, nat_eq, Bool, true, false, true≢false, not, List, [], ◌∷◌, ◌||◌, ◌&&◌, Option, Some, None, Ok, filter, map, is_some, eqb-true, arith}
+use Rattle.std.specs.Prelude.{option_to_list}
+use Rattle.std.specs.List.{list_all}
+use Rattle.std.proofs.lemmas.Bool.{and_parts}
+use Rattle.vt_spec.specs.Language.Calls.{Call, MountFlags}
+use Rattle.vt_spec.specs.Language.Calls.Call.{MountOverlay}
+use Rattle.vt_spec.specs.Language.Changes.Change.{Make, Move, Remove}
+use Rattle.vt_spec.specs.Lists.{Fresh, evens, odds}
+use Rattle.vt_spec.specs.Machine.Apply.{apply, overfills}
+use Rattle.vt_spec.specs.Machine.Attach.{bind_tree}
+use Rattle.vt_spec.specs.Machine.Descriptors.{is_copied_up}
+use Rattle.vt_spec.specs.Machine.Detach.{going, taken_away, without_mounts_on, without_replaced}
+use Rattle.vt_spec.specs.Machine.Invariants.{IsWorld, MountInvariants, is_nowhere_or_attached, is_private}
+use Rattle.vt_spec.specs.Machine.Judge.{judge_in}
+use Rattle.vt_spec.specs.Machine.Looks.{looks_of}
+use Rattle.vt_spec.specs.Machine.Mounts.{Location, Mount, Propagation, mount_in, numbers_by}
+use Rattle.vt_spec.specs.Machine.Mounts.Propagation.{Private, Shared, Slave, Unbindable}
+use Rattle.vt_spec.specs.Machine.Namespaces.{copied_mount, is_in_ended, namespace_entered, pivoted_mount, unshared}
+use Rattle.vt_spec.specs.Machine.NewMounts.{mounted, new_mount, overlay_filesystem, plain_filesystem, with_new_filesystem}
+use Rattle.vt_spec.specs.Machine.Outcomes.{Outcome, after}
+use Rattle.vt_spec.specs.Machine.Permits.{Permit}
+use Rattle.vt_spec.specs.Machine.Permits.Permit.{ToBind, ToChange, ToEnterNamespace, ToExit, ToMake, ToMountOverlay, ToMountPlain, ToMove, ToOpen, ToOpenNew, ToPivot, ToRemoveDirectory, ToRename, ToSetFlags, ToSetType, ToUnmount, ToUnmountLazily, ToUnshare, ToWritePart}
+use Rattle.vt_spec.specs.Machine.Policy.{call_outcome, finished_by}
+use Rattle.vt_spec.specs.Machine.Rules.Mounting.{overlay_at}
+use Rattle.vt_spec.specs.Machine.Run.{Serves}
+use Rattle.vt_spec.specs.Machine.Settled.{mount_lives, settled}
+use Rattle.vt_spec.specs.Machine.World.{Filesystem, Task, World, mount_at, mount_numbered, mounts_of, task_called, without_task}
+use Rattle.vt_spec.proofs.Lists.{Among, among-from_filter, among_from_list_all}
+use Rattle.vt_spec.proofs.Options.{none_is_some}
+use Rattle.vt_spec.proofs.Worlds.{number-mount_in, number-pivoted_mount}
+use Rattle.vt_laws_rules.specs.Granted.{IsGranted}
+use Rattle.vt_laws_rules.specs.Granted.IsGranted.{mounts_overlayfs}
+use Rattle.vt_laws_rules.proofs.given.Inversion.{calls_are_granted}
+use Rattle.vt_laws_rules.proofs.judged.CallsJudged.{call_is_judged_then_applied}
+use Rattle.vt_laws_mounts.specs.Mounts.Attaching.{is_mount}
+use Rattle.vt_laws_mounts.proofs.mounts.MountsAttached.{attach_keeps_mounts, moved_mounts_show}
+use Rattle.vt_laws_mounts.proofs.mounts.MountsFound.{found-map_there, found_there}
+use Rattle.vt_laws_mounts.proofs.mounts.MountsReplaced.{found-append, found_itself}
+use Rattle.vt_laws_mounts.proofs.mounts.MountsRetyped.{flags_are_of_one, type_is_all_that_changes}
+use Rattle.vt_laws_mounts.proofs.ends.UnmountingEnds.{lazy_detaches_or_keeps, others_are_kept, taken_are_detached}
+use Rattle.vt_laws_worlds.proofs.merging.mounted.Worlds.{mounting_leaves_a_world}
+use Rattle.vt_laws_worlds.proofs.overlay_permits.worlds.PolicyLeads.{policy_leads}
+use Rattle.vt_laws_trees.specs.Trees.Calls.{mounts_overlay}
+use Rattle.vt_laws_worlds.specs.Worlds.Permits.{NamesWhatIsThere}
+use Rattle.vt_laws_worlds.proofs.kept.MountsAlike.{change_of_files, copy_of_files, writing_of_files}
+use Rattle.vt_laws_worlds.proofs.kept.MountsKept.{all_mounts_kept}
+use Rattle.vt_laws_worlds.proofs.worlds.FitPermitsNamed.{all_permits_fit}
+use Rattle.vt_laws_worlds.proofs.worlds.PermitsSeen.{gone_on}
+use Rattle.vt_laws_worlds.proofs.worlds.Seen.{KeepsView}
+use Rattle.vt_laws_turns.specs.Frames.Detached.{DetachedMountsStay}
+use Rattle.vt_laws_turns.proofs.frames.frames.SameMounts.{one_record}
+use Rattle.vt_laws_turns.proofs.frames.frames.ShownAlike.{permit_shown}
+
+-- what is taken away, and what stays, keeps its flags
+taken_flags : (world : World ℕ) (gone : List ℕ) (number : ℕ)
+    → (mount_numbered nat_eq (taken_away nat_eq world gone) number).flags ≡ (mount_numbered nat_eq world number).flags
+taken_flags world gone number = grind (arith, common_steps, taken_are_detached, others_are_kept)
+
+pivoted_flags : (root new : Mount ℕ) (put : Location ℕ) (mount : Mount ℕ)
+    → (pivoted_mount nat_eq root new put mount).flags ≡ mount.flags
+pivoted_flags root new put mount = grind (arith, common_steps)
+
+module _ (world : World ℕ) (fresh : Fresh ℕ) (task : Task ℕ) (is : IsWorld nat_eq world) where
+  abbrev left : Permit ℕ → World ℕ
+  left permit = (apply nat_eq fresh world task permit).world
+
+  abbrev HasFlags : World ℕ → ℕ → Type 0
+  HasFlags later number = (mount_numbered nat_eq later number).flags ≡ (mount_numbered nat_eq world number).flags
+
+  -- where mounts are as they were
+  alike : (later : World ℕ) (number : ℕ) → later.mounts ≡ world.mounts → HasFlags later number
+  alike later number same = ap (λ list. (mount_in nat_eq list number).flags) same
+
+  taken_then : (later : World ℕ) (gone : List ℕ) (number : ℕ) → later.mounts ≡ (taken_away nat_eq world gone).mounts
+      → HasFlags later number
+  taken_then later gone number same = cc (taken_flags world gone number)
+
+  replaced_flags : (later : World ℕ) (replaced : Option (Location ℕ)) (number : ℕ)
+      → later.mounts ≡ (without_replaced nat_eq world replaced).mounts → HasFlags later number
+  replaced_flags later None number same = alike later number same
+  replaced_flags later (Some location) number same = taken_then later (gone_on world location) number same
+
+  -- namespaces that end
+  ended_flags : (middle : World ℕ) (number : ℕ) → HasFlags middle number
+      → HasFlags (taken_away nat_eq middle (map (λ (mount : Mount ℕ). mount.number)
+      (filter (is_in_ended nat_eq middle) middle.mounts))) number
+  ended_flags middle number same =
+      taken_flags middle (map (λ (mount : Mount ℕ). mount.number) (filter (is_in_ended nat_eq middle) middle.mounts))
+      number ∙ same
+
+  -- mounts that are attached
+  attached_flags : (filesystem : Filesystem ℕ) (new : Fresh ℕ) (place : Location ℕ) (flags : MountFlags) (number : ℕ)
+      → is_mount world number ≡ true
+      → HasFlags (mounted nat_eq new world place filesystem flags) number
+  attached_flags filesystem new place flags number there =
+      (attach_keeps_mounts (with_new_filesystem world filesystem) new place
+      (new_mount filesystem.number filesystem.files.tree.root flags ∷ []) number there).flags
+
+  pub flags_stay : (permit : Permit ℕ) → NamesWhatIsThere world task permit → (number : ℕ)
+      → is_mount world number ≡ true → (mount_numbered nat_eq world number).namespace ≡ None
+      → HasFlags (left permit) number
+  flags_stay (ToChange location change) names number there none =
+      alike (left (ToChange location change)) number (change_of_files fresh world location change).mounts
+  flags_stay (ToMake directory name node) names number there none =
+      alike (left (ToMake directory name node)) number
+      (change_of_files (odds fresh) world directory (Make directory.node name (evens fresh 0) node)).mounts
+  flags_stay (ToRemoveDirectory parent name directory) names number there none =
+      taken_then (left (ToRemoveDirectory parent name directory)) (gone_on world directory) number
+      (change_of_files fresh (without_mounts_on nat_eq world directory) parent
+      (Remove parent.node name directory.node)).mounts
+  flags_stay (ToRename from old to new object replaced) names number there none =
+      replaced_flags (left (ToRename from old to new object replaced)) replaced number
+      (change_of_files fresh (without_replaced nat_eq world replaced) from
+      (Move from.node old to.node new object.node)).mounts
+  flags_stay (ToOpen file access) names number there none =
+      alike (left (ToOpen file access)) number
+      (copy_of_files fresh world (is_copied_up nat_eq world file access) file).mounts
+  flags_stay (ToOpenNew directory name node access) names number there none =
+      alike (left (ToOpenNew directory name node access)) number
+      (change_of_files (odds fresh) world directory (Make directory.node name (evens fresh 0) node)).mounts
+  flags_stay (ToWritePart file offset bytes) names number there none =
+      alike (left (ToWritePart file offset bytes)) number (writing_of_files fresh world file offset bytes).mounts
+  flags_stay ToExit names number there none = ended_flags (without_task world task.name) number refl
+  flags_stay ToUnshare names number there none =
+      ended_flags (unshared nat_eq world fresh task) number
+      (ap (λ (m : Mount ℕ). m.flags) (found-append world.mounts
+      (map (copied_mount (numbers_by nat_eq (odds fresh) (mounts_of nat_eq world task.namespace)) (evens fresh 0))
+      (mounts_of nat_eq world task.namespace)) number there))
+  flags_stay (ToEnterNamespace namespace) names number there none =
+      ended_flags (namespace_entered nat_eq world task namespace) number refl
+  flags_stay (ToMountPlain place flags) names number there none =
+      attached_flags (plain_filesystem nat_eq fresh) (odds fresh) place flags number there
+  flags_stay (ToMountOverlay place overlay flags) names number there none = absurd names
+  flags_stay (ToBind source place recursive) names number there none =
+      (attach_keeps_mounts world fresh place (bind_tree nat_eq world source recursive) number there).flags
+  flags_stay (ToMove mount place) names number there none =
+      (moved_mounts_show world fresh (record { mount = mount; node = 0 }) place number is.mounts.one_number there).flags
+  flags_stay (ToUnmount mount) names number there none =
+      taken_flags world (going nat_eq world (mount_numbered nat_eq world mount)) number
+  flags_stay (ToUnmountLazily mount) names number there none =
+      ⊎_elim (λ gone. ap (λ (m : Mount ℕ). m.flags) gone) (λ kept. kept.flags)
+      (lazy_detaches_or_keeps world mount number)
+  flags_stay (ToSetFlags mount flags) names number there none = by (nat_eq mount number) refl
+    where
+      by : (b : Bool) → nat_eq mount number ≡ b → HasFlags (left (ToSetFlags mount flags)) number
+      by true e =
+          none_is_some task.namespace (sym none
+          ∙ ap (λ n. (mount_numbered nat_eq world n).namespace) (sym (eqb-true mount number e)) ∙ names)
+      by false e = cc (flags_are_of_one world (record { mount = mount; node = 0 }) flags number e)
+  flags_stay (ToSetType mount word recursive) names number there none =
+      (type_is_all_that_changes world fresh mount word recursive number).flags
+  flags_stay (ToPivot new put) names number there none =
+      let root : Mount ℕ = mount_at nat_eq world task.root in
+      cc (
+        found-map_there (pivoted_mount nat_eq root (mount_numbered nat_eq world new) put) (number-pivoted_mount
+            root (mount_numbered nat_eq world new) put) world.mounts number there,
+        pivoted_flags root (mount_numbered nat_eq world new) put (mount_numbered nat_eq world number),
+      )
+  flags_stay permit names number there none = refl
+
+-- what is in no namespace stays in none
+none_later : (before later : Mount ℕ) → KeepsView before later → before.namespace ≡ None → later.namespace ≡ None
+none_later before later view none = by later.namespace refl
+  where
+    by : (o : Option ℕ) → later.namespace ≡ o → later.namespace ≡ None
+    by None e = e
+    by (Some n) e =
+        let in_it : (nat_eq (suc n) n && true) ≡ true =
+        sym (ap (λ o. list_all (nat_eq (suc n)) (option_to_list o)) e)
+        ∙ view.namespace (suc n) (ap (λ o. list_all (nat_eq (suc n)) (option_to_list o)) none) in
+        let same : suc n ≡ n = eqb-true (suc n) n (and_parts (nat_eq (suc n) n) true in_it).0 in
+        absurd (omega (arith, same))
+
+-- a mount in no namespace has no mount point, and is private
+nowhere_is : (world : World ℕ) → MountInvariants nat_eq world → (mount : Mount ℕ) → Among mount world.mounts
+    → mount.namespace ≡ None → (mount.mount_point ≡ None) × (mount.propagation ≡ Private)
+nowhere_is world is mount m none =
+    let both = and_parts (not (is_some mount.mount_point)) (is_private mount.propagation)
+    (sym (ap (λ o. is_some o || (not (is_some mount.mount_point) && is_private mount.propagation)) none)
+    ∙ among_from_list_all is_nowhere_or_attached world.mounts is.nowhere mount m) in
+    (point mount.mount_point both.0, kind mount.propagation both.1)
+  where
+    point : (o : Option (Location ℕ)) → not (is_some o) ≡ true → o ≡ None
+    point None h = refl
+    point (Some at) h = absurd (true≢false (sym h))
+
+    kind : (p : Propagation ℕ) → is_private p ≡ true → p ≡ Private
+    kind Private h = refl
+    kind (Shared g) h = absurd (true≢false (sym h))
+    kind (Slave g) h = absurd (true≢false (sym h))
+    kind Unbindable h = absurd (true≢false (sym h))
+
+module _ (world : World ℕ) (fresh : Fresh ℕ) (task : Task ℕ) (call : Call) (permit : Permit ℕ)
+    (is : IsWorld nat_eq world) (serves : Serves nat_eq world fresh)
+    (called : task_called world task.name ≡ Some task)
+    (granted : judge_in nat_eq fresh world task call ≡ Ok permit) where
+  abbrev applied : World ℕ
+  applied = (apply nat_eq fresh world task permit).world
+
+  -- what a permit leaves of a detached mount
+  record LeavesDetached (given : Permit ℕ) : Type 0 where
+    mounts : MountInvariants nat_eq (apply nat_eq fresh world task given).world
+    flags : (number : ℕ) → is_mount world number ≡ true → (mount_numbered nat_eq world number).namespace ≡ None
+        → (mount_numbered nat_eq (apply nat_eq fresh world task given).world number).flags
+        ≡ (mount_numbered nat_eq world number).flags
+
+  outcome : call_outcome nat_eq fresh world task call ≡ apply nat_eq fresh world task permit
+  outcome = cc (call_is_judged_then_applied fresh world task call, granted)
+
+  mounted_world : (asked : Call) → mounts_overlay asked ≡ true
+      → IsWorld nat_eq (call_outcome nat_eq fresh world task asked).world
+  mounted_world (MountOverlay path options flags) e =
+      mounting_leaves_a_world fresh world task path options flags is serves called
+  mounted_world asked e = absurd (true≢false (sym e))
+
+  mounting : (asked : Call) (given : Permit ℕ)
+      → IsGranted nat_eq (looks_of nat_eq world) (overfills nat_eq fresh world task) task asked given
+      → mounts_overlay asked ≡ true → (number : ℕ) → is_mount world number ≡ true
+      → (mount_numbered nat_eq (apply nat_eq fresh world task given).world number).flags
+      ≡ (mount_numbered nat_eq world number).flags
+  mounting asked given (mounts_overlayfs path words wanted here places admin end walked layered passed) e number there =
+      attached_flags world fresh task is
+      (overlay_filesystem nat_eq (evens fresh) world (overlay_at (looks_of nat_eq world) task places)) (odds fresh)
+      here.location wanted number there
+  mounting asked given other e number there = absurd (true≢false (sym e))
+
+  leaves_detached : LeavesDetached permit
+  leaves_detached = by (mounts_overlay call) refl
+    where
+      by : (b : Bool) → mounts_overlay call ≡ b → LeavesDetached permit
+      by true e = record {
+        mounts = subst (λ (o : Outcome ℕ). MountInvariants nat_eq o.world) outcome (mounted_world call e).mounts;
+        flags = λ number there none.
+            mounting call permit
+            (calls_are_granted nat_eq (looks_of nat_eq world) (overfills nat_eq fresh world task) task call permit
+            granted) e number there;
+      }
+      by false e =
+          let fits = all_permits_fit world fresh task call permit is serves called e granted in record {
+            mounts = all_mounts_kept world fresh task permit is serves called fits;
+            flags = flags_stay world fresh task is permit fits.names;
+          }
+
+  pub detached_stays : (number : ℕ) → is_mount world number ≡ true
+      → (mount_numbered nat_eq world number).namespace ≡ None
+      → is_mount (settled nat_eq applied) number ≡ true
+      → mount_numbered nat_eq (settled nat_eq applied) number ≡ mount_numbered nat_eq world number
+  detached_stays number there none left =
+      let its = leaves_detached in
+      let now : Mount ℕ = mount_numbered nat_eq (settled nat_eq applied) number in
+      let m : Among now applied.mounts =
+      (among-from_filter (mount_lives nat_eq applied) applied.mounts now
+      (found_there (settled nat_eq applied).mounts number left)).0 in
+      let numbered : now.number ≡ number = number-mount_in (settled nat_eq applied).mounts number in
+      let same : mount_numbered nat_eq applied number ≡ now =
+      ap (mount_numbered nat_eq applied) (sym numbered) ∙ found_itself applied.mounts its.mounts.one_number now m in
+      let view : KeepsView (mount_numbered nat_eq world number) now =
+      subst (KeepsView (mount_numbered nat_eq world number)) same
+      ((permit_shown world fresh task call permit is serves called granted).1.views number there) in
+      let nowhere : now.namespace ≡ None = none_later (mount_numbered nat_eq world number) now view none in
+      let was = nowhere_is world is.mounts (mount_numbered nat_eq world number)
+      (found_there world.mounts number there) none in
+      let be = nowhere_is applied its.mounts now m nowhere in
+      one_record now (mount_numbered nat_eq world number)
+      (numbered ∙ sym (number-mount_in world.mounts number))
+      (nowhere ∙ sym none) (be.0 ∙ sym was.0) view.filesystem view.root
+      (ap (λ (x : Mount ℕ). x.flags) (sym same) ∙ its.flags number there none)
+      (be.1 ∙ sym was.1)
+
+pub detached_mounts_stay : DetachedMountsStay
+detached_mounts_stay world fresh name call number given there none =
+    policy_leads
+    (λ later. is_mount later number ≡ true
+    → mount_numbered nat_eq later number ≡ mount_numbered nat_eq world number)
+    world fresh name call (λ left. refl)
+    (λ task permit changed called granted.
+    let outcome : call_outcome nat_eq fresh world task call ≡ apply nat_eq fresh world task permit =
+    call_is_judged_then_applied fresh world task call
+    ∙ ap (λ j. after world j (apply nat_eq fresh world task)) granted in
+    subst (λ (o : Outcome ℕ). is_mount (finished_by nat_eq false world name changed o).world number ≡ true
+    → mount_numbered nat_eq (finished_by nat_eq false world name changed o).world number
+    ≡ mount_numbered nat_eq world number) (sym outcome)
+    (detached_stays world fresh task call permit given.is given.serves called granted number there none))

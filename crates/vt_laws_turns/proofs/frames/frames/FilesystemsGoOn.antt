@@ -1,0 +1,199 @@
+-- The filesystems after a permit are those before it, but for those that it changes, or new.
+use Rattle.std.proofs.Common.{◌≡◌, refl, sym, ap, subst, ◌∙◌, ◌⊎◌, inl, inr, ⊎_elim, ℕ, nat_eq, Bool, true, false, cond, List, [], ◌∷◌, ◌++◌, ◌*◌, ◌||◌, Option, Some, None, map, not, eqb-true}
+use Rattle.std.specs.List.{list_any}
+use Rattle.vt_spec.specs.PathText.{is_empty}
+use Rattle.vt_spec.specs.Language.Changes.{Change}
+use Rattle.vt_spec.specs.Language.Changes.Change.{CopyUp, Make, Move, Remove}
+use Rattle.vt_spec.specs.Lists.{Fresh, evens, odds}
+use Rattle.vt_spec.specs.Machine.Apply.{apply, changed_if, filesystems_changed}
+use Rattle.vt_spec.specs.Machine.Descriptors.{is_copied_up, pwritten, with_copy}
+use Rattle.vt_spec.specs.Machine.Detach.{going, without_mounts_on, without_replaced}
+use Rattle.vt_spec.specs.Machine.Filesystems.{changed_at, filesystem_changed, numbers_of_change, numbers_over, overlay_changed, with_change}
+use Rattle.vt_spec.specs.Machine.Mounts.{Location}
+use Rattle.vt_spec.specs.Machine.Namespaces.{namespace_entered, unshared}
+use Rattle.vt_spec.specs.Machine.NewMounts.{overlay_filesystem, plain_filesystem}
+use Rattle.vt_spec.specs.Machine.Permits.{Permit}
+use Rattle.vt_spec.specs.Machine.Permits.Permit.{ToChange, ToEnterNamespace, ToExit, ToMake, ToMountOverlay, ToMountPlain, ToOpen, ToOpenNew, ToRemoveDirectory, ToRename, ToSetType, ToUnmount, ToUnmountLazily, ToUnshare, ToWritePart}
+use Rattle.vt_spec.specs.Machine.World.{Filesystem, Layer, Overlay, Task, World, filesystem_at, filesystem_numbered, mount_at, mount_numbered, replaced_if_numbered, without_task}
+use Rattle.vt_spec.proofs.Lists.{Among, among-append, among-from_map}
+use Rattle.vt_spec.proofs.Truths.{nat_eq_itself}
+use Rattle.vt_spec.proofs.Worlds.{filesystems-taken_away, filesystems-without_replaced}
+use Rattle.vt_laws_trees.proofs.layers.layers.LowersCalls.{same_filesystem}
+use Rattle.vt_laws_trees.proofs.layers.layers.LowersWorld.{number_of_filesystem}
+use Rattle.vt_laws_mounts.proofs.mounts.MountsRetyped.{types_are_of_mounts}
+use Rattle.vt_laws_mounts.proofs.ends.UnmountingEnds.{lazy_is_of_mounts}
+
+-- a filesystem of a list has this number
+abbrev pub Has : List (Filesystem ℕ) → ℕ → Type 0
+Has list number = (was : Filesystem ℕ) × Among was list × (was.number ≡ number)
+
+-- It is one of a world's, or is in the place of one whose number is to be raised, or has a number that was handed in.
+pub data GoesOn (world : World ℕ) (changed : List ℕ) (new : ℕ) (filesystem : Filesystem ℕ) : Type 0 where
+  Old : Among filesystem world.filesystems → GoesOn world changed new filesystem
+  Changed : list_any (λ number. nat_eq number filesystem.number) changed ≡ true
+      → Has world.filesystems filesystem.number
+      → filesystem.change ≡ (filesystem_numbered nat_eq world filesystem.number).change
+      → GoesOn world changed new filesystem
+  New : filesystem.number ≡ new → GoesOn world changed new filesystem
+
+-- one in the place of another
+in_replaced : (new : Filesystem ℕ) (list : List (Filesystem ℕ)) (f : Filesystem ℕ)
+    → Among f (map (replaced_if_numbered nat_eq new) list) → ((f ≡ new) × Has list f.number) ⊎ Among f list
+in_replaced new [] f m = absurd m
+in_replaced new (first ∷ rest) f m =
+    ⊎_elim (λ e. by (nat_eq new.number first.number) refl e)
+    (λ later. ⊎_elim (λ r. inl (r.0, (r.1.0, inr r.1.1, r.1.2))) (λ n. inr (inr n)) (in_replaced new rest f later)) m
+  where
+    by : (b : Bool) → nat_eq new.number first.number ≡ b → f ≡ cond b new first
+        → ((f ≡ new) × Has (first ∷ rest) f.number) ⊎ Among f (first ∷ rest)
+    by true same e =
+        inl (
+          e,
+          (
+            first,
+            inl refl,
+            sym (eqb-true new.number first.number same)
+                ∙ ap (λ (g : Filesystem ℕ). g.number) (sym e),
+          ),
+        )
+    by false same e = inr (inl e)
+
+-- a number that is there is there before one is in the place of another
+has_before : (new : Filesystem ℕ) (list : List (Filesystem ℕ)) (number : ℕ)
+    → Has (map (replaced_if_numbered nat_eq new) list) number → Has list number
+has_before new list number (was, m, e) =
+    let from = among-from_map (replaced_if_numbered nat_eq new) list was m in (
+      from.0,
+      from.1,
+      by from.0 (nat_eq new.number from.0.number) refl ∙ ap (λ (g : Filesystem ℕ). g.number) (sym from.2)
+          ∙ e,
+    )
+  where
+    by : (old : Filesystem ℕ) (b : Bool) → nat_eq new.number old.number ≡ b → old.number ≡ (cond b new old).number
+    by old true same = sym (eqb-true new.number old.number same)
+    by old false same = refl
+
+module _ (world middle : World ℕ) (same : middle.filesystems ≡ world.filesystems) (new : ℕ) where
+  -- one that is like a filesystem of the world but for its files
+  like : (n : ℕ) (changed : List ℕ) (f : Filesystem ℕ) → Has middle.filesystems f.number
+      → f.number ≡ (filesystem_numbered nat_eq middle n).number
+      → f.change ≡ (filesystem_numbered nat_eq middle n).change
+      → list_any (λ number. nat_eq number (filesystem_numbered nat_eq middle n).number) changed ≡ true
+      → GoesOn world changed new f
+  like n changed f has number change raised =
+      Changed (ap (λ k. list_any (λ other. nat_eq other k) changed) number ∙ raised)
+      (subst (λ list. Has list f.number) same has)
+      (change
+      ∙ ap (λ (g : Filesystem ℕ). g.change)
+      (sym (ap (filesystem_numbered nat_eq middle) (number ∙ number_of_filesystem middle n))
+      ∙ same_filesystem world middle f.number same))
+
+  pub change_goes_on : (fresh : Fresh ℕ) (location : Location ℕ) (change : Change ℕ) (f : Filesystem ℕ)
+      → Among f (with_change nat_eq fresh middle location change).filesystems
+      → GoesOn world (changed_at nat_eq middle location) new f
+  change_goes_on fresh location change f m = by (filesystem_at nat_eq middle location).overlay m
+    where
+      here : ℕ
+      here = (mount_at nat_eq middle location).filesystem
+
+      old : (changed : List ℕ) → Among f middle.filesystems → GoesOn world changed new f
+      old changed n = Old (subst (Among f) same n)
+
+      over : (overlay : Overlay ℕ) (upper : Option (Layer ℕ))
+          → Among f (overlay_changed nat_eq fresh middle (filesystem_at nat_eq middle location) overlay upper
+          change).filesystems
+          → GoesOn world (numbers_over nat_eq middle (filesystem_at nat_eq middle location) upper) new f
+      over overlay None n = old [] n
+      over overlay (Some upper) n =
+          let changed : List ℕ = (filesystem_at nat_eq middle location).number
+          ∷ (filesystem_numbered nat_eq middle upper.filesystem).number ∷ [] in
+          ⊎_elim
+          (λ r. like upper.filesystem changed f (has_before _ middle.filesystems f.number r.1)
+          (ap (λ (g : Filesystem ℕ). g.number) r.0) (ap (λ (g : Filesystem ℕ). g.change) r.0)
+          (second _ _ (nat_eq_itself (filesystem_numbered nat_eq middle upper.filesystem).number)))
+          (λ rest. ⊎_elim
+          (λ r. like here changed f r.1 (ap (λ (g : Filesystem ℕ). g.number) r.0)
+          (ap (λ (g : Filesystem ℕ). g.change) r.0)
+          (first _ _ (nat_eq_itself (filesystem_at nat_eq middle location).number)))
+          (λ l. old changed l) (in_replaced _ middle.filesystems f rest))
+          (in_replaced _ _ f n)
+        where
+          first : (b c : Bool) → b ≡ true → (b || c) ≡ true
+          first b c e = ap (λ a. a || c) e
+
+          second : (a b : Bool) → b ≡ true → (a || (b || false)) ≡ true
+          second true b e = refl
+          second false b e = ap (λ a. a || false) e
+
+      by : (o : Option (Overlay ℕ))
+          → Among f (filesystem_changed nat_eq fresh middle (filesystem_at nat_eq middle location) o change).filesystems
+          → GoesOn world (numbers_of_change nat_eq middle (filesystem_at nat_eq middle location) o) new f
+      by None n =
+          ⊎_elim
+          (λ r. like here ((filesystem_at nat_eq middle location).number ∷ []) f r.1
+          (ap (λ (g : Filesystem ℕ). g.number) r.0) (ap (λ (g : Filesystem ℕ). g.change) r.0)
+          (ap (λ b. b || false) (nat_eq_itself (filesystem_at nat_eq middle location).number)))
+          (λ l. old _ l) (in_replaced _ middle.filesystems f n)
+      by (Some overlay) n = over overlay overlay.upper n
+
+module _ (world : World ℕ) (fresh : Fresh ℕ) (task : Task ℕ) where
+  abbrev after : Permit ℕ → World ℕ
+  after permit = (apply nat_eq fresh world task permit).world
+
+  abbrev pub AllGoOn : Permit ℕ → Type 0
+  AllGoOn permit = (f : Filesystem ℕ) → Among f (after permit).filesystems
+      → GoesOn world (filesystems_changed nat_eq world permit) (fresh (2 * 0)) f
+
+  stay : (permit : Permit ℕ) → (after permit).filesystems ≡ world.filesystems → AllGoOn permit
+  stay permit same f m = Old (subst (Among f) same m)
+
+  copies : (b : Bool) (file : Location ℕ) (f : Filesystem ℕ)
+      → Among f (with_copy nat_eq b fresh world file).filesystems
+      → GoesOn world (changed_if nat_eq b world file) (fresh (2 * 0)) f
+  copies true file f m = change_goes_on world world refl (fresh (2 * 0)) fresh file (CopyUp file.node) f m
+  copies false file f m = Old m
+
+  writes : (file : Location ℕ) (offset : ℕ) (bytes : List ℕ) (f : Filesystem ℕ)
+      → Among f (pwritten nat_eq fresh world file offset bytes).filesystems
+      → GoesOn world (changed_if nat_eq (not (is_empty bytes)) world file) (fresh (2 * 0)) f
+  writes file offset [] f m = Old m
+  writes file offset (byte ∷ bytes) f m = change_goes_on world world refl (fresh (2 * 0)) fresh file _ f m
+
+  more : (changed : List ℕ) (added : Filesystem ℕ) → added.number ≡ fresh (2 * 0) → (f : Filesystem ℕ)
+      → Among f (world.filesystems ++ (added ∷ [])) → GoesOn world changed (fresh (2 * 0)) f
+  more changed added number f m =
+      ⊎_elim Old
+      (λ last. ⊎_elim (λ e. New (ap (λ (g : Filesystem ℕ). g.number) e ∙ number)) (λ none. absurd none) last)
+      (among-append world.filesystems (added ∷ []) f m)
+
+  pub filesystems_go_on : (permit : Permit ℕ) → AllGoOn permit
+  filesystems_go_on (ToChange location change) =
+      change_goes_on world world refl (fresh (2 * 0)) fresh location change
+  filesystems_go_on (ToMake directory name node) =
+      change_goes_on world world refl (fresh (2 * 0)) (odds fresh) directory
+      (Make directory.node name (evens fresh 0) node)
+  filesystems_go_on (ToRemoveDirectory parent name directory) =
+      change_goes_on world (without_mounts_on nat_eq world directory) (filesystems-taken_away world _)
+      (fresh (2 * 0)) fresh parent (Remove parent.node name directory.node)
+  filesystems_go_on (ToRename from old to new object replaced) =
+      change_goes_on world (without_replaced nat_eq world replaced) (filesystems-without_replaced world replaced)
+      (fresh (2 * 0)) fresh from (Move from.node old to.node new object.node)
+  filesystems_go_on (ToOpen file access) = copies (is_copied_up nat_eq world file access) file
+  filesystems_go_on (ToOpenNew directory name node access) =
+      change_goes_on world world refl (fresh (2 * 0)) (odds fresh) directory
+      (Make directory.node name (evens fresh 0) node)
+  filesystems_go_on (ToWritePart file offset bytes) = writes file offset bytes
+  filesystems_go_on ToExit = stay ToExit (filesystems-taken_away (without_task world task.name) _)
+  filesystems_go_on ToUnshare = stay ToUnshare (filesystems-taken_away (unshared nat_eq world fresh task) _)
+  filesystems_go_on (ToEnterNamespace namespace) =
+      stay (ToEnterNamespace namespace) (filesystems-taken_away (namespace_entered nat_eq world task namespace) _)
+  filesystems_go_on (ToMountPlain place flags) = more [] (plain_filesystem nat_eq fresh) refl
+  filesystems_go_on (ToMountOverlay place overlay flags) =
+      more [] (overlay_filesystem nat_eq (evens fresh) world overlay) refl
+  filesystems_go_on (ToUnmount mount) =
+      stay (ToUnmount mount) (filesystems-taken_away world (going nat_eq world (mount_numbered nat_eq world mount)))
+  filesystems_go_on (ToUnmountLazily mount) =
+      stay (ToUnmountLazily mount) (lazy_is_of_mounts world mount).filesystems
+  filesystems_go_on (ToSetType mount word recursive) =
+      stay (ToSetType mount word recursive) (types_are_of_mounts world fresh mount word recursive).filesystems
+  filesystems_go_on permit = stay permit refl

@@ -1,0 +1,92 @@
+-- The namespaces after a permit are those before it, or new.
+use Rattle.std.proofs.lemmas.Grind.{common_steps}
+use Rattle.std.proofs.Common.{◌≡◌, refl, ap, subst, ◌∙◌, ◌⊎◌, inl, inr, ⊎_elim, ℕ, nat_eq, Bool, true, false, List, [], ◌∷◌, ◌*◌, Option, Some, None, filter, find, arith}
+use Rattle.vt_spec.specs.Language.Changes.Change.{Make, Move, Remove}
+use Rattle.vt_spec.specs.Lists.{Fresh, any_pair, evens, odds}
+use Rattle.vt_spec.specs.Machine.Apply.{apply}
+use Rattle.vt_spec.specs.Machine.Descriptors.{is_copied_up}
+use Rattle.vt_spec.specs.Machine.Detach.{without_mounts_on, without_replaced}
+use Rattle.vt_spec.specs.Machine.Mounts.{Location}
+use Rattle.vt_spec.specs.Machine.Namespaces.{has_tasks, unshared}
+use Rattle.vt_spec.specs.Machine.Permits.{Permit}
+use Rattle.vt_spec.specs.Machine.Permits.Permit.{ToChange, ToEnterNamespace, ToExit, ToMake, ToOpen, ToOpenNew, ToRemoveDirectory, ToRename, ToSetType, ToUnmount, ToUnmountLazily, ToUnshare, ToWritePart}
+use Rattle.vt_spec.specs.Machine.World.{Namespace, Task, World, without_task}
+use Rattle.vt_spec.proofs.Lists.{Among, among-append, among-from_filter}
+use Rattle.vt_laws_mounts.proofs.mounts.MountsRetyped.{types_are_of_mounts}
+use Rattle.vt_laws_mounts.proofs.ends.Unmounting.{all_but_mounts, unmount_is_of_mounts}
+use Rattle.vt_laws_mounts.proofs.ends.UnmountingEnds.{lazy_is_of_mounts}
+use Rattle.vt_laws_worlds.proofs.kept.MountsAlike.{change_of_files, copy_of_files, writing_of_files}
+use Rattle.vt_laws_turns.proofs.frames.Found.{found_one}
+
+-- a namespace that is among those whose numbers are apart is found by its number
+pub namespace_found : (list : List (Namespace ℕ))
+    → any_pair (λ (a b : Namespace ℕ). nat_eq a.number b.number) list ≡ false → (namespace : Namespace ℕ)
+    → Among namespace list → (number : ℕ) → nat_eq number namespace.number ≡ true
+    → find (λ (n : Namespace ℕ). nat_eq number n.number) list ≡ Some namespace
+namespace_found = found_one (λ (n : Namespace ℕ). n.number)
+
+module _ (world : World ℕ) (fresh : Fresh ℕ) (task : Task ℕ) where
+  abbrev after : Permit ℕ → World ℕ
+  after permit = (apply nat_eq fresh world task permit).world
+
+  -- it is one of these, or has a number that was handed in
+  abbrev pub IsOldOrNew : Namespace ℕ → Type 0
+  IsOldOrNew namespace = Among namespace world.namespaces ⊎ (namespace.number ≡ fresh (2 * 0))
+
+  abbrev pub GoOn : List (Namespace ℕ) → Type 0
+  GoOn later = (namespace : Namespace ℕ) → Among namespace later → IsOldOrNew namespace
+
+  same : (later : List (Namespace ℕ)) → later ≡ world.namespaces → GoOn later
+  same later e namespace m = inl (subst (Among namespace) e m)
+
+  some : (keeps : Namespace ℕ → Bool) → GoOn (filter keeps world.namespaces)
+  some keeps namespace m = inl (among-from_filter keeps world.namespaces namespace m).0
+
+  removed : (location : Location ℕ) → (without_mounts_on nat_eq world location).namespaces ≡ world.namespaces
+  removed location = grind (arith, common_steps, all_but_mounts)
+
+  replaced_same : (object : Option (Location ℕ))
+      → (without_replaced nat_eq world object).namespaces ≡ world.namespaces
+  replaced_same None = refl
+  replaced_same (Some object) = removed object
+
+  pub namespaces_go_on : (permit : Permit ℕ) → GoOn (after permit).namespaces
+  namespaces_go_on (ToChange location change) =
+      same (after (ToChange location change)).namespaces (change_of_files fresh world location change).namespaces
+  namespaces_go_on (ToMake directory name node) =
+      same (after (ToMake directory name node)).namespaces
+      (change_of_files (odds fresh) world directory (Make directory.node name (evens fresh 0) node)).namespaces
+  namespaces_go_on (ToRemoveDirectory parent name directory) =
+      same (after (ToRemoveDirectory parent name directory)).namespaces
+      ((change_of_files fresh (without_mounts_on nat_eq world directory) parent
+      (Remove parent.node name directory.node)).namespaces ∙ removed directory)
+  namespaces_go_on (ToRename from old to new object replaced) =
+      same (after (ToRename from old to new object replaced)).namespaces
+      ((change_of_files fresh (without_replaced nat_eq world replaced) from
+      (Move from.node old to.node new object.node)).namespaces ∙ replaced_same replaced)
+  namespaces_go_on (ToOpen file access) =
+      same (after (ToOpen file access)).namespaces
+      (copy_of_files fresh world (is_copied_up nat_eq world file access) file).namespaces
+  namespaces_go_on (ToOpenNew directory name node access) =
+      same (after (ToOpenNew directory name node access)).namespaces
+      (change_of_files (odds fresh) world directory (Make directory.node name (evens fresh 0) node)).namespaces
+  namespaces_go_on (ToWritePart file offset bytes) =
+      same (after (ToWritePart file offset bytes)).namespaces
+      (writing_of_files fresh world file offset bytes).namespaces
+  namespaces_go_on ToExit = some (has_tasks nat_eq (without_task world task.name))
+  namespaces_go_on ToUnshare = λ namespace m.
+      let from = (among-from_filter (has_tasks nat_eq (unshared nat_eq world fresh task))
+      (unshared nat_eq world fresh task).namespaces namespace m).0 in
+      ⊎_elim (λ old. inl old)
+      (λ last. ⊎_elim (λ e. inr (ap (λ (n : Namespace ℕ). n.number) e)) (λ none. absurd none) last)
+      (among-append world.namespaces (record { number = evens fresh 0; change = 0 } ∷ []) namespace from)
+  namespaces_go_on (ToEnterNamespace namespace) =
+      λ one m. inl (among-from_filter _ world.namespaces one m).0
+  namespaces_go_on (ToUnmount mount) =
+      same (after (ToUnmount mount)).namespaces (unmount_is_of_mounts world mount).namespaces
+  namespaces_go_on (ToUnmountLazily mount) =
+      same (after (ToUnmountLazily mount)).namespaces (lazy_is_of_mounts world mount).namespaces
+  namespaces_go_on (ToSetType mount word recursive) =
+      same (after (ToSetType mount word recursive)).namespaces
+      (types_are_of_mounts world fresh mount word recursive).namespaces
+  namespaces_go_on permit = same world.namespaces refl

@@ -1,0 +1,103 @@
+-- The sweep leaves a filesystem what it was, but for inodes that nothing uses.
+use Rattle.std.proofs.Common.{◌≡◌, refl, sym, ap, subst, ◌∙◌, inl, inr, ⊎_elim, ℕ, nat_eq, Bool, true, false, cond, List, Option, Some, None, not}
+use Rattle.std.specs.Prelude.{option_map}
+use Rattle.std.specs.List.{list_all}
+use Rattle.vt_spec.specs.Lists.{is_among}
+use Rattle.vt_spec.specs.Machine.Settled.{filesystem_lives, only_used, only_used_by, real_among, settled, used_in, without_dead_filesystems, without_dead_in, without_dead_mounts}
+use Rattle.vt_spec.specs.Machine.World.{Filesystem, Overlay, World, is_overlay}
+use Rattle.vt_spec.proofs.Lists.{Among, among-from_filter, among-from_map}
+use Rattle.vt_laws_turns.specs.Frames.Unraised.{IsLeftOrGone, KeepsFilesystem, KeepsOverlay}
+
+-- it is what it was, and has its number and its change number
+pub record Stays (before later : Filesystem ℕ) : Type 0 where
+  pub number : later.number ≡ before.number
+  pub change : later.change ≡ before.change
+  pub kept : KeepsFilesystem before later
+
+same_overlay : (o : Option (Overlay ℕ)) → KeepsOverlay o o
+same_overlay None = tt
+same_overlay (Some overlay) = (refl, λ inode. inr refl)
+
+pub same_kept : (f : Filesystem ℕ) → KeepsFilesystem f f
+same_kept f = record { root = refl; overlay = same_overlay f.overlay; inodes = λ inode. inr refl }
+
+left_on : {A : Type 0} (a b c : Option A) → IsLeftOrGone a b → IsLeftOrGone b c → IsLeftOrGone a c
+left_on a b c r s =
+    ⊎_elim inl (λ same. ⊎_elim (λ gone. inl (same ∙ gone)) (λ e. inr (same ∙ e)) r) s
+
+overlay_on : (a b c : Option (Overlay ℕ)) → KeepsOverlay a b → KeepsOverlay b c → KeepsOverlay a c
+overlay_on None None None r s = tt
+overlay_on None None (Some z) r s = s
+overlay_on None (Some y) c r s = absurd r
+overlay_on (Some x) None c r s = absurd r
+overlay_on (Some x) (Some y) None r s = s
+overlay_on (Some x) (Some y) (Some z) r s = (
+  s.0 ∙ ap (λ (o : Overlay ℕ). record o { real = z.real }) r.0,
+  λ inode. left_on (x.real inode) (y.real inode) (z.real inode) (r.1 inode) (s.1 inode),
+)
+
+pub kept_on : (a b c : Filesystem ℕ) → KeepsFilesystem a b → KeepsFilesystem b c → KeepsFilesystem a c
+kept_on a b c r s = record {
+  root = s.root ∙ r.root;
+  overlay = overlay_on a.overlay b.overlay c.overlay r.overlay s.overlay;
+  inodes = λ inode.
+      left_on (a.files.tree.node inode) (b.files.tree.node inode) (c.files.tree.node inode) (r.inodes inode)
+      (s.inodes inode);
+}
+
+stays_on : (a b c : Filesystem ℕ) → Stays a b → Stays b c → Stays a c
+stays_on a b c r s = record {
+  number = s.number ∙ r.number;
+  change = s.change ∙ r.change;
+  kept = kept_on a b c r.kept s.kept;
+}
+
+same_stays : (f : Filesystem ℕ) → Stays f f
+same_stays f = record { number = refl; change = refl; kept = same_kept f }
+
+-- what is used is left
+chosen : {A : Type 0} (b : Bool) (o : Option A) → IsLeftOrGone o (cond b o None)
+chosen true o = inr refl
+chosen false o = inl refl
+
+among_overlay : (used : List ℕ) (o : Option (Overlay ℕ))
+    → KeepsOverlay o (option_map (real_among nat_eq used) o)
+among_overlay used None = tt
+among_overlay used (Some overlay) = (refl, λ inode. chosen (is_among nat_eq inode used) (overlay.real inode))
+
+used_stays : (all : Bool) (used : List ℕ) (f : Filesystem ℕ) → Stays f (only_used_by nat_eq all used f)
+used_stays true used f = same_stays f
+used_stays false used f = record {
+  number = refl;
+  change = refl;
+  kept = record {
+    root = refl;
+    overlay = among_overlay used f.overlay;
+    inodes = λ inode. chosen (is_among nat_eq inode used) (f.files.tree.node inode);
+  };
+}
+
+only_used_stays : (world : World ℕ) (b : Bool) (f : Filesystem ℕ) → Stays f (only_used nat_eq world b f)
+only_used_stays world true f =
+    used_stays (list_all (λ number. is_among nat_eq number (used_in nat_eq world f)) f.files.numbers)
+    (used_in nat_eq world f) f
+only_used_stays world false f = same_stays f
+
+-- each filesystem that is left was there, and stays
+pub swept_stays : (world : World ℕ) (f : Filesystem ℕ) → Among f (settled nat_eq world).filesystems
+    → (before : Filesystem ℕ) × Among before world.filesystems × Stays before f
+swept_stays world f m =
+    let lives : World ℕ = without_dead_filesystems nat_eq (without_dead_mounts nat_eq world) in
+    let merged : World ℕ = without_dead_in nat_eq is_overlay lives in
+    let last = among-from_map
+    (λ (x : Filesystem ℕ). only_used nat_eq merged (not (is_overlay x)) x) merged.filesystems f m in
+    let first = among-from_map (λ (x : Filesystem ℕ). only_used nat_eq lives (is_overlay x) x) lives.filesystems
+    last.0 last.1 in
+    let was = among-from_filter (filesystem_lives nat_eq (without_dead_mounts nat_eq world)) world.filesystems first.0
+    first.1 in (
+      first.0,
+      was.0,
+      stays_on first.0 last.0 f
+          (subst (Stays first.0) (sym first.2) (only_used_stays lives (is_overlay first.0) first.0))
+          (subst (Stays last.0) (sym last.2) (only_used_stays merged (not (is_overlay last.0)) last.0)),
+    )

@@ -1,0 +1,157 @@
+-- A namespace whose change number is what it was has the mounts that it had.
+use Rattle.std.proofs.lemmas.Grind.{common_steps}
+use Rattle.std.proofs.Common.{◌≡◌, ◌≢◌, refl, sym, ap, subst, ◌∙◌, ◌⊎◌, inl, inr, ⊎_elim, ℕ, nat_eq, Bool, true, false, true≢false, cond, not, List, ◌*◌, Option, Some, None, Ok, find, map, eqb-true, eq-eqb, arith}
+use Rattle.std.specs.Prelude.{option_map, unwrap_or, ◌==◌}
+use Rattle.std.proofs.lemmas.Bool.{or_parts}
+use Rattle.vt_spec.specs.Language.Calls.{Call, TaskName}
+use Rattle.vt_spec.specs.Lists.{Fresh, holds_of}
+use Rattle.vt_spec.specs.Machine.Apply.{apply}
+use Rattle.vt_spec.specs.Machine.Filesystems.{raised}
+use Rattle.vt_spec.specs.Machine.Judge.{judge_in}
+use Rattle.vt_spec.specs.Machine.Mounts.{Mount}
+use Rattle.vt_spec.specs.Machine.Outcomes.{Outcome, after}
+use Rattle.vt_spec.specs.Machine.Permits.{Permit}
+use Rattle.vt_spec.specs.Machine.Policy.{call_outcome, finished_by, numbers_raised, raised_namespace, same_mounts_in}
+use Rattle.vt_spec.specs.Machine.Settled.{settled}
+use Rattle.vt_spec.specs.Machine.Turns.{is_stale, last_number, namespace_change_of}
+use Rattle.vt_spec.specs.Machine.World.{Namespace, Task, World, mounts_of, task_called}
+use Rattle.vt_spec.proofs.Found.{found_among, found_passes}
+use Rattle.vt_spec.proofs.Lists.{Among, among-append_right, among-from_filter, among-map}
+use Rattle.vt_laws_rules.proofs.judged.CallsJudged.{call_is_judged_then_applied}
+use Rattle.vt_laws_worlds.proofs.overlay_permits.worlds.PolicyLeads.{policy_leads}
+use Rattle.vt_laws_worlds.proofs.worlds.SeenTrees.{unused_number}
+use Rattle.vt_laws_turns.specs.Frames.Unraised.{IsCallIn, IsNamespaceUnraised, UnraisedNamespacesKeepMounts}
+use Rattle.vt_laws_turns.proofs.frames.frames.NamespacesGoOn.{namespace_found, namespaces_go_on}
+use Rattle.vt_laws_turns.proofs.frames.frames.SameMounts.{lists_same, rises}
+use Rattle.vt_laws_turns.proofs.frames.frames.ShownAlike.{swept_show_alike}
+use Rattle.vt_laws_turns.proofs.frames.Found.{found_map}
+
+-- numbers that are not stale are the same, and not the largest
+pub not_stale : (held now : ℕ) → is_stale held now ≡ false → (held ≡ now) × (now ≢ last_number)
+not_stale held now e =
+    let parts = or_parts (not (held == now)) (now == last_number) e in (
+      eqb-true held now (turned (held == now) parts.0),
+      λ same. true≢false (sym (eq-eqb now last_number same) ∙ parts.1),
+    )
+  where
+    turned : (b : Bool) → not b ≡ false → b ≡ true
+    turned true h = refl
+    turned false h = absurd (true≢false h)
+
+-- the change number of a namespace that was found, or of none
+abbrev pub change_in : Option (Namespace ℕ) → ℕ
+change_in found = unwrap_or (option_map (λ (n : Namespace ℕ). n.change) found) last_number
+
+module _ (world : World ℕ) (fresh : Fresh ℕ) (given : IsCallIn world fresh) (number : ℕ) where
+  abbrev found_in : List (Namespace ℕ) → Option (Namespace ℕ)
+  found_in list = find (λ (n : Namespace ℕ). nat_eq number n.number) list
+
+  module _ (name : TaskName) (task : Task ℕ) (call : Call) (permit : Permit ℕ) (changed : List ℕ)
+      (called : task_called world task.name ≡ Some task)
+      (granted : judge_in nat_eq fresh world task call ≡ Ok permit) where
+    abbrev applied : World ℕ
+    applied = (apply nat_eq fresh world task permit).world
+
+    abbrev later : World ℕ
+    later = numbers_raised nat_eq world name changed (settled nat_eq applied)
+
+    abbrev raise : Namespace ℕ → Namespace ℕ
+    raise = raised_namespace nat_eq world (settled nat_eq applied)
+
+    raise_number : (n : Namespace ℕ) → (raise n).number ≡ n.number
+    raise_number n = grind (arith, common_steps)
+
+    -- a namespace that is there later was there before, with that number
+    was_there : (n : Namespace ℕ) → found_in applied.namespaces ≡ Some n
+        → (change_in (found_in world.namespaces) ≡ n.change)
+        ⊎ (change_in (found_in world.namespaces) ≡ last_number)
+    was_there n e =
+        let at : nat_eq number n.number ≡ true =
+        found_passes (λ (m : Namespace ℕ). nat_eq number m.number) applied.namespaces n e in
+        ⊎_elim
+        (λ old. inl (ap change_in
+        (namespace_found world.namespaces given.is.namespaces.one_namespace n old number at)))
+        (λ new. inr (ap change_in (none_found new at (found_in world.namespaces) refl)))
+        (namespaces_go_on world fresh task permit n
+        (found_among (λ (m : Namespace ℕ). nat_eq number m.number) applied.namespaces n e))
+      where
+        none_found : n.number ≡ fresh (2 * 0) → nat_eq number n.number ≡ true → (o : Option (Namespace ℕ))
+            → found_in world.namespaces ≡ o → found_in world.namespaces ≡ None
+        none_found new at None f = f
+        none_found new at (Some m) f =
+            let among : Among m world.namespaces =
+            found_among (λ (x : Namespace ℕ). nat_eq number x.number) world.namespaces m f in
+            let same : fresh (2 * 0) ≡ m.number =
+            sym new ∙ sym (eqb-true number n.number at)
+            ∙ eqb-true number m.number
+            (found_passes (λ (x : Namespace ℕ). nat_eq number x.number) world.namespaces m f) in
+            absurd (true≢false (sym (eq-eqb (fresh (2 * 0)) m.number same)
+            ∙ unused_number world fresh given.serves (2 * 0) m.number
+            (among-append_right _ (map (λ (x : Namespace ℕ). x.number) world.namespaces) m.number
+            (among-map (λ (x : Namespace ℕ). x.number) world.namespaces m among))))
+
+    pub granted_keeps : IsNamespaceUnraised world later number
+        → mounts_of nat_eq later number ≡ mounts_of nat_eq world number
+    granted_keeps unraised = by (found_in applied.namespaces) refl
+      where
+        held : ℕ
+        held = namespace_change_of nat_eq world number
+
+        same_now : (held ≡ namespace_change_of nat_eq later number)
+            × (namespace_change_of nat_eq later number ≢ last_number)
+        same_now = not_stale held (namespace_change_of nat_eq later number) unraised
+
+        now_is : namespace_change_of nat_eq later number ≡ change_in (option_map raise (found_in applied.namespaces))
+        now_is = ap change_in (found_map (λ (n : Namespace ℕ). n.number) raise number applied.namespaces raise_number)
+
+        kept : (n : Namespace ℕ) → nat_eq number n.number ≡ true
+            → (change_in (found_in world.namespaces) ≡ n.change)
+            → (b : Bool) → same_mounts_in nat_eq world (settled nat_eq applied) n.number ≡ b
+            → namespace_change_of nat_eq later number ≡ (cond b n (record n { change = raised n.change })).change
+            → mounts_of nat_eq later number ≡ mounts_of nat_eq world number
+        kept n at old false e now =
+            absurd (rises n.change (λ most. same_now.1 (sym same_now.0 ∙ old ∙ most))
+            (sym now ∙ sym same_now.0 ∙ old))
+        kept n at old true e now =
+            let same : n.number ≡ number = sym (eqb-true number n.number at) in
+            lists_same world (settled nat_eq applied)
+            (swept_show_alike world fresh task call permit given.is given.serves called granted) number
+            (mounts_of nat_eq world number) (mounts_of nat_eq (settled nat_eq applied) number)
+            (λ x m. among-from_filter (λ (mount : Mount ℕ). holds_of (nat_eq number) mount.namespace) world.mounts x m)
+            (λ y m. among-from_filter (λ (mount : Mount ℕ). holds_of (nat_eq number) mount.namespace)
+            (settled nat_eq applied).mounts y m)
+            (ap (same_mounts_in nat_eq world (settled nat_eq applied)) (sym same) ∙ e)
+
+        by : (o : Option (Namespace ℕ)) → found_in applied.namespaces ≡ o
+            → mounts_of nat_eq later number ≡ mounts_of nat_eq world number
+        by None e = absurd (same_now.1 (now_is ∙ ap (λ o. change_in (option_map raise o)) e))
+        by (Some n) e =
+            ⊎_elim
+            (λ old. kept n (found_passes (λ (m : Namespace ℕ). nat_eq number m.number) applied.namespaces n e) old
+            (same_mounts_in nat_eq world (settled nat_eq applied) n.number) refl
+            (now_is ∙ ap (λ o. change_in (option_map raise o)) e))
+            (λ last. absurd (same_now.1 (sym same_now.0 ∙ last)))
+            (was_there n e)
+
+    -- so it is where the call is judged
+    pub call_keeps : IsNamespaceUnraised world
+        (finished_by nat_eq false world name changed (call_outcome nat_eq fresh world task call)).world number
+        → mounts_of nat_eq
+        (finished_by nat_eq false world name changed (call_outcome nat_eq fresh world task call)).world number
+        ≡ mounts_of nat_eq world number
+    call_keeps =
+        let outcome : call_outcome nat_eq fresh world task call ≡ apply nat_eq fresh world task permit =
+        call_is_judged_then_applied fresh world task call
+        ∙ ap (λ j. after world j (apply nat_eq fresh world task)) granted in
+        subst (λ (o : Outcome ℕ). IsNamespaceUnraised world (finished_by nat_eq false world name changed o).world number
+        → mounts_of nat_eq (finished_by nat_eq false world name changed o).world number
+        ≡ mounts_of nat_eq world number)
+        (sym outcome) granted_keeps
+
+pub unraised_namespaces_keep_mounts : UnraisedNamespacesKeepMounts
+unraised_namespaces_keep_mounts world fresh name call number given =
+    policy_leads
+    (λ later. IsNamespaceUnraised world later number → mounts_of nat_eq later number ≡ mounts_of nat_eq world number)
+    world fresh name call (λ same. refl)
+    (λ task permit changed called granted.
+    call_keeps world fresh given number name task call permit changed called granted)

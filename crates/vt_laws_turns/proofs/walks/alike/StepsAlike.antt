@@ -1,0 +1,433 @@
+-- One step of a walk leads where it led, if the filesystems that it meets are what they were.
+use Rattle.std.proofs.lemmas.Grind.{common_steps}
+use Rattle.std.proofs.Common.{append-nil, ◌≡◌, refl, sym, ap, subst, ◌∙◌, inl, inr, ⊎_elim, ℕ, zero, suc, nat_eq, Bool, true, false, cond, List, [], ◌∷◌, ◌++◌, Option, Some, None, Ok, Err, Result, flat_map, length, not, ◌||◌, is_some, arith}
+use Rattle.std.specs.Prelude.{IfOk, ok_or, option_map, option_to_list}
+use Rattle.std.proofs.lemmas.List.{map-append}
+use Rattle.vt_spec.specs.declared.errors.Deny.{Deny}
+use Rattle.vt_spec.specs.declared.errors.Rule.TheVariants.{W3, W4, W5, W6, W8}
+use Rattle.vt_spec.specs.Errors.{Rules, and_then, denial, unless}
+use Rattle.vt_spec.specs.FileTree.{is_directory_under, is_removed}
+use Rattle.vt_spec.specs.Lists.{chain, last_or}
+use Rattle.vt_spec.specs.Machine.Invariants.{IsWorld}
+use Rattle.vt_spec.specs.Machine.Looks.{Looks, is_directory_at, looks_of, mount_at, topmost}
+use Rattle.vt_spec.specs.Machine.Mounts.{Location, Mount, same_location}
+use Rattle.vt_spec.specs.Machine.Rightful.{mounter_allows, node_allows}
+use Rattle.vt_spec.specs.Machine.Walking.{Here, LastWord, Stop, entered_upward, entry_location, filesystems_of, hops, is_lost, is_top, met_by, parent_location, search_rules, stepped, steps_with, stopped_by, up_from, word_walked}
+use Rattle.vt_spec.specs.Machine.Walking.LastWord.{Dot, DotDot, Named, NoWord}
+use Rattle.vt_spec.specs.Machine.World.{Overlay, Task, World, filesystem_numbered, mount_numbered, mounts_of}
+use Rattle.vt_spec.specs.Rights.{execute_right}
+use Rattle.vt_spec.specs.Tree.{Node, entries_in, entry_named, is_directory_node, parent_in}
+use Rattle.vt_spec.proofs.Lists.{Among, among-append, among-append_left, among-append_right, among-map, map_alike}
+use Rattle.vt_laws_worlds.proofs.worlds.Reached.{IsFound, directory_found, place_found, step_found}
+use Rattle.vt_laws_turns.specs.Frames.Unraised.{KeepsFilesystem, KeepsOverlay}
+use Rattle.vt_laws_turns.proofs.walks.alike.MountsAlike.{IsOwn, chain_each, hop_in, hop_point, over_own, parent_own, same_hops, same_mount, same_over}
+use Rattle.vt_laws_turns.proofs.walks.alike.NodesAlike.{node_same, removed_same, under_same}
+
+-- a chain begins with its start, and ends with one of its own
+module _ {A : Type 0} where
+  chain_start : (next : A → Option A) (n : ℕ) (a : A) → Among a (chain n next a)
+  chain_start next zero a = inl refl
+  chain_start next (suc n) a = by (next a)
+    where
+      by : (o : Option A) → Among a (elim o [ None ↦ a ∷ [] | Some b ↦ a ∷ chain n next b ])
+      by None = inl refl
+      by (Some b) = inl refl
+
+  last_among : (list : List A) (a : A) → Among a list → Among (last_or a list) list
+  last_among [] a m = absurd m
+  last_among (b ∷ list) a m = by list b
+    where
+      by : (rest : List A) (b : A) → Among (last_or b rest) (b ∷ rest)
+      by [] b = inl refl
+      by (c ∷ rest) b = inr (by rest c)
+
+-- the mounter of an overlay is who it was
+mounter_by : (before after : Option (Overlay ℕ)) → KeepsOverlay before after → (wanted : ℕ) (node : Option (Node ℕ))
+    → mounter_allows after wanted node ≡ mounter_allows before wanted node
+mounter_by None None kept wanted object = refl
+mounter_by None (Some after) kept wanted object = absurd kept
+mounter_by (Some before) None kept wanted object = absurd kept
+mounter_by (Some before) (Some after) kept wanted node =
+    ap (λ (o : Overlay ℕ). node_allows o.mounter wanted node) kept.0
+
+-- what a word that is walked leads to
+abbrev pub walked_to : ℕ → List (List ℕ) → Rules → Result (Location ℕ) Deny → Result (Here ℕ) (Stop ℕ)
+walked_to left steps rules found =
+    stopped_by steps (and_then (unless rules found)
+    (λ reached. Ok (record { location = reached; left = left; steps = steps })))
+
+found_ok : (P : Location ℕ → Type 0) (left : ℕ) (steps : List (List ℕ)) (rules : Rules) (found : Result
+    (Location ℕ) Deny)
+    → ((l : Location ℕ) → found ≡ Ok l → P l)
+    → IfOk (walked_to left steps rules found) (λ (next : Here ℕ). P next.location)
+found_ok P left steps [] (Ok l) is = is l refl
+found_ok P left steps [] (Err deny) is = tt
+found_ok P left steps ((true, rule) ∷ rules) found is = tt
+found_ok P left steps ((false, rule) ∷ rules) found is = found_ok P left steps rules found is
+
+ok_is : (P : Location ℕ → Type 0) (found : Result (Location ℕ) Deny) → IfOk found P → (l : Location ℕ)
+    → found ≡ Ok l → P l
+ok_is P (Ok a) is l e = let same : a ≡ l = cc in subst P same is
+ok_is P (Err deny) is l e = cc
+
+module _ (world later : World ℕ) (isw : IsWorld nat_eq world) (isl : IsWorld nat_eq later) (task : Task ℕ)
+    (same : mounts_of nat_eq later task.namespace ≡ mounts_of nat_eq world task.namespace) where
+  abbrev pub one : Looks ℕ
+  one = looks_of nat_eq world
+
+  abbrev pub other : Looks ℕ
+  other = looks_of nat_eq later
+
+  abbrev pub Own : ℕ → Type 0
+  Own = IsOwn world later isw.mounts isl.mounts task.namespace same
+
+  abbrev pub shown_at : Location ℕ → ℕ
+  shown_at l = (mount_at one l).filesystem
+
+  -- a filesystem is what it was, but for what is gone
+  abbrev pub Kept : ℕ → Type 0
+  Kept number = KeepsFilesystem (filesystem_numbered nat_eq world number) (filesystem_numbered nat_eq later number)
+
+  abbrev pub EachKept : List ℕ → Type 0
+  EachKept list = (number : ℕ) → Among number list → Kept number
+
+  -- a location that is there in both worlds, on a mount that is as it was
+  pub record IsThere (l : Location ℕ) : Type 0 where
+    pub own : Own l.mount
+    pub before : IsFound world isw task l
+    pub after : IsFound later isl task l
+
+  pub mount_same : (number : ℕ) → Own number → mount_numbered nat_eq later number ≡ mount_numbered nat_eq world number
+  mount_same = same_mount world later isw.mounts isl.mounts task.namespace same
+
+  pub node_is : (l : Location ℕ) → IsThere l → Kept (shown_at l) → other.node l ≡ one.node l
+  node_is l is kept =
+      first
+      ∙ node_same world later isw.files isl.files (shown_at l) kept l.node (sym (ap is_some first) ∙ is.after.1)
+    where
+      first : other.node l ≡ (filesystem_numbered nat_eq later (shown_at l)).files.tree.node l.node
+      first =
+          ap (λ (m : Mount ℕ). (filesystem_numbered nat_eq later m.filesystem).files.tree.node l.node)
+          (mount_same l.mount is.own)
+
+  pub directory_is : (l : Location ℕ) → IsThere l → Kept (shown_at l) → is_directory_at other l ≡ is_directory_at one l
+  directory_is l is kept = ap is_directory_node (node_is l is kept)
+
+  pub search_is : (l : Location ℕ) → IsThere l → Kept (shown_at l)
+      → search_rules nat_eq other task l ≡ search_rules nat_eq one task l
+  search_is l is kept =
+      ap (λ n. (not (is_directory_node n), W3) ∷ (not (node_allows task.credentials execute_right n), W4)
+      ∷ (not (mounter_allows (other.overlay l) execute_right n), W5) ∷ []) (node_is l is kept)
+      ∙ ap (λ b. (not (is_directory_node (one.node l)), W3)
+      ∷ (not (node_allows task.credentials execute_right (one.node l)), W4) ∷ (not b, W5) ∷ [])
+      (ap (λ (m : Mount ℕ). mounter_allows (filesystem_numbered nat_eq later m.filesystem).overlay execute_right
+      (one.node l)) (mount_same l.mount is.own)
+      ∙ mounter_by (filesystem_numbered nat_eq world (shown_at l)).overlay
+      (filesystem_numbered nat_eq later (shown_at l)).overlay kept.overlay execute_right (one.node l))
+
+  -- whether a directory has left the root of its mount
+  abbrev lost_by : World ℕ → Mount ℕ → ℕ → Bool
+  lost_by w m node =
+      is_removed nat_eq (filesystem_numbered nat_eq w m.filesystem).files.tree node
+      || not (is_directory_under nat_eq (filesystem_numbered nat_eq w m.filesystem).files m.root node)
+
+  lost_is : (l : Location ℕ) → IsThere l → Kept (shown_at l) → is_directory_at one l ≡ true
+      → is_lost nat_eq other l ≡ is_lost nat_eq one l
+  lost_is l is kept directory =
+      ap (λ m. lost_by later m l.node) (mount_same l.mount is.own)
+      ∙ by (is_removed nat_eq (filesystem_numbered nat_eq later (shown_at l)).files.tree l.node) refl
+    where
+      there : is_directory_node ((filesystem_numbered nat_eq later (shown_at l)).files.tree.node l.node) ≡ true
+      there = cc (mount_same l.mount is.own, node_is l is kept, directory)
+
+      removed : is_removed nat_eq (filesystem_numbered nat_eq later (shown_at l)).files.tree l.node
+          ≡ is_removed nat_eq (filesystem_numbered nat_eq world (shown_at l)).files.tree l.node
+      removed = removed_same world later isw.files isl.files (shown_at l) kept l.node there
+
+      by : (b : Bool) → is_removed nat_eq (filesystem_numbered nat_eq later (shown_at l)).files.tree l.node ≡ b
+          → lost_by later (mount_at one l) l.node ≡ lost_by world (mount_at one l) l.node
+      by true e = grind (arith, common_steps, removed)
+      by false e =
+          cc (
+            removed,
+            under_same world later isw.files isl.files (shown_at l) kept (mount_at one l).root l.node there e,
+          )
+
+  -- Where `..` goes on from
+
+  hop_there : (a b : Location ℕ) → IsThere a
+      → hop_in world later isw.mounts isl.mounts task.namespace same task world a ≡ Some b
+      → IsThere b × (is_directory_at one b ≡ true)
+  hop_there a b is e =
+      let point = hop_point world later isw.mounts isl.mounts task.namespace same task a b e in
+      let before = place_found world isw task a.mount b is.before.0 point in
+      let after = place_found later isl task a.mount b is.after.0
+      (ap (λ (m : Mount ℕ). m.mount_point) (mount_same a.mount is.own) ∙ point) in (
+        record {
+          own = (parent_own world later isw.mounts isl.mounts task.namespace same a.mount b is.own point).0;
+          before = directory_found world isw task b before;
+          after = directory_found later isl task b after;
+        },
+        before.1,
+      )
+
+  abbrev way : Location ℕ → List (Location ℕ)
+  way here = hops nat_eq one task here
+
+  abbrev top_of : Location ℕ → Location ℕ
+  top_of here = last_or here (way here)
+
+  way_there : (here : Location ℕ) → IsThere here → (l : Location ℕ) → Among l (way here) → IsThere l
+  way_there here is =
+      chain_each IsThere (hop_in world later isw.mounts isl.mounts task.namespace same task world)
+      (λ a b p e. (hop_there a b p e).0) (length world.mounts) here is
+
+  way_directories : (here : Location ℕ) → IsThere here → is_directory_at one here ≡ true → (l : Location ℕ)
+      → Among l (way here) → IsThere l × (is_directory_at one l ≡ true)
+  way_directories here is directory =
+      chain_each (λ l. IsThere l × (is_directory_at one l ≡ true))
+      (hop_in world later isw.mounts isl.mounts task.namespace same task world)
+      (λ a b p e. hop_there a b p.0 e) (length world.mounts) here (is, directory)
+
+  top_among : (here : Location ℕ) → Among (top_of here) (way here)
+  top_among here =
+      last_among (way here) here
+      (chain_start (hop_in world later isw.mounts isl.mounts task.namespace same task world) (length world.mounts) here)
+
+  way_same : (here : Location ℕ) → IsThere here → hops nat_eq other task here ≡ way here
+  way_same here is = same_hops world later isw.mounts isl.mounts task.namespace same task here is.own
+
+  pub over_same : (here : Location ℕ) → Own here.mount → other.mounts_over here ≡ one.mounts_over here
+  over_same = same_over world later isw.mounts isl.mounts task.namespace same
+
+  pub over_each : (here : Location ℕ) → Own here.mount → (l : Location ℕ) → Among l (one.mounts_over here) → Own l.mount
+  over_each = over_own world later isw.mounts isl.mounts task.namespace same
+
+  pub topmost_same : (here : Location ℕ) → Own here.mount → topmost other here ≡ topmost one here
+  topmost_same here own = ap (last_or here) (over_same here own)
+
+  over_top : (here : Location ℕ) → Among (topmost one here) (one.mounts_over here)
+  over_top here = last_among (one.mounts_over here) here (chain_start _ (length world.mounts) here)
+
+  pub shown_same : (list : List (Location ℕ)) → ((l : Location ℕ) → Among l list → Own l.mount)
+      → filesystems_of nat_eq other list ≡ filesystems_of nat_eq one list
+  shown_same list own =
+      map_alike (λ l. (mount_at other l).filesystem) (λ l. (mount_at one l).filesystem) list
+      (λ l m. ap (λ (x : Mount ℕ). x.filesystem) (mount_same l.mount (own l m)))
+
+  top_is : (here : Location ℕ) → Own here.mount → is_top nat_eq other task here ≡ is_top nat_eq one task here
+  top_is here own =
+      ap (λ (m : Mount ℕ). same_location nat_eq here task.root || nat_eq here.node m.root) (mount_same here.mount own)
+
+  parent_is : (here : Location ℕ) → IsThere here → Kept (shown_at here)
+      → parent_location nat_eq other here ≡ parent_location nat_eq one here
+  parent_is here is kept = ap (λ n. record { mount = here.mount; node = parent_in here.node n }) (node_is here is kept)
+
+  pub entry_is : (here : Location ℕ) (name : List ℕ) → IsThere here → Kept (shown_at here)
+      → entry_location nat_eq other here name ≡ entry_location nat_eq one here name
+  entry_is here name is kept =
+      ap (λ n. option_map (λ object. record { mount = here.mount; node = object }) (entry_named name (entries_in n)))
+      (node_is here is kept)
+
+  top_kept : (here : Location ℕ) → EachKept (met_by nat_eq one task here DotDot) → Kept (shown_at (top_of here))
+  top_kept here kept =
+      kept (shown_at (top_of here)) (among-map shown_at (way here ++ entered_upward nat_eq one task (top_of here))
+      (top_of here) (among-append_left (way here) (entered_upward nat_eq one task (top_of here)) (top_of here)
+      (top_among here)))
+
+  one_own : (here : Location ℕ) → Own here.mount → (l : Location ℕ) → Among l (here ∷ []) → Own l.mount
+  one_own here own l m = ⊎_elim (λ e. subst (λ (x : Location ℕ). Own x.mount) (sym e) own) (λ none. absurd none) m
+
+  entered_own : (top : Location ℕ) → Own top.mount → (l : Location ℕ)
+      → Among l (entered_upward nat_eq one task top) → Own l.mount
+  entered_own top own = by (is_top nat_eq one task top)
+    where
+      by : (b : Bool) → (l : Location ℕ) → Among l (cond b [] (one.mounts_over (parent_location nat_eq one top)))
+          → Own l.mount
+      by true l m = absurd m
+      by false l m = over_each (parent_location nat_eq one top) own l m
+
+  pub object_over : (here : Location ℕ) → Own here.mount → (o : Option ℕ)
+      → (flat_map other.mounts_over (option_to_list (option_map
+      (λ object. record { mount = here.mount; node = object }) o))
+      ≡ flat_map one.mounts_over (option_to_list (option_map
+      (λ object. record { mount = here.mount; node = object }) o)))
+      × ((l : Location ℕ)
+      → Among l (flat_map one.mounts_over
+      (option_to_list (option_map (λ object. record { mount = here.mount; node = object }) o))) → Own l.mount)
+  object_over here own None = (refl, λ l m. absurd m)
+  object_over here own (Some object) =
+      let there : Location ℕ = record { mount = here.mount; node = object } in (
+        ap (λ list. list ++ []) (over_same there own),
+        λ l m. ⊎_elim (λ is. over_each there own l is) (λ none. absurd none)
+            (among-append (one.mounts_over there) [] l m),
+      )
+
+  -- the filesystems that a step meets
+  pub met_is : (here : Location ℕ) (word : LastWord) → IsThere here → EachKept (met_by nat_eq one task here word)
+      → met_by nat_eq other task here word ≡ met_by nat_eq one task here word
+  met_is here NoWord is kept = shown_same (here ∷ []) (one_own here is.own)
+  met_is here Dot is kept = shown_same (here ∷ []) (one_own here is.own)
+  met_is here (Named name) is kept =
+      let over = object_over here is.own (entry_named name (entries_in (one.node here))) in
+      ap (λ o. filesystems_of nat_eq other (here ∷ flat_map other.mounts_over (option_to_list o)))
+      (entry_is here name is (kept (shown_at here) (inl refl)))
+      ∙ ap (λ l. filesystems_of nat_eq other (here ∷ l)) over.0
+      ∙ shown_same (here ∷ flat_map one.mounts_over (option_to_list (entry_location nat_eq one here name)))
+      (λ l m. ⊎_elim (λ e. subst (λ (x : Location ℕ). Own x.mount) (sym e) is.own) (λ n. over.1 l n) m)
+  met_is here DotDot is kept =
+      let top = top_of here in
+      let there = way_there here is top (top_among here) in
+      ap (λ h. filesystems_of nat_eq other (h ++ entered_upward nat_eq other task (last_or here h))) (way_same here is)
+      ∙ ap (λ b. filesystems_of nat_eq other (way here ++ cond b []
+      (other.mounts_over (parent_location nat_eq other top)))) (top_is top there.own)
+      ∙ ap (λ l. filesystems_of nat_eq other (way here ++ cond (is_top nat_eq one task top) [] l))
+      (ap other.mounts_over (parent_is top there (top_kept here kept))
+      ∙ over_same (parent_location nat_eq one top) there.own)
+      ∙ shown_same (way here ++ entered_upward nat_eq one task top)
+      (λ l m. ⊎_elim (λ n. (way_there here is l n).own) (λ n. entered_own top there.own l n)
+      (among-append (way here) (entered_upward nat_eq one task top) l m))
+
+  -- where a step leads, and that it is kept
+  abbrev pub IsKept : Location ℕ → Type 0
+  IsKept l = Own l.mount × Kept (shown_at l)
+
+  over_kept : (here : Location ℕ) → Own here.mount → EachKept (filesystems_of nat_eq one (one.mounts_over here))
+      → IsKept (topmost one here)
+  over_kept here own kept = (
+    over_each here own (topmost one here) (over_top here),
+    kept (shown_at (topmost one here)) (among-map shown_at (one.mounts_over here) (topmost one here) (over_top here)),
+  )
+
+  named_by : (here : Location ℕ) → Own here.mount → (o : Option ℕ)
+      → EachKept (filesystems_of nat_eq one (flat_map one.mounts_over
+      (option_to_list (option_map (λ object. record { mount = here.mount; node = object }) o))))
+      → (ok_or (option_map (topmost other) (option_map (λ object. record { mount = here.mount; node = object }) o))
+      (denial W6)
+      ≡ ok_or (option_map (topmost one) (option_map (λ object. record { mount = here.mount; node = object }) o))
+      (denial W6))
+      × IfOk (ok_or (option_map (topmost one) (option_map (λ object. record { mount = here.mount; node = object }) o))
+      (denial W6)) IsKept
+  named_by here own None kept = (refl, tt)
+  named_by here own (Some object) kept =
+      let there : Location ℕ = record { mount = here.mount; node = object } in (
+        ap Ok (topmost_same there own),
+        over_kept there own (λ f m. kept f (subst (Among f) (ap (filesystems_of nat_eq one)
+            (sym (append-nil (one.mounts_over there)))) m)),
+      )
+
+  up_by : (top : Location ℕ) → IsKept top → (t lost : Bool)
+      → (t ≡ false → IsKept (topmost one (parent_location nat_eq one top)))
+      → IfOk (cond t (Ok top) (unless ((lost, W8) ∷ []) (Ok (topmost one (parent_location nat_eq one top))))) IsKept
+  up_by top kept true lost after = kept
+  up_by top kept false true after = tt
+  up_by top kept false false after = after refl
+
+  pub stepped_is : (here : Location ℕ) (word : LastWord) → IsThere here → is_directory_at one here ≡ true
+      → EachKept (met_by nat_eq one task here word)
+      → (stepped nat_eq other task here word ≡ stepped nat_eq one task here word)
+      × IfOk (stepped nat_eq one task here word) IsKept
+  stepped_is here NoWord is directory kept = (refl, (is.own, kept (shown_at here) (inl refl)))
+  stepped_is here Dot is directory kept = (refl, (is.own, kept (shown_at here) (inl refl)))
+  stepped_is here (Named name) is directory kept =
+      let by = named_by here is.own (entry_named name (entries_in (one.node here))) (λ f m. kept f (inr m)) in (
+        ap (λ o. ok_or (option_map (topmost other) o) (denial W6))
+            (entry_is here name is (kept (shown_at here) (inl refl))) ∙ by.0,
+        by.1,
+      )
+  stepped_is here DotDot is directory kept =
+      let top = top_of here in
+      let there = way_directories here is directory top (top_among here) in
+      let its = top_kept here kept in
+      let parent = parent_location nat_eq one top in (
+        ap (λ h. up_from nat_eq other task (last_or here h)) (way_same here is)
+            ∙ ap (λ t. cond t (Ok top) (unless ((is_lost nat_eq other top, W8) ∷ [])
+            (Ok (topmost other (parent_location nat_eq other top))))) (top_is top there.0.own)
+            ∙ ap (λ b. cond (is_top nat_eq one task top) (Ok top) (unless ((b, W8) ∷ [])
+            (Ok (topmost other (parent_location nat_eq other top))))) (lost_is top there.0 its there.1)
+            ∙ ap (λ l. cond (is_top nat_eq one task top) (Ok top) (unless ((is_lost nat_eq one top, W8) ∷ []) (Ok l)))
+            (ap (topmost other) (parent_is top there.0 its) ∙ topmost_same parent there.0.own),
+        up_by top (there.0.own, its) (is_top nat_eq one task top) (is_lost nat_eq one top)
+            (λ e. over_kept parent there.0.own (λ f m. kept f
+            (subst (Among f) (sym (map-append shown_at (way here) (entered_upward nat_eq one task top)))
+            (among-append_right (filesystems_of nat_eq one (way here))
+            (filesystems_of nat_eq one (entered_upward nat_eq one task top)) f
+            (subst (λ b. Among f (filesystems_of nat_eq one (cond b [] (one.mounts_over parent)))) (sym e) m))))),
+      )
+
+  -- each step meets where it begins
+  pub kept_here : (here : Location ℕ) (word : LastWord) → EachKept (met_by nat_eq one task here word)
+      → Kept (shown_at here)
+  kept_here here NoWord kept = kept (shown_at here) (inl refl)
+  kept_here here Dot kept = kept (shown_at here) (inl refl)
+  kept_here here (Named name) kept = kept (shown_at here) (inl refl)
+  kept_here here DotDot kept =
+      kept (shown_at here) (among-map shown_at (way here ++ entered_upward nat_eq one task (top_of here)) here
+      (among-append_left (way here) (entered_upward nat_eq one task (top_of here)) here
+      (chain_start (hop_in world later isw.mounts isl.mounts task.namespace same task world)
+      (length world.mounts) here)))
+
+  -- and leads to what is there in both worlds
+  pub reached_there : (here : Location ℕ) (word : LastWord) → IsThere here → is_directory_at one here ≡ true
+      → EachKept (met_by nat_eq one task here word) → (l : Location ℕ) → stepped nat_eq one task here word ≡ Ok l
+      → IsThere l × Kept (shown_at l)
+  reached_there here word is directory kept l e =
+      let step = stepped_is here word is directory kept in
+      let its = ok_is IsKept (stepped nat_eq one task here word) step.1 l e in (
+        record {
+          own = its.0;
+          before = step_found world isw task here word l (is.before.0, directory) e;
+          after = step_found later isl task here word l
+              (is.after.0, directory_is here is (kept_here here word kept) ∙ directory) (step.0 ∙ e);
+        },
+        its.1,
+      )
+
+  -- rules by whether a directory is there
+  abbrev pub rules_by : Location ℕ → Bool → Rules
+  rules_by here directory =
+      (not directory, W3)
+      ∷ (not (node_allows task.credentials execute_right (one.node here)), W4)
+      ∷ (not (mounter_allows (one.overlay here) execute_right (one.node here)), W5)
+      ∷ []
+
+  -- one word
+  pub word_is : (here : Here ℕ) (word : LastWord) → IsThere here.location
+      → EachKept (met_by nat_eq one task here.location word)
+      → (word_walked nat_eq other task here word ≡ word_walked nat_eq one task here word)
+      × IfOk (word_walked nat_eq one task here word) (λ (next : Here ℕ). IsThere next.location
+      × Kept (shown_at next.location))
+  word_is here word is kept = (
+    ap (λ s. walked_to here.left (s ∷ here.steps) (search_rules nat_eq other task here.location)
+        (stepped nat_eq other task here.location word)) (met_is here.location word is kept)
+        ∙ ap (λ r. walked_to here.left steps r (stepped nat_eq other task here.location word))
+        (search_is here.location is (kept_here here.location word kept))
+        ∙ found_same (is_directory_at one here.location) refl,
+    found_there (is_directory_at one here.location) refl,
+  )
+    where
+      steps : List (List ℕ)
+      steps = steps_with nat_eq one task here word
+
+      found_same : (b : Bool) → is_directory_at one here.location ≡ b
+          → walked_to here.left steps (search_rules nat_eq one task here.location)
+          (stepped nat_eq other task here.location word)
+          ≡ walked_to here.left steps (search_rules nat_eq one task here.location)
+          (stepped nat_eq one task here.location word)
+      found_same true e =
+          ap (walked_to here.left steps (search_rules nat_eq one task here.location))
+          (stepped_is here.location word is e kept).0
+      found_same false e = cc (e)
+
+      found_there : (b : Bool) → is_directory_at one here.location ≡ b
+          → IfOk (walked_to here.left steps (search_rules nat_eq one task here.location)
+          (stepped nat_eq one task here.location word))
+          (λ (next : Here ℕ). IsThere next.location × Kept (shown_at next.location))
+      found_there true e =
+          found_ok (λ l. IsThere l × Kept (shown_at l)) here.left steps (search_rules nat_eq one task here.location)
+          (stepped nat_eq one task here.location word)
+          (λ l f. reached_there here.location word is e kept l f)
+      found_there false e =
+          subst (λ d. IfOk (walked_to here.left steps (rules_by here.location d)
+          (stepped nat_eq one task here.location word))
+          (λ (next : Here ℕ). IsThere next.location × Kept (shown_at next.location))) (sym e) tt

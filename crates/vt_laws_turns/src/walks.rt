@@ -1,0 +1,4 @@
+//! Walks of calls under way, which go on word by word.
+
+pub mod alike;
+pub mod by_words;

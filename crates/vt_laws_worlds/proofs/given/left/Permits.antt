@@ -1,0 +1,65 @@
+-- What a permit that a call is given leaves is a world, with overlays too.
+use Rattle.std.proofs.Common.{◌≡◌, refl, sym, ap, subst, ◌∙◌, true≢false, ℕ, nat_eq, Bool, true, false}
+use Rattle.vt_spec.specs.Language.Calls.{Call}
+use Rattle.vt_spec.specs.Language.Calls.Call.{MountOverlay}
+use Rattle.vt_spec.specs.Lists.{Fresh}
+use Rattle.vt_spec.specs.Machine.Apply.{apply}
+use Rattle.vt_spec.specs.Machine.Invariants.{IsWorld, OverlayInvariants}
+use Rattle.vt_spec.specs.Machine.Outcomes.{Outcome, after}
+use Rattle.vt_spec.specs.Machine.Permits.{Permit}
+use Rattle.vt_spec.specs.Machine.Policy.{call_outcome}
+use Rattle.vt_spec.specs.Machine.World.{Task, World}
+use Rattle.vt_laws_rules.proofs.judged.CallsJudged.{call_is_judged_then_applied}
+use Rattle.vt_laws_trees.specs.Trees.Calls.{mounts_overlay}
+use Rattle.vt_laws_worlds.specs.Worlds.Kept.{IsUnderWay}
+use Rattle.vt_laws_worlds.proofs.merging.mounted.Worlds.{mounting_leaves_a_world}
+use Rattle.vt_laws_worlds.proofs.overlay_permits.worlds.EveryCall.{overlays_kept, under}
+use Rattle.vt_laws_worlds.proofs.overlay_permits.worlds.SweptWorlds.{settled_is_a_world}
+use Rattle.vt_laws_worlds.specs.Given.LeftWorlds.{GivenPermitsAreUnderWayAnywhere, GivenPermitsLeaveEveryWorld, IsGivenToTask}
+
+module _ (world : World ℕ) (fresh : Fresh ℕ) (task : Task ℕ) (permit : Permit ℕ) (is : IsWorld nat_eq world)
+    (given : IsGivenToTask fresh world task permit) where
+  abbrev IsReady : World ℕ → Type 0
+  IsReady w = IsUnderWay w × OverlayInvariants nat_eq w
+
+  applied : (call_outcome nat_eq fresh world task given.call).world ≡ (apply nat_eq fresh world task permit).world
+  applied = ap (λ (o : Outcome ℕ). o.world) (call_is_judged_then_applied fresh world task given.call
+      ∙ ap (λ j. after world j (apply nat_eq fresh world task)) given.judged)
+
+  -- a world is one before the sweep, too
+  world_is_ready : (w : World ℕ) → IsWorld nat_eq w → IsReady w
+  world_is_ready w whole = (
+    record {
+      files = whole.files;
+      mounts = whole.mounts;
+      namespaces = whole.namespaces;
+      tasks = whole.tasks;
+      roots = whole.roots;
+    },
+    whole.overlays,
+  )
+
+  mounting : (call : Call) → mounts_overlay call ≡ true → IsReady (call_outcome nat_eq fresh world task call).world
+  mounting (MountOverlay path options flags) e =
+      world_is_ready (call_outcome nat_eq fresh world task (MountOverlay path options flags)).world
+      (mounting_leaves_a_world fresh world task path options flags is given.serves given.called)
+  mounting call e = absurd (true≢false (sym e))
+
+  outcome_ready : (b : Bool) → mounts_overlay given.call ≡ b
+      → IsReady (call_outcome nat_eq fresh world task given.call).world
+  outcome_ready true e = mounting given.call e
+  outcome_ready false e = (
+    under world fresh task given.call permit is given.serves given.called e given.few_groups given.judged,
+    overlays_kept world fresh task given.call permit is given.serves given.called e given.few_groups given.judged,
+  )
+
+  ready : IsReady (apply nat_eq fresh world task permit).world
+  ready = subst IsReady applied (outcome_ready (mounts_overlay given.call) refl)
+
+pub given_permits_are_under_way_anywhere : GivenPermitsAreUnderWayAnywhere
+given_permits_are_under_way_anywhere = ready
+
+pub given_permits_leave_every_world : GivenPermitsLeaveEveryWorld
+given_permits_leave_every_world world fresh task permit is given =
+    let before = ready world fresh task permit is given in
+    settled_is_a_world (apply nat_eq fresh world task permit).world before.0 before.1

@@ -1,0 +1,197 @@
+-- What is found in two worlds that are alike, and changes of their filesystems and tasks.
+use Rattle.std.proofs.Common.{◌≡◌, refl, sym, ap, subst, ℕ, nat_eq, List, Option, Some, None, map}
+use Rattle.vt_laws_worlds.proofs.one_text.answered.AlikeCopies.{LinesAlike, MergesAlike, merge_changed_alike}
+use Rattle.vt_laws_worlds.proofs.one_text.answered.AlikeWorlds.{Alike}
+use Rattle.vt_laws_rules.proofs.same.SameMany.{same_filesystem_itself}
+use Rattle.vt_laws_trees.proofs.runs.answered.AlikeChanges.{changed_alike, replaced_alike}
+use Rattle.vt_laws_trees.proofs.runs.answered.AlikeWorlds.{SameTask}
+use Rattle.vt_laws_trees.proofs.runs.Each.{Each, IfAny, chosen, each_find, each_flat, each_found, each_map}
+use Rattle.vt_spec.specs.Language.Calls.{TaskName, same_name}
+use Rattle.vt_spec.specs.Language.Changes.{Change, changed}
+use Rattle.vt_spec.specs.Lists.{Fresh}
+use Rattle.vt_spec.specs.Machine.CopyUp.{Merge, merge_changed}
+use Rattle.vt_spec.specs.Machine.Filesystems.{filesystem_changed, merge_of, overlay_changed, stack_of, with_change, with_files, with_merge}
+use Rattle.vt_spec.specs.Machine.Mounts.{Location, mount_in}
+use Rattle.vt_spec.specs.Machine.SameWorlds.{SameFiles, SameFilesystem}
+use Rattle.vt_spec.specs.Machine.World.{Filesystem, Layer, Overlay, Task, World, all_locations, filesystem_at, filesystem_numbered, locations_of, mount_at, no_filesystem, node_at, open_layer, replaced_if_numbered, task_called, with_filesystem, with_task}
+
+module _ (one other : World ℕ) (same : Alike one other) where
+  pub found_alike : (number : ℕ)
+      → SameFilesystem (filesystem_numbered nat_eq one number) (filesystem_numbered nat_eq other number)
+  found_alike number =
+      each_found SameFilesystem (λ filesystem. nat_eq number filesystem.number)
+      (λ filesystem. nat_eq number filesystem.number) (λ a b alike. ap (nat_eq number) alike.number)
+      (no_filesystem number) (no_filesystem number) (same_filesystem_itself (no_filesystem number)) one.filesystems
+      other.filesystems same.filesystems
+
+  pub mount_same : (location : Location ℕ) → mount_at nat_eq one location ≡ mount_at nat_eq other location
+  mount_same location = λ i. mount_in nat_eq (same.mounts i) location.mount
+
+  pub here_alike : (location : Location ℕ)
+      → SameFilesystem (filesystem_at nat_eq one location) (filesystem_at nat_eq other location)
+  here_alike location =
+      subst (λ mount. SameFilesystem (filesystem_at nat_eq one location)
+      (filesystem_numbered nat_eq other mount.filesystem))
+      (mount_same location) (found_alike (mount_at nat_eq one location).filesystem)
+
+  pub node_same : (location : Location ℕ) → node_at nat_eq one location ≡ node_at nat_eq other location
+  node_same location = λ i. ((here_alike location).files.tree i).node location.node
+
+  pub opened_same : (layer : Layer ℕ) → open_layer nat_eq one layer ≡ open_layer nat_eq other layer
+  opened_same layer = λ i.
+      record { tree = (found_alike layer.filesystem).files.tree i; directory = layer.directory }
+
+  pub task_alike : (name : TaskName) → IfAny SameTask (task_called one name) (task_called other name)
+  task_alike name =
+      each_find SameTask (λ task. same_name name task.name) (λ task. same_name name task.name)
+      (λ a b alike. ap (λ task. same_name name task.name) alike) one.tasks other.tasks same.tasks
+
+  pub locations_same : all_locations one ≡ all_locations other
+  locations_same =
+      each_flat SameTask locations_of locations_of (λ a b alike. ap locations_of alike) one.tasks other.tasks
+      same.tasks
+
+pub with_filesystem_alike : (one other : World ℕ) → Alike one other → (new again : Filesystem ℕ)
+    → SameFilesystem new again → Alike (with_filesystem nat_eq one new) (with_filesystem nat_eq other again)
+with_filesystem_alike one other same new again alike = record {
+  mounts = same.mounts;
+  master = same.master;
+  filesystems =
+      each_map SameFilesystem SameFilesystem (replaced_if_numbered nat_eq new) (replaced_if_numbered nat_eq again)
+      (λ a b old. chosen SameFilesystem (nat_eq new.number a.number) (nat_eq again.number b.number)
+      (λ i. nat_eq (alike.number i) (old.number i)) new a again b alike old)
+      one.filesystems other.filesystems same.filesystems;
+  namespaces = same.namespaces;
+  tasks = same.tasks;
+}
+
+-- In each overlay with an upper layer what is copied up is copied alike.
+abbrev pub CopiesAlike : World ℕ → World ℕ → Type 0
+CopiesAlike one other =
+    (number : ℕ) (overlay again : Overlay ℕ) (upper next : Layer ℕ)
+    → (filesystem_numbered nat_eq one number).overlay ≡ Some overlay → overlay.upper ≡ Some upper
+    → (filesystem_numbered nat_eq other number).overlay ≡ Some again → again.upper ≡ Some next
+    → LinesAlike (merge_of nat_eq one (filesystem_numbered nat_eq one number) overlay upper)
+    (merge_of nat_eq other (filesystem_numbered nat_eq other number) again next)
+
+-- so they are with the same filesystems
+pub copies_stay : (one other first second : World ℕ) → first.filesystems ≡ one.filesystems
+    → second.filesystems ≡ other.filesystems → CopiesAlike one other → CopiesAlike first second
+copies_stay one other first second left right copies =
+    subst (λ filesystems. CopiesAlike (record first { filesystems = filesystems }) second) (sym left)
+    (subst (λ filesystems. CopiesAlike (record first { filesystems = one.filesystems })
+    (record second { filesystems = filesystems })) (sym right) copies)
+
+-- A change of an overlay and its upper layer
+module _ (one other : World ℕ) (same : Alike one other) (fresh : Fresh ℕ) (first second : Filesystem ℕ)
+    (here : SameFilesystem first second) (change : Change ℕ) where
+  plain_alike : Alike (with_filesystem nat_eq one (with_files first (changed nat_eq first.files change)))
+      (with_filesystem nat_eq other (with_files second (changed nat_eq second.files change)))
+  plain_alike =
+      with_filesystem_alike one other same _ _ (record {
+        number = here.number;
+        files = changed_alike first.files second.files here.files change;
+        overlay = here.overlay;
+      })
+
+  module _ (overlay again : Overlay ℕ) (is : overlay ≡ again) where
+    stacks_same : (upper next : Layer ℕ) → upper ≡ next
+        → stack_of nat_eq one overlay upper ≡ stack_of nat_eq other again next
+    stacks_same upper next top = λ i. record {
+      directory = (top i).directory;
+      lowers = map (λ layer. opened_same one other same layer i) (is i).lowers;
+      mounter = (is i).mounter;
+    }
+
+    merges_alike : (upper next : Layer ℕ) → upper ≡ next
+        → MergesAlike (merge_of nat_eq one first overlay upper) (merge_of nat_eq other second again next)
+    merges_alike upper next top = record {
+      files = here.files;
+      real = λ i. (is i).real;
+      upper =
+          subst (λ layer. SameFiles (filesystem_numbered nat_eq one upper.filesystem).files
+          (filesystem_numbered nat_eq other layer.filesystem).files) top
+          (found_alike one other same upper.filesystem).files;
+    }
+
+    with_merge_alike : (upper next : Layer ℕ) → upper ≡ next → (merge later : Merge ℕ) → MergesAlike merge later
+        → Alike (with_merge nat_eq one first overlay upper merge) (with_merge nat_eq other second again next later)
+    with_merge_alike upper next top merge later alike =
+        with_filesystem_alike _ _
+        (with_filesystem_alike one other same _ _ (record {
+          number = here.number;
+          files = alike.files;
+          overlay = λ i. Some (record (is i) { real = alike.real i });
+        })) _ _ (record {
+          number = below.number;
+          files = alike.upper;
+          overlay = below.overlay;
+        })
+      where
+        below : SameFilesystem (filesystem_numbered nat_eq one upper.filesystem)
+            (filesystem_numbered nat_eq other next.filesystem)
+        below =
+            subst (λ layer. SameFilesystem (filesystem_numbered nat_eq one upper.filesystem)
+            (filesystem_numbered nat_eq other layer.filesystem)) top (found_alike one other same upper.filesystem)
+
+    overlay_alike : (upper next : Option (Layer ℕ)) → upper ≡ next
+        → ((layer over : Layer ℕ) → upper ≡ Some layer → next ≡ Some over
+        → LinesAlike (merge_of nat_eq one first overlay layer) (merge_of nat_eq other second again over))
+        → Alike (overlay_changed nat_eq fresh one first overlay upper change)
+        (overlay_changed nat_eq fresh other second again next change)
+    overlay_alike None None top lines = same
+    overlay_alike None (Some next) top lines = cc
+    overlay_alike (Some upper) None top lines = cc
+    overlay_alike (Some upper) (Some next) top lines =
+        let layer : upper ≡ next = cc in
+        subst (λ stack. Alike (overlay_changed nat_eq fresh one first overlay (Some upper) change)
+        (with_merge nat_eq other second again next
+        (merge_changed nat_eq fresh stack (merge_of nat_eq other second again next) change)))
+        (stacks_same upper next layer)
+        (with_merge_alike upper next layer _ _
+        (merge_changed_alike fresh (stack_of nat_eq one overlay upper) _ _
+        (merges_alike upper next layer) (lines upper next refl refl) change))
+
+  pub filesystem_alike : (overlay again : Option (Overlay ℕ)) → overlay ≡ again
+      → ((merged over : Overlay ℕ) (upper next : Layer ℕ) → overlay ≡ Some merged → merged.upper ≡ Some upper
+      → again ≡ Some over → over.upper ≡ Some next
+      → LinesAlike (merge_of nat_eq one first merged upper) (merge_of nat_eq other second over next))
+      → Alike (filesystem_changed nat_eq fresh one first overlay change)
+      (filesystem_changed nat_eq fresh other second again change)
+  filesystem_alike None None is lines = plain_alike
+  filesystem_alike None (Some again) is lines = cc
+  filesystem_alike (Some overlay) None is lines = cc
+  filesystem_alike (Some overlay) (Some again) is lines =
+      let alike : overlay ≡ again = cc in
+      overlay_alike overlay again alike overlay.upper again.upper (λ i. (alike i).upper)
+      (λ layer over top below. lines overlay again layer over refl top refl below)
+
+pub change_alike : (one other : World ℕ) → Alike one other → CopiesAlike one other
+    → (fresh : Fresh ℕ) (location : Location ℕ) (change : Change ℕ)
+    → Alike (with_change nat_eq fresh one location change) (with_change nat_eq fresh other location change)
+change_alike one other same copies fresh location change =
+    subst (λ mount. Alike (with_change nat_eq fresh one location change)
+    (filesystem_changed nat_eq fresh other (filesystem_numbered nat_eq other mount.filesystem)
+    (filesystem_numbered nat_eq other mount.filesystem).overlay change))
+    (mount_same one other same location)
+    (filesystem_alike one other same fresh _ _
+    (found_alike one other same (mount_at nat_eq one location).filesystem) change _ _
+    (found_alike one other same (mount_at nat_eq one location).filesystem).overlay
+    (copies (mount_at nat_eq one location).filesystem))
+
+-- Tasks
+pub with_tasks_alike : (one other : World ℕ) → Alike one other → (tasks again : List (Task ℕ))
+    → Each SameTask tasks again
+    → Alike (record one { tasks = tasks }) (record other { tasks = again })
+with_tasks_alike one other same tasks again alike = record {
+  mounts = same.mounts;
+  master = same.master;
+  filesystems = same.filesystems;
+  namespaces = same.namespaces;
+  tasks = alike;
+}
+
+pub with_task_alike : (one other : World ℕ) → Alike one other → (task again : Task ℕ) → SameTask task again
+    → Alike (with_task one task) (with_task other again)
+with_task_alike one other same task again alike =
+    with_tasks_alike one other same _ _ (replaced_alike one.tasks other.tasks same.tasks task again alike)

@@ -1,0 +1,54 @@
+-- Worlds that are the same have the same invariants.
+use Rattle.std.proofs.Common.{ℕ}
+use Rattle.vt_laws_mounts.proofs.letting_go.sweeps.InUse.{nothing_goes}
+use Rattle.vt_laws_mounts.proofs.letting_go.sweeps.OfWorlds.{all_in_use}
+use Rattle.vt_laws_mounts.specs.LettingGo.InUse.{AllInUse}
+use Rattle.vt_laws_worlds.proofs.one_text.answered.AlikeWorlds.{Alike, alike_from_same, mounts_of_one}
+use Rattle.vt_laws_worlds.proofs.one_text.same.SameInUse.{in_use}
+use Rattle.vt_laws_worlds.proofs.one_text.same.SameInvariants.{mounts_keep, namespaces_keep, roots_keep, tasks_keep, trees_keep}
+use Rattle.vt_laws_worlds.proofs.one_text.same.SameOverlays.{overlays_keep}
+use Rattle.vt_laws_worlds.specs.OneText.Same.{AnySameWorldsAreUnderWay, AnySameWorldsAreWorlds}
+use Rattle.vt_laws_trees.proofs.runs.answered.AlikeWorlds.{with_mounts_of}
+use Rattle.vt_laws_worlds.specs.Worlds.Kept.{IsUnderWay}
+use Rattle.vt_spec.specs.Machine.World.{World}
+
+under_way_kept : (one second : World ℕ) → Alike one (with_mounts_of one second) → IsUnderWay one
+    → IsUnderWay (with_mounts_of one second)
+under_way_kept one second same is = record {
+  files = trees_keep one second same is.files;
+  mounts = mounts_keep one second same is.mounts;
+  namespaces = namespaces_keep one second same is.namespaces;
+  tasks = tasks_keep one second same is.tasks;
+  roots = roots_keep one second same is.roots;
+}
+
+pub any_same_worlds_are_under_way : AnySameWorldsAreUnderWay
+any_same_worlds_are_under_way one other same is overlays =
+    let alike = alike_from_same one other same in (
+      mounts_of_one (λ world. Alike one world → IsUnderWay world) one other alike
+          (λ whole. under_way_kept one other whole is) alike,
+      overlays_keep one other alike overlays,
+    )
+
+pub any_same_worlds_are_worlds : AnySameWorldsAreWorlds
+any_same_worlds_are_worlds one other same is =
+    let alike = alike_from_same one other same in
+    let kept = any_same_worlds_are_under_way one other same (record {
+      files = is.files;
+      mounts = is.mounts;
+      namespaces = is.namespaces;
+      tasks = is.tasks;
+      roots = is.roots;
+    }) is.overlays in
+    record {
+      files = kept.0.files;
+      overlays = kept.1;
+      mounts = kept.0.mounts;
+      namespaces = kept.0.namespaces;
+      tasks = kept.0.tasks;
+      roots = kept.0.roots;
+      nothing_unused =
+          nothing_goes other
+          (mounts_of_one (λ world. Alike one world → AllInUse world) one other alike
+          (λ whole. in_use one other whole (all_in_use one is)) alike);
+    }

@@ -1,0 +1,178 @@
+-- What each way in which a call is granted asks for spares what is locked.
+use Rattle.std.proofs.Common.{Bool, List, Some, [], ap, eqb-true, false, nat_eq, option_map, refl, sym, true, true≢false, ℕ, ◌||◌, ◌∙◌, ◌∷◌, ◌≡◌}
+use Rattle.std.proofs.lemmas.Bool.{or_parts}
+use Rattle.std.specs.List.{list_any}
+use Rattle.std.specs.Prelude.{option_to_list, ◌≢◌}
+use Rattle.vt_laws_trees.specs.Calls.Inodes.{written_if_some}
+use Rattle.vt_laws_rules.proofs.given.Inversion.{calls_are_granted}
+use Rattle.vt_laws_rules.specs.Granted.{IsGranted, directory_made, symlink_made, whiteout_made}
+use Rattle.vt_laws_rules.specs.Granted.IsGranted.{changes_mark, changes_mode, changes_owner, creates, creates_exclusively, makes_directory, makes_hard_link, makes_symlink, makes_whiteout, opens, opens_existing, overwrites_file, removes_directory, renames, unlinks, writes_new_file, writes_part}
+use Rattle.vt_laws_worlds.specs.OverlayPermits.Asked.{change_asked}
+use Rattle.vt_laws_worlds.specs.OverlayPermits.Unlocked.{PermitsSpareWhatIsLocked, SparesLocked, SparesLockedIf}
+use Rattle.vt_laws_worlds.proofs.permits.sees.SeesNames.{old_mount}
+use Rattle.vt_spec.proofs.Truths.{or_false_left, or_false_right}
+use Rattle.vt_spec.proofs.Worlds.{special_word}
+use Rattle.vt_spec.specs.Language.Calls.{Access, Call}
+use Rattle.vt_spec.specs.Language.Changes.Change.{CopyUp}
+use Rattle.vt_spec.specs.Lists.{Fresh, when}
+use Rattle.vt_spec.specs.Machine.Apply.{overfills}
+use Rattle.vt_spec.specs.Machine.Descriptors.{is_copied_up}
+use Rattle.vt_spec.specs.Machine.Judge.{make_permit}
+use Rattle.vt_spec.specs.Machine.Locked.{is_locked, is_locked_at}
+use Rattle.vt_spec.specs.Machine.Looks.{Looks, looks_of}
+use Rattle.vt_spec.specs.Machine.Mounts.{Location}
+use Rattle.vt_spec.specs.Machine.Permits.{Permit}
+use Rattle.vt_spec.specs.Machine.Permits.Permit.{ToOpen}
+use Rattle.vt_spec.specs.Machine.Rows.{file_mode, new_file}
+use Rattle.vt_spec.specs.Machine.Rules.Conditions.{has_no_upper}
+use Rattle.vt_spec.specs.Machine.Rules.Removing.{object_there, removing}
+use Rattle.vt_spec.specs.Machine.Walking.{Place, is_directory_there, is_special, name_of}
+use Rattle.vt_spec.specs.Machine.World.{Task, World, files_at, mount_at}
+use Rattle.vt_spec.specs.Tree.{Node}
+use Rattle.vt_spec.specs.TreeInvariant.{entry_at}
+use Rattle.vt_laws_trees.proofs.trees.TreesWalked.{IsNewPlace, IsOldPlace, not_true, place_named}
+use Rattle.vt_laws_trees.proofs.trees.PlacesReached.{old_is, old_leaf_is, rename_new_is}
+
+module _ (world : World ℕ) (task : Task ℕ) (fresh : Fresh ℕ) where
+  abbrev looks : Looks ℕ
+  looks = looks_of nat_eq world
+
+  abbrev Spares : Permit ℕ → Type 0
+  Spares permit = SparesLockedIf world (change_asked fresh world permit)
+
+  -- what is locked is not what is not
+  differs : (location : Location ℕ) → is_locked_at nat_eq world location ≡ false → (number : ℕ)
+      → (mount_at nat_eq world location).filesystem ≡ number
+      → (inode : ℕ) → is_locked nat_eq world number inode ≡ true → inode ≢ location.node
+  differs location unlocked number at inode locked same =
+      true≢false (sym locked ∙ ap (λ n. is_locked nat_eq world n inode) (sym at)
+      ∙ ap (is_locked nat_eq world (mount_at nat_eq world location).filesystem) same ∙ unlocked)
+
+  -- a new inode in a directory that is not locked
+  made_spared : (place : Place ℕ) (node : Node ℕ) → is_locked_at nat_eq world place.parent ≡ false
+      → has_no_upper looks place.parent ≡ false → Spares (make_permit place node)
+  made_spared place node unlocked layer =
+      record { spares = λ inode locked. differs place.parent unlocked _ refl inode locked; layer = layer }
+
+  -- open(2) of a file that exists
+  opened_spared : (file : Location ℕ) (access : Access) → Spares (ToOpen file access)
+  opened_spared file access = by (is_copied_up nat_eq world file access)
+    where
+      by : (b : Bool) → SparesLockedIf world (when b (file, CopyUp file.node))
+      by true = record { spares = λ inode locked. tt; layer = tt }
+      by false = tt
+
+  -- The object of an old place is in the filesystem of its directory
+  in_it : (place : Place ℕ) → is_special place.last ≡ false → IsOldPlace world task place
+      → (mount_at nat_eq world (object_there place)).filesystem ≡ (mount_at nat_eq world place.parent).filesystem
+  in_it place plain is =
+      ap (λ m. (mount_at nat_eq world (record { mount = m; node = 0 })).filesystem)
+      (old_mount world task place plain is)
+
+  -- unlink(2) and rmdir(2)
+  removed_spared : (place : Place ℕ) → is_special place.last ≡ false → IsOldPlace world task place
+      → (is_locked_at nat_eq world (object_there place) || is_locked_at nat_eq world place.parent) ≡ false
+      → SparesLocked world place.parent (removing place (object_there place))
+  removed_spared place named is unlocked =
+      let parted = or_parts (is_locked_at nat_eq world (object_there place)) (is_locked_at nat_eq world place.parent)
+      unlocked in
+      record {
+        spares = λ inode locked. (
+          differs place.parent parted.1 _ refl inode locked,
+          differs (object_there place) parted.0 _ (in_it place named is) inode locked,
+        );
+        layer = tt;
+      }
+
+  -- what has the new name is not locked
+  not_replaced : (to : Place ℕ) → is_special to.last ≡ false → IsNewPlace world task to
+      → list_any (is_locked_at nat_eq world) (option_to_list to.object) ≡ false
+      → (inode : ℕ) → is_locked nat_eq world (mount_at nat_eq world to.parent).filesystem inode ≡ true
+      → entry_at (files_at nat_eq world to.parent).tree to.parent.node (name_of to.last) ≢ Some inode
+  not_replaced to named is unlocked inode locked e =
+      true≢false (sym locked ∙ or_false_left
+      (is_locked_at nat_eq world (record { mount = to.parent.mount; node = inode })) false
+      (ap (λ o. list_any (is_locked_at nat_eq world) (option_to_list o))
+      (sym ((place_named world to.parent to.last to.object named is.0).1
+      ∙ ap (option_map (λ number. record { mount = to.parent.mount; node = number })) e)) ∙ unlocked))
+
+  written_spared : (file : Location ℕ) (offset : ℕ) (bytes : List ℕ) → is_locked_at nat_eq world file ≡ false
+      → SparesLockedIf world (written_if_some world file offset bytes)
+  written_spared file offset [] unlocked = tt
+  written_spared file offset (byte ∷ bytes) unlocked =
+      record {
+        spares = λ inode locked. differs file unlocked _ refl inode
+            locked;
+        layer = tt;
+      }
+
+  granted_spares : (call : Call) (permit : Permit ℕ)
+      → IsGranted nat_eq looks (overfills nat_eq fresh world task) task call permit → Spares permit
+  granted_spares call permit (overwrites_file path bytes place file end named there passed) =
+      record { spares = λ inode locked. differs file passed.1.1.1.1.1.0 _ refl inode locked; layer = tt }
+  granted_spares call permit (writes_new_file path bytes place end named missing fits passed) =
+      made_spared place (new_file task file_mode bytes) passed.1.1.0 passed.1.0
+  granted_spares call permit (makes_directory path mode place end passed) =
+      made_spared place (directory_made task place mode) passed.1.1.1.1.0 passed.1.1.1.0
+  granted_spares call permit (makes_symlink text path place fits end passed) =
+      made_spared place (symlink_made task text) passed.1.1.1.1.0 passed.1.1.1.0
+  granted_spares call permit (makes_whiteout path place end passed) =
+      made_spared place (whiteout_made task) passed.1.1.1.1.0 passed.1.1.1.0
+  granted_spares call permit (makes_hard_link old new from place from_end end named passed) = record {
+    spares = λ inode locked.
+        differs place.parent (or_false_right (is_locked_at nat_eq world from.location)
+        (is_locked_at nat_eq world place.parent) passed.1.1.1.1.0) _ refl inode locked;
+    layer = tt;
+  }
+  granted_spares call permit (unlinks path place end named passed) =
+      removed_spared place named.0 (old_leaf_is world task path place end) passed.1.1.1.0
+  granted_spares call permit (removes_directory path place end word passed) =
+      removed_spared place (special_word place.last word.0 word.1.0 word.1.1.0) (old_is world task path place end)
+      passed.1.1.1.1.0
+  granted_spares call permit (renames old new from to names two passed) =
+      let is = old_leaf_is world task old from names.from_end in
+      let to_is = rename_new_is world task new (is_directory_there nat_eq looks from) to names.to_end in
+      let one_mount = eqb-true from.parent.mount to.parent.mount
+      (not_true (nat_eq from.parent.mount to.parent.mount) passed.1.1.1.1.1.1.1.1.0) in
+      let at_to : (mount_at nat_eq world to.parent).filesystem ≡ (mount_at nat_eq world from.parent).filesystem =
+      ap (λ m. (mount_at nat_eq world (record { mount = m; node = 0 })).filesystem) (sym one_mount) in
+      let locked_from = is_locked_at nat_eq world from.parent in
+      let locked_to = is_locked_at nat_eq world to.parent in
+      let locked_old = is_locked_at nat_eq world (object_there from) in
+      let others = list_any (is_locked_at nat_eq world) (option_to_list to.object) in
+      let of_from = or_parts locked_from (locked_to || (locked_old || others)) passed.1.1.1.1.1.1.0 in
+      let of_to = or_parts locked_to (locked_old || others) of_from.1 in
+      let of_old = or_parts locked_old others of_to.1 in
+      record {
+        spares = λ inode locked. (
+          differs from.parent of_from.0 _ refl inode locked,
+          differs to.parent of_to.0 _ at_to inode locked,
+          differs (object_there from) of_old.0 _ (in_it from names.from_named.0 is) inode locked,
+          λ e. not_replaced to names.to_named.0 to_is.0 of_old.1 inode
+              (ap (λ n. is_locked nat_eq world n inode) at_to ∙ locked)
+              (ap (λ m. entry_at (files_at nat_eq world (record { mount = m; node = 0 })).tree to.parent.node
+              (name_of to.last)) (sym one_mount) ∙ e),
+        );
+        layer = tt;
+      }
+  granted_spares call permit (changes_mode path mode here end passed) =
+      record { spares = λ inode locked. differs here.location passed.1.1.0 _ refl inode locked; layer = tt }
+  granted_spares call permit (changes_owner path uid gid here end passed) =
+      record { spares = λ inode locked. differs here.location passed.1.1.0 _ refl inode locked; layer = tt }
+  granted_spares call permit (changes_mark path mark here admin end passed) =
+      record { spares = λ inode locked. differs here.location passed.1.1.0 _ refl inode locked; layer = tt }
+  granted_spares call permit (opens path access here room end passed) = opened_spared here.location access
+  granted_spares call permit (opens_existing path access mode place file room end named there passed) =
+      opened_spared file access
+  granted_spares call permit (creates path access mode place room end named missing passed) =
+      made_spared place (new_file task mode []) passed.1.1.0 passed.1.0
+  granted_spares call permit (creates_exclusively path access mode place room end named passed) =
+      made_spared place (new_file task mode []) passed.1.1.0 passed.1.0
+  granted_spares call permit (writes_part number offset bytes descriptor found passed) =
+      written_spared descriptor.location offset bytes passed.1.0
+  granted_spares call permit granted = tt
+
+pub permits_spare_what_is_locked : PermitsSpareWhatIsLocked
+permits_spare_what_is_locked world fresh task call permit whole serves called judged =
+    granted_spares world task fresh call permit
+    (calls_are_granted nat_eq (looks_of nat_eq world) (overfills nat_eq fresh world task) task call permit judged)

@@ -1,0 +1,439 @@
+-- Overlays that go on: each was there before, with the same layers, whose paths lead where they led. Then all
+-- invariants of overlays
+-- hold, where they held before.
+use Rattle.std.proofs.Common.{◌≡◌, refl, sym, ap, subst, ◌∙◌, true≢false, eqb-true, eq-eqb, ⊎_elim, inl, inr, ℕ, nat_eq, Bool, true, false, not, ◌&&◌, List, [], ◌∷◌, ◌++◌, Option, Some, None, is_some}
+use Rattle.std.specs.List.{list_all, list_any}
+use Rattle.std.specs.Prelude.{All, flat_map, option_to_list}
+use Rattle.vt_spec.specs.FileTree.{is_under}
+use Rattle.vt_spec.specs.Lists.{any_pair, holds_of}
+use Rattle.vt_spec.specs.Machine.Invariants.{IsMerged, ListsNumbers, OverlayInvariants, TreeInvariants, has_fit_layers, is_plain_layer, is_there, live_lowers, overlap}
+use Rattle.vt_spec.specs.Machine.Locked.{counts_in_layer, is_object_of, is_real_upper, lies_in_layer, lies_or_counts_under, live_upper_and_work, of_overlay, overlaps_one_of, overlay_or, overlays, upper_and_work}
+use Rattle.vt_spec.specs.Machine.World.{Filesystem, Layer, Overlay, World, filesystem_numbered, is_overlay, layers_of, open_layer, upper_object}
+use Rattle.vt_spec.specs.Machine.World.Real.{Upper}
+use Rattle.vt_spec.specs.Tree.{Node, is_directory_node}
+use Rattle.vt_spec.specs.TreeInvariant.{IsReached, IsTree, led}
+use Rattle.vt_spec.proofs.Lists.{Among, among-append_left, among-append_right, among-from_filter, among-from_flat_map, among_from_list_all, among_numbers, any_among, any_from_among, list_all_from_among, none_among, none_from_among}
+use Rattle.vt_laws_mounts.proofs.letting_go.sweeps.OfWorlds.{found_filesystem}
+use Rattle.vt_laws_trees.proofs.trees.TreesOfWorlds.{numbered_all, numbered_anyhow}
+use Rattle.vt_laws_trees.specs.Layers.Layers.Locked.{LeadsAsBefore}
+use Rattle.vt_laws_trees.proofs.layers.locked.Apart.{layer_among, merged_among}
+use Rattle.vt_laws_trees.proofs.layers.layers.ShownDirectories.{led_is_there}
+use Rattle.vt_laws_trees.proofs.layers.views.Names.{alike_kept}
+use Rattle.vt_laws_trees.proofs.overlays.whole.ApartPairs.{no_pair_later}
+use Rattle.vt_laws_trees.proofs.overlays.whole.ApartPaths.{led_under, under_led}
+use Rattle.vt_laws_trees.proofs.overlays.steps.WholeGrown.{directory_alike}
+use Rattle.std.proofs.lemmas.Bool.{and_from, or_cases, or_left, or_right}
+use Rattle.vt_spec.proofs.Options.{none_is_some}
+use Rattle.vt_spec.proofs.Truths.{and_true_left, and_true_right}
+use Rattle.vt_spec.proofs.Worlds.{upper_real}
+use Rattle.vt_laws_trees.specs.Trees.Settling.{inode_in}
+
+-- what is asked of trees
+pub record AreTrees (world : World ℕ) : Type 0 where
+  pub trees : All (λ (f : Filesystem ℕ). IsTree f.files.tree) world.filesystems
+  pub numbers : All (λ (f : Filesystem ℕ). ListsNumbers nat_eq f.files) world.filesystems
+  pub one_filesystem : any_pair (λ (a b : Filesystem ℕ). nat_eq a.number b.number) world.filesystems ≡ false
+
+pub are_trees : (world : World ℕ) → TreeInvariants nat_eq world → AreTrees world
+are_trees world is = record { trees = is.trees; numbers = is.numbers; one_filesystem = is.one_filesystem }
+
+-- What the invariants of trees and overlays say of each filesystem and each layer
+module _ (world : World ℕ) (files : AreTrees world) where
+  pub tree_of_directory : (number directory : ℕ) → is_directory_node (inode_in world number directory) ≡ true
+      → IsTree (filesystem_numbered nat_eq world number).files.tree
+  tree_of_directory number directory is =
+      ⊎_elim (λ tree. tree)
+      (λ missing. absurd (true≢false
+      (sym is ∙ ap (λ (f : Filesystem ℕ). is_directory_node (f.files.tree.node directory)) missing.0)))
+      (numbered_all (λ (f : Filesystem ℕ). IsTree f.files.tree) number world.filesystems files.trees)
+
+  pub numbers_listed : (number : ℕ) → ListsNumbers nat_eq (filesystem_numbered nat_eq world number).files
+  numbers_listed number = numbered_anyhow
+      (λ (f : Filesystem ℕ). ListsNumbers nat_eq f.files) number world.filesystems files.numbers (λ k. refl)
+
+  pub inode_listed : (number inode : ℕ) → is_some (inode_in world number inode) ≡ true
+      → Among inode (filesystem_numbered nat_eq world number).files.numbers
+  inode_listed number inode there = among_numbers (filesystem_numbered nat_eq world number).files.numbers inode
+      (numbers_listed number inode ∙ there)
+
+  -- each live layer is one of an overlay
+  pub record IsLayerOf (layers : Overlay ℕ → List (Layer ℕ)) (layer : Layer ℕ) : Type 0 where
+    pub number : ℕ
+    pub overlay : Overlay ℕ
+    pub is : (filesystem_numbered nat_eq world number).overlay ≡ Some overlay
+    pub among : Among layer (layers overlay)
+
+  pub layer_of : (layers : Overlay ℕ → List (Layer ℕ)) (layer : Layer ℕ)
+      → Among layer (flat_map (of_overlay [] layers) (overlays world)) → IsLayerOf layers layer
+  layer_of layers layer m =
+      let found = among-from_flat_map (of_overlay [] layers) (overlays world) layer m in
+      by found.0 (found_filesystem world.filesystems files.one_filesystem found.0
+      (among-from_filter is_overlay world.filesystems found.0 found.1).0) found.0.overlay refl found.2
+    where
+      by : (f : Filesystem ℕ) → filesystem_numbered nat_eq world f.number ≡ f → (o : Option (Overlay ℕ)) → f.overlay ≡ o
+          → Among layer (overlay_or [] layers o) → IsLayerOf layers layer
+      by f itself None e a = absurd a
+      by f itself (Some overlay) e a =
+          record {
+            number = f.number;
+            overlay = overlay;
+            is = ap (λ (x : Filesystem ℕ). x.overlay) itself
+                ∙ e;
+            among = a;
+          }
+
+  module _ (are : OverlayInvariants nat_eq world) where
+    pub plain_layer : (number : ℕ) (overlay : Overlay ℕ)
+        → (filesystem_numbered nat_eq world number).overlay ≡ Some overlay
+        → (layer : Layer ℕ) → Among layer (layers_of overlay) → is_plain_layer nat_eq world layer ≡ true
+    plain_layer number overlay is layer m =
+        among_from_list_all (is_plain_layer nat_eq world) (layers_of overlay)
+        (sym (ap (overlay_or true (λ o. list_all (is_plain_layer nat_eq world) (layers_of o))) is)
+        ∙ among_from_list_all (of_overlay true
+        (λ o. list_all (is_plain_layer nat_eq world) (layers_of o))) world.filesystems are.plain_layers
+        (filesystem_numbered nat_eq world number)
+        (among-from_filter is_overlay world.filesystems (filesystem_numbered nat_eq world number)
+        (merged_among world number overlay is)).0)
+        layer m
+
+    pub fit_overlay : (number : ℕ) (overlay : Overlay ℕ)
+        → (filesystem_numbered nat_eq world number).overlay ≡ Some overlay → has_fit_layers overlay ≡ true
+    fit_overlay number overlay is =
+        sym (ap (overlay_or true has_fit_layers) is)
+        ∙ among_from_list_all (of_overlay true has_fit_layers) world.filesystems are.fit_layers
+        (filesystem_numbered nat_eq world number)
+        (among-from_filter is_overlay world.filesystems (filesystem_numbered nat_eq world number)
+        (merged_among world number overlay is)).0
+
+-- an overlay of a later world is one that was there: its layers are the same, and so are paths in them
+pub record GoesOn (world later : World ℕ) (number : ℕ) (after : Overlay ℕ) : Type 0 where
+  pub before : Overlay ℕ
+  pub is : (filesystem_numbered nat_eq world number).overlay ≡ Some before
+  pub upper : after.upper ≡ before.upper
+  pub work : after.work ≡ before.work
+  pub lowers : after.lowers ≡ before.lowers
+  pub merged : IsMerged nat_eq later (filesystem_numbered nat_eq later number) after
+  pub objects : (inode object : ℕ) → after.real inode ≡ Some (Upper object) → before.real inode ≡ Some (Upper object)
+  pub leads : (layer : Layer ℕ) → Among layer (layers_of before) → LeadsAsBefore world later layer
+  pub reached : (top : Layer ℕ) → before.upper ≡ Some top
+      → IsReached (filesystem_numbered nat_eq later top.filesystem).files.tree top.directory
+
+module _ (world later : World ℕ) (files : AreTrees world) (are : OverlayInvariants nat_eq world)
+    (files_later : AreTrees later)
+    (goes : (number : ℕ) (after : Overlay ℕ) → (filesystem_numbered nat_eq later number).overlay ≡ Some after
+    → GoesOn world later number after)
+    (fewer : (test : Layer ℕ → Layer ℕ → Bool) → any_pair test (live_upper_and_work world) ≡ false
+    → any_pair test (live_upper_and_work later) ≡ false) where
+  same_layers : (number : ℕ) (after : Overlay ℕ) (on : GoesOn world later number after)
+      → layers_of after ≡ layers_of on.before
+  same_layers number after on = λ i. option_to_list (on.upper i) ++ option_to_list (on.work i) ++ on.lowers i
+
+  same_changed : (number : ℕ) (after : Overlay ℕ) (on : GoesOn world later number after)
+      → upper_and_work after ≡ upper_and_work on.before
+  same_changed number after on = λ i. option_to_list (on.upper i) ++ option_to_list (on.work i)
+
+  -- A layer of an overlay that goes on
+  record IsLive (layer : Layer ℕ) : Type 0 where
+    plain : is_plain_layer nat_eq world layer ≡ true
+    leads : LeadsAsBefore world later layer
+
+  live_in : (number : ℕ) (after : Overlay ℕ) → (filesystem_numbered nat_eq later number).overlay ≡ Some after
+      → (layer : Layer ℕ)
+      → Among layer (layers_of after) → IsLive layer
+  live_in number after e layer m =
+      let on = goes number after e in
+      let a = subst (Among layer) (same_layers number after on) m in
+      record { plain = plain_layer world files are number on.before on.is layer a; leads = on.leads layer a }
+
+  was_directory : (layer : Layer ℕ) → IsLive layer
+      → is_directory_node (inode_in world layer.filesystem layer.directory) ≡ true
+  was_directory layer live = and_true_right
+      (not (is_overlay (filesystem_numbered nat_eq world layer.filesystem))) _ live.plain
+
+  is_directory : (layer : Layer ℕ) → IsLive layer
+      → is_directory_node (inode_in later layer.filesystem layer.directory) ≡ true
+  is_directory layer live = directory_alike _ _ (alike_kept _ _ (live.leads []).1) ∙ was_directory layer live
+
+  still_plain : (layer : Layer ℕ) → IsLive layer → is_plain_layer nat_eq later layer ≡ true
+  still_plain layer live = and_from _ _ (by (filesystem_numbered nat_eq later layer.filesystem).overlay refl)
+      (is_directory layer live)
+    where
+      by : (o : Option (Overlay ℕ)) → (filesystem_numbered nat_eq later layer.filesystem).overlay ≡ o
+          → not (is_overlay (filesystem_numbered nat_eq later layer.filesystem)) ≡ true
+      by None e = ap (λ o. not (is_some o)) e
+      by (Some after) e =
+          absurd (true≢false (sym (and_true_left
+          (not (is_overlay (filesystem_numbered nat_eq world layer.filesystem))) _ live.plain)
+          ∙ ap (λ o. not (is_some o)) (goes layer.filesystem after e).is))
+
+  -- What lies under it lay under it
+  abbrev LedIn : World ℕ → Layer ℕ → ℕ → Type 0
+  LedIn w layer object = (path : List (List ℕ))
+      × (led (filesystem_numbered nat_eq w layer.filesystem).files.tree layer.directory path ≡ Some object)
+
+  lay : (layer : Layer ℕ) → IsLive layer → (n object : ℕ) → lies_in_layer nat_eq later n object layer ≡ true
+      → lies_in_layer nat_eq world n object layer ≡ true
+  lay layer live n object e =
+      let same = eqb-true n layer.filesystem (and_true_left (nat_eq n layer.filesystem) _ e) in
+      let way = under_led (filesystem_numbered nat_eq later layer.filesystem).files
+      (tree_of_directory later files_later layer.filesystem layer.directory
+      (is_directory layer live)) layer.directory object
+      (subst (λ k. is_under nat_eq (filesystem_numbered nat_eq later k).files layer.directory object ≡ true) same
+      (and_true_right (nat_eq n layer.filesystem) _ e)) in
+      and_from _ _ (eq-eqb n layer.filesystem same)
+      (subst (λ k. is_under nat_eq (filesystem_numbered nat_eq world k).files layer.directory object ≡ true) (sym same)
+      (led_under (filesystem_numbered nat_eq world layer.filesystem).files
+      (tree_of_directory world files layer.filesystem layer.directory (was_directory layer live)) layer.directory
+      (numbers_listed world files layer.filesystem) (was_directory layer live) object
+      (way.0, sym (live.leads way.0).0 ∙ way.1)))
+
+  -- What counts under it counted under it
+  abbrev Lies : World ℕ → Layer ℕ → ℕ → ℕ → Type 0
+  Lies w layer n object = lies_or_counts_under nat_eq w n object layer ≡ true
+
+  counted : (layer : Layer ℕ) → IsLive layer → (n object number : ℕ) (after : Overlay ℕ)
+      → (filesystem_numbered nat_eq later number).overlay ≡ Some after
+      → (upper : Option (Layer ℕ)) → after.upper ≡ upper
+      → (holds_of (λ u. lies_in_layer nat_eq later u.filesystem u.directory layer) upper
+      && (holds_of (λ u. nat_eq n u.filesystem) upper
+      && list_any (is_real_upper nat_eq after object) (filesystem_numbered nat_eq later number).files.numbers)) ≡ true
+      → Lies world layer n object
+  counted layer live n object number after e None f h = absurd (true≢false (sym h))
+  counted layer live n object number after e (Some top) f h =
+      let on = goes number after e in
+      let lies = and_true_left (lies_in_layer nat_eq later top.filesystem top.directory layer) _ h in
+      let rest = and_true_right (lies_in_layer nat_eq later top.filesystem top.directory layer) _ h in
+      let found = any_among (is_real_upper nat_eq after object) (filesystem_numbered nat_eq later number).files.numbers
+      (and_true_right (nat_eq n top.filesystem) _ rest) in
+      let real = on.objects found.0 object (upper_real (after.real found.0) object found.2) in
+      let top_is = sym on.upper ∙ f in
+      or_right (lies_in_layer nat_eq world n object layer) _
+      (any_from_among (counts_in_layer nat_eq world n object layer) (overlays world)
+      (filesystem_numbered nat_eq world number)
+      (merged_among world number on.before on.is)
+      (ap (overlay_or false (λ v. holds_of (λ u. lies_in_layer nat_eq world u.filesystem u.directory layer) v.upper
+      && is_object_of nat_eq n object (filesystem_numbered nat_eq world number) v)) on.is
+      ∙ and_from _ _
+      (ap (holds_of (λ u. lies_in_layer nat_eq world u.filesystem u.directory layer)) top_is
+      ∙ lay layer live top.filesystem top.directory lies)
+      (and_from _ _ (ap (holds_of (λ u. nat_eq n u.filesystem)) top_is ∙ and_true_left (nat_eq n top.filesystem) _ rest)
+      (any_from_among (is_real_upper nat_eq on.before object)
+      (filesystem_numbered nat_eq world number).files.numbers found.0
+      (inode_listed world files number found.0 (there on.before on.is found.0 real))
+      (ap (λ r. holds_of (nat_eq object) (upper_object r)) real ∙ eq-eqb object object refl)))))
+    where
+      there : (before : Overlay ℕ) → (filesystem_numbered nat_eq world number).overlay ≡ Some before → (inode : ℕ)
+          → before.real inode ≡ Some (Upper object)
+          → is_some (inode_in world number inode) ≡ true
+      there before is inode real = by (inode_in world number inode) refl
+        where
+          by : (o : Option (Node ℕ)) → inode_in world number inode ≡ o → is_some (inode_in world number inode) ≡ true
+          by None g = none_is_some (Upper object)
+              (sym ((are.overlays_merge number before is).real_there inode g) ∙ real)
+          by (Some node) g = ap is_some g
+
+  lay_or_counted : (layer : Layer ℕ) → IsLive layer → (n object : ℕ) → Lies later layer n object
+      → Lies world layer n object
+  lay_or_counted layer live n object e =
+      ⊎_elim (λ lies. or_left (lies_in_layer nat_eq world n object layer) _
+      (lay layer live n object lies)) by_overlays
+      (or_cases (lies_in_layer nat_eq later n object layer) _ e)
+    where
+      by_overlays : list_any (counts_in_layer nat_eq later n object layer) (overlays later) ≡ true
+          → Lies world layer n object
+      by_overlays h =
+          let found = any_among (counts_in_layer nat_eq later n object layer) (overlays later) h in
+          by found.0 (found_filesystem later.filesystems files_later.one_filesystem found.0
+          (among-from_filter is_overlay later.filesystems found.0 found.1).0)
+          found.0.overlay refl found.2
+        where
+          by : (f : Filesystem ℕ) → filesystem_numbered nat_eq later f.number ≡ f → (o : Option (Overlay ℕ))
+              → f.overlay ≡ o
+              → overlay_or false (λ v. holds_of (λ u. lies_in_layer nat_eq later u.filesystem u.directory layer) v.upper
+              && is_object_of nat_eq n object f v) o ≡ true
+              → Lies world layer n object
+          by f itself None g h = absurd (true≢false (sym h))
+          by f itself (Some after) g h =
+              counted layer live n object f.number after
+              (ap (λ (x : Filesystem ℕ). x.overlay) itself ∙ g) after.upper refl
+              (subst (λ (x : Filesystem ℕ). (holds_of
+              (λ u. lies_in_layer nat_eq later u.filesystem u.directory layer) after.upper
+              && (holds_of (λ u. nat_eq n u.filesystem) after.upper
+              && list_any (is_real_upper nat_eq after object) x.files.numbers)) ≡ true)
+              (sym itself) h)
+
+  -- and is there
+  was_there : (layer : Layer ℕ) → IsLive layer → (n object : ℕ) → Lies world layer n object
+      → is_some (inode_in world n object) ≡ true
+  was_there layer live n object e =
+      ⊎_elim led_there counted_there (or_cases (lies_in_layer nat_eq world n object layer) _ e)
+    where
+      tree : IsTree (filesystem_numbered nat_eq world layer.filesystem).files.tree
+      tree = tree_of_directory world files layer.filesystem layer.directory (was_directory layer live)
+
+      led_there : lies_in_layer nat_eq world n object layer ≡ true → is_some (inode_in world n object) ≡ true
+      led_there f =
+          let same = eqb-true n layer.filesystem (and_true_left (nat_eq n layer.filesystem) _ f) in
+          let way = under_led (filesystem_numbered nat_eq world layer.filesystem).files tree layer.directory object
+          (subst (λ k. is_under nat_eq (filesystem_numbered nat_eq world k).files layer.directory object ≡ true) same
+          (and_true_right (nat_eq n layer.filesystem) _ f)) in
+          subst (λ k. is_some (inode_in world k object) ≡ true) (sym same)
+          (led_is_there (open_layer nat_eq world layer) tree (was_directory layer live) way.0 object way.1)
+
+      counted_there : list_any (counts_in_layer nat_eq world n object layer) (overlays world) ≡ true
+          → is_some (inode_in world n object) ≡ true
+      counted_there h =
+          let found = any_among (counts_in_layer nat_eq world n object layer) (overlays world) h in
+          by found.0 (found_filesystem world.filesystems files.one_filesystem found.0
+          (among-from_filter is_overlay world.filesystems found.0 found.1).0)
+          found.0.overlay refl found.2
+        where
+          at : (f : Filesystem ℕ) (v : Overlay ℕ) → (filesystem_numbered nat_eq world f.number).overlay ≡ Some v
+              → (upper : Option (Layer ℕ)) → v.upper ≡ upper
+              → (holds_of (λ u. lies_in_layer nat_eq world u.filesystem u.directory layer) upper
+              && (holds_of (λ u. nat_eq n u.filesystem) upper
+              && list_any (is_real_upper nat_eq v object) f.files.numbers)) ≡ true
+              → is_some (inode_in world n object) ≡ true
+          at f v is None g h = absurd (true≢false (sym h))
+          at f v is (Some top) g h =
+              let rest = and_true_right (lies_in_layer nat_eq world top.filesystem top.directory layer) _ h in
+              let found = any_among (is_real_upper nat_eq v object) f.files.numbers
+              (and_true_right (nat_eq n top.filesystem) _ rest) in
+              subst (λ k. is_some (inode_in world k object) ≡ true)
+              (sym (eqb-true n top.filesystem (and_true_left (nat_eq n top.filesystem) _ rest)))
+              (sym (ap (holds_of (λ l. is_there nat_eq world l.filesystem object)) g)
+              ∙ (are.overlays_merge f.number v is).upper_there found.0 object
+              (upper_real (v.real found.0) object found.2))
+
+          by : (f : Filesystem ℕ) → filesystem_numbered nat_eq world f.number ≡ f → (o : Option (Overlay ℕ))
+              → f.overlay ≡ o
+              → overlay_or false (λ v. holds_of (λ u. lies_in_layer nat_eq world u.filesystem u.directory layer) v.upper
+              && is_object_of nat_eq n object f v) o ≡ true
+              → is_some (inode_in world n object) ≡ true
+          by f itself None g h = absurd (true≢false (sym h))
+          by f itself (Some v) g h = at f v (ap (λ (x : Filesystem ℕ). x.overlay) itself ∙ g) v.upper refl h
+
+  -- Layers that overlap overlapped
+  overlapped : (a : Layer ℕ) (others : List (Layer ℕ)) → IsLive a → ((b : Layer ℕ) → Among b others → IsLive b)
+      → overlaps_one_of nat_eq later others a ≡ true → overlaps_one_of nat_eq world others a ≡ true
+  overlapped a others live_a live_others e =
+      let found = any_among (λ (o : ℕ). lies_or_counts_under nat_eq later a.filesystem o a
+      && list_any (lies_or_counts_under nat_eq later a.filesystem o) others)
+      (filesystem_numbered nat_eq later a.filesystem).files.numbers e in
+      let in_a = lay_or_counted a live_a a.filesystem found.0
+      (and_true_left (lies_or_counts_under nat_eq later a.filesystem found.0 a) _ found.2) in
+      let other = any_among (lies_or_counts_under nat_eq later a.filesystem found.0) others
+      (and_true_right (lies_or_counts_under nat_eq later a.filesystem found.0 a) _ found.2) in
+      any_from_among (λ (o : ℕ). lies_or_counts_under nat_eq world a.filesystem o a
+      && list_any (lies_or_counts_under nat_eq world a.filesystem o) others)
+      (filesystem_numbered nat_eq world a.filesystem).files.numbers found.0
+      (inode_listed world files a.filesystem found.0 (was_there a live_a a.filesystem found.0 in_a))
+      (and_from _ _ in_a (any_from_among
+      (lies_or_counts_under nat_eq world a.filesystem found.0) others other.0 other.1
+      (lay_or_counted other.0 (live_others other.0 other.1) a.filesystem found.0 other.2)))
+
+  live_changed : (layer : Layer ℕ) → Among layer (live_upper_and_work later) → IsLive layer
+  live_changed layer m =
+      let of = layer_of later files_later upper_and_work layer m in
+      live_in of.number of.overlay of.is layer
+      (among-append_left (upper_and_work of.overlay) of.overlay.lowers layer of.among)
+
+  live_lower : (layer : Layer ℕ) → Among layer (live_lowers nat_eq later) → IsLive layer
+  live_lower layer m =
+      let of = layer_of later files_later (λ o. o.lowers) layer m in
+      live_in of.number of.overlay of.is layer
+      (among-append_right (upper_and_work of.overlay) of.overlay.lowers layer of.among)
+
+  changed_was : (layer : Layer ℕ) → Among layer (live_upper_and_work later) → Among layer (live_upper_and_work world)
+  changed_was layer m =
+      let of = layer_of later files_later upper_and_work layer m in
+      let on = goes of.number of.overlay of.is in
+      layer_among world upper_and_work of.number on.before on.is layer
+      (subst (Among layer) (same_changed of.number of.overlay on) of.among)
+
+  lower_was : (layer : Layer ℕ) → Among layer (live_lowers nat_eq later) → Among layer (live_lowers nat_eq world)
+  lower_was layer m =
+      let of = layer_of later files_later (λ o. o.lowers) layer m in
+      let on = goes of.number of.overlay of.is in
+      layer_among world (λ o. o.lowers) of.number on.before on.is layer (subst (Among layer) on.lowers of.among)
+
+  one : (b : Layer ℕ) → IsLive b → (c : Layer ℕ) → Among c (b ∷ []) → IsLive c
+  one b live c (inl same) = subst IsLive (sym same) live
+  one b live c (inr none) = absurd none
+
+  -- with more of which one may overlap
+  wider : (a : Layer ℕ) (some all : List (Layer ℕ)) → ((b : Layer ℕ) → Among b some → Among b all)
+      → overlaps_one_of nat_eq world some a ≡ true → overlaps_one_of nat_eq world all a ≡ true
+  wider a some all more e =
+      let found = any_among (λ (o : ℕ). lies_or_counts_under nat_eq world a.filesystem o a
+      && list_any (lies_or_counts_under nat_eq world a.filesystem o) some)
+      (filesystem_numbered nat_eq world a.filesystem).files.numbers e in
+      let other = any_among (lies_or_counts_under nat_eq world a.filesystem found.0) some
+      (and_true_right (lies_or_counts_under nat_eq world a.filesystem found.0 a) _ found.2) in
+      any_from_among (λ (o : ℕ). lies_or_counts_under nat_eq world a.filesystem o a
+      && list_any (lies_or_counts_under nat_eq world a.filesystem o) all)
+      (filesystem_numbered nat_eq world a.filesystem).files.numbers found.0 found.1
+      (and_from _ _ (and_true_left (lies_or_counts_under nat_eq world a.filesystem found.0 a) _ found.2)
+      (any_from_among (lies_or_counts_under nat_eq world a.filesystem found.0) all other.0
+      (more other.0 other.1) other.2))
+
+  apart_changed : any_pair (overlap nat_eq later) (live_upper_and_work later) ≡ false
+  apart_changed =
+      no_pair_later (overlap nat_eq world) (overlap nat_eq later) (live_upper_and_work later)
+      (λ a b m n e. overlapped a (b ∷ []) (live_changed a m) (one b (live_changed b n)) e)
+      (fewer (overlap nat_eq world) are.changed_apart)
+
+  apart_lowers : list_any (overlaps_one_of nat_eq later (live_lowers nat_eq later)) (live_upper_and_work later) ≡ false
+  apart_lowers =
+      none_from_among (overlaps_one_of nat_eq later (live_lowers nat_eq later)) (live_upper_and_work later)
+      (λ a m. by a m (overlaps_one_of nat_eq later (live_lowers nat_eq later) a) refl)
+    where
+      by : (a : Layer ℕ) → Among a (live_upper_and_work later) → (b : Bool)
+          → overlaps_one_of nat_eq later (live_lowers nat_eq later) a ≡ b
+          → overlaps_one_of nat_eq later (live_lowers nat_eq later) a ≡ false
+      by a m false e = e
+      by a m true e =
+          absurd (true≢false
+          (sym (wider a (live_lowers nat_eq later) (live_lowers nat_eq world) lower_was
+          (overlapped a (live_lowers nat_eq later) (live_changed a m) live_lower e))
+          ∙ none_among (overlaps_one_of nat_eq world (live_lowers nat_eq world))
+          (live_upper_and_work world) are.lowers_apart a (changed_was a m)))
+
+  -- Each overlay
+  each : (test : Overlay ℕ → Bool)
+      → ((number : ℕ) (after : Overlay ℕ) → (filesystem_numbered nat_eq later number).overlay ≡ Some after
+      → test after ≡ true)
+      → list_all (of_overlay true test) later.filesystems ≡ true
+  each test holds =
+      list_all_from_among (of_overlay true test) later.filesystems
+      (λ f m. by f (found_filesystem later.filesystems files_later.one_filesystem f m) f.overlay refl)
+    where
+      by : (f : Filesystem ℕ) → filesystem_numbered nat_eq later f.number ≡ f → (o : Option (Overlay ℕ)) → f.overlay ≡ o
+          → overlay_or true test o ≡ true
+      by f itself None e = refl
+      by f itself (Some after) e = holds f.number after (ap (λ (x : Filesystem ℕ). x.overlay) itself ∙ e)
+
+  still_fit : (number : ℕ) (after : Overlay ℕ) → GoesOn world later number after → has_fit_layers after ≡ true
+  still_fit number after on =
+      (λ i. has_fit_layers
+      (record {
+        upper = on.upper i;
+        work = on.work i;
+        lowers = on.lowers
+            i;
+        mounter = after.mounter;
+        real = after.real;
+      }))
+      ∙ fit_overlay world files are number on.before on.is
+
+  pub overlays_go_on : OverlayInvariants nat_eq later
+  overlays_go_on = record {
+    overlays_merge = λ number after e. (goes number after e).merged;
+    fit_layers = each has_fit_layers (λ number after e. still_fit number after (goes number after e));
+    plain_layers = each (λ o. list_all (is_plain_layer nat_eq later) (layers_of o)) (λ number after e.
+        list_all_from_among (is_plain_layer nat_eq later) (layers_of after)
+        (λ layer m. still_plain layer (live_in number after e layer m)));
+    changed_apart = apart_changed;
+    lowers_apart = apart_lowers;
+    uppers_reached = λ number after top e f. let on = goes number after e in on.reached top (sym on.upper ∙ f);
+  }

@@ -1,0 +1,153 @@
+-- What copies and changes of an overlay add to its upper layer.
+use Rattle.std.proofs.Common.{◌≡◌, refl, sym, ap, subst, ◌∙◌, ◌⊎◌, inl, inr, ⊎_elim, true≢false, ℕ, ◌+◌, ◌*◌, nat_eq, eq-eqb, Bool, true, false, cond, List, [], ◌∷◌, Option, Some, None, is_some}
+use Rattle.std.proofs.lemmas.Bool.Decides.{eqb_tells}
+use Rattle.vt_spec.specs.FileTree.{FileTree, a_name}
+use Rattle.vt_spec.specs.Language.Changes.{Change, changed, with_inode, with_moved}
+use Rattle.vt_spec.specs.Language.Changes.Change.{AddName, CopyUp, Make, Move, Remove, SetAttr, SetBytes, SetMark}
+use Rattle.vt_spec.specs.Lists.{Fresh}
+use Rattle.vt_spec.specs.Machine.CopyUp.{Merge, copied_content, copied_each, copied_up, copy_named, copy_of, copy_of_node, copy_parent, is_in_upper, line_to, with_mark, with_real, without_contents}
+use Rattle.vt_spec.specs.Machine.World.{Real, upper_object}
+use Rattle.vt_spec.specs.Machine.World.Real.{Upper}
+use Rattle.vt_spec.specs.Tree.{Node, entry_named, entries_in}
+use Rattle.vt_laws_mounts.proofs.letting_go.Lists.{Among}
+use Rattle.vt_spec.proofs.Worlds.{root-without_parent, numbers-without_parent}
+
+-- Copies are real objects of inodes that are there, and each real object in the upper layer stays.
+pub record Grows (before later : Merge ℕ) : Type 0 where
+  pub files : later.files ≡ before.files
+  pub root : later.upper.tree.root ≡ before.upper.tree.root
+  pub grows : (number object : ℕ) → upper_object (before.real number) ≡ Some object
+      → upper_object (later.real number) ≡ Some object
+  pub there : (number : ℕ) → is_some (later.real number) ≡ true
+      → (is_some (before.real number) ≡ true) ⊎ (is_some (before.files.tree.node number) ≡ true)
+  pub numbers : (inode : ℕ) → Among inode later.upper.numbers → Among inode before.upper.numbers
+      ⊎ ((number : ℕ) × (is_some (before.files.tree.node number) ≡ true)
+      × (upper_object (later.real number) ≡ Some inode))
+
+pub grows_not : (merge : Merge ℕ) → Grows merge merge
+grows_not merge = record {
+  files = refl;
+  root = refl;
+  grows = λ number object e. e;
+  there = λ number h. inl h;
+  numbers = λ inode m. inl m;
+}
+
+pub grows_twice : (first second third : Merge ℕ) → Grows first second → Grows second third → Grows first third
+grows_twice first second third one two = record {
+  files = two.files ∙ one.files;
+  root = two.root ∙ one.root;
+  grows = λ number object e. two.grows number object (one.grows number object e);
+  there = λ number h. ⊎_elim (one.there number) (λ is. inr (back number is)) (two.there number h);
+  numbers = λ inode m.
+      ⊎_elim
+      (λ was. ⊎_elim inl (λ new. inr (new.0, new.1, two.grows new.0 inode new.2)) (one.numbers inode was))
+      (λ new. inr (new.0, back new.0 new.1, new.2))
+      (two.numbers inode m);
+}
+  where
+    back : (number : ℕ) → is_some (second.files.tree.node number) ≡ true → is_some (first.files.tree.node number) ≡ true
+    back number is = ap (λ files. is_some (files.tree.node number)) (sym one.files) ∙ is
+
+-- one copy
+module _ (merge : Merge ℕ) (object copy : ℕ) (node : Node ℕ) (is_node : merge.files.tree.node object ≡ Some node)
+    (below : is_in_upper merge object ≡ false) where
+  abbrev with_copy : FileTree ℕ
+  with_copy = with_inode nat_eq merge.upper copy
+      (record {
+        attr = node.attr;
+        content = copied_content
+            (copy_parent merge copy (a_name nat_eq merge.files object)) node.content;
+      })
+
+  abbrev later_real : ℕ → Option (Real ℕ)
+  later_real = with_real nat_eq merge.real object (Upper copy)
+
+  root_named : (named : Option (ℕ × List ℕ))
+      → (copy_named nat_eq merge copy named with_copy).tree.root ≡ merge.upper.tree.root
+  root_named None = refl
+  root_named (Some name) = refl
+
+  numbers_named : (named : Option (ℕ × List ℕ))
+      → (copy_named nat_eq merge copy named with_copy).numbers ≡ copy ∷ merge.upper.numbers
+  numbers_named None = refl
+  numbers_named (Some name) = refl
+
+  real_copy : upper_object (later_real object) ≡ Some copy
+  real_copy = ap (λ b. upper_object (cond b (Some (Upper copy)) (merge.real object))) (eq-eqb object object refl)
+
+  pub grows_by_one : Grows merge (copy_of_node nat_eq merge object copy node)
+  grows_by_one = record {
+    files = refl;
+    root = root_named (a_name nat_eq merge.files object);
+    grows = λ number seen e.
+        ⊎_elim
+        (λ same. absurd (true≢false (sym (ap (λ n. is_some (upper_object (merge.real n))) (sym same.1) ∙ ap is_some e)
+        ∙ below)))
+        (λ other. ap (λ b. upper_object (cond b (Some (Upper copy)) (merge.real number))) other.0 ∙ e)
+        (eqb_tells number object);
+    there = λ number h.
+        ⊎_elim
+        (λ same. inr (ap (λ n. is_some (merge.files.tree.node n)) same.1 ∙ ap is_some is_node))
+        (λ other. inl (ap (λ b. is_some (cond b (Some (Upper copy)) (merge.real number))) (sym other.0) ∙ h))
+        (eqb_tells number object);
+    numbers = λ inode m.
+        ⊎_elim
+        (λ same. inr (object, ap is_some is_node, real_copy ∙ ap Some (sym same)))
+        inl
+        (subst (Among inode) (numbers_named (a_name nat_eq merge.files object)) m);
+  }
+
+-- and all that a change asks for
+grows_each : (fresh : Fresh ℕ) (k : ℕ) (merge : Merge ℕ) (objects : List ℕ)
+    → Grows merge (copied_each nat_eq fresh k merge objects)
+grows_each fresh k merge [] = grows_not merge
+grows_each fresh k merge (object ∷ rest) =
+    grows_twice merge (copy_of nat_eq merge object (fresh k) (merge.files.tree.node object)
+    (is_in_upper merge object)) _
+    (by (merge.files.tree.node object) refl (is_in_upper merge object) refl)
+    (grows_each fresh (k + 1) (copy_of nat_eq merge object (fresh k) (merge.files.tree.node object)
+    (is_in_upper merge object)) rest)
+  where
+    by : (o : Option (Node ℕ)) → merge.files.tree.node object ≡ o → (b : Bool) → is_in_upper merge object ≡ b
+        → Grows merge (copy_of nat_eq merge object (fresh k) o b)
+    by None e b f = grows_not merge
+    by (Some node) e true f = grows_not merge
+    by (Some node) e false f = grows_by_one merge object (fresh k) node e f
+
+pub grows_up : (fresh : Fresh ℕ) (merge : Merge ℕ) (object : ℕ) → Grows merge (copied_up nat_eq fresh merge object)
+grows_up fresh merge object = grows_each fresh 0 merge (line_to nat_eq merge.files object)
+
+-- Numbers and the root of a tree stay in changes of nodes
+
+pub numbers_emptied : (upper : FileTree ℕ) (object : Option ℕ) → (without_contents nat_eq upper object).numbers
+    ≡ upper.numbers
+numbers_emptied upper None = refl
+numbers_emptied upper (Some object) = refl
+
+pub numbers_marked : (mark : Bool) (upper : FileTree ℕ) (object : ℕ)
+    → (with_mark nat_eq mark upper object).numbers ≡ upper.numbers
+numbers_marked true upper object = refl
+numbers_marked false upper object = refl
+
+pub numbers_moved : (files : FileTree ℕ) (from : ℕ) (old : List ℕ) (to : ℕ) (new : List ℕ) (object : ℕ)
+    → (with_moved nat_eq files from old to new object).numbers ≡ files.numbers
+numbers_moved files from old to new object =
+    numbers-without_parent files (entry_named new (entries_in (files.tree.node to)))
+
+pub root_moved : (files : FileTree ℕ) (from : ℕ) (old : List ℕ) (to : ℕ) (new : List ℕ) (object : ℕ)
+    → (with_moved nat_eq files from old to new object).tree.root ≡ files.tree.root
+root_moved files from old to new object = root-without_parent files (entry_named new (entries_in (files.tree.node to)))
+
+-- a change of a tree takes no inode away
+pub numbers_stay : (files : FileTree ℕ) (change : Change ℕ) (inode : ℕ) → Among inode files.numbers → Among inode
+    (changed nat_eq files change).numbers
+numbers_stay files (Make directory name number node) inode m = inr m
+numbers_stay files (AddName directory name object) inode m = m
+numbers_stay files (Remove directory name object) inode m = m
+numbers_stay files (Move from old to new object) inode m =
+    subst (Among inode) (sym (numbers_moved files from old to new object)) m
+numbers_stay files (SetBytes file bytes) inode m = m
+numbers_stay files (SetAttr object attr) inode m = m
+numbers_stay files (SetMark directory opaque) inode m = m
+numbers_stay files (CopyUp object) inode m = m

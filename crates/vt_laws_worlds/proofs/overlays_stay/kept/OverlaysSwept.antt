@@ -1,0 +1,181 @@
+-- Overlays without an upper layer, after a permit and after the sweep.
+use Rattle.std.proofs.Common.{◌≡◌, refl, sym, ap, subst, ◌∙◌, inl, inr, ℕ, nat_eq, Bool, true, false, true≢false, cond, not, ◌||◌, List, [], ◌∷◌, filter, Option, Some, None, is_some, option_map}
+use Rattle.std.specs.List.{list_all, list_any}
+use Rattle.vt_spec.specs.Lists.{Fresh, is_among}
+use Rattle.vt_spec.specs.Machine.Apply.{apply}
+use Rattle.vt_spec.specs.Machine.Invariants.{IsWorld}
+use Rattle.vt_spec.specs.Machine.Locked.{of_overlay, overlay_or}
+use Rattle.vt_spec.specs.Machine.Permits.{Permit}
+use Rattle.vt_spec.specs.Machine.SameWorlds.{SameFilesystems}
+use Rattle.vt_spec.specs.Machine.Settled.{filesystem_lives, has_layer_on, is_mounted, only_used, only_used_by, real_among, settled, used_in, without_dead_in, without_dead_mounts}
+use Rattle.vt_spec.specs.Machine.World.{Filesystem, Overlay, Task, World, is_overlay, layers_of}
+use Rattle.vt_spec.proofs.Lists.{Among, all_from_among, among-filter, among_from_all, among-from_filter, among-from_map, none_among, none_from_among}
+use Rattle.vt_laws_mounts.specs.LettingGo.Keeping.{has_only_named}
+use Rattle.vt_laws_mounts.specs.LettingGo.TreesOverlays.{in_use_of}
+use Rattle.vt_laws_mounts.proofs.letting_go.sweeps.UsesCounted.{mounted_while_counted}
+use Rattle.vt_laws_worlds.proofs.worlds.FitPermitsNamed.{all_permits_fit}
+use Rattle.vt_laws_mounts.specs.Counts.BesideOverlays.{OverlaysHaveNoUpper}
+use Rattle.vt_laws_mounts.specs.Counts.OverlaysStay.{HasNoLayerIn, OverlaysAreNamed}
+use Rattle.vt_laws_mounts.proofs.counts.overlays.Living.{lives_while_mounted, overlays_are_no_layers}
+use Rattle.vt_laws_mounts.proofs.counts.overlays.NamedStay.{named_overlays_stay}
+use Rattle.vt_laws_worlds.specs.Permits.Left.{IsGiven, left_by}
+use Rattle.vt_laws_worlds.specs.OverlaysStay.Kept.{MountedOverlaysStay, PermitsLeaveOverlays, PlainWorldsHaveNoOverlays, SameWorldsHaveNoUpperAlike, SweepsGiveNoUpper, SweepsKeepNames}
+use Rattle.vt_laws_worlds.proofs.overlays_stay.kept.OverlaysLeft.{by_overlays, no_upper_of_plain, overlays_in, overlays_left}
+
+pub permits_leave_overlays : PermitsLeaveOverlays
+permits_leave_overlays world fresh task permit is none given =
+    overlays_left world fresh task none is.files.one_filesystem permit
+    (all_permits_fit world fresh task given.call permit is given.serves given.called given.no_overlay
+    given.judged).names
+
+-- The sweep
+
+abbrev has_upper : Filesystem ℕ → Bool
+has_upper f = of_overlay false (λ overlay. is_some overlay.upper) f
+
+upper_by : (used : List ℕ) (b : Bool) (f : Filesystem ℕ) → has_upper (only_used_by nat_eq b used f) ≡ has_upper f
+upper_by used true f = refl
+upper_by used false f = by f.overlay
+  where
+    by : (o : Option (Overlay ℕ))
+        → overlay_or false (λ overlay. is_some overlay.upper) (option_map (real_among nat_eq used) o)
+        ≡ overlay_or false (λ overlay. is_some overlay.upper) o
+    by None = refl
+    by (Some overlay) = refl
+
+no_upper_in : (chosen : Filesystem ℕ → Bool) (world : World ℕ) → OverlaysHaveNoUpper world
+    → OverlaysHaveNoUpper (without_dead_in nat_eq chosen world)
+no_upper_in chosen world none =
+    all_from_among (λ f. has_upper f ≡ false) (without_dead_in nat_eq chosen world).filesystems (λ g m.
+    let from = among-from_map (λ f. only_used nat_eq world (chosen f) f) world.filesystems g m in
+    ap has_upper from.2 ∙ by (chosen from.0) from.0
+    ∙ among_from_all (λ f. has_upper f ≡ false) world.filesystems none from.0 from.1)
+  where
+    by : (b : Bool) (f : Filesystem ℕ) → has_upper (only_used nat_eq world b f) ≡ has_upper f
+    by true f = upper_by (used_in nat_eq world f)
+        (list_all (λ n. is_among nat_eq n (used_in nat_eq world f)) f.files.numbers) f
+    by false f = refl
+
+pub sweeps_give_no_upper : SweepsGiveNoUpper
+sweeps_give_no_upper world none =
+    no_upper_in (λ f. not (is_overlay f)) (without_dead_in nat_eq is_overlay (in_use_of world))
+    (no_upper_in is_overlay (in_use_of world)
+    (all_from_among (λ f. has_upper f ≡ false) (in_use_of world).filesystems (λ f m.
+    among_from_all (λ g. has_upper g ≡ false) world.filesystems none f
+    (among-from_filter (filesystem_lives nat_eq (without_dead_mounts nat_eq world)) world.filesystems f m).0)))
+
+abbrev IsNamed : Filesystem ℕ → Type 0
+IsNamed f = is_overlay f ≡ true → has_only_named f ≡ true
+
+named_of_plain : (f : Filesystem ℕ) → is_overlay f ≡ false → IsNamed f
+named_of_plain f e is = absurd (true≢false (sym is ∙ e))
+
+pub sweeps_keep_names : SweepsKeepNames
+sweeps_keep_names world named =
+    by_overlays IsNamed named_of_plain (in_use_of world).filesystems (settled nat_eq world).filesystems
+    (named_overlays_stay world named)
+    (all_from_among IsNamed (in_use_of world).filesystems (λ f m.
+    among_from_all IsNamed world.filesystems named f
+    (among-from_filter (filesystem_lives nat_eq (without_dead_mounts nat_eq world)) world.filesystems f m).0))
+
+-- A permit, and the sweep after it
+
+filters_turned : (p q r : Filesystem ℕ → Bool) (list : List (Filesystem ℕ))
+    → ((f : Filesystem ℕ) → Among f list → p f ≡ true → q f ≡ r f)
+    → filter p (filter q list) ≡ filter r (filter p list)
+filters_turned p q r [] same = refl
+filters_turned p q r (first ∷ rest) same =
+    by (p first) (q first) (r first) refl refl refl (filters_turned p q r rest (λ f m. same f (inr m)))
+  where
+    by : (a b c : Bool) → p first ≡ a → q first ≡ b → r first ≡ c → filter p (filter q rest) ≡ filter r (filter p rest)
+        → filter p (cond b (first ∷ filter q rest) (filter q rest))
+        ≡ filter r (cond a (first ∷ filter p rest) (filter p rest))
+    by true true true e f g later =
+        ap (λ x. cond x (first ∷ filter p (filter q rest)) (filter p (filter q rest))) e
+        ∙ ap (λ l. first ∷ l) later
+        ∙ sym (ap (λ x. cond x (first ∷ filter r (filter p rest)) (filter r (filter p rest))) g)
+    by true true false e f g later = absurd (true≢false (sym f ∙ same first (inl refl) e ∙ g))
+    by true false true e f g later = absurd (true≢false (sym g ∙ sym (same first (inl refl) e) ∙ f))
+    by true false false e f g later =
+        later ∙ sym (ap (λ x. cond x (first ∷ filter r (filter p rest)) (filter r (filter p rest))) g)
+    by false true c e f g later =
+        ap (λ x. cond x (first ∷ filter p (filter q rest)) (filter p (filter q rest))) e ∙ later
+    by false false c e f g later = later
+
+module _ (world : World ℕ) (fresh : Fresh ℕ) (task : Task ℕ) (permit : Permit ℕ) (is : IsWorld nat_eq world)
+    (none : OverlaysHaveNoUpper world) (given : IsGiven fresh world task permit) where
+  abbrev applied : World ℕ
+  applied = (apply nat_eq fresh world task permit).world
+
+  abbrev mounted : World ℕ
+  mounted = without_dead_mounts nat_eq applied
+
+  left_same : overlays_in applied.filesystems ≡ overlays_in world.filesystems
+  left_same = permits_leave_overlays world fresh task permit is none given
+
+  pub no_upper_applied : OverlaysHaveNoUpper applied
+  no_upper_applied =
+      by_overlays (λ f. has_upper f ≡ false) no_upper_of_plain world.filesystems applied.filesystems left_same none
+
+  pub named_applied : OverlaysAreNamed world → OverlaysAreNamed applied
+  named_applied named = by_overlays IsNamed named_of_plain world.filesystems applied.filesystems left_same named
+
+  -- no overlay is a layer of another
+  apart : (f : Filesystem ℕ) → Among f applied.filesystems → is_overlay f ≡ true → HasNoLayerIn f.number mounted
+  apart f m e =
+      by_overlays (λ merged. has_layer_on nat_eq f.number merged ≡ false) no_layer world.filesystems
+      applied.filesystems left_same
+      (among_from_all (λ g. is_overlay g ≡ true → HasNoLayerIn g.number world) world.filesystems
+      (overlays_are_no_layers world is) f
+      (among-from_filter is_overlay world.filesystems f
+      (subst (Among f) left_same (among-filter is_overlay applied.filesystems f m e))).0 e)
+    where
+      no_layer : (merged : Filesystem ℕ) → is_overlay merged ≡ false → has_layer_on nat_eq f.number merged ≡ false
+      no_layer merged h = by merged.overlay h
+        where
+          by : (o : Option (Overlay ℕ)) → is_some o ≡ false
+              → overlay_or false (λ overlay. list_any (λ layer. nat_eq f.number layer.filesystem) (layers_of overlay)) o
+              ≡ false
+          by None k = refl
+          by (Some overlay) k = absurd (true≢false k)
+
+  pub mounted_stay : OverlaysAreNamed world
+      → overlays_in (left_by fresh world task permit).filesystems
+      ≡ filter (λ merged. is_mounted nat_eq (left_by fresh world task permit) merged.number)
+      (overlays_in world.filesystems)
+  mounted_stay named =
+      named_overlays_stay applied (named_applied named)
+      ∙ filters_turned is_overlay (filesystem_lives nat_eq mounted) (λ merged. is_mounted nat_eq mounted merged.number)
+      applied.filesystems
+      (λ f m e. lives_while_mounted mounted f (apart f m e) ∙ sym (mounted_while_counted mounted f.number))
+      ∙ ap (filter (λ merged. is_mounted nat_eq mounted merged.number)) left_same
+
+pub mounted_overlays_stay : MountedOverlaysStay
+mounted_overlays_stay world fresh task permit is none named given =
+    mounted_stay world fresh task permit is none given named
+
+-- Worlds
+
+pub plain_worlds_have_no_overlays : PlainWorldsHaveNoOverlays
+plain_worlds_have_no_overlays world plain = (
+  all_from_among (λ f. has_upper f ≡ false) world.filesystems (λ f m.
+      no_upper_of_plain f (among_from_all (λ g. is_overlay g ≡ false) world.filesystems plain f m)),
+  all_from_among IsNamed world.filesystems (λ f m.
+      named_of_plain f (among_from_all (λ g. is_overlay g ≡ false) world.filesystems plain f m)),
+)
+
+uppers_alike : (ones others : List (Filesystem ℕ)) → SameFilesystems ones others
+    → list_any has_upper ones ≡ list_any has_upper others
+uppers_alike [] [] same = refl
+uppers_alike [] (other ∷ others) same = absurd same
+uppers_alike (one ∷ ones) [] same = absurd same
+uppers_alike (one ∷ ones) (other ∷ others) same =
+    λ i. overlay_or false (λ overlay. is_some overlay.upper) (same.0.overlay i) || uppers_alike ones others same.1 i
+
+pub same_worlds_have_no_upper_alike : SameWorldsHaveNoUpperAlike
+same_worlds_have_no_upper_alike one other same none =
+    all_from_among (λ f. has_upper f ≡ false) other.filesystems
+    (none_among has_upper other.filesystems
+    (sym (uppers_alike one.filesystems other.filesystems same.filesystems)
+    ∙ none_from_among has_upper one.filesystems
+    (among_from_all (λ f. has_upper f ≡ false) one.filesystems none)))

@@ -1,0 +1,72 @@
+-- What is seen along the paths of layers has a name.
+use Rattle.std.proofs.Common.{◌≡◌, ◌≢◌, refl, sym, ap, subst, ◌∙◌, ℕ, nat_eq, eq-eqb, Bool, true, false, true≢false, ◌||◌, Option, Some, None, is_some}
+use Rattle.std.proofs.lemmas.Bool.{or_parts}
+use Rattle.vt_spec.specs.Lists.{is_among, then_some}
+use Rattle.vt_spec.specs.Machine.Invariants.{SameObject, real_node}
+use Rattle.vt_spec.specs.Machine.Settled.{named_in}
+use Rattle.vt_spec.specs.Machine.World.{Filesystem, Overlay, Real, World, filesystem_numbered, is_overlay}
+use Rattle.vt_spec.specs.Tree.{Node}
+use Rattle.vt_spec.specs.TreeInvariant.{HasName}
+use Rattle.vt_laws_mounts.specs.LettingGo.InUse.{IsListedTree}
+use Rattle.vt_laws_mounts.specs.LettingGo.Keeping.{has_only_named}
+use Rattle.vt_laws_mounts.proofs.letting_go.Lists.{all_from_among, all_pass, is_among_numbers}
+use Rattle.vt_laws_mounts.proofs.letting_go.Trees.{named_among}
+use Rattle.vt_laws_mounts.proofs.letting_go.sweeps.OfWorlds.{found_filesystem}
+use Rattle.vt_laws_worlds.specs.Merging.MergedTrees.{IsMergedTree, IsNamedBy}
+use Rattle.vt_laws_worlds.proofs.merging.merged.Numbers.{overlays_are_merged_trees}
+use Rattle.vt_laws_worlds.proofs.seen.seen.NamedTrees.{seen_trees_are_named}
+use Rattle.vt_laws_worlds.specs.OverlaysStay.Named.{SeenOverlaysHaveNames, SeenWorldsHaveNames}
+
+module _ (number_of : Real ℕ → ℕ) (world : World ℕ) (f : Filesystem ℕ) (overlay : Overlay ℕ)
+    (merged : IsMergedTree world f overlay) (named : IsNamedBy number_of (λ inode. None) f overlay) where
+  tree : IsListedTree f.files
+  tree = record { tree = merged.tree; numbers = merged.numbers }
+
+  -- an inode without a name has no real object, so it is not there
+  not_there : (n : ℕ) → ¬ (HasName f.files.tree n) → n ≢ f.files.tree.root → is_some (f.files.tree.node n) ≡ false
+  not_there n unnamed other =
+      none (f.files.tree.node n)
+      (subst (λ o. SameObject (f.files.tree.node n) (then_some o (real_node nat_eq world overlay)))
+      (named.unnamed n unnamed other) (merged.merged.real_objects n))
+    where
+      none : (o : Option (Node ℕ)) → SameObject o None → is_some o ≡ false
+      none None same = refl
+      none (Some node) same = absurd same
+
+  only_named : has_only_named f ≡ true
+  only_named =
+      all_pass (λ n. nat_eq n f.files.tree.root || is_among nat_eq n (named_in f.files)) f.files.numbers (λ n m.
+      by n (sym (merged.numbers n) ∙ is_among_numbers n f.files.numbers m)
+      (nat_eq n f.files.tree.root || is_among nat_eq n (named_in f.files)) refl)
+    where
+      by : (n : ℕ) → is_some (f.files.tree.node n) ≡ true → (b : Bool)
+          → (nat_eq n f.files.tree.root || is_among nat_eq n (named_in f.files)) ≡ b → b ≡ true
+      by n there true e = refl
+      by n there false e =
+          let parts = or_parts (nat_eq n f.files.tree.root) (is_among nat_eq n (named_in f.files)) e in
+          absurd (true≢false (sym there ∙ not_there n
+          (λ name. true≢false (sym (named_among f.files tree n name) ∙ parts.1))
+          (λ root. true≢false (sym (eq-eqb n f.files.tree.root root) ∙ parts.0))))
+
+pub seen_overlays_have_names : SeenOverlaysHaveNames
+seen_overlays_have_names number_of longest world number overlay is was seen =
+    let merged = overlays_are_merged_trees world number overlay is was in
+    let named = seen_trees_are_named number_of (λ inode. None) longest world (filesystem_numbered nat_eq world number)
+    overlay merged seen (λ inode object none. absurd cc) in
+    (named, only_named number_of world (filesystem_numbered nat_eq world number) overlay merged named)
+
+pub seen_worlds_have_names : SeenWorldsHaveNames
+seen_worlds_have_names number_of longest world is seen =
+    all_from_among (λ f. is_overlay f ≡ true → has_only_named f ≡ true) world.filesystems (λ f m e.
+    by f (found_filesystem world.filesystems is.files.one_filesystem f m)
+    (filesystem_numbered nat_eq world f.number).overlay refl
+    (ap is_overlay (found_filesystem world.filesystems is.files.one_filesystem f m) ∙ e))
+  where
+    by : (f : Filesystem ℕ) → filesystem_numbered nat_eq world f.number ≡ f → (o : Option (Overlay ℕ))
+        → (filesystem_numbered nat_eq world f.number).overlay ≡ o
+        → is_overlay (filesystem_numbered nat_eq world f.number) ≡ true → has_only_named f ≡ true
+    by f found None e is_one = absurd (true≢false (sym is_one ∙ ap is_some e))
+    by f found (Some overlay) e is_one =
+        ap has_only_named (sym found)
+        ∙ (seen_overlays_have_names (number_of f.number) (longest f.number) world f.number overlay is e
+        (seen f.number overlay e)).1

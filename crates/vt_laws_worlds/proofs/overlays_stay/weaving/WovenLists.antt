@@ -1,0 +1,256 @@
+-- Lists of filesystems, woven by their numbers.
+use Rattle.std.proofs.Common.{◌≡◌, refl, sym, ap, subst, ◌∙◌, ℕ, nat_eq, nat_lt, Bool, true, false, true≢false, cond, not, ◌&&◌, List, [], ◌∷◌, filter, find, Some, arith}
+use Rattle.std.specs.Prelude.{All}
+use Rattle.std.specs.List.{list_all}
+use Rattle.std.proofs.lemmas.Bool.{and_parts, ltb-true}
+use Rattle.std.proofs.lemmas.List.Elements.{All-head, All-tail}
+use Rattle.vt_spec.specs.Machine.SameWorlds.{SameFilesystem, SameFilesystems}
+use Rattle.vt_spec.specs.Machine.World.{Filesystem}
+use Rattle.vt_laws_worlds.specs.OverlaysStay.Woven.{PlainOnesAreFound, RisingListsAreWoven, WovenListsAreAlike, WovenListsAreFailing, WovenListsAreFiltered, WovenListsArePassing, WovenListsPassAll, are_rising, put_in, woven}
+
+abbrev is_before : Filesystem ℕ → Filesystem ℕ → Bool
+is_before first other = nat_lt first.number other.number
+
+abbrev fails : (Filesystem ℕ → Bool) → Filesystem ℕ → Bool
+fails test filesystem = not (test filesystem)
+
+-- Numbers
+
+not_both : (a b : ℕ) → nat_lt a b ≡ true → nat_lt b a ≡ false
+not_both a b less = by (nat_lt b a) refl
+  where
+    by : (c : Bool) → nat_lt b a ≡ c → c ≡ false
+    by false e = refl
+    by true e = absurd (omega (arith, ltb-true a b less, ltb-true b a e))
+
+-- Putting in
+
+-- one before all others stands first
+put_first : (f : Filesystem ℕ) (list : List (Filesystem ℕ)) → list_all (is_before f) list ≡ true
+    → put_in f list ≡ f ∷ list
+put_first f [] before = refl
+put_first f (first ∷ rest) before =
+    ap (λ b. cond b (first ∷ put_in f rest) (f ∷ first ∷ rest))
+    (not_both f.number first.number (and_parts (is_before f first) (list_all (is_before f) rest) before).0)
+
+-- what is before all that are put in stands first
+woven_first : (first : Filesystem ℕ) (plain overlays : List (Filesystem ℕ)) → list_all (is_before first) overlays ≡ true
+    → woven (first ∷ plain) overlays ≡ first ∷ woven plain overlays
+woven_first first plain [] before = refl
+woven_first first plain (overlay ∷ rest) before =
+    let parts = and_parts (is_before first overlay) (list_all (is_before first) rest) before in
+    ap (put_in overlay) (woven_first first plain rest parts.1)
+    ∙ ap (λ b. cond b (first ∷ put_in overlay (woven plain rest)) (overlay ∷ first ∷ woven plain rest)) parts.0
+
+-- what holds of all holds of those that pass
+all_filtered : {A : Type 0} (p q : A → Bool) (list : List A) → list_all p list ≡ true
+    → list_all p (filter q list) ≡ true
+all_filtered p q [] all = refl
+all_filtered p q (first ∷ rest) all =
+    let parts = and_parts (p first) (list_all p rest) all in
+    by (q first) parts.0 (all_filtered p q rest parts.1)
+  where
+    by : (b : Bool) → p first ≡ true → list_all p (filter q rest) ≡ true
+        → list_all p (cond b (first ∷ filter q rest) (filter q rest)) ≡ true
+    by true here later = λ i. here i && later i
+    by false here later = later
+
+pub rising_lists_are_woven : RisingListsAreWoven
+rising_lists_are_woven test [] rising = refl
+rising_lists_are_woven test (first ∷ rest) rising =
+    let parts = and_parts (list_all (is_before first) rest) (are_rising rest) rising in
+    by (test first) parts.0 (rising_lists_are_woven test rest parts.1)
+  where
+    by : (b : Bool) → list_all (is_before first) rest ≡ true
+        → woven (filter (fails test) rest) (filter test rest) ≡ rest
+        → woven (cond (not b) (first ∷ filter (fails test) rest) (filter (fails test) rest))
+        (cond b (first ∷ filter test rest) (filter test rest))
+        ≡ first ∷ rest
+    by true before later = ap (put_in first) later ∙ put_first first rest before
+    by false before later =
+        woven_first first (filter (fails test) rest) (filter test rest)
+        (all_filtered (is_before first) test rest before)
+        ∙ ap (λ list. first ∷ list) later
+
+-- Taking apart
+
+none_pass : {A : Type 0} (test : A → Bool) (list : List A) → All (λ a. test a ≡ false) list → filter test list ≡ []
+none_pass test [] none = refl
+none_pass test (first ∷ rest) none =
+    ap (λ b. cond b (first ∷ filter test rest) (filter test rest))
+    (All-head (λ a. test a ≡ false) first rest none)
+    ∙ none_pass test rest (All-tail (λ a. test a ≡ false) first rest none)
+
+all_fail : {A : Type 0} (test : A → Bool) (list : List A) → All (λ a. test a ≡ false) list
+    → filter (λ a. not (test a)) list ≡ list
+all_fail test [] none = refl
+all_fail test (first ∷ rest) none =
+    ap (λ b. cond (not b) (first ∷ filter (λ a. not (test a)) rest) (filter (λ a. not (test a)) rest))
+    (All-head (λ a. test a ≡ false) first rest none)
+    ∙ ap (λ list. first ∷ list) (all_fail test rest (All-tail (λ a. test a ≡ false) first rest none))
+
+put_failing : (test : Filesystem ℕ → Bool) (f : Filesystem ℕ) → test f ≡ true → (list : List (Filesystem ℕ))
+    → filter (fails test) (put_in f list) ≡ filter (fails test) list
+put_failing test f passes [] = ap (λ b. cond (not b) (f ∷ []) []) passes
+put_failing test f passes (first ∷ rest) = by (is_before first f) (put_failing test f passes rest)
+  where
+    by : (b : Bool) → filter (fails test) (put_in f rest) ≡ filter (fails test) rest
+        → filter (fails test) (cond b (first ∷ put_in f rest) (f ∷ first ∷ rest)) ≡ filter (fails test) (first ∷ rest)
+    by true later = ap (λ list. cond (not (test first)) (first ∷ list) list) later
+    by false later =
+        ap (λ b. cond (not b) (f ∷ filter (fails test) (first ∷ rest)) (filter (fails test) (first ∷ rest))) passes
+
+pub woven_lists_are_failing : WovenListsAreFailing
+woven_lists_are_failing test plain [] parted = all_fail test plain parted.fail
+woven_lists_are_failing test plain (overlay ∷ rest) parted =
+    put_failing test overlay (All-head (λ f. test f ≡ true) overlay rest parted.pass) (woven plain rest)
+    ∙ woven_lists_are_failing test plain rest
+    (record { fail = parted.fail; pass = All-tail (λ f. test f ≡ true) overlay rest parted.pass })
+
+put_passing : (test : Filesystem ℕ → Bool) (f : Filesystem ℕ) → test f ≡ true → (list : List (Filesystem ℕ))
+    → list_all (is_before f) (filter test list) ≡ true
+    → filter test (put_in f list) ≡ f ∷ filter test list
+put_passing test f passes [] before = ap (λ b. cond b (f ∷ []) []) passes
+put_passing test f passes (first ∷ rest) before =
+    by (is_before first f) refl (test first) refl before (put_passing test f passes rest)
+  where
+    by : (b : Bool) → is_before first f ≡ b → (c : Bool) → test first ≡ c
+        → list_all (is_before f) (cond c (first ∷ filter test rest) (filter test rest)) ≡ true
+        → (list_all (is_before f) (filter test rest) ≡ true → filter test (put_in f rest) ≡ f ∷ filter test rest)
+        → filter test (cond b (first ∷ put_in f rest) (f ∷ first ∷ rest))
+        ≡ f ∷ cond c (first ∷ filter test rest) (filter test rest)
+    by true e true g before later =
+        absurd (true≢false (sym (and_parts (is_before f first) (list_all (is_before f) (filter test rest)) before).0
+        ∙ not_both first.number f.number e))
+    by true e false g before later =
+        ap (λ c. cond c (first ∷ filter test (put_in f rest)) (filter test (put_in f rest))) g ∙ later before
+    by false e c g before later =
+        ap (λ d. cond d (f ∷ filter test (first ∷ rest)) (filter test (first ∷ rest))) passes
+        ∙ ap (λ d. f ∷ cond d (first ∷ filter test rest) (filter test rest)) g
+
+pub woven_lists_are_passing : WovenListsArePassing
+woven_lists_are_passing test plain [] parted rising = none_pass test plain parted.fail
+woven_lists_are_passing test plain (overlay ∷ rest) parted rising =
+    let parts = and_parts (list_all (is_before overlay) rest) (are_rising rest) rising in
+    let later = woven_lists_are_passing test plain rest
+    (record { fail = parted.fail; pass = All-tail (λ f. test f ≡ true) overlay rest parted.pass }) parts.1 in
+    put_passing test overlay (All-head (λ f. test f ≡ true) overlay rest parted.pass) (woven plain rest)
+    (ap (list_all (is_before overlay)) later ∙ parts.0)
+    ∙ ap (λ list. overlay ∷ list) later
+
+-- Filters
+
+pub rising_filtered : (stays : Filesystem ℕ → Bool) (list : List (Filesystem ℕ)) → are_rising list ≡ true
+    → are_rising (filter stays list) ≡ true
+rising_filtered stays [] rising = refl
+rising_filtered stays (first ∷ rest) rising =
+    let parts = and_parts (list_all (is_before first) rest) (are_rising rest) rising in
+    by (stays first) parts.0 (rising_filtered stays rest parts.1)
+  where
+    by : (b : Bool) → list_all (is_before first) rest ≡ true → are_rising (filter stays rest) ≡ true
+        → are_rising (cond b (first ∷ filter stays rest) (filter stays rest)) ≡ true
+    by true before later = λ i. all_filtered (is_before first) stays rest before i && later i
+    by false before later = later
+
+turned : {A : Type 0} (p q : A → Bool) (list : List A) → filter p (filter q list) ≡ filter q (filter p list)
+turned p q [] = refl
+turned p q (first ∷ rest) = by (p first) (q first) refl refl (turned p q rest)
+  where
+    by : (a b : Bool) → p first ≡ a → q first ≡ b → filter p (filter q rest) ≡ filter q (filter p rest)
+        → filter p (cond b (first ∷ filter q rest) (filter q rest))
+        ≡ filter q (cond a (first ∷ filter p rest) (filter p rest))
+    by true true e f later =
+        ap (λ x. cond x (first ∷ filter p (filter q rest)) (filter p (filter q rest))) e
+        ∙ ap (λ list. first ∷ list) later
+        ∙ sym (ap (λ x. cond x (first ∷ filter q (filter p rest)) (filter q (filter p rest))) f)
+    by true false e f later =
+        later ∙ sym (ap (λ x. cond x (first ∷ filter q (filter p rest)) (filter q (filter p rest))) f)
+    by false true e f later =
+        ap (λ x. cond x (first ∷ filter p (filter q rest)) (filter p (filter q rest))) e ∙ later
+    by false false e f later = later
+
+pub woven_lists_are_filtered : WovenListsAreFiltered
+woven_lists_are_filtered test stays plain overlays parted overlays_rise rising =
+    sym (rising_lists_are_woven test (filter stays (woven plain overlays))
+    (rising_filtered stays (woven plain overlays) rising))
+    ∙ (λ i. woven
+    ((turned (fails test) stays (woven plain overlays)
+    ∙ ap (filter stays) (woven_lists_are_failing test plain overlays parted)) i)
+    ((turned test stays (woven plain overlays)
+    ∙ ap (filter stays) (woven_lists_are_passing test plain overlays parted overlays_rise)) i))
+
+-- Tests
+
+aside : (a b c : Bool) → (a && (b && c)) ≡ (b && (a && c))
+aside true b c = refl
+aside false true c = refl
+aside false false c = refl
+
+put_tested : (test : Filesystem ℕ → Bool) (f : Filesystem ℕ) (list : List (Filesystem ℕ))
+    → list_all test (put_in f list) ≡ (test f && list_all test list)
+put_tested test f [] = refl
+put_tested test f (first ∷ rest) = by (is_before first f) (put_tested test f rest)
+  where
+    by : (b : Bool) → list_all test (put_in f rest) ≡ (test f && list_all test rest)
+        → list_all test (cond b (first ∷ put_in f rest) (f ∷ first ∷ rest))
+        ≡ (test f && (test first && list_all test rest))
+    by true later = ap (λ b. test first && b) later ∙ aside (test first) (test f) (list_all test rest)
+    by false later = refl
+
+pub woven_lists_pass_all : WovenListsPassAll
+woven_lists_pass_all test plain [] = by (list_all test plain)
+  where
+    by : (b : Bool) → b ≡ (b && true)
+    by true = refl
+    by false = refl
+woven_lists_pass_all test plain (overlay ∷ rest) =
+    put_tested test overlay (woven plain rest)
+    ∙ ap (λ b. test overlay && b) (woven_lists_pass_all test plain rest)
+    ∙ aside (test overlay) (list_all test plain) (list_all test rest)
+
+-- Sameness
+
+put_alike : (f g : Filesystem ℕ) → SameFilesystem f g → (ones others : List (Filesystem ℕ))
+    → SameFilesystems ones others → SameFilesystems (put_in f ones) (put_in g others)
+put_alike f g here [] [] same = (here, tt)
+put_alike f g here [] (other ∷ others) same = absurd same
+put_alike f g here (one ∷ ones) [] same = absurd same
+put_alike f g here (one ∷ ones) (other ∷ others) same =
+    subst (λ b. SameFilesystems (cond (is_before one f) (one ∷ put_in f ones) (f ∷ one ∷ ones))
+    (cond b (other ∷ put_in g others) (g ∷ other ∷ others)))
+    (λ i. nat_lt (same.0.number i) (here.number i))
+    (by (is_before one f) (put_alike f g here ones others same.1))
+  where
+    by : (b : Bool) → SameFilesystems (put_in f ones) (put_in g others)
+        → SameFilesystems (cond b (one ∷ put_in f ones) (f ∷ one ∷ ones))
+        (cond b (other ∷ put_in g others) (g ∷ other ∷ others))
+    by true later = (same.0, later)
+    by false later = (here, same)
+
+pub woven_lists_are_alike : WovenListsAreAlike
+woven_lists_are_alike plain [] others [] same same_overlays = same
+woven_lists_are_alike plain [] others (another ∷ rest) same same_overlays = absurd same_overlays
+woven_lists_are_alike plain (overlay ∷ rest) others [] same same_overlays = absurd same_overlays
+woven_lists_are_alike plain (overlay ∷ rest) others (another ∷ more) same same_overlays =
+    put_alike overlay another same_overlays.0 (woven plain rest) (woven others more)
+    (woven_lists_are_alike plain rest others more same same_overlays.1)
+
+-- Numbers
+
+put_passed : (number : ℕ) (f : Filesystem ℕ) → nat_eq number f.number ≡ false → (list : List (Filesystem ℕ))
+    → find (λ g. nat_eq number g.number) (put_in f list) ≡ find (λ g. nat_eq number g.number) list
+put_passed number f other [] = ap (λ b. cond b (Some f) (find (λ g. nat_eq number g.number) [])) other
+put_passed number f other (first ∷ rest) = by (is_before first f) (put_passed number f other rest)
+  where
+    by : (b : Bool)
+        → find (λ g. nat_eq number g.number) (put_in f rest) ≡ find (λ g. nat_eq number g.number) rest
+        → find (λ g. nat_eq number g.number) (cond b (first ∷ put_in f rest) (f ∷ first ∷ rest))
+        ≡ find (λ g. nat_eq number g.number) (first ∷ rest)
+    by true later = ap (cond (nat_eq number first.number) (Some first)) later
+    by false later = ap (λ b. cond b (Some f) (find (λ g. nat_eq number g.number) (first ∷ rest))) other
+
+pub plain_ones_are_found : PlainOnesAreFound
+plain_ones_are_found plain [] number others = refl
+plain_ones_are_found plain (overlay ∷ rest) number others =
+    put_passed number overlay (All-head (λ f. nat_eq number f.number ≡ false) overlay rest others) (woven plain rest)
+    ∙ plain_ones_are_found plain rest number (All-tail (λ f. nat_eq number f.number ≡ false) overlay rest others)

@@ -1,0 +1,319 @@
+-- Each number that a world has is in use.
+use Rattle.std.proofs.Common.{eqb-true, ◌≡◌, refl, sym, ap, subst, ◌∙◌, ⊎_elim, inl, inr, true≢false, ℕ, nat_eq, Bool, true, false, cond, List, [], ◌∷◌, ◌++◌, map, flat_map, Option, Some, None, is_some}
+use Rattle.std.specs.Prelude.{option_to_list}
+use Rattle.std.specs.List.{list_all}
+use Rattle.std.proofs.lemmas.Bool.{and_parts}
+use Rattle.std.specs.Cmp.{tied_itself}
+use Rattle.std.specs.Cmp.Lexicographic.{nat_list_cmp_total}
+use Rattle.std.specs.FinMap.Entries.{below_all, is_sorted}
+use Rattle.std.specs.Ordering.{eq_by_cmp, is_eq}
+use Rattle.vt_laws_rules.specs.Numbers.{FilesystemNamed, IsFoundAmong, OverlayIfAnyNamed, WorldNamed, content_named, descriptor_named, location_named, mount_named, namespace_named, node_named, none_or, propagation_named, task_named}
+use Rattle.vt_laws_mounts.proofs.letting_go.Lists.{Among, all_from_among, all_pass, among-append_left, among-append_right, among-flat_map, among-from_map, among-map, among_from_all, among_numbers, is_among_numbers, one_passes, passes}
+use Rattle.vt_laws_worlds.specs.Permits.InUse.{WorldsHaveNumbersInUse, is_in_use}
+use Rattle.vt_spec.specs.Lists.{holds_of}
+use Rattle.vt_spec.specs.Machine.Mounts.{Location, Mount, Propagation, group_of, source_of}
+use Rattle.vt_spec.specs.Machine.Mounts.Propagation.{Private, Shared, Slave, Unbindable}
+use Rattle.vt_spec.specs.Machine.Receives.{has_members, is_member_of}
+use Rattle.vt_spec.specs.Machine.Run.{numbers_in_use, used_by_filesystem, used_by_mount}
+use Rattle.vt_spec.specs.Machine.World.{Descriptor, Filesystem, Namespace, Overlay, Task, World, all_locations, filesystem_numbered, locations_of, mount_at, node_at}
+use Rattle.vt_spec.specs.Machine.Invariants.{HasLivingGroups, IsWorld, ListsNumbers, has_its_root, is_listed, is_located_well}
+use Rattle.vt_spec.specs.Tree.{Content, Entries, Node, Tree, entries_in, entry_named, is_directory_node, name_cmp, parent_in}
+use Rattle.vt_spec.specs.Tree.Content.{Directory, Regular, Symlink, Whiteout}
+use Rattle.vt_spec.specs.TreeInvariant.{IsTree}
+use Rattle.vt_spec.proofs.Nodes.{directory_used, same_name}
+use Rattle.vt_laws_trees.proofs.trees.TreesOfWorlds.{number_numbered, numbered_all}
+use Rattle.vt_laws_trees.proofs.trees.TreesTasks.{both}
+use Rattle.vt_laws_worlds.proofs.Plain.{no_overlay}
+use Rattle.vt_laws_worlds.proofs.worlds.Shows.{world_shows}
+use Rattle.vt_laws_worlds.specs.Worlds.Kept.{IsPlain}
+use Rattle.vt_laws_mounts.proofs.letting_go.sweeps.OfWorlds.{all_in_use}
+use Rattle.vt_spec.proofs.NodeChanges.{directory_is_there, entry_named-below}
+use Rattle.vt_spec.proofs.Options.{none_from_not_some}
+use Rattle.vt_laws_mounts.proofs.GroupsUp.{master_has_members}
+
+found_by_name : (entries : Entries ℕ) (entry : List ℕ × ℕ) → is_sorted name_cmp entries ≡ true → Among entry entries
+    → entry_named entry.0 entries ≡ Some entry.1
+found_by_name [] entry sorted among = absurd among
+found_by_name (first ∷ entries) entry sorted (inl same) =
+    subst (λ (e : List ℕ × ℕ). entry_named e.0 (first ∷ entries) ≡ Some e.1) (sym same)
+    (ap (λ o. cond (is_eq o) (Some first.1) (entry_named first.0 entries)) (tied_itself nat_list_cmp_total first.0))
+found_by_name (first ∷ entries) entry sorted (inr among) =
+    by (eq_by_cmp name_cmp entry.0 first.0) refl (found_by_name entries entry parts.1 among)
+  where
+    parts : (below_all name_cmp first.0 entries ≡ true) × (is_sorted name_cmp entries ≡ true)
+    parts = and_parts (below_all name_cmp first.0 entries) (is_sorted name_cmp entries) sorted
+
+    there : Option ℕ → Bool
+    there None = false
+    there (Some number) = true
+
+    by : (tied : Bool) → eq_by_cmp name_cmp entry.0 first.0 ≡ tied → entry_named entry.0 entries ≡ Some entry.1
+        → cond tied (Some first.1) (entry_named entry.0 entries) ≡ Some entry.1
+    by true t named =
+        absurd (true≢false (ap there
+        (sym named ∙ ap (λ n. entry_named n entries) (same_name entry.0 first.0 t)
+        ∙ entry_named-below first.0 entries parts.0)))
+    by false t named = named
+
+-- the group of a member is its source
+member_source : (number : ℕ) (kind : Propagation ℕ) → holds_of (nat_eq number) (group_of kind) ≡ true
+    → source_of kind ≡ Some number
+member_source number (Shared group) e = ap Some (sym (eqb-true number group e))
+member_source number (Slave master) e = absurd (true≢false (sym e))
+member_source number Private e = absurd (true≢false (sym e))
+member_source number Unbindable e = absurd (true≢false (sym e))
+
+module _ (world : World ℕ) (whole : IsWorld nat_eq world) (plain : IsPlain world) where
+  abbrev Used : ℕ → Type 0
+  Used number = is_in_use world number ≡ true
+
+  abbrev of_mounts : List ℕ
+  of_mounts = flat_map used_by_mount world.mounts
+
+  abbrev of_filesystems : List ℕ
+  of_filesystems = flat_map used_by_filesystem world.filesystems
+
+  abbrev of_namespaces : List ℕ
+  of_namespaces = map (λ (namespace : Namespace ℕ). namespace.number) world.namespaces
+
+  used_mount : (mount : Mount ℕ) (number : ℕ) → Among mount world.mounts → Among number (used_by_mount mount)
+      → Used number
+  used_mount mount number there among =
+      is_among_numbers number (numbers_in_use world)
+      (among-append_left (of_mounts ++ of_filesystems) of_namespaces number
+      (among-append_left of_mounts of_filesystems number
+      (among-flat_map used_by_mount world.mounts mount number there among)))
+
+  used_filesystem : (filesystem : Filesystem ℕ) (number : ℕ) → Among filesystem world.filesystems
+      → Among number (used_by_filesystem filesystem) → Used number
+  used_filesystem filesystem number there among =
+      is_among_numbers number (numbers_in_use world)
+      (among-append_left (of_mounts ++ of_filesystems) of_namespaces number
+      (among-append_right of_mounts of_filesystems number
+      (among-flat_map used_by_filesystem world.filesystems filesystem number there among)))
+
+  used_namespace : (number : ℕ) → is_listed nat_eq world number ≡ true → Used number
+  used_namespace number listed =
+      is_among_numbers number (numbers_in_use world)
+      (among-append_right (of_mounts ++ of_filesystems) of_namespaces number
+      (among_numbers number of_namespaces listed))
+
+  -- Inodes
+  listed_used : (filesystem : Filesystem ℕ) → Among filesystem world.filesystems → (number : ℕ)
+      → is_some (filesystem.files.tree.node number) ≡ true → Used number
+  listed_used filesystem there number is =
+      used_filesystem filesystem number there
+      (inr (among_numbers number filesystem.files.numbers
+      (among_from_all (λ (f : Filesystem ℕ). ListsNumbers nat_eq f.files) world.filesystems whole.files.numbers
+      filesystem
+      there number ∙ is)))
+
+  abbrev ThereIsUsed : Filesystem ℕ → Type 0
+  ThereIsUsed filesystem =
+      Used filesystem.number
+      × ((number : ℕ) → is_some (filesystem.files.tree.node number) ≡ true → Used number)
+
+  -- of a filesystem in which some inode is
+  found_used : (filesystem number : ℕ)
+      → is_some ((filesystem_numbered nat_eq world filesystem).files.tree.node number) ≡ true
+      → Used filesystem × Used number
+  found_used filesystem number is =
+      ⊎_elim
+      (λ used. (subst Used (number_numbered filesystem world.filesystems) used.0, used.1 number is))
+      (λ missing. absurd (true≢false
+      (sym is ∙ ap (λ (f : Filesystem ℕ). is_some (f.files.tree.node number)) missing.0)))
+      (numbered_all ThereIsUsed filesystem world.filesystems
+      (all_from_among ThereIsUsed world.filesystems (λ f there. (
+        used_filesystem f f.number there (inl refl),
+        listed_used f there,
+      ))))
+
+  -- Locations
+  located_named : (location : Location ℕ) → is_located_well nat_eq world location ≡ true
+      → location_named (is_in_use world) location ≡ true
+  located_named location is =
+      let parts = and_parts _ _ is in
+      let found =
+      among-from_map (λ (mount : Mount ℕ). mount.number) world.mounts location.mount
+      (among_numbers location.mount (map (λ (mount : Mount ℕ). mount.number) world.mounts) parts.0) in
+      both (is_in_use world location.mount) (is_in_use world location.node)
+      (used_mount found.0 location.mount found.1 (inl found.2))
+      (found_used (mount_at nat_eq world location).filesystem location.node parts.1).1
+
+  -- Groups
+  member_of : (number : ℕ) → has_members nat_eq world.mounts number ≡ true
+      → (mount : Mount ℕ) × Among mount world.mounts × (source_of mount.propagation ≡ Some number)
+  member_of number has =
+      let found = one_passes (is_member_of nat_eq number) world.mounts has in
+      (found.0, found.1, member_source number found.0.propagation found.2)
+
+  source_used : (mount : Mount ℕ) (number : ℕ) → Among mount world.mounts → source_of mount.propagation ≡ Some number
+      → Used number
+  source_used mount number there e =
+      used_mount mount number there (inr (subst (λ o. Among number (option_to_list o)) (sym e) (inl refl)))
+
+  members_used : (number : ℕ) → has_members nat_eq world.mounts number ≡ true → Used number
+  members_used number has =
+      let found = member_of number has in
+      source_used found.0 number found.1 found.2
+
+  masterless : (number : ℕ) → has_members nat_eq world.mounts number ≡ false → world.master number ≡ None
+  masterless = (all_in_use world whole).groups
+
+  masters : IsFoundAmong (is_in_use world) (is_in_use world) world.master
+  masters = record {
+    nowhere_else = λ number out. none number out (has_members nat_eq world.mounts number) refl;
+    has_only = λ number. only number (world.master number) refl (has_members nat_eq world.mounts number) refl;
+  }
+    where
+      none : (number : ℕ) → is_in_use world number ≡ false → (b : Bool) → has_members nat_eq world.mounts number ≡ b
+          → world.master number ≡ None
+      none number out true e = absurd (true≢false (sym (members_used number e) ∙ out))
+      none number out false e = masterless number e
+
+      only : (number : ℕ) (o : Option ℕ) → world.master number ≡ o → (b : Bool)
+          → has_members nat_eq world.mounts number ≡ b → none_or (is_in_use world) o ≡ true
+      only number None e b f = refl
+      only number (Some above) e false f = absurd (true≢false (ap is_some (sym e ∙ masterless number f)))
+      only number (Some above) e true f =
+          let found = member_of number f in
+          members_used above
+          (master_has_members world.master (has_members nat_eq world.mounts) number above
+          (among_from_all (HasLivingGroups nat_eq world) world.mounts whole.mounts.groups found.0 found.1 number
+          found.2)
+          e)
+
+  propagation_of : (mount : Mount ℕ) → Among mount world.mounts → (kind : Propagation ℕ) → mount.propagation ≡ kind
+      → propagation_named (is_in_use world) kind ≡ true
+  propagation_of mount there (Shared group) e = source_used mount group there (ap source_of e)
+  propagation_of mount there (Slave master) e = source_used mount master there (ap source_of e)
+  propagation_of mount there Private e = refl
+  propagation_of mount there Unbindable e = refl
+
+  -- Mounts
+  namespace_of : (o : Option ℕ) → list_all (is_listed nat_eq world) (option_to_list o) ≡ true
+      → none_or (is_in_use world) o ≡ true
+  namespace_of None e = refl
+  namespace_of (Some number) e = used_namespace number (and_parts (is_listed nat_eq world number) true e).0
+
+  place_of : (mount : Mount ℕ) → Among mount world.mounts → (o : Option (Location ℕ)) → mount.mount_point ≡ o
+      → none_or (location_named (is_in_use world)) o ≡ true
+  place_of mount there None e = refl
+  place_of mount there (Some place) e =
+      let shown = (world_shows world whole mount there).mount_point place e in
+      located_named place
+      (both _ (is_some (node_at nat_eq world place)) shown.listed
+      (directory_is_there (node_at nat_eq world place) shown.directory))
+
+  mount_is : (mount : Mount ℕ) → Among mount world.mounts → mount_named (is_in_use world) mount ≡ true
+  mount_is mount there =
+      let root =
+      found_used mount.filesystem mount.root
+      (directory_is_there ((filesystem_numbered nat_eq world mount.filesystem).files.tree.node mount.root)
+      (and_parts _ _ (passes (has_its_root nat_eq world) world.mounts whole.roots mount there)).0) in
+      both _ (propagation_named (is_in_use world) mount.propagation)
+      (both _ (is_in_use world mount.root)
+      (both _ (is_in_use world mount.filesystem)
+      (both _ (none_or (location_named (is_in_use world)) mount.mount_point)
+      (both (is_in_use world mount.number) (none_or (is_in_use world) mount.namespace)
+      (used_mount mount mount.number there (inl refl))
+      (namespace_of mount.namespace
+      (passes (λ (m : Mount ℕ). list_all (is_listed nat_eq world) (option_to_list m.namespace)) world.mounts
+      whole.namespaces.mounts_listed mount there)))
+      (place_of mount there mount.mount_point refl))
+      root.0)
+      root.1)
+      (propagation_of mount there mount.propagation refl)
+
+  -- Filesystems
+  module _ (filesystem : Filesystem ℕ) (there : Among filesystem world.filesystems) where
+    abbrev tree : Tree ℕ
+    tree = filesystem.files.tree
+
+    is_tree : IsTree tree
+    is_tree = among_from_all
+        (λ (f : Filesystem ℕ). IsTree f.files.tree) world.filesystems whole.files.trees filesystem there
+
+    content_is : (number : ℕ) (node : Node ℕ) (content : Content ℕ) → tree.node number ≡ Some node
+        → node.content ≡ content → content_named (is_in_use world) content ≡ true
+    content_is number node (Directory parent entries opaque) e f =
+        let here : tree.node number ≡ Some (record { attr = node.attr; content = Directory parent entries opaque }) =
+        e ∙ (λ i. Some (record { attr = node.attr; content = f i })) in
+        both (is_in_use world parent) (list_all (λ (entry : List ℕ × ℕ). is_in_use world entry.1) entries)
+        (listed_used filesystem there parent
+        (directory_used tree parent
+        (subst (λ (o : Option (Node ℕ)). is_directory_node (tree.node (parent_in number o)) ≡ true) here
+        (is_tree.parent_directory number (ap is_directory_node here)))))
+        (all_pass (λ (entry : List ℕ × ℕ). is_in_use world entry.1) entries (λ entry among.
+        listed_used filesystem there entry.1
+        (is_tree.alive number entry.0 entry.1
+        (ap (λ (o : Option (Node ℕ)). entry_named entry.0 (entries_in o)) here
+        ∙ found_by_name entries entry
+        (ap (λ (o : Option (Node ℕ)). is_sorted name_cmp (entries_in o)) (sym here) ∙ is_tree.in_order number) among))))
+    content_is number node (Regular bytes) e f = refl
+    content_is number node (Symlink text) e f = refl
+    content_is number node Whiteout e f = refl
+
+    node_is : (number : ℕ) (o : Option (Node ℕ)) → tree.node number ≡ o
+        → none_or (node_named (is_in_use world)) o ≡ true
+    node_is number None e = refl
+    node_is number (Some node) e = content_is number node node.content e refl
+
+    node_out : (number : ℕ) → is_in_use world number ≡ false → (b : Bool) → is_some (tree.node number) ≡ b
+        → tree.node number ≡ None
+    node_out number out true e = absurd (true≢false (sym (listed_used filesystem there number e) ∙ out))
+    node_out number out false e = none_from_not_some (tree.node number) e
+
+    overlay_is : (o : Option (Overlay ℕ)) → o ≡ None → OverlayIfAnyNamed (is_in_use world) o
+    overlay_is None e = tt
+    overlay_is (Some overlay) e = absurd (true≢false (ap is_some e))
+
+    filesystem_is : FilesystemNamed (is_in_use world) filesystem
+    filesystem_is = record {
+      number = used_filesystem filesystem filesystem.number there (inl refl);
+      root = listed_used filesystem there tree.root (directory_used tree tree.root is_tree.root_directory);
+      nodes = record {
+        nowhere_else = λ number out. node_out number out (is_some (tree.node number)) refl;
+        has_only = λ number. node_is number (tree.node number) refl;
+      };
+      numbers = all_pass (is_in_use world) filesystem.files.numbers
+          (λ number among. used_filesystem filesystem number there (inr among));
+      overlay = overlay_is filesystem.overlay (no_overlay world plain filesystem there);
+    }
+
+  -- Tasks
+  task_is : (task : Task ℕ) → Among task world.tasks → task_named (is_in_use world) task ≡ true
+  task_is task there =
+      both _ (list_all (descriptor_named (is_in_use world)) task.descriptors)
+      (both _ (location_named (is_in_use world) task.directory)
+      (both (is_in_use world task.namespace) (location_named (is_in_use world) task.root)
+      (used_namespace task.namespace
+      (passes (λ (t : Task ℕ). is_listed nat_eq world t.namespace) world.tasks whole.namespaces.tasks_listed task
+      there))
+      (of_location task.root (inl refl)))
+      (of_location task.directory (inr (inl refl))))
+      (all_pass (descriptor_named (is_in_use world)) task.descriptors (λ descriptor among.
+      of_location descriptor.location
+      (inr (inr (among-map (λ (d : Descriptor ℕ). d.location) task.descriptors descriptor among)))))
+    where
+      of_location : (location : Location ℕ) → Among location (locations_of task)
+          → location_named (is_in_use world) location ≡ true
+      of_location location among =
+          located_named location
+          (passes (is_located_well nat_eq world) (all_locations world) whole.tasks.locations_live location
+          (among-flat_map locations_of world.tasks task location there among))
+
+  world_is : WorldNamed (is_in_use world) world
+  world_is = record {
+    mounts = all_pass (mount_named (is_in_use world)) world.mounts mount_is;
+    masters = masters;
+    filesystems = all_from_among (FilesystemNamed (is_in_use world)) world.filesystems filesystem_is;
+    namespaces = all_pass (namespace_named (is_in_use world)) world.namespaces (λ namespace among.
+        used_namespace namespace.number
+        (is_among_numbers namespace.number of_namespaces
+        (among-map (λ (n : Namespace ℕ). n.number) world.namespaces namespace among)));
+    tasks = all_pass (task_named (is_in_use world)) world.tasks task_is;
+  }
+
+pub worlds_have_numbers_in_use : WorldsHaveNumbersInUse
+worlds_have_numbers_in_use world whole plain = world_is world whole plain

@@ -1,0 +1,222 @@
+-- The invariants of a world while a call is under way go along worlds that are the same.
+use Rattle.std.proofs.Common.{◌≤◌, ◌≡◌, refl, sym, ap, subst, ◌∙◌, ℕ, nat_eq, nat_lt, Bool, ◌&&◌, [], ◌∷◌, ◌++◌, map, length, Option, is_some}
+use Rattle.std.specs.Prelude.{option_to_list}
+use Rattle.std.specs.List.{list_all, list_any}
+use Rattle.std.proofs.lemmas.List.Elements.{All-weaker}
+use Rattle.std.proofs.lemmas.List.Sorted.{list_any-IsPermutation}
+use Rattle.vt_laws_worlds.proofs.permits.same.EachHas.{each_all, each_among, each_holds, each_pair}
+use Rattle.vt_laws_worlds.specs.Permits.Same.{SameWorldsAreUnderWay}
+use Rattle.vt_laws_trees.proofs.runs.answered.AlikeChanges.{found_alike, locations_same}
+use Rattle.vt_laws_trees.proofs.runs.answered.AlikeWorlds.{Alike, AlikeFilesystem, SameNamespace, SameTask, alike_back, alike_from_same, mounts_of_one, plain_from_alike, with_mounts_of}
+use Rattle.vt_laws_trees.proofs.runs.Each.{each_any, each_to_one}
+use Rattle.vt_laws_trees.proofs.runs.Permuted.{list_all-IsPermutation}
+use Rattle.vt_spec.specs.declared.attributes.Kind.TheVariants.{File}
+use Rattle.vt_spec.specs.FileTree.{FileTree, is_kind_in}
+use Rattle.vt_spec.specs.Language.Calls.{same_name}
+use Rattle.vt_spec.specs.Language.Limits.{most_mounts}
+use Rattle.vt_spec.specs.Lists.{is_among}
+use Rattle.vt_spec.specs.Machine.Mounts.{Location, Mount}
+use Rattle.vt_spec.specs.Machine.SameWorlds.{SameFiles}
+use Rattle.vt_spec.specs.Machine.World.{Descriptor, Filesystem, Namespace, Task, World, all_locations, filesystem_numbered, mount_at, mounts_of}
+use Rattle.vt_spec.specs.Machine.Invariants.{ForksAreCounted, ListsNumbers, MountInvariants, NamespaceInvariants, Stands, TaskInvariants, TreeInvariants, has_fit_names, has_fit_text, has_one_root, is_fit_filesystem, is_listed, is_no_larger, is_within_limits}
+use Rattle.vt_spec.proofs.Lists.{among_from_contains, contains_from_among}
+use Rattle.vt_spec.specs.Tree.{Node, Tree, is_directory_node}
+use Rattle.vt_spec.specs.TreeInvariant.{HasOwnParents, IsTree}
+use Rattle.vt_laws_worlds.specs.Worlds.Kept.{IsWorldButForUse, MountsShow}
+use Rattle.vt_spec.proofs.Worlds.{stands_alike}
+
+-- the trees by the numbers of their filesystems
+abbrev TreesBy : Type 0
+TreesBy = ℕ → Tree ℕ
+
+abbrev trees_by : World ℕ → TreesBy
+trees_by world number = (filesystem_numbered nat_eq world number).files.tree
+
+-- One tree with its numbers in another order
+module _ (one other : FileTree ℕ) (same : SameFiles one other) where
+  numbers_listed : ListsNumbers nat_eq one → ListsNumbers nat_eq other
+  numbers_listed lists number =
+      sym (list_any-IsPermutation (nat_eq number) one.numbers other.numbers same.numbers)
+      ∙ lists number ∙ (λ i. is_some ((same.tree i).node number))
+
+  abbrev fits : Tree ℕ → ℕ → Bool
+  fits tree number =
+      is_no_larger (record { tree = tree; numbers = [] }) number
+      && has_fit_names (record { tree = tree; numbers = [] }) number
+      && has_fit_text (record { tree = tree; numbers = [] }) number
+
+  fit_alike : list_all (fits one.tree) one.numbers ≡ list_all (fits other.tree) other.numbers
+  fit_alike =
+      list_all-IsPermutation (fits one.tree) one.numbers other.numbers same.numbers
+      ∙ (λ i. list_all (fits (same.tree i)) other.numbers)
+
+-- Two worlds with the very same mounts
+module _ (one second : World ℕ) (same : Alike one (with_mounts_of one second)) where
+  abbrev other : World ℕ
+  other = with_mounts_of one second
+
+  trees_same : trees_by one ≡ trees_by other
+  trees_same = λ i number. (found_alike one other same number).files.tree i
+
+  listed_same : map (λ (namespace : Namespace ℕ). namespace.number) one.namespaces
+      ≡ map (λ (namespace : Namespace ℕ). namespace.number) other.namespaces
+  listed_same =
+      each_to_one SameNamespace (λ (namespace : Namespace ℕ). namespace.number)
+      (λ (namespace : Namespace ℕ). namespace.number) (λ a b e. λ i. (e i).number) one.namespaces other.namespaces
+      same.namespaces
+
+  trees_keep : TreeInvariants nat_eq one → TreeInvariants nat_eq other
+  trees_keep is = record {
+    trees = each_holds AlikeFilesystem (λ f. IsTree f.files.tree) (λ f. IsTree f.files.tree)
+        (λ a b alike holds. subst IsTree alike.files.tree holds) one.filesystems other.filesystems same.filesystems
+        is.trees;
+    own_parents = each_holds AlikeFilesystem (λ f. HasOwnParents f.files.tree) (λ f. HasOwnParents f.files.tree)
+        (λ a b alike holds. subst HasOwnParents alike.files.tree holds) one.filesystems other.filesystems
+        same.filesystems is.own_parents;
+    numbers = each_holds AlikeFilesystem (λ f. ListsNumbers nat_eq f.files) (λ f. ListsNumbers nat_eq f.files)
+        (λ a b alike holds. numbers_listed a.files b.files alike.files holds) one.filesystems other.filesystems
+        same.filesystems is.numbers;
+    one_filesystem =
+        sym (each_pair AlikeFilesystem (λ (a b : Filesystem ℕ). nat_eq a.number b.number)
+        (λ (a b : Filesystem ℕ). nat_eq a.number b.number)
+        (λ a b c d first next. λ i. nat_eq (first.number i) (next.number i)) one.filesystems other.filesystems
+        same.filesystems)
+        ∙ is.one_filesystem;
+    fit_filesystems =
+        sym (each_all AlikeFilesystem is_fit_filesystem is_fit_filesystem
+        (λ a b alike. fit_alike a.files b.files alike.files) one.filesystems other.filesystems same.filesystems)
+        ∙ is.fit_filesystems;
+  }
+
+  mounts_keep : MountInvariants nat_eq one → MountInvariants nat_eq other
+  mounts_keep is = record {
+    one_number = is.one_number;
+    one_child = is.one_child;
+    standing = All-weaker (λ (mount : Mount ℕ). Stands nat_eq one mount.number)
+        (λ mount. Stands nat_eq other mount.number)
+        (λ mount stands. stands_alike one other (λ number. refl) mount.number stands) one.mounts is.standing;
+    nowhere = is.nowhere;
+    groups = is.groups;
+  }
+
+  namespaces_keep : NamespaceInvariants nat_eq one → NamespaceInvariants nat_eq other
+  namespaces_keep is = record {
+    one_namespace =
+        sym (each_pair SameNamespace (λ (a b : Namespace ℕ). nat_eq a.number b.number)
+        (λ (a b : Namespace ℕ). nat_eq a.number b.number)
+        (λ a b c d first next. λ i. nat_eq (first i).number (next i).number) one.namespaces other.namespaces
+        same.namespaces)
+        ∙ is.one_namespace;
+    mounts_listed =
+        (λ i. list_all (λ (mount : Mount ℕ).
+        list_all (λ number. is_among nat_eq number (sym listed_same i)) (option_to_list mount.namespace)) one.mounts)
+        ∙ is.mounts_listed;
+    tasks_listed =
+        (λ i. list_all (λ (task : Task ℕ). is_among nat_eq task.namespace (sym listed_same i)) other.tasks)
+        ∙ sym (each_all SameTask (λ (task : Task ℕ). is_listed nat_eq one task.namespace)
+        (λ (task : Task ℕ). is_listed nat_eq one task.namespace)
+        (λ a b e. λ i. is_listed nat_eq one (e i).namespace) one.tasks other.tasks same.tasks)
+        ∙ is.tasks_listed;
+    root_mounts =
+        sym (each_all SameNamespace (has_one_root nat_eq one) (has_one_root nat_eq other)
+        (λ a b e. λ i. has_one_root nat_eq one (e i)) one.namespaces other.namespaces same.namespaces)
+        ∙ is.root_mounts;
+    namespaces_live =
+        sym (each_all SameNamespace
+        (λ namespace. list_any (λ (task : Task ℕ). nat_eq namespace.number task.namespace) one.tasks)
+        (λ namespace. list_any (λ (task : Task ℕ). nat_eq namespace.number task.namespace) other.tasks)
+        (λ a b e. each_any SameTask (λ (task : Task ℕ). nat_eq a.number task.namespace)
+        (λ (task : Task ℕ). nat_eq b.number task.namespace)
+        (λ c d f. λ i. nat_eq (e i).number (f i).namespace) one.tasks other.tasks same.tasks)
+        one.namespaces other.namespaces same.namespaces)
+        ∙ is.namespaces_live;
+    few_mounts =
+        sym (each_any SameNamespace
+        (λ (namespace : Namespace ℕ). nat_lt most_mounts (length (mounts_of nat_eq one namespace.number)))
+        (λ (namespace : Namespace ℕ). nat_lt most_mounts (length (mounts_of nat_eq one namespace.number)))
+        (λ a b e. λ i. nat_lt most_mounts (length (mounts_of nat_eq one (e i).number)))
+        one.namespaces other.namespaces same.namespaces)
+        ∙ is.few_mounts;
+  }
+
+  -- what is asked of a location, by the trees
+  abbrev node_by : TreesBy → Location ℕ → Option (Node ℕ)
+  node_by trees location = (trees (mount_at nat_eq one location).filesystem).node location.node
+
+  abbrev is_located_by : TreesBy → Location ℕ → Bool
+  is_located_by trees location =
+      is_among nat_eq location.mount (map (λ mount. mount.number) one.mounts) && is_some (node_by trees location)
+
+  abbrev is_seen_by : TreesBy → ℕ → Location ℕ → Bool
+  is_seen_by trees namespace location =
+      is_directory_node (node_by trees location)
+      && list_all (nat_eq namespace) (option_to_list (mount_at nat_eq one location).namespace)
+
+  abbrev stands_by : TreesBy → Task ℕ → Bool
+  stands_by trees task = is_seen_by trees task.namespace task.root && is_seen_by trees task.namespace task.directory
+
+  abbrev has_open_by : TreesBy → Task ℕ → Bool
+  has_open_by trees task =
+      list_all (λ (descriptor : Descriptor ℕ). is_kind_in File (node_by trees descriptor.location)) task.descriptors
+
+  abbrev has_root_by : TreesBy → Mount ℕ → Bool
+  has_root_by trees mount =
+      is_directory_node ((trees mount.filesystem).node mount.root)
+      && list_all (λ place. is_directory_node (node_by trees place)) (option_to_list mount.mount_point)
+
+  forks_keep : ForksAreCounted one → ForksAreCounted other
+  forks_keep is task again number rest m n e =
+      let first = each_among SameTask one.tasks other.tasks same.tasks task (among_from_contains other.tasks task m) in
+      let next = each_among SameTask one.tasks other.tasks same.tasks again (among_from_contains other.tasks again n) in
+      subst (λ k. number ≤ k) (λ i. (first.2 i).forks)
+      (is first.0 next.0 number rest (contains_from_among one.tasks first.0 first.1)
+      (contains_from_among one.tasks next.0 next.1)
+      ((λ i. (next.2 i).name) ∙ e ∙ (λ i. (sym first.2 i).name ++ (number ∷ rest))))
+
+  tasks_keep : TaskInvariants nat_eq one → TaskInvariants nat_eq other
+  tasks_keep is = record {
+    one_task =
+        sym (each_pair SameTask (λ (a b : Task ℕ). same_name a.name b.name) (λ (a b : Task ℕ). same_name a.name b.name)
+        (λ a b c d first next. λ i. same_name (first i).name (next i).name) one.tasks other.tasks same.tasks)
+        ∙ is.one_task;
+    small_tasks =
+        sym (each_all SameTask is_within_limits is_within_limits (λ a b e. ap is_within_limits e) one.tasks other.tasks
+        same.tasks)
+        ∙ is.small_tasks;
+    forks_counted = forks_keep is.forks_counted;
+    locations_live =
+        (λ i. list_all (is_located_by (sym trees_same i)) (all_locations other))
+        ∙ ap (list_all (is_located_by (trees_by one))) (sym (locations_same one other same))
+        ∙ is.locations_live;
+    directories =
+        (λ i. list_all (stands_by (sym trees_same i)) other.tasks)
+        ∙ sym (each_all SameTask (stands_by (trees_by one)) (stands_by (trees_by one))
+        (λ a b e. ap (stands_by (trees_by one)) e) one.tasks other.tasks same.tasks)
+        ∙ is.directories;
+    open_files =
+        (λ i. list_all (has_open_by (sym trees_same i)) other.tasks)
+        ∙ sym (each_all SameTask (has_open_by (trees_by one)) (has_open_by (trees_by one))
+        (λ a b e. ap (has_open_by (trees_by one)) e) one.tasks other.tasks same.tasks)
+        ∙ is.open_files;
+  }
+
+  roots_keep : MountsShow one → MountsShow other
+  roots_keep is = (λ i. list_all (has_root_by (sym trees_same i)) one.mounts) ∙ is
+
+  under_way : IsWorldButForUse one → IsWorldButForUse other
+  under_way is = record {
+    plain = plain_from_alike other one (alike_back one other same);
+    files = trees_keep is.files;
+    mounts = mounts_keep is.mounts;
+    namespaces = namespaces_keep is.namespaces;
+    tasks = tasks_keep is.tasks;
+    roots = roots_keep is.roots;
+  }
+
+pub alike_under_way : (one other : World ℕ) → Alike one other → IsWorldButForUse one → IsWorldButForUse other
+alike_under_way one other same is =
+    mounts_of_one (λ world. Alike one world → IsWorldButForUse world) one other same
+    (λ alike. under_way one other alike is) same
+
+pub same_worlds_are_under_way : SameWorldsAreUnderWay
+same_worlds_are_under_way one other same is = alike_under_way one other (alike_from_same one other same is.plain) is

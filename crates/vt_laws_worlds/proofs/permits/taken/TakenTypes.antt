@@ -1,0 +1,137 @@
+-- A mount that does not become shared takes no number when its type changes.
+use Rattle.std.proofs.Common.{◌≡◌, refl, sym, ap, ◌∙◌, ⊎_elim, true≢false, ℕ, zero, suc, nat_eq, Bool, true, false, cond, List, [], ◌∷◌, map, Option, Some, None, find, length, inl, inr}
+use Rattle.std.specs.Prelude.{unwrap_or}
+use Rattle.vt_laws_mounts.proofs.letting_go.Lists.{Among, among-from_filter, among-from_flat_map, none_passes, passes}
+use Rattle.vt_laws_worlds.specs.Permits.Taken.{IsUngrouped, is_ungrouped}
+use Rattle.vt_spec.specs.Language.Calls.{TypeWord}
+use Rattle.vt_spec.specs.Language.Calls.TypeWord.{ToPrivate, ToShared, ToSlave, ToUnbindable}
+use Rattle.vt_spec.specs.Lists.{holds_of}
+use Rattle.vt_spec.specs.Machine.Mounts.{Mount, Propagation, children, group_of, mount_in, no_mount, stands_on, tree_from}
+use Rattle.vt_spec.specs.Machine.Mounts.Propagation.{Private, Shared, Slave, Unbindable}
+use Rattle.vt_spec.specs.Machine.Receives.{is_member_of, regrouped}
+use Rattle.vt_spec.specs.Machine.Types.{master_after, named_mounts, retyped, retyped_mount, type_after, with_master, with_new_groups}
+use Rattle.vt_spec.specs.Machine.World.{World, mount_numbered}
+use Rattle.vt_spec.specs.Machine.Invariants.{IsWorld}
+use Rattle.vt_laws_mounts.proofs.letting_go.sweeps.OfWorlds.{all_in_use}
+
+abbrev pub makes_groups : TypeWord → Bool
+makes_groups ToShared = true
+makes_groups ToSlave = false
+makes_groups ToPrivate = false
+makes_groups ToUnbindable = false
+
+abbrev pub Ungrouped : Mount ℕ → Type 0
+Ungrouped mount = is_ungrouped mount.propagation ≡ true
+
+type_same : (one other : ℕ) (word : TypeWord) → makes_groups word ≡ false → (kind : Propagation ℕ)
+    → type_after one word kind ≡ type_after other word kind
+type_same one other ToShared e kind = absurd (true≢false e)
+type_same one other ToSlave e (Shared group) = refl
+type_same one other ToSlave e (Slave master) = refl
+type_same one other ToSlave e Private = refl
+type_same one other ToSlave e Unbindable = refl
+type_same one other ToPrivate e kind = refl
+type_same one other ToUnbindable e kind = refl
+
+no_master : (kind : Propagation ℕ) → is_ungrouped kind ≡ true → master_after kind ≡ None
+no_master (Shared group) e = absurd (true≢false (sym e))
+no_master (Slave master) e = absurd (true≢false (sym e))
+no_master Private e = refl
+no_master Unbindable e = refl
+
+no_member : (number : ℕ) (kind : Propagation ℕ) → is_ungrouped kind ≡ true
+    → holds_of (nat_eq number) (group_of kind) ≡ false
+no_member number (Shared group) e = absurd (true≢false (sym e))
+no_member number (Slave master) e = absurd (true≢false (sym e))
+no_member number Private e = refl
+no_member number Unbindable e = refl
+
+-- the mounts that are named are ungrouped
+pub found_is : (mounts : List (Mount ℕ)) → ((mount : Mount ℕ) → Among mount mounts → Ungrouped mount) → (number : ℕ)
+    → Ungrouped (mount_in nat_eq mounts number)
+found_is [] all number = refl
+found_is (mount ∷ rest) all number =
+    by (nat_eq number mount.number) (found_is rest (λ other among. all other (inr among)) number)
+  where
+    by : (b : Bool) → Ungrouped (mount_in nat_eq rest number)
+        → Ungrouped (unwrap_or (cond b (Some mount) (find (λ (m : Mount ℕ). nat_eq number m.number) rest))
+        (no_mount number))
+    by true later = all mount (inl refl)
+    by false later = later
+
+module _ (mounts : List (Mount ℕ)) (all : (mount : Mount ℕ) → Among mount mounts → Ungrouped mount) where
+  pub tree_is : (depth : ℕ) (top : Mount ℕ) → Ungrouped top → (mount : Mount ℕ)
+      → Among mount (tree_from nat_eq depth mounts top) → Ungrouped mount
+  tree_is zero top is mount among =
+      ⊎_elim (λ same. ap (λ (m : Mount ℕ). is_ungrouped m.propagation) same ∙ is) (λ none. absurd none) among
+  tree_is (suc depth) top is mount among =
+      ⊎_elim (λ same. ap (λ (m : Mount ℕ). is_ungrouped m.propagation) same ∙ is)
+      (λ below.
+      let found =
+      among-from_flat_map (tree_from nat_eq depth mounts) (children nat_eq mounts top.number) mount below in
+      tree_is depth found.0
+      (all found.0 (among-from_filter (stands_on nat_eq top.number) mounts found.0 found.1).0) mount found.2)
+      among
+
+module _ (world : World ℕ) (whole : IsWorld nat_eq world) (ungrouped : IsUngrouped world) where
+  each_is : (mount : Mount ℕ) → Among mount world.mounts → Ungrouped mount
+  each_is = passes (λ (mount : Mount ℕ). is_ungrouped mount.propagation) world.mounts ungrouped
+
+  named_is : (number : ℕ) (recursive : Bool) (mount : Mount ℕ)
+      → Among mount (named_mounts nat_eq world number recursive) → Ungrouped mount
+  named_is number true mount among =
+      tree_is world.mounts each_is (length world.mounts) (mount_numbered nat_eq world number)
+      (found_is world.mounts each_is number) mount among
+  named_is number false mount among =
+      ⊎_elim
+      (λ same. ap (λ (m : Mount ℕ). is_ungrouped m.propagation) same ∙ found_is world.mounts each_is number)
+      (λ none. absurd none) among
+
+  -- no group has a master
+  no_masters : (group : ℕ) → world.master group ≡ None
+  no_masters group =
+      (all_in_use world whole).groups group
+      (none_passes (is_member_of nat_eq group) world.mounts (λ mount among.
+      no_member group mount.propagation (each_is mount among)))
+
+  none_left : (group : ℕ → ℕ) (named : List (Mount ℕ)) → ((mount : Mount ℕ) → Among mount named → Ungrouped mount)
+      → (master : ℕ → Option ℕ) → ((number : ℕ) → master number ≡ None)
+      → (number : ℕ) → with_new_groups nat_eq group master named number ≡ None
+  none_left group [] all master none number = none number
+  none_left group (mount ∷ rest) all master none number =
+      none_left group rest (λ other among. all other (inr among))
+      (with_master nat_eq master (group mount.number) (master_after mount.propagation))
+      (λ other. by other (nat_eq other (group mount.number))) number
+    where
+      by : (other : ℕ) (b : Bool) → cond b (master_after mount.propagation) (master other) ≡ None
+      by other true = no_master mount.propagation (all mount (inl refl))
+      by other false = none other
+
+  pub retyped_same : (word : TypeWord) → makes_groups word ≡ false → (number : ℕ) (recursive : Bool) (one other : ℕ → ℕ)
+      → retyped nat_eq world one word (named_mounts nat_eq world number recursive)
+      ≡ retyped nat_eq world other word (named_mounts nat_eq world number recursive)
+  retyped_same word makes number recursive one other = λ i.
+      regrouped nat_eq (record world {
+        mounts = map (λ mount. mount_same mount i) world.mounts;
+        master = λ group. (left one group ∙ sym (left other group)) i;
+      })
+    where
+      named : List (Mount ℕ)
+      named = named_mounts nat_eq world number recursive
+
+      left : (group : ℕ → ℕ) (at : ℕ) → with_new_groups nat_eq group world.master named at ≡ None
+      left group = none_left group named (named_is number recursive) world.master no_masters
+
+      mount_same : (mount : Mount ℕ)
+          → retyped_mount nat_eq one word named mount ≡ retyped_mount nat_eq other word named mount
+      mount_same mount = by _
+        where
+          by : (b : Bool)
+              → cond b (record mount { propagation = type_after (one mount.number) word mount.propagation }) mount
+              ≡ cond b (record mount { propagation = type_after (other mount.number) word mount.propagation }) mount
+          by true = λ i.
+              record mount {
+                propagation = type_same (one mount.number)
+                    (other mount.number) word makes mount.propagation i;
+              }
+          by false = refl

@@ -1,0 +1,286 @@
+-- Inodes that nothing uses may go before the sweep of inodes.
+use Rattle.std.proofs.Common.{arith}
+use Rattle.std.proofs.lemmas.Grind.{common_steps}
+use Rattle.std.proofs.Common.{◌≡◌, refl, sym, ap, subst, ◌∙◌, ⊎_elim, true≢false, ℕ, nat_eq, Bool, true, false, cond, not, ◌||◌, ◌&&◌, List, [], map, filter, flat_map, ◌++◌, ◌∷◌, Option, Some, None, option_map}
+use Rattle.std.specs.Prelude.{All, filter_map}
+use Rattle.std.proofs.lemmas.Bool.{cases_Bool, not-true}
+use Rattle.vt_spec.specs.Lists.{holds_of, is_among}
+use Rattle.vt_spec.specs.Machine.Locked.{of_overlay, overlay_or}
+use Rattle.vt_spec.specs.Machine.Settled.{layers_in, located_in, named_in, objects_of_overlay, only_used, only_used_of, used_in, without_dead_in, without_dead_inodes}
+use Rattle.vt_spec.specs.Machine.World.{Filesystem, Overlay, World, is_overlay, layers_of, upper_object}
+use Rattle.vt_spec.proofs.Lists.{map_alike, map_twice}
+use Rattle.vt_laws_mounts.specs.LettingGo.InUse.{HasTrees, IsListedTree, UppersArePlain, has_upper_in, is_inode_used}
+use Rattle.vt_laws_mounts.specs.LettingGo.Overlays.{RealsAreThere}
+use Rattle.vt_laws_mounts.proofs.letting_go.Lists.{Among, among-append, among-append_left, among-append_right, among-filter_map, among-flat_map, among-from_filter, among-from_filter_map, among-from_flat_map, among-from_map, among_from_all, among_numbers, flat_map-map, flat_map_none, is_among_numbers}
+use Rattle.vt_laws_mounts.proofs.letting_go.sweeps.InUse.{layers-left, no_objects, no_upper_objects, overlay-left, unused_are_empty}
+use Rattle.vt_laws_mounts.proofs.letting_go.sweeps.Inodes.{numbers_without}
+use Rattle.vt_laws_mounts.proofs.letting_go.sweeps.Merged.{HasReals, left_of, named_without, reals_without, without_all, without_both, without_nothing}
+use Rattle.vt_laws_mounts.proofs.letting_go.sweeps.MergedSteps.{layers_without}
+
+pub overlay_less : (gone : ℕ → Bool) (f : Filesystem ℕ) → is_overlay (without_all gone f) ≡ is_overlay f
+overlay_less gone f = grind (arith, common_steps)
+
+pub upper_less : (number : ℕ) (gone : ℕ → Bool) (f : Filesystem ℕ)
+    → has_upper_in number (without_all gone f) ≡ has_upper_in number f
+upper_less number gone f = grind (arith, common_steps)
+
+-- what is not there has no real object, still
+pub reals_less : (gone : ℕ → Bool) (f : Filesystem ℕ) → HasReals f → HasReals (without_all gone f)
+reals_less gone f has number none = over f.overlay (has number) (gone number) refl none
+  where
+    over : (o : Option (Overlay ℕ))
+        → (f.files.tree.node number ≡ None → overlay_or None (λ overlay. overlay.real number) o ≡ None)
+        → (b : Bool) → gone number ≡ b → cond b None (f.files.tree.node number) ≡ None
+        → overlay_or None (λ overlay. overlay.real number) (option_map (reals_without gone) o) ≡ None
+    over None h b e n = refl
+    over (Some overlay) h true e n = ap (λ b. cond b None (overlay.real number)) e
+    over (Some overlay) h false e n = ap (λ b. cond b None (overlay.real number)) e ∙ h n
+
+-- an overlay without inodes has fewer upper objects
+objects_less : (gone : ℕ → Bool) (number object : ℕ) (f : Filesystem ℕ)
+    → Among object (objects_of_overlay nat_eq number (without_all gone f))
+    → Among object (objects_of_overlay nat_eq number f)
+objects_less gone number object f = over f.overlay
+  where
+    over : (o : Option (Overlay ℕ))
+        → Among object (overlay_or [] (λ overlay.
+        cond (holds_of (λ layer. nat_eq number layer.filesystem) overlay.upper)
+        (filter_map (λ k. upper_object (overlay.real k)) (filter (λ k. not (gone k)) f.files.numbers)) [])
+        (option_map (reals_without gone) o))
+        → Among object (overlay_or [] (λ overlay.
+        cond (holds_of (λ layer. nat_eq number layer.filesystem) overlay.upper)
+        (filter_map (λ k. upper_object (overlay.real k)) f.files.numbers) []) o)
+    over None m = absurd m
+    over (Some overlay) m = here (holds_of (λ layer. nat_eq number layer.filesystem) overlay.upper) m
+      where
+        here : (b : Bool) → Among object (cond b (filter_map (λ k. upper_object (cond (gone k) None (overlay.real k)))
+            (filter (λ k. not (gone k)) f.files.numbers)) [])
+            → Among object (cond b (filter_map (λ k. upper_object (overlay.real k)) f.files.numbers) [])
+        here false n = absurd n
+        here true n =
+            let from = among-from_filter_map (λ k. upper_object (cond (gone k) None (overlay.real k)))
+            (filter (λ k. not (gone k)) f.files.numbers) object n in
+            let listed = among-from_filter (λ k. not (gone k)) f.files.numbers from.0 from.1 in
+            among-filter_map (λ k. upper_object (overlay.real k)) f.files.numbers from.0 object listed.0
+            (sym (ap (λ b. upper_object (cond b None (overlay.real from.0))) (not-true (gone from.0) listed.1))
+            ∙ from.2)
+
+-- what one world uses another one uses too
+within : (a b c d : List ℕ) (number : ℕ) → (Among number a → Among number c) → (Among number b → Among number d)
+    → Among number (a ++ b) → Among number (c ++ d)
+within a b c d number first second m =
+    ⊎_elim (λ x. among-append_left c d number (first x)) (λ x. among-append_right c d number (second x))
+    (among-append a b number m)
+
+pub used_too : (some more : World ℕ) (f : Filesystem ℕ) (number : ℕ)
+    → (Among number (located_in nat_eq some f.number) → Among number (located_in nat_eq more f.number))
+    → (Among number (layers_in nat_eq some f.number) → Among number (layers_in nat_eq more f.number))
+    → (Among number (flat_map (objects_of_overlay nat_eq f.number) some.filesystems)
+    → Among number (flat_map (objects_of_overlay nat_eq f.number) more.filesystems))
+    → is_inode_used some f number ≡ true → is_inode_used more f number ≡ true
+used_too some more f number located layers objects is =
+    is_among_numbers number (used_in nat_eq more f)
+    (within (names ++ located_in nat_eq some f.number ++ layers_in nat_eq some f.number)
+    (flat_map (objects_of_overlay nat_eq f.number) some.filesystems)
+    (names ++ located_in nat_eq more f.number ++ layers_in nat_eq more f.number)
+    (flat_map (objects_of_overlay nat_eq f.number) more.filesystems) number
+    (within (names ++ located_in nat_eq some f.number) (layers_in nat_eq some f.number)
+    (names ++ located_in nat_eq more f.number) (layers_in nat_eq more f.number) number
+    (within names (located_in nat_eq some f.number) names (located_in nat_eq more f.number) number (λ m. m) located)
+    layers) objects (among_numbers number (used_in nat_eq some f) is))
+  where
+    names : List ℕ
+    names = f.files.tree.root ∷ named_in f.files
+
+-- a world without the inodes that a test names, of each filesystem
+abbrev pub less : (Filesystem ℕ → ℕ → Bool) → Filesystem ℕ → Filesystem ℕ
+less went f = without_all (went f) f
+
+abbrev pub with_less : (Filesystem ℕ → ℕ → Bool) → World ℕ → World ℕ
+with_less went world = record world { filesystems = map (less went) world.filesystems }
+
+-- A filesystem whose inodes that went nothing uses: the sweep leaves what it leaves of it with them.
+module _ (went : Filesystem ℕ → ℕ → Bool) (world : World ℕ) (f : Filesystem ℕ) (tree : IsListedTree f.files)
+    (has : HasReals f) (unused : (k : ℕ) → went f k ≡ true → is_inode_used world f k ≡ false)
+    (objects : flat_map (objects_of_overlay nat_eq f.number) (with_less went world).filesystems
+    ≡ flat_map (objects_of_overlay nat_eq f.number) world.filesystems) where
+  abbrev used : List ℕ
+  used = used_in nat_eq world f
+
+  used_alike : used_in nat_eq (with_less went world) (less went f) ≡ used
+  used_alike =
+      let layers : layers_in nat_eq (with_less went world) f.number ≡ layers_in nat_eq world f.number =
+      ap (λ layers. map (λ layer. layer.directory) (filter (λ layer. nat_eq f.number layer.filesystem) layers))
+      (flat_map-map (less went) (of_overlay [] layers_of) world.filesystems (λ g. layers_without (went g) g)) in
+      let named = named_without (went f) f (λ k e. unused_are_empty world f tree k (unused k e)) in
+      λ i. f.files.tree.root ∷ (named i ++ located_in nat_eq world f.number ++ layers i ++ objects i)
+
+  pub swept_alike : only_used_of nat_eq (used_in nat_eq (with_less went world) (less went f)) (less went f)
+      ≡ only_used_of nat_eq used f
+  swept_alike =
+      ap (λ u. only_used_of nat_eq u (less went f)) used_alike
+      ∙ left_of used (less went f) (numbers_without (went f) f tree.numbers) (reals_less (went f) f has)
+      ∙ without_both (went f) (λ k. not (is_among nat_eq k used)) (λ k. not (is_among nat_eq k used))
+      (λ k. by k (went f k) refl) f
+      ∙ sym (left_of used f tree.numbers has)
+    where
+      by : (k : ℕ) (b : Bool) → went f k ≡ b
+          → not (is_among nat_eq k used) ≡ (b || not (is_among nat_eq k used))
+      by k true e = ap not (unused k e)
+      by k false e = refl
+
+-- The sweep of inodes, of overlays first
+module _ (went : Filesystem ℕ → ℕ → Bool) (world : World ℕ) (trees : HasTrees world) (uppers : UppersArePlain world)
+    (reals : RealsAreThere world)
+    (unused : (f : Filesystem ℕ) → Among f world.filesystems → (k : ℕ) → went f k ≡ true
+    → is_inode_used world f k ≡ false) where
+  abbrev left : World ℕ
+  left = with_less went world
+
+  tree_of : (f : Filesystem ℕ) → Among f world.filesystems → IsListedTree f.files
+  tree_of f m = among_from_all (λ g. IsListedTree g.files) world.filesystems trees f m
+
+  reals_of : (f : Filesystem ℕ) → Among f world.filesystems → HasReals f
+  reals_of f m = among_from_all HasReals world.filesystems reals f m
+
+  -- no overlay has an upper object in an overlay
+  no_upper_in : (f : Filesystem ℕ) → Among f world.filesystems → is_overlay f ≡ true → (g : Filesystem ℕ)
+      → Among g world.filesystems → has_upper_in f.number g ≡ false
+  no_upper_in f m is g n =
+      among_from_all (λ x. has_upper_in f.number x ≡ false) world.filesystems
+      (among_from_all (λ x. is_overlay x ≡ true → All (λ y. has_upper_in x.number y ≡ false) world.filesystems)
+      world.filesystems uppers f m is) g n
+
+  no_objects_in : (f : Filesystem ℕ) → Among f world.filesystems → is_overlay f ≡ true
+      → flat_map (objects_of_overlay nat_eq f.number) world.filesystems ≡ []
+  no_objects_in f m is = flat_map_none (objects_of_overlay nat_eq f.number) world.filesystems
+      (λ g n. no_upper_objects world f.number g (no_upper_in f m is g n))
+
+  no_objects_left : (f : Filesystem ℕ) → Among f world.filesystems → is_overlay f ≡ true
+      → flat_map (objects_of_overlay nat_eq f.number) left.filesystems ≡ []
+  no_objects_left f m is = flat_map_none (objects_of_overlay nat_eq f.number) (map (less went) world.filesystems)
+      (λ x n. let from = among-from_map (less went) world.filesystems x n in
+      no_upper_objects world f.number x (ap (has_upper_in f.number) from.2
+      ∙ upper_less f.number (went from.0) from.0 ∙ no_upper_in f m is from.0 from.1))
+
+  -- then inodes of plain trees are still to go
+  abbrev plain_went : Filesystem ℕ → ℕ → Bool
+  plain_went f k = not (is_overlay f) && went f k
+
+  stays_whole : (f : Filesystem ℕ) → is_overlay f ≡ true → less plain_went f ≡ f
+  stays_whole f is = ap (λ b. without_all (λ k. not b && went f k) f) is ∙ without_nothing f
+
+  abbrev first : Filesystem ℕ → Filesystem ℕ
+  first f = only_used nat_eq world (is_overlay f) f
+
+  overlay_first : (f : Filesystem ℕ) → is_overlay (first f) ≡ is_overlay f
+  overlay_first f = grind (arith, common_steps, overlay-left)
+
+  plain_first : (f : Filesystem ℕ) → is_overlay f ≡ false → first f ≡ f
+  plain_first f isnt = ap (λ b. only_used nat_eq world b f) isnt
+
+  first_alike : (f : Filesystem ℕ) → Among f world.filesystems
+      → only_used nat_eq left (is_overlay (less went f)) (less went f) ≡ less plain_went (first f)
+  first_alike f m =
+      ap (λ b. only_used nat_eq left b (less went f)) (overlay_less (went f) f)
+      ∙ ⊎_elim
+      (λ is. ap (λ b. only_used nat_eq left b (less went f)) is
+      ∙ swept_alike went world f (tree_of f m) (reals_of f m) (unused f m)
+      (no_objects_left f m is ∙ sym (no_objects_in f m is))
+      ∙ sym (ap (λ b. only_used nat_eq world b f) is)
+      ∙ sym (stays_whole (first f) (overlay_first f ∙ is)))
+      (λ isnt. ap (λ b. only_used nat_eq left b (less went f)) isnt
+      ∙ sym (ap (λ b. without_all (λ k. not b && went f k) f) isnt)
+      ∙ sym (ap (less plain_went) (plain_first f isnt)))
+      (cases_Bool (is_overlay f))
+
+  abbrev second_world : World ℕ
+  second_world = without_dead_in nat_eq is_overlay world
+
+  stage_one : without_dead_in nat_eq is_overlay left ≡ with_less plain_went second_world
+  stage_one = ap (λ filesystems. record world { filesystems = filesystems })
+      (map_twice (λ f. only_used nat_eq left (is_overlay f) f) (less went) world.filesystems
+      ∙ map_alike (λ f. only_used nat_eq left (is_overlay (less went f)) (less went f)) (λ f. less plain_went (first f))
+      world.filesystems first_alike
+      ∙ sym (map_twice (less plain_went) first world.filesystems))
+
+  -- a plain tree that is there then was there before
+  was_there : (g : Filesystem ℕ) → Among g second_world.filesystems → is_overlay g ≡ false → Among g world.filesystems
+  was_there g m isnt =
+      let from = among-from_map first world.filesystems g m in
+      let same = from.2 ∙ plain_first from.0 (sym (overlay_first from.0) ∙ sym (ap is_overlay from.2) ∙ isnt) in
+      subst (λ f. Among f world.filesystems) (sym same) from.1
+
+  object_before : (number object : ℕ) (f : Filesystem ℕ) → Among f world.filesystems
+      → Among object (objects_of_overlay nat_eq number (first f)) → Among object (objects_of_overlay nat_eq number f)
+  object_before number object f m n =
+      ⊎_elim
+      (λ is. objects_less (λ k. not (is_among nat_eq k (used_in nat_eq world f))) number object f
+      (subst (λ x. Among object (objects_of_overlay nat_eq number x))
+      (ap (λ b. only_used nat_eq world b f) is
+      ∙ left_of (used_in nat_eq world f) f (tree_of f m).numbers (reals_of f m)) n))
+      (λ isnt. subst (λ x. Among object (objects_of_overlay nat_eq number x)) (plain_first f isnt) n)
+      (cases_Bool (is_overlay f))
+
+  layers_first : (number : ℕ) → layers_in nat_eq second_world number ≡ layers_in nat_eq world number
+  layers_first number =
+      ap (λ layers. map (λ layer. layer.directory) (filter (λ layer. nat_eq number layer.filesystem) layers))
+      (flat_map-map first (of_overlay [] layers_of) world.filesystems (λ f. by f (is_overlay f)))
+    where
+      by : (f : Filesystem ℕ) (b : Bool)
+          → of_overlay [] layers_of (only_used nat_eq world b f) ≡ of_overlay [] layers_of f
+      by f true = layers-left (used_in nat_eq world f) f _
+      by f false = refl
+
+  used_before : (f : Filesystem ℕ) (k : ℕ) → is_inode_used second_world f k ≡ true → is_inode_used world f k ≡ true
+  used_before f k is =
+      used_too second_world world f k (λ m. m) (subst (Among k) (layers_first f.number))
+      (λ m. let from = among-from_flat_map (objects_of_overlay nat_eq f.number) second_world.filesystems k m in
+      let one = among-from_map first world.filesystems from.0 from.1 in
+      among-flat_map (objects_of_overlay nat_eq f.number) world.filesystems one.0 k one.1
+      (object_before f.number k one.0 one.1
+      (subst (λ x. Among k (objects_of_overlay nat_eq f.number x)) one.2 from.2))) is
+
+  plain_unused : (g : Filesystem ℕ) → Among g second_world.filesystems → is_overlay g ≡ false → (k : ℕ)
+      → plain_went g k ≡ true → is_inode_used second_world g k ≡ false
+  plain_unused g m isnt k e = by (is_inode_used second_world g k) refl
+    where
+      by : (b : Bool) → is_inode_used second_world g k ≡ b → is_inode_used second_world g k ≡ false
+      by false f = f
+      by true f = absurd (true≢false (sym (used_before g k f)
+          ∙ unused g (was_there g m isnt) k (sym (ap (λ b. not b && went g k) isnt) ∙ e)))
+
+  objects_second : (number : ℕ)
+      → flat_map (objects_of_overlay nat_eq number) (with_less plain_went second_world).filesystems
+      ≡ flat_map (objects_of_overlay nat_eq number) second_world.filesystems
+  objects_second number = flat_map-map (less plain_went) (objects_of_overlay nat_eq number) second_world.filesystems
+      (λ g. ⊎_elim
+      (λ is. ap (objects_of_overlay nat_eq number) (stays_whole g is))
+      (λ isnt. no_objects world number (less plain_went g) (overlay_less (plain_went g) g ∙ isnt)
+      ∙ sym (no_objects world number g isnt))
+      (cases_Bool (is_overlay g)))
+
+  second_alike : (g : Filesystem ℕ) → Among g second_world.filesystems
+      → only_used nat_eq (with_less plain_went second_world) (not (is_overlay (less plain_went g))) (less plain_went g)
+      ≡ only_used nat_eq second_world (not (is_overlay g)) g
+  second_alike g m =
+      ap (λ b. only_used nat_eq (with_less plain_went second_world) (not b) (less plain_went g))
+      (overlay_less (plain_went g) g)
+      ∙ ⊎_elim
+      (λ is. ap (λ b. only_used nat_eq (with_less plain_went second_world) (not b) (less plain_went g)) is
+      ∙ stays_whole g is ∙ sym (ap (λ b. only_used nat_eq second_world (not b) g) is))
+      (λ isnt. ap (λ b. only_used nat_eq (with_less plain_went second_world) (not b) (less plain_went g)) isnt
+      ∙ swept_alike plain_went second_world g (tree_of g (was_there g m isnt)) (reals_of g (was_there g m isnt))
+      (plain_unused g m isnt) (objects_second g.number)
+      ∙ sym (ap (λ b. only_used nat_eq second_world (not b) g) isnt))
+      (cases_Bool (is_overlay g))
+
+  pub inodes_before : without_dead_inodes nat_eq left ≡ without_dead_inodes nat_eq world
+  inodes_before =
+      ap (without_dead_in nat_eq (λ f. not (is_overlay f))) stage_one
+      ∙ ap (λ filesystems. record world { filesystems = filesystems })
+      (map_twice (λ f. only_used nat_eq (with_less plain_went second_world) (not (is_overlay f)) f) (less plain_went)
+      second_world.filesystems
+      ∙ map_alike (λ f. only_used nat_eq (with_less plain_went second_world) (not (is_overlay (less plain_went f)))
+      (less plain_went f)) (λ f. only_used nat_eq second_world (not (is_overlay f)) f)
+      second_world.filesystems second_alike)

@@ -1,0 +1,7 @@
+//! Laws of overlays for code that keeps no merged tree: the tree as a function of the layers, what uses its inodes,
+//! copies made one prefix at a time, and what may go before the sweep.
+
+pub mod copied;
+pub mod seen;
+pub mod swept;
+pub mod used;

@@ -1,0 +1,2 @@
+pub mod overlays_kept
+pub mod overlays_made

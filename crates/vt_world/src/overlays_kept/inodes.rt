@@ -1,0 +1,12 @@
+//! Overlays that are kept, as lists of inodes.
+ghost use Rattle.vt_world.specs.OverlaysKept.Inodes.{InodesAreTheTree, InodesHaveTheirObjects, InodesStay, NumbersAreListed};
+
+/// The inodes of an overlay, in the order of their numbers, make its `tree` again. If its layers are directories of
+/// plain trees, they have its real `objects`, and the numbers beside the tree are theirs (`listed`). Two lists of
+/// plain trees that show the overlay alike give the same inodes (`stay`).
+pub fn overlays_are_their_inodes()
+    ensures tree { InodesAreTheTree }
+    ensures objects { InodesHaveTheirObjects }
+    ensures stay { InodesStay }
+    ensures listed { NumbersAreListed }
+{}
