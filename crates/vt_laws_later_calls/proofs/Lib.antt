@@ -14,4 +14,3 @@ pub mod Looked
 pub mod Readers
 pub mod MadeSeen
 pub mod AttrSeen
-pub mod limits

@@ -4,5 +4,3 @@ pub mod GroupsKept
 pub mod GroupsLiving
 pub mod GroupsRetyped
 pub mod GroupsUp
-pub mod letting_go
-pub mod counts

@@ -1,4 +1,0 @@
-pub mod calls
-pub mod runs
-pub mod layers
-pub mod overlays

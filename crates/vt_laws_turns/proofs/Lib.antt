@@ -1,5 +1,2 @@
 pub mod TurnKinds
 pub mod TurnShapes
-pub mod frames
-pub mod walks
-pub mod holds

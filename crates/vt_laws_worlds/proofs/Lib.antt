@@ -2,13 +2,3 @@ pub mod TasksNamed
 pub mod Plain
 pub mod Raised
 pub mod RaisedInUse
-pub mod permits
-pub mod overlays_let_go
-pub mod merging
-pub mod seen
-pub mod overlay_permits
-pub mod given
-pub mod one_text
-pub mod overlays_granted
-pub mod overlays_read
-pub mod overlays_stay

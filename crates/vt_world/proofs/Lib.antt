@@ -1,2 +1,0 @@
-pub mod overlays_kept
-pub mod overlays_made
