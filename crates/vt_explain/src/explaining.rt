@@ -312,7 +312,7 @@ fn told_before(asked: Asked<'_>, world: &World, name: &TaskName, call: &Call) ->
 // Appends who holds what is busy where a path ends.
 fn push_held(
     asked: Asked<'_>,
-    look: Look<'_>,
+    look: &Look<'_>,
     call: CallKind,
     end: Option<Location>,
     text: &mut Draft,
@@ -325,19 +325,19 @@ fn push_held(
 }
 
 // Appends which overlays lock an object: that where a path ends, or else the directory in which a name is missing.
-fn push_locks(asked: Asked<'_>, look: Look<'_>, walked: Walked, text: &mut Draft) {
+fn push_locks(asked: Asked<'_>, look: &Look<'_>, walked: Walked, text: &mut Draft) {
     let mut section = Section::new(asked.alloc, &locks::HEADS);
     let locked = Locked {
         alloc: asked.alloc,
         look,
         at: walked.end.unwrap_or(walked.directory),
     };
-    add_locks(locked, &mut section);
+    add_locks(&locked, &mut section);
     section.write(asked.format, b"", text);
 }
 
 // Appends who mounted the overlay of an object.
-fn push_mounter(asked: Asked<'_>, look: Look<'_>, at: Option<Location>, text: &mut Draft) {
+fn push_mounter(asked: Asked<'_>, look: &Look<'_>, at: Option<Location>, text: &mut Draft) {
     if let Some(at) = at {
         let mut section = Section::new(asked.alloc, &mounters::HEADS);
         add_mounter(look, &mut section, at);
@@ -360,7 +360,7 @@ struct Refusal<'a> {
 fn push_of_path(
     asked: Asked<'_>,
     refusal: Refusal<'_>,
-    look: Look<'_>,
+    look: &Look<'_>,
     walked: Option<Walked>,
     text: &mut Draft,
 ) {
@@ -393,9 +393,9 @@ fn push_of_paths(
         line: asked.line.number,
         namespace: refusal.namespace,
     };
-    push_of_path(asked, refusal, look, before.first, text);
-    push_of_path(asked, refusal, look, before.second, text);
-    push_of_path(asked, refusal, look, before.layer, text);
+    push_of_path(asked, refusal, &look, before.first, text);
+    push_of_path(asked, refusal, &look, before.second, text);
+    push_of_path(asked, refusal, &look, before.layer, text);
     if earlier.failed {
         text.fail();
     }

@@ -44,7 +44,7 @@ pub enum Held {
 }
 
 // Appends an open file of a task: its number, its access, and the line that opened it.
-fn push_file(look: Look<'_>, text: &mut Draft, task: &Task, number: u8, access: Access) {
+fn push_file(look: &Look<'_>, text: &mut Draft, task: &Task, number: u8, access: Access) {
     text.push("open ");
     text.push_number(u64::from(number));
     text.push(" ");
@@ -56,7 +56,7 @@ fn push_file(look: Look<'_>, text: &mut Draft, task: &Task, number: u8, access: 
 }
 
 /// Appends what a task has on a mount.
-pub fn push_held(look: Look<'_>, text: &mut Draft, task: &Task, held: Held) {
+pub fn push_held(look: &Look<'_>, text: &mut Draft, task: &Task, held: Held) {
     match held {
         Held::Root => text.push("root"),
         Held::Directory => text.push("directory"),
@@ -66,7 +66,7 @@ pub fn push_held(look: Look<'_>, text: &mut Draft, task: &Task, held: Held) {
 
 // Adds that a task has something on a mount, if it is there.
 fn add_use(
-    look: Look<'_>,
+    look: &Look<'_>,
     table: &mut Table,
     busy: &MountShown,
     task: &Task,
@@ -87,7 +87,7 @@ fn add_use(
 }
 
 // Adds the open files of a task on a mount: all, or those that may be written to.
-fn add_files(look: Look<'_>, table: &mut Table, busy: &MountShown, task: &Task, written: bool) {
+fn add_files(look: &Look<'_>, table: &mut Table, busy: &MountShown, task: &Task, written: bool) {
     for number in 0..=u8::MAX {
         if let Some(file) = task.descriptors.get(number) {
             if !written || file.access.writes() {
@@ -99,7 +99,7 @@ fn add_files(look: Look<'_>, table: &mut Table, busy: &MountShown, task: &Task, 
 }
 
 // Adds the tasks that hold a mount.
-fn add_tasks(look: Look<'_>, table: &mut Table, busy: &MountShown) {
+fn add_tasks(look: &Look<'_>, table: &mut Table, busy: &MountShown) {
     for task in look.world.tasks().kept() {
         add_use(look, table, busy, task, Held::Root, task.root);
         add_use(look, table, busy, task, Held::Directory, task.directory);
@@ -108,7 +108,7 @@ fn add_tasks(look: Look<'_>, table: &mut Table, busy: &MountShown) {
 }
 
 // Whether a mount keeps what it stands on busy.
-fn counts(look: Look<'_>, mount: &MountShown) -> bool {
+fn counts(look: &Look<'_>, mount: &MountShown) -> bool {
     look.namespace.is_none() || look.namespace == mount.mount.namespace
 }
 
@@ -132,7 +132,7 @@ fn add_mount(table: &mut Table, busy: Option<&MountShown>, mount: &MountShown) {
 }
 
 // Adds the mounts of a list, which stand on what is busy.
-fn add_mounts(look: Look<'_>, table: &mut Table, busy: Option<&MountShown>, ids: &[MountId]) {
+fn add_mounts(look: &Look<'_>, table: &mut Table, busy: Option<&MountShown>, ids: &[MountId]) {
     for id in ids {
         if let Some(mount) = find(look.mounts, *id) {
             if counts(look, mount) {
@@ -143,7 +143,7 @@ fn add_mounts(look: Look<'_>, table: &mut Table, busy: Option<&MountShown>, ids:
 }
 
 // The type of the mount that one stands on.
-fn kind_below(look: Look<'_>, shown: &MountShown) -> TypeLine {
+fn kind_below(look: &Look<'_>, shown: &MountShown) -> TypeLine {
     match parent(look.mounts, shown) {
         Some(parent) => parent.kind,
         None => TypeLine::Private,
@@ -151,7 +151,7 @@ fn kind_below(look: Look<'_>, shown: &MountShown) -> TypeLine {
 }
 
 // Whether a mount is a copy of another one that would go with it, of which the parent is in this group.
-fn is_copy(look: Look<'_>, busy: &MountShown, copy: &MountShown, group: usize) -> bool {
+fn is_copy(look: &Look<'_>, busy: &MountShown, copy: &MountShown, group: usize) -> bool {
     let id = copy.mount.number;
     id != busy.mount.number
         && !look.world.all_mounts().has_child(id)
@@ -160,7 +160,7 @@ fn is_copy(look: Look<'_>, busy: &MountShown, copy: &MountShown, group: usize) -
 
 // Adds who holds the copies of a mount that stand where it does, and of which the parents receive from this group.
 fn add_copies_in(
-    look: Look<'_>,
+    look: &Look<'_>,
     table: &mut Table,
     busy: &MountShown,
     point: Location,
@@ -176,7 +176,7 @@ fn add_copies_in(
 }
 
 // Adds who holds the copies of a mount that would go with it.
-fn add_copies(look: Look<'_>, table: &mut Table, busy: &MountShown) {
+fn add_copies(look: &Look<'_>, table: &mut Table, busy: &MountShown) {
     let Some(point) = busy.mount.mount_point else {
         return;
     };
@@ -186,14 +186,14 @@ fn add_copies(look: Look<'_>, table: &mut Table, busy: &MountShown) {
 }
 
 // Adds who has files open for writing through a mount.
-fn add_writers(look: Look<'_>, table: &mut Table, busy: &MountShown) {
+fn add_writers(look: &Look<'_>, table: &mut Table, busy: &MountShown) {
     for task in look.world.tasks().kept() {
         add_files(look, table, busy, task, true);
     }
 }
 
 // Adds who keeps a mount from being unmounted: mounts on it, and tasks, on it or on a copy that would go with it.
-fn add_users(look: Look<'_>, table: &mut Table, busy: &MountShown) {
+fn add_users(look: &Look<'_>, table: &mut Table, busy: &MountShown) {
     let children = look.world.all_mounts().children(busy.mount.number);
     add_mounts(look, table, Some(busy), children);
     add_tasks(look, table, busy);
@@ -202,7 +202,7 @@ fn add_users(look: Look<'_>, table: &mut Table, busy: &MountShown) {
 
 /// Adds who holds what is busy where a path of a call ends: the mount that is unmounted or would become read-only, or a
 /// name at which mounts stand.
-pub fn add_holders(look: Look<'_>, section: &mut Section, call: CallKind, at: Location) {
+pub fn add_holders(look: &Look<'_>, section: &mut Section, call: CallKind, at: Location) {
     let table = &mut section.table;
     match (call, find(look.mounts, at.mount)) {
         (CallKind::Umount, Some(busy)) => add_users(look, table, busy),

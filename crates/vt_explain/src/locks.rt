@@ -23,7 +23,7 @@ pub static HEADS: Heads = Heads {
 #[derive(Clone, Copy)]
 pub struct Locked<'a> {
     pub alloc: Global,
-    pub look: Look<'a>,
+    pub look: &'a Look<'a>,
     pub at: Location,
 }
 
@@ -36,7 +36,7 @@ struct Lock {
 
 impl Locked<'_> {
     // Whether the object lies under a directory of its filesystem.
-    fn lies_under(self, directory: NodeRef, table: &mut Table) -> bool {
+    fn lies_under(&self, directory: NodeRef, table: &mut Table) -> bool {
         if directory.filesystem != self.at.node.filesystem {
             return false;
         }
@@ -55,7 +55,7 @@ impl Locked<'_> {
     }
 
     // The highest layer of an overlay that holds the object.
-    fn lock_of(self, overlay: FilesystemId, table: &mut Table) -> Option<Lock> {
+    fn lock_of(&self, overlay: FilesystemId, table: &mut Table) -> Option<Lock> {
         let layers = self.look.world.store().overlay(overlay)?.lowers();
         for (index, layer) in layers.iter().enumerate() {
             let directory = layer.directory.node_ref();
@@ -70,7 +70,7 @@ impl Locked<'_> {
     }
 
     // Begins a row: the object, and the layer that holds it of the overlay that a mount shows.
-    fn add_lock(self, table: &mut Table, lock: Lock, mount: &Mount) {
+    fn add_lock(&self, table: &mut Table, lock: Lock, mount: &Mount) {
         let look = self.look;
         look.places.push(self.at, &mut table.text);
         table.end_word();
@@ -89,7 +89,7 @@ impl Locked<'_> {
     }
 
     // Adds a mount, if it shows an overlay that locks the object.
-    fn add_mount(self, table: &mut Table, shown: &MountShown) {
+    fn add_mount(&self, table: &mut Table, shown: &MountShown) {
         if let Some(lock) = self.lock_of(shown.mount.root.filesystem, table) {
             self.add_lock(table, lock, &shown.mount);
             names::push_mount(&mut table.text, shown.place);
@@ -101,7 +101,7 @@ impl Locked<'_> {
     }
 
     // Adds what a task has on a mount, if that is detached and shows an overlay that locks the object.
-    fn add_use(self, table: &mut Table, task: &Task, held: Held, at: Location) {
+    fn add_use(&self, table: &mut Table, task: &Task, held: Held, at: Location) {
         if self.look.places.of(at.mount).is_some() {
             return;
         }
@@ -121,7 +121,7 @@ impl Locked<'_> {
     }
 
     // Adds what a task has on detached mounts.
-    fn add_task(self, table: &mut Table, task: &Task) {
+    fn add_task(&self, table: &mut Table, task: &Task) {
         self.add_use(table, task, Held::Root, task.root);
         self.add_use(table, task, Held::Directory, task.directory);
         for number in 0..=u8::MAX {
@@ -134,7 +134,7 @@ impl Locked<'_> {
 }
 
 /// Adds the overlays that lock an object, each with what keeps it in use.
-pub fn add_locks(locked: Locked<'_>, section: &mut Section) {
+pub fn add_locks(locked: &Locked<'_>, section: &mut Section) {
     let table = &mut section.table;
     for namespace in locked.look.mounts {
         for shown in &namespace.mounts {

@@ -24,7 +24,7 @@ pub static HEADS: Heads = Heads {
 };
 
 // Appends the task that mounted an overlay, and the line.
-fn push_mounter(look: Look<'_>, text: &mut Draft, overlay: FilesystemId) {
+fn push_mounter(look: &Look<'_>, text: &mut Draft, overlay: FilesystemId) {
     match look.earlier.mounter_of(overlay, look.line) {
         Some((task, line)) => {
             names::push_task(text, task);
@@ -44,7 +44,7 @@ fn add_credentials(table: &mut Table, cred: &Cred) {
 }
 
 // Adds an object of an overlay, and which of its bits count for the mounter.
-fn add_object(look: Look<'_>, table: &mut Table, mounter: &Cred, at: Location) {
+fn add_object(look: &Look<'_>, table: &mut Table, mounter: &Cred, at: Location) {
     look.places.push(at, &mut table.text);
     table.end_word();
     if let Some(node) = look.world.store().object(at.node) {
@@ -54,7 +54,7 @@ fn add_object(look: Look<'_>, table: &mut Table, mounter: &Cred, at: Location) {
 }
 
 /// Adds who mounted the overlay of an object, if it is in one.
-pub fn add_mounter(look: Look<'_>, section: &mut Section, at: Location) {
+pub fn add_mounter(look: &Look<'_>, section: &mut Section, at: Location) {
     let id = at.node.filesystem;
     if let Some(overlay) = look.world.store().overlay(id) {
         let table = &mut section.table;
