@@ -5,6 +5,7 @@ pub mod GoingUp
 pub mod LayersLeft
 pub mod NamesFollowed
 pub mod NamesHad
+pub mod NamesShown
 pub mod NamesSorted
 pub mod NamesTaken
 pub mod NamesThere

@@ -1,5 +1,5 @@
 -- Names that are sorted, each once, are those that layers show.
-use Rattle.std.proofs.Common.{◌≡◌, ◌∙◌, ◌++◌, ◌∷◌, ◌&&◌, ◌||◌, [], Bool, List, None, Option, Ordering, Some, T, ap, cond, false, is_some, map, nat_eq, refl, subst, sym, true, true≢false, ℕ}
+use Rattle.std.proofs.Common.{◌≡◌, ◌∙◌, ◌++◌, ◌∷◌, ◌||◌, [], Bool, List, None, Option, Ordering, Some, T, ap, cond, false, is_some, map, nat_eq, refl, subst, sym, true, true≢false, ℕ}
 use Rattle.std.specs.declared.cmp.Ordering.TheVariants.{Less}
 use Rattle.std.specs.declared.vec.Vec.{Vec}
 use Rattle.std.specs.Cmp.{IsTotalOrder}
@@ -8,7 +8,7 @@ use Rattle.std.proofs.lemmas.Cmp.{nat_list_cmp_total}
 use Rattle.std.proofs.lemmas.List.Kept.{IsStrictlySortedBy-dedup}
 use Rattle.std.proofs.lemmas.List.Sorted.{list_any-IsPermutation}
 use Rattle.std.proofs.lemmas.Map.Keys.{sorted_head, sorted_tail}
-use Rattle.std.proofs.lemmas.Map.Views.{Contains-from_any, any-filter_same}
+use Rattle.std.proofs.lemmas.Map.Views.{Contains-from_any}
 use Rattle.std.specs.FinMap.Entries.{below_all, is_some-find, is_sorted, is_sorted-where_key, same_entries, where_key}
 use Rattle.std.specs.List.{AllByRecursion, dedup, dedup_from, filter, list_any}
 use Rattle.std.specs.List.Sorted.{IsPermutation, IsSorted, IsStrictlySortedBy}
@@ -25,9 +25,9 @@ use Rattle.vt_laws_trees.proofs.layers.layers.ShownAtPath.{computed}
 use Rattle.vt_laws_trees.proofs.layers.layers.ShownFronts.{list_any_of_map}
 use Rattle.vt_laws_trees.proofs.layers.layers.ShownNames.{name_found, names_are_those_shown}
 use Rattle.vt_fs.specs.FilesystemsValue.{Filesystems}
-use Rattle.vt_merge.specs.LayerValue.{names_had, placed_views}
+use Rattle.vt_merge.specs.LayerValue.{placed_views}
 use Rattle.vt_merge.specs.declared.layers.MergedDirectory.{MergedDirectory}
-use Rattle.vt_merge.proofs.NamesHad.{is_name, shown_is_had}
+use Rattle.vt_merge.proofs.NamesHad.{is_name}
 
 -- names alone, as entries
 abbrev marked : List (List ℕ) → Entries (Unit {0})
@@ -110,10 +110,6 @@ module _ {X : Type 0} (same : X → X → Bool) (hit : X → Bool) (alike : (x y
     any_dedup [] = refl
     any_dedup (x ∷ xs) = any_dedup_from x xs
 
-implied : (a b : Bool) → (a ≡ true → b ≡ true) → (a && b) ≡ a
-implied true b h = h refl
-implied false b h = refl
-
 module _ {A : Type 0} where
   abbrev key_cmp : Vec ℕ A → Vec ℕ A → Ordering
   key_cmp x y = slice_cmp nat_cmp x.items y.items
@@ -145,20 +141,20 @@ module _ {A : Type 0} where
       (is_sorted-bytes_of keys (sorted_tail key_cmp key keys h))
 
   module _ (fs : Filesystems) (merged : List MergedDirectory) (layers : List (OpenLayer ℕ)) (path : List (List ℕ))
-      (all kept sorted once : List (Vec ℕ A)) where
+      (kept sorted once : List (Vec ℕ A)) where
     abbrev test : List ℕ → Bool
     test name = is_some (shown layers (path ++ name ∷ []))
 
     abbrev shows : List ℕ → Bool
     shows name = is_some (shown_in (placed_views fs merged) (name ∷ []))
 
-    module _ (had : IsPermutation (bytes_of all) (names_had fs merged)) (filtered : kept ≡ filter (λ key. shows key.items) all)
+    abbrev hit : List ℕ → Vec ℕ A → Bool
+    hit name key = is_name name key.items
+
+    module _ (kept_shown : (name : List ℕ) → list_any (hit name) kept ≡ shows name)
         (permuted : IsPermutation kept sorted) (in_order : IsSorted key_cmp sorted) (deduped : once ≡ dedup key_eq sorted)
         (is_merged : (rest : List (List ℕ)) → ¬ (rest ≡ []) → shown_in (placed_views fs merged) rest
         ≡ shown layers (path ++ rest)) where
-      abbrev hit : List ℕ → Vec ℕ A → Bool
-      hit name key = is_name name key.items
-
       -- what is left has the names that are shown
       has_name : (name : List ℕ) → list_any (is_name name) (bytes_of once) ≡ shows name
       has_name name =
@@ -167,13 +163,7 @@ module _ {A : Type 0} where
           ∙ any_dedup key_eq (hit name)
           (λ x y e. ap (is_name name) (same_name x.items y.items (sym (texts_ties x.items y.items) ∙ e))) sorted
           ∙ sym (list_any-IsPermutation (hit name) kept sorted permuted)
-          ∙ ap (list_any (hit name)) filtered
-          ∙ any-filter_same (hit name) (λ key. shows key.items) (shows name)
-          (λ key e. ap shows (sym (same_name name key.items e))) all
-          ∙ ap (λ b. shows name && b)
-          (sym (list_any_of_map (is_name name) (λ (key : Vec ℕ A). key.items) all)
-          ∙ list_any-IsPermutation (is_name name) (bytes_of all) (names_had fs merged) had)
-          ∙ implied (shows name) (list_any (is_name name) (names_had fs merged)) (shown_is_had fs merged name)
+          ∙ kept_shown name
 
       pub names_are : bytes_of once ≡ names_shown layers path
       names_are =

@@ -8,19 +8,12 @@ use Rattle.std.specs.Ordering.{is_eq}
 use Rattle.vt_spec.proofs.Nodes.{same_name}
 use Rattle.vt_spec.specs.Lists.{is_empty_list}
 use Rattle.vt_spec.specs.Machine.Layers.{OpenLayer, names_shown, shown}
-use Rattle.vt_spec.specs.Tree.{names_in}
 use Rattle.vt_laws_trees.specs.Layers.Layers.Directories.{shown_in}
-use Rattle.vt_location.specs.Locations.{inode_of}
-use Rattle.vt_fs.specs.FilesystemsValue.{Filesystems, files_at}
-use Rattle.vt_merge.specs.LayerValue.{names_had, placed_views}
+use Rattle.vt_fs.specs.FilesystemsValue.{Filesystems}
+use Rattle.vt_merge.specs.LayerValue.{names_had, own_names, placed_views}
 use Rattle.vt_merge.specs.declared.layers.MergedDirectory.{MergedDirectory}
 use Rattle.vt_merge.proofs.NamesHad.{is_name, shown_is_had}
 use Rattle.vt_merge.proofs.NamesSorted.{name_is_shown}
-
--- the names that one directory has
-abbrev pub own_names : Filesystems → MergedDirectory → List (List ℕ)
-own_names fs top =
-    names_in ((files_at fs top.directory.filesystem.count).tree.node (inode_of top.directory))
 
 any_flat : {A B : Type 0} (test : B → Bool) (f : A → List B) (xs : List A)
     → list_any test (flat_map f xs) ≡ list_any (λ x. list_any test (f x)) xs
@@ -38,7 +31,7 @@ one_passes {A} test (x ∷ xs) any = by (test x) refl any (one_passes test xs)
     by false e any rest = rest any
 
 -- a name that passes is one of those that do
-passes_there : (test : List ℕ → Bool) (name : List ℕ) (names : List (List ℕ)) → test name ≡ true
+pub passes_there : (test : List ℕ → Bool) (name : List ℕ) (names : List (List ℕ)) → test name ≡ true
     → list_any (is_name name) names ≡ true → list_any test names ≡ true
 passes_there test name [] passes there = absurd (true≢false (sym there))
 passes_there test name (first ∷ names) passes there =

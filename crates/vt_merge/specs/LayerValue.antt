@@ -1,6 +1,9 @@
 -- What the definitions see of layers, and of what they show.
 use Rattle.std.specs.Prelude.{Bool, List, None, Option, Some, [], false, flat_map, map, unwrap_or, ℕ, ◌||◌, ◌∷◌}
+use Rattle.vt_spec.specs.declared.attributes.Kind.TheVariants.{White}
+use Rattle.vt_spec.specs.FileTree.{is_kind_in}
 use Rattle.vt_spec.specs.Inodes.{tree_of}
+use Rattle.vt_spec.specs.Lists.{holds_of}
 use Rattle.vt_spec.specs.Machine.Layers.{OpenLayer, Shown}
 use Rattle.vt_spec.specs.Machine.Views.{hides}
 use Rattle.vt_spec.specs.Tree.{Tree, names_in}
@@ -52,7 +55,15 @@ abbrev pub cut_on : Tree ℕ → List (List ℕ) → ℕ → Bool
 cut_on tree [] from = false
 cut_on tree (name ∷ names) from = cut_by tree (entry_at tree from name) (cut_on tree names)
 
--- the names of directories, one directory after the other
+-- the names of a directory, and those of directories, one directory after the other
+abbrev pub own_names : Filesystems → MergedDirectory → List (List ℕ)
+own_names trees top = names_in ((opened trees top.directory).tree.node (inode_of top.directory))
+
 abbrev pub names_had : Filesystems → List MergedDirectory → List (List ℕ)
-names_had trees merged =
-    flat_map (λ top. names_in ((opened trees top.directory).tree.node (inode_of top.directory))) merged
+names_had trees merged = flat_map (own_names trees) merged
+
+-- a name of a directory leads to a whiteout
+abbrev pub is_white_under : Filesystems → MergedDirectory → List ℕ → Bool
+is_white_under trees top name =
+    holds_of (λ object. is_kind_in White ((opened trees top.directory).tree.node object))
+    (entry_at (opened trees top.directory).tree (inode_of top.directory) name)

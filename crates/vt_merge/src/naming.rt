@@ -1,18 +1,19 @@
 //! The names of merged directories.
 ghost use Rattle.std.specs.List.{list_any};
 ghost use Rattle.std.specs.List.Sorted.{IsPermutation};
-ghost use Rattle.std.specs.Prelude.{◌≡◌, ◌≤◌, ◌++◌, ◌∷◌, [], IfOk, OnOk, is_some, length, map, not};
+ghost use Rattle.std.specs.Ordering.{eq_by_cmp};
+ghost use Rattle.std.specs.Prelude.{◌≡◌, ◌≤◌, ◌++◌, ◌∷◌, [], IfOk, List, OnOk, is_some, length, map, not, ℕ};
 ghost use Rattle.vt_spec.specs.Lists.{is_empty_list};
 ghost use Rattle.vt_spec.specs.Machine.Layers.{names_shown};
 ghost use Rattle.vt_laws_trees.specs.Layers.Layers.Directories.{shown_in};
-ghost use Rattle.vt_spec.specs.Tree.{names_in};
+ghost use Rattle.vt_spec.specs.Tree.{name_cmp, names_in};
 ghost use Rattle.vt_location.specs.Locations.{inode_of};
 ghost use Rattle.vt_fs.specs.FilesystemsValue.{files_at};
-ghost use Rattle.vt_merge.specs.LayerValue.{layers_of, names_had, placed_views};
+ghost use Rattle.vt_merge.specs.LayerValue.{is_white_under, layers_of, names_had, own_names, placed_views};
 
 use crate::entries::is_whiteout;
 use crate::layers::{LayerRef, MergedDirectory};
-use crate::merging::{MOST_LAYERS, first_of, merge_at};
+use crate::merging::{MOST_LAYERS, entry_in, first_of, merge_at};
 use crate::ways::Way;
 use arrayvec::ArrayVec;
 use std::alloc::{AllocError, Global};
@@ -38,8 +39,7 @@ pub fn merged_names<W: Way>(
     let mut merged = MergedDirectories::new();
     merge_at(trees, layers, path, &mut merged);
     let directories = merged.as_slice();
-    let mut names = all_names(alloc, trees, directories)?;
-    names.retain(|name| shows(trees, directories, name.as_slice()));
+    let mut names = all_shown(alloc, trees, directories)?;
     names.sort_unstable();
     names.dedup();
     Ok(names)
@@ -94,6 +94,25 @@ fn shows_one(trees: &Filesystems, merged: &[MergedDirectory], names: &[Vec<u8>])
     false
 }
 
+// The names of all these directories under which they show something, in no order. Where no directory has a whiteout,
+// that is each of them, and none is looked for in the other directories.
+fn all_shown(
+    alloc: Global,
+    trees: &Filesystems,
+    merged: &[MergedDirectory],
+) -> Result<Vec<Vec<u8>>, AllocError>
+    ensures { IfOk result (λ names. (name : List ℕ)
+        → list_any (λ one. eq_by_cmp name_cmp name one.items) names.items
+        ≡ is_some (shown_in (placed_views trees.now merged.now) (name ∷ []))) }
+{
+    let mut names = all_names(alloc, trees, merged)?;
+    if !have_whiteouts(trees, merged) {
+        return Ok(names);
+    }
+    names.retain(|name| shows(trees, merged, name.as_slice()));
+    Ok(names)
+}
+
 // The names of all these directories, in no order.
 fn all_names(
     alloc: Global,
@@ -127,6 +146,47 @@ fn shows(trees: &Filesystems, merged: &[MergedDirectory], name: &[u8]) -> bool
 {
     match first_of(trees, merged, name) {
         Some(found) => !is_whiteout(trees, found.object),
+        None => false,
+    }
+}
+
+// Whether one of these directories has a whiteout.
+fn have_whiteouts(trees: &Filesystems, merged: &[MergedDirectory]) -> bool
+    ensures { result ≡ list_any (λ top. list_any (is_white_under trees.now top) (own_names trees.now top)) merged.now }
+{
+    for top in merged {
+        if has_whiteout(trees, *top) {
+            return true;
+        }
+    }
+    false
+}
+
+// Whether this directory has a whiteout.
+fn has_whiteout(trees: &Filesystems, top: MergedDirectory) -> bool
+    ensures { result ≡ list_any (is_white_under trees.now top) (own_names trees.now top) }
+{
+    has_whiteout_of(trees, top, kept_names(trees, top.directory))
+}
+
+// Whether one of these names of a directory leads to a whiteout.
+fn has_whiteout_of(trees: &Filesystems, top: MergedDirectory, names: &[Vec<u8>]) -> bool
+    ensures { result ≡ list_any (λ name. is_white_under trees.now top name.items) names.now }
+{
+    for name in names {
+        if is_whiteout_under(trees, top, name.as_slice()) {
+            return true;
+        }
+    }
+    false
+}
+
+// Whether a name of a directory leads to a whiteout.
+fn is_whiteout_under(trees: &Filesystems, top: MergedDirectory, name: &[u8]) -> bool
+    ensures { result ≡ is_white_under trees.now top name.now }
+{
+    match entry_in(trees, top, name) {
+        Some(found) => is_whiteout(trees, found.object),
         None => false,
     }
 }
