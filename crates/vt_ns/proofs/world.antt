@@ -24,6 +24,7 @@ pub mod PivotedUses
 pub mod PivotedWorlds
 pub mod PlainStored
 pub mod PointsMoved
+pub mod ReadableFiles
 pub mod RemainingTasks
 pub mod RenamedOver
 pub mod StoresKept

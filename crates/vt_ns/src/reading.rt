@@ -10,6 +10,7 @@ ghost use Rattle.vt_permits.specs.GrantValue.{look_permit};
 ghost use Rattle.vt_permits.specs.declared.grant.LookGrant.TheVariants.{ReadPart};
 ghost use Rattle.vt_tasks.specs.TaskValue.{task_of};
 ghost use Rattle.vt_detach.specs.Events.{Permits};
+ghost use Rattle.vt_ns.specs.Lent.{real_of_value};
 ghost use Rattle.vt_ns.specs.LookingAlone.{LookingChangesNothing};
 ghost use Rattle.vt_ns.specs.Told.{told_by};
 ghost use Rattle.vt_world.specs.Held.{IsHeld};
@@ -60,10 +61,19 @@ impl World {
         ensures ok { IfOk result (λ bytes. bytes.items
             ≡ bytes_in (node_at nat_eq (world_of self.now) (location_of file))) }
     {
-        match self.node(file) {
+        match self.readable(name, file) {
             Some(node) => { copied_bytes(self.alloc, node.bytes()) }
             None => Ok(Vec::new(self.alloc)),
         }
+    }
+
+    // The real object of a file that may be read: it is there, so in an overlay it is known where.
+    #[inline(always)]
+    fn readable(&self, _name: &TaskName, file: Location) -> Option<&Node>
+        requires { Permits self.now _name.now (ToRead (location_of file)) }
+        ensures { option_copied result ≡ real_of_value self.now (location_of file) }
+    {
+        self.store.object_there(file.node)
     }
 
     /// The names of a directory, in the order of their bytes: readdir(3).
