@@ -5,12 +5,13 @@
 mod command;
 mod cookbook;
 mod explaining;
-mod fault;
+mod line;
 mod order;
 mod rules;
 mod showing;
 mod tools;
 
 pub use command::words;
-pub use fault::{Fault, status};
-pub use order::{Pace, obey};
+pub use order::obey;
+pub use vt_run::fault::{Fault, status};
+pub use vt_run::running::Pace;

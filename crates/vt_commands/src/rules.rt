@@ -1,13 +1,13 @@
 //! The command that tells of rules.
 ghost use Rattle.std.specs.Prelude.{◌≡◌, true, IfErr};
-ghost use Rattle.vt_commands.specs.Status.{comes_before_output};
+ghost use Rattle.vt_run.specs.Status.{comes_before_output};
 
-use crate::command::out_of_memory;
-use crate::fault::Fault;
+use crate::tools::hand_on_text;
 use std::alloc::{AllocError, Global};
 use std::io::Write;
 use vt_rule_pages::markdown;
 use vt_rule_pages::told::{order, told};
+use vt_run::fault::{Fault, out_of_memory};
 
 // What is told: of a word, of all rules, or all rules as a page.
 fn text_of(alloc: Global, word: Option<&str>, page: bool) -> Result<String, AllocError> {
@@ -19,9 +19,11 @@ fn text_of(alloc: Global, word: Option<&str>, page: bool) -> Result<String, Allo
 }
 
 // That a word is none of which something is told.
-fn unknown(alloc: Global, word: &str) -> Result<Fault, AllocError> {
-    let text = format!(in alloc; "no rule, error or call `{word}`; `vtree rules` has the rules")?;
-    Ok(Fault::Words(text))
+fn unknown(alloc: Global, word: &str) -> Fault {
+    match format!(in alloc; "no rule, error or call `{word}`; `vtree rules` has the rules") {
+        Ok(text) => Fault::Words(text),
+        Err(error) => out_of_memory(error),
+    }
 }
 
 /// Tells of the rules that a word names: of a rule, of the rules of an error or a call, or of all.
@@ -33,13 +35,8 @@ pub fn tell<W: Write>(
 ) -> Result<(), Fault>
     ensures { IfErr result (λ fault. comes_before_output fault ≡ true → output.new ≡ output.old) }
 {
-    let text = text_of(alloc, word, page).map_err(out_of_memory)?;
-    if text.is_empty() {
-        let word = word.unwrap_or_default();
-        return Err(unknown(alloc, word).unwrap_or_else(out_of_memory));
-    }
-    match output.write_all(text.as_bytes()) {
-        Ok(()) => Ok(()),
-        Err(cause) => Err(Fault::Write { cause }),
+    match text_of(alloc, word, page) {
+        Ok(text) if text.is_empty() => Err(unknown(alloc, word.unwrap_or_default())),
+        text => hand_on_text(text, output),
     }
 }

@@ -1,23 +1,30 @@
 //! The command that shows the world to which a script leads.
 ghost use Rattle.std.specs.Prelude.{◌≡◌, false, IfErr};
-ghost use Rattle.vt_commands.specs.Status.{comes_before_output};
+ghost use Rattle.vt_run.specs.Status.{comes_before_output};
 
-use crate::command::out_of_memory;
-use crate::fault::Fault;
 use crate::tools::{hand_on, readable, told};
+use std::alloc::AllocError;
 use std::io::Write;
 use std::rt::Files;
 use vt_calls::Kernel;
 use vt_lines::reached::reached_before;
+use vt_run::fault::{Fault, out_of_memory};
 use vt_script::Version;
 use vt_show::show::{Options, show as show_world};
 use vt_test::suite::{Script, scripts};
 
 const NO_TASK: &str = "there is no such task; without `--task` all are shown";
 
-/// The script in which a line of the file is: the last one that begins before it.
-pub fn script_at<'a, 'b>(all: &'b [Script<'a>], line: u64) -> Option<&'b Script<'a>> {
-    all.iter().rev().find(|script| script.before < line)
+/// The text of the script in which a line of the file is, the last one that begins before it, and how many lines of the
+/// file come before that; nothing where there is no such script.
+pub fn script_at<'b>(all: &'b [Script<'_>], line: u64) -> (&'b [u8], u64) {
+    let mut found: (&[u8], u64) = (&[], 0);
+    for script in all {
+        if script.before < line {
+            found = (script.text.as_slice(), script.before);
+        }
+    }
+    found
 }
 
 /// Says on the error output what keeps a file from being shown.
@@ -27,6 +34,16 @@ pub fn refuse<R: Eprint>(rt: &R, name: &str, why: &str) -> Fault
     let name = told(name);
     let _ = eprintln!(rt; "vtree: {name}: {why}");
     Fault::Found
+}
+
+/// Says on the error output what keeps a file from being shown, if there was memory for that.
+pub fn refuse_text<R: Eprint>(rt: &R, name: &str, why: Result<String, AllocError>) -> Fault
+    ensures { comes_before_output result ≡ false }
+{
+    match why {
+        Ok(why) => refuse(rt, name, why.as_str()),
+        Err(error) => out_of_memory(error),
+    }
 }
 
 /// Says on the error output how many lines were refused.
@@ -80,11 +97,28 @@ pub fn scripts_in<'a, R: Eprint + AllocGlobal>(
     let alloc = rt.alloc();
     match scripts(version, alloc, content) {
         Ok(all) => Ok(all),
-        Err(fault) => {
-            let why = format!(in alloc; "{fault}").map_err(out_of_memory)?;
-            Err(refuse(rt, name, why.as_str()))
-        }
+        Err(fault) => Err(refuse_text(rt, name, format!(in alloc; "{fault}"))),
     }
+}
+
+// Shows a world of the content of a file.
+fn show_content<R: Eprint + AllocGlobal, W: Write>(
+    rt: &R,
+    version: Version,
+    name: &str,
+    content: &[u8],
+    line: u64,
+    options: Options<'_>,
+    output: &mut W,
+) -> Result<(), Fault>
+    ensures { IfErr result (λ fault. comes_before_output fault ≡ false) }
+{
+    let all = scripts_in(rt, version, name, content)?;
+    let (text, before) = script_at(all.as_slice(), line);
+    let line = line.saturating_sub(before);
+    let outcome = show_script(rt, version, name, text, line, options, output);
+    drop(all);
+    outcome
 }
 
 /// Shows the world that a run of the script has after the lines before one, or after all.
@@ -103,14 +137,9 @@ pub fn show<R: Files + Input + Eprint + AllocGlobal, W: Write>(
     let Some(content) = readable(rt, name) else {
         return Err(Fault::Found);
     };
-    let all = scripts_in(rt, version, name, content.as_slice())?;
     let line = line.unwrap_or(u64::MAX);
-    match script_at(all.as_slice(), line) {
-        Some(script) => {
-            let line = line.saturating_sub(script.before);
-            let text = script.text.as_slice();
-            show_script(rt, version, name, text, line, options, output)
-        }
-        None => show_script(rt, version, name, &[], 1, options, output),
-    }
+    let bytes = content.as_slice();
+    let outcome = show_content(rt, version, name, bytes, line, options, output);
+    drop(content);
+    outcome
 }

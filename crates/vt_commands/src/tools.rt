@@ -1,15 +1,14 @@
 //! The commands that look at files of scripts before or after a run.
 ghost use Rattle.std.specs.Prelude.{◌≡◌, false, IfErr};
-ghost use Rattle.vt_commands.specs.Status.{comes_before_output};
+ghost use Rattle.vt_run.specs.Status.{comes_before_output};
 
-use crate::command::out_of_memory;
-use crate::fault::Fault;
 use std::alloc::AllocError;
 use std::fs::{self, File};
 use std::io::{self, Read, Write};
 use std::rt::Files;
 use vt_calls::Kernel;
 use vt_check::check::{Options, check as check_script};
+use vt_run::fault::{Fault, out_of_memory};
 use vt_script::Version;
 use vt_test::test::{Format, Totals, begin, end, test_file};
 use vt_test::with_given_answers;
@@ -52,6 +51,16 @@ pub fn hand_on<W: Write>(output: &mut W, text: &[u8]) -> Result<(), Fault>
     match output.write_all(text) {
         Ok(()) => Ok(()),
         Err(cause) => Err(Fault::Write { cause }),
+    }
+}
+
+/// Hands a text on to the output, if there was memory for it.
+pub fn hand_on_text<W: Write>(text: Result<String, AllocError>, output: &mut W) -> Result<(), Fault>
+    ensures { IfErr result (λ fault. comes_before_output fault ≡ false) }
+{
+    match text {
+        Ok(text) => hand_on(output, text.as_bytes()),
+        Err(error) => Err(out_of_memory(error)),
     }
 }
 

@@ -1,12 +1,13 @@
 //! The lines that opened files and mounted overlays.
 use std::alloc::Global;
 use vt_calls::Kernel;
-use vt_line::line::Line;
 use vt_lines::lines::first_line;
+use vt_lines::told::{Teller, answer_told};
 use vt_location::FilesystemId;
 use vt_ns::World;
 use vt_request::{Answer, Call, CallKind, TaskName};
 use vt_script::{Calls, Version};
+use vt_spec::errors::Deny;
 
 // A descriptor that a line opened.
 #[derive(Drop)]
@@ -92,23 +93,9 @@ impl Earlier {
         }
     }
 
-    // Makes a call, and records what it opens or mounts.
-    fn record(&mut self, kernel: &mut Kernel, task: TaskName, call: Call) {
-        let kind = call.kind();
-        match kernel.call(&task, call) {
-            Ok(Answer::Opened(descriptor)) => self.record_opening(task, descriptor),
-            Ok(_) if kind == CallKind::MountOverlay => {
-                self.record_mounting(kernel.world(), task);
-            }
-            _ => {}
-        }
-    }
-
     // Answers a line, and records what it opens or mounts.
     fn record_line(&mut self, version: Version, alloc: Global, kernel: &mut Kernel, text: &[u8]) {
-        if let Ok(Line::Call(task, call)) = Line::parse_as(version, alloc, text) {
-            self.record(kernel, task, call);
-        }
+        answer_told(version, alloc, kernel, text, self);
         self.lines = self.lines.saturating_add(1);
     }
 
@@ -137,6 +124,28 @@ impl Earlier {
         // By a call: the proof of a function that drops a world itself takes minutes.
         drop(kernel);
     }
+}
+
+impl Teller<Kernel> for Earlier {
+    fn before(&mut self, _kernel: &Kernel, _name: &TaskName, _call: &Call) {}
+
+    fn after(
+        &mut self,
+        kernel: &Kernel,
+        name: TaskName,
+        kind: CallKind,
+        outcome: &Result<Answer, Deny>,
+    ) {
+        match outcome {
+            Ok(Answer::Opened(descriptor)) => self.record_opening(name, *descriptor),
+            Ok(_) if kind == CallKind::MountOverlay => {
+                self.record_mounting(kernel.world(), name);
+            }
+            _ => {}
+        }
+    }
+
+    fn alone(&mut self, _outcome: &Result<Answer, Deny>) {}
 }
 
 /// What the lines of a script open and mount. They are answered once more, in a world of their own.

@@ -1,10 +1,6 @@
 //! A line of a script explained, and answered.
-ghost use Rattle.std.specs.Prelude.{OnOk, Result};
-ghost use Rattle.vt_spec.specs.declared.errors.Deny.{Deny};
-ghost use Rattle.vt_request.specs.declared.answer.Answer.{Answer};
-ghost use Rattle.vt_request.specs.Requests.{call_of};
 ghost use Rattle.vt_line.specs.Versions.{version_of};
-ghost use Rattle.vt_answers.specs.Ends.{Ends, HasNumbers};
+ghost use Rattle.vt_answers.specs.Ends.{HasNumbers};
 ghost use Rattle.vt_script.specs.Session.{IsLeftBy};
 ghost use Rattle.vt_calls.specs.KernelValue.{kernel_world};
 
@@ -24,13 +20,13 @@ use vt_calls::Kernel;
 use vt_check::draft::Draft;
 use vt_check::object::{List, Object};
 use vt_io::memory::BytesSink;
-use vt_line::line::Line;
 use vt_lines::lines::first_line;
+use vt_lines::told::{Teller, answer_told};
 use vt_location::{Location, NamespaceId};
 use vt_ns::World;
 use vt_request::{Answer, Call, CallKind, PeerLine, TaskName};
 use vt_rule_pages::pages::page_of;
-use vt_script::{Calls, Version, write_reply};
+use vt_script::{Version, write_reply};
 use vt_show::picture::{NamespaceShown, Picture, TaskShown, picture_of};
 use vt_show::places::Places;
 use vt_show::{json, text};
@@ -176,13 +172,6 @@ fn push_head(asked: Asked<'_>, outcome: &Result<Answer, Deny>, later: &[Rule], t
     }
 }
 
-// What is told of a line that is no call.
-fn told_alone(asked: Asked<'_>, outcome: &Result<Answer, Deny>) -> Result<String, AllocError> {
-    let mut text = Draft::new(asked.alloc);
-    push_head(asked, outcome, &[], &mut text);
-    text.end()
-}
-
 // Appends who calls.
 fn push_caller(asked: Asked<'_>, shown: &TaskShown<'_>, text: &mut Draft) {
     match asked.format {
@@ -213,6 +202,18 @@ fn end_of(walked: Option<Walked>) -> Option<Location> {
 }
 
 impl Before {
+    // Nothing is told yet.
+    fn new(alloc: Global) -> Self {
+        Before {
+            text: Draft::new(alloc),
+            first: None,
+            second: None,
+            layer: None,
+            mounts: Vec::new(alloc),
+            groups: Vec::new(alloc),
+        }
+    }
+
     // Tells who calls.
     fn tell_caller(&mut self, asked: Asked<'_>, tasks: &[TaskShown<'_>], name: &TaskName) {
         for shown in tasks {
@@ -293,20 +294,6 @@ impl Before {
             None => end_of(self.first),
         }
     }
-}
-
-// What is told before a call is made.
-fn told_before(asked: Asked<'_>, world: &World, name: &TaskName, call: &Call) -> Before {
-    let mut before = Before {
-        text: Draft::new(asked.alloc),
-        first: None,
-        second: None,
-        layer: None,
-        mounts: Vec::new(asked.alloc),
-        groups: Vec::new(asked.alloc),
-    };
-    before.tell(asked, world, name, call);
-    before
 }
 
 // Appends who holds what is busy where a path ends.
@@ -504,20 +491,18 @@ fn push_answered(
     }
 }
 
-// What is told of a call after it was made.
-fn told_after(
+// Appends what a call did, or what is told of a refused one.
+fn push_ended(
     asked: Asked<'_>,
     world: &World,
     name: &TaskName,
     call: CallKind,
     before: &Before,
     outcome: &Result<Answer, Deny>,
-) -> Result<String, AllocError> {
-    let mut text = Draft::new(asked.alloc);
-    push_answered(asked, world, name, outcome, &mut text);
-    text.push_draft(&before.text);
+    text: &mut Draft,
+) {
     match outcome {
-        Ok(_) => push_effect(asked, world, call, before, &mut text),
+        Ok(_) => push_effect(asked, world, call, before, text),
         Err(deny) => {
             let refusal = Refusal {
                 world,
@@ -526,28 +511,59 @@ fn told_after(
                 before,
                 namespace: blocking(world, name, call),
             };
-            push_refusal(asked, refusal, &mut text);
+            push_refusal(asked, refusal, text);
         }
     }
-    text.end()
 }
 
-// A call explained, and made.
-fn explain_call(
-    asked: Asked<'_>,
-    kernel: &mut Kernel,
-    name: &TaskName,
-    call: Call,
-) -> Result<String, AllocError>
-    ensures { OnOk result ((outcome : Result Answer Deny)
-        × Ends kernel_world kernel.old name.now (call_of call) outcome kernel.new) }
-{
-    let before = told_before(asked, kernel.world(), name, &call);
-    let kind = call.kind();
-    let outcome = kernel.call(name, call);
-    let told = told_after(asked, kernel.world(), name, kind, &before, &outcome);
-    drop(before);
-    told
+// A line as it is explained: what was told of it so far.
+#[derive(Drop)]
+struct Explanation<'a> {
+    asked: Asked<'a>,
+    before: Before,
+    text: Draft,
+}
+
+impl<'a> Explanation<'a> {
+    // Nothing is told yet.
+    fn new(asked: Asked<'a>) -> Self {
+        Explanation {
+            asked,
+            before: Before::new(asked.alloc),
+            text: Draft::new(asked.alloc),
+        }
+    }
+}
+
+impl Teller<Kernel> for Explanation<'_> {
+    fn before(&mut self, kernel: &Kernel, name: &TaskName, call: &Call) {
+        self.before.tell(self.asked, kernel.world(), name, call);
+    }
+
+    fn after(
+        &mut self,
+        kernel: &Kernel,
+        name: TaskName,
+        kind: CallKind,
+        outcome: &Result<Answer, Deny>,
+    ) {
+        let world = kernel.world();
+        push_answered(self.asked, world, &name, outcome, &mut self.text);
+        self.text.push_draft(&self.before.text);
+        push_ended(
+            self.asked,
+            world,
+            &name,
+            kind,
+            &self.before,
+            outcome,
+            &mut self.text,
+        );
+    }
+
+    fn alone(&mut self, outcome: &Result<Answer, Deny>) {
+        push_head(self.asked, outcome, &[], &mut self.text);
+    }
 }
 
 /// Explains a line in the world before it, and answers it: the world is then the one that a run has behind the line.
@@ -560,8 +576,8 @@ pub fn explain(
     line: Numbered<'_>,
     format: Format,
 ) -> Result<String, AllocError>
-    ensures { OnOk result (HasNumbers (kernel_world kernel.old)
-        → IsLeftBy (version_of version) (kernel_world kernel.old) line.entry.text.now (kernel_world kernel.new)) }
+    ensures { HasNumbers (kernel_world kernel.old)
+        → IsLeftBy (version_of version) (kernel_world kernel.old) line.entry.text.now (kernel_world kernel.new) }
 {
     let asked = Asked {
         version,
@@ -569,10 +585,9 @@ pub fn explain(
         line,
         format,
     };
-    match Line::parse_as(version, alloc, line.text) {
-        Ok(Line::Silent) => Ok(String::new(alloc)),
-        Ok(Line::Call(name, call)) => explain_call(asked, kernel, &name, call),
-        Ok(Line::Ask(directive)) => told_alone(asked, &kernel.direct(directive)),
-        Err(deny) => told_alone(asked, &Err(deny)),
-    }
+    let mut explanation = Explanation::new(asked);
+    answer_told(version, alloc, kernel, line.text, &mut explanation);
+    let told = explanation.text.end();
+    drop(explanation.before);
+    told
 }

@@ -6,3 +6,4 @@ pub mod lines;
 pub mod proposal;
 pub mod reached;
 pub mod reading;
+pub mod told;

@@ -7,10 +7,12 @@ use std::test::Fail;
 use std::{env, fs};
 use vt_commands::{Fault, Pace, obey, status, words};
 
-fn owned(alloc: Global, words: &[&str]) -> Result<Vec<String>, AllocError> {
+fn owned(alloc: Global, parts: &[&[&str]]) -> Result<Vec<String>, AllocError> {
     let mut all = Vec::new(alloc);
-    for word in words {
-        all.push(word.to_string(alloc)?)?;
+    for words in parts {
+        for word in *words {
+            all.push(word.to_string(alloc)?)?;
+        }
     }
     Ok(all)
 }
@@ -70,7 +72,7 @@ const FAULTS: [(&[&str], u8, &str); 10] = [
 fn faults_name_what_failed_and_what_to_do(rt: HostRuntime) -> Result<(), Fail> {
     for (words, wanted, text) in FAULTS {
         let mut output = Vec::new(rt.alloc());
-        let words = owned(rt.alloc(), words)?;
+        let words = owned(rt.alloc(), &[words])?;
         let outcome = obey(&rt, words.as_slice(), Pace::Blocks, &mut output);
         assert_eq!(rt; status(&outcome), wanted);
         assert!(rt; output.is_empty());
@@ -80,51 +82,145 @@ fn faults_name_what_failed_and_what_to_do(rt: HostRuntime) -> Result<(), Fail> {
     Ok(())
 }
 
-#[test]
-fn run_answers_the_script_in_the_file(rt: HostRuntime) -> Result<(), Fail> {
-    let alloc = rt.alloc();
-    let folder = env::temp_dir(&rt)?;
-    let file = format!(in alloc; "{}/vtree-test-of-run.vt", folder.as_str())?;
-    fs::write(&rt, file.as_str(), "t mkdir /d\nt ls /\n")?;
-    let mut output = Vec::new(alloc);
-    let outcome = obey(
-        &rt,
-        owned(alloc, &["vtree", "run", file.as_str()])?.as_slice(),
-        Pace::Lines,
-        &mut output,
-    );
-    fs::remove_file(&rt, file.as_str())?;
-    assert_eq!(rt; status(&outcome), 0);
-    assert_eq!(rt; output.as_slice(), b"1 ok\n2 ok d\n".as_slice());
-    Ok(())
+// What a command writes: all of it, its beginning, its end, or a part.
+#[derive(Clone, Copy)]
+enum Written {
+    Whole(&'static str),
+    Begin(&'static str),
+    End(&'static str),
+    Part(&'static str),
+}
+
+impl Written {
+    fn is(self, text: &str) -> bool {
+        match self {
+            Written::Whole(whole) => text == whole,
+            Written::Begin(begin) => text.starts_with(begin),
+            Written::End(end) => text.ends_with(end),
+            Written::Part(part) => text.contains(part),
+        }
+    }
+}
+
+// A file, a command that is given it after these words, its exit status, what it writes, and what the file holds then.
+struct Case {
+    file: &'static str,
+    words: &'static [&'static str],
+    status: u8,
+    written: Written,
+    left: &'static str,
+}
+
+const NOSYMFOLLOW: &str = "t mkdir /a\nt mount plain /a ro,nosymfollow\n";
+
+const WANTED: &str = "# one\nt ls / => ok a\n";
+
+static CASES: [Case; 11] = [
+    Case {
+        file: "t mkdir /d\nt ls /\n",
+        words: &["run"],
+        status: 0,
+        written: Written::Whole("1 ok\n2 ok d\n"),
+        left: "t mkdir /d\nt ls /\n",
+    },
+    Case {
+        file: NOSYMFOLLOW,
+        words: &["run"],
+        status: 0,
+        written: Written::Whole("1 ok\n2 deny 22 EINVAL S1\n"),
+        left: NOSYMFOLLOW,
+    },
+    Case {
+        file: NOSYMFOLLOW,
+        words: &["run", "--script", "2"],
+        status: 0,
+        written: Written::Whole("1 ok\n2 ok\n"),
+        left: NOSYMFOLLOW,
+    },
+    Case {
+        file: NOSYMFOLLOW,
+        words: &["check"],
+        status: 1,
+        written: Written::Begin("error[S1]"),
+        left: NOSYMFOLLOW,
+    },
+    Case {
+        file: NOSYMFOLLOW,
+        words: &["check", "--script", "2"],
+        status: 0,
+        written: Written::Whole(""),
+        left: NOSYMFOLLOW,
+    },
+    Case {
+        file: NOSYMFOLLOW,
+        words: &["test"],
+        status: 1,
+        written: Written::End("0 passed, 1 failed\n"),
+        left: NOSYMFOLLOW,
+    },
+    Case {
+        file: NOSYMFOLLOW,
+        words: &["test", "--script", "2"],
+        status: 0,
+        written: Written::Whole("1 passed, 0 failed\n"),
+        left: NOSYMFOLLOW,
+    },
+    Case {
+        file: NOSYMFOLLOW,
+        words: &["show", "--script", "2"],
+        status: 0,
+        written: Written::Part("ro,nosymfollow"),
+        left: NOSYMFOLLOW,
+    },
+    Case {
+        file: "t mkdri /d\n",
+        words: &["check"],
+        status: 1,
+        written: Written::Begin("error[S1]: no call `mkdri`\n"),
+        left: "t mkdri /d\n",
+    },
+    Case {
+        file: WANTED,
+        words: &["test"],
+        status: 1,
+        written: Written::End("0 passed, 1 failed\n"),
+        left: WANTED,
+    },
+    Case {
+        file: WANTED,
+        words: &["test", "--write"],
+        status: 0,
+        written: Written::End(": 1 answers written\n"),
+        left: "# one\nt ls / => ok\n",
+    },
+];
+
+// The exit status of a command that is given a file, and what it writes.
+fn ended(rt: &HostRuntime, words: &[&str], file: &str) -> Result<(u8, Vec<u8>), Fail> {
+    let mut output = Vec::new(rt.alloc());
+    let words = owned(rt.alloc(), &[&["vtree"], words, &[file]])?;
+    let outcome = obey(rt, words.as_slice(), Pace::Lines, &mut output);
+    Ok((status(&outcome), output))
+}
+
+// Whether a case comes out as it is wanted.
+fn is_as_wanted(rt: &HostRuntime, case: &Case, file: &str) -> Result<bool, Fail> {
+    fs::write(rt, file, case.file)?;
+    let (code, output) = ended(rt, case.words, file)?;
+    let left = fs::read_to_string(rt, file)?;
+    fs::remove_file(rt, file)?;
+    let text = str::from_utf8(output.as_slice()).unwrap_or_default();
+    Ok(code == case.status && case.written.is(text) && left.as_str() == case.left)
 }
 
 #[test]
-fn script_says_the_version_of_each_command(rt: HostRuntime) -> Result<(), Fail> {
+fn commands_write_what_they_find(rt: HostRuntime) -> Result<(), Fail> {
     let folder = env::temp_dir(&rt)?;
-    let file = format!(in rt.alloc(); "{}/vtree-test-of-script.vt", folder.as_str())?;
-    let file = file.as_str();
-    fs::write(&rt, file, "t mkdir /a\nt mount plain /a ro,nosymfollow\n")?;
-    let (first, answers) = ended(&rt, &["vtree", "run", file])?;
-    assert_eq!(rt; first, 0);
-    assert_eq!(rt;
-        answers.as_slice(),
-        b"1 ok\n2 deny 22 EINVAL S1\n".as_slice()
-    );
-    let (second, answers) = ended(&rt, &["vtree", "run", "--script", "2", file])?;
-    assert_eq!(rt; second, 0);
-    assert_eq!(rt; answers.as_slice(), b"1 ok\n2 ok\n".as_slice());
-    for (command, code) in [("check", 1), ("test", 1)] {
-        assert_eq!(rt; ended(&rt, &["vtree", command, file])?.0, code);
-        assert_eq!(rt;
-            ended(&rt, &["vtree", command, "--script", "2", file])?.0,
-            0
-        );
+    let file = format!(in rt.alloc(); "{}/vtree-test-of-commands.vt", folder.as_str())?;
+    for (index, case) in CASES.iter().enumerate() {
+        let is_wanted = is_as_wanted(&rt, case, file.as_str())?;
+        assert!(rt; is_wanted, "case {index}");
     }
-    let (_code, shown) = ended(&rt, &["vtree", "show", "--script", "2", file])?;
-    fs::remove_file(&rt, file)?;
-    let shown = str::from_utf8(shown.as_slice()).unwrap_or_default();
-    assert!(rt; shown.contains("ro,nosymfollow"));
     Ok(())
 }
 
@@ -137,7 +233,7 @@ fn answers_that_cannot_be_written_are_a_fault(rt: HostRuntime) -> Result<(), Fai
     let mut full = File::create(&rt, "/dev/full")?;
     let outcome = obey(
         &rt,
-        owned(alloc, &["vtree", "run", file.as_str()])?.as_slice(),
+        owned(alloc, &[&["vtree", "run", file.as_str()]])?.as_slice(),
         Pace::Blocks,
         &mut full,
     );
@@ -186,54 +282,5 @@ fn a_word_that_is_not_utf_8_is_told_so(rt: HostRuntime) -> Result<(), Fail> {
             "a word is not UTF-8; a script with such a name is given as `vtree run - < FILE`"
         )
     );
-    Ok(())
-}
-
-// The exit status of these words, and what they write.
-fn ended(rt: &HostRuntime, words: &[&str]) -> Result<(u8, Vec<u8>), Fail> {
-    let mut output = Vec::new(rt.alloc());
-    let words = owned(rt.alloc(), words)?;
-    let outcome = obey(rt, words.as_slice(), Pace::Blocks, &mut output);
-    Ok((status(&outcome), output))
-}
-
-#[test]
-fn check_tells_what_is_wrong_with_a_file(rt: HostRuntime) -> Result<(), Fail> {
-    let folder = env::temp_dir(&rt)?;
-    let file = format!(in rt.alloc(); "{}/vtree-test-of-check.vt", folder.as_str())?;
-    fs::write(&rt, file.as_str(), "t mkdri /d\n")?;
-    let (code, output) = ended(&rt, &["vtree", "check", file.as_str()])?;
-    fs::remove_file(&rt, file.as_str())?;
-    assert_eq!(rt; code, 1);
-    assert!(rt;
-        output
-            .as_slice()
-            .starts_with(b"error[S1]: no call `mkdri`\n")
-    );
-    Ok(())
-}
-
-#[test]
-fn test_compares_the_answers_of_a_file(rt: HostRuntime) -> Result<(), Fail> {
-    let folder = env::temp_dir(&rt)?;
-    let file = format!(in rt.alloc(); "{}/vtree-test-of-test.vt", folder.as_str())?;
-    fs::write(&rt, file.as_str(), "# one\nt ls / => ok a\n")?;
-    let (code, output) = ended(&rt, &["vtree", "test", file.as_str()])?;
-    fs::remove_file(&rt, file.as_str())?;
-    assert_eq!(rt; code, 1);
-    assert!(rt; output.as_slice().ends_with(b"0 passed, 1 failed\n"));
-    Ok(())
-}
-
-#[test]
-fn test_writes_the_given_answers_into_a_file(rt: HostRuntime) -> Result<(), Fail> {
-    let folder = env::temp_dir(&rt)?;
-    let file = format!(in rt.alloc(); "{}/vtree-test-of-write.vt", folder.as_str())?;
-    fs::write(&rt, file.as_str(), "# one\nt ls / => ok a\n")?;
-    let (code, _output) = ended(&rt, &["vtree", "test", "--write", file.as_str()])?;
-    let written = fs::read_to_string(&rt, file.as_str())?;
-    fs::remove_file(&rt, file.as_str())?;
-    assert_eq!(rt; code, 0);
-    assert!(rt; written.as_bytes() == b"# one\nt ls / => ok\n".as_slice());
     Ok(())
 }

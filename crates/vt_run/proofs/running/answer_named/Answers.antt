@@ -1,8 +1,8 @@
 use Rattle.std.proofs.Common.{◌≡◌, [], ap, ◌∙◌}
 use Rattle.std.specs.Io.KnownBytes.{append_known}
 use Rattle.vt_line.specs.Versions.{version_of}
-use Rattle.vt_commands.proofs.HandedOn.{handed_on, known_mapped}
-use Rattle.vt_commands.proofs.order.answer_named.Goals as goal
+use Rattle.vt_run.proofs.HandedOn.{handed_on, known_mapped}
+use Rattle.vt_run.proofs.running.answer_named.Goals as goal
 
 pub returns-in-Ok-Ok-clause-answers : goal.returns-in-Ok-Ok-clause-answers
 returns-in-Ok-Ok-clause-answers g c =

@@ -1,9 +1,9 @@
 -- The exit status of the program (profile), and the faults that come before anything is written.
 use Rattle.std.specs.Prelude.{ℕ, ◌≡◌, Result, Ok, Err, Bool, true, false}
-use Rattle.vt_commands.specs.declared.fault.Fault.{Fault}
+use Rattle.vt_run.specs.declared.fault.Fault.{Fault}
 use Rattle.vt_line.specs.declared.fault.RunFault.{RunFault}
 use Rattle.vt_line.specs.declared.fault.RunFault.TheVariants.{Memory}
-use Rattle.vt_commands.specs.declared.fault.Fault.TheVariants.{Words, Help, Open, Read, Write, Found, Run}
+use Rattle.vt_run.specs.declared.fault.Fault.TheVariants.{Words, Help, Open, Read, Write, Found, Run}
 
 -- 0 where all is well: of a run, all was read and answered, denials included; 2 where the words are refused or ask for help; else 1
 abbrev pub status_of : {T : Type 0} → Result T Fault → ℕ

@@ -1,6 +1,6 @@
 //! Why the program stops before all was answered, and its exit status.
 ghost use Rattle.std.specs.Prelude.{◌≡◌};
-ghost use Rattle.vt_commands.specs.Status.{status_of};
+ghost use Rattle.vt_run.specs.Status.{status_of};
 
 use std::io;
 use thiserror::Error;
@@ -43,4 +43,11 @@ pub fn status(outcome: &Result<(), Fault>) -> u8
         Err(Fault::Open { .. } | Fault::Read { .. } | Fault::Write { .. }) => 1,
         Err(Fault::Found | Fault::Run(_)) => 1,
     }
+}
+
+/// Whatever failed, it was for want of memory.
+pub fn out_of_memory<E: Drop>(_error: E) -> Fault
+    ensures { result ≡ Fault.Run RunFault.Memory }
+{
+    Fault::Run(RunFault::Memory)
 }

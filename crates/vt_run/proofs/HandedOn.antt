@@ -3,7 +3,7 @@ use Rattle.std.proofs.Common.{◌≡◌, ℕ, true≢false, List, [], Option, No
 use Rattle.std.specs.Prelude.{MatchResult, is_ok}
 use Rattle.std.specs.Io.KnownBytes.{Keeps, append_known}
 use Rattle.vt_spec.specs.Language.Script.{Version}
-use Rattle.vt_commands.specs.Answered.{AnswersKnown}
+use Rattle.vt_run.specs.Answered.{AnswersKnown}
 
 -- a value is known as before its error was mapped
 pub known_mapped :

@@ -1,0 +1,231 @@
+//! The command line: what each command takes, as tables.
+use clap::{Arg, ArgAction, Command};
+use std::alloc::{AllocError, Global};
+
+/// The version of the program and of what a script may say.
+pub const VERSION: &str = "0.4.0";
+
+const ABOUT: &str =
+    "Answers calls on a file tree as Linux would, with the rule by which each is granted or refused";
+
+const STATUSES: &str = "Exit status:
+  0  all is well; of run: all was read and answered, denials included
+  1  something was found, a file cannot be read or written, or there was no memory at the start
+  2  the words are refused, or ask for help or the version";
+
+// How an argument is written.
+#[derive(Clone, Copy)]
+enum Form {
+    /// `-W`
+    Letter(char),
+    /// `--write`
+    Flag,
+    /// `--at LINE`
+    Word(&'static str),
+    /// `--script VERSION`, one of some words; the first where it is left out.
+    OneOf(&'static str, &'static [&'static str]),
+    /// `[NAME]`
+    Optional,
+    /// `FILE`
+    Required,
+    /// `FILE..`
+    Several,
+}
+
+// What a command takes, by the name under which it is read.
+#[derive(Clone, Copy)]
+struct Argument {
+    name: &'static str,
+    form: Form,
+    help: &'static str,
+}
+
+// A command, and what it takes.
+#[derive(Clone, Copy)]
+struct Taking {
+    name: &'static str,
+    about: &'static str,
+    arguments: &'static [Argument],
+}
+
+const FILE: Argument = Argument {
+    name: "FILE",
+    form: Form::Required,
+    help: "The script, one call of a task a line; - is standard input",
+};
+
+const FILES: Argument = Argument {
+    name: "FILE",
+    form: Form::Several,
+    help: "The scripts; - is standard input",
+};
+
+const SCRIPT: Argument = Argument {
+    name: "script",
+    form: Form::OneOf("VERSION", &["1", "2"]),
+    help: "The version of the scripts' language; 2 has the flag nosymfollow too",
+};
+
+const FORMAT: &str = "The form of what is written; json is one object a line";
+
+static COMMANDS: [Taking; 7] = [
+    Taking {
+        name: "run",
+        about: "Answers each line of a script",
+        arguments: &[SCRIPT, FILE],
+    },
+    Taking {
+        name: "check",
+        about: "Tells what is wrong with the lines of scripts, and runs nothing",
+        arguments: &[
+            Argument {
+                name: "warnings",
+                form: Form::Letter('W'),
+                help: "Warnings are errors",
+            },
+            SCRIPT,
+            Argument {
+                name: "format",
+                form: Form::OneOf("FORM", &["text", "json"]),
+                help: FORMAT,
+            },
+            FILES,
+        ],
+    },
+    Taking {
+        name: "test",
+        about: "Runs scripts that hold the answers that they want, and compares",
+        arguments: &[
+            Argument {
+                name: "write",
+                form: Form::Flag,
+                help: "Puts the given answers into the files",
+            },
+            SCRIPT,
+            Argument {
+                name: "format",
+                form: Form::OneOf("FORM", &["text", "json", "junit"]),
+                help: FORMAT,
+            },
+            FILES,
+        ],
+    },
+    Taking {
+        name: "show",
+        about: "Shows tasks, mounts, peer groups and trees as they are at a line of a script",
+        arguments: &[
+            Argument {
+                name: "at",
+                form: Form::Word("LINE"),
+                help: "Before this line is answered; after all lines where it is left out",
+            },
+            Argument {
+                name: "task",
+                form: Form::Word("TASK"),
+                help: "This task alone, with the mounts of its namespace",
+            },
+            Argument {
+                name: "files",
+                form: Form::Flag,
+                help: "The trees of the filesystems too",
+            },
+            SCRIPT,
+            Argument {
+                name: "format",
+                form: Form::OneOf("FORM", &["text", "json", "dot"]),
+                help: FORMAT,
+            },
+            FILE,
+        ],
+    },
+    Taking {
+        name: "explain",
+        about: "Explains why a line of a script is answered as it is",
+        arguments: &[
+            SCRIPT,
+            Argument {
+                name: "format",
+                form: Form::OneOf("FORM", &["text", "json"]),
+                help: FORMAT,
+            },
+            FILE,
+            Argument {
+                name: "LINE",
+                form: Form::Required,
+                help: "The number of the line, from 1",
+            },
+        ],
+    },
+    Taking {
+        name: "rules",
+        about: "Tells of the rules that refuse calls",
+        arguments: &[
+            Argument {
+                name: "markdown",
+                form: Form::Flag,
+                help: "All rules as a page of the documentation",
+            },
+            Argument {
+                name: "WORD",
+                form: Form::Optional,
+                help: "A rule, the name of an error, or a call; all rules where it is left out",
+            },
+        ],
+    },
+    Taking {
+        name: "new",
+        about: "Writes an example as a script that holds the answers that it wants",
+        arguments: &[Argument {
+            name: "NAME",
+            form: Form::Optional,
+            help: "The example, which becomes the file NAME.vt; all are listed where it is left out",
+        }],
+    },
+];
+
+// An argument, as clap has it.
+fn argument_of<'a>(alloc: Global, argument: &Argument) -> Arg<'a> {
+    let name = argument.name;
+    let written = Arg::new(alloc, name).help(argument.help);
+    match argument.form {
+        Form::Letter(letter) => written.short(letter).action(ArgAction::SetTrue),
+        Form::Flag => written.long(name).action(ArgAction::SetTrue),
+        Form::Word(word) => written.long(name).value_name(word),
+        Form::OneOf(word, words) => one_of(written.long(name).value_name(word), words),
+        Form::Optional => written,
+        Form::Required => written.required(true),
+        Form::Several => written.required(true).num_args(1..),
+    }
+}
+
+// An argument that is one of these words, and the first where it is left out.
+fn one_of<'a>(argument: Arg<'a>, words: &'a [&'a str]) -> Arg<'a> {
+    let first = words.first().copied().unwrap_or_default();
+    argument.value_parser(words).default_value(first)
+}
+
+// A command, as clap has it.
+fn command_of<'a>(alloc: Global, taking: &Taking) -> Result<Command<'a>, AllocError> {
+    let mut arguments = Vec::new(alloc);
+    for argument in taking.arguments {
+        arguments.push(argument_of(alloc, argument))?;
+    }
+    Command::new(alloc, taking.name)
+        .about(taking.about)
+        .args(arguments)
+}
+
+/// The command line.
+pub fn command_line<'a>(alloc: Global) -> Result<Command<'a>, AllocError> {
+    let mut commands = Vec::new(alloc);
+    for taking in &COMMANDS {
+        commands.push(command_of(alloc, taking)?)?;
+    }
+    Command::new(alloc, "vtree")
+        .version(VERSION)
+        .about(ABOUT)
+        .after_help(STATUSES)
+        .subcommand_required(true)
+        .arg_required_else_help(true)
+        .subcommands(commands)
+}
