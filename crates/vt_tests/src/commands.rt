@@ -7,12 +7,10 @@ use std::test::Fail;
 use std::{env, fs};
 use vt_commands::{Fault, Pace, obey, status, words};
 
-fn owned(alloc: Global, parts: &[&[&str]]) -> Result<Vec<String>, AllocError> {
+fn owned(alloc: Global, words: &[&str]) -> Result<Vec<String>, AllocError> {
     let mut all = Vec::new(alloc);
-    for words in parts {
-        for word in *words {
-            all.push(word.to_string(alloc)?)?;
-        }
+    for word in words {
+        all.push(word.to_string(alloc)?)?;
     }
     Ok(all)
 }
@@ -72,7 +70,7 @@ const FAULTS: [(&[&str], u8, &str); 10] = [
 fn faults_name_what_failed_and_what_to_do(rt: HostRuntime) -> Result<(), Fail> {
     for (words, wanted, text) in FAULTS {
         let mut output = Vec::new(rt.alloc());
-        let words = owned(rt.alloc(), &[words])?;
+        let words = owned(rt.alloc(), words)?;
         let outcome = obey(&rt, words.as_slice(), Pace::Blocks, &mut output);
         assert_eq!(rt; status(&outcome), wanted);
         assert!(rt; output.is_empty());
@@ -102,7 +100,7 @@ impl Written {
     }
 }
 
-// A file, a command that is given it after these words, its exit status, what it writes, and what the file holds then.
+// A file, the words before it on a command line, the exit status, what is written, and what the file holds then.
 struct Case {
     file: &'static str,
     words: &'static [&'static str],
@@ -118,77 +116,77 @@ const WANTED: &str = "# one\nt ls / => ok a\n";
 static CASES: [Case; 11] = [
     Case {
         file: "t mkdir /d\nt ls /\n",
-        words: &["run"],
+        words: &["vtree", "run"],
         status: 0,
         written: Written::Whole("1 ok\n2 ok d\n"),
         left: "t mkdir /d\nt ls /\n",
     },
     Case {
         file: NOSYMFOLLOW,
-        words: &["run"],
+        words: &["vtree", "run"],
         status: 0,
         written: Written::Whole("1 ok\n2 deny 22 EINVAL S1\n"),
         left: NOSYMFOLLOW,
     },
     Case {
         file: NOSYMFOLLOW,
-        words: &["run", "--script", "2"],
+        words: &["vtree", "run", "--script", "2"],
         status: 0,
         written: Written::Whole("1 ok\n2 ok\n"),
         left: NOSYMFOLLOW,
     },
     Case {
         file: NOSYMFOLLOW,
-        words: &["check"],
+        words: &["vtree", "check"],
         status: 1,
         written: Written::Begin("error[S1]"),
         left: NOSYMFOLLOW,
     },
     Case {
         file: NOSYMFOLLOW,
-        words: &["check", "--script", "2"],
+        words: &["vtree", "check", "--script", "2"],
         status: 0,
         written: Written::Whole(""),
         left: NOSYMFOLLOW,
     },
     Case {
         file: NOSYMFOLLOW,
-        words: &["test"],
+        words: &["vtree", "test"],
         status: 1,
         written: Written::End("0 passed, 1 failed\n"),
         left: NOSYMFOLLOW,
     },
     Case {
         file: NOSYMFOLLOW,
-        words: &["test", "--script", "2"],
+        words: &["vtree", "test", "--script", "2"],
         status: 0,
         written: Written::Whole("1 passed, 0 failed\n"),
         left: NOSYMFOLLOW,
     },
     Case {
         file: NOSYMFOLLOW,
-        words: &["show", "--script", "2"],
+        words: &["vtree", "show", "--script", "2"],
         status: 0,
         written: Written::Part("ro,nosymfollow"),
         left: NOSYMFOLLOW,
     },
     Case {
         file: "t mkdri /d\n",
-        words: &["check"],
+        words: &["vtree", "check"],
         status: 1,
         written: Written::Begin("error[S1]: no call `mkdri`\n"),
         left: "t mkdri /d\n",
     },
     Case {
         file: WANTED,
-        words: &["test"],
+        words: &["vtree", "test"],
         status: 1,
         written: Written::End("0 passed, 1 failed\n"),
         left: WANTED,
     },
     Case {
         file: WANTED,
-        words: &["test", "--write"],
+        words: &["vtree", "test", "--write"],
         status: 0,
         written: Written::End(": 1 answers written\n"),
         left: "# one\nt ls / => ok\n",
@@ -198,7 +196,8 @@ static CASES: [Case; 11] = [
 // The exit status of a command that is given a file, and what it writes.
 fn ended(rt: &HostRuntime, words: &[&str], file: &str) -> Result<(u8, Vec<u8>), Fail> {
     let mut output = Vec::new(rt.alloc());
-    let words = owned(rt.alloc(), &[&["vtree"], words, &[file]])?;
+    let mut words = owned(rt.alloc(), words)?;
+    words.push(file.to_string(rt.alloc())?)?;
     let outcome = obey(rt, words.as_slice(), Pace::Lines, &mut output);
     Ok((status(&outcome), output))
 }
@@ -233,7 +232,7 @@ fn answers_that_cannot_be_written_are_a_fault(rt: HostRuntime) -> Result<(), Fai
     let mut full = File::create(&rt, "/dev/full")?;
     let outcome = obey(
         &rt,
-        owned(alloc, &[&["vtree", "run", file.as_str()]])?.as_slice(),
+        owned(alloc, &["vtree", "run", file.as_str()])?.as_slice(),
         Pace::Blocks,
         &mut full,
     );
