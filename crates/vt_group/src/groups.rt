@@ -180,6 +180,7 @@ impl Groups {
     }
 
     // Adds the members and slaves of a group.
+    #[inline]
     fn add_relatives(&self, mounts: &mut Vec<MountId>, group: GroupId) -> Result<(), AllocError>
         ensures { OnOk result ((mount : ℕ) → is_noted mounts.new.items mount
             ≡ (receives_from self.now (nat_eq (group_number group)) (counted mount)
@@ -214,6 +215,7 @@ impl Groups {
     }
 
     // Adds the groups that have this one as their master.
+    #[inline]
     fn add_lowers(&self, found: &mut IndexSet<GroupId>, group: GroupId) -> Result<(), AllocError>
         ensures longer { OnOk result (IsLonger found.old.keys found.new.keys) }
         ensures lower { OnOk result ((one : ℕ) → is_in found.new.keys one ≡ true
@@ -248,6 +250,7 @@ impl Groups {
     }
 
     // Groups among which each is that has this one as its master.
+    #[inline]
     fn lowers(&self, group: GroupId) -> Listed<'_, GroupId>
         ensures { (one : ℕ) → master_in self.now one ≡ Some (group_number group) → is_in result one ≡ true }
     {

@@ -50,6 +50,7 @@ impl Index {
     }
 
     /// Mounts among which each member and each slave of a group is.
+    #[inline]
     pub(crate) fn relatives(&self, group: GroupId) -> Listed<'_, MountId>
         ensures { (mount : MountNumber) → is_relative self.now mount group ≡ true
             → list_any (same_id mount) result ≡ true }
@@ -58,6 +59,7 @@ impl Index {
     }
 
     /// Groups among which each is that has this one as its master.
+    #[inline]
     pub(crate) fn lowers(&self, group: GroupId) -> Listed<'_, GroupId>
         ensures { (lower : GroupNumber) → is_lower self.now lower group ≡ true
             → list_any (same_group lower) result ≡ true }

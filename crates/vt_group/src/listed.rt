@@ -49,7 +49,7 @@ impl<'a, T: Element> Iterator for Listed<'a, T> {
 
     ghost remaining = { item_count (λ rest. rest) };
 
-    #[inline]
+    #[inline(always)]
     fn next(&mut self) -> Option<T> {
         loop {
             if let Some((one, rest)) = self.here.split_first() {

@@ -1,5 +1,5 @@
 -- Texts printed in runs of plain bytes, with an escape after each.
-use Rattle.std.proofs.Common.{◌≡◌, ℕ, codes, suc, ◌<◌, ◌/◌, ◌%◌, cond, false, List, [], ◌∷◌, ◌++◌, length, map, All, IsTrue, slice_index, refl, sym, ap, ◌∙◌, arith, append_assoc}
+use Rattle.std.proofs.Common.{◌≡◌, ℕ, codes, decimal, suc, ◌<◌, ◌/◌, ◌%◌, cond, false, List, [], ◌∷◌, ◌++◌, length, map, All, IsTrue, slice_index, refl, sym, ap, ◌∙◌, arith, append_assoc}
 use Rattle.std.proofs.lemmas.List.{append-nil}
 use Rattle.std.proofs.lemmas.List.Concat.{flat_map-append}
 use Rattle.std.specs.List.{flat_map}
@@ -9,7 +9,7 @@ use Rattle.vt_spec.specs.Language.Answers.Answer.{Names}
 use Rattle.vt_spec.specs.Language.Answers.{StatLine}
 use Rattle.vt_spec.specs.declared.attributes.Kind.{Kind}
 use Rattle.vt_spec.specs.declared.attributes.Kind.TheVariants.{Dir, File, Symlink, White}
-use Rattle.vt_spec.specs.Language.Printed.{hex_digit, owner_words, printed_byte, printed_text, printed_value, spaced, stat_words}
+use Rattle.vt_spec.specs.Language.Printed.{hex_digit, owner_words, printed_byte, printed_line, printed_text, printed_value, spaced, stat_words}
 use Rattle.vt_line.specs.Printing.{further_words, kind_text, printed_names}
 
 abbrev pub escape : ℕ → List ℕ
@@ -37,6 +37,36 @@ printed-run : (plain others rest : List ℕ) → plain ++ others ≡ rest → Al
 printed-run plain others rest whole all =
     ap (flat_map printed_byte) (sym whole) ∙ flat_map-append printed_byte plain others
     ∙ ap (λ first. first ++ flat_map printed_byte others) (printed-plain plain all)
+
+-- a text of plain bytes is printed as it is
+pub printed_text-plain : (plain others text : List ℕ) → plain ++ others ≡ text
+    → All (λ byte. IsTrue (is_plain byte)) plain → length others ≡ 0 → 0 < length plain → printed_text text ≡ plain
+printed_text-plain plain [] text whole all none some =
+    ap printed_text (sym whole ∙ append-nil plain) ∙ printed_text-some plain some ∙ printed-plain plain all
+printed_text-plain plain (byte ∷ bytes) text whole all none some = absurd (omega arith)
+
+-- the line of an answer that is a text
+text_line : (digits text : List ℕ)
+    → digits ++ (codes " ok " ++ (text ++ codes "\n")) ≡ (digits ++ spaced (codes "ok" ∷ text ∷ [])) ++ codes "\n"
+text_line digits text = simp (append_assoc, append-nil)
+
+pub content_line : (digits plain text : List ℕ) (number : ℕ) → digits ≡ decimal number → printed_text text ≡ plain
+    → digits ++ (codes " ok " ++ (plain ++ codes "\n")) ≡ printed_line number (codes "ok" ∷ printed_text text ∷ [])
+content_line digits plain text number formatted printed =
+    ap (λ digits. digits ++ (codes " ok " ++ (plain ++ codes "\n"))) formatted
+    ∙ ap (λ text. decimal number ++ (codes " ok " ++ (text ++ codes "\n"))) (sym printed)
+    ∙ text_line (decimal number) (printed_text text)
+
+-- the first line of an answer
+ok_line : (digits rest : List ℕ)
+    → (digits ++ codes " ok") ++ (rest ++ codes "\n") ≡ (digits ++ (codes " ok" ++ rest)) ++ codes "\n"
+ok_line digits rest = simp append_assoc
+
+pub answer_line : (digits : List ℕ) (words : List (List ℕ)) (number : ℕ) → digits ≡ decimal number
+    → (digits ++ codes " ok") ++ (spaced words ++ codes "\n") ≡ printed_line number (codes "ok" ∷ words)
+answer_line digits words number formatted =
+    ap (λ digits. (digits ++ codes " ok") ++ (spaced words ++ codes "\n")) formatted
+    ∙ ok_line (decimal number) (spaced words)
 
 -- what is printed so far, a run, and what comes after it
 pub printed-front : (done plain others rest text : List ℕ)

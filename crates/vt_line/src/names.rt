@@ -27,6 +27,7 @@ impl PathCall {
     ghost use Rattle.vt_line.specs.Names.{path_call};
 
     /// The call with its path.
+    #[inline(always)]
     pub fn call(self, path: Vec<u8>) -> Call
         ensures { call_of result ≡ path_call self path.items }
     {
@@ -64,6 +65,7 @@ impl PairCall {
     ghost use Rattle.vt_line.specs.Names.{pair_call};
 
     /// The call with its two words.
+    #[inline(always)]
     pub fn call(self, first: Vec<u8>, second: Vec<u8>) -> Call
         ensures { call_of result ≡ pair_call self first.items second.items }
     {

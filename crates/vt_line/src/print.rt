@@ -1,6 +1,6 @@
 //! How answers are printed, without taking memory.
 ghost use Rattle.std.specs.List.{flat_map};
-ghost use Rattle.std.specs.Prelude.{◌≡◌, ◌+◌, ◌/◌, ◌%◌, ◌^◌, ◌<◌, [], ◌∷◌, ◌++◌, decimal, false, length, slice_index, All, IsTrue, IfErr};
+ghost use Rattle.std.specs.Prelude.{◌≡◌, ◌+◌, ◌/◌, ◌%◌, ◌^◌, ◌<◌, [], ◌∷◌, ◌++◌, codes, decimal, false, length, slice_index, All, IsTrue, IfErr};
 ghost use Rattle.vt_spec.specs.Language.Printed.{hex_digit, owner_words, printed_byte, printed_line, printed_mode, printed_rows, printed_task, printed_text, printed_value, reply_line, spaced, stat_words};
 ghost use Rattle.vt_spec.specs.Language.Script.{is_plain};
 ghost use Rattle.vt_io.specs.Sink.{Prints};
@@ -199,31 +199,60 @@ fn write_value<W: Sink>(sink: &mut W, answer: &Answer) -> Result<(), SinkFailed>
     }
 }
 
-/// A refusal: the error's number and name, and the rule.
-fn write_denial<W: Sink>(sink: &mut W, deny: &Deny) -> Result<(), SinkFailed>
+/// The line of a call that is done.
+fn write_done<W: Sink>(sink: &mut W, number: u64) -> Result<(), SinkFailed>
     requires countable { W.failures sink.old + 1 < 2 ^ 64 }
-    ensures printed { Prints W.Sink (spaced (reply_words (Err deny.now))) result sink.old sink.new }
+    ensures printed { Prints W.Sink (printed_line number (codes "ok" ∷ [])) result sink.old sink.new }
 {
     let mut buffer = Buffer::new();
-    let number = buffer.format(deny.errno.number()).as_bytes();
-    let error = deny.errno.name().as_bytes();
-    let rule = deny.rule.name().as_bytes();
-    write_parts(sink, &[b" deny ", number, b" ", error, b" ", rule])
+    write_parts(sink, &[buffer.format(number).as_bytes(), b" ok\n"])
 }
 
-/// What was answered.
-fn write_result<W: Sink>(sink: &mut W, outcome: &Result<Answer, Deny>) -> Result<(), SinkFailed>
+/// The line of an answer that is a text.
+fn write_content<W: Sink>(sink: &mut W, number: u64, text: &[u8]) -> Result<(), SinkFailed>
     requires countable { W.failures sink.old + 1 < 2 ^ 64 }
-    ensures printed { let text = spaced (reply_words (result_of outcome.now)) in
-        Prints W.Sink text result sink.old sink.new }
+    ensures printed { let words = codes "ok" ∷ printed_text text.now ∷ [] in
+        Prints W.Sink (printed_line number words) result sink.old sink.new }
 {
-    match outcome {
-        Ok(answer) => {
-            write_all(sink, b" ok")?;
-            write_value(sink, answer)
-        }
-        Err(deny) => write_denial(sink, deny),
+    let mut buffer = Buffer::new();
+    let digits = buffer.format(number).as_bytes();
+    let (plain, others) = split_plain(text);
+    if others.is_empty() && !plain.is_empty() {
+        return write_parts(sink, &[digits, b" ok ", plain, b"\n"]);
     }
+    write_parts(sink, &[digits, b" ok "])?;
+    write_text(sink, text)?;
+    write_all(sink, b"\n")
+}
+
+/// The first line of an answer.
+fn write_answer<W: Sink>(sink: &mut W, number: u64, answer: &Answer) -> Result<(), SinkFailed>
+    requires countable { W.failures sink.old + 1 < 2 ^ 64 }
+    ensures printed { let words = codes "ok" ∷ printed_value (answer_of answer.now) in
+        Prints W.Sink (printed_line number words) result sink.old sink.new }
+{
+    let mut buffer = Buffer::new();
+    write_parts(sink, &[buffer.format(number).as_bytes(), b" ok"])?;
+    write_value(sink, answer)?;
+    write_all(sink, b"\n")
+}
+
+/// The line of a refusal: the error's number and name, and the rule.
+fn write_denial<W: Sink>(sink: &mut W, number: u64, deny: &Deny) -> Result<(), SinkFailed>
+    requires countable { W.failures sink.old + 1 < 2 ^ 64 }
+    ensures printed { let words = reply_words (Err deny.now) in
+        Prints W.Sink (printed_line number words) result sink.old sink.new }
+{
+    let mut buffer = Buffer::new();
+    let digits = buffer.format(number).as_bytes();
+    let mut errno_buffer = Buffer::new();
+    let errno = errno_buffer.format(deny.errno.number()).as_bytes();
+    let error = deny.errno.name().as_bytes();
+    let rule = deny.rule.name().as_bytes();
+    write_parts(
+        sink,
+        &[digits, b" deny ", errno, b" ", error, b" ", rule, b"\n"],
+    )
 }
 
 /// The first line that answers the line of this number.
@@ -236,10 +265,12 @@ fn write_line<W: Sink>(
     ensures printed { let words = reply_words (result_of outcome.now) in
         Prints W.Sink (printed_line number words) result sink.old sink.new }
 {
-    let mut buffer = Buffer::new();
-    write_all(sink, buffer.format(number).as_bytes())?;
-    write_result(sink, outcome)?;
-    write_all(sink, b"\n")
+    match outcome {
+        Ok(Answer::Done) => write_done(sink, number),
+        Ok(Answer::Bytes(text)) => write_content(sink, number, text),
+        Ok(answer) => write_answer(sink, number, answer),
+        Err(deny) => write_denial(sink, number, deny),
+    }
 }
 
 /// The lines of a list behind the first, in the answer to the line of this number: one for each mount or peer group.

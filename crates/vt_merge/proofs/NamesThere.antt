@@ -31,7 +31,7 @@ one_passes {A} test (x ∷ xs) any = by (test x) refl any (one_passes test xs)
     by false e any rest = rest any
 
 -- a name that passes is one of those that do
-pub passes_there : (test : List ℕ → Bool) (name : List ℕ) (names : List (List ℕ)) → test name ≡ true
+passes_there : (test : List ℕ → Bool) (name : List ℕ) (names : List (List ℕ)) → test name ≡ true
     → list_any (is_name name) names ≡ true → list_any test names ≡ true
 passes_there test name [] passes there = absurd (true≢false (sym there))
 passes_there test name (first ∷ names) passes there =

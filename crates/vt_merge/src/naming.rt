@@ -2,20 +2,21 @@
 ghost use Rattle.std.specs.List.{list_any};
 ghost use Rattle.std.specs.List.Sorted.{IsPermutation};
 ghost use Rattle.std.specs.Ordering.{eq_by_cmp};
-ghost use Rattle.std.specs.Prelude.{◌≡◌, ◌≤◌, ◌++◌, ◌∷◌, [], IfOk, List, OnOk, is_some, length, map, not, ℕ};
+ghost use Rattle.std.specs.Prelude.{◌≡◌, ◌≤◌, ◌++◌, ◌∷◌, ◌&&◌, ◌||◌, [], IfOk, List, OnOk, is_some, length, map, not, ℕ};
 ghost use Rattle.vt_spec.specs.Lists.{is_empty_list};
 ghost use Rattle.vt_spec.specs.Machine.Layers.{names_shown};
 ghost use Rattle.vt_laws_trees.specs.Layers.Layers.Directories.{shown_in};
 ghost use Rattle.vt_spec.specs.Tree.{name_cmp, names_in};
 ghost use Rattle.vt_location.specs.Locations.{inode_of};
 ghost use Rattle.vt_fs.specs.FilesystemsValue.{files_at};
-ghost use Rattle.vt_merge.specs.LayerValue.{is_white_under, layers_of, names_had, own_names, placed_views};
+ghost use Rattle.vt_merge.specs.LayerValue.{is_white_under, layers_of, names_had, placed_views};
 
 use crate::entries::is_whiteout;
 use crate::layers::{LayerRef, MergedDirectory};
 use crate::merging::{MOST_LAYERS, entry_in, first_of, merge_at};
 use crate::ways::Way;
 use arrayvec::ArrayVec;
+use indexmap::IndexSet;
 use std::alloc::{AllocError, Global};
 use vt_fs::Filesystems;
 use vt_location::InodeRef;
@@ -94,8 +95,8 @@ fn shows_one(trees: &Filesystems, merged: &[MergedDirectory], names: &[Vec<u8>])
     false
 }
 
-// The names of all these directories under which they show something, in no order. Where no directory has a whiteout,
-// that is each of them, and none is looked for in the other directories.
+// The names of all these directories under which they show something, in no order. Only a name that leads to a whiteout
+// in one of them is looked for in the others.
 fn all_shown(
     alloc: Global,
     trees: &Filesystems,
@@ -106,10 +107,11 @@ fn all_shown(
         ≡ is_some (shown_in (placed_views trees.now merged.now) (name ∷ []))) }
 {
     let mut names = all_names(alloc, trees, merged)?;
-    if !have_whiteouts(trees, merged) {
+    let whiteouts = whiteouts_of(alloc, trees, merged)?;
+    if whiteouts.is_empty() {
         return Ok(names);
     }
-    names.retain(|name| shows(trees, merged, name.as_slice()));
+    names.retain(|name| is_shown(trees, merged, &whiteouts, name.as_slice()));
     Ok(names)
 }
 
@@ -150,35 +152,46 @@ fn shows(trees: &Filesystems, merged: &[MergedDirectory], name: &[u8]) -> bool
     }
 }
 
-// Whether one of these directories has a whiteout.
-fn have_whiteouts(trees: &Filesystems, merged: &[MergedDirectory]) -> bool
-    ensures { result ≡ list_any (λ top. list_any (is_white_under trees.now top) (own_names trees.now top)) merged.now }
+// The names that lead to a whiteout in one of these directories.
+fn whiteouts_of<'a>(
+    alloc: Global,
+    trees: &'a Filesystems,
+    merged: &[MergedDirectory],
+) -> Result<IndexSet<&'a [u8]>, AllocError>
+    ensures { IfOk result (λ whiteouts. (name : List ℕ)
+        → list_any (λ one. eq_by_cmp name_cmp name one.now) whiteouts.keys
+        ≡ list_any (λ top. is_white_under trees.now top name) merged.now) }
 {
+    let mut whiteouts = IndexSet::new(alloc);
     for top in merged {
-        if has_whiteout(trees, *top) {
-            return true;
-        }
+        add_whiteouts(
+            trees,
+            *top,
+            kept_names(trees, top.directory),
+            &mut whiteouts,
+        )?;
     }
-    false
+    Ok(whiteouts)
 }
 
-// Whether this directory has a whiteout.
-fn has_whiteout(trees: &Filesystems, top: MergedDirectory) -> bool
-    ensures { result ≡ list_any (is_white_under trees.now top) (own_names trees.now top) }
-{
-    has_whiteout_of(trees, top, kept_names(trees, top.directory))
-}
-
-// Whether one of these names of a directory leads to a whiteout.
-fn has_whiteout_of(trees: &Filesystems, top: MergedDirectory, names: &[Vec<u8>]) -> bool
-    ensures { result ≡ list_any (λ name. is_white_under trees.now top name.items) names.now }
+// Adds those of these names of a directory that lead to whiteouts.
+fn add_whiteouts<'a>(
+    trees: &Filesystems,
+    top: MergedDirectory,
+    names: &'a [Vec<u8>],
+    whiteouts: &mut IndexSet<&'a [u8]>,
+) -> Result<(), AllocError>
+    ensures { OnOk result ((name : List ℕ)
+        → list_any (λ one. eq_by_cmp name_cmp name one.now) whiteouts.new.keys
+        ≡ (list_any (λ one. eq_by_cmp name_cmp name one.now) whiteouts.old.keys
+        || (is_white_under trees.now top name && list_any (λ one. eq_by_cmp name_cmp name one.items) names.now))) }
 {
     for name in names {
         if is_whiteout_under(trees, top, name.as_slice()) {
-            return true;
+            whiteouts.insert(name.as_slice())?;
         }
     }
-    false
+    Ok(())
 }
 
 // Whether a name of a directory leads to a whiteout.
@@ -189,4 +202,17 @@ fn is_whiteout_under(trees: &Filesystems, top: MergedDirectory, name: &[u8]) -> 
         Some(found) => is_whiteout(trees, found.object),
         None => false,
     }
+}
+
+// Whether merged directories show something under a name of one of them, by the names that lead to whiteouts.
+fn is_shown(
+    trees: &Filesystems,
+    merged: &[MergedDirectory],
+    whiteouts: &IndexSet<&[u8]>,
+    name: &[u8],
+) -> bool
+    ensures { result ≡ (not (list_any (λ one. eq_by_cmp name_cmp name.now one.now) whiteouts.now.keys)
+        || is_some (shown_in (placed_views trees.now merged.now) (name.now ∷ []))) }
+{
+    !whiteouts.contains(&name) || shows(trees, merged, name)
 }
