@@ -25,7 +25,7 @@ use Rattle.vt_request.specs.declared.answer.Answer.{Answer}
 use Rattle.vt_request.specs.declared.answer.Answer.TheVariants.{Done}
 use Rattle.vt_laws_trees.proofs.runs.answered.AlikeWorlds.{sameness_is_an_equivalence}
 use Rattle.vt_laws_trees.specs.Runs.Handed.{counts_from}
-use Rattle.vt_detach.specs.Events.{Becomes, Permits, left_by, supply_of}
+use Rattle.vt_mounting.specs.Detach.Events.{Becomes, Permits, left_by, supply_of}
 use Rattle.vt_world.specs.Held.{IsHeld}
 use Rattle.vt_world.specs.WorldValue.{WorldValue, world_of}
 use Rattle.vt_ns.specs.OverlayMounts.{PermitsOverlay}

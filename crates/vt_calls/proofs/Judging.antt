@@ -26,7 +26,7 @@ use Rattle.vt_request.specs.declared.request.MountCall.TheVariants as mount
 use Rattle.vt_laws_trees.specs.Runs.Handed.{counts_from}
 use Rattle.vt_laws_trees.specs.Trees.Limits.{names_few_groups}
 use Rattle.vt_world.specs.Held.{IsHeld}
-use Rattle.vt_detach.specs.Looking.{looks_of_value, overfills_of}
+use Rattle.vt_mounting.specs.Detach.Looking.{looks_of_value, overfills_of}
 use Rattle.vt_world.specs.WorldValue.{WorldValue, world_of}
 use Rattle.vt_calls.proofs.Endings.{refused}
 use Rattle.vt_calls.proofs.OverlaysJudged.{judged_as_meant}

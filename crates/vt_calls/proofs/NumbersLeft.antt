@@ -10,7 +10,7 @@ use Rattle.vt_laws_rules.proofs.numbers.Supports.{calls_keep_to_numbers}
 use Rattle.vt_laws_worlds.proofs.one_text.same.SameNumbers.{any_same_worlds_keep_to_numbers}
 use Rattle.vt_laws_trees.specs.Runs.Handed.{counts_from, handed_from, may_be_given}
 use Rattle.vt_location.specs.Numbers.{inode_number}
-use Rattle.vt_detach.specs.Events.{next_inode, supply_of}
+use Rattle.vt_mounting.specs.Detach.Events.{next_inode, supply_of}
 use Rattle.vt_world.specs.Held.{IsHeld}
 use Rattle.vt_world.specs.WorldValue.{WorldValue, world_of}
 use Rattle.vt_answers.specs.Ends.{HasNumbers}

@@ -13,7 +13,7 @@ use Rattle.vt_world.proofs.overlays_made.Serves.{births_apart, supplies_for_over
 use Rattle.vt_laws_rules.specs.Numbers.{IsSuppliedFrom}
 use Rattle.vt_laws_trees.specs.Runs.Handed.{may_be_given}
 use Rattle.vt_overlay.specs.MergedTree.{AreLayers}
-use Rattle.vt_detach.specs.Events.{overlay_kept}
+use Rattle.vt_mounting.specs.Detach.Events.{overlay_kept}
 use Rattle.vt_world.specs.Held.{IsHeld}
 use Rattle.vt_world.specs.WorldValue.{WorldValue, world_of}
 use Rattle.vt_calls.proofs.NumbersLeft.{counts_given}

@@ -18,7 +18,7 @@ use Rattle.vt_spec.specs.Machine.World.{Overlay, Task, World}
 use Rattle.vt_laws_later_calls.proofs.limits.room.Counted.{overlays_ask_for_room}
 use Rattle.vt_laws_worlds.proofs.permits.taken.TakenJudged.{judgements_do_not_see_supplies}
 use Rattle.vt_laws_trees.specs.Runs.Handed.{counts_from}
-use Rattle.vt_detach.specs.Looking.{looks_of_value, overfills_of}
+use Rattle.vt_mounting.specs.Detach.Looking.{looks_of_value, overfills_of}
 use Rattle.vt_world.specs.WorldValue.{WorldValue, world_of}
 use Rattle.vt_calls.proofs.Tied.{judged_alike}
 

@@ -16,8 +16,8 @@ use Rattle.vt_permits.specs.GrantValue.{overlay_of, overlay_permit}
 use Rattle.vt_permits.specs.declared.grant.Grant.TheVariants as granting
 use Rattle.vt_permits.specs.declared.grant.ToMountOverlay.{ToMountOverlay}
 use Rattle.vt_request.specs.declared.answer.Answer.{Answer}
-use Rattle.vt_detach.specs.Events.{Becomes, left_by}
-use Rattle.vt_detach.proofs.OverlayGranted.{kept_few, kept_layers, overlay_names}
+use Rattle.vt_mounting.specs.Detach.Events.{Becomes, left_by}
+use Rattle.vt_mounting.proofs.detach.OverlayGranted.{kept_few, kept_layers, overlay_names}
 use Rattle.vt_world.specs.WorldValue.{WorldValue, world_of}
 use Rattle.vt_ns.specs.OverlayMounts.{MountsOverlay, PermitsOverlay}
 use Rattle.vt_calls.proofs.Endings.{changed, permitted}

@@ -18,7 +18,7 @@ use Rattle.vt_laws_trees.proofs.runs.handed.Counts.{counts_serve}
 use Rattle.vt_laws_trees.proofs.runs.handed.InodesAllotted.{allotted_numbers_serve}
 use Rattle.vt_laws_trees.specs.Runs.Handed.{counts_from, handed_from, may_be_given}
 use Rattle.vt_laws_trees.specs.Runs.Runs.{ServesInHand}
-use Rattle.vt_detach.specs.Events.{Permits, next_inode, supply_of}
+use Rattle.vt_mounting.specs.Detach.Events.{Permits, next_inode, supply_of}
 use Rattle.vt_world.specs.Held.{IsHeld}
 use Rattle.vt_ns.specs.Vacancy.{IsVacant, NextInodeIsVacant, NextRootIsVacant}
 use Rattle.vt_world.specs.WorldValue.{WorldValue, world_of}

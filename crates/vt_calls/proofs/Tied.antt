@@ -7,7 +7,7 @@ use Rattle.vt_spec.specs.Machine.Judge.{bind_permit, judge, judge_in, mount_plai
 use Rattle.vt_spec.specs.Machine.World.{Task}
 use Rattle.vt_laws_trees.specs.Runs.Handed.{counts_from}
 use Rattle.vt_laws_trees.specs.Trees.Calls.{mounts_overlay}
-use Rattle.vt_detach.specs.Looking.{looks_of_value, overfills_of}
+use Rattle.vt_mounting.specs.Detach.Looking.{looks_of_value, overfills_of}
 use Rattle.vt_world.specs.WorldValue.{WorldValue, world_of}
 
 pub judged_alike : (value : WorldValue) (task : Task ℕ) (call : Call) → mounts_overlay call ≡ false

@@ -20,7 +20,7 @@ use Rattle.vt_location.specs.Births.{born_in}
 use Rattle.vt_location.specs.Locations.{number_of, plain_at, plain_of}
 use Rattle.vt_location.specs.Numbers.{counted, exchanged, inode_number, is_inode_of}
 use Rattle.vt_location.proofs.NumberLemmas.{counted_inode, exchanged_back, no_slot}
-use Rattle.vt_tree.specs.TreeValue.{TreeValue, inodes_of}
+use Rattle.vt_fs.specs.Trees.TreeValue.{TreeValue, inodes_of}
 use Rattle.vt_fs.specs.FilesystemsValue.{ChangesInodes, FilesystemEntry, Filesystems, IsNowhere, entry_of, files_at, inodes_at, inodes_seen, no_entry, seen_in, with_tree}
 use Rattle.vt_fs.specs.Laws.{LieUnderRoot, is_lost_under}
 use Rattle.vt_fs.proofs.Standing.{Standing, at_look, changes_seen, entry_nowhere, kept, nothing_changes}

@@ -6,8 +6,8 @@ use Rattle.vt_spec.specs.FileTree.{named_parent, own_name, path_down}
 use Rattle.vt_spec.specs.Lists.{before_first, chain, is_among, when}
 use Rattle.vt_spec.specs.Inodes.{tree_of as tree_of_inodes}
 use Rattle.vt_spec.specs.Tree.{is_directory_node}
-use Rattle.vt_tree.specs.Paths.{NamesDirectoriesOnce, files_of, path_in}
-use Rattle.vt_tree.specs.TreeValue.{TreeValue, inodes_of, tree_of}
+use Rattle.vt_fs.specs.Trees.Paths.{NamesDirectoriesOnce, files_of, path_in}
+use Rattle.vt_fs.specs.Trees.TreeValue.{TreeValue, inodes_of, tree_of}
 use Rattle.vt_location.specs.declared.locations.NodeRef.{NodeRef}
 use Rattle.vt_location.specs.Births.{born_in}
 use Rattle.vt_location.specs.Locations.{number_of}

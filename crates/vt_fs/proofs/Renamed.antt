@@ -8,7 +8,7 @@ use Rattle.vt_spec.specs.Tree.{Node, parent_in}
 use Rattle.vt_spec.specs.TreeInvariant.{entry_at}
 use Rattle.vt_laws_rules.specs.Renaming.{Renaming, renamed_change}
 use Rattle.vt_laws_rules.proofs.numbers.Commuting.{Named, commutes_nat, node_itself, option_itself, inode_itself, change_itself}
-use Rattle.vt_tree.specs.Paths.{path_in}
+use Rattle.vt_fs.specs.Trees.Paths.{path_in}
 use Rattle.vt_location.specs.Numbers.{exchanged}
 use Rattle.vt_location.proofs.NumberLemmas.{exchanged_back}
 

@@ -11,8 +11,8 @@ use Rattle.vt_spec.specs.Fits.{MayReplace, StaysOutside}
 use Rattle.vt_spec.specs.Tree.{Entries, Node, entries_in, is_directory_node, parent_in}
 use Rattle.vt_spec.specs.TreeInvariant.{IsDirectory, entry_at as number_at}
 use Rattle.vt_location.specs.Numbers.{exchanged}
-use Rattle.vt_tree.specs.Paths.{path_in}
-use Rattle.vt_tree.specs.TreeValue.{TreeValue, inodes_of, tree_of}
+use Rattle.vt_fs.specs.Trees.Paths.{path_in}
+use Rattle.vt_fs.specs.Trees.TreeValue.{TreeValue, inodes_of, tree_of}
 use Rattle.vt_fs.specs.FilesystemsValue.{ChangesInodes, FilesystemEntry, Filesystems, entry_at, entry_of, files_at, files_seen, inodes_at, inodes_seen, no_entry, node_seen, seen_in, shown, shown_entry, shown_with, with_tree, without}
 use Rattle.vt_location.proofs.NumberLemmas.{exchanged_back}
 use Rattle.vt_fs.proofs.Renamed.{by_numbers, changed_by_numbers, entry_by_numbers, node_by_numbers, own_by_numbers, path_by_numbers, pinned_by_numbers, plain_by_numbers, root_by_numbers, under_by_numbers, unpinned_by_numbers, uses_by_numbers}

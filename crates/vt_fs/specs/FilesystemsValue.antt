@@ -7,7 +7,7 @@ use Rattle.vt_spec.specs.Machine.Renaming.{renamed_node}
 use Rattle.vt_spec.specs.Machine.World.{Filesystem}
 use Rattle.vt_spec.specs.Inodes.{Inode, Inodes, one_directory, renamed_inodes, tree_of}
 use Rattle.vt_spec.specs.Tree.{Node, tree_of_root}
-use Rattle.vt_tree.specs.TreeValue.{TreeValue, inodes_of, next_number}
+use Rattle.vt_fs.specs.Trees.TreeValue.{TreeValue, inodes_of, next_number}
 use Rattle.vt_location.specs.declared.numbers.FilesystemId.{FilesystemId}
 use Rattle.vt_location.specs.InOrder.{in_order_by}
 use Rattle.vt_location.specs.Numbers.{counted, exchanged, inode_number}

@@ -1,8 +1,8 @@
 -- What filesystems end as, where a `&mut` to the tree of one is returned.
 use Rattle.std.specs.Prelude.{ℕ, Option}
 use Rattle.std.specs.Borrow.{LendsIf, Fml, MutBor}
-use Rattle.vt_tree.specs.contracts.trees.Tree.{the_row as tree_row}
-use Rattle.vt_tree.specs.TreeValue.{TreeValue}
+use Rattle.vt_fs.specs.contracts.tree.trees.Tree.{the_row as tree_row}
+use Rattle.vt_fs.specs.Trees.TreeValue.{TreeValue}
 use Rattle.vt_fs.specs.FilesystemsValue.{Filesystems, with_tree}
 use Rattle.vt_fs.specs.contracts.filesystems.Filesystems.{the_row}
 

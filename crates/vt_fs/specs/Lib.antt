@@ -1,3 +1,4 @@
+pub mod Trees
 pub mod FilesystemsValue
 pub mod Laws
 pub mod Lends

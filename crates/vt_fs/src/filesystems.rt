@@ -15,17 +15,17 @@ ghost use Rattle.vt_spec.specs.Lists.{any_pair};
 ghost use Rattle.vt_spec.specs.Machine.Descriptors.{overwritten};
 ghost use Rattle.vt_spec.specs.Tree.{bytes_in, entries_in, is_directory_node, names_in};
 ghost use Rattle.vt_spec.specs.TreeInvariant.{IsDirectory, entry_at as number_at};
-ghost use Rattle.vt_tree.specs.Slots.{most_uses};
+ghost use Rattle.vt_fs.specs.Trees.Slots.{most_uses};
 ghost use Rattle.vt_location.specs.Locations.{number_of, plain_of};
 ghost use Rattle.vt_location.specs.declared.births.Birth.TheVariants.{Here};
 ghost use Rattle.vt_location.specs.Numbers.{exchanged, is_inode_of};
 
+use crate::tree::Tree;
 use indexmap::IndexMap;
 use std::alloc::{AllocError, Global};
 use std::marker::Model;
 use vt_location::{Birth, FilesystemId, NodeRef};
 use vt_node::{Attr, Node, NodeId};
-use vt_tree::Tree;
 
 // A filesystem, and how many mounts show it.
 #[derive(Debug, Drop)]
@@ -36,7 +36,7 @@ struct Filesystem {
 
 impl Filesystem {
     ghost use Rattle.std.specs.Borrow.{Lends};
-    ghost use Rattle.vt_tree.specs.contracts.trees.Tree.{the_row as tree_row};
+    ghost use Rattle.vt_fs.specs.contracts.tree.trees.Tree.{the_row as tree_row};
     ghost use Rattle.vt_fs.specs.FilesystemsValue.{held_with_tree};
     ghost use Rattle.vt_fs.specs.contracts.filesystems.Filesystem.{the_row};
 

@@ -4,6 +4,8 @@
 mod filesystems;
 mod laws;
 mod paths;
+mod tree;
 
 pub use filesystems::Filesystems;
 pub use laws::{filesystems_are_found, numbers_are_those_of_inodes, trees_name_parents};
+pub use tree::Tree;

@@ -3,7 +3,7 @@ ghost use Rattle.std.specs.Prelude.{◌≡◌, [], IfOk, map, nat_eq, option_map
 ghost use Rattle.vt_spec.specs.FileTree.{path_down};
 ghost use Rattle.vt_spec.specs.Lists.{when};
 ghost use Rattle.vt_location.specs.Locations.{number_of};
-ghost use Rattle.vt_tree.specs.Paths.{NamesDirectoriesOnce};
+ghost use Rattle.vt_fs.specs.Trees.Paths.{NamesDirectoriesOnce};
 ghost use Rattle.vt_fs.specs.FilesystemsValue.{files_at};
 
 use crate::filesystems::Filesystems;

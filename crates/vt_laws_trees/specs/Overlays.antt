@@ -2,3 +2,5 @@ pub mod LayersApart
 pub mod WhatIsShown
 pub mod WholeChanges
 pub mod WholeStays
+pub mod MergedTrees
+pub mod TreesSeen

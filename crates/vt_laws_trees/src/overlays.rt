@@ -28,5 +28,7 @@
 //!   `s` again.
 
 pub mod changes;
+pub mod merged;
+pub mod seen;
 pub mod steps;
 pub mod whole;

@@ -1,4 +1,3 @@
-pub mod MergedTrees
 pub mod UpperChanges
 pub mod UpperCalls
 pub mod BelowChanges

@@ -1,4 +1,3 @@
-pub mod TreesSeen
 pub mod InodeUses
 pub mod CopySteps
 pub mod SweptBefore

@@ -4,6 +4,5 @@
 //! A merged tree (`IsMergedTree`) is a listed tree that is what the layers show, each layer a directory of a tree. It
 //! is named (`IsNamedBy`) by the number that each real object has, and by what is held without a name.
 
-pub mod merged;
 pub mod mounted;
 pub mod upper;

@@ -2,6 +2,5 @@
 //! copies made one prefix at a time, and what may go before the sweep.
 
 pub mod copied;
-pub mod seen;
 pub mod swept;
 pub mod used;

@@ -18,7 +18,7 @@ use Rattle.vt_fs.specs.FilesystemsValue.{Filesystems, files_at, inodes_at}
 use Rattle.vt_overlay.specs.MergedTree.{AreLayers, OverlayValue, birth_at, longest, merged_tree, node_born, overlay_seen, path_at, plain_world, real_number, slot_at}
 use Rattle.vt_overlay.proofs.BirthsFound.{in_slot, small_birth}
 use Rattle.vt_overlay.proofs.TreeFound.{found_is_at}
-use Rattle.vt_laws_worlds.specs.Seen.TreesSeen.{node_by}
+use Rattle.vt_laws_trees.specs.Overlays.TreesSeen.{node_by}
 use Rattle.vt_store.specs.StoreValue.{StandOnLayers, StandsOnLayers, StoreValue, files_in, overlay_in}
 use Rattle.vt_store.proofs.Woven.{files_over, files_plain, is_over}
 use Rattle.vt_listing.specs.OwnNodes.{HasOwnNodes, IsNodeOf}

@@ -6,7 +6,7 @@ use Rattle.vt_group.specs.Grouping.{master_in}
 use Rattle.vt_location.specs.Numbers.{counted}
 use Rattle.vt_mount.specs.MountsValue.{mounts_in}
 use Rattle.vt_store.specs.StoreValue.{StoreValue, files_in, filesystem_in, filesystems_of}
-use Rattle.vt_tree.specs.Paths.{NamesDirectoriesOnce}
+use Rattle.vt_fs.specs.Trees.Paths.{NamesDirectoriesOnce}
 use Rattle.vt_listing.specs.declared.table.MountTable.{MountTable}
 
 -- A world has these mounts and these masters of groups. Each of its filesystems is an overlay if that of the store is

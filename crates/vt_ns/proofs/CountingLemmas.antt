@@ -12,12 +12,12 @@ use Rattle.vt_mount.specs.MountsValue.{MountEntry, changed, entry_numbered, held
 use Rattle.vt_spec.specs.Inodes.{Inodes, uses_in}
 use Rattle.vt_store.specs.StoreValue.{StoreValue}
 use Rattle.vt_world.specs.declared.namespaces.Namespace.{Namespace}
-use Rattle.vt_detach.specs.Forking.{HasRoom, more_tasks, with_task_more}
-use Rattle.vt_detach.specs.Stored.{kept}
-use Rattle.vt_detach.specs.Uses.{pinned_in, with_location}
+use Rattle.vt_mounting.specs.Detach.Forking.{HasRoom, more_tasks, with_task_more}
+use Rattle.vt_mounting.specs.Detach.Stored.{kept}
+use Rattle.vt_mounting.specs.Detach.Uses.{pinned_in, with_location}
 use Rattle.vt_world.specs.WorldValue.{entries_of}
-use Rattle.vt_detach.proofs.NamespaceEntries.{Entries, entries_written, is_id, none_written, same_namespace}
-use Rattle.vt_attach.proofs.RoomLemmas.{pinned_if_more}
+use Rattle.vt_mounting.proofs.detach.NamespaceEntries.{Entries, entries_written, is_id, none_written, same_namespace}
+use Rattle.vt_mounting.proofs.attach.RoomLemmas.{pinned_if_more}
 
 -- Uses
 

@@ -16,7 +16,7 @@ use Rattle.vt_laws_mounts.proofs.letting_go.sweeps.UsesCounted.{located_while_co
 use Rattle.vt_mount.specs.MountsValue.{MountEntry, entry_numbered, mounts_in, uses_of, writers_of}
 use Rattle.vt_world.specs.Held.{CountsItsUses, IsHeld, writes_of, writes_on}
 use Rattle.vt_world.specs.WorldValue.{WorldValue, world_of}
-use Rattle.vt_detach.proofs.LostUses.{entry_found_at}
+use Rattle.vt_mounting.proofs.detach.LostUses.{entry_found_at}
 use Rattle.vt_laws_mounts.proofs.letting_go.Lists.{any_counted}
 
 either_counted : (a b : ℕ) → (nat_lt 0 a || nat_lt 0 b) ≡ nat_lt 0 (a + b)

@@ -25,11 +25,11 @@ use Rattle.vt_propagate.proofs.Counting.{absent_counted, added_counted, moved_al
 use Rattle.vt_laws_mounts.proofs.letting_go.Lists.{among-from_filter}
 use Rattle.vt_laws_trees.specs.Runs.Handed.{counts_from}
 use Rattle.vt_laws_worlds.proofs.worlds.FewMounts.{shrinks_few}
-use Rattle.vt_detach.proofs.Leaving.{none_among}
+use Rattle.vt_mounting.proofs.detach.Leaving.{none_among}
 use Rattle.vt_world.specs.Held.{IsHeld}
-use Rattle.vt_detach.specs.Looking.{overfills_of}
+use Rattle.vt_mounting.specs.Detach.Looking.{overfills_of}
 use Rattle.vt_world.specs.WorldValue.{WorldValue, world_of}
-use Rattle.vt_detach.proofs.TreesInNamespaces.{alone_in_tree, in_tree}
+use Rattle.vt_mounting.proofs.detach.TreesInNamespaces.{alone_in_tree, in_tree}
 
 -- A place on a mount that is not there is in no namespace, and nothing is received there.
 module _ (mounts : List (Mount ℕ)) (place : Location ℕ)

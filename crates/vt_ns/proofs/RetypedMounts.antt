@@ -24,7 +24,7 @@ use Rattle.vt_retype.specs.Retyping.{FollowsTypes, FollowsTypesLeft, HaveNoSourc
 use Rattle.vt_propagate.specs.Seen.{IsSeen}
 use Rattle.vt_propagate.proofs.Seeing.{are_typed, retyping_is_seen, sharing_is_seen, slaves_are_seen}
 use Rattle.vt_laws_trees.specs.Runs.Handed.{counts_from}
-use Rattle.vt_attach.proofs.CopiesAscend.{place_first, place_in, place_later}
+use Rattle.vt_mounting.proofs.attach.CopiesAscend.{place_first, place_in, place_later}
 use Rattle.vt_ns.specs.Retyped.{IsRetyped, counted_after, set_if, with_counts}
 use Rattle.vt_spec.proofs.Lists.{map_alike, map_twice}
 use Rattle.vt_spec.proofs.Truths.{nat_eq-swapped}

@@ -1,6 +1,6 @@
 -- The root of a namespace, and room for a task that enters it: setns(2).
 use Rattle.std.specs.Prelude.{IfSome, List, Option, Some, filter, find, is_some, nat_eq, not, option_map, ℕ, ◌<◌, ◌≡◌}
-use Rattle.vt_detach.specs.Forking.{HasRoom}
+use Rattle.vt_mounting.specs.Detach.Forking.{HasRoom}
 use Rattle.vt_world.specs.WorldValue.{WorldValue, namespace_counted}
 use Rattle.vt_location.specs.declared.locations.Location as code
 use Rattle.vt_location.specs.Locations.{location_of}

@@ -8,7 +8,7 @@ use Rattle.vt_spec.specs.Tree.Content.{Directory, Regular, Symlink, Whiteout}
 use Rattle.vt_looks.specs.Looking.{front}
 use Rattle.vt_world.specs.Lent.{lent_of_world}
 use Rattle.vt_world.specs.WorldValue.{WorldValue, world_of}
-use Rattle.vt_detach.specs.Looking.{looks_of_value}
+use Rattle.vt_mounting.specs.Detach.Looking.{looks_of_value}
 
 -- An inode with the entries, the parent and the mark of another: a lent object, where it looks like the inode. In a
 -- world with all invariants it always does.

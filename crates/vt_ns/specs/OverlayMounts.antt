@@ -9,7 +9,7 @@ use Rattle.vt_location.specs.Numbers.{is_own_number}
 use Rattle.vt_permits.specs.GrantValue.{overlay_permit}
 use Rattle.vt_permits.specs.declared.grant.LowerLayer.{LowerLayer}
 use Rattle.vt_permits.specs.declared.grant.ToMountOverlay.{ToMountOverlay}
-use Rattle.vt_detach.specs.Events.{left_by, supply_of}
+use Rattle.vt_mounting.specs.Detach.Events.{left_by, supply_of}
 use Rattle.vt_world.specs.WorldValue.{WorldValue, world_of}
 
 -- the task of this name is given the permit of a call that mounts this overlay

@@ -2,7 +2,7 @@
 use Rattle.std.specs.Prelude.{false, suc, zero, ℕ}
 use Rattle.vt_location.specs.declared.locations.Location.{Location}
 use Rattle.vt_location.specs.Numbers.{counted}
-use Rattle.vt_detach.specs.Uses.{Kept, inode_of, released_use, with_location}
+use Rattle.vt_mounting.specs.Detach.Uses.{Kept, inode_of, released_use, with_location}
 
 -- so many uses more of a location, none of them a file that is open for writing
 abbrev pub with_uses : ℕ → Location → Kept → Kept

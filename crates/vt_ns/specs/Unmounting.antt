@@ -3,9 +3,9 @@ use Rattle.std.specs.List.{list_all}
 use Rattle.std.specs.Prelude.{Bool, List, [], map, nat_eq, not, true, ℕ, ◌&&◌, ◌≡◌}
 use Rattle.vt_spec.specs.Lists.{holds_of}
 use Rattle.vt_spec.specs.Machine.Mounts.{Mount, is_shared, mount_in}
-use Rattle.vt_attach.specs.Planned.{Point, is_small, points_left, points_taken, with_planned}
-use Rattle.vt_detach.specs.Detached.{LeaveTogether}
-use Rattle.vt_detach.specs.Uses.{Kept, Merged, kept_with}
+use Rattle.vt_mounting.specs.Attach.Planned.{Point, is_small, points_left, points_taken, with_planned}
+use Rattle.vt_mounting.specs.Detach.Detached.{LeaveTogether}
+use Rattle.vt_mounting.specs.Detach.Uses.{Kept, Merged, kept_with}
 use Rattle.vt_fs.specs.FilesystemsValue.{Filesystems}
 use Rattle.vt_group.specs.Grouping.{Grouping}
 use Rattle.vt_group.specs.Together.{GrowsTo}

@@ -4,7 +4,7 @@ use Rattle.vt_location.specs.Numbers.{inode_number}
 use Rattle.vt_world.specs.OverlaysMade.Made.{IsNew}
 use Rattle.vt_laws_worlds.specs.Permits.InUse.{is_in_use}
 use Rattle.vt_spec.specs.Machine.Mounts.{Location}
-use Rattle.vt_detach.specs.Events.{next_inode}
+use Rattle.vt_mounting.specs.Detach.Events.{next_inode}
 use Rattle.vt_world.specs.WorldValue.{WorldValue, world_of}
 
 -- an even number that is not in use

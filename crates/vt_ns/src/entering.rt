@@ -5,15 +5,15 @@ ghost use Rattle.vt_location.specs.Numbers.{namespace_number};
 ghost use Rattle.vt_mount.specs.MountsValue.{mounts_in};
 ghost use Rattle.vt_spec.specs.Machine.Permits.Permit.{ToEnterNamespace};
 ghost use Rattle.vt_ns.specs.Entering.{HasRoomToEnter, namespace_root};
-ghost use Rattle.vt_detach.specs.Events.{Becomes, Permits};
+ghost use Rattle.vt_mounting.specs.Detach.Events.{Becomes, Permits};
 
 use crate::forking::{count_task, has_room, has_room_for_task, hold_once_more};
 use crate::world::World;
 use std::alloc::AllocError;
-use vt_detach::ending::leave_namespace;
-use vt_detach::uses::leave;
 use vt_location::{Location, NamespaceId};
 use vt_mount::Mounts;
+use vt_mounting::detach::ending::leave_namespace;
+use vt_mounting::detach::uses::leave;
 use vt_request::TaskName;
 
 impl World {

@@ -2,14 +2,14 @@
 ghost use Rattle.std.specs.Prelude.{◌≡◌, fold, true};
 ghost use Rattle.std.specs.List.{list_all};
 ghost use Rattle.vt_spec.specs.Machine.Permits.Permit.{ToExit};
-ghost use Rattle.vt_detach.specs.Events.{Becomes, Permits};
-ghost use Rattle.vt_detach.specs.NamespacesLeft.{is_small_file, without_file};
-ghost use Rattle.vt_detach.specs.Stored.{OverlaysLeft, kept};
+ghost use Rattle.vt_mounting.specs.Detach.Events.{Becomes, Permits};
+ghost use Rattle.vt_mounting.specs.Detach.NamespacesLeft.{is_small_file, without_file};
+ghost use Rattle.vt_mounting.specs.Detach.Stored.{OverlaysLeft, kept};
 
 use crate::world::World;
-use vt_detach::ending::leave_namespace;
-use vt_detach::uses::leave;
 use vt_mount::Mounts;
+use vt_mounting::detach::ending::leave_namespace;
+use vt_mounting::detach::uses::leave;
 use vt_request::TaskName;
 use vt_store::Store;
 use vt_tasks::OpenFile;

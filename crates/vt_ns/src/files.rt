@@ -7,7 +7,7 @@ ghost use Rattle.vt_permits.specs.declared.grant.WriteGrant.TheVariants.{Part};
 ghost use Rattle.vt_location.specs.Locations.{location_of, number_of};
 ghost use Rattle.vt_spec.specs.Language.Changes.Change.{SetAttr, SetBytes, SetMark};
 ghost use Rattle.vt_spec.specs.Machine.Permits.Permit.{ToChange};
-ghost use Rattle.vt_detach.specs.Events.{Becomes, Permits};
+ghost use Rattle.vt_mounting.specs.Detach.Events.{Becomes, Permits};
 
 use crate::world::World;
 use std::alloc::AllocError;

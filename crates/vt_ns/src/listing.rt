@@ -4,7 +4,7 @@ ghost use Rattle.vt_request.specs.Answers.{mount_line_of, peer_line_of};
 ghost use Rattle.vt_spec.specs.Machine.Listing as listing;
 ghost use Rattle.vt_spec.specs.Machine.Permits.Permit.{ToListMounts};
 ghost use Rattle.vt_spec.specs.Machine.World.{Task, task_called};
-ghost use Rattle.vt_detach.specs.Events.{Permits};
+ghost use Rattle.vt_mounting.specs.Detach.Events.{Permits};
 ghost use Rattle.vt_world.specs.WorldValue.{world_of};
 ghost use Rattle.vt_store.specs.StoreValue.{StandOnLayers};
 ghost use Rattle.vt_listing.specs.Shown.{IsShown, NameDirectoriesOnce};

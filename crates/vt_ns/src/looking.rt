@@ -5,7 +5,7 @@ ghost use Rattle.vt_spec.specs.Machine.Rightful.{node_allows};
 ghost use Rattle.vt_spec.specs.Machine.World.{mount_numbered};
 ghost use Rattle.vt_location.specs.Locations.{location_of, number_of};
 ghost use Rattle.vt_location.specs.Numbers.{filesystem_number, mount_number};
-ghost use Rattle.vt_detach.specs.Looking.{is_seen, looks_of_value};
+ghost use Rattle.vt_mounting.specs.Detach.Looking.{is_seen, looks_of_value};
 ghost use Rattle.vt_store.specs.StoreValue.{overlay_in};
 ghost use Rattle.vt_ns.specs.Mounters.{mounter_on};
 ghost use Rattle.vt_world.specs.Held.{IsHeld};

@@ -4,14 +4,14 @@ ghost use Rattle.vt_location.specs.Locations.{location_of};
 ghost use Rattle.vt_spec.specs.Machine.Attach.{bind_tree};
 ghost use Rattle.vt_permits.specs.GrantValue.{attachment_permit};
 ghost use Rattle.vt_permits.specs.declared.grant.Attachment.TheVariants.{Bind};
-ghost use Rattle.vt_detach.specs.Events.{Becomes, Permits};
+ghost use Rattle.vt_mounting.specs.Detach.Events.{Becomes, Permits};
 ghost use Rattle.vt_world.specs.WorldValue.{world_of};
 ghost use Rattle.vt_ns.specs.Counting.{counted_for};
 
 use crate::grafting::numbers_taken;
 use crate::world::World;
 use std::alloc::AllocError;
-use vt_attach::grafted::attach_graft;
+use vt_mounting::attach::grafted::attach_graft;
 use vt_permits::ToBind;
 use vt_propagate::{Counts, Graft, parts};
 use vt_request::TaskName;

@@ -7,7 +7,7 @@ ghost use Rattle.vt_mount.specs.MountsValue.{mounts_in};
 ghost use Rattle.vt_spec.specs.Machine.Mounts.{is_shared, mount_in, mount_tree};
 ghost use Rattle.vt_spec.specs.Machine.Permits.Permit.{ToMove};
 ghost use Rattle.vt_spec.specs.Machine.World.{mount_numbered};
-ghost use Rattle.vt_detach.specs.Events.{Becomes, Permits};
+ghost use Rattle.vt_mounting.specs.Detach.Events.{Becomes, Permits};
 ghost use Rattle.vt_world.specs.WorldValue.{world_of};
 ghost use Rattle.vt_ns.specs.Counting.{counted_for};
 
@@ -15,9 +15,9 @@ use crate::grafting::numbers_taken;
 use crate::unmounting::{is_member, type_of};
 use crate::world::World;
 use std::alloc::AllocError;
-use vt_attach::bound::bound_mounts;
-use vt_attach::moved::move_tree;
 use vt_location::{Location, Mount, MountId};
+use vt_mounting::attach::bound::bound_mounts;
+use vt_mounting::attach::moved::move_tree;
 use vt_propagate::{Counts, Graft, parts};
 use vt_request::TaskName;
 

@@ -1,7 +1,7 @@
 //! The event that mounts an overlay: mount(2) of overlayfs.
 ghost use Rattle.std.specs.Prelude.{◌≡◌, ◌+◌, ◌*◌, All, IfOk, length, map, nat_eq, OnErr, OnOk};
 ghost use Rattle.vt_cred.specs.MountFlags.{flags_of};
-ghost use Rattle.vt_detach.specs.Events.{layer_kept};
+ghost use Rattle.vt_mounting.specs.Detach.Events.{layer_kept};
 ghost use Rattle.vt_location.specs.Locations.{location_of};
 ghost use Rattle.vt_location.specs.MountValue.{mount_of};
 ghost use Rattle.vt_location.specs.Numbers.{inode_number, filesystem_number};
@@ -14,10 +14,10 @@ ghost use Rattle.vt_ns.specs.OverlayMounts.{IsPlainLayer, MountsOverlay, Permits
 use crate::grafting::numbers_taken;
 use crate::world::World;
 use std::alloc::{AllocError, Global};
-use vt_attach::overlaid::attach_overlay;
 use vt_cred::MountFlags;
 use vt_location::{Birth, FilesystemId, InodeRef, Mount, MountId, NodeRef, Propagation};
-use vt_merge::LayerRef;
+use vt_mounting::attach::overlaid::attach_overlay;
+use vt_overlay::LayerRef;
 use vt_permits::{LowerLayer, ToMountOverlay};
 use vt_propagate::{Counts, Graft, parts};
 use vt_request::TaskName;

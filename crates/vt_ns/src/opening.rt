@@ -3,7 +3,7 @@ ghost use Rattle.std.specs.Prelude.{◌≡◌, ◌∷◌, [], nat_eq, IfOk, OnOk
 ghost use Rattle.vt_spec.specs.Machine.World.{opening};
 ghost use Rattle.vt_fs.specs.FilesystemsValue.{shown};
 ghost use Rattle.vt_location.specs.MountValue.{mount_of};
-ghost use Rattle.vt_attach.specs.Opening.{first_shown, opening_numbers};
+ghost use Rattle.vt_mounting.specs.Attach.Opening.{first_shown, opening_numbers};
 ghost use Rattle.vt_world.specs.WorldValue.{entries_of, world_of};
 
 use crate::mounting::root_attr;

@@ -13,7 +13,7 @@ ghost use Rattle.vt_spec.specs.Machine.Descriptors.{free_number};
 ghost use Rattle.vt_spec.specs.Machine.World.{task_called};
 ghost use Rattle.vt_spec.specs.TreeInvariant.{IsDirectory, entry_at as number_at};
 ghost use Rattle.vt_tasks.specs.TasksValue.{MayOpenMore, called, changed_called, with_open};
-ghost use Rattle.vt_detach.specs.Events.{Becomes, Permits};
+ghost use Rattle.vt_mounting.specs.Detach.Events.{Becomes, Permits};
 ghost use Rattle.vt_world.specs.WorldValue.{world_of};
 ghost use Rattle.vt_ns.specs.Opening.{MakesNext};
 

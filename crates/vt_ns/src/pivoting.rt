@@ -3,9 +3,9 @@ ghost use Rattle.std.specs.Prelude.{◌≡◌, OnErr, OnOk, true};
 ghost use Rattle.vt_location.specs.Locations.{is_small_node, location_of};
 ghost use Rattle.vt_location.specs.Numbers.{mount_number};
 ghost use Rattle.vt_spec.specs.Machine.Permits.Permit.{ToPivot};
-ghost use Rattle.vt_detach.specs.Events.{Becomes, Permits};
-ghost use Rattle.vt_detach.specs.Forking.{HasRoom};
-ghost use Rattle.vt_detach.specs.Stored.{kept};
+ghost use Rattle.vt_mounting.specs.Detach.Events.{Becomes, Permits};
+ghost use Rattle.vt_mounting.specs.Detach.Forking.{HasRoom};
+ghost use Rattle.vt_mounting.specs.Detach.Stored.{kept};
 ghost use Rattle.vt_ns.specs.Pivoting.{with_uses, without_uses};
 
 use crate::forking::{has_room, hold_once_more};

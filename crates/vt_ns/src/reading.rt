@@ -9,7 +9,7 @@ ghost use Rattle.vt_spec.specs.Tree.{bytes_in, names_in};
 ghost use Rattle.vt_permits.specs.GrantValue.{look_permit};
 ghost use Rattle.vt_permits.specs.declared.grant.LookGrant.TheVariants.{ReadPart};
 ghost use Rattle.vt_tasks.specs.TaskValue.{task_of};
-ghost use Rattle.vt_detach.specs.Events.{Permits};
+ghost use Rattle.vt_mounting.specs.Detach.Events.{Permits};
 ghost use Rattle.vt_ns.specs.Lent.{real_of_value};
 ghost use Rattle.vt_ns.specs.LookingAlone.{LookingChangesNothing};
 ghost use Rattle.vt_ns.specs.Told.{told_by};

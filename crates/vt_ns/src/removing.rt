@@ -5,14 +5,14 @@ ghost use Rattle.vt_location.specs.Numbers.{mount_number};
 ghost use Rattle.vt_mount.specs.MountsValue.{mounts_in, stands_over};
 ghost use Rattle.vt_permits.specs.GrantValue.{remove_permit};
 ghost use Rattle.vt_permits.specs.declared.grant.RemoveGrant.TheVariants.{Directory};
-ghost use Rattle.vt_detach.specs.Detached.{tree_numbers};
-ghost use Rattle.vt_detach.specs.Events.{Becomes, Permits};
+ghost use Rattle.vt_mounting.specs.Detach.Detached.{tree_numbers};
+ghost use Rattle.vt_mounting.specs.Detach.Events.{Becomes, Permits};
 
 use crate::world::World;
 use std::alloc::{AllocError, Global};
-use vt_detach::detaching::detach_together;
 use vt_location::{MountId, NodeRef};
 use vt_mount::Mounts;
+use vt_mounting::detach::detaching::detach_together;
 use vt_permits::ToRemoveDirectory;
 use vt_request::TaskName;
 

@@ -5,15 +5,15 @@ ghost use Rattle.vt_location.specs.Numbers.{mount_number};
 ghost use Rattle.vt_mount.specs.MountsValue.{mounts_in};
 ghost use Rattle.vt_permits.specs.GrantValue.{remove_permit};
 ghost use Rattle.vt_permits.specs.declared.grant.RemoveGrant.TheVariants.{Rename};
-ghost use Rattle.vt_detach.specs.Detached.{trees_of_replaced};
-ghost use Rattle.vt_detach.specs.Events.{Becomes, Permits};
+ghost use Rattle.vt_mounting.specs.Detach.Detached.{trees_of_replaced};
+ghost use Rattle.vt_mounting.specs.Detach.Events.{Becomes, Permits};
 
 use crate::removing::trees_on;
 use crate::world::World;
 use std::alloc::{AllocError, Global};
-use vt_detach::detaching::detach_together;
 use vt_location::{Location, MountId};
 use vt_mount::Mounts;
+use vt_mounting::detach::detaching::detach_together;
 use vt_permits::ToRename;
 use vt_request::TaskName;
 

@@ -13,7 +13,7 @@ ghost use Rattle.vt_permits.specs.declared.grant.MountGrant.TheVariants.{SetType
 ghost use Rattle.vt_spec.specs.Machine.Types.{named_mounts};
 ghost use Rattle.vt_laws_mounts.specs.Mounts.Attaching.{numbers_of};
 ghost use Rattle.vt_laws_worlds.specs.Permits.Steps.{makes_shared};
-ghost use Rattle.vt_detach.specs.Events.{Becomes, Permits};
+ghost use Rattle.vt_mounting.specs.Detach.Events.{Becomes, Permits};
 ghost use Rattle.vt_world.specs.WorldValue.{world_of};
 ghost use Rattle.vt_ns.specs.Retyped.{IsRetyped, counted_after, set_if, with_counts};
 

@@ -8,15 +8,15 @@ ghost use Rattle.vt_location.specs.Locations.{location_of};
 ghost use Rattle.vt_cred.specs.Caps.{capability_bits};
 ghost use Rattle.vt_spec.specs.Machine.Tasks.{with_dropped};
 ghost use Rattle.vt_spec.specs.Machine.Permits.Permit.{ToClose, ToOpen, ToSetCredentials, ToSetDirectory, ToSetRoot, ToSetUmask};
-ghost use Rattle.vt_detach.specs.Events.{Becomes, Permits, credentials_called};
-ghost use Rattle.vt_detach.specs.Forking.{HasRoom};
+ghost use Rattle.vt_mounting.specs.Detach.Events.{Becomes, Permits, credentials_called};
+ghost use Rattle.vt_mounting.specs.Detach.Forking.{HasRoom};
 
 use crate::forking::{has_room, hold_once_more};
 use crate::world::World;
 use std::alloc::AllocError;
 use vt_cred::{Caps, Mode};
-use vt_detach::uses::{hold, leave};
 use vt_location::Location;
+use vt_mounting::detach::uses::{hold, leave};
 use vt_request::{Access, TaskName};
 use vt_tasks::OpenFile;
 

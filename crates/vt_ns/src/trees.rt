@@ -14,9 +14,9 @@ ghost use Rattle.vt_world.specs.WorldValue.{world_of};
 
 use crate::world::World;
 use std::alloc::AllocError;
-use vt_attach::bound::bound_mounts;
 use vt_location::{Location, Mount, MountId};
 use vt_looks::Look;
+use vt_mounting::attach::bound::bound_mounts;
 
 // A mount whose tree is still to be walked, and how deep that tree may be.
 #[derive(Clone, Copy, Debug)]

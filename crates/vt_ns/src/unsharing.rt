@@ -1,13 +1,13 @@
 //! Tasks get namespaces of their own: unshare(2) with `CLONE_NEWNS`.
 ghost use Rattle.std.specs.Prelude.{◌≡◌, ◌+◌, ◌*◌, ◌≤◌, OnErr, OnOk, length};
 ghost use Rattle.vt_spec.specs.Machine.Permits.Permit.{ToUnshare};
-ghost use Rattle.vt_detach.specs.Events.{Becomes, Permits};
+ghost use Rattle.vt_mounting.specs.Detach.Events.{Becomes, Permits};
 
 use crate::world::World;
 use std::alloc::AllocError;
-use vt_attach::copying::{attach_copies, move_use, moved};
-use vt_detach::ending::leave_namespace;
 use vt_location::NamespaceId;
+use vt_mounting::attach::copying::{attach_copies, move_use, moved};
+use vt_mounting::detach::ending::leave_namespace;
 use vt_request::TaskName;
 use vt_world::namespaces::Namespace;
 

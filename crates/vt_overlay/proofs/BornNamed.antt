@@ -25,7 +25,7 @@ use Rattle.vt_location.specs.Births.{born_in}
 use Rattle.vt_location.specs.Locations.{inode_of, number_of}
 use Rattle.vt_location.specs.Numbers.{exchanged, inode_number}
 use Rattle.vt_fs.specs.FilesystemsValue.{Filesystems, files_at, node_seen}
-use Rattle.vt_merge.specs.declared.layers.LayerRef.{LayerRef}
+use Rattle.vt_overlay.specs.declared.merge.layers.LayerRef.{LayerRef}
 use Rattle.vt_node.proofs.RankLemmas.{before, found_is_there, ranked_is_found, ranked_is_there}
 use Rattle.vt_node.specs.Ranks.{name_ranked, rank_among}
 use Rattle.vt_overlay.specs.MergedTree.{IsLayer, OverlayValue, birth_at, born_below, node_born, object_shown, rank_at, slot_at}

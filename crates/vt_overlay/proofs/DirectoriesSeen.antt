@@ -17,8 +17,8 @@ use Rattle.vt_laws_trees.proofs.layers.layers.ShownNames.{is_name, name_found, n
 use Rattle.vt_laws_trees.proofs.layers.layers.ShownObjects.{shown_before}
 use Rattle.vt_laws_trees.proofs.layers.layers.ShownPaths.{not_empty}
 use Rattle.vt_laws_trees.proofs.layers.layers.UpperShown.{without_last_of_longer}
-use Rattle.vt_laws_worlds.specs.Merging.MergedTrees.{entries_shown, inode_shown, layers_shown, node_as, parent_shown}
-use Rattle.vt_laws_worlds.specs.Seen.TreesSeen.{node_by}
+use Rattle.vt_laws_trees.specs.Overlays.MergedTrees.{entries_shown, inode_shown, layers_shown, node_as, parent_shown}
+use Rattle.vt_laws_trees.specs.Overlays.TreesSeen.{node_by}
 use Rattle.vt_fs.specs.FilesystemsValue.{Filesystems}
 use Rattle.vt_overlay.specs.MergedTree.{AreLayers, OverlayValue, directory_path, longest, merged_tree, number_at, only_of_directory, overlay_seen, path_at, plain_world, real_number}
 use Rattle.vt_overlay.proofs.TreeFound.{layers, layers_are, number_is_shown, open_layers}

@@ -19,10 +19,10 @@ use Rattle.vt_location.specs.declared.numbers.FilesystemId.{FilesystemId}
 use Rattle.vt_location.specs.Locations.{inode_of, number_of}
 use Rattle.vt_location.specs.Numbers.{exchanged}
 use Rattle.vt_fs.specs.FilesystemsValue.{Filesystems, files_at, node_seen}
-use Rattle.vt_merge.specs.EntryValue.{IsFirstEntry}
-use Rattle.vt_merge.specs.LayerValue.{layer_of}
-use Rattle.vt_merge.specs.declared.layers.LayerEntry.{LayerEntry}
-use Rattle.vt_merge.specs.declared.layers.LayerRef.{LayerRef}
+use Rattle.vt_overlay.specs.Merge.EntryValue.{IsFirstEntry}
+use Rattle.vt_overlay.specs.Merge.LayerValue.{layer_of}
+use Rattle.vt_overlay.specs.declared.merge.layers.LayerEntry.{LayerEntry}
+use Rattle.vt_overlay.specs.declared.merge.layers.LayerRef.{LayerRef}
 use Rattle.vt_node.specs.Ranks.{rank_among}
 use Rattle.vt_overlay.specs.Alike.{real_lent}
 use Rattle.vt_overlay.specs.MergedTree.{AreLayers, IsLayer, OverlayValue, birth_at, born_below, number_at}

@@ -19,12 +19,12 @@ use Rattle.vt_laws_trees.proofs.layers.views.Lower.{prefixes_longer}
 use Rattle.vt_location.specs.declared.numbers.FilesystemId.{FilesystemId}
 use Rattle.vt_location.specs.Locations.{inode_of}
 use Rattle.vt_fs.specs.FilesystemsValue.{Filesystems, files_at}
-use Rattle.vt_merge.specs.EntryValue.{IsEntry, IsFirstEntry, IsMergedAt, entry_shown}
-use Rattle.vt_merge.specs.LayerValue.{layer_of, layers_of, seen_of}
-use Rattle.vt_merge.specs.declared.layers.LayerEntry.{LayerEntry}
-use Rattle.vt_merge.specs.declared.layers.LayerRef.{LayerRef}
-use Rattle.vt_merge.specs.declared.layers.MergedDirectory.{MergedDirectory}
-use Rattle.vt_merge.specs.declared.layers.Real.{Real}
+use Rattle.vt_overlay.specs.Merge.EntryValue.{IsEntry, IsFirstEntry, IsMergedAt, entry_shown}
+use Rattle.vt_overlay.specs.Merge.LayerValue.{layer_of, layers_of, seen_of}
+use Rattle.vt_overlay.specs.declared.merge.layers.LayerEntry.{LayerEntry}
+use Rattle.vt_overlay.specs.declared.merge.layers.LayerRef.{LayerRef}
+use Rattle.vt_overlay.specs.declared.merge.layers.MergedDirectory.{MergedDirectory}
+use Rattle.vt_overlay.specs.declared.merge.layers.Real.{Real}
 use Rattle.vt_overlay.specs.Alike.{lent_at, real_lent}
 use Rattle.vt_overlay.specs.MergedTree.{AreLayers, OverlayValue, directory_path, merged_tree, number_at, object_shown, only_of_directory, overlay_seen, path_at, plain_world}
 use Rattle.vt_overlay.proofs.DirectoriesSeen.{entry_of, no_entry_of}

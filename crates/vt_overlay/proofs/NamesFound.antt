@@ -8,10 +8,10 @@ use Rattle.vt_spec.specs.Machine.Invariants.{node_shown}
 use Rattle.vt_spec.specs.Machine.Layers.{names_shown, shown}
 use Rattle.vt_spec.specs.Tree.{Content, Entries, Node, is_directory_node, names_in}
 use Rattle.vt_spec.specs.Tree.Content.{Directory, Regular, Symlink, Whiteout}
-use Rattle.vt_laws_worlds.specs.Merging.MergedTrees.{entries_shown, layers_shown, node_as, number_shown, parent_shown}
-use Rattle.vt_laws_worlds.specs.Seen.TreesSeen.{node_by}
+use Rattle.vt_laws_trees.specs.Overlays.MergedTrees.{entries_shown, layers_shown, node_as, number_shown, parent_shown}
+use Rattle.vt_laws_trees.specs.Overlays.TreesSeen.{node_by}
 use Rattle.vt_fs.specs.FilesystemsValue.{Filesystems}
-use Rattle.vt_merge.specs.LayerValue.{layers_of}
+use Rattle.vt_overlay.specs.Merge.LayerValue.{layers_of}
 use Rattle.vt_overlay.specs.MergedTree.{AreLayers, OverlayValue, directory_path, longest, merged_tree, only_of_directory, overlay_seen, path_at, plain_world, real_number}
 use Rattle.vt_overlay.proofs.TreeFound.{layers_are, number_is_shown}
 

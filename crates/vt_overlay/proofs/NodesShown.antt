@@ -11,8 +11,8 @@ use Rattle.vt_location.specs.declared.births.Birth.TheVariants.{Below, Here}
 use Rattle.vt_location.specs.Locations.{number_of}
 use Rattle.vt_location.specs.Numbers.{exchanged}
 use Rattle.vt_fs.specs.FilesystemsValue.{Filesystems, files_at}
-use Rattle.vt_merge.specs.LayerValue.{layer_of}
-use Rattle.vt_merge.specs.declared.layers.LayerRef.{LayerRef}
+use Rattle.vt_overlay.specs.Merge.LayerValue.{layer_of}
+use Rattle.vt_overlay.specs.declared.merge.layers.LayerRef.{LayerRef}
 use Rattle.vt_node.specs.Ranks.{rank_among}
 use Rattle.vt_overlay.specs.MergedTree.{AreLayers, OverlayValue, birth_at, number_at, rank_at, real_number, slot_at}
 use Rattle.vt_overlay.proofs.BirthsFound.{has_last, no_names, some_names}

@@ -10,16 +10,16 @@ use Rattle.vt_spec.specs.Machine.Merging.{layer_node}
 use Rattle.vt_spec.specs.Machine.Renaming.{renamed_content, renamed_entry}
 use Rattle.vt_spec.specs.Tree.{Content, Entries, Node}
 use Rattle.vt_spec.specs.Tree.Content.{Directory, Regular, Symlink, Whiteout}
-use Rattle.vt_laws_worlds.specs.Merging.MergedTrees.{entries_shown, node_as, parent_shown}
-use Rattle.vt_laws_worlds.specs.Seen.TreesSeen.{node_by}
+use Rattle.vt_laws_trees.specs.Overlays.MergedTrees.{entries_shown, node_as, parent_shown}
+use Rattle.vt_laws_trees.specs.Overlays.TreesSeen.{node_by}
 use Rattle.vt_location.proofs.NumberLemmas.{exchanged_back}
 use Rattle.vt_location.specs.declared.numbers.FilesystemId.{FilesystemId}
 use Rattle.vt_location.specs.Locations.{inode_of}
 use Rattle.vt_location.specs.Numbers.{exchanged}
 use Rattle.vt_fs.specs.FilesystemsValue.{Filesystems, files_at, node_seen}
-use Rattle.vt_merge.specs.LayerValue.{layer_of, seen_of}
-use Rattle.vt_merge.specs.declared.layers.LayerRef.{LayerRef}
-use Rattle.vt_merge.specs.declared.layers.Real.{Real}
+use Rattle.vt_overlay.specs.Merge.LayerValue.{layer_of, seen_of}
+use Rattle.vt_overlay.specs.declared.merge.layers.LayerRef.{LayerRef}
+use Rattle.vt_overlay.specs.declared.merge.layers.Real.{Real}
 use Rattle.vt_overlay.specs.Alike.{ObjectsAreAlike, front, lent_at, real_inode, real_lent}
 use Rattle.vt_overlay.specs.MergedTree.{AreLayers, OverlayValue, longest, merged_tree, object_shown, overlay_seen, path_at, plain_world, real_number}
 use Rattle.vt_overlay.proofs.TreeFound.{layers, layers_are}

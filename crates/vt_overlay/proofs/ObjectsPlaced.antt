@@ -8,9 +8,9 @@ use Rattle.vt_spec.specs.Machine.Layers.{Shown, shown}
 use Rattle.vt_location.specs.Locations.{inode_of}
 use Rattle.vt_location.specs.Numbers.{exchanged}
 use Rattle.vt_fs.specs.FilesystemsValue.{Filesystems}
-use Rattle.vt_merge.specs.LayerValue.{seen_of}
-use Rattle.vt_merge.specs.declared.layers.LayerRef.{LayerRef}
-use Rattle.vt_merge.specs.declared.layers.Real.{Real}
+use Rattle.vt_overlay.specs.Merge.LayerValue.{seen_of}
+use Rattle.vt_overlay.specs.declared.merge.layers.LayerRef.{LayerRef}
+use Rattle.vt_overlay.specs.declared.merge.layers.Real.{Real}
 use Rattle.vt_overlay.specs.MergedTree.{AreLayers, OverlayValue, number_at, object_shown, real_in}
 use Rattle.vt_overlay.proofs.BirthsFound.{Birthplace, inode_number_is, is_born, node_number}
 use Rattle.vt_overlay.proofs.BornNamed.{no_layer}

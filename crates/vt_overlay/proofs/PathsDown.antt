@@ -13,7 +13,7 @@ use Rattle.vt_spec.specs.Machine.Layers.{names_shown}
 use Rattle.vt_spec.specs.Tree.{Entries, Tree, entries_in, entry_named, name_cmp}
 use Rattle.vt_laws_trees.proofs.layers.layers.ShownDirectories.{append_assoc, last_of}
 use Rattle.vt_laws_trees.proofs.layers.layers.ShownPaths.{last_of_longer, length_longer, not_empty}
-use Rattle.vt_laws_worlds.specs.Merging.MergedTrees.{layers_shown}
+use Rattle.vt_laws_trees.specs.Overlays.MergedTrees.{layers_shown}
 use Rattle.vt_fs.specs.FilesystemsValue.{Filesystems}
 use Rattle.vt_overlay.specs.MergedTree.{AreLayers, OverlayValue, directory_path, merged_files, merged_tree, number_at, numbers_shown, overlay_seen, plain_world}
 use Rattle.vt_overlay.proofs.DirectoriesSeen.{entries_are, entry_of, with_names}

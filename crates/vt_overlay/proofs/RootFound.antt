@@ -14,8 +14,8 @@ use Rattle.vt_location.proofs.NumberLemmas.{exchanged_back, exchanged_number, ex
 use Rattle.vt_location.specs.Locations.{inode_of, number_of}
 use Rattle.vt_location.specs.Numbers.{exchanged, inode_number}
 use Rattle.vt_fs.specs.FilesystemsValue.{Filesystems, files_at}
-use Rattle.vt_merge.specs.LayerValue.{layers_of}
-use Rattle.vt_merge.specs.declared.layers.LayerRef.{LayerRef}
+use Rattle.vt_overlay.specs.Merge.LayerValue.{layers_of}
+use Rattle.vt_overlay.specs.declared.merge.layers.LayerRef.{LayerRef}
 use Rattle.vt_location.specs.Births.{born_in}
 use Rattle.vt_overlay.specs.MergedTree.{AreLayers, IsLayer, OverlayValue, birth_at, born_here, directory_path, merged_tree, object_shown, only_of_directory, rank_at, slot_at}
 use Rattle.vt_location.specs.declared.births.Birth.{Birth}

@@ -15,15 +15,15 @@ use Rattle.vt_spec.specs.Tree.{is_directory_node}
 use Rattle.vt_laws_trees.proofs.layers.layers.ShownAtPath.{computed}
 use Rattle.vt_laws_trees.proofs.layers.layers.ShownDirectories.{AreOpen}
 use Rattle.vt_laws_trees.proofs.layers.layers.ShownObjects.{Among, paths_complete}
-use Rattle.vt_laws_worlds.specs.Merging.MergedTrees.{layers_shown, number_shown}
-use Rattle.vt_laws_worlds.proofs.seen.seen.Paths.{length-led}
-use Rattle.vt_laws_worlds.proofs.seen.seen.SeenTrees.{shown_number}
-use Rattle.vt_laws_worlds.specs.Seen.TreesSeen.{path_numbered}
+use Rattle.vt_laws_trees.specs.Overlays.MergedTrees.{layers_shown, number_shown}
+use Rattle.vt_laws_trees.proofs.overlays.seen.Paths.{length-led}
+use Rattle.vt_laws_trees.proofs.overlays.seen.SeenTrees.{shown_number}
+use Rattle.vt_laws_trees.specs.Overlays.TreesSeen.{path_numbered}
 use Rattle.vt_location.specs.Locations.{inode_of, number_of}
 use Rattle.vt_fs.proofs.Numbers.{found_by_number, numbers_listed}
 use Rattle.vt_fs.specs.FilesystemsValue.{Filesystems, entry_at, files_at}
-use Rattle.vt_merge.specs.LayerValue.{layer_of, layers_of}
-use Rattle.vt_merge.specs.declared.layers.LayerRef.{LayerRef}
+use Rattle.vt_overlay.specs.Merge.LayerValue.{layer_of, layers_of}
+use Rattle.vt_overlay.specs.declared.merge.layers.LayerRef.{LayerRef}
 use Rattle.vt_overlay.specs.MergedTree.{AreLayers, OverlayValue, layer_seen, longest, node_born, only_of_directory, overlay_seen, plain_world, real_number}
 
 -- what is among a list and passes is not missed

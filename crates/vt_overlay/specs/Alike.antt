@@ -7,7 +7,7 @@ use Rattle.vt_spec.specs.Machine.Invariants.{node_shown}
 use Rattle.vt_spec.specs.Machine.Layers.{Shown}
 use Rattle.vt_spec.specs.Tree.{Node, bytes_of, kind_of}
 use Rattle.vt_fs.specs.FilesystemsValue.{Filesystems, files_at, node_seen}
-use Rattle.vt_merge.specs.declared.layers.LayerRef.{LayerRef}
+use Rattle.vt_overlay.specs.declared.merge.layers.LayerRef.{LayerRef}
 use Rattle.vt_overlay.specs.MergedTree.{OverlayValue, merged_tree, object_shown, overlay_seen, path_at, plain_world}
 
 -- an inode without its entries, its parent and its mark

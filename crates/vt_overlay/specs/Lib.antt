@@ -1,2 +1,3 @@
+pub mod Merge
 pub mod Alike
 pub mod MergedTree

@@ -11,8 +11,8 @@ use Rattle.vt_spec.specs.Machine.World.Real.{Lower, Upper}
 use Rattle.vt_spec.specs.Rights.{Credentials}
 use Rattle.vt_spec.specs.Tree.{Tree, entries_in, is_directory_node}
 use Rattle.vt_spec.specs.TreeInvariant.{IsDirectory, IsTree}
-use Rattle.vt_laws_worlds.specs.Merging.MergedTrees.{layers_shown, number_shown}
-use Rattle.vt_laws_worlds.specs.Seen.TreesSeen.{path_numbered, tree_seen}
+use Rattle.vt_laws_trees.specs.Overlays.MergedTrees.{layers_shown, number_shown}
+use Rattle.vt_laws_trees.specs.Overlays.TreesSeen.{path_numbered, tree_seen}
 use Rattle.vt_node.specs.Ranks.{rank_among}
 use Rattle.vt_location.specs.declared.births.Birth.{Birth}
 use Rattle.vt_location.specs.declared.births.Birth.TheVariants.{Below, Here}
@@ -21,9 +21,9 @@ use Rattle.vt_location.specs.declared.numbers.FilesystemId.{FilesystemId}
 use Rattle.vt_location.specs.Locations.{inode_of, number_of}
 use Rattle.vt_location.specs.Numbers.{counted, exchanged, is_inode_of}
 use Rattle.vt_fs.specs.FilesystemsValue.{Filesystems, files_at, filesystems_seen, inodes_at}
-use Rattle.vt_merge.specs.LayerValue.{layer_of, layers_of}
-use Rattle.vt_merge.specs.declared.layers.LayerRef.{LayerRef}
-use Rattle.vt_merge.specs.declared.layers.Real.{Real as Object}
+use Rattle.vt_overlay.specs.Merge.LayerValue.{layer_of, layers_of}
+use Rattle.vt_overlay.specs.declared.merge.layers.LayerRef.{LayerRef}
+use Rattle.vt_overlay.specs.declared.merge.layers.Real.{Real as Object}
 
 -- an overlay: its number, its lower layers from the top, and who mounted it
 pub record OverlayValue : Type 0 where

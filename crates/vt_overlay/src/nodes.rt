@@ -9,21 +9,21 @@ ghost use Rattle.vt_location.specs.Locations.{inode_of, is_small_node, number_of
 ghost use Rattle.vt_location.specs.Numbers.{exchanged};
 ghost use Rattle.vt_location.specs.declared.births.Birth.TheVariants.{Below};
 ghost use Rattle.vt_fs.specs.FilesystemsValue.{Filesystems as Trees, files_at, node_seen};
-ghost use Rattle.vt_merge.specs.EntryValue.{IsFirstEntry};
-ghost use Rattle.vt_merge.specs.LayerValue.{layers_of, seen_of};
-ghost use Rattle.vt_merge.specs.declared.layers.LayerRef.{LayerRef as Layer};
-ghost use Rattle.vt_merge.specs.declared.merging.TheConstants.{MOST_LAYERS};
+ghost use Rattle.vt_overlay.specs.Merge.EntryValue.{IsFirstEntry};
+ghost use Rattle.vt_overlay.specs.Merge.LayerValue.{layers_of, seen_of};
+ghost use Rattle.vt_overlay.specs.declared.merge.layers.LayerRef.{LayerRef as Layer};
+ghost use Rattle.vt_overlay.specs.declared.merge.merging.TheConstants.{MOST_LAYERS};
 ghost use Rattle.vt_node.specs.Ranks.{rank_among};
 ghost use Rattle.vt_overlay.specs.Alike.{front, real_lent};
 ghost use Rattle.vt_overlay.specs.MergedTree.{AreLayers, birth_at, born_below, born_here, merged_tree, number_at, object_shown, real_in};
 
-use crate::overlays::{Overlay, inode_in};
-use vt_fs::Filesystems;
-use vt_location::{Birth, FilesystemId, InodeRef, NodeRef};
-use vt_merge::{
+use crate::merge::{
     Front, LayerEntry, MergedDirectory, Real, Way, entry_in, first_entry, led_to, real_of, shown,
     slot_of, way_down,
 };
+use crate::overlays::{Overlay, inode_in};
+use vt_fs::Filesystems;
+use vt_location::{Birth, FilesystemId, InodeRef, NodeRef};
 use vt_node::{Kind, Node};
 
 /// What a name of a directory leads to: a node, and its real object.

@@ -7,16 +7,16 @@ ghost use Rattle.vt_spec.specs.Tree.{entries_in, names_in, parent_in};
 ghost use Rattle.vt_location.specs.Locations.{inode_of, number_of};
 ghost use Rattle.vt_location.specs.Numbers.{exchanged};
 ghost use Rattle.vt_fs.specs.FilesystemsValue.{files_at};
-ghost use Rattle.vt_merge.specs.LayerValue.{layers_of};
-ghost use Rattle.vt_merge.specs.declared.merging.TheConstants.{MOST_LAYERS};
+ghost use Rattle.vt_overlay.specs.Merge.LayerValue.{layers_of};
+ghost use Rattle.vt_overlay.specs.declared.merge.merging.TheConstants.{MOST_LAYERS};
 ghost use Rattle.vt_overlay.specs.MergedTree.{AreLayers, born_below, born_here, directory_path, merged_files, merged_tree};
 
+use crate::merge::{LayerRef, Way, WayDown, has_names, merged_names, shown, starts_with, way_down};
 use std::alloc::{AllocError, Global};
 use std::marker::Model;
 use vt_cred::Cred;
 use vt_fs::Filesystems;
 use vt_location::{Birth, FilesystemId, InodeRef, NodeRef};
-use vt_merge::{LayerRef, Way, WayDown, has_names, merged_names, shown, starts_with, way_down};
 
 /// An overlay without an upper layer: its number, its lower layers from the top, and the credentials that it was
 /// mounted with.

@@ -3,14 +3,14 @@ ghost use Rattle.std.specs.Prelude.{◌≡◌, ◌≤◌, [], IfOk, drop, length
 ghost use Rattle.vt_spec.specs.FileTree.{path_down};
 ghost use Rattle.vt_spec.specs.Lists.{when};
 ghost use Rattle.vt_location.specs.Locations.{number_of};
-ghost use Rattle.vt_merge.specs.declared.merging.TheConstants.{MOST_LAYERS};
+ghost use Rattle.vt_overlay.specs.declared.merge.merging.TheConstants.{MOST_LAYERS};
 ghost use Rattle.vt_overlay.specs.MergedTree.{AreLayers, merged_files};
 
+use crate::merge::{Way, starts_with};
 use crate::overlays::Overlay;
 use std::alloc::{AllocError, Global};
 use vt_fs::Filesystems;
 use vt_location::NodeRef;
-use vt_merge::{Way, starts_with};
 use vt_node::copied_bytes;
 
 impl Overlay {

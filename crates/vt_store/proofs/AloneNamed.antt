@@ -18,8 +18,8 @@ use Rattle.vt_spec.specs.Tree.{Node, entries_in, entries_of}
 use Rattle.vt_store.proofs.Ranked.{some_ranked}
 use Rattle.vt_store.specs.Locks.{directory_lies_in_overlay, names_in_layer}
 use Rattle.vt_store.specs.OverlaysValue.{OverlayEntry}
-use Rattle.vt_tree.specs.Names.{AloneNames}
-use Rattle.vt_tree.specs.TreeValue.{TreeValue, tree_of}
+use Rattle.vt_fs.specs.Trees.Names.{AloneNames}
+use Rattle.vt_fs.specs.Trees.TreeValue.{TreeValue, tree_of}
 
 -- where one number alone may pass, some of a list passes if that one does
 none_passes : (test : ℕ → Bool) (one : ℕ) → ((other : ℕ) → test other ≡ true → other ≡ one) → test one ≡ false

@@ -3,7 +3,7 @@ use Rattle.std.proofs.Common.{Bool, List, [], ap, false, refl, sym, true, ◌&&�
 use Rattle.std.specs.List.{list_any}
 use Rattle.vt_fs.specs.FilesystemsValue.{Filesystems, files_at}
 use Rattle.vt_location.specs.Locations.{inode_of}
-use Rattle.vt_merge.specs.declared.layers.LayerRef.{LayerRef}
+use Rattle.vt_overlay.specs.declared.merge.layers.LayerRef.{LayerRef}
 use Rattle.vt_spec.proofs.Truths.{or_false_left, or_false_right}
 use Rattle.vt_spec.specs.FileTree.{has_entry_to, is_directory_under, is_file_under, is_under}
 use Rattle.std.specs.Prelude.{nat_eq, ℕ}

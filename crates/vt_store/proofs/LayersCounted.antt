@@ -5,11 +5,11 @@ use Rattle.std.proofs.lemmas.List.{length-take-le, take_more}
 use Rattle.vt_spec.proofs.Lists.{folded-snoc}
 use Rattle.vt_spec.specs.Inodes.{Inode, Inodes, pinned, unpinned, used_once_more, uses_in}
 use Rattle.vt_spec.specs.Lists.{folded}
-use Rattle.vt_tree.specs.Slots.{most_uses}
+use Rattle.vt_fs.specs.Trees.Slots.{most_uses}
 use Rattle.vt_location.specs.declared.locations.NodeRef.{NodeRef}
 use Rattle.vt_location.specs.Locations.{inode_of, number_of}
 use Rattle.vt_fs.specs.FilesystemsValue.{ChangesInodes, FilesystemEntry, Filesystems, Shown, entry_at, entry_of, inodes_at, inodes_seen, no_entry, shown, shown_entry, shown_if, shown_with, with_changed, without}
-use Rattle.vt_merge.specs.declared.layers.LayerRef.{LayerRef}
+use Rattle.vt_overlay.specs.declared.merge.layers.LayerRef.{LayerRef}
 use Rattle.vt_store.specs.LayersHeld.{HasRoomFor, HaveRoomFor, mounts_changed, mounts_changed_if, mounts_shown, uses_shown, with_layer, with_layers, without_layer, without_unmounted}
 
 abbrev pub found : ℕ → List Shown → Option Shown

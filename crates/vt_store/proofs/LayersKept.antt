@@ -11,7 +11,7 @@ use Rattle.std.proofs.lemmas.Option.{same_Some}
 use Rattle.indexmap.specs.IndexMap.{IndexMap, WritesThrough, get_by}
 use Rattle.vt_location.proofs.OrderLemmas.{apart-below, rises, rises-in_order, same_by}
 use Rattle.vt_location.specs.declared.numbers.FilesystemId.{FilesystemId}
-use Rattle.vt_merge.specs.declared.layers.LayerRef.{LayerRef}
+use Rattle.vt_overlay.specs.declared.merge.layers.LayerRef.{LayerRef}
 use Rattle.vt_spec.proofs.Options.{none_is_some}
 use Rattle.vt_spec.proofs.Truths.{T_and_left, T_and_right}
 use Rattle.vt_store.proofs.KeptOverlays.{added, count_of, entry_kept-entries, entry_kept-kept, in_order, is_key, key_eq, of_count, own_added, own_removed, own_written, removed, writes}

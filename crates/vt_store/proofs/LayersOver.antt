@@ -14,7 +14,7 @@ use Rattle.vt_location.specs.Locations.{inode_of}
 use Rattle.vt_location.specs.Numbers.{inode_number}
 use Rattle.vt_location.specs.declared.locations.InodeRef.{InodeRef}
 use Rattle.vt_location.specs.declared.numbers.FilesystemId.{FilesystemId}
-use Rattle.vt_merge.specs.declared.layers.LayerRef.{LayerRef}
+use Rattle.vt_overlay.specs.declared.merge.layers.LayerRef.{LayerRef}
 use Rattle.vt_spec.proofs.Truths.{same_truth}
 use Rattle.vt_spec.specs.FileTree.{is_directory_under}
 use Rattle.vt_spec.specs.Inodes.{ancestors}
@@ -27,7 +27,7 @@ use Rattle.vt_store.specs.LayersAt.{AreCounted, has_layer_at, has_layer_in}
 use Rattle.vt_store.specs.Locks.{directory_lies_in, directory_lies_in_overlay, overlay_stands_in}
 use Rattle.vt_store.specs.OverlaysValue.{Overlays, all_layers}
 use Rattle.vt_store.specs.declared.layer_counts.LayerCounts.{LayerCounts}
-use Rattle.vt_tree.specs.TreeValue.{TreeValue, inodes_of}
+use Rattle.vt_fs.specs.Trees.TreeValue.{TreeValue, inodes_of}
 
 -- two tests that agree on all elements
 any_alike : {X : Type 0} (P : X → Type 0) (p q : X → Bool) → ((x : X) → P x → p x ≡ q x) → (xs : List X) → All P xs

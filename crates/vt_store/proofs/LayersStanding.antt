@@ -19,7 +19,7 @@ use Rattle.vt_spec.specs.TreeInvariant.{IsDirectory, IsTree}
 use Rattle.vt_location.specs.Locations.{inode_of}
 use Rattle.vt_location.specs.Numbers.{counted, is_inode_of}
 use Rattle.vt_fs.specs.FilesystemsValue.{FilesystemEntry, Filesystems, entry_of, inodes_at, inodes_seen, no_entry}
-use Rattle.vt_merge.specs.declared.layers.LayerRef.{LayerRef}
+use Rattle.vt_overlay.specs.declared.merge.layers.LayerRef.{LayerRef}
 use Rattle.vt_overlay.specs.MergedTree.{AreLayers, IsLayer, OverlayValue, layer_seen}
 use Rattle.vt_store.specs.Laws.{HasOwnNumbers, IsSameTree, OverlaysStandStill, WorldsStandOnLayers}
 use Rattle.vt_store.specs.OverlaysValue.{OverlayEntry}

@@ -17,7 +17,7 @@ use Rattle.vt_spec.specs.Tree.{Content, Node, Tree, entries_in, entries_of, is_d
 use Rattle.vt_spec.specs.Tree.Content.{Directory, Regular, Symlink, Whiteout}
 use Rattle.vt_store.proofs.Ranked.{some_ranked}
 use Rattle.vt_store.proofs.Scanned.{Slots}
-use Rattle.vt_tree.specs.TreeValue.{TreeValue}
+use Rattle.vt_fs.specs.Trees.TreeValue.{TreeValue}
 
 -- a directory has a name for an inode where it has one of rank 0 for its slot
 pub has_name : (count : ℕ) (tree : Tree ℕ) (directory : ℕ) (node : Node ℕ) (slot : ℕ) → slot < 18446744073709551616

@@ -4,7 +4,7 @@ use Rattle.std.specs.Prelude.{All}
 use Rattle.std.proofs.lemmas.List.Elements.{All-cons, All-head, All-tail}
 use Rattle.vt_spec.specs.FileTree.{FileTree}
 use Rattle.vt_fs.specs.FilesystemsValue.{FilesystemEntry, Filesystems, entry_of, files_at, files_seen, filesystem_seen, filesystems_seen, no_entry, with_changed}
-use Rattle.vt_merge.specs.declared.layers.LayerRef.{LayerRef}
+use Rattle.vt_overlay.specs.declared.merge.layers.LayerRef.{LayerRef}
 use Rattle.vt_store.specs.Counts.{with_mounts_by}
 use Rattle.vt_store.specs.Laws.{IsSameLayer, MountsAreNotSeen, MountsLeaveLayers}
 use Rattle.vt_store.specs.OverlaysValue.{OverlayEntry, Overlays, with_overlay_changed}

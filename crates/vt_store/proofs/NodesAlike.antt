@@ -7,8 +7,8 @@ use Rattle.vt_spec.specs.Machine.Merging.{layer_node}
 use Rattle.vt_spec.specs.Tree.{Content, Node}
 use Rattle.vt_spec.specs.Tree.Content.{Directory, Regular, Symlink, Whiteout}
 use Rattle.vt_fs.specs.FilesystemsValue.{Filesystems, files_at, node_seen}
-use Rattle.vt_merge.specs.LayerValue.{layer_of, layers_of}
-use Rattle.vt_merge.specs.declared.layers.LayerRef.{LayerRef}
+use Rattle.vt_overlay.specs.Merge.LayerValue.{layer_of, layers_of}
+use Rattle.vt_overlay.specs.declared.merge.layers.LayerRef.{LayerRef}
 use Rattle.vt_overlay.specs.Alike.{front, lent_at, real_lent}
 use Rattle.vt_overlay.specs.MergedTree.{AreLayers, OverlayValue, merged_tree, object_shown}
 use Rattle.vt_overlay.proofs.ObjectsAlike.{inode_of_object, objects_alike}

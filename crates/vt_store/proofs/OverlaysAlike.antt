@@ -9,16 +9,16 @@ use Rattle.vt_spec.specs.Machine.Merging.{is_root_path, layer_node, merged_at, r
 use Rattle.vt_spec.specs.Machine.World.{Real}
 use Rattle.vt_spec.specs.Machine.World.Real.{Lower, Upper}
 use Rattle.vt_spec.specs.Tree.{Node, entries_in, is_directory_node}
-use Rattle.vt_laws_worlds.specs.Merging.MergedTrees.{layers_shown, node_as}
-use Rattle.vt_laws_worlds.specs.Seen.TreesSeen.{node_by, real_by}
+use Rattle.vt_laws_trees.specs.Overlays.MergedTrees.{layers_shown, node_as}
+use Rattle.vt_laws_trees.specs.Overlays.TreesSeen.{node_by, real_by}
 use Rattle.vt_node.specs.Ranks.{rank_among}
 use Rattle.vt_location.specs.declared.births.Birth.TheVariants.{Below, Here}
 use Rattle.vt_location.specs.declared.locations.NodeRef.{NodeRef}
 use Rattle.vt_location.specs.Locations.{inode_of, number_of}
 use Rattle.vt_location.specs.Numbers.{exchanged}
 use Rattle.vt_fs.specs.FilesystemsValue.{Filesystems}
-use Rattle.vt_merge.specs.LayerValue.{layer_of, layers_of}
-use Rattle.vt_merge.specs.declared.layers.LayerRef.{LayerRef}
+use Rattle.vt_overlay.specs.Merge.LayerValue.{layer_of, layers_of}
+use Rattle.vt_overlay.specs.declared.merge.layers.LayerRef.{LayerRef}
 use Rattle.vt_overlay.proofs.TreeFound.{layers_are}
 use Rattle.vt_overlay.specs.MergedTree.{AreLayers, OverlayValue, longest, merged_files, overlay_seen, path_at, plain_world, real_number}
 use Rattle.vt_store.specs.Laws.{IsSameLayer, OverlaysStayWithLayers}

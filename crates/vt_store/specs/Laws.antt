@@ -5,7 +5,7 @@ use Rattle.vt_spec.specs.Machine.Invariants.{IsWorld}
 use Rattle.vt_spec.specs.Machine.World.{World}
 use Rattle.vt_location.specs.Numbers.{is_inode_of}
 use Rattle.vt_fs.specs.FilesystemsValue.{FilesystemEntry, Filesystems, files_at, inodes_seen}
-use Rattle.vt_merge.specs.declared.layers.LayerRef.{LayerRef}
+use Rattle.vt_overlay.specs.declared.merge.layers.LayerRef.{LayerRef}
 use Rattle.vt_overlay.specs.Alike.{front}
 use Rattle.vt_overlay.specs.MergedTree.{AreLayers}
 use Rattle.vt_store.specs.Counts.{with_mounts}

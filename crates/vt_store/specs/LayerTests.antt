@@ -2,7 +2,7 @@
 use Rattle.std.specs.Prelude.{Bool, nat_eq, ℕ, ◌&&◌}
 use Rattle.vt_location.specs.declared.locations.InodeRef.{InodeRef}
 use Rattle.vt_location.specs.declared.numbers.FilesystemId.{FilesystemId}
-use Rattle.vt_merge.specs.declared.layers.LayerRef.{LayerRef}
+use Rattle.vt_overlay.specs.declared.merge.layers.LayerRef.{LayerRef}
 
 abbrev pub same_filesystem : FilesystemId → FilesystemId → Bool
 same_filesystem one other = nat_eq one.count other.count

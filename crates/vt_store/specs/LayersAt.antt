@@ -2,7 +2,7 @@
 use Rattle.std.specs.Prelude.{All, Bool, List, count_by, nat_lt, ℕ, ◌+◌, ◌<◌, ◌^◌, ◌≡◌, ◌≤◌}
 use Rattle.vt_location.specs.declared.locations.InodeRef.{InodeRef}
 use Rattle.vt_location.specs.declared.numbers.FilesystemId.{FilesystemId}
-use Rattle.vt_merge.specs.declared.layers.LayerRef.{LayerRef}
+use Rattle.vt_overlay.specs.declared.merge.layers.LayerRef.{LayerRef}
 use Rattle.vt_store.specs.declared.layer_counts.LayerCounts.{LayerCounts}
 use Rattle.vt_store.specs.LayerTests.{same_filesystem, same_inode, stands_at, stands_in}
 use Rattle.vt_store.specs.Tallies.{room, times}

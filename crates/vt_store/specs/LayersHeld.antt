@@ -3,11 +3,11 @@ use Rattle.std.specs.Prelude.{All, List, [], filter, find, if◌then◌else◌, 
 use Rattle.vt_spec.specs.Inodes.{pinned, unpinned, uses_in}
 use Rattle.vt_spec.specs.Lists.{folded}
 use Rattle.vt_spec.specs.Rights.{Credentials}
-use Rattle.vt_tree.specs.Slots.{most_uses}
+use Rattle.vt_fs.specs.Trees.Slots.{most_uses}
 use Rattle.vt_location.specs.declared.numbers.FilesystemId.{FilesystemId}
 use Rattle.vt_location.specs.Locations.{inode_of}
 use Rattle.vt_fs.specs.FilesystemsValue.{Shown, shown_with}
-use Rattle.vt_merge.specs.declared.layers.LayerRef.{LayerRef}
+use Rattle.vt_overlay.specs.declared.merge.layers.LayerRef.{LayerRef}
 use Rattle.vt_store.specs.OverlaysValue.{OverlayEntry}
 use Rattle.vt_store.specs.StoreValue.{StoreValue, overlay_in}
 

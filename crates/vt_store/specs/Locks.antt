@@ -4,7 +4,7 @@ use Rattle.std.specs.List.{list_any}
 use Rattle.vt_spec.specs.FileTree.{has_entry_to, is_directory_under, is_under}
 use Rattle.vt_location.specs.Locations.{inode_of}
 use Rattle.vt_fs.specs.FilesystemsValue.{Filesystems, files_at}
-use Rattle.vt_merge.specs.declared.layers.LayerRef.{LayerRef}
+use Rattle.vt_overlay.specs.declared.merge.layers.LayerRef.{LayerRef}
 use Rattle.vt_store.specs.LayerTests.{stands_in}
 use Rattle.vt_store.specs.OverlaysValue.{OverlayEntry}
 use Rattle.vt_store.specs.StoreValue.{StoreValue}

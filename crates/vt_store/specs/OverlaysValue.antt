@@ -4,7 +4,7 @@ use Rattle.std.specs.List.{flat_map}
 use Rattle.std.specs.Map.{lookup}
 use Rattle.vt_location.specs.declared.numbers.FilesystemId.{FilesystemId}
 use Rattle.vt_location.specs.InOrder.{in_order_by}
-use Rattle.vt_merge.specs.declared.layers.LayerRef.{LayerRef}
+use Rattle.vt_overlay.specs.declared.merge.layers.LayerRef.{LayerRef}
 use Rattle.vt_overlay.specs.MergedTree.{OverlayValue}
 use Rattle.vt_store.specs.declared.layer_counts.LayerCounts.{LayerCounts}
 use Rattle.vt_store.specs.declared.overlays.KeptOverlay.{KeptOverlay}

@@ -3,10 +3,10 @@ use Rattle.std.specs.Prelude.{All, List, None, Option, Some, [], find, if◌then
 use Rattle.vt_spec.specs.FileTree.{FileTree}
 use Rattle.vt_spec.specs.Machine.World.{Filesystem, Overlay, World, filesystem_numbered}
 use Rattle.vt_spec.specs.Tree.{Node}
-use Rattle.vt_laws_worlds.specs.Seen.TreesSeen.{real_seen}
+use Rattle.vt_laws_trees.specs.Overlays.TreesSeen.{real_seen}
 use Rattle.vt_location.specs.Numbers.{counted}
 use Rattle.vt_fs.specs.FilesystemsValue.{Filesystems, files_at, filesystems_seen, node_seen}
-use Rattle.vt_merge.specs.declared.merging.TheConstants.{MOST_LAYERS}
+use Rattle.vt_overlay.specs.declared.merge.merging.TheConstants.{MOST_LAYERS}
 use Rattle.vt_overlay.specs.Alike.{real_lent}
 use Rattle.vt_overlay.specs.MergedTree.{AreLayers, OverlayValue, longest, merged_files, overlay_seen, plain_world, real_number}
 use Rattle.vt_store.specs.OverlaysValue.{OverlayEntry, Overlays, entry_kept, overlay_of}

@@ -1,6 +1,6 @@
 //! How many mounts show a filesystem, a plain tree or an overlay. A layer of an overlay is counted as a mount is.
 ghost use Rattle.std.specs.Prelude.{◌≡◌, ◌+◌, ◌-◌, ◌↔◌, IsErr, OnErr, OnOk};
-ghost use Rattle.vt_tree.specs.Slots.{most_uses};
+ghost use Rattle.vt_fs.specs.Trees.Slots.{most_uses};
 ghost use Rattle.vt_store.specs.Counts.{mounts_in, with_mounts};
 
 use crate::store::Store;

@@ -10,7 +10,7 @@ use crate::store::Store;
 use std::alloc::AllocError;
 use vt_cred::Cred;
 use vt_location::FilesystemId;
-use vt_merge::LayerRef;
+use vt_overlay::LayerRef;
 
 impl Store {
     /// Whether so many layers can be held: each directory may have as many more uses as there are layers, and each

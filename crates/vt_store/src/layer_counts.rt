@@ -2,17 +2,17 @@
 ghost use Rattle.std.specs.Prelude.{◌≡◌, ◌+◌, ◌++◌, ◌∷◌, [], ℕ, List, OnOk, length, nat_eq};
 ghost use Rattle.std.specs.List.{list_any};
 ghost use Rattle.vt_spec.specs.Inodes.{ancestors};
-ghost use Rattle.vt_tree.specs.TreeValue.{inodes_of};
-ghost use Rattle.vt_merge.specs.declared.layers.LayerRef.{LayerRef};
+ghost use Rattle.vt_fs.specs.Trees.TreeValue.{inodes_of};
+ghost use Rattle.vt_overlay.specs.declared.merge.layers.LayerRef.{LayerRef};
 ghost use Rattle.vt_store.specs.LayerTests.{layer_at, same_filesystem, same_inode};
 ghost use Rattle.vt_store.specs.Tallies.{HasFew};
 
 use crate::tally::Tally;
 use std::alloc::{AllocError, Global};
+use vt_fs::Tree;
 use vt_location::{FilesystemId, InodeRef};
-use vt_merge::LayerRef;
 use vt_node::NodeId;
-use vt_tree::Tree;
+use vt_overlay::LayerRef;
 
 /// How many layers are in each filesystem, and how many are at each directory: so whether one is there costs a look-up,
 /// however many there are.

@@ -9,7 +9,7 @@ ghost use Rattle.vt_store.specs.StoreValue.{StandOnLayers, overlay_in};
 use crate::store::Store;
 use vt_fs::Filesystems;
 use vt_location::FilesystemId;
-use vt_merge::LayerRef;
+use vt_overlay::LayerRef;
 
 impl Store {
     /// Takes an overlay out, whatever mounts show it, and lets its layers go: each is a use less of its directory and a

@@ -6,7 +6,7 @@ ghost use Rattle.vt_location.specs.Locations.{inode_of};
 ghost use Rattle.vt_fs.specs.FilesystemsValue.{files_at};
 ghost use Rattle.vt_fs.specs.Laws.{ParentsAreNamed};
 ghost use Rattle.vt_store.specs.Numbered.{AreNotOlder};
-ghost use Rattle.vt_tree.specs.Slots.{most_uses};
+ghost use Rattle.vt_fs.specs.Trees.Slots.{most_uses};
 
 use crate::layer_counts::LayerCounts;
 use indexmap::IndexMap;
@@ -15,8 +15,7 @@ use std::marker::Model;
 use vt_cred::Cred;
 use vt_fs::Filesystems;
 use vt_location::{FilesystemId, InodeRef};
-use vt_merge::LayerRef;
-use vt_overlay::Overlay;
+use vt_overlay::{LayerRef, Overlay};
 
 // An overlay, and how many mounts show it.
 #[derive(Debug, Drop)]

@@ -2,7 +2,7 @@
 ghost use Rattle.std.specs.Prelude.{◌≡◌, IfOk, map, nat_eq, option_map};
 ghost use Rattle.vt_spec.specs.FileTree.{path_down};
 ghost use Rattle.vt_location.specs.Locations.{number_of};
-ghost use Rattle.vt_tree.specs.Paths.{NamesDirectoriesOnce};
+ghost use Rattle.vt_fs.specs.Trees.Paths.{NamesDirectoriesOnce};
 ghost use Rattle.vt_store.specs.StoreValue.{StandOnLayers, files_in};
 
 use crate::store::Store;

@@ -11,11 +11,11 @@ use Rattle.vt_spec.specs.Machine.World.{Overlay, Real, Task, World, filesystem_n
 use Rattle.vt_laws_rules.specs.Plain.{IsPlain}
 use Rattle.vt_laws_mounts.specs.Counts.BesideOverlays.{OverlaysHaveNoUpper}
 use Rattle.vt_laws_mounts.specs.Counts.OverlaysStay.{OverlaysAreNamed}
-use Rattle.vt_laws_worlds.specs.Merging.MergedTrees.{IsNamedBy}
+use Rattle.vt_laws_trees.specs.Overlays.MergedTrees.{IsNamedBy}
 use Rattle.vt_laws_worlds.specs.Permits.Left.{IsGiven, left_by}
 use Rattle.vt_laws_worlds.specs.OverlaysStay.Left.{MakesTheGreatest}
 use Rattle.vt_laws_worlds.specs.OverlaysStay.Woven.{are_rising}
-use Rattle.vt_laws_worlds.specs.Seen.TreesSeen.{AreNoLarger, real_seen, tree_seen}
+use Rattle.vt_laws_trees.specs.Overlays.TreesSeen.{AreNoLarger, real_seen, tree_seen}
 
 -- Before the sweep all overlays are there, in their order, as they were.
 abbrev pub PermitsLeaveOverlays : Type 0

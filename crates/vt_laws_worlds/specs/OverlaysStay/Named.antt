@@ -4,8 +4,8 @@ use Rattle.std.specs.Prelude.{None, Some, nat_eq, true, ℕ, ◌≡◌}
 use Rattle.vt_spec.specs.Machine.Invariants.{IsWorld}
 use Rattle.vt_spec.specs.Machine.World.{Overlay, Real, World, filesystem_numbered}
 use Rattle.vt_laws_mounts.specs.LettingGo.Keeping.{has_only_named}
-use Rattle.vt_laws_worlds.specs.Merging.MergedTrees.{IsNamedBy}
-use Rattle.vt_laws_worlds.specs.Seen.TreesSeen.{real_seen}
+use Rattle.vt_laws_trees.specs.Overlays.MergedTrees.{IsNamedBy}
+use Rattle.vt_laws_trees.specs.Overlays.TreesSeen.{real_seen}
 use Rattle.vt_laws_mounts.specs.Counts.OverlaysStay.{OverlaysAreNamed}
 
 -- So it is of one overlay,

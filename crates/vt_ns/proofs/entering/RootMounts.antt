@@ -12,8 +12,8 @@ use Rattle.vt_location.specs.MountValue.{mount_of}
 use Rattle.vt_location.specs.Numbers.{counted}
 use Rattle.vt_mount.specs.MountsValue.{MountEntry, are_ascending, mounts_in}
 use Rattle.vt_ns.specs.Entering.{root_mount_in}
-use Rattle.vt_detach.proofs.EndingLemmas.{entry_ascending, last_is_among}
-use Rattle.vt_detach.proofs.Shown.{found_entry, is_some_mapped}
+use Rattle.vt_mounting.proofs.detach.EndingLemmas.{entry_ascending, last_is_among}
+use Rattle.vt_mounting.proofs.detach.Shown.{found_entry, is_some_mapped}
 
 -- the first that passes is the next one, or none of those with it passes
 pub next_passes : {A : Type 0} (p : A → Bool) (xs : List A) (n : ℕ) (x : A) → find p (take n xs) ≡ None

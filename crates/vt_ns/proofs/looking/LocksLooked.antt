@@ -30,7 +30,7 @@ use Rattle.vt_location.proofs.NumberLemmas.{counted_test, own_inode, slot_of}
 use Rattle.vt_fs.specs.FilesystemsValue.{FilesystemEntry, Filesystems, entry_of, files_at, files_seen, filesystem_seen, no_entry}
 use Rattle.vt_fs.specs.Laws.{ParentsAreNamed}
 use Rattle.vt_fs.proofs.Parents.{parents_named}
-use Rattle.vt_merge.specs.declared.layers.LayerRef.{LayerRef}
+use Rattle.vt_overlay.specs.declared.merge.layers.LayerRef.{LayerRef}
 use Rattle.vt_overlay.specs.MergedTree.{layer_seen}
 use Rattle.vt_store.specs.Locks.{is_in_layer, lies_in, lies_in_overlay}
 use Rattle.vt_store.specs.OverlaysValue as stored
@@ -38,10 +38,10 @@ use Rattle.vt_store.specs.StoreValue.{StoreValue}
 use Rattle.vt_world.specs.Held.{HasOwnInodes, IsHeld}
 use Rattle.vt_world.specs.StoredWorld.{overlay_of_store, overlays_of_store, with_store}
 use Rattle.vt_world.specs.WorldValue.{WorldValue, overlay_seen, overlays_seen, world_of}
-use Rattle.vt_detach.specs.Looking.{is_seen}
-use Rattle.vt_detach.proofs.LookLemmas.{unseen_node}
-use Rattle.vt_detach.proofs.Overlaid.{overlays_are, plain_one_among}
-use Rattle.vt_detach.proofs.PlainFound.{counted_where_plain, overlay_among}
+use Rattle.vt_mounting.specs.Detach.Looking.{is_seen}
+use Rattle.vt_mounting.proofs.detach.LookLemmas.{unseen_node}
+use Rattle.vt_mounting.proofs.detach.Overlaid.{overlays_are, plain_one_among}
+use Rattle.vt_mounting.proofs.detach.PlainFound.{counted_where_plain, overlay_among}
 
 -- tests that agree on the elements of a list are passed by some alike
 any_alike : {A : Type 0} (one other : A → Bool) (list : List A) → ((a : A) → Among a list → one a ≡ other a)

@@ -24,15 +24,15 @@ use Rattle.vt_fs.specs.Laws.{is_lost_under}
 use Rattle.vt_mount.specs.MountsValue.{mounts_in, stands_over}
 use Rattle.vt_world.specs.Held.{IsHeld}
 use Rattle.std.proofs.Math.Bool.{or-true}
-use Rattle.vt_detach.specs.Looking.{is_seen, looks_of_value}
+use Rattle.vt_mounting.specs.Detach.Looking.{is_seen, looks_of_value}
 use Rattle.vt_world.specs.Lent.{lent_of_world}
 use Rattle.vt_world.specs.StoredWorld.{with_store}
 use Rattle.vt_world.specs.WorldValue.{WorldValue, world_of}
 use Rattle.vt_store.specs.StoreValue.{StoreValue, files_in, lent_in}
 use Rattle.vt_spec.specs.Tree.{Node, Tree}
 use Rattle.vt_spec.proofs.Options.{none_is_some}
-use Rattle.vt_detach.proofs.LookLemmas.{any_point, missing_root, under_another, unseen_node, unseen_removed, unseen_root}
-use Rattle.vt_detach.proofs.StoreShown.{files_shown}
+use Rattle.vt_mounting.proofs.detach.LookLemmas.{any_point, missing_root, under_another, unseen_node, unseen_removed, unseen_root}
+use Rattle.vt_mounting.proofs.detach.StoreShown.{files_shown}
 use Rattle.vt_ns.proofs.looking.StoreLooked.{lent_shown, under_shown}
 use Rattle.vt_ns.specs.Lent.{as_lent, real_of_value}
 

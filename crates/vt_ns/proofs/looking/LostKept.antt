@@ -23,7 +23,7 @@ use Rattle.vt_laws_trees.proofs.trees.TreesOfWorlds.{numbered_anyhow}
 use Rattle.vt_fs.specs.Laws.{LieUnderRoot, is_lost_under}
 use Rattle.vt_fs.proofs.TreesLookedAt.{nowhere_under}
 use Rattle.vt_looks.specs.Looking.{WaysStayFound}
-use Rattle.vt_detach.specs.Looking.{looks_of_value}
+use Rattle.vt_mounting.specs.Detach.Looking.{looks_of_value}
 use Rattle.vt_world.specs.Held.{IsHeld}
 use Rattle.vt_world.specs.WorldValue.{WorldValue, world_of}
 

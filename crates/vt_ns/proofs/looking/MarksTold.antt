@@ -12,7 +12,7 @@ use Rattle.vt_fs.specs.FilesystemsValue.{node_seen}
 use Rattle.vt_world.specs.Held.{IsHeld}
 use Rattle.vt_world.specs.Lent.{count_of, lent_by}
 use Rattle.vt_world.specs.WorldValue.{WorldValue, world_of}
-use Rattle.vt_detach.specs.Looking.{looks_of_value}
+use Rattle.vt_mounting.specs.Detach.Looking.{looks_of_value}
 use Rattle.vt_ns.specs.Lent.{as_lent, real_of_value, with_names}
 use Rattle.vt_ns.specs.Told.{told_by}
 

@@ -12,7 +12,7 @@ use Rattle.vt_world.specs.Held.{IsHeld}
 use Rattle.vt_world.specs.StoredWorld.{overlay_of_store, with_store}
 use Rattle.vt_world.specs.WorldValue.{WorldValue, world_of}
 use Rattle.vt_world.specs.WorldValue as worlds
-use Rattle.vt_detach.proofs.StoreShown.{overlay_found, plain_found}
+use Rattle.vt_mounting.proofs.detach.StoreShown.{overlay_found, plain_found}
 
 -- an overlay of the world is one of the store
 pub record IsOverlayOf (kept : OverlayValue) (filesystem : Filesystem ℕ) : Type 0 where

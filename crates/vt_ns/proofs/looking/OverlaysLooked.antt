@@ -21,8 +21,8 @@ use Rattle.vt_world.specs.Held.{IsHeld}
 use Rattle.vt_world.specs.Lent.{lent_of_world}
 use Rattle.vt_world.specs.StoredWorld.{with_store}
 use Rattle.vt_world.specs.WorldValue.{WorldValue, world_of}
-use Rattle.vt_detach.proofs.LookLemmas.{shown_counted}
-use Rattle.vt_detach.specs.Looking.{looks_of_value}
+use Rattle.vt_mounting.proofs.detach.LookLemmas.{shown_counted}
+use Rattle.vt_mounting.specs.Detach.Looking.{looks_of_value}
 use Rattle.vt_ns.proofs.looking.Lending.{allows_alike}
 use Rattle.vt_ns.proofs.looking.OverlaysAt.{no_overlay_there, overlay_there}
 use Rattle.vt_ns.proofs.looking.UppersAsked.{found_without}

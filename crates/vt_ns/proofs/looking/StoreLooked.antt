@@ -17,9 +17,9 @@ use Rattle.vt_world.specs.Held.{IsHeld}
 use Rattle.vt_world.specs.Lent.{lent_of_world}
 use Rattle.vt_world.specs.StoredWorld.{with_store}
 use Rattle.vt_world.specs.WorldValue.{WorldValue, world_of}
-use Rattle.vt_detach.proofs.StoreLends.{store_lends}
-use Rattle.vt_detach.proofs.StoreShown.{files_shown, overlay_found, plain_found, store_stands}
-use Rattle.vt_detach.proofs.StoreTrees.{store_tree}
+use Rattle.vt_mounting.proofs.detach.StoreLends.{store_lends}
+use Rattle.vt_mounting.proofs.detach.StoreShown.{files_shown, overlay_found, plain_found, store_stands}
+use Rattle.vt_mounting.proofs.detach.StoreTrees.{store_tree}
 use Rattle.vt_ns.proofs.looking.Lending.{lent_as_it_is}
 use Rattle.vt_ns.proofs.looking.LostKept.{file_tree, lie_nowhere, lie_under_root}
 use Rattle.vt_ns.proofs.looking.WaysUp.{same_above}

@@ -11,7 +11,7 @@ use Rattle.vt_spec.specs.Machine.World.{Filesystem, Overlay, filesystem_at, file
 use Rattle.vt_laws_trees.proofs.trees.TreesOfWorlds.{numbered_all}
 use Rattle.vt_world.specs.Held.{IsHeld}
 use Rattle.vt_world.specs.WorldValue.{WorldValue, world_of}
-use Rattle.vt_detach.specs.Looking.{looks_of_value}
+use Rattle.vt_mounting.specs.Detach.Looking.{looks_of_value}
 
 -- no overlay that is found has an upper layer
 pub found_without : (value : WorldValue) → IsHeld value → (number : ℕ)

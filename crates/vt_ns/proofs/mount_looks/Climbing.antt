@@ -6,7 +6,7 @@ use Rattle.vt_spec.specs.Machine.Mounts.{Location, Mount, children, mount_in, mo
 use Rattle.vt_spec.proofs.Lists.{among-filter, among-from_filter, any_among, any_from_among, list_any-never}
 use Rattle.vt_laws_mounts.proofs.mounts.MountsFound.{found_or_none, number_found}
 use Rattle.vt_laws_mounts.proofs.mounts.MountsReplaced.{found_itself}
-use Rattle.vt_detach.proofs.LookLemmas.{turned}
+use Rattle.vt_mounting.proofs.detach.LookLemmas.{turned}
 use Rattle.vt_spec.proofs.Truths.{nat_eq_itself, same_truth}
 use Rattle.std.proofs.Math.Bool.{or-false}
 use Rattle.vt_group.proofs.IndexLemmas.{any_flat}

@@ -9,8 +9,8 @@ use Rattle.vt_location.proofs.NodeLemmas.{nodes_test}
 use Rattle.vt_location.proofs.NumberLemmas.{counted_test}
 use Rattle.vt_world.specs.Held.{IsHeld}
 use Rattle.vt_world.specs.WorldValue.{WorldValue, world_of}
-use Rattle.vt_detach.proofs.LookLemmas.{turned}
-use Rattle.vt_detach.proofs.NodesFound.{in_no_other}
+use Rattle.vt_mounting.proofs.detach.LookLemmas.{turned}
+use Rattle.vt_mounting.proofs.detach.NodesFound.{in_no_other}
 use Rattle.vt_fs.proofs.TreesLookedAt.{nowhere_under}
 use Rattle.vt_ns.specs.LyingUnder.{lies_under}
 

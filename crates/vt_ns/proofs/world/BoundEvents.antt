@@ -15,11 +15,11 @@ use Rattle.vt_location.specs.MountValue.{mount_of}
 use Rattle.vt_location.specs.Numbers.{counted}
 use Rattle.vt_mount.specs.MountsValue.{mounts_in}
 use Rattle.vt_propagate.specs.Seen.{IsSeen, ReachesAs, is_mounted}
-use Rattle.vt_detach.specs.Events.{Permits}
+use Rattle.vt_mounting.specs.Detach.Events.{Permits}
 use Rattle.vt_world.specs.Held.{IsHeld}
 use Rattle.vt_world.specs.WorldValue.{WorldValue, world_of}
-use Rattle.vt_detach.proofs.FileEvents.{permit_fits}
-use Rattle.vt_attach.proofs.Binding.{found_some, is_seen}
+use Rattle.vt_mounting.proofs.detach.FileEvents.{permit_fits}
+use Rattle.vt_mounting.proofs.attach.Binding.{found_some, is_seen}
 use Rattle.vt_ns.specs.LyingUnder.{lies_under}
 
 -- a mount on which a location lies is there

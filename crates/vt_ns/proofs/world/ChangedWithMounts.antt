@@ -31,7 +31,7 @@ use Rattle.vt_laws_worlds.proofs.overlay_permits.kept.KeptOverlays.{overlays_in}
 use Rattle.vt_laws_worlds.proofs.overlay_permits.worlds.LowersGoOn.{Layers, changed_layers, layers, layers_at}
 use Rattle.vt_laws_worlds.specs.OverlaysRead.Writers.{WritersHaveLayers}
 use Rattle.vt_laws_worlds.proofs.overlays_read.Swept.{same_worlds_have_layers_alike, sweeps_keep_writers, writers_alike}
-use Rattle.vt_detach.proofs.Writers.{left_writers}
+use Rattle.vt_mounting.proofs.detach.Writers.{left_writers}
 use Rattle.vt_laws_worlds.proofs.overlay_permits.worlds.SweptWorlds.{settling_leaves_every_world}
 use Rattle.vt_laws_worlds.proofs.overlays_stay.left.Given.{given_permits_are_under_way_without_upper, given_permits_give_no_upper}
 use Rattle.vt_laws_mounts.proofs.letting_go.Lists.{Among, all_from_among, among-append_right, among-filter, among-filter_map, among-map, among_from_all, is_among_left, is_among_numbers, is_among_right, map_same, or_second}
@@ -56,27 +56,27 @@ use Rattle.vt_laws_worlds.proofs.kept.NamespacesKept.{all_namespaces_kept}
 use Rattle.vt_laws_worlds.proofs.worlds.PermitsNamed.{all_permits_keep_counting_forks, all_permits_keep_names}
 use Rattle.vt_laws_worlds.proofs.worlds.PermitsPlaced.{directories_stay, locations_stay, open_files_stay}
 use Rattle.vt_laws_worlds.proofs.worlds.PermitsShow.{all_permits_keep_mounts_showing}
-use Rattle.vt_detach.specs.Events.{Permits, supply_of}
-use Rattle.vt_detach.specs.Detached.{LeaveInTurn, LeaveTogether}
+use Rattle.vt_mounting.specs.Detach.Events.{Permits, supply_of}
+use Rattle.vt_mounting.specs.Detach.Detached.{LeaveInTurn, LeaveTogether}
 use Rattle.vt_world.specs.Held.{CountsWhatIsInIt, IsHeld}
-use Rattle.vt_detach.specs.Uses.{Merged, kept_of, kept_with}
+use Rattle.vt_mounting.specs.Detach.Uses.{Merged, kept_of, kept_with}
 use Rattle.vt_world.specs.WorldValue.{WorldValue, world_of}
-use Rattle.vt_detach.proofs.ChangedFiles.{ChangesFiles, change_is_held, change_is_swept, with_filesystems}
-use Rattle.vt_detach.proofs.Bridging.{swept_is_same}
-use Rattle.vt_detach.proofs.DetachingBegins.{HasChildrenOf, detached_world, detaching_begins}
-use Rattle.vt_detach.proofs.DetachingEnds.{detached_counted, detached_is_private, detached_swept, held_is_kept, taken_regroups}
+use Rattle.vt_mounting.proofs.detach.ChangedFiles.{ChangesFiles, change_is_held, change_is_swept, with_filesystems}
+use Rattle.vt_mounting.proofs.detach.Bridging.{swept_is_same}
+use Rattle.vt_mounting.proofs.detach.DetachingBegins.{HasChildrenOf, detached_world, detaching_begins}
+use Rattle.vt_mounting.proofs.detach.DetachingEnds.{detached_counted, detached_is_private, detached_swept, held_is_kept, taken_regroups}
 use Rattle.vt_group.proofs.Others.{has_ordered}
-use Rattle.vt_detach.proofs.Finishing.{swept_held}
-use Rattle.vt_detach.proofs.FollowedTypes.{own_types}
-use Rattle.vt_detach.proofs.Overlaid.{found_plain_one, keeps_itself, plain_one_among, same_files_keep}
-use Rattle.vt_detach.proofs.Keeping.{IsKeptBut, detached_in}
-use Rattle.vt_detach.proofs.MountsGone.{pending_filesystem, pending_number}
-use Rattle.vt_detach.proofs.Moving.{swap_eq}
-use Rattle.vt_detach.proofs.Remaining.{remade_with}
-use Rattle.vt_detach.proofs.Staying.{IsDone, becomes_so}
-use Rattle.vt_detach.proofs.TypedEvents.{counts_typed, swept_typed, typed_value}
-use Rattle.vt_detach.proofs.TypedWorlds.{settled_typed, settled_typed_has, typed_world}
-use Rattle.vt_detach.proofs.UnmountedLazily.{all_detached}
+use Rattle.vt_mounting.proofs.detach.Finishing.{swept_held}
+use Rattle.vt_mounting.proofs.detach.FollowedTypes.{own_types}
+use Rattle.vt_mounting.proofs.detach.Overlaid.{found_plain_one, keeps_itself, plain_one_among, same_files_keep}
+use Rattle.vt_mounting.proofs.detach.Keeping.{IsKeptBut, detached_in}
+use Rattle.vt_mounting.proofs.detach.MountsGone.{pending_filesystem, pending_number}
+use Rattle.vt_mounting.proofs.detach.Moving.{swap_eq}
+use Rattle.vt_mounting.proofs.detach.Remaining.{remade_with}
+use Rattle.vt_mounting.proofs.detach.Staying.{IsDone, becomes_so}
+use Rattle.vt_mounting.proofs.detach.TypedEvents.{counts_typed, swept_typed, typed_value}
+use Rattle.vt_mounting.proofs.detach.TypedWorlds.{settled_typed, settled_typed_has, typed_world}
+use Rattle.vt_mounting.proofs.detach.UnmountedLazily.{all_detached}
 use Rattle.vt_spec.proofs.Worlds.{shown-mapped}
 use Rattle.vt_laws_mounts.specs.LettingGo.TreesOverlays.{in_use_of}
 

@@ -8,17 +8,17 @@ use Rattle.vt_location.specs.Numbers.{counted}
 use Rattle.vt_location.specs.declared.numbers.MountId.{MountId}
 use Rattle.vt_mount.specs.MountsValue.{MountEntry}
 use Rattle.vt_store.specs.StoreValue.{StoreValue}
-use Rattle.vt_detach.specs.Detached.{LeaveTogether}
-use Rattle.vt_detach.specs.Events.{Permits}
-use Rattle.vt_detach.specs.Stored.{OverlaysLeft, kept, merged_of}
-use Rattle.vt_detach.specs.Uses.{kept_of, kept_with}
+use Rattle.vt_mounting.specs.Detach.Detached.{LeaveTogether}
+use Rattle.vt_mounting.specs.Detach.Events.{Permits}
+use Rattle.vt_mounting.specs.Detach.Stored.{OverlaysLeft, kept, merged_of}
+use Rattle.vt_mounting.specs.Detach.Uses.{kept_of, kept_with}
 use Rattle.vt_world.specs.Held.{IsHeld}
 use Rattle.vt_world.specs.StoredWorld.{with_store}
 use Rattle.vt_world.specs.WorldValue.{WorldValue}
-use Rattle.vt_detach.proofs.ChangedFiles.{with_filesystems}
-use Rattle.vt_detach.proofs.OverlaysListed.{done_in_store}
-use Rattle.vt_detach.proofs.Remaining.{remade_with}
-use Rattle.vt_detach.proofs.Staying.{IsDone}
+use Rattle.vt_mounting.proofs.detach.ChangedFiles.{with_filesystems}
+use Rattle.vt_mounting.proofs.detach.OverlaysListed.{done_in_store}
+use Rattle.vt_mounting.proofs.detach.Remaining.{remade_with}
+use Rattle.vt_mounting.proofs.detach.Staying.{IsDone}
 use Rattle.vt_ns.proofs.world.MountsOn.{none_counted, some_counted}
 use Rattle.vt_ns.proofs.world.StoresKept.{kept_is}
 

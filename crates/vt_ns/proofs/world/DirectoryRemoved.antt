@@ -28,27 +28,27 @@ use Rattle.vt_laws_worlds.proofs.permits.sees.SeesFit.{given_changes_fit}
 use Rattle.vt_laws_worlds.proofs.permits.sees.SeesTasks.{given_permits_are_seen_to}
 use Rattle.vt_laws_trees.specs.Runs.Handed.{is_counted_before}
 use Rattle.vt_laws_worlds.specs.Worlds.Permits.{NamesWhatIsThere}
-use Rattle.vt_detach.specs.Detached.{LeaveTogether, tree_numbers}
-use Rattle.vt_detach.specs.Events.{Permits, supply_of}
+use Rattle.vt_mounting.specs.Detach.Detached.{LeaveTogether, tree_numbers}
+use Rattle.vt_mounting.specs.Detach.Events.{Permits, supply_of}
 use Rattle.vt_world.specs.Held.{IsHeld}
 use Rattle.vt_world.specs.StoredWorld.{with_store}
-use Rattle.vt_detach.specs.Stored.{OverlaysLeft, kept, merged_of}
-use Rattle.vt_detach.specs.Uses.{Merged, kept_of, kept_with}
+use Rattle.vt_mounting.specs.Detach.Stored.{OverlaysLeft, kept, merged_of}
+use Rattle.vt_mounting.specs.Detach.Uses.{Merged, kept_of, kept_with}
 use Rattle.vt_world.specs.WorldValue.{WorldValue, world_of}
-use Rattle.vt_detach.proofs.ChangedFiles.{ChangesFiles, IsFilesEvent, with_filesystems}
+use Rattle.vt_mounting.proofs.detach.ChangedFiles.{ChangesFiles, IsFilesEvent, with_filesystems}
 use Rattle.vt_ns.proofs.world.ChangedWithMounts.{changed_then_detached, nothing_goes}
-use Rattle.vt_detach.proofs.DetachingBegins.{HasChildrenOf, detached_world}
-use Rattle.vt_detach.proofs.DetachingEnds.{taken_regroups}
-use Rattle.vt_detach.proofs.FileEvents.{IsSmall, permit_fits}
+use Rattle.vt_mounting.proofs.detach.DetachingBegins.{HasChildrenOf, detached_world}
+use Rattle.vt_mounting.proofs.detach.DetachingEnds.{taken_regroups}
+use Rattle.vt_mounting.proofs.detach.FileEvents.{IsSmall, permit_fits}
 use Rattle.vt_ns.proofs.world.FileRemoving as Removing
 use Rattle.vt_location.proofs.NodeLemmas.{small_parts}
-use Rattle.vt_detach.proofs.FilesSeen.{IsLocated, nodes_named, located_filesystem}
-use Rattle.vt_detach.proofs.LazilyUnmounted.{trees_have_children, trees_numbers}
+use Rattle.vt_mounting.proofs.detach.FilesSeen.{IsLocated, nodes_named, located_filesystem}
+use Rattle.vt_mounting.proofs.detach.LazilyUnmounted.{trees_have_children, trees_numbers}
 use Rattle.vt_ns.proofs.world.DetachedStored.{collected_leave, left_is_stored, none_goes, some_go}
 use Rattle.vt_ns.proofs.world.MountsOn.{none_on, one_on, tops_on, trees_collected}
 use Rattle.vt_ns.proofs.world.PlainStored.{files_stored}
-use Rattle.vt_detach.proofs.Remaining.{remade_with}
-use Rattle.vt_detach.proofs.Staying.{IsDone}
+use Rattle.vt_mounting.proofs.detach.Remaining.{remade_with}
+use Rattle.vt_mounting.proofs.detach.Staying.{IsDone}
 
 module _ (value : WorldValue) (held : IsHeld value) (name : TaskName) (parent : Location) (entry : List ℕ)
     (directory : Location)

@@ -13,13 +13,13 @@ use Rattle.vt_fs.specs.FilesystemsValue.{ChangesInodes, Filesystems, files_at, i
 use Rattle.vt_location.specs.declared.locations.Location.{Location}
 use Rattle.vt_location.specs.declared.locations.NodeRef.{NodeRef}
 use Rattle.vt_location.specs.Locations.{location_of, number_of}
-use Rattle.vt_detach.specs.Events.{Becomes, Permits}
+use Rattle.vt_mounting.specs.Detach.Events.{Becomes, Permits}
 use Rattle.vt_world.specs.Held.{IsHeld}
 use Rattle.vt_world.specs.WorldValue.{WorldValue, world_of}
-use Rattle.vt_detach.proofs.ChangedFiles.{IsFilesEvent, with_filesystems}
-use Rattle.vt_detach.proofs.FileEvents.{IsSmall, change_at, change_is_done, change_sees}
-use Rattle.vt_detach.proofs.FilesSeen.{IsLocated, also_there, kept_there, located_filesystem, nodes_named, tree_of_entry}
-use Rattle.vt_attach.proofs.AttachedWorlds.{inode_is_there}
+use Rattle.vt_mounting.proofs.detach.ChangedFiles.{IsFilesEvent, with_filesystems}
+use Rattle.vt_mounting.proofs.detach.FileEvents.{IsSmall, change_at, change_is_done, change_sees}
+use Rattle.vt_mounting.proofs.detach.FilesSeen.{IsLocated, also_there, kept_there, located_filesystem, nodes_named, tree_of_entry}
+use Rattle.vt_mounting.proofs.attach.AttachedWorlds.{inode_is_there}
 use Rattle.vt_spec.proofs.Options.{OnOk_then}
 
 -- what an event that is given a permit leaves, where it may be refused memory

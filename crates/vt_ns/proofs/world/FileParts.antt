@@ -26,13 +26,13 @@ use Rattle.vt_laws_worlds.proofs.permits.sees.SeesFit.{given_changes_fit}
 use Rattle.vt_laws_worlds.proofs.permits.sees.SeesTasks.{given_permits_are_seen_to}
 use Rattle.vt_laws_trees.proofs.runs.answered.AlikeWorlds.{sameness_is_an_equivalence}
 use Rattle.vt_laws_worlds.proofs.worlds.ReachedWalks.{found_among}
-use Rattle.vt_detach.specs.Events.{Becomes, Permits, supply_of}
+use Rattle.vt_mounting.specs.Detach.Events.{Becomes, Permits, supply_of}
 use Rattle.vt_world.specs.Held.{IsHeld}
 use Rattle.vt_world.specs.WorldValue.{WorldValue, world_of}
-use Rattle.vt_detach.proofs.ChangedFiles.{files_are_changed, with_filesystems}
+use Rattle.vt_mounting.proofs.detach.ChangedFiles.{files_are_changed, with_filesystems}
 use Rattle.vt_ns.proofs.world.FileAnswers.{IsAnswered, answered}
-use Rattle.vt_detach.proofs.FileEvents.{IsSmall, changed_is_plain}
-use Rattle.vt_detach.proofs.FilesSeen.{IsLocated, located, located_filesystem, located_inodes}
+use Rattle.vt_mounting.proofs.detach.FileEvents.{IsSmall, changed_is_plain}
+use Rattle.vt_mounting.proofs.detach.FilesSeen.{IsLocated, located, located_filesystem, located_inodes}
 use Rattle.vt_spec.proofs.Options.{OnOk_then}
 
 -- what a task has open is there

@@ -20,12 +20,12 @@ use Rattle.vt_location.specs.Locations.{location_of, number_of}
 use Rattle.vt_laws_worlds.specs.Permits.Sees.{SeesTo}
 use Rattle.vt_laws_worlds.proofs.permits.sees.SeesFit.{given_changes_fit}
 use Rattle.vt_laws_worlds.proofs.permits.sees.SeesTasks.{given_permits_are_seen_to}
-use Rattle.vt_detach.specs.Events.{Permits, supply_of}
+use Rattle.vt_mounting.specs.Detach.Events.{Permits, supply_of}
 use Rattle.vt_world.specs.Held.{IsHeld}
 use Rattle.vt_world.specs.WorldValue.{WorldValue, world_of}
-use Rattle.vt_detach.proofs.ChangedFiles.{IsFilesEvent, files_are_changed, with_filesystems}
-use Rattle.vt_detach.proofs.FileEvents.{IsSmall, changed_is_plain, permit_fits}
-use Rattle.vt_detach.proofs.FilesSeen.{IsLocated, IsPlainAt, also_there, kept_there, located, located_filesystem, located_inodes, tree_of_entry}
+use Rattle.vt_mounting.proofs.detach.ChangedFiles.{IsFilesEvent, files_are_changed, with_filesystems}
+use Rattle.vt_mounting.proofs.detach.FileEvents.{IsSmall, changed_is_plain, permit_fits}
+use Rattle.vt_mounting.proofs.detach.FilesSeen.{IsLocated, IsPlainAt, also_there, kept_there, located, located_filesystem, located_inodes, tree_of_entry}
 
 -- Where no mount stands nothing is detached
 

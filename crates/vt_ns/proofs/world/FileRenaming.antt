@@ -25,14 +25,14 @@ use Rattle.vt_laws_worlds.proofs.permits.sees.SeesFit.{given_changes_fit}
 use Rattle.vt_laws_worlds.proofs.permits.sees.SeesTasks.{given_permits_are_seen_to}
 use Rattle.vt_laws_trees.specs.Runs.Handed.{is_counted_before}
 use Rattle.vt_laws_worlds.specs.Worlds.Permits.{IsReached, NamesWhatIsThere}
-use Rattle.vt_detach.specs.Events.{Permits, supply_of}
+use Rattle.vt_mounting.specs.Detach.Events.{Permits, supply_of}
 use Rattle.vt_world.specs.Held.{IsHeld}
 use Rattle.vt_world.specs.WorldValue.{WorldValue, world_of}
-use Rattle.vt_detach.proofs.ChangedFiles.{IsFilesEvent, files_are_changed, with_filesystems}
-use Rattle.vt_detach.proofs.FileEvents.{IsSmall, changed_is_plain, permit_fits}
+use Rattle.vt_mounting.proofs.detach.ChangedFiles.{IsFilesEvent, files_are_changed, with_filesystems}
+use Rattle.vt_mounting.proofs.detach.FileEvents.{IsSmall, changed_is_plain, permit_fits}
 use Rattle.vt_ns.proofs.world.FileRemoving.{nothing_detached}
-use Rattle.vt_detach.proofs.Places.{located_is_named}
-use Rattle.vt_detach.proofs.FilesSeen.{IsLocated, IsPlainAt, also_there, kept_there, located, located_filesystem, located_inodes}
+use Rattle.vt_mounting.proofs.detach.Places.{located_is_named}
+use Rattle.vt_mounting.proofs.detach.FilesSeen.{IsLocated, IsPlainAt, also_there, kept_there, located, located_filesystem, located_inodes}
 
 module _ (value : WorldValue) (held : IsHeld value) (name : TaskName) (from : Location) (old : List ℕ) (to : Location)
     (new : List ℕ)

@@ -24,20 +24,20 @@ use Rattle.vt_tasks.specs.Counts.{locations_in}
 use Rattle.vt_tasks.specs.declared.descriptors.OpenFile.{OpenFile}
 use Rattle.vt_tasks.specs.TasksValue.{MayOpenMore, Tasks, called, changed_by, changed_called, replaced, with_open}
 use Rattle.vt_laws_worlds.proofs.RaisedInUse.{worlds_are_in_use}
-use Rattle.vt_detach.specs.Events.{Permits, supply_of}
+use Rattle.vt_mounting.specs.Detach.Events.{Permits, supply_of}
 use Rattle.vt_world.specs.Held.{IsHeld, writes_of_task, writes_on}
-use Rattle.vt_detach.specs.Uses.{Merged, kept_of, kept_with, with_location, with_use}
+use Rattle.vt_mounting.specs.Detach.Uses.{Merged, kept_of, kept_with, with_location, with_use}
 use Rattle.vt_world.specs.WorldValue.{WorldValue, world_of}
 use Rattle.vt_laws_worlds.proofs.overlays_read.Changes.{opens_copy_nothing}
 use Rattle.vt_laws_worlds.proofs.permits.sees.SeesTasks.{given_permits_are_seen_to}
-use Rattle.vt_detach.proofs.FileEvents.{permit_fits}
-use Rattle.vt_detach.proofs.LocationsSeen.{seen_where_located}
-use Rattle.vt_detach.proofs.Closing.{Goes, around, place, used_by}
-use Rattle.vt_detach.proofs.Moving.{Moves, only_left}
-use Rattle.vt_detach.proofs.Places.{located_is_named}
-use Rattle.vt_detach.proofs.Remaining.{remade, remains_done}
-use Rattle.vt_detach.proofs.Splits.{IsSplit, locations_around, replaced_split, times_replaced, writes_replaced}
-use Rattle.vt_detach.proofs.Staying.{IsDone, after}
+use Rattle.vt_mounting.proofs.detach.FileEvents.{permit_fits}
+use Rattle.vt_mounting.proofs.detach.LocationsSeen.{seen_where_located}
+use Rattle.vt_mounting.proofs.detach.Closing.{Goes, around, place, used_by}
+use Rattle.vt_mounting.proofs.detach.Moving.{Moves, only_left}
+use Rattle.vt_mounting.proofs.detach.Places.{located_is_named}
+use Rattle.vt_mounting.proofs.detach.Remaining.{remade, remains_done}
+use Rattle.vt_mounting.proofs.detach.Splits.{IsSplit, locations_around, replaced_split, times_replaced, writes_replaced}
+use Rattle.vt_mounting.proofs.detach.Staying.{IsDone, after}
 use Rattle.vt_laws_mounts.proofs.letting_go.Lists.{times_around}
 
 -- a descriptor that is put in can be taken out

@@ -31,17 +31,17 @@ use Rattle.vt_tasks.specs.TaskValue.{task_of}
 use Rattle.vt_tasks.specs.TasksValue.{MayFork, Tasks, called, forked, forked_by, forked_once, replaced, with_child_behind}
 use Rattle.vt_laws_worlds.proofs.RaisedInUse.{worlds_are_in_use}
 use Rattle.vt_laws_mounts.proofs.letting_go.sweeps.UpperUses.{times_append}
-use Rattle.vt_detach.specs.Events.{Permits, supply_of}
-use Rattle.vt_detach.specs.Forking.{more_tasks, with_task_more}
+use Rattle.vt_mounting.specs.Detach.Events.{Permits, supply_of}
+use Rattle.vt_mounting.specs.Detach.Forking.{more_tasks, with_task_more}
 use Rattle.vt_world.specs.Held.{CountsWhatIsInIt, IsHeld, writes_of, writes_of_task}
-use Rattle.vt_detach.specs.Uses.{Kept, Merged, kept_of, kept_with, with_location, with_use}
+use Rattle.vt_mounting.specs.Detach.Uses.{Kept, Merged, kept_of, kept_with, with_location, with_use}
 use Rattle.vt_world.specs.WorldValue.{NamespaceEntry, WorldValue, namespace_of, world_of}
-use Rattle.vt_detach.proofs.LocationsSeen.{seen_where_located}
-use Rattle.vt_detach.proofs.Moving.{Moves, only_left, swap_eq}
-use Rattle.vt_detach.proofs.Places.{standing}
+use Rattle.vt_mounting.proofs.detach.LocationsSeen.{seen_where_located}
+use Rattle.vt_mounting.proofs.detach.Moving.{Moves, only_left, swap_eq}
+use Rattle.vt_mounting.proofs.detach.Places.{standing}
 use Rattle.vt_ns.proofs.world.RemainingTasks.{CountsTasks, remade_in, remains_done_in}
-use Rattle.vt_detach.proofs.Splits.{IsSplit, locations_around, locations_stay, replaced_split, times_replaced, writes_replaced}
-use Rattle.vt_detach.proofs.Staying.{IsDone, after}
+use Rattle.vt_mounting.proofs.detach.Splits.{IsSplit, locations_around, locations_stay, replaced_split, times_replaced, writes_replaced}
+use Rattle.vt_mounting.proofs.detach.Staying.{IsDone, after}
 use Rattle.vt_spec.proofs.Lists.{map_alike, map_twice}
 
 writes_append : (mount : ℕ) (xs ys : Tasks) → writes_of mount (xs ++ ys) ≡ writes_of mount xs + writes_of mount ys

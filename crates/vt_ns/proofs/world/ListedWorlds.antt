@@ -12,14 +12,14 @@ use Rattle.vt_laws_trees.proofs.trees.TreesOfWorlds.{numbered_all}
 use Rattle.vt_laws_worlds.proofs.worlds.Roots.{directory_there}
 use Rattle.vt_location.specs.declared.numbers.NamespaceId.{NamespaceId}
 use Rattle.vt_location.specs.Numbers.{counted}
-use Rattle.vt_tree.specs.Paths.{NamesDirectoriesOnce}
+use Rattle.vt_fs.specs.Trees.Paths.{NamesDirectoriesOnce}
 use Rattle.vt_store.specs.StoreValue.{StoreValue}
 use Rattle.vt_world.specs.declared.namespaces.Namespace.{Namespace as Kept}
 use Rattle.vt_world.specs.Held.{IsHeld}
 use Rattle.vt_world.specs.StoredWorld.{with_store}
 use Rattle.vt_world.specs.WorldValue.{WorldValue, entries_of, namespace_of, world_of}
-use Rattle.vt_detach.specs.Events.{Permits, supply_of}
-use Rattle.vt_detach.proofs.StoreShown.{files_shown}
+use Rattle.vt_mounting.specs.Detach.Events.{Permits, supply_of}
+use Rattle.vt_mounting.proofs.detach.StoreShown.{files_shown}
 use Rattle.vt_listing.specs.Shown.{NameDirectoriesOnce}
 
 -- in each tree a directory has one name

@@ -16,12 +16,12 @@ use Rattle.vt_location.specs.declared.numbers.MountId.{MountId}
 use Rattle.vt_location.specs.Locations.{is_small_node, location_of, number_of}
 use Rattle.vt_location.specs.Numbers.{counted}
 use Rattle.vt_mount.specs.MountsValue.{mounts_in, stands_over}
-use Rattle.vt_detach.specs.Detached.{tree_numbers}
+use Rattle.vt_mounting.specs.Detach.Detached.{tree_numbers}
 use Rattle.vt_world.specs.Held.{IsHeld}
 use Rattle.vt_world.specs.WorldValue.{WorldValue, world_of}
-use Rattle.vt_detach.proofs.LazilyUnmounted.{to_spec, trees_numbers}
-use Rattle.vt_detach.proofs.LocationsSeen.{seen_where_located}
-use Rattle.vt_detach.proofs.LookLemmas.{point_seen, points_are}
+use Rattle.vt_mounting.proofs.detach.LazilyUnmounted.{to_spec, trees_numbers}
+use Rattle.vt_mounting.proofs.detach.LocationsSeen.{seen_where_located}
+use Rattle.vt_mounting.proofs.detach.LookLemmas.{point_seen, points_are}
 use Rattle.std.proofs.Math.Bool.{or-false}
 
 -- Trees by the numbers of their mounts

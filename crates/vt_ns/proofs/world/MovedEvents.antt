@@ -16,19 +16,19 @@ use Rattle.vt_spec.specs.Machine.Mounts.{Mount, is_shared, mount_tree, no_mount}
 use Rattle.vt_spec.specs.Machine.Permits.Permit.{ToMove}
 use Rattle.vt_spec.specs.Machine.World.{mount_at, mount_numbered}
 use Rattle.vt_spec.specs.Machine.Invariants.{is_located_well}
-use Rattle.vt_attach.specs.BoundMounts.{bound_mounts, rooted_at}
+use Rattle.vt_mounting.specs.Attach.BoundMounts.{bound_mounts, rooted_at}
 use Rattle.vt_mount.specs.Attached.{AreOf}
 use Rattle.vt_mount.proofs.AttachedLemmas.{ascending_found, picked}
-use Rattle.vt_attach.proofs.MovesAscend.{ascending_once}
-use Rattle.vt_attach.proofs.TypedMounts.{same_numbered}
-use Rattle.vt_detach.specs.Events.{Permits}
+use Rattle.vt_mounting.proofs.attach.MovesAscend.{ascending_once}
+use Rattle.vt_mounting.proofs.attach.TypedMounts.{same_numbered}
+use Rattle.vt_mounting.specs.Detach.Events.{Permits}
 use Rattle.vt_world.specs.Held.{IsHeld}
 use Rattle.vt_world.specs.WorldValue.{WorldValue, world_of}
-use Rattle.vt_detach.specs.Uses.{inode_of, pinned_in, unpinned_at}
-use Rattle.vt_detach.proofs.FileEvents.{permit_fits}
-use Rattle.vt_detach.proofs.MountsMoved.{mount_is_moved}
-use Rattle.vt_detach.proofs.Remaining.{remade}
-use Rattle.vt_detach.proofs.Staying.{IsDone}
+use Rattle.vt_mounting.specs.Detach.Uses.{inode_of, pinned_in, unpinned_at}
+use Rattle.vt_mounting.proofs.detach.FileEvents.{permit_fits}
+use Rattle.vt_mounting.proofs.detach.MountsMoved.{mount_is_moved}
+use Rattle.vt_mounting.proofs.detach.Remaining.{remade}
+use Rattle.vt_mounting.proofs.detach.Staying.{IsDone}
 use Rattle.vt_store.specs.StoreValue.{StoreValue}
 use Rattle.vt_world.specs.StoredWorld.{with_store}
 use Rattle.vt_ns.proofs.world.StoresKept.{same_in_store}

@@ -44,7 +44,7 @@ use Rattle.vt_laws_worlds.proofs.one_text.same.SameWhole.{any_same_worlds_are_un
 use Rattle.vt_laws_worlds.proofs.overlay_permits.kept.KeptOverlays.{overlays_in}
 use Rattle.vt_laws_worlds.specs.OverlaysRead.Writers.{WritersHaveLayers}
 use Rattle.vt_laws_worlds.proofs.overlays_read.Swept.{same_worlds_have_layers_alike}
-use Rattle.vt_detach.proofs.Writers.{left_writers}
+use Rattle.vt_mounting.proofs.detach.Writers.{left_writers}
 use Rattle.vt_ns.proofs.world.ChangedWithMounts.{change_keeps_writers}
 use Rattle.vt_laws_worlds.proofs.overlay_permits.worlds.SweptWorlds.{settling_leaves_every_world}
 use Rattle.vt_laws_worlds.proofs.overlays_stay.left.Given.{given_permits_are_under_way_without_upper, given_permits_give_no_upper}
@@ -60,27 +60,27 @@ use Rattle.vt_laws_worlds.proofs.kept.NamespacesKept.{all_namespaces_kept}
 use Rattle.vt_laws_worlds.proofs.worlds.PermitsNamed.{all_permits_keep_counting_forks, all_permits_keep_names}
 use Rattle.vt_laws_worlds.proofs.worlds.PermitsPlaced.{directories_stay, locations_stay, open_files_stay}
 use Rattle.vt_laws_worlds.proofs.worlds.PermitsShow.{all_permits_keep_mounts_showing}
-use Rattle.vt_detach.specs.Events.{Permits, next_inode, supply_of}
+use Rattle.vt_mounting.specs.Detach.Events.{Permits, next_inode, supply_of}
 use Rattle.vt_world.specs.Held.{IsHeld}
-use Rattle.vt_detach.specs.Uses.{Merged, kept_of, kept_with, with_location, with_use}
+use Rattle.vt_mounting.specs.Detach.Uses.{Merged, kept_of, kept_with, with_location, with_use}
 use Rattle.vt_world.specs.WorldValue.{WorldValue, world_of}
-use Rattle.vt_detach.proofs.Bridging.{IsSwept, swept_is_same}
-use Rattle.vt_detach.proofs.Grouped.{left_has}
+use Rattle.vt_mounting.proofs.detach.Bridging.{IsSwept, swept_is_same}
+use Rattle.vt_mounting.proofs.detach.Grouped.{left_has}
 use Rattle.vt_group.specs.Grouping.{Has}
-use Rattle.vt_detach.proofs.ChangedFiles.{ChangesFiles, change_is_held, change_is_swept, inodes_after, is_change, partner, with_filesystems}
-use Rattle.vt_detach.proofs.FileEvents.{IsSmall, changed_is_plain, permit_fits}
+use Rattle.vt_mounting.proofs.detach.ChangedFiles.{ChangesFiles, change_is_held, change_is_swept, inodes_after, is_change, partner, with_filesystems}
+use Rattle.vt_mounting.proofs.detach.FileEvents.{IsSmall, changed_is_plain, permit_fits}
 use Rattle.vt_ns.proofs.world.FileMaking.{made_in_tree, new_in_slot, new_is_named, next_of_entry}
 use Rattle.vt_ns.proofs.world.FilesOpened.{inserted_goes, opened_moves, opened_stays, opened_tasks}
-use Rattle.vt_detach.proofs.FilesSeen.{IsLocated, IsPlainAt, nodes_named, located, located_filesystem, located_inodes, one_entry}
-use Rattle.vt_detach.proofs.Overlaid.{plain_ones_apart}
-use Rattle.vt_detach.proofs.Finishing.{swept_held}
-use Rattle.vt_detach.proofs.LocationsSeen.{seen_where_located}
-use Rattle.vt_detach.proofs.Closing.{used_by}
-use Rattle.vt_detach.proofs.Moving.{Moves}
-use Rattle.vt_detach.proofs.Remaining.{remade, remains_counted, remains_swept}
-use Rattle.vt_detach.proofs.Shown.{is_some_mapped}
-use Rattle.vt_detach.proofs.Splits.{replaced_split}
-use Rattle.vt_detach.proofs.Staying.{IsDone, after, becomes_so}
+use Rattle.vt_mounting.proofs.detach.FilesSeen.{IsLocated, IsPlainAt, nodes_named, located, located_filesystem, located_inodes, one_entry}
+use Rattle.vt_mounting.proofs.detach.Overlaid.{plain_ones_apart}
+use Rattle.vt_mounting.proofs.detach.Finishing.{swept_held}
+use Rattle.vt_mounting.proofs.detach.LocationsSeen.{seen_where_located}
+use Rattle.vt_mounting.proofs.detach.Closing.{used_by}
+use Rattle.vt_mounting.proofs.detach.Moving.{Moves}
+use Rattle.vt_mounting.proofs.detach.Remaining.{remade, remains_counted, remains_swept}
+use Rattle.vt_mounting.proofs.detach.Shown.{is_some_mapped}
+use Rattle.vt_mounting.proofs.detach.Splits.{replaced_split}
+use Rattle.vt_mounting.proofs.detach.Staying.{IsDone, after, becomes_so}
 
 -- a new inode has one use
 used_when_made : (inodes : Inodes ℕ) (directory : ℕ) (name : List ℕ) (number : ℕ) (node : Node ℕ)

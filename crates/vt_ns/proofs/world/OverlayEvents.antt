@@ -17,7 +17,7 @@ use Rattle.vt_location.specs.Locations.{location_of, number_of}
 use Rattle.vt_location.specs.Numbers.{counted, exchanged, inode_number, is_own_number}
 use Rattle.vt_location.proofs.NodeLemmas.{here_number, own_birth, own_count}
 use Rattle.vt_location.proofs.NumberLemmas.{counted_same, exchanged_number}
-use Rattle.vt_merge.specs.declared.layers.LayerRef.{LayerRef}
+use Rattle.vt_overlay.specs.declared.merge.layers.LayerRef.{LayerRef}
 use Rattle.vt_overlay.specs.MergedTree.{AreLayers, OverlayValue, merged_tree}
 use Rattle.vt_overlay.proofs.RootFound.{root_number_is}
 use Rattle.vt_permits.specs.GrantValue.{layer_of, overlay_of, overlay_permit}
@@ -26,14 +26,14 @@ use Rattle.vt_permits.specs.declared.grant.ToMountOverlay.{ToMountOverlay}
 use Rattle.vt_propagate.specs.Seen.{is_mounted}
 use Rattle.vt_store.specs.OverlaysValue as stored
 use Rattle.vt_store.specs.StoreValue.{StoreValue}
-use Rattle.vt_detach.specs.Events.{layer_kept, overlay_kept, supply_of}
+use Rattle.vt_mounting.specs.Detach.Events.{layer_kept, overlay_kept, supply_of}
 use Rattle.vt_world.specs.Held.{IsHeld}
 use Rattle.vt_world.specs.StoredWorld.{overlay_of_store, overlays_of_store, with_store}
 use Rattle.vt_world.specs.WorldValue.{WorldValue, overlay_seen, world_of}
-use Rattle.vt_detach.proofs.FilesSeen.{IsSeenIn}
-use Rattle.vt_detach.proofs.OverlayGranted.{kept_layers, layer_in}
-use Rattle.vt_detach.proofs.PlainFound.{overlay_among}
-use Rattle.vt_attach.proofs.NewFilesystems.{number_below}
+use Rattle.vt_mounting.proofs.detach.FilesSeen.{IsSeenIn}
+use Rattle.vt_mounting.proofs.detach.OverlayGranted.{kept_layers, layer_in}
+use Rattle.vt_mounting.proofs.detach.PlainFound.{overlay_among}
+use Rattle.vt_mounting.proofs.attach.NewFilesystems.{number_below}
 use Rattle.vt_ns.specs.OverlayMounts.{IsPlainLayer, PermitsOverlay}
 use Rattle.vt_ns.proofs.world.BoundEvents.{place_mounted}
 

@@ -19,7 +19,7 @@ use Rattle.vt_location.specs.declared.mounts.Mount.{Mount}
 use Rattle.vt_location.specs.Locations.{location_of}
 use Rattle.vt_location.specs.MountValue.{mount_of}
 use Rattle.vt_location.specs.Numbers.{counted, inode_number}
-use Rattle.vt_merge.specs.declared.layers.LayerRef.{LayerRef}
+use Rattle.vt_overlay.specs.declared.merge.layers.LayerRef.{LayerRef}
 use Rattle.vt_mount.specs.MountsValue.{MountEntry, are_ascending, mounts_in}
 use Rattle.vt_permits.specs.GrantValue.{layer_of, overlay_of, overlay_permit}
 use Rattle.vt_permits.specs.declared.grant.ToMountOverlay.{ToMountOverlay}
@@ -31,12 +31,12 @@ use Rattle.vt_store.specs.StoreValue.{StoreValue}
 use Rattle.vt_world.specs.Held.{IsHeld}
 use Rattle.vt_world.specs.StoredWorld.{overlay_of_store, with_store}
 use Rattle.vt_world.specs.WorldValue.{WorldValue, world_of}
-use Rattle.vt_detach.specs.Events.{layer_kept, left_by, supply_of}
-use Rattle.vt_detach.specs.Stored.{OverlaysStay, kept}
-use Rattle.vt_attach.specs.Grafted.{IsGrafted, MayGraft}
-use Rattle.vt_attach.specs.Overlaid.{IsWithOverlay}
-use Rattle.vt_attach.proofs.NewOverlayDone.{may_mount_overlay as may_graft}
-use Rattle.vt_attach.proofs.OverlayMounted.{overlay_is_mounted}
+use Rattle.vt_mounting.specs.Detach.Events.{layer_kept, left_by, supply_of}
+use Rattle.vt_mounting.specs.Detach.Stored.{OverlaysStay, kept}
+use Rattle.vt_mounting.specs.Attach.Grafted.{IsGrafted, MayGraft}
+use Rattle.vt_mounting.specs.Attach.Overlaid.{IsWithOverlay}
+use Rattle.vt_mounting.proofs.attach.NewOverlayDone.{may_mount_overlay as may_graft}
+use Rattle.vt_mounting.proofs.attach.OverlayMounted.{overlay_is_mounted}
 use Rattle.vt_ns.specs.OverlayMounts.{MountsOverlay, PermitsOverlay}
 use Rattle.vt_ns.proofs.world.OverlayEvents.{kept_is_overlay, layers_are_kept, root_is_top}
 

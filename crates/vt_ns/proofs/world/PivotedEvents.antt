@@ -24,11 +24,11 @@ use Rattle.vt_tasks.specs.TasksValue.{Tasks, called}
 use Rattle.vt_tasks.specs.TaskValue.{task_of}
 use Rattle.vt_world.specs.Held.{IsHeld}
 use Rattle.vt_world.specs.WorldValue.{WorldValue, world_of}
-use Rattle.vt_detach.specs.Events.{Permits}
-use Rattle.vt_detach.specs.Forking.{HasRoom}
-use Rattle.vt_detach.specs.Uses.{Merged, inode_of, kept_with, merged_seen, pinned_in, unpinned_in}
-use Rattle.vt_detach.proofs.Remaining.{remade}
-use Rattle.vt_detach.proofs.Staying.{IsDone}
+use Rattle.vt_mounting.specs.Detach.Events.{Permits}
+use Rattle.vt_mounting.specs.Detach.Forking.{HasRoom}
+use Rattle.vt_mounting.specs.Detach.Uses.{Merged, inode_of, kept_with, merged_seen, pinned_in, unpinned_in}
+use Rattle.vt_mounting.proofs.detach.Remaining.{remade}
+use Rattle.vt_mounting.proofs.detach.Staying.{IsDone}
 use Rattle.vt_ns.specs.Pivoting.{with_uses, without_uses}
 use Rattle.vt_ns.proofs.CountingLemmas.{counts_kept, room_pinned}
 use Rattle.vt_ns.proofs.world.PivotedUses.{kept_number}

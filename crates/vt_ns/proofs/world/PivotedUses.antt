@@ -23,9 +23,9 @@ use Rattle.vt_tasks.specs.Counts.{all_places_at, uses}
 use Rattle.vt_tasks.specs.TasksValue.{Tasks}
 use Rattle.vt_tasks.proofs.PivotCounts.{pivoted_uses}
 use Rattle.vt_world.specs.Held.{writes_of, writes_of_task}
-use Rattle.vt_detach.proofs.Moving.{Use, inodes_of_uses, is_use_on, writes_on_mount}
-use Rattle.vt_detach.proofs.MountsChanged.{times_map}
-use Rattle.vt_detach.proofs.Places.{standing}
+use Rattle.vt_mounting.proofs.detach.Moving.{Use, inodes_of_uses, is_use_on, writes_on_mount}
+use Rattle.vt_mounting.proofs.detach.MountsChanged.{times_map}
+use Rattle.vt_mounting.proofs.detach.Places.{standing}
 
 -- Lists
 

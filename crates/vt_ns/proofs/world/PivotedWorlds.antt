@@ -36,20 +36,20 @@ use Rattle.vt_mount.specs.Moving.{pivoted_entry}
 use Rattle.vt_mount.specs.MountsValue.{MountEntry, mounts_in}
 use Rattle.vt_world.specs.Held.{CountsItsMounts, CountsItsUses, CountsWhatIsInIt, IsHeld, writes_of}
 use Rattle.vt_world.specs.WorldValue.{WorldValue, world_of}
-use Rattle.vt_detach.specs.Events.{Permits}
-use Rattle.vt_detach.specs.Uses.{Kept, Merged, inode_of, kept_with, merged_seen, pinned_in, released_use, unpinned_in, with_use}
-use Rattle.vt_detach.proofs.Bridging.{IsSwept}
-use Rattle.vt_detach.proofs.FileEvents.{permit_fits}
-use Rattle.vt_detach.proofs.Finishing.{CountsBeside, IsApplied, finished}
-use Rattle.vt_detach.proofs.Grouped.{changed_has}
-use Rattle.vt_detach.proofs.LocationsSeen.{seen_where_located}
-use Rattle.vt_detach.proofs.MountsMoved.{mount_point_located}
-use Rattle.vt_detach.proofs.Moving.{Use, exchanged_shown, filesystems_moved, folded_entry, gain, held_counts, hold_if, inodes_of_uses, is_use_on, locations, lose, mounts_moved, moved_kept, released_counts, same_moved_mounts, writes_on_mount}
-use Rattle.vt_detach.proofs.Overlaid.{all_shown, is_plain_one, keeps_itself, layers_kept, overlays_counted, plain_ones_are, same_files_keep, still_mounted}
-use Rattle.vt_detach.proofs.Places.{located_is_named, standing}
-use Rattle.vt_detach.proofs.Remaining.{remade}
-use Rattle.vt_detach.proofs.Staying.{IsDone}
-use Rattle.vt_detach.proofs.TypesSet.{attached_named}
+use Rattle.vt_mounting.specs.Detach.Events.{Permits}
+use Rattle.vt_mounting.specs.Detach.Uses.{Kept, Merged, inode_of, kept_with, merged_seen, pinned_in, released_use, unpinned_in, with_use}
+use Rattle.vt_mounting.proofs.detach.Bridging.{IsSwept}
+use Rattle.vt_mounting.proofs.detach.FileEvents.{permit_fits}
+use Rattle.vt_mounting.proofs.detach.Finishing.{CountsBeside, IsApplied, finished}
+use Rattle.vt_mounting.proofs.detach.Grouped.{changed_has}
+use Rattle.vt_mounting.proofs.detach.LocationsSeen.{seen_where_located}
+use Rattle.vt_mounting.proofs.detach.MountsMoved.{mount_point_located}
+use Rattle.vt_mounting.proofs.detach.Moving.{Use, exchanged_shown, filesystems_moved, folded_entry, gain, held_counts, hold_if, inodes_of_uses, is_use_on, locations, lose, mounts_moved, moved_kept, released_counts, same_moved_mounts, writes_on_mount}
+use Rattle.vt_mounting.proofs.detach.Overlaid.{all_shown, is_plain_one, keeps_itself, layers_kept, overlays_counted, plain_ones_are, same_files_keep, still_mounted}
+use Rattle.vt_mounting.proofs.detach.Places.{located_is_named, standing}
+use Rattle.vt_mounting.proofs.detach.Remaining.{remade}
+use Rattle.vt_mounting.proofs.detach.Staying.{IsDone}
+use Rattle.vt_mounting.proofs.detach.TypesSet.{attached_named}
 use Rattle.vt_ns.specs.Pivoting.{with_uses, without_uses}
 use Rattle.vt_ns.proofs.world.PivotedUses.{coming, gained, inside_pivot, kept_filesystem, kept_number, kept_part, kept_showing, leaving, lost, mount_uses_pivot, moved, none_writes, pivoted_world, pivoting, uses_pivot, writes_pivot}
 use Rattle.vt_ns.proofs.world.PointsMoved.{inodes_there}

@@ -7,13 +7,13 @@ use Rattle.vt_spec.specs.Language.Calls.{TaskName}
 use Rattle.vt_spec.specs.Machine.Permits.{Permit}
 use Rattle.vt_fs.specs.FilesystemsValue.{Filesystems}
 use Rattle.vt_store.specs.StoreValue.{StoreValue}
-use Rattle.vt_detach.specs.Events.{Becomes, Permits}
+use Rattle.vt_mounting.specs.Detach.Events.{Becomes, Permits}
 use Rattle.vt_world.specs.Held.{IsHeld}
 use Rattle.vt_world.specs.StoredWorld.{overlays_of_store, with_store}
 use Rattle.vt_world.specs.WorldValue.{WorldValue}
-use Rattle.vt_detach.proofs.ChangedFiles.{IsFilesEvent, with_filesystems}
-use Rattle.vt_detach.proofs.Staying.{IsDone}
-use Rattle.vt_detach.proofs.StoreStays.{store_stays}
+use Rattle.vt_mounting.proofs.detach.ChangedFiles.{IsFilesEvent, with_filesystems}
+use Rattle.vt_mounting.proofs.detach.Staying.{IsDone}
+use Rattle.vt_mounting.proofs.detach.StoreStays.{store_stays}
 use Rattle.vt_ns.proofs.world.FileAnswers.{IsAnswered}
 
 module _ (base : WorldValue) (store : StoreValue) (held : IsHeld (with_store store base)) (name : TaskName)

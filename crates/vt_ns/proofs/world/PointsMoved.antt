@@ -31,27 +31,27 @@ use Rattle.vt_location.specs.Numbers.{counted}
 use Rattle.vt_mount.specs.MountsValue.{MountEntry, entry_numbered, mounts_in}
 use Rattle.vt_propagate.specs.Falling.{moved_by}
 use Rattle.vt_laws_worlds.proofs.RaisedInUse.{worlds_are_in_use}
-use Rattle.vt_attach.specs.Planned.{Point, is_small, left_at, points_left, points_taken, taken_at, with_planned, with_points}
-use Rattle.vt_attach.specs.PlannedUses.{point_seen}
-use Rattle.vt_attach.proofs.MovedPoints.{points_are_moved}
-use Rattle.vt_attach.proofs.PlacedUses.{points_are_uses}
-use Rattle.vt_attach.proofs.PlannedCounts.{exchanged_on, inodes_of_points, planned_shown}
-use Rattle.vt_attach.proofs.PointsCounted.{points_count}
+use Rattle.vt_mounting.specs.Attach.Planned.{Point, is_small, left_at, points_left, points_taken, taken_at, with_planned, with_points}
+use Rattle.vt_mounting.specs.Attach.PlannedUses.{point_seen}
+use Rattle.vt_mounting.proofs.attach.MovedPoints.{points_are_moved}
+use Rattle.vt_mounting.proofs.attach.PlacedUses.{points_are_uses}
+use Rattle.vt_mounting.proofs.attach.PlannedCounts.{exchanged_on, inodes_of_points, planned_shown}
+use Rattle.vt_mounting.proofs.attach.PointsCounted.{points_count}
 use Rattle.vt_world.specs.Held.{CountsItsMounts, CountsItsUses, IsHeld}
-use Rattle.vt_detach.specs.Uses.{Kept, Merged, kept_of, kept_with, merged_seen}
+use Rattle.vt_mounting.specs.Detach.Uses.{Kept, Merged, kept_of, kept_with, merged_seen}
 use Rattle.vt_world.specs.WorldValue.{WorldValue, overlays_seen, world_of}
-use Rattle.vt_detach.proofs.BesideOverlays.{lives_alike}
-use Rattle.vt_detach.proofs.DetachingBegins.{pair_mapped}
-use Rattle.vt_detach.proofs.DetachingEnds.{held_is_kept, point_located}
-use Rattle.vt_detach.proofs.Grouped.{stays_private}
-use Rattle.vt_detach.proofs.Keeping.{IsKeptBut, IsShownIn}
-use Rattle.vt_detach.proofs.LocationsSeen.{seen_where_located}
-use Rattle.vt_detach.proofs.LostUses.{entry_found_at}
-use Rattle.vt_detach.proofs.MountsChanged.{times_map}
-use Rattle.vt_detach.proofs.MountsGone.{found_mapped}
-use Rattle.vt_detach.proofs.Moving.{map_itself}
-use Rattle.vt_detach.proofs.Overlaid.{found_plain_one, plain_ones_are}
-use Rattle.vt_detach.proofs.OverlaysGone.{layers_used, merged_in}
+use Rattle.vt_mounting.proofs.detach.BesideOverlays.{lives_alike}
+use Rattle.vt_mounting.proofs.detach.DetachingBegins.{pair_mapped}
+use Rattle.vt_mounting.proofs.detach.DetachingEnds.{held_is_kept, point_located}
+use Rattle.vt_mounting.proofs.detach.Grouped.{stays_private}
+use Rattle.vt_mounting.proofs.detach.Keeping.{IsKeptBut, IsShownIn}
+use Rattle.vt_mounting.proofs.detach.LocationsSeen.{seen_where_located}
+use Rattle.vt_mounting.proofs.detach.LostUses.{entry_found_at}
+use Rattle.vt_mounting.proofs.detach.MountsChanged.{times_map}
+use Rattle.vt_mounting.proofs.detach.MountsGone.{found_mapped}
+use Rattle.vt_mounting.proofs.detach.Moving.{map_itself}
+use Rattle.vt_mounting.proofs.detach.Overlaid.{found_plain_one, plain_ones_are}
+use Rattle.vt_mounting.proofs.detach.OverlaysGone.{layers_used, merged_in}
 use Rattle.vt_spec.proofs.Lists.{map_alike, map_twice}
 use Rattle.vt_spec.proofs.Worlds.{shown-mapped}
 

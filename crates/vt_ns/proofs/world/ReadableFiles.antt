@@ -20,7 +20,7 @@ use Rattle.vt_laws_rules.specs.Granted.{IsGranted}
 use Rattle.vt_laws_rules.specs.Granted.IsGranted.{reads_file, reads_symlink}
 use Rattle.vt_laws_trees.proofs.trees.TreesWalked.{not_true}
 use Rattle.vt_world.specs.WorldValue.{WorldValue, world_of}
-use Rattle.vt_detach.specs.Events.{Permits, supply_of}
+use Rattle.vt_mounting.specs.Detach.Events.{Permits, supply_of}
 use Rattle.vt_ns.specs.Lent.{as_lent}
 
 kind_there : (kind : Kind) (o : Option (Node ℕ)) → is_kind_in kind o ≡ true → is_some o ≡ true

@@ -14,15 +14,15 @@ use Rattle.vt_location.specs.Numbers.{counted}
 use Rattle.vt_mount.specs.MountsValue.{MountEntry}
 use Rattle.vt_tasks.specs.TasksValue.{Tasks}
 use Rattle.vt_world.specs.Held.{CountsItsMounts, CountsItsUses, CountsWhatIsInIt, IsHeld}
-use Rattle.vt_detach.specs.Uses.{Merged, kept_of, kept_with}
+use Rattle.vt_mounting.specs.Detach.Uses.{Merged, kept_of, kept_with}
 use Rattle.vt_world.specs.WorldValue.{NamespaceEntry, WorldValue, namespace_of, world_of}
-use Rattle.vt_detach.proofs.Bridging.{IsSwept}
-use Rattle.vt_detach.proofs.Finishing.{CountsBeside, IsApplied, finished}
-use Rattle.vt_detach.proofs.Grouped.{left_has}
-use Rattle.vt_detach.proofs.Moving.{Moves, Use, entry_counts, inodes_of_uses, moved_kept}
-use Rattle.vt_detach.proofs.Overlaid.{layers_kept, overlays_counted}
-use Rattle.vt_detach.proofs.Remaining.{entry_was, remade, remains_swept, same_mounts, shown_was}
-use Rattle.vt_detach.proofs.Staying.{IsDone, after}
+use Rattle.vt_mounting.proofs.detach.Bridging.{IsSwept}
+use Rattle.vt_mounting.proofs.detach.Finishing.{CountsBeside, IsApplied, finished}
+use Rattle.vt_mounting.proofs.detach.Grouped.{left_has}
+use Rattle.vt_mounting.proofs.detach.Moving.{Moves, Use, entry_counts, inodes_of_uses, moved_kept}
+use Rattle.vt_mounting.proofs.detach.Overlaid.{layers_kept, overlays_counted}
+use Rattle.vt_mounting.proofs.detach.Remaining.{entry_was, remade, remains_swept, same_mounts, shown_was}
+use Rattle.vt_mounting.proofs.detach.Staying.{IsDone, after}
 
 -- the code's world with other mounts, filesystems, namespaces and tasks
 abbrev pub remade_in : WorldValue → List MountEntry → Filesystems → List NamespaceEntry → Tasks → WorldValue

@@ -32,27 +32,27 @@ use Rattle.vt_laws_worlds.specs.Permits.Named.{permit_named}
 use Rattle.vt_laws_worlds.specs.Permits.Sees.{MayBeRenamed}
 use Rattle.vt_laws_trees.specs.Runs.Handed.{is_counted_before}
 use Rattle.vt_laws_worlds.specs.Worlds.Permits.{IsReached, NamesWhatIsThere}
-use Rattle.vt_detach.specs.Detached.{LeaveTogether, trees_of_replaced}
-use Rattle.vt_detach.specs.Events.{Permits}
+use Rattle.vt_mounting.specs.Detach.Detached.{LeaveTogether, trees_of_replaced}
+use Rattle.vt_mounting.specs.Detach.Events.{Permits}
 use Rattle.vt_world.specs.Held.{IsHeld}
 use Rattle.vt_world.specs.StoredWorld.{with_store}
-use Rattle.vt_detach.specs.Stored.{OverlaysLeft, kept, merged_of}
-use Rattle.vt_detach.specs.Uses.{Merged, kept_of, kept_with}
+use Rattle.vt_mounting.specs.Detach.Stored.{OverlaysLeft, kept, merged_of}
+use Rattle.vt_mounting.specs.Detach.Uses.{Merged, kept_of, kept_with}
 use Rattle.vt_world.specs.WorldValue.{WorldValue, world_of}
-use Rattle.vt_detach.proofs.ChangedFiles.{ChangesFiles, IsFilesEvent, with_filesystems}
+use Rattle.vt_mounting.proofs.detach.ChangedFiles.{ChangesFiles, IsFilesEvent, with_filesystems}
 use Rattle.vt_ns.proofs.world.ChangedWithMounts.{changed_then_detached, nothing_goes}
-use Rattle.vt_detach.proofs.DetachingBegins.{HasChildrenOf, detached_world}
-use Rattle.vt_detach.proofs.DetachingEnds.{taken_regroups}
-use Rattle.vt_detach.proofs.FileEvents.{IsSmall}
+use Rattle.vt_mounting.proofs.detach.DetachingBegins.{HasChildrenOf, detached_world}
+use Rattle.vt_mounting.proofs.detach.DetachingEnds.{taken_regroups}
+use Rattle.vt_mounting.proofs.detach.FileEvents.{IsSmall}
 use Rattle.vt_ns.proofs.world.FileRenaming as Renaming
-use Rattle.vt_detach.proofs.FilesSeen.{nodes_named}
-use Rattle.vt_detach.proofs.LazilyUnmounted.{trees_have_children, trees_numbers}
+use Rattle.vt_mounting.proofs.detach.FilesSeen.{nodes_named}
+use Rattle.vt_mounting.proofs.detach.LazilyUnmounted.{trees_have_children, trees_numbers}
 use Rattle.vt_ns.proofs.world.DetachedStored.{collected_leave, left_is_stored, none_goes, some_go}
 use Rattle.vt_ns.proofs.world.MountsOn.{none_on, one_on, tops_on, trees_collected}
 use Rattle.vt_ns.proofs.world.PlainStored.{files_stored}
-use Rattle.vt_detach.proofs.Moving.{map_itself}
-use Rattle.vt_detach.proofs.Remaining.{remade_with}
-use Rattle.vt_detach.proofs.Staying.{IsDone}
+use Rattle.vt_mounting.proofs.detach.Moving.{map_itself}
+use Rattle.vt_mounting.proofs.detach.Remaining.{remade_with}
+use Rattle.vt_mounting.proofs.detach.Staying.{IsDone}
 
 -- the mounts on what is replaced
 abbrev pub tops_on_replaced : WorldValue → Option Location → List (Mount ℕ)

@@ -10,12 +10,12 @@ use Rattle.vt_store.specs.StoreValue.{StoreValue}
 use Rattle.vt_world.specs.Held.{IsHeld}
 use Rattle.vt_world.specs.StoredWorld.{overlay_of_store, overlays_of_store, with_store}
 use Rattle.vt_world.specs.WorldValue.{WorldValue}
-use Rattle.vt_detach.specs.Events.{Permits}
-use Rattle.vt_detach.specs.Stored.{kept, merged_of}
-use Rattle.vt_detach.specs.Uses.{kept_of, merged_seen}
-use Rattle.vt_detach.proofs.OverlaysListed.{left_itself, were_there}
-use Rattle.vt_detach.proofs.Staying.{IsDone}
-use Rattle.vt_detach.proofs.StoreStays.{store_stays}
+use Rattle.vt_mounting.specs.Detach.Events.{Permits}
+use Rattle.vt_mounting.specs.Detach.Stored.{kept, merged_of}
+use Rattle.vt_mounting.specs.Detach.Uses.{kept_of, merged_seen}
+use Rattle.vt_mounting.proofs.detach.OverlaysListed.{left_itself, were_there}
+use Rattle.vt_mounting.proofs.detach.Staying.{IsDone}
+use Rattle.vt_mounting.proofs.detach.StoreStays.{store_stays}
 
 -- what a store keeps is what its world has
 pub kept_is : (base : WorldValue) (store : StoreValue) → kept base.mounts store ≡ kept_of (with_store store base)

@@ -16,18 +16,18 @@ use Rattle.vt_mount.specs.MountsValue.{MountEntry, mounts_in}
 use Rattle.vt_retype.specs.Retyping.{retyped as retyped_entry}
 use Rattle.vt_laws_mounts.proofs.mounts.Standing.{trees_have_each_once}
 use Rattle.vt_laws_trees.specs.Runs.Handed.{counts_from}
-use Rattle.vt_detach.specs.Events.{Permits}
+use Rattle.vt_mounting.specs.Detach.Events.{Permits}
 use Rattle.vt_world.specs.Held.{IsHeld}
 use Rattle.vt_world.specs.WorldValue.{WorldValue, world_of}
-use Rattle.vt_detach.proofs.FileEvents.{permit_fits}
-use Rattle.vt_detach.proofs.Staying.{IsDone}
-use Rattle.vt_detach.proofs.TypesKept.{counts_lack, group, types_are_changed, types_are_shared}
-use Rattle.vt_detach.proofs.TreesInNamespaces.{in_tree}
+use Rattle.vt_mounting.proofs.detach.FileEvents.{permit_fits}
+use Rattle.vt_mounting.proofs.detach.Staying.{IsDone}
+use Rattle.vt_mounting.proofs.detach.TypesKept.{counts_lack, group, types_are_changed, types_are_shared}
+use Rattle.vt_mounting.proofs.detach.TreesInNamespaces.{in_tree}
 use Rattle.vt_ns.specs.Retyped.{IsRetyped, NumbersGroups, counted_after, with_counts}
 use Rattle.vt_ns.proofs.RetypedMounts.{places_are_counted}
 use Rattle.vt_laws_worlds.proofs.permits.taken.TakenFirst.{tree_some}
 use Rattle.vt_laws_mounts.specs.Mounts.Attaching.{numbers_of, OneNumberAMount}
-use Rattle.vt_attach.proofs.Binding.{is_seen}
+use Rattle.vt_mounting.proofs.attach.Binding.{is_seen}
 
 module _ (value : WorldValue) (whole : IsHeld value) (name : TaskName) (number : ℕ) (word : TypeWord) (recursive : Bool)
     (permits : Permits value name (ToSetType number word recursive)) where

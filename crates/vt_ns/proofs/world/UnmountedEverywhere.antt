@@ -26,23 +26,23 @@ use Rattle.vt_mount.specs.MountsValue.{MountEntry}
 use Rattle.vt_propagate.specs.Falling.{FallsTo, LeavesBy, left_by, moved_by}
 use Rattle.vt_propagate.specs.LazyUnmounts.{gone_lazily}
 use Rattle.vt_propagate.proofs.LazyUnmounts.{lazy_unmounts_are_at_once}
-use Rattle.vt_attach.specs.Planned.{Point, placed_entry, with_points}
-use Rattle.vt_attach.specs.PlannedUses.{point_seen}
-use Rattle.vt_detach.specs.Detached.{LeaveTogether}
-use Rattle.vt_detach.specs.Events.{Permits}
+use Rattle.vt_mounting.specs.Attach.Planned.{Point, placed_entry, with_points}
+use Rattle.vt_mounting.specs.Attach.PlannedUses.{point_seen}
+use Rattle.vt_mounting.specs.Detach.Detached.{LeaveTogether}
+use Rattle.vt_mounting.specs.Detach.Events.{Permits}
 use Rattle.vt_world.specs.Held.{IsHeld}
 use Rattle.vt_retype.specs.Retyping.{AreTyped}
-use Rattle.vt_detach.specs.Uses.{Kept, Merged, kept_of, kept_with}
-use Rattle.vt_detach.proofs.FollowedTypes.{changed_typed, own_types}
+use Rattle.vt_mounting.specs.Detach.Uses.{Kept, Merged, kept_of, kept_with}
+use Rattle.vt_mounting.proofs.detach.FollowedTypes.{changed_typed, own_types}
 use Rattle.vt_group.proofs.Others.{has_ordered}
 use Rattle.vt_world.specs.WorldValue.{WorldValue, world_of}
-use Rattle.vt_detach.proofs.FileEvents.{permit_fits}
-use Rattle.vt_detach.proofs.Finishing.{IsApplied}
-use Rattle.vt_detach.proofs.Leaving.{found_it}
-use Rattle.vt_detach.proofs.MountsGone.{found_mapped}
-use Rattle.vt_detach.proofs.Remaining.{remade_with}
-use Rattle.vt_detach.proofs.Staying.{IsDone}
-use Rattle.vt_detach.proofs.UnmountedAlone.{attached_is_named}
+use Rattle.vt_mounting.proofs.detach.FileEvents.{permit_fits}
+use Rattle.vt_mounting.proofs.detach.Finishing.{IsApplied}
+use Rattle.vt_mounting.proofs.detach.Leaving.{found_it}
+use Rattle.vt_mounting.proofs.detach.MountsGone.{found_mapped}
+use Rattle.vt_mounting.proofs.detach.Remaining.{remade_with}
+use Rattle.vt_mounting.proofs.detach.Staying.{IsDone}
+use Rattle.vt_mounting.proofs.detach.UnmountedAlone.{attached_is_named}
 use Rattle.vt_ns.specs.Unmounting.{GoTogether}
 use Rattle.vt_ns.proofs.world.UnmountedWorlds.{moved_then_detached}
 use Rattle.vt_laws_mounts.specs.Mounts.Attaching.{numbers_of}

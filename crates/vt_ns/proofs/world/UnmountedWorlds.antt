@@ -30,28 +30,28 @@ use Rattle.vt_laws_worlds.proofs.overlays_stay.left.Given.{given_permits_are_und
 use Rattle.vt_propagate.specs.Falling.{left_by, moved_by}
 use Rattle.vt_laws_worlds.specs.Worlds.Kept.{IsUnderWay}
 use Rattle.vt_laws_worlds.proofs.worlds.Roots.{directory_there}
-use Rattle.vt_attach.specs.Planned.{Point, is_small, points_left, points_taken, with_planned}
-use Rattle.vt_attach.specs.PlannedUses.{point_seen}
-use Rattle.vt_detach.specs.Detached.{LeaveInTurn}
-use Rattle.vt_detach.specs.Events.{supply_of}
+use Rattle.vt_mounting.specs.Attach.Planned.{Point, is_small, points_left, points_taken, with_planned}
+use Rattle.vt_mounting.specs.Attach.PlannedUses.{point_seen}
+use Rattle.vt_mounting.specs.Detach.Detached.{LeaveInTurn}
+use Rattle.vt_mounting.specs.Detach.Events.{supply_of}
 use Rattle.vt_world.specs.Held.{CountsWhatIsInIt, IsHeld}
-use Rattle.vt_detach.specs.Uses.{Merged, kept_of, kept_with}
+use Rattle.vt_mounting.specs.Detach.Uses.{Merged, kept_of, kept_with}
 use Rattle.vt_world.specs.WorldValue.{WorldValue, world_of}
-use Rattle.vt_detach.proofs.DetachingBegins.{HasChildrenOf, detached_world, detaching_begins}
-use Rattle.vt_detach.proofs.DetachingEnds.{detached_counted, detached_swept}
-use Rattle.vt_detach.proofs.Finishing.{IsApplied, finished_as}
-use Rattle.vt_detach.proofs.Grouped.{settled_has, stays_private}
-use Rattle.vt_detach.proofs.Keeping.{IsKeptBut, detached_in}
-use Rattle.vt_detach.proofs.Leaving.{found_it}
-use Rattle.vt_detach.proofs.MidwayBegins.{parent_inside}
-use Rattle.vt_detach.proofs.MountsGone.{found_mapped}
-use Rattle.vt_detach.proofs.Overlaid.{keeps_itself, same_files_keep}
-use Rattle.vt_detach.proofs.Remaining.{remade_with}
-use Rattle.vt_detach.proofs.Staying.{IsDone}
-use Rattle.vt_detach.proofs.TypedEvents.{counts_typed, swept_typed, typed_value}
-use Rattle.vt_detach.proofs.TypedWorlds.{typed_world}
+use Rattle.vt_mounting.proofs.detach.DetachingBegins.{HasChildrenOf, detached_world, detaching_begins}
+use Rattle.vt_mounting.proofs.detach.DetachingEnds.{detached_counted, detached_swept}
+use Rattle.vt_mounting.proofs.detach.Finishing.{IsApplied, finished_as}
+use Rattle.vt_mounting.proofs.detach.Grouped.{settled_has, stays_private}
+use Rattle.vt_mounting.proofs.detach.Keeping.{IsKeptBut, detached_in}
+use Rattle.vt_mounting.proofs.detach.Leaving.{found_it}
+use Rattle.vt_mounting.proofs.detach.MidwayBegins.{parent_inside}
+use Rattle.vt_mounting.proofs.detach.MountsGone.{found_mapped}
+use Rattle.vt_mounting.proofs.detach.Overlaid.{keeps_itself, same_files_keep}
+use Rattle.vt_mounting.proofs.detach.Remaining.{remade_with}
+use Rattle.vt_mounting.proofs.detach.Staying.{IsDone}
+use Rattle.vt_mounting.proofs.detach.TypedEvents.{counts_typed, swept_typed, typed_value}
+use Rattle.vt_mounting.proofs.detach.TypedWorlds.{typed_world}
 use Rattle.vt_laws_mounts.proofs.letting_go.SweptBetween.{settled_without_groups}
-use Rattle.vt_detach.proofs.UnmountedLazily.{all_detached}
+use Rattle.vt_mounting.proofs.detach.UnmountedLazily.{all_detached}
 use Rattle.vt_laws_mounts.proofs.mounts.MountsFound.{placed_among}
 use Rattle.vt_ns.proofs.world.PointsMoved.{MayMove, gained, looked_up, lost, moved_is_kept, moved_world}
 use Rattle.vt_spec.proofs.Lists.{map_alike, map_twice}

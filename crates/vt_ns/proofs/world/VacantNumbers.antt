@@ -32,13 +32,13 @@ use Rattle.vt_laws_worlds.proofs.permits.in_use.InUseServes.{leaves_two}
 use Rattle.vt_laws_worlds.specs.Permits.InUse.{is_in_use}
 use Rattle.vt_laws_rules.proofs.numbers.Supports.{used_numbers_are_named}
 use Rattle.vt_laws_trees.specs.Runs.Handed.{is_counted_before}
-use Rattle.vt_detach.specs.Events.{filesystem_count, next_inode}
+use Rattle.vt_mounting.specs.Detach.Events.{filesystem_count, next_inode}
 use Rattle.vt_world.specs.Held.{HasOwnNodes, IsHeld}
 use Rattle.vt_ns.specs.Vacancy.{IsVacant}
 use Rattle.vt_world.specs.WorldValue.{NamespaceEntry, WorldValue, namespace_of, world_of}
-use Rattle.vt_detach.proofs.NodesFound.{in_no_other, own_nodes}
-use Rattle.vt_detach.proofs.Overlaid.{found_plain_one}
-use Rattle.vt_attach.proofs.NewFilesystems.{filesystem_counted, found_below}
+use Rattle.vt_mounting.proofs.detach.NodesFound.{in_no_other, own_nodes}
+use Rattle.vt_mounting.proofs.detach.Overlaid.{found_plain_one}
+use Rattle.vt_mounting.proofs.attach.NewFilesystems.{filesystem_counted, found_below}
 
 module _ (count slot : ℕ) (small : slot < 18446744073709551616) where
   abbrev number : ℕ

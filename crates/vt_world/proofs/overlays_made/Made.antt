@@ -11,15 +11,15 @@ use Rattle.vt_laws_trees.proofs.layers.layers.ShownObjects.{Among, is_one, objec
 use Rattle.vt_laws_trees.proofs.layers.layers.ShownTree.{Arrives, arrives}
 use Rattle.vt_laws_trees.proofs.layers.layers.ShownWhole.{IsOfObject, is_of_object}
 use Rattle.vt_laws_trees.specs.Layers.Layers.Mounted.{AreLayers}
-use Rattle.vt_laws_worlds.specs.Merging.MergedTrees.{IsMergedTree, IsNamedBy, layers_shown}
+use Rattle.vt_laws_trees.specs.Overlays.MergedTrees.{IsMergedTree, IsNamedBy, layers_shown}
 use Rattle.vt_world.proofs.overlays_kept.events.KeptOverlays.{all_opened, no_larger, real_kept, tree_kept}
 use Rattle.vt_world.specs.OverlaysKept.Kept.{ShowsLayers, with_objects}
 use Rattle.vt_world.proofs.overlays_made.Supplied.{inodes_get_their_numbers}
 use Rattle.vt_world.specs.OverlaysMade.Made.{MadeObjectsAreShown, MadeTreesAreShown, handed_in, overlay_made}
-use Rattle.vt_laws_worlds.proofs.seen.seen.SeenTrees.{trees_are_seen}
-use Rattle.vt_laws_worlds.specs.Seen.TreesSeen.{real_seen, tree_seen}
+use Rattle.vt_laws_trees.proofs.overlays.seen.SeenTrees.{trees_are_seen}
+use Rattle.vt_laws_trees.specs.Overlays.TreesSeen.{real_seen, tree_seen}
 use Rattle.vt_laws_trees.proofs.trees.TreesOfWorlds.{numbered_anyhow}
-use Rattle.vt_merge.specs.LayerValue.{layers_of}
+use Rattle.vt_overlay.specs.Merge.LayerValue.{layers_of}
 use Rattle.vt_overlay.specs.MergedTree.{OverlayValue, layer_seen, longest, merged_tree, overlay_seen, real_number}
 use Rattle.vt_spec.proofs.FreshNumbers.{evens-distinct, odds-distinct}
 use Rattle.vt_spec.proofs.Options.{none_is_some}

@@ -11,14 +11,14 @@ use Rattle.vt_laws_trees.proofs.layers.layers.ShownMerged.{inodes, one_number}
 use Rattle.vt_laws_trees.proofs.layers.layers.ShownMounted.{are_open, bounded}
 use Rattle.vt_laws_trees.proofs.layers.layers.ShownObjects.{Among, is_object}
 use Rattle.vt_laws_trees.specs.Layers.Layers.Mounted.{AreLayers}
-use Rattle.vt_laws_worlds.specs.Merging.MergedTrees.{layers_shown}
+use Rattle.vt_laws_trees.specs.Overlays.MergedTrees.{layers_shown}
 use Rattle.vt_world.proofs.overlays_kept.inodes.InodesInOrder.{numbers_are_listed}
 use Rattle.vt_world.specs.OverlaysKept.Kept.{ShowsLayers}
 use Rattle.vt_world.proofs.overlays_made.Made.{born_so, layers, merged, opened, objects_are, tree_is}
 use Rattle.vt_world.proofs.overlays_made.Paths.{Differ, paths_differ}
 use Rattle.vt_world.proofs.overlays_made.Supplied.{overlays_get_their_count}
 use Rattle.vt_world.specs.OverlaysMade.Made.{MadeOverlaysAreSame, handed_in, overlay_made}
-use Rattle.vt_merge.specs.LayerValue.{layers_of}
+use Rattle.vt_overlay.specs.Merge.LayerValue.{layers_of}
 use Rattle.vt_overlay.proofs.TreeFound.{real_is}
 use Rattle.vt_overlay.specs.MergedTree.{OverlayValue, longest, number_at, numbers_shown, overlay_seen, plain_world, real_number}
 use Rattle.vt_spec.proofs.FreshNumbers.{evens-distinct, odds-distinct}

@@ -19,7 +19,7 @@ use Rattle.vt_location.specs.Locations.{number_of}
 use Rattle.vt_location.specs.NodeNumbers.{IsSmall}
 use Rattle.vt_location.specs.Numbers.{inode_number}
 use Rattle.vt_location.specs.declared.locations.NodeRef.{NodeRef}
-use Rattle.vt_merge.specs.LayerValue.{layers_of}
+use Rattle.vt_overlay.specs.Merge.LayerValue.{layers_of}
 use Rattle.vt_overlay.proofs.BirthsFound.{in_slot, small_birth}
 use Rattle.vt_overlay.proofs.TreeFound.{IsAt, numbered_is_at, real_is, real_of}
 use Rattle.vt_overlay.specs.MergedTree.{AreLayers, OverlayValue, node_born, real_number}

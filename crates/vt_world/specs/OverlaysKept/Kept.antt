@@ -8,10 +8,10 @@ use Rattle.vt_spec.specs.Machine.World.{Overlay, Real, Task, World, filesystem_n
 use Rattle.vt_laws_mounts.specs.Counts.BesideOverlays.{OverlaysHaveNoUpper}
 use Rattle.vt_laws_mounts.specs.Counts.OverlaysStay.{OverlaysAreNamed}
 use Rattle.vt_laws_worlds.specs.Permits.Left.{IsGiven, left_by}
-use Rattle.vt_laws_worlds.specs.Seen.TreesSeen.{real_seen}
+use Rattle.vt_laws_trees.specs.Overlays.TreesSeen.{real_seen}
 use Rattle.vt_location.specs.Numbers.{counted}
 use Rattle.vt_fs.specs.FilesystemsValue.{Filesystems, files_at}
-use Rattle.vt_merge.specs.declared.layers.LayerRef.{LayerRef}
+use Rattle.vt_overlay.specs.declared.merge.layers.LayerRef.{LayerRef}
 use Rattle.vt_overlay.specs.MergedTree.{AreLayers, OverlayValue, longest, merged_tree, overlay_seen, plain_world, real_number}
 
 -- The tree of a layer in the world is the one that is kept, and beside it are as many numbers.

@@ -6,8 +6,8 @@ use Rattle.vt_spec.specs.Machine.World.{Real}
 use Rattle.vt_spec.specs.Machine.World.Real.{Lower, Upper}
 use Rattle.vt_spec.specs.Tree.{Node}
 use Rattle.vt_fs.specs.FilesystemsValue.{Filesystems}
-use Rattle.vt_merge.specs.LayerValue.{layer_of}
-use Rattle.vt_merge.specs.declared.layers.LayerRef.{LayerRef}
+use Rattle.vt_overlay.specs.Merge.LayerValue.{layer_of}
+use Rattle.vt_overlay.specs.declared.merge.layers.LayerRef.{LayerRef}
 use Rattle.vt_overlay.specs.Alike.{lent_at, real_lent}
 use Rattle.vt_overlay.specs.MergedTree.{AreLayers, OverlayValue}
 use Rattle.vt_world.specs.OverlaysKept.Kept.{real_objects}

@@ -20,7 +20,7 @@ use Rattle.vt_location.specs.Locations.{number_of}
 use Rattle.vt_location.specs.NodeNumbers.{IsSmall}
 use Rattle.vt_location.specs.Numbers.{counted}
 use Rattle.vt_fs.specs.FilesystemsValue.{Filesystems}
-use Rattle.vt_merge.specs.LayerValue.{layers_of}
+use Rattle.vt_overlay.specs.Merge.LayerValue.{layers_of}
 use Rattle.vt_overlay.specs.MergedTree as Kept
 use Rattle.vt_overlay.specs.MergedTree.{OverlayValue, merged_files, merged_tree, overlay_seen, real_number}
 

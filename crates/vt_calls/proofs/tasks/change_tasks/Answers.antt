@@ -8,7 +8,7 @@ use Rattle.vt_permits.specs.declared.grant.Grant.TheVariants.{Task}
 use Rattle.vt_spec.specs.Machine.Tasks.{with_dropped}
 use Rattle.vt_spec.specs.Machine.Permits.Permit.{ToEnterNamespace, ToExit, ToFork, ToSetCredentials, ToSetDirectory, ToSetRoot, ToSetUmask, ToUnshare}
 use Rattle.vt_spec.specs.Machine.World.{first_credentials}
-use Rattle.vt_detach.specs.Events.{credentials_called}
+use Rattle.vt_mounting.specs.Detach.Events.{credentials_called}
 use Rattle.vt_calls.proofs.Endings.{changed, made, permitted, short}
 use Rattle.vt_calls.proofs.Told.{name_told}
 use Rattle.vt_calls.proofs.tasks.change_tasks.Goals as goal

@@ -11,10 +11,10 @@ use Rattle.vt_laws_trees.proofs.trees.TreesOfWorlds.{number_numbered}
 use Rattle.vt_laws_mounts.specs.Counts.BesideOverlays.{OverlaysHaveNoUpper}
 use Rattle.vt_laws_mounts.specs.Counts.OverlaysStay.{OverlaysAreNamed}
 use Rattle.vt_laws_mounts.proofs.counts.using.Swept.{found_is, not_found}
-use Rattle.vt_laws_worlds.specs.Merging.MergedTrees.{IsNamedBy}
+use Rattle.vt_laws_trees.specs.Overlays.MergedTrees.{IsNamedBy}
 use Rattle.vt_laws_worlds.specs.Permits.Left.{IsGiven, left_by}
-use Rattle.vt_laws_worlds.specs.Seen.TreesSeen.{AreNoLarger, real_seen, tree_seen}
-use Rattle.vt_laws_worlds.proofs.seen.seen.SeenTrees.{overlays_are_seen}
+use Rattle.vt_laws_trees.specs.Overlays.TreesSeen.{AreNoLarger, real_seen, tree_seen}
+use Rattle.vt_laws_trees.proofs.overlays.seen.SeenTrees.{overlays_are_seen}
 use Rattle.vt_laws_worlds.specs.OverlaysStay.Kept.{MountedOverlayStays, SeenTreesStay}
 use Rattle.vt_laws_worlds.proofs.overlays_stay.kept.OverlaysLeft.{overlays_in}
 use Rattle.vt_laws_worlds.proofs.overlays_stay.kept.OverlaysSwept.{mounted_overlays_stay}

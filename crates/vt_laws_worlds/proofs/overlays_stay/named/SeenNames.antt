@@ -12,9 +12,9 @@ use Rattle.vt_laws_mounts.specs.LettingGo.Keeping.{has_only_named}
 use Rattle.vt_laws_mounts.proofs.letting_go.Lists.{all_from_among, all_pass, is_among_numbers}
 use Rattle.vt_laws_mounts.proofs.letting_go.Trees.{named_among}
 use Rattle.vt_laws_mounts.proofs.letting_go.sweeps.OfWorlds.{found_filesystem}
-use Rattle.vt_laws_worlds.specs.Merging.MergedTrees.{IsMergedTree, IsNamedBy}
-use Rattle.vt_laws_worlds.proofs.merging.merged.Numbers.{overlays_are_merged_trees}
-use Rattle.vt_laws_worlds.proofs.seen.seen.NamedTrees.{seen_trees_are_named}
+use Rattle.vt_laws_trees.specs.Overlays.MergedTrees.{IsMergedTree, IsNamedBy}
+use Rattle.vt_laws_trees.proofs.overlays.merged.Numbers.{overlays_are_merged_trees}
+use Rattle.vt_laws_trees.proofs.overlays.seen.NamedTrees.{seen_trees_are_named}
 use Rattle.vt_laws_worlds.specs.OverlaysStay.Named.{SeenOverlaysHaveNames, SeenWorldsHaveNames}
 
 module _ (number_of : Real ℕ → ℕ) (world : World ℕ) (f : Filesystem ℕ) (overlay : Overlay ℕ)

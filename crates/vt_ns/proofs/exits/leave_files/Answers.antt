@@ -6,10 +6,10 @@ use Rattle.std.proofs.lemmas.List.Sums.{fold-append}
 use Rattle.vt_request.specs.Requests.{access_of}
 use Rattle.vt_spec.specs.Language.Calls.{opens_for_writing}
 use Rattle.vt_tasks.specs.declared.descriptors.OpenFile.{OpenFile}
-use Rattle.vt_detach.specs.NamespacesLeft.{is_small_file, without_file}
-use Rattle.vt_detach.specs.Stored.{kept}
-use Rattle.vt_detach.specs.Uses.{Kept, without_location}
-use Rattle.vt_detach.proofs.OverlaysListed.{left_itself, left_twice}
+use Rattle.vt_mounting.specs.Detach.NamespacesLeft.{is_small_file, without_file}
+use Rattle.vt_mounting.specs.Detach.Stored.{kept}
+use Rattle.vt_mounting.specs.Detach.Uses.{Kept, without_location}
+use Rattle.vt_mounting.proofs.detach.OverlaysListed.{left_itself, left_twice}
 use Rattle.vt_ns.proofs.exits.leave_files.Goals as goal
 
 -- the next file, behind those before it

@@ -1,8 +1,8 @@
 use Rattle.std.proofs.Common.{◌≡◌, true, take}
 use Rattle.std.specs.Prelude.{fold}
 use Rattle.std.specs.List.{list_all}
-use Rattle.vt_detach.specs.NamespacesLeft.{is_small_file, without_file}
-use Rattle.vt_detach.specs.Stored.{OverlaysLeft, kept}
+use Rattle.vt_mounting.specs.Detach.NamespacesLeft.{is_small_file, without_file}
+use Rattle.vt_mounting.specs.Detach.Stored.{OverlaysLeft, kept}
 use Rattle.vt_ns.proofs.exits.leave_files.Given as goal
 
 -- those before the next are left

@@ -2,7 +2,7 @@ use Rattle.std.proofs.Common.{ap, arith, refl, subst, sym, ◌∙◌, ◌<◌, I
 use Rattle.std.specs.Option.{option_copied_mut}
 use Rattle.vt_world.specs.WorldValue.{NamespaceEntry, entries_of}
 use Rattle.vt_ns.proofs.CountingLemmas.{nothing_counted, task_counted}
-use Rattle.vt_detach.proofs.NamespaceEntries.{entry_found}
+use Rattle.vt_mounting.proofs.detach.NamespaceEntries.{entry_found}
 use Rattle.vt_ns.proofs.forking.count_task.Goals as goal
 
 pub overflow_add-namespace : goal.overflow_add-namespace

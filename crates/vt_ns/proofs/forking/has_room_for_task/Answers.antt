@@ -3,7 +3,7 @@ use Rattle.std.specs.Prelude.{option_copied}
 use Rattle.std.proofs.lemmas.Bool.{ltb-true}
 use Rattle.std.proofs.lemmas.Bool.Decides.{nat_tests}
 use Rattle.vt_world.specs.WorldValue.{NamespaceEntry}
-use Rattle.vt_detach.proofs.NamespaceEntries.{entry_found}
+use Rattle.vt_mounting.proofs.detach.NamespaceEntries.{entry_found}
 use Rattle.vt_ns.proofs.forking.has_room_for_task.Goals as goal
 
 pub returns-in-Some : goal.returns-in-Some

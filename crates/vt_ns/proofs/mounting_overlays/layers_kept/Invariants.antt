@@ -1,5 +1,5 @@
 use Rattle.std.proofs.Common.{◌≡◌, map, take}
-use Rattle.vt_detach.specs.Events.{layer_kept}
+use Rattle.vt_mounting.specs.Detach.Events.{layer_kept}
 use Rattle.vt_permits.specs.GrantValue.{layer_of}
 use Rattle.vt_ns.proofs.mounting_overlays.layers_kept.Given as goal
 

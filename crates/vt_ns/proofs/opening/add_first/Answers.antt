@@ -1,5 +1,5 @@
 use Rattle.vt_spec.proofs.Options.{OnOk_then}
-use Rattle.vt_attach.proofs.OpeningLemmas.{first_made}
+use Rattle.vt_mounting.proofs.attach.OpeningLemmas.{first_made}
 use Rattle.vt_ns.proofs.opening.add_first.Goals as goal
 
 pub returns : goal.returns

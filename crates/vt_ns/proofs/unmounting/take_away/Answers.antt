@@ -5,10 +5,10 @@ use Rattle.vt_location.specs.declared.locations.Location.{Location}
 use Rattle.vt_location.specs.Locations.{location_of}
 use Rattle.vt_location.specs.Numbers.{counted}
 use Rattle.vt_mount.specs.MountsValue.{are_ascending, mounts_in}
-use Rattle.vt_attach.specs.Planned.{Point, is_small, points_left, points_taken, with_planned}
-use Rattle.vt_detach.specs.Detached.{LeaveTogether}
-use Rattle.vt_detach.specs.Stored.{kept, merged_of}
-use Rattle.vt_detach.proofs.OverlaysListed.{left_still, left_twice}
+use Rattle.vt_mounting.specs.Attach.Planned.{Point, is_small, points_left, points_taken, with_planned}
+use Rattle.vt_mounting.specs.Detach.Detached.{LeaveTogether}
+use Rattle.vt_mounting.specs.Detach.Stored.{kept, merged_of}
+use Rattle.vt_mounting.proofs.detach.OverlaysListed.{left_still, left_twice}
 use Rattle.vt_ns.proofs.unmounting.take_away.Goals as goal
 
 pub attach_planned-requires : goal.attach_planned-requires

@@ -11,7 +11,7 @@ use Rattle.vt_store.proofs.Scanned.{filled_found, filled_left, left_within, none
 use Rattle.vt_store.proofs.locks.finds_name_in_layer.Goals.{else-is_some, then-is_some+else-names_in_layer+else-left-eq0}
 use Rattle.vt_store.proofs.locks.finds_name_in_layer.Goals as goal
 use Rattle.vt_store.specs.Locks.{names_in_layer}
-use Rattle.vt_tree.specs.TreeValue.{tree_of}
+use Rattle.vt_fs.specs.Trees.TreeValue.{tree_of}
 
 pub loop-left-init : goal.loop-left-init
 loop-left-init c = record {

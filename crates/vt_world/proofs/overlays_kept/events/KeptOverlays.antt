@@ -18,22 +18,22 @@ use Rattle.vt_spec.specs.Tree.{Entries, Node, Tree, entries_in, is_directory_nod
 use Rattle.vt_laws_mounts.specs.Counts.BesideOverlays.{OverlaysHaveNoUpper}
 use Rattle.vt_laws_mounts.specs.Counts.OverlaysStay.{OverlaysAreNamed}
 use Rattle.vt_laws_trees.specs.Layers.Layers.Untouched.{IsKept}
-use Rattle.vt_laws_worlds.specs.Merging.MergedTrees.{IsNamedBy, layers_shown, node_as}
-use Rattle.vt_laws_worlds.proofs.merging.merged.Numbers.{overlays_are_merged_trees}
+use Rattle.vt_laws_trees.specs.Overlays.MergedTrees.{IsNamedBy, layers_shown, node_as}
+use Rattle.vt_laws_trees.proofs.overlays.merged.Numbers.{overlays_are_merged_trees}
 use Rattle.vt_laws_worlds.specs.OverlayPermits.LockedOverScripts.{LowersStay}
 use Rattle.vt_laws_worlds.proofs.overlays_stay.kept.TreesStay.{seen_trees_stay}
 use Rattle.vt_laws_worlds.proofs.overlays_stay.left.Lowers.{given_permits_leave_lowers}
 use Rattle.vt_laws_worlds.specs.Permits.Left.{IsGiven, left_by}
-use Rattle.vt_laws_worlds.proofs.seen.seen.NamedTrees.{seen_trees_are_named}
-use Rattle.vt_laws_worlds.specs.Seen.TreesSeen.{AreNoLarger, files_of, node_by, path_numbered, real_by, real_seen, tree_seen}
+use Rattle.vt_laws_trees.proofs.overlays.seen.NamedTrees.{seen_trees_are_named}
+use Rattle.vt_laws_trees.specs.Overlays.TreesSeen.{AreNoLarger, files_of, node_by, path_numbered, real_by, real_seen, tree_seen}
 use Rattle.vt_node.specs.Ranks.{rank_among}
 use Rattle.vt_location.specs.declared.births.Birth.TheVariants.{Below, Here}
 use Rattle.vt_location.specs.declared.locations.NodeRef.{NodeRef}
 use Rattle.vt_location.specs.Locations.{inode_of, number_of}
 use Rattle.vt_location.specs.Numbers.{exchanged}
 use Rattle.vt_fs.specs.FilesystemsValue.{Filesystems, files_at}
-use Rattle.vt_merge.specs.LayerValue.{layer_of, layers_of}
-use Rattle.vt_merge.specs.declared.layers.LayerRef.{LayerRef}
+use Rattle.vt_overlay.specs.Merge.LayerValue.{layer_of, layers_of}
+use Rattle.vt_overlay.specs.declared.merge.layers.LayerRef.{LayerRef}
 use Rattle.vt_overlay.proofs.TreeFound.{layers_are}
 use Rattle.vt_overlay.specs.MergedTree.{OverlayValue, layer_seen, longest, overlay_seen, plain_world, real_number}
 use Rattle.vt_world.specs.OverlaysKept.Kept.{IsShownAlike, KeptOverlaysStay, ShowsLayer, ShowsLayers, with_objects}

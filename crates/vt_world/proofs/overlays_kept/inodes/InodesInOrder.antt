@@ -17,9 +17,9 @@ use Rattle.vt_spec.specs.Machine.World.Real.{Lower}
 use Rattle.vt_spec.specs.Tree.{Node}
 use Rattle.vt_laws_mounts.proofs.letting_go.Lists.{Among, among-filter_map, among-from_filter_map, among_numbers, held_number, is_among_numbers}
 use Rattle.vt_laws_trees.proofs.layers.layers.ShownDirectories.{AreOpen}
-use Rattle.vt_laws_worlds.specs.Merging.MergedTrees.{entries_shown, layers_shown, node_as, parent_shown}
+use Rattle.vt_laws_trees.specs.Overlays.MergedTrees.{entries_shown, layers_shown, node_as, parent_shown}
 use Rattle.vt_laws_trees.proofs.overlays.steps.WholeParts.{shown_is_there}
-use Rattle.vt_laws_worlds.specs.Seen.TreesSeen.{node_by, real_by}
+use Rattle.vt_laws_trees.specs.Overlays.TreesSeen.{node_by, real_by}
 use Rattle.vt_location.specs.InOrder.{cmp_by, in_order_by}
 use Rattle.vt_location.proofs.OrderLemmas.{cmp_total, looked-in_order, found-in_order, rises-in_order}
 use Rattle.vt_fs.specs.FilesystemsValue.{Filesystems}

@@ -8,11 +8,11 @@ use Rattle.vt_spec.specs.Machine.Merging.{Merged, real_object}
 use Rattle.vt_spec.specs.Machine.World.{Real}
 use Rattle.vt_spec.specs.Tree.{Node}
 use Rattle.vt_laws_trees.proofs.layers.layers.ShownAtPath.{computed}
-use Rattle.vt_laws_worlds.specs.Merging.MergedTrees.{layers_shown}
-use Rattle.vt_laws_worlds.specs.Seen.TreesSeen.{real_by}
+use Rattle.vt_laws_trees.specs.Overlays.MergedTrees.{layers_shown}
+use Rattle.vt_laws_trees.specs.Overlays.TreesSeen.{real_by}
 use Rattle.vt_fs.specs.FilesystemsValue.{Filesystems}
-use Rattle.vt_merge.specs.LayerValue.{layer_of, layers_of}
-use Rattle.vt_merge.specs.declared.layers.LayerRef.{LayerRef}
+use Rattle.vt_overlay.specs.Merge.LayerValue.{layer_of, layers_of}
+use Rattle.vt_overlay.specs.declared.merge.layers.LayerRef.{LayerRef}
 use Rattle.vt_overlay.proofs.TreeFound.{layers_are}
 use Rattle.vt_overlay.specs.Alike.{lent_at, real_lent}
 use Rattle.vt_overlay.specs.MergedTree.{AreLayers, OverlayValue, longest, overlay_seen, path_at, plain_world, real_number}

@@ -1,7 +1,7 @@
 use Rattle.std.proofs.Common.{refl}
 use Rattle.vt_location.specs.Numbers.{inode_number}
 use Rattle.vt_laws_trees.proofs.runs.handed.InodesAllotted.{allotted_numbers_open}
-use Rattle.vt_attach.specs.Opening.{opening_numbers}
+use Rattle.vt_mounting.specs.Attach.Opening.{opening_numbers}
 use Rattle.vt_calls.proofs.calls.KernelCalls.opening.Goals as goal
 
 pub returns-clause-opened : goal.returns-clause-opened

@@ -2,7 +2,7 @@ use Rattle.std.proofs.Common.{◌≡◌, sym, subst, IfOk, List, ℕ, Option, na
 use Rattle.vt_spec.specs.FileTree.{path_down}
 use Rattle.vt_location.specs.declared.numbers.FilesystemId.{FilesystemId}
 use Rattle.vt_location.specs.Locations.{number_of}
-use Rattle.vt_tree.specs.Paths.{NamesDirectoriesOnce}
+use Rattle.vt_fs.specs.Trees.Paths.{NamesDirectoriesOnce}
 use Rattle.vt_fs.specs.FilesystemsValue.{files_at}
 use Rattle.vt_fs.proofs.PathsFound.{root_is}
 use Rattle.vt_fs.proofs.filesystems.Filesystems.path_from_root.Goals as goal

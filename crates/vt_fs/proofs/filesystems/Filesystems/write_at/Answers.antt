@@ -6,7 +6,7 @@ use Rattle.vt_spec.specs.declared.attributes.Kind.TheVariants.{File}
 use Rattle.vt_spec.specs.FileTree.{is_kind_in}
 use Rattle.vt_spec.specs.Machine.Descriptors.{overwritten}
 use Rattle.vt_spec.specs.Tree.{bytes_in}
-use Rattle.vt_tree.specs.TreeValue.{tree_of}
+use Rattle.vt_fs.specs.Trees.TreeValue.{tree_of}
 use Rattle.vt_fs.proofs.Standing.{changes, directory_there, kept, nothing_changes, plain_there, standing_of}
 use Rattle.vt_fs.proofs.Nowhere.{bytes_none, unchanged}
 use Rattle.vt_fs.proofs.filesystems.Filesystems.write_at.Goals as goal

@@ -5,7 +5,7 @@ use Rattle.vt_location.specs.Locations.{number_of}
 use Rattle.vt_looks.specs.declared.look.Entry.{Entry}
 use Rattle.vt_overlay.specs.declared.nodes.Entry.{Entry as Found}
 use Rattle.vt_store.specs.StoreValue.{lent_in}
-use Rattle.vt_detach.proofs.StoreShown.{store_stands}
+use Rattle.vt_mounting.proofs.detach.StoreShown.{store_stands}
 use Rattle.vt_ns.proofs.looking.LooksKept.{node_is, object_beside, object_is, seen_if_lent}
 use Rattle.vt_ns.proofs.looking.WorldLook.entry.Goals as goal
 use Rattle.vt_ns.specs.contracts.world.World.{the_view}

@@ -2,7 +2,7 @@ use Rattle.std.proofs.Common.{ap, rules, sym, ◌∙◌, ℕ}
 use Rattle.std.specs.Prelude.{Option}
 use Rattle.vt_spec.specs.Tree.{Node, parent_in}
 use Rattle.vt_location.specs.Locations.{number_of}
-use Rattle.vt_detach.proofs.StoreShown.{store_stands}
+use Rattle.vt_mounting.proofs.detach.StoreShown.{store_stands}
 use Rattle.vt_ns.proofs.looking.LooksKept.{no_node, node_is}
 use Rattle.vt_ns.proofs.looking.WorldLook.parent.Goals as goal
 use Rattle.vt_ns.specs.contracts.world.World.{the_view}

@@ -5,7 +5,7 @@ use Rattle.vt_world.specs.WorldValue.{WorldValue, world_of}
 use Rattle.vt_ns.specs.contracts.world.World.{the_view}
 use Rattle.vt_ns.proofs.WorldSeen.{uses_seen}
 use Rattle.vt_ns.proofs.mount_looks.WorldLookAtMounts.is_busy.Goals as goal
-use Rattle.vt_attach.proofs.Binding.{is_seen}
+use Rattle.vt_mounting.proofs.attach.Binding.{is_seen}
 
 pub returns-clause-ok : goal.returns-clause-ok
 returns-clause-ok c =

@@ -8,18 +8,18 @@ use Rattle.vt_spec.specs.Machine.Invariants.{is_located_well}
 use Rattle.vt_permits.specs.GrantValue.{attachment_permit}
 use Rattle.vt_permits.specs.declared.grant.Attachment.TheVariants.{Bind}
 use Rattle.vt_ns.specs.contracts.world.World.{the_view}
-use Rattle.vt_detach.specs.Events.{Becomes, Permits}
+use Rattle.vt_mounting.specs.Detach.Events.{Becomes, Permits}
 use Rattle.vt_world.specs.WorldValue.{WorldValue, world_of}
-use Rattle.vt_detach.proofs.OverlaysListed.{done_in_store, left_still}
-use Rattle.vt_detach.proofs.Staying.{IsDone}
-use Rattle.vt_attach.proofs.Binding.{bind_is_done, may_bind, source_there}
-use Rattle.vt_attach.specs.Grafted.{IsGrafted}
+use Rattle.vt_mounting.proofs.detach.OverlaysListed.{done_in_store, left_still}
+use Rattle.vt_mounting.proofs.detach.Staying.{IsDone}
+use Rattle.vt_mounting.proofs.attach.Binding.{bind_is_done, may_bind, source_there}
+use Rattle.vt_mounting.specs.Attach.Grafted.{IsGrafted}
 use Rattle.vt_ns.specs.Counting.{counted_for}
 use Rattle.vt_ns.proofs.world.Counted.{counted_so}
 use Rattle.vt_ns.proofs.world.BoundEvents.{bind_place_there, parts_found, place_mounted}
 use Rattle.vt_world.specs.StoredWorld.{with_store}
-use Rattle.vt_detach.specs.Stored.{kept, merged_of}
-use Rattle.vt_detach.specs.Uses.{kept_of}
+use Rattle.vt_mounting.specs.Detach.Stored.{kept, merged_of}
+use Rattle.vt_mounting.specs.Detach.Uses.{kept_of}
 use Rattle.vt_ns.proofs.world.StoresKept.{kept_is}
 use Rattle.vt_ns.proofs.world.World.bind.Goals as goal
 

@@ -12,7 +12,7 @@ use Rattle.vt_tasks.specs.TaskValue.{task_of}
 use Rattle.vt_world.specs.Held.{IsHeld}
 use Rattle.vt_world.specs.StoredWorld.{with_store}
 use Rattle.vt_world.specs.WorldValue.{WorldValue, world_of}
-use Rattle.vt_detach.specs.Events.{layer_kept}
+use Rattle.vt_mounting.specs.Detach.Events.{layer_kept}
 use Rattle.vt_ns.specs.OverlayMounts.{IsPlainLayer, MountsOverlay, PermitsOverlay}
 use Rattle.vt_ns.specs.contracts.world.World.{the_view}
 use Rattle.vt_ns.proofs.world.BoundEvents.{parts_found}

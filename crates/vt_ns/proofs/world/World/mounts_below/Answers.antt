@@ -9,7 +9,7 @@ use Rattle.vt_spec.specs.Machine.World.{mount_numbered}
 use Rattle.vt_ns.specs.contracts.world.World.{the_view}
 use Rattle.vt_mount.specs.Attached.{AreOf}
 use Rattle.vt_world.specs.WorldValue.{WorldValue, world_of}
-use Rattle.vt_detach.proofs.Shown.{is_some_mapped}
+use Rattle.vt_mounting.proofs.detach.Shown.{is_some_mapped}
 use Rattle.vt_ns.proofs.world.MovedEvents.{tree_below}
 use Rattle.vt_ns.proofs.world.World.mounts_below.Goals as goal
 

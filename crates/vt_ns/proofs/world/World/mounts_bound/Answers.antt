@@ -6,7 +6,7 @@ use Rattle.vt_spec.specs.Machine.Attach.{bind_tree}
 use Rattle.vt_spec.specs.Machine.Invariants.{is_located_well}
 use Rattle.vt_mount.specs.Attached.{AreOf}
 use Rattle.vt_world.specs.WorldValue.{WorldValue, world_of}
-use Rattle.vt_attach.proofs.TreeBinding.{tree_bound}
+use Rattle.vt_mounting.proofs.attach.TreeBinding.{tree_bound}
 use Rattle.vt_ns.specs.contracts.world.World.{the_view}
 use Rattle.vt_ns.proofs.world.World.mounts_bound.Goals as goal
 

@@ -8,12 +8,12 @@ use Rattle.vt_spec.specs.Machine.Permits.Permit.{ToMove}
 use Rattle.vt_spec.specs.Machine.Mounts.{is_shared}
 use Rattle.vt_spec.specs.Machine.World.{mount_at, mount_numbered}
 use Rattle.vt_ns.specs.contracts.world.World.{the_view}
-use Rattle.vt_detach.specs.Events.{Becomes, Permits}
-use Rattle.vt_detach.specs.Uses.{inode_of, pinned_in, unpinned_at, unpinned_in}
+use Rattle.vt_mounting.specs.Detach.Events.{Becomes, Permits}
+use Rattle.vt_mounting.specs.Detach.Uses.{inode_of, pinned_in, unpinned_at, unpinned_in}
 use Rattle.vt_world.specs.StoredWorld.{with_store}
 use Rattle.vt_world.specs.WorldValue.{WorldValue, world_of}
-use Rattle.vt_detach.proofs.Shown.{pins, unpins}
-use Rattle.vt_detach.proofs.Staying.{IsDone}
+use Rattle.vt_mounting.proofs.detach.Shown.{pins, unpins}
+use Rattle.vt_mounting.proofs.detach.Staying.{IsDone}
 use Rattle.vt_ns.proofs.world.MovedEvents.{moved_in_store}
 use Rattle.vt_ns.proofs.world.World.move_alone.Goals as goal
 use Rattle.vt_ns.proofs.world.World.move_alone.Goals.{In_default}

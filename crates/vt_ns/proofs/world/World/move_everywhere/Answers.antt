@@ -10,19 +10,19 @@ use Rattle.vt_spec.specs.Machine.Mounts.{is_shared, mount_tree}
 use Rattle.vt_spec.specs.Machine.World.{mount_at, mount_numbered}
 use Rattle.vt_spec.specs.Machine.Permits.Permit.{ToMove}
 use Rattle.vt_ns.specs.contracts.world.World.{the_view}
-use Rattle.vt_detach.specs.Events.{Becomes, Permits}
+use Rattle.vt_mounting.specs.Detach.Events.{Becomes, Permits}
 use Rattle.vt_world.specs.WorldValue.{WorldValue, world_of}
-use Rattle.vt_detach.proofs.OverlaysListed.{done_in_store, left_still}
-use Rattle.vt_detach.proofs.Staying.{IsDone}
-use Rattle.vt_attach.proofs.MovedDone.{may_move, move_is_done}
-use Rattle.vt_attach.specs.Moved.{IsMovedBy}
+use Rattle.vt_mounting.proofs.detach.OverlaysListed.{done_in_store, left_still}
+use Rattle.vt_mounting.proofs.detach.Staying.{IsDone}
+use Rattle.vt_mounting.proofs.attach.MovedDone.{may_move, move_is_done}
+use Rattle.vt_mounting.specs.Attach.Moved.{IsMovedBy}
 use Rattle.vt_ns.specs.Counting.{counted_for}
 use Rattle.vt_ns.proofs.world.Counted.{counted_so}
 use Rattle.vt_ns.proofs.world.BoundEvents.{parts_found, place_mounted}
 use Rattle.vt_ns.proofs.world.MovedEvents.{move_place_there, moved_there}
 use Rattle.vt_world.specs.StoredWorld.{with_store}
-use Rattle.vt_detach.specs.Stored.{kept, merged_of}
-use Rattle.vt_detach.specs.Uses.{kept_of}
+use Rattle.vt_mounting.specs.Detach.Stored.{kept, merged_of}
+use Rattle.vt_mounting.specs.Detach.Uses.{kept_of}
 use Rattle.vt_ns.proofs.world.StoresKept.{kept_is}
 use Rattle.vt_ns.proofs.world.World.move_everywhere.Goals as goal
 

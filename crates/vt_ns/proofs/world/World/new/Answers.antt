@@ -1,11 +1,11 @@
 use Rattle.std.proofs.Common.{ap, subst, sym, ◌∙◌}
 use Rattle.vt_location.specs.declared.numbers.FilesystemId.{FilesystemId}
-use Rattle.vt_attach.specs.Opening.{first_shown}
+use Rattle.vt_mounting.specs.Attach.Opening.{first_shown}
 use Rattle.vt_store.specs.StoreValue.{StoreValue}
 use Rattle.vt_world.specs.Held.{IsHeld}
 use Rattle.vt_world.specs.StoredWorld.{overlays_of_store}
 use Rattle.vt_world.specs.WorldValue.{entries_of, world_of}
-use Rattle.vt_attach.proofs.OpeningLemmas.{mounts_made, namespaces_made, opening_held, opening_seen, tasks_made}
+use Rattle.vt_mounting.proofs.attach.OpeningLemmas.{mounts_made, namespaces_made, opening_held, opening_seen, tasks_made}
 use Rattle.vt_ns.proofs.world.World.new.Goals as goal
 
 pub invariant_of-result : goal.invariant_of-result

@@ -14,11 +14,11 @@ use Rattle.vt_mount.specs.MountsValue.{changed as changed_mounts, held}
 use Rattle.vt_mount.proofs.KeptLemmas.{of-ok}
 use Rattle.vt_request.specs.Requests.{access_of}
 use Rattle.vt_ns.specs.contracts.world.World.{the_view}
-use Rattle.vt_detach.specs.Events.{Becomes, Permits}
+use Rattle.vt_mounting.specs.Detach.Events.{Becomes, Permits}
 use Rattle.vt_ns.proofs.world.OpeningNew.{has_next, make_fits, may_open_one, new_in_directory, new_opens, next_is_numbered, used_once}
-use Rattle.vt_detach.proofs.Shown.{pins}
+use Rattle.vt_mounting.proofs.detach.Shown.{pins}
 use Rattle.vt_world.specs.StoredWorld.{with_store}
-use Rattle.vt_detach.specs.Uses.{merged_seen}
+use Rattle.vt_mounting.specs.Detach.Uses.{merged_seen}
 use Rattle.vt_ns.proofs.world.PlainStored.{done_plainly}
 use Rattle.vt_ns.proofs.world.World.open_new.Goals as goal
 

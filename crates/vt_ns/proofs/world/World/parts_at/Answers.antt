@@ -4,7 +4,7 @@ use Rattle.vt_propagate.specs.Seen.{IsSeen}
 use Rattle.vt_world.specs.WorldValue.{world_of}
 use Rattle.vt_ns.specs.contracts.world.World.{the_view}
 use Rattle.vt_ns.proofs.world.World.parts_at.Goals as goal
-use Rattle.vt_attach.proofs.Binding.{is_seen}
+use Rattle.vt_mounting.proofs.attach.Binding.{is_seen}
 
 pub returns : goal.returns
 returns c = record {

@@ -1,8 +1,8 @@
 use Rattle.std.proofs.Common.{ap, is_some, rules, nat_eq, ◌∙◌}
 use Rattle.vt_spec.specs.Machine.World.{mount_at}
 use Rattle.vt_location.specs.Locations.{location_of, number_of}
-use Rattle.vt_detach.proofs.StoreShown.{store_stands}
-use Rattle.vt_detach.specs.Looking.{looks_of_value}
+use Rattle.vt_mounting.proofs.detach.StoreShown.{store_stands}
+use Rattle.vt_mounting.specs.Detach.Looking.{looks_of_value}
 use Rattle.vt_world.specs.Lent.{lent_of_world}
 use Rattle.vt_world.specs.WorldValue.{world_of}
 use Rattle.vt_ns.proofs.looking.LooksKept.{object_is, seen_if_there}

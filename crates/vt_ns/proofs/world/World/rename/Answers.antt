@@ -2,7 +2,7 @@ use Rattle.std.proofs.Common.{rules, ◌≡◌, ◌≢◌, sym, subst, arith, le
 use Rattle.vt_permits.specs.GrantValue.{remove_permit}
 use Rattle.vt_permits.specs.declared.grant.RemoveGrant.TheVariants.{Rename}
 use Rattle.vt_ns.specs.contracts.world.World.{the_view}
-use Rattle.vt_detach.specs.Events.{Becomes, Permits}
+use Rattle.vt_mounting.specs.Detach.Events.{Becomes, Permits}
 use Rattle.vt_ns.proofs.world.FileRenaming.{rename_fits, renamed_is_kept, renamed_object, renamed_to}
 use Rattle.vt_ns.proofs.world.RenamedOver.{rename_over, rename_stays}
 use Rattle.vt_world.specs.StoredWorld.{with_store}

@@ -3,10 +3,10 @@ use Rattle.vt_cred.specs.MountFlags.{flags_of}
 use Rattle.vt_location.specs.Numbers.{counted}
 use Rattle.vt_spec.specs.Machine.Permits.Permit.{ToSetFlags}
 use Rattle.vt_ns.specs.contracts.world.World.{the_view}
-use Rattle.vt_detach.specs.Events.{Becomes, Permits}
-use Rattle.vt_detach.proofs.Remaining.{remade}
-use Rattle.vt_detach.proofs.TypesSet.{flags_are_set}
-use Rattle.vt_detach.proofs.Staying.{IsDone}
+use Rattle.vt_mounting.specs.Detach.Events.{Becomes, Permits}
+use Rattle.vt_mounting.proofs.detach.Remaining.{remade}
+use Rattle.vt_mounting.proofs.detach.TypesSet.{flags_are_set}
+use Rattle.vt_mounting.proofs.detach.Staying.{IsDone}
 use Rattle.vt_ns.proofs.world.World.set_flags.Goals as goal
 
 pub invariant_of-self : goal.invariant_of-self

@@ -2,15 +2,15 @@ use Rattle.std.proofs.Common.{ap, false, map, option_map, subst, sym, ◌≡◌,
 use Rattle.vt_location.specs.Locations.{location_of}
 use Rattle.vt_spec.specs.Machine.Permits.Permit.{ToSetRoot}
 use Rattle.vt_ns.specs.contracts.world.World.{the_view}
-use Rattle.vt_detach.specs.Events.{Becomes, Permits}
-use Rattle.vt_detach.specs.Uses.{kept_of, with_location, without_location}
-use Rattle.vt_detach.proofs.OverlaysListed.{done_in_store, left_itself, left_twice}
-use Rattle.vt_detach.proofs.Places.{root_is_set}
-use Rattle.vt_detach.proofs.Remaining.{remade}
-use Rattle.vt_detach.proofs.Staying.{IsDone}
+use Rattle.vt_mounting.specs.Detach.Events.{Becomes, Permits}
+use Rattle.vt_mounting.specs.Detach.Uses.{kept_of, with_location, without_location}
+use Rattle.vt_mounting.proofs.detach.OverlaysListed.{done_in_store, left_itself, left_twice}
+use Rattle.vt_mounting.proofs.detach.Places.{root_is_set}
+use Rattle.vt_mounting.proofs.detach.Remaining.{remade}
+use Rattle.vt_mounting.proofs.detach.Staying.{IsDone}
 use Rattle.vt_world.specs.WorldValue.{WorldValue}
 use Rattle.vt_world.specs.StoredWorld.{overlays_of_store}
-use Rattle.vt_detach.specs.Stored.{kept, merged_of}
+use Rattle.vt_mounting.specs.Detach.Stored.{kept, merged_of}
 use Rattle.vt_ns.proofs.world.StoresKept.{kept_is}
 use Rattle.vt_ns.proofs.world.World.set_root.Goals as goal
 

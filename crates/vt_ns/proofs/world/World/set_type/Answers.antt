@@ -8,7 +8,7 @@ use Rattle.vt_spec.specs.Machine.Permits.Permit.{ToSetType}
 use Rattle.vt_spec.specs.Machine.Types.{named_mounts}
 use Rattle.vt_ns.specs.contracts.world.World.{the_view}
 use Rattle.vt_ns.specs.Retyped.{IsRetyped, counted_after}
-use Rattle.vt_detach.specs.Events.{Becomes, Permits}
+use Rattle.vt_mounting.specs.Detach.Events.{Becomes, Permits}
 use Rattle.vt_world.specs.WorldValue.{WorldValue, world_of}
 use Rattle.vt_ns.proofs.world.TypesDone.{types_done}
 use Rattle.vt_ns.proofs.world.World.set_type.Goals as goal

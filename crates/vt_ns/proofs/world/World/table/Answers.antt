@@ -6,7 +6,7 @@ use Rattle.vt_world.specs.WorldValue.{WorldValue, world_of}
 use Rattle.vt_group.specs.Grouping.{master_in}
 use Rattle.vt_mount.specs.MountsValue.{mounts_in}
 use Rattle.vt_ns.specs.contracts.world.World.{the_view}
-use Rattle.vt_detach.proofs.StoreShown.{files_shown, store_stands}
+use Rattle.vt_mounting.proofs.detach.StoreShown.{files_shown, store_stands}
 use Rattle.vt_ns.proofs.looking.StoreLooked.{above_shown, overlay_shown}
 use Rattle.vt_ns.proofs.world.ListedWorlds.{named_once}
 use Rattle.vt_ns.proofs.world.World.table.Goals as goal

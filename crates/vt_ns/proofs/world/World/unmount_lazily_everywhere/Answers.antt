@@ -6,13 +6,13 @@ use Rattle.vt_propagate.specs.Seen.{IsSeen}
 use Rattle.vt_spec.specs.Machine.Permits.Permit.{ToUnmountLazily}
 use Rattle.vt_spec.specs.Machine.World.{World}
 use Rattle.vt_ns.specs.contracts.world.World.{the_view}
-use Rattle.vt_detach.specs.Events.{Becomes, Permits}
+use Rattle.vt_mounting.specs.Detach.Events.{Becomes, Permits}
 use Rattle.vt_world.specs.WorldValue.{WorldValue, world_of}
-use Rattle.vt_detach.proofs.OverlaysListed.{done_in_store}
-use Rattle.vt_detach.proofs.Staying.{IsDone}
-use Rattle.vt_detach.specs.Stored.{kept, merged_of}
-use Rattle.vt_detach.specs.Uses.{kept_of}
-use Rattle.vt_attach.specs.Planned.{Point}
+use Rattle.vt_mounting.proofs.detach.OverlaysListed.{done_in_store}
+use Rattle.vt_mounting.proofs.detach.Staying.{IsDone}
+use Rattle.vt_mounting.specs.Detach.Stored.{kept, merged_of}
+use Rattle.vt_mounting.specs.Detach.Uses.{kept_of}
+use Rattle.vt_mounting.specs.Attach.Planned.{Point}
 use Rattle.vt_ns.specs.Unmounting.{GoTogether}
 use Rattle.vt_ns.proofs.world.UnmountedEverywhere.{unmounted_lazily}
 use Rattle.vt_world.specs.StoredWorld.{with_store}

@@ -13,16 +13,16 @@ use Rattle.vt_tasks.specs.TaskValue.{task_of}
 use Rattle.vt_tasks.specs.TasksValue.{changed_called}
 use Rattle.vt_ns.specs.contracts.world.World.{the_view}
 use Rattle.vt_mount.specs.Attached.{attached_in}
-use Rattle.vt_attach.specs.Copying.{CopiesAttached, with_use_moved}
-use Rattle.vt_detach.specs.Stored.{OverlaysLeft, kept, merged_of}
-use Rattle.vt_detach.specs.Uses.{kept_of, overlays_kept, with_attached}
-use Rattle.vt_detach.specs.Events.{Becomes, Permits}
+use Rattle.vt_mounting.specs.Attach.Copying.{CopiesAttached, with_use_moved}
+use Rattle.vt_mounting.specs.Detach.Stored.{OverlaysLeft, kept, merged_of}
+use Rattle.vt_mounting.specs.Detach.Uses.{kept_of, overlays_kept, with_attached}
+use Rattle.vt_mounting.specs.Detach.Events.{Becomes, Permits}
 use Rattle.vt_world.specs.WorldValue.{WorldValue, entries_of}
 use Rattle.vt_mount.proofs.AttachedLemmas.{as_many}
-use Rattle.vt_detach.proofs.OverlaysListed.{done_in_store, left_still, left_twice}
-use Rattle.vt_detach.proofs.Staying.{IsDone}
-use Rattle.vt_attach.proofs.TasksUnshared.{task_is_unshared}
-use Rattle.vt_attach.proofs.UnsharingLemmas.{namespace_added, numbers_before, uses_left, uses_left_then, writers_left, writers_left_then}
+use Rattle.vt_mounting.proofs.detach.OverlaysListed.{done_in_store, left_still, left_twice}
+use Rattle.vt_mounting.proofs.detach.Staying.{IsDone}
+use Rattle.vt_mounting.proofs.attach.TasksUnshared.{task_is_unshared}
+use Rattle.vt_mounting.proofs.attach.UnsharingLemmas.{namespace_added, numbers_before, uses_left, uses_left_then, writers_left, writers_left_then}
 use Rattle.vt_world.specs.StoredWorld.{overlays_of_store}
 use Rattle.vt_ns.proofs.world.StoresKept.{kept_is}
 use Rattle.vt_ns.proofs.world.World.unshare.Goals as goal

@@ -3,8 +3,8 @@ use Rattle.vt_location.specs.Locations.{location_of, number_of}
 use Rattle.vt_spec.specs.Language.Changes.Change.{SetBytes}
 use Rattle.vt_spec.specs.Machine.Permits.Permit.{ToChange}
 use Rattle.vt_ns.specs.contracts.world.World.{the_view}
-use Rattle.vt_detach.specs.Events.{Becomes, Permits}
-use Rattle.vt_detach.proofs.FileEvents.{change_fits}
+use Rattle.vt_mounting.specs.Detach.Events.{Becomes, Permits}
+use Rattle.vt_mounting.proofs.detach.FileEvents.{change_fits}
 use Rattle.vt_ns.proofs.world.FileAnswers.{write_is_done}
 use Rattle.vt_world.specs.StoredWorld.{with_store}
 use Rattle.vt_ns.proofs.world.PlainStored.{files_stored}

@@ -8,8 +8,8 @@ use Rattle.vt_location.specs.declared.numbers.FilesystemId.{FilesystemId}
 use Rattle.vt_location.specs.Locations.{inode_of}
 use Rattle.vt_location.specs.Numbers.{exchanged}
 use Rattle.vt_fs.specs.FilesystemsValue.{files_at}
-use Rattle.vt_merge.specs.LayerValue.{layer_of}
-use Rattle.vt_merge.specs.declared.layers.LayerRef.{LayerRef}
+use Rattle.vt_overlay.specs.Merge.LayerValue.{layer_of}
+use Rattle.vt_overlay.specs.declared.merge.layers.LayerRef.{LayerRef}
 use Rattle.vt_node.specs.Ranks.{rank_among}
 use Rattle.vt_overlay.proofs.NodesShown.{below_birth, front_there, last_by_index, root_birth}
 use Rattle.vt_overlay.proofs.overlays.Overlay.birth_at.Goals as goal

@@ -2,9 +2,9 @@ use Rattle.std.proofs.Common.{◌++◌, ◌∷◌, [], ap, length, subst, sym, �
 use Rattle.std.specs.Prelude.{IfSome}
 use Rattle.vt_spec.proofs.Options.{none_is_some}
 use Rattle.vt_spec.specs.Machine.Layers.{shown}
-use Rattle.vt_merge.specs.EntryValue.{IsFirstEntry}
-use Rattle.vt_merge.specs.LayerValue.{layers_of}
-use Rattle.vt_merge.specs.declared.layers.MergedDirectory.{MergedDirectory}
+use Rattle.vt_overlay.specs.Merge.EntryValue.{IsFirstEntry}
+use Rattle.vt_overlay.specs.Merge.LayerValue.{layers_of}
+use Rattle.vt_overlay.specs.declared.merge.layers.MergedDirectory.{MergedDirectory}
 use Rattle.vt_overlay.specs.MergedTree.{OverlayValue}
 use Rattle.vt_overlay.proofs.EntriesShown.{beside, decides_here, first_is_beside, first_is_within, is_within, its_layer, nothing_under, only_way}
 use Rattle.vt_overlay.proofs.overlays.Overlay.entry_under.Goals as goal

@@ -6,8 +6,8 @@ use Rattle.vt_location.specs.declared.locations.NodeRef.{NodeRef}
 use Rattle.vt_location.specs.declared.numbers.FilesystemId.{FilesystemId}
 use Rattle.vt_location.specs.Locations.{inode_of, number_of}
 use Rattle.vt_location.specs.Numbers.{exchanged}
-use Rattle.vt_merge.specs.LayerValue.{layers_of, seen_of}
-use Rattle.vt_merge.specs.declared.layers.LayerRef.{LayerRef}
+use Rattle.vt_overlay.specs.Merge.LayerValue.{layers_of, seen_of}
+use Rattle.vt_overlay.specs.declared.merge.layers.LayerRef.{LayerRef}
 use Rattle.vt_overlay.specs.MergedTree.{OverlayValue, birth_at}
 use Rattle.vt_overlay.proofs.NodesShown.{no_number, node_is}
 use Rattle.vt_overlay.proofs.TreeFound.{in_layer}

@@ -8,7 +8,7 @@ use Rattle.vt_location.specs.declared.locations.InodeRef.{InodeRef}
 use Rattle.vt_location.specs.declared.locations.NodeRef.{NodeRef}
 use Rattle.vt_location.specs.Locations.{inode_of, number_of}
 use Rattle.vt_fs.specs.FilesystemsValue.{files_at, node_seen}
-use Rattle.vt_merge.specs.LayerValue.{layers_of, seen_of}
+use Rattle.vt_overlay.specs.Merge.LayerValue.{layers_of, seen_of}
 use Rattle.vt_overlay.specs.MergedTree.{OverlayValue}
 use Rattle.vt_overlay.proofs.BirthsFound.{Birthplace}
 use Rattle.vt_overlay.proofs.BornNamed.{above, above_node, above_number, files, name_seen, no_directory, no_layer, no_name, no_way, shown_elsewhere, shown_here, start}

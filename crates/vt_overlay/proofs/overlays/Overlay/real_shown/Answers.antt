@@ -3,7 +3,7 @@ use Rattle.std.specs.Prelude.{IsSome}
 use Rattle.vt_location.proofs.NodeLemmas.{small_parts}
 use Rattle.vt_location.specs.Births.{IsSmallBirth}
 use Rattle.vt_location.specs.Locations.{number_of}
-use Rattle.vt_merge.specs.LayerValue.{seen_of}
+use Rattle.vt_overlay.specs.Merge.LayerValue.{seen_of}
 use Rattle.vt_overlay.specs.MergedTree.{born_below, born_here, object_shown, real_in}
 use Rattle.vt_overlay.proofs.BirthsFound.{Birthplace}
 use Rattle.vt_overlay.proofs.ObjectsPlaced.{in_its_layer, real_below, real_here}

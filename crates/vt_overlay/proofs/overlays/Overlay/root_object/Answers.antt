@@ -1,5 +1,5 @@
 use Rattle.std.proofs.Common.{Some, ap, arith, rules, option_map, sym, ◌<◌, ◌≡◌, ◌≢◌, ◌∙◌, slice_get}
-use Rattle.vt_merge.specs.LayerValue.{seen_of}
+use Rattle.vt_overlay.specs.Merge.LayerValue.{seen_of}
 use Rattle.vt_overlay.proofs.RootFound.{no_top_object, other_object, root_object}
 use Rattle.vt_overlay.proofs.overlays.Overlay.root_object.Goals as goal
 

@@ -1,5 +1,5 @@
 use Rattle.std.proofs.Common.{List, length, take, ◌++◌, ◌-◌}
-use Rattle.vt_merge.specs.declared.layers.LayerRef.{LayerRef}
+use Rattle.vt_overlay.specs.declared.merge.layers.LayerRef.{LayerRef}
 use Rattle.vt_store.specs.LayersAt.{AreCounted, HasRoomForLayers}
 use Rattle.vt_store.proofs.layer_counts.LayerCounts.add.Given as goal
 

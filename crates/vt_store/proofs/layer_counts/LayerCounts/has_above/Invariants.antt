@@ -5,7 +5,7 @@ use Rattle.vt_spec.specs.Inodes.{ancestors, parent_above}
 use Rattle.vt_spec.specs.Lists.{chain}
 use Rattle.vt_store.specs.LayersAt.{has_layer_at}
 use Rattle.vt_store.specs.declared.layer_counts.LayerCounts.{LayerCounts}
-use Rattle.vt_tree.specs.TreeValue.{inodes_of}
+use Rattle.vt_fs.specs.Trees.TreeValue.{inodes_of}
 use Rattle.vt_store.proofs.layer_counts.LayerCounts.has_above.Given as goal
 
 abbrev pub is_at : LayerCounts → FilesystemId → ℕ → Bool

@@ -9,7 +9,7 @@ use Rattle.vt_store.proofs.overlays.Overlays.have_layer_over.Goals as goal
 use Rattle.vt_store.specs.LayersAt.{has_layer_at}
 use Rattle.vt_store.specs.Locks.{directory_lies_in_overlay}
 use Rattle.vt_store.specs.OverlaysValue.{kept_overlays}
-use Rattle.vt_tree.specs.TreeValue.{inodes_of}
+use Rattle.vt_fs.specs.Trees.TreeValue.{inodes_of}
 
 pub returns-in-Some : goal.returns-in-Some
 returns-in-Some c =

@@ -1,7 +1,7 @@
 use Rattle.std.proofs.Common.{IfOk, ap, map, nat_eq, option_copied, option_map, subst, sym, ℕ, ◌≡◌, ◌∙◌}
 use Rattle.vt_spec.specs.FileTree.{FileTree, path_down}
 use Rattle.vt_location.specs.Locations.{number_of}
-use Rattle.vt_tree.specs.Paths.{NamesDirectoriesOnce}
+use Rattle.vt_fs.specs.Trees.Paths.{NamesDirectoriesOnce}
 use Rattle.vt_store.specs.StoreValue.{StoreValue}
 use Rattle.vt_store.proofs.Looked.{over_few, over_files, over_layers, plain_files}
 use Rattle.vt_store.proofs.store.Store.path_down.Goals as goal

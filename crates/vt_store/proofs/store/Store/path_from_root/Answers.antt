@@ -2,7 +2,7 @@ use Rattle.std.proofs.Common.{IfOk, ap, map, nat_eq, option_copied, option_map, 
 use Rattle.std.specs.Prelude.{IfSome}
 use Rattle.vt_spec.specs.FileTree.{FileTree, path_down}
 use Rattle.vt_location.specs.Locations.{number_of}
-use Rattle.vt_tree.specs.Paths.{NamesDirectoriesOnce}
+use Rattle.vt_fs.specs.Trees.Paths.{NamesDirectoriesOnce}
 use Rattle.vt_overlay.specs.MergedTree.{merged_files, merged_tree}
 use Rattle.vt_store.specs.StoreValue.{StoreValue}
 use Rattle.vt_store.proofs.Looked.{over_few, over_files, over_layers, over_stands, plain_files}

@@ -1,8 +1,0 @@
-use Rattle.std.proofs.Common.{◌≡◌, take}
-use Rattle.vt_fs.specs.FilesystemsValue.{shown}
-use Rattle.vt_spec.specs.Lists.{folded}
-use Rattle.vt_detach.specs.Uses.{shown_by}
-use Rattle.vt_attach.proofs.attaching.show_all.Given as goal
-
-abbrev pub invariant-loop-mount : goal.invariant-loop-mount
-invariant-loop-mount l = shown l.filesystems ≡ folded shown_by (shown l.fn.filesystems) (take l.mount-index l.new)

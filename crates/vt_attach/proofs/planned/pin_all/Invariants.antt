@@ -1,9 +1,0 @@
-use Rattle.std.proofs.Common.{◌≡◌, take}
-use Rattle.vt_fs.specs.FilesystemsValue.{shown}
-use Rattle.vt_spec.specs.Lists.{folded}
-use Rattle.vt_attach.specs.Planned.{pinned_by, taken_of}
-use Rattle.vt_attach.proofs.planned.pin_all.Given as goal
-
-abbrev pub invariant-loop-one : goal.invariant-loop-one
-invariant-loop-one l =
-    shown l.filesystems ≡ folded pinned_by (shown l.fn.filesystems) (taken_of (take l.one-index l.moved))

@@ -1,6 +1,0 @@
-//! Uses of mounts and of inodes, and mounts that leave their namespaces; what nothing uses any more goes.
-#![tactic(auto)]
-
-pub mod detaching;
-pub mod ending;
-pub mod uses;

@@ -1,0 +1,10 @@
+use Rattle.std.proofs.Common.{length, ◌+◌, ◌-◌, ◌≡◌}
+use Rattle.vt_fs.proofs.tree.NamesCounted.{counts}
+use Rattle.vt_fs.proofs.tree.names.Names.reserve.Given as goal
+use Rattle.vt_fs.specs.Trees.Names.{count_of}
+
+abbrev pub invariant-loop-self : goal.invariant-loop-self
+invariant-loop-self l = count_of (counts l.self-inside.named.items) ≡ count_of l.fn.self
+
+abbrev pub decreases-loop-self : goal.decreases-loop-self
+decreases-loop-self l = l.object + 1 - length l.self-inside.named.items

@@ -1,0 +1,101 @@
+use Rattle.std.proofs.Common.{◌≡◌, ℕ, Some, arith, nat_eq, ap, sym, ◌-◌, ◌∙◌, refl}
+use Rattle.std.specs.FinMap.Entries.{is_sorted}
+use Rattle.vt_spec.specs.Inodes.{Inodes, with_changed, without_replaced}
+use Rattle.vt_spec.specs.Language.Changes.{node_with_parent, node_without_entry}
+use Rattle.vt_spec.specs.Tree.{entries_in, name_cmp, node_with_entry}
+use Rattle.vt_spec.specs.TreeInvariant.{entry_at}
+use Rattle.vt_fs.specs.Trees.Slots.{inodes_in, put_at}
+use Rattle.vt_fs.specs.Trees.TreeValue.{inodes_of, tree_of}
+use Rattle.vt_fs.proofs.tree.MoveLemmas.{moved, replaced_other}
+use Rattle.vt_spec.specs.Inodes.{tree_of as nodes_of}
+use Rattle.vt_fs.proofs.tree.NamesKept.{counted_as, name_moved, replaced_counted, replaced_keeps}
+use Rattle.vt_fs.proofs.tree.NameCounts.{most_weaker, one_if_some}
+use Rattle.vt_fs.specs.Trees.Names.{NamesAtMost, count_of}
+use Rattle.vt_fs.proofs.tree.trees.Tree.rename.Goals as goal
+use Rattle.vt_fs.proofs.tree.trees.Tree.rename.Goals.{After-set_parent}
+
+-- the tree with the new entry, without the old one, and with the parent
+abbrev with_entries_moved : After-set_parent → Inodes ℕ
+with_entries_moved c = with_changed nat_eq
+    (with_changed nat_eq (with_changed nat_eq (inodes_of c.args.self.now) c.args.from
+    (node_without_entry c.args.old.now))
+    c.args.to (node_with_entry c.args.new.items c.args.object))
+    c.args.object (node_with_parent c.args.to)
+
+placed : (c : After-set_parent) → inodes_in c.self.inside.root c.set_parent.new.slots ≡ with_entries_moved c
+placed c =
+    let sorted =
+    sym (ap (λ value. is_sorted name_cmp (entries_in ((tree_of value).node c.args.to))) c.self.view_is)
+    ∙ c.insert_entry.ensures.in_order in
+    moved (inodes_of c.args.self.now) c.args.from c.args.old.now c.args.to c.args.new.items c.args.object sorted
+    c.requires.named
+    (replaced_other (tree_of c.args.self.now) c.args.object
+    (entry_at (tree_of c.args.self.now) c.args.to c.args.new.items) c.requires.replaced)
+    (inodes_in c.self.inside.root c.insert_entry.new.slots) (inodes_in c.self.inside.root c.remove_entry.new.slots)
+    (inodes_in c.self.inside.root c.set_parent.new.slots)
+    (c.in_ok-insert_entry.ensures.ok c.self.inside.root
+    ∙ ap (λ value. with_changed nat_eq (inodes_of value) c.args.to
+    (node_with_entry c.args.new.items c.args.object)) c.self.view_is)
+    (c.remove_entry.ensures.removed c.self.inside.root)
+    (c.set_parent.ensures.set c.self.inside.root)
+
+-- what had the new name
+replaced : (c : After-set_parent)
+    → c.look-replaced.result ≡ entry_at (tree_of c.args.self.now) c.args.to c.args.new.items
+replaced c = c.look-replaced.ensures ∙ ap (entry_at (tree_of c.args.self.now) c.args.to) c.deref.ensures.value
+
+pub returns-in-Some-clause-ok : goal.returns-in-Some-clause-ok
+returns-in-Some-clause-ok c =
+    let path = (goal.at.returns-in-Some-clause-ok c).After-set_parent in
+    c.remove_object.ensures.removed c.self.inside.root
+    ∙ ap (λ inodes. without_replaced nat_eq inodes (Some c.in-Some.other)) (placed path)
+    ∙ ap (without_replaced nat_eq (with_entries_moved path)) (sym c.in-Some.is ∙ replaced path)
+
+pub returns-in_default-clause-ok : goal.returns-in_default-clause-ok
+returns-in_default-clause-ok c =
+    let path = (goal.at.returns-in_default-clause-ok c).After-set_parent in
+    placed path ∙ ap (without_replaced nat_eq (with_entries_moved path)) (sym c.in_default.is ∙ replaced path)
+
+-- without room all stays
+pub invariant_of-self : goal.invariant_of-self
+invariant_of-self c = rw c.in_err-insert_entry.ensures.err c.self.invariant
+
+-- the object keeps its count, and what had the new name has one less
+counted : (c : After-set_parent) → NamesAtMost (nodes_of (inodes_in c.self.inside.root c.set_parent.new.slots))
+    (λ number. count_of c.self.inside.names number
+    - one_if_some number (entry_at (tree_of c.args.self.now) c.args.to c.args.new.items))
+counted c =
+    let root = c.self.inside.root in
+    let before = inodes_in root c.self.inside.slots in
+    let named = ap (λ value. entry_at (tree_of value) c.args.from c.args.old.now) c.self.view_is ∙ c.requires.named in
+    counted_as (with_changed nat_eq (with_changed nat_eq
+    (with_changed nat_eq before c.args.to (node_with_entry c.args.new.items c.args.object))
+    c.args.from (node_without_entry c.args.old.now)) c.args.object (node_with_parent c.args.to)) _ _ _
+    (c.set_parent.ensures.set root
+    ∙ ap (λ inodes. with_changed nat_eq inodes c.args.object (node_with_parent c.args.to))
+    (c.remove_entry.ensures.removed root
+    ∙ ap (λ inodes. with_changed nat_eq inodes c.args.from (node_without_entry c.args.old.now))
+    (c.in_ok-insert_entry.ensures.ok root)))
+    (ap (λ value. λ number. count_of c.self.inside.names number
+    - one_if_some number (entry_at (tree_of value) c.args.to c.args.new.items)) (sym c.self.view_is))
+    (name_moved before c.args.from c.args.to c.args.old.now c.args.new.items c.args.object
+    (count_of c.self.inside.names) c.insert_entry.ensures.in_order named c.self.invariant)
+
+pub invariant_of-self-in-Some : goal.invariant_of-self-in-Some
+invariant_of-self-in-Some c =
+    let path = (goal.at.invariant_of-self-in-Some c).After-set_parent in
+    let root = c.self.inside.root in
+    counted_as _ _ _ _ (c.remove_object.ensures.removed root)
+    (c.take.ensures ∙ ap (λ counts. put_at (count_of counts) c.in-Some.other (count_of counts c.in-Some.other - 1))
+    c.move_to.ensures)
+    (replaced_keeps (inodes_in root c.set_parent.new.slots) c.in-Some.other _
+    (most_weaker (nodes_of (inodes_in root c.set_parent.new.slots)) _ _ (counted path)
+    (λ number. replaced_counted (count_of c.self.inside.names) _ c.in-Some.other number
+    (sym (replaced path) ∙ c.in-Some.is))))
+
+pub invariant_of-self-in_default : goal.invariant_of-self-in_default
+invariant_of-self-in_default c =
+    let path = (goal.at.invariant_of-self-in_default c).After-set_parent in
+    counted_as (inodes_in c.self.inside.root c.set_parent.new.slots) _ _ _ refl (ap count_of c.move_to.ensures)
+    (most_weaker (nodes_of (inodes_in c.self.inside.root c.set_parent.new.slots)) _ (count_of c.self.inside.names)
+    (counted path) (λ number. omega arith))

@@ -1,0 +1,30 @@
+use Rattle.std.proofs.Common.{Some, nat_eq, ap, ◌∙◌, refl}
+use Rattle.vt_spec.specs.Language.Changes.{node_without_entry}
+use Rattle.vt_spec.specs.Inodes.{with_changed, without_replaced}
+use Rattle.vt_fs.specs.Trees.TreeValue.{inodes_of}
+use Rattle.vt_fs.proofs.tree.NamesKept.{counted_as, name_less, replaced_keeps}
+use Rattle.vt_fs.specs.Trees.Slots.{inodes_in}
+use Rattle.vt_spec.specs.TreeInvariant.{entry_at}
+use Rattle.vt_fs.specs.Trees.TreeValue.{tree_of}
+use Rattle.vt_fs.proofs.tree.trees.Tree.unlink.Goals as goal
+
+pub returns : goal.returns
+returns c =
+    c.remove_object.ensures.removed c.self.inside.root
+    ∙ ap (λ inodes. without_replaced nat_eq inodes (Some c.args.object))
+    (c.remove_entry.ensures.removed c.self.inside.root)
+    ∙ ap (λ value. without_replaced nat_eq
+    (with_changed nat_eq (inodes_of value) c.args.directory (node_without_entry c.args.name.now))
+    (Some c.args.object)) c.self.view_is
+
+-- a name less, and a use
+pub invariant_of-self : goal.invariant_of-self
+invariant_of-self c =
+    let root = c.self.inside.root in
+    let named = ap (λ value. entry_at (tree_of value) c.args.directory c.args.name.now) c.self.view_is
+    ∙ c.requires.named in
+    counted_as _ _ _ _ (c.remove_object.ensures.removed root) c.take.ensures
+    (replaced_keeps (inodes_in root c.remove_entry.new.slots) c.args.object _
+    (counted_as _ _ _ _ (c.remove_entry.ensures.removed root) refl
+    (name_less (inodes_in root c.self.inside.slots) c.args.directory c.args.name.now c.args.object _ named
+    c.self.invariant)))

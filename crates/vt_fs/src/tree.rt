@@ -1,0 +1,9 @@
+//! A tree of inodes, as a finite map from their numbers that its calls change.
+
+mod changes;
+mod names;
+mod paths;
+mod slots;
+mod trees;
+
+pub use trees::Tree;

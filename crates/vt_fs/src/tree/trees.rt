@@ -1,0 +1,339 @@
+//! `Tree`, and what its calls change.
+ghost use Rattle.std.specs.Prelude.{◌≡◌, ℕ, ◌^◌, ◌≤◌, ◌+◌, ◌<◌, ◌↔◌, nat_eq, false, [], map, length, drop, take, None, Some, IfOk, IfSome, OnOk, OnErr, IsOk, IsTrue, option_copied, IsErr};
+ghost use Rattle.vt_spec.specs.declared.attributes.Kind.TheVariants.{File};
+ghost use Rattle.vt_spec.specs.FileTree.{is_kind_in};
+ghost use Rattle.vt_spec.specs.Fits.{MayReplace, StaysOutside};
+ghost use Rattle.vt_spec.specs.Inodes.{changed, is_directory_under, one_directory, pinned, unpinned, uses_in};
+ghost use Rattle.vt_spec.specs.Laws.Trees.{IsNewIn};
+ghost use Rattle.vt_spec.specs.Language.Changes.Change.{AddName, Make, Move, Remove, SetAttr, SetBytes, SetMark};
+ghost use Rattle.vt_spec.specs.Language.Limits.{largest_file};
+ghost use Rattle.vt_spec.specs.Machine.Descriptors.{overwritten};
+ghost use Rattle.vt_spec.specs.Tree.{is_directory_node, parent_in, entries_in, names_in, bytes_in};
+ghost use Rattle.vt_spec.specs.TreeInvariant.{IsDirectory, entry_at};
+ghost use Rattle.vt_fs.specs.Trees.TreeValue.{inodes_of, tree_of, next_number};
+ghost use Rattle.vt_fs.specs.Trees.Names.{AloneNames};
+ghost use Rattle.vt_fs.specs.Trees.Slots.{most_uses};
+
+use crate::tree::changes::{
+    insert_entry, release, remove_entry, remove_object, set_attr, set_bytes, set_opaque,
+    set_parent, write_bytes,
+};
+use crate::tree::names::Names;
+use crate::tree::slots::Slots;
+use std::alloc::{AllocError, Global};
+use std::marker::Model;
+use vt_node::{Attr, Node, NodeId, copied_bytes};
+
+/// A tree of directories, files, symlinks and whiteouts, each with a number, and with a count of its uses: the names
+/// that lead to it, and what a caller pins. With its last use an object goes.
+#[derive(Debug, Drop)]
+pub struct Tree {
+    slots: Slots,
+    names: Names,
+    root: NodeId,
+    alloc: Global,
+}
+
+impl Model for Tree {
+    ghost use Rattle.vt_fs.specs.Trees.TreeValue.{TreeValue};
+
+    ghost Value = { TreeValue };
+
+    ghost view = { λ t. record { root = t.root; slots = t.slots.slots; next = t.slots.next } };
+
+    ghost use Rattle.vt_spec.specs.Inodes.{tree_of as nodes_of};
+    ghost use Rattle.vt_fs.specs.Trees.Names.{AreCounted};
+    ghost use Rattle.vt_fs.specs.Trees.Slots.{inodes_in};
+
+    ghost invariant = { λ t. AreCounted (nodes_of (inodes_in t.root t.slots)) t.names };
+}
+
+impl Tree {
+    /// A tree of one empty directory, its root, with the number 0.
+    pub fn new(alloc: Global, attr: Attr) -> Result<Self, AllocError>
+        ensures ok { IfOk result (λ tree. inodes_of tree ≡ one_directory nat_eq 0 attr) }
+    {
+        let mut slots = Slots::new(alloc);
+        slots.reserve(1)?;
+        let root = slots.next();
+        slots.insert_reserved(Node::new_directory(alloc, attr, root));
+        Ok(Tree {
+            slots,
+            names: Names::new(alloc),
+            root,
+            alloc,
+        })
+    }
+
+    /// The number of its root directory.
+    pub fn root(&self) -> NodeId
+        ensures value { result ≡ (tree_of self.now).root }
+    {
+        self.root
+    }
+
+    /// How many objects there are.
+    pub fn len(&self) -> usize
+        ensures { result ≡ (inodes_of self.now).count }
+    {
+        self.slots.len()
+    }
+
+    /// No object has a number of 2^64 or more, nor has the root.
+    pub fn numbers_fit(&self)
+        ensures numbers { (id : ℕ) → 2 ^ 64 ≤ id → (inodes_of self.now).inode id ≡ None }
+        ensures root { (tree_of self.now).root < 2 ^ 64 }
+    {
+        let _root = self.root.index();
+        self.slots.numbers_fit();
+    }
+
+    /// The number that the next new object gets, which no node has.
+    pub fn next_number(&self) -> NodeId
+        ensures value { result ≡ next_number self.now }
+        ensures vacant { (tree_of self.now).node result ≡ None }
+    {
+        self.slots.next()
+    }
+
+    /// The node with this number.
+    pub fn node(&self, id: NodeId) -> Option<&Node>
+        ensures { option_copied result ≡ (tree_of self.now).node id }
+    {
+        self.slots.get(id)
+    }
+
+    /// The parent of a directory; of anything else its own number.
+    pub fn parent(&self, id: NodeId) -> NodeId
+        ensures { result ≡ parent_in id ((tree_of self.now).node id) }
+    {
+        match self.slots.get(id) {
+            Some(node) => node.parent(id),
+            None => id,
+        }
+    }
+
+    /// How often the object is in use: the names that lead to it, and what is pinned. A number without an object has no
+    /// use.
+    pub fn uses(&self, object: NodeId) -> u64
+        ensures { result ≡ uses_in ((inodes_of self.now).inode object) }
+    {
+        self.slots.uses(object)
+    }
+
+    /// The names of a directory, in the order of their bytes: readdir(3). What is no directory has none.
+    ///
+    /// No names need no allocation.
+    pub fn list(&self, directory: NodeId) -> Result<Vec<Vec<u8>>, AllocError>
+        ensures ok { IfOk result (λ names.
+            map (λ name. name.items) names.items ≡ names_in ((tree_of self.now).node directory)) }
+        ensures empty { entries_in ((tree_of self.now).node directory) ≡ [] → IsOk result }
+    {
+        let Some(node) = self.slots.get(directory) else {
+            return Ok(Vec::new(self.alloc));
+        };
+        node.names(self.alloc)
+    }
+
+    /// At most `size` bytes of a file from an offset on: pread(2). Past the end there are none.
+    ///
+    /// No bytes need no allocation.
+    pub fn read_part(&self, file: NodeId, offset: usize, size: usize) -> Result<Vec<u8>, AllocError>
+        ensures ok { IfOk result (λ bytes.
+            bytes.items ≡ take size (drop offset (bytes_in ((tree_of self.now).node file)))) }
+        ensures empty { take size (drop offset (bytes_in ((tree_of self.now).node file))) ≡ [] → IsOk result }
+    {
+        match self.slots.get(file) {
+            Some(node) => copied_bytes(self.alloc, node.bytes_part(offset, size)),
+            None => Ok(Vec::new(self.alloc)),
+        }
+    }
+
+    /// Whether a directory is at or under another: going up by parents meets it.
+    pub fn is_under(&self, top: NodeId, directory: NodeId) -> bool
+        ensures { result ≡ is_directory_under nat_eq (inodes_of self.now) top directory }
+    {
+        let mut here = directory;
+        let mut left = self.len();
+        while left > 0 {
+            if top == here {
+                return true;
+            }
+            if here == self.root {
+                return false;
+            }
+            here = self.parent(here);
+            left -= 1;
+        }
+        top == here
+    }
+
+    /// Makes an object under a free name of a directory: mkdir(2), open(2) with O_CREAT, symlink(2), mknod(2).
+    pub fn create(
+        &mut self,
+        directory: NodeId,
+        name: Vec<u8>,
+        node: Node,
+    ) -> Result<NodeId, AllocError>
+        requires directory { IsDirectory (tree_of self.old) directory }
+        requires free { entry_at (tree_of self.old) directory name.items ≡ None }
+        requires node { IsNewIn directory node }
+        ensures ok { IfOk result (λ id.
+            inodes_of self.new ≡ changed nat_eq (inodes_of self.old) (Make directory name.items id node)) }
+        ensures number { IfOk result (λ id. id ≡ next_number self.old) }
+        ensures err { OnErr result (self.new ≡ self.old) }
+    {
+        self.slots.reserve(1)?;
+        let id = self.slots.next();
+        self.names.reserve(id)?;
+        insert_entry(&mut self.slots, directory, name, id)?;
+        self.names.add(id, directory);
+        Ok(self.slots.insert_reserved(node))
+    }
+
+    /// Makes a further hard link to an object, under a free name: link(2).
+    ///
+    /// It fails too where the object has 2^64 - 1 uses.
+    pub fn link(
+        &mut self,
+        directory: NodeId,
+        name: Vec<u8>,
+        object: NodeId,
+    ) -> Result<(), AllocError>
+        requires directory { IsDirectory (tree_of self.old) directory }
+        requires free { entry_at (tree_of self.old) directory name.items ≡ None }
+        requires object { is_directory_node ((tree_of self.old).node object) ≡ false }
+        ensures ok { OnOk result
+            (inodes_of self.new ≡ changed nat_eq (inodes_of self.old) (AddName directory name.items object)) }
+        ensures err { OnErr result (self.new ≡ self.old) }
+    {
+        if self.slots.uses(object) == u64::MAX {
+            return Err(AllocError);
+        }
+        self.names.reserve(object)?;
+        insert_entry(&mut self.slots, directory, name, object)?;
+        self.names.add(object, directory);
+        self.slots.count_use(object);
+        Ok(())
+    }
+
+    /// Removes a name of an object that has no entries: unlink(2), rmdir(2). With its last use the object goes. It does
+    /// not allocate.
+    pub fn unlink(&mut self, directory: NodeId, name: &[u8], object: NodeId)
+        requires named { entry_at (tree_of self.old) directory name.now ≡ Some object }
+        requires empty { entries_in ((tree_of self.old).node object) ≡ [] }
+        ensures { inodes_of self.new
+            ≡ changed nat_eq (inodes_of self.old) (Remove directory name.now object) }
+    {
+        remove_entry(&mut self.slots, directory, name);
+        self.names.take(object);
+        remove_object(&mut self.slots, object);
+    }
+
+    /// Gives an object another name, and takes the place of what had that: rename(2).
+    ///
+    /// Only a new name allocates.
+    pub fn rename(
+        &mut self,
+        from: NodeId,
+        old: &[u8],
+        to: NodeId,
+        new: Vec<u8>,
+        object: NodeId,
+    ) -> Result<(), AllocError>
+        requires named { entry_at (tree_of self.old) from old.now ≡ Some object }
+        requires directory { IsDirectory (tree_of self.old) to }
+        requires replaced { MayReplace (tree_of self.old) object (entry_at (tree_of self.old) to new.items) }
+        requires outside { StaysOutside (inodes_of self.old) object to }
+        ensures ok { OnOk result
+            (inodes_of self.new ≡ changed nat_eq (inodes_of self.old) (Move from old.now to new.items object)) }
+        ensures new_name { OnErr result (entry_at (tree_of self.old) to new.items ≡ None) }
+        ensures err { OnErr result (self.new ≡ self.old) }
+    {
+        let replaced = self.look(to, &new);
+        insert_entry(&mut self.slots, to, new, object)?;
+        remove_entry(&mut self.slots, from, old);
+        set_parent(&mut self.slots, object, to);
+        self.names.move_to(object, to);
+        if let Some(other) = &replaced {
+            self.names.take(*other);
+            remove_object(&mut self.slots, *other);
+        }
+        Ok(())
+    }
+
+    /// Sets the whole content of a file: write(2) after open(2) with O_TRUNC. It does not allocate. A symlink, a
+    /// whiteout and a number without an object stay as they are.
+    pub fn write(&mut self, file: NodeId, bytes: Vec<u8>)
+        requires file { is_directory_node ((tree_of self.old).node file) ≡ false }
+        requires size { length bytes.items ≤ largest_file }
+        ensures { inodes_of self.new ≡ changed nat_eq (inodes_of self.old) (SetBytes file bytes.items) }
+    {
+        set_bytes(&mut self.slots, file, bytes);
+    }
+
+    /// Writes bytes into a file from an offset on, and zeros into a gap before them: pwrite(2). Only a file that gets
+    /// longer allocates. A symlink, a whiteout and a number without an object stay as they are.
+    pub fn write_at(&mut self, file: NodeId, offset: usize, bytes: &[u8]) -> Result<(), AllocError>
+        requires file { is_directory_node ((tree_of self.old).node file) ≡ false }
+        requires size { offset + length bytes.now ≤ largest_file }
+        ensures ok { OnOk result (inodes_of self.new ≡ changed nat_eq (inodes_of self.old)
+            (SetBytes file (overwritten offset bytes.now (bytes_in ((tree_of self.old).node file))))) }
+        ensures file { OnErr result (IsTrue (is_kind_in File ((tree_of self.old).node file))) }
+        ensures longer { OnErr result
+            (length (bytes_in ((tree_of self.old).node file)) < offset + length bytes.now) }
+        ensures err { OnErr result (self.new ≡ self.old) }
+    {
+        write_bytes(&mut self.slots, file, offset, bytes)
+    }
+
+    /// Sets the owner, group and mode of an object: chmod(2), chown(2). It does not allocate.
+    pub fn set_attr(&mut self, object: NodeId, attr: Attr)
+        ensures { inodes_of self.new ≡ changed nat_eq (inodes_of self.old) (SetAttr object attr) }
+    {
+        set_attr(&mut self.slots, object, attr);
+    }
+
+    /// Marks a directory opaque, or takes its mark away: setxattr(2) of `trusted.overlay.opaque`. It does not allocate.
+    /// What is no directory stays as it is.
+    pub fn set_opaque(&mut self, directory: NodeId, opaque: bool)
+        ensures { inodes_of self.new ≡ changed nat_eq (inodes_of self.old) (SetMark directory opaque) }
+    {
+        set_opaque(&mut self.slots, directory, opaque);
+    }
+
+    /// Counts one use more of an object, as open(2) does: it stays while it is in use. It does not allocate.
+    ///
+    /// An error says that the object has 2^64 - 1 uses.
+    pub fn pin(&mut self, object: NodeId) -> Result<(), AllocError>
+        ensures ok { OnOk result (inodes_of self.new ≡ pinned nat_eq (inodes_of self.old) object) }
+        ensures limit { IsErr result ↔ (uses_in ((inodes_of self.old).inode object) ≡ most_uses) }
+        ensures err { OnErr result (self.new ≡ self.old) }
+    {
+        self.slots.acquire(object)
+    }
+
+    /// Counts one use less of an object, as close(2) does: with its last use it goes. It does not allocate.
+    pub fn unpin(&mut self, object: NodeId)
+        ensures { inodes_of self.new ≡ unpinned nat_eq (inodes_of self.old) object }
+    {
+        release(&mut self.slots, object);
+    }
+
+    /// The directory that alone has names for an object, if the tree knows it. `None` says nothing: an object that has
+    /// several names, or has one left of several, is to be looked for in all directories.
+    pub fn directory_of(&self, object: NodeId) -> Option<NodeId>
+        ensures { IfSome result (λ directory. AloneNames (tree_of self.now) object directory) }
+    {
+        let directory = self.names.last_of_one(object)?;
+        self.slots.get(directory)?.name_ranked(object, 0)?;
+        Some(directory)
+    }
+
+    // The number that a name of a directory leads to.
+    fn look(&self, directory: NodeId, name: &[u8]) -> Option<NodeId>
+        ensures { result ≡ entry_at (tree_of self.now) directory name.now }
+    {
+        self.slots.get(directory)?.entry(name)
+    }
+}

@@ -1,0 +1,79 @@
+-- What is seen so is named so.
+use Rattle.std.proofs.Common.{◌≡◌, ◌≢◌, refl, sym, ap, ◌∙◌, ℕ, nat_eq, List, [], ◌∷◌, Option, Some, None, option_and_then}
+use Rattle.std.proofs.lemmas.Option.{same_Some}
+use Rattle.std.specs.Prelude.{option_map}
+use Rattle.vt_spec.proofs.Found.{found_passes}
+use Rattle.vt_spec.proofs.Options.{none_is_some}
+use Rattle.vt_spec.specs.Lists.{holds_of}
+use Rattle.vt_spec.specs.Machine.Invariants.{number_at_path}
+use Rattle.vt_spec.specs.Machine.Layers.{paths_from}
+use Rattle.vt_spec.specs.Machine.World.{Filesystem, Overlay, Real, World}
+use Rattle.vt_spec.specs.Tree.{Tree}
+use Rattle.vt_spec.specs.TreeInvariant.{HasName, entry_at}
+use Rattle.vt_laws_trees.proofs.layers.layers.ShownDirectories.{last_of}
+use Rattle.vt_laws_trees.proofs.layers.layers.ShownNames.{last_name}
+use Rattle.vt_laws_trees.proofs.layers.layers.ShownPaths.{not_empty}
+use Rattle.vt_laws_trees.specs.Overlays.MergedTrees.{IsMergedTree, layers_shown, number_shown}
+use Rattle.vt_laws_trees.proofs.overlays.merged.Numbers.{numbers_are_those}
+use Rattle.vt_laws_trees.specs.Overlays.TreesSeen.{SeenTreesAreNamed, path_numbered, real_by, real_seen}
+use Rattle.vt_laws_trees.proofs.overlays.seen.SeenTrees.{shown_number}
+
+-- what a path that is not the root's leads to has a name
+has_name : (tree : Tree ℕ) (number : ℕ) (d : Option ℕ) (name : List ℕ)
+    → option_and_then (λ directory. entry_at tree directory name) d ≡ Some number → HasName tree number
+has_name tree number None name e = none_is_some number e
+has_name tree number (Some directory) name e = (directory, name, e)
+
+module _ (number_of : Real ℕ → ℕ) (held : ℕ → Option (Real ℕ)) (longest : ℕ) (world : World ℕ)
+    (filesystem : Filesystem ℕ) (overlay : Overlay ℕ) (is : IsMergedTree world filesystem overlay)
+    (real : overlay.real ≡ real_seen number_of held longest world overlay)
+    (holds : (number : ℕ) (object : Real ℕ) → held number ≡ Some object → number ≡ number_of object) where
+  abbrev found : ℕ → Option (List (List ℕ))
+  found number = path_numbered number_of longest world overlay number
+
+  real_is : (number : ℕ) (o : Option (List (List ℕ))) → found number ≡ o
+      → overlay.real number ≡ real_by number_of held longest world overlay number o
+  real_is number o e = ap (λ f. f number) real ∙ ap (real_by number_of held longest world overlay number) e
+
+  shows : (number : ℕ) (path : List (List ℕ)) → found number ≡ Some path
+      → number_shown number_of world overlay path ≡ Some number
+  shows number path e =
+      shown_number number (number_shown number_of world overlay path)
+      (found_passes (λ path. holds_of (nat_eq number) (number_shown number_of world overlay path))
+      (paths_from longest (layers_shown world overlay) []) path e)
+
+  numbered : (number : ℕ) (object : Real ℕ) → overlay.real number ≡ Some object → number ≡ number_of object
+  numbered number object e = by (found number) refl
+    where
+      by : (o : Option (List (List ℕ))) → found number ≡ o → number ≡ number_of object
+      by None f = holds number object (sym (real_is number None f) ∙ e)
+      by (Some path) f =
+          same_Some number (number_of object) (sym (shows number path f)
+          ∙ ap (option_map number_of) (sym (real_is number (Some path) f) ∙ e))
+
+  -- so paths lead to the numbers that are shown, whatever is held
+  lead : (path : List (List ℕ)) → number_at_path filesystem.files path ≡ number_shown number_of world overlay path
+  lead path = numbers_are_those number_of overlay.real world filesystem overlay is
+      (record { numbered = numbered; unnamed = λ number no_name no_root. refl }) path
+
+  unnamed : (number : ℕ) → ¬ (HasName filesystem.files.tree number) → number ≢ filesystem.files.tree.root
+      → overlay.real number ≡ held number
+  unnamed number no_name no_root = by (found number) refl
+    where
+      at : (path : List (List ℕ)) → number_at_path filesystem.files path ≡ Some number → ⊥
+      at [] e = no_root (sym (same_Some filesystem.files.tree.root number e))
+      at (word ∷ path) e =
+          let last = last_of (word ∷ path) (not_empty word path) in
+          no_name (has_name filesystem.files.tree number (number_at_path filesystem.files last.0) last.1
+          (sym (last_name filesystem.files.tree filesystem.files.tree.root last.0 last.1)
+          ∙ ap (number_at_path filesystem.files) last.2 ∙ e))
+
+      by : (o : Option (List (List ℕ))) → found number ≡ o → overlay.real number ≡ held number
+      by None f = real_is number None f
+      by (Some path) f = absurd (at path (lead path ∙ shows number path f))
+
+pub seen_trees_are_named : SeenTreesAreNamed
+seen_trees_are_named number_of held longest world filesystem overlay is real holds = record {
+  numbered = numbered number_of held longest world filesystem overlay is real holds;
+  unnamed = unnamed number_of held longest world filesystem overlay is real holds;
+}

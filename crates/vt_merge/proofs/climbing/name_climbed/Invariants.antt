@@ -1,8 +1,0 @@
-use Rattle.std.proofs.Common.{◌≡◌}
-use Rattle.vt_merge.specs.Climbed.{climbed}
-use Rattle.vt_tree.specs.TreeValue.{tree_of}
-use Rattle.vt_merge.proofs.climbing.name_climbed.Given as goal
-
--- so many steps up
-abbrev pub invariant-loop-step : goal.invariant-loop-step
-invariant-loop-step l = l.here ≡ climbed (tree_of l.tree) l._step l.fn.directory

@@ -1,0 +1,99 @@
+-- Mounts that moved: which mount points they got and left.
+use Rattle.std.proofs.Common.{Result, Ok, Err, IfOk, ◌≡◌, refl, ap, ◌∙◌, ℕ, true, cond, ◌&&◌, List, [], ◌∷◌, ◌++◌, Option, Some, None, flat_map, is_some, map, option_map}
+use Rattle.std.specs.Prelude.{option_to_list}
+use Rattle.std.specs.Option.{option_and_then}
+use Rattle.std.specs.List.{list_all}
+use Rattle.std.proofs.lemmas.Bool.{and_parts}
+use Rattle.std.proofs.lemmas.List.{append-nil, map-append}
+use Rattle.std.proofs.lemmas.List.Folds.{list_all-append}
+use Rattle.std.proofs.lemmas.Grind.{flat_map-append}
+use Rattle.vt_location.specs.declared.locations.Location.{Location}
+use Rattle.vt_location.specs.Locations.{location_of}
+use Rattle.vt_location.specs.Numbers.{counted}
+use Rattle.vt_mount.specs.declared.moving.Moved.{Moved}
+use Rattle.vt_mount.specs.Moving.{all_moves, is_small_point, is_small as has_small_points, move_of, moves_by}
+use Rattle.vt_mount.specs.MountsValue.{MountEntry, entry_numbered}
+use Rattle.vt_spec.specs.Machine.Mounts as meant
+use Rattle.vt_mounting.specs.Attach.Planned.{AreMoves, Point, is_small, left_of, points_left, points_taken, taken_of, with_points}
+use Rattle.vt_mounting.proofs.attach.PlannedMoves.{mapped_points}
+
+-- The mount points that were taken and left
+
+abbrev place_taken : ℕ × Option (meant.Location ℕ) × Location → Location
+place_taken move = move.2
+
+abbrev places_left : List (ℕ × Option (meant.Location ℕ) × Location) → List (meant.Location ℕ)
+places_left moves = flat_map (λ (move : ℕ × Option (meant.Location ℕ) × Location). option_to_list move.1) moves
+
+taken-moves : (points : List Point) (entries : List MountEntry)
+    → map place_taken (all_moves points entries) ≡ points_taken points entries
+taken-moves [] entries = refl
+taken-moves (point ∷ rest) entries =
+    map-append place_taken (all_moves rest entries) (moves_by point (with_points rest entries))
+    ∙ (λ i. taken-moves rest entries i ++ one (entry_numbered (with_points rest entries) (counted point.mount.count)) i)
+  where
+    one : (found : Option MountEntry)
+        → map place_taken (option_to_list (option_map (λ (entry : MountEntry).
+        (entry.mount.number, entry.mount.mount_point, point.place)) found))
+        ≡ cond (is_some found) (point.place ∷ []) []
+    one None = refl
+    one (Some entry) = refl
+
+left-moves : (points : List Point) (entries : List MountEntry)
+    → places_left (all_moves points entries) ≡ points_left points entries
+left-moves [] entries = refl
+left-moves (point ∷ rest) entries =
+    flat_map-append (λ (move : ℕ × Option (meant.Location ℕ) × Location). option_to_list move.1)
+    (all_moves rest entries) (moves_by point (with_points rest entries))
+    ∙ (λ i. left-moves rest entries i ++ one (entry_numbered (with_points rest entries) (counted point.mount.count)) i)
+  where
+    one : (found : Option MountEntry)
+        → places_left (option_to_list (option_map (λ (entry : MountEntry).
+        (entry.mount.number, entry.mount.mount_point, point.place)) found))
+        ≡ option_to_list (option_and_then (λ (entry : MountEntry). entry.mount.mount_point) found)
+    one None = refl
+    one (Some entry) = append-nil (option_to_list entry.mount.mount_point)
+
+taken-moved : (moved : List Moved) → taken_of moved ≡ map place_taken (map move_of moved)
+taken-moved [] = refl
+taken-moved (one ∷ rest) = ap (λ places. one.to ∷ places) (taken-moved rest)
+
+left-moved : (moved : List Moved) → map location_of (left_of moved) ≡ places_left (map move_of moved)
+left-moved [] = refl
+left-moved (one ∷ rest) =
+    map-append location_of (option_to_list one.from) (left_of rest)
+    ∙ (λ i. mapped_points one.from i ++ left-moved rest i)
+
+small-taken : (moved : List Moved) → list_all has_small_points moved ≡ true → list_all is_small (taken_of moved) ≡ true
+small-taken [] all = refl
+small-taken (one ∷ rest) all =
+    let parts = and_parts (has_small_points one) (list_all has_small_points rest) all in
+    λ i. (and_parts (is_small_point one.from) (is_small_point (Some one.to)) parts.0).1 i && small-taken rest parts.1 i
+
+small-left : (moved : List Moved) → list_all has_small_points moved ≡ true → list_all is_small (left_of moved) ≡ true
+small-left [] all = refl
+small-left (one ∷ rest) all =
+    let parts = and_parts (has_small_points one) (list_all has_small_points rest) all in
+    list_all-append is_small (option_to_list one.from) (left_of rest)
+    ∙ (λ i. at one.from (and_parts (is_small_point one.from) (is_small_point (Some one.to)) parts.0).0 i
+    && small-left rest parts.1 i)
+  where
+    at : (point : Option Location) → is_small_point point ≡ true → list_all is_small (option_to_list point) ≡ true
+    at None small = refl
+    at (Some point) small = ap (λ b. b && true) small
+
+pub are_moves : (points : List Point) (entries : List MountEntry) (moved : List Moved)
+    → map move_of moved ≡ all_moves points entries → list_all has_small_points moved ≡ true
+    → AreMoves points entries (taken_of moved) (left_of moved)
+are_moves points entries moved are small = record {
+  taken_are = taken-moved moved ∙ ap (map place_taken) are ∙ taken-moves points entries;
+  left_are = left-moved moved ∙ ap places_left are ∙ left-moves points entries;
+  taken_small = small-taken moved small;
+  left_small = small-left moved small;
+}
+
+-- what two clauses say of a result that is no refusal
+pub if_both : {A E : Type 0} {P Q R : A → Type 0} (r : Result A E) → IfOk r P → IfOk r Q
+    → ((a : A) → P a → Q a → R a) → IfOk r R
+if_both (Ok a) p q both = both a p q
+if_both (Err e) p q both = tt

@@ -1,0 +1,84 @@
+-- The plain filesystems that are kept once the layers of a new overlay are held: their inodes and their mounts are
+-- counted, and all filesystems stand in the order of their numbers.
+use Rattle.std.proofs.Common.{◌≡◌, sym, ap, subst, ◌∙◌, ℕ, nat_eq, nat_lt, lt-ltb, true, List, [], ◌∷◌, ◌++◌, map, arith}
+use Rattle.std.specs.Prelude.{All}
+use Rattle.vt_spec.specs.Machine.World.{Filesystem, World, filesystem_numbered}
+use Rattle.vt_laws_mounts.specs.Counts.Counted.{IsCounted}
+use Rattle.vt_laws_mounts.specs.Counts.Using.{exchanged}
+use Rattle.vt_laws_mounts.specs.LettingGo.OneByOne.{Inode}
+use Rattle.vt_laws_mounts.proofs.letting_go.Lists.{Among, all_from_among, all_pass, among-from_map, among-map, among_from_all}
+use Rattle.vt_laws_worlds.specs.OverlaysStay.Woven.{are_rising, woven}
+use Rattle.vt_fs.specs.FilesystemsValue.{FilesystemEntry, Filesystems, Shown, filesystems_seen, inodes_seen, shown, shown_entry}
+use Rattle.vt_location.specs.Numbers.{counted}
+use Rattle.vt_overlay.specs.MergedTree.{AreLayers}
+use Rattle.vt_store.specs.OverlaysValue as stored
+use Rattle.vt_world.specs.Held.{HasOwnInodes, IsHeld}
+use Rattle.vt_world.specs.StoredWorld.{overlay_of_store}
+use Rattle.vt_world.specs.WorldValue.{WorldValue, overlay_seen, overlays_seen, world_of}
+use Rattle.vt_mounting.specs.Detach.Stored.{layer_of}
+use Rattle.vt_laws_mounts.proofs.counts.Alike.{any_same_worlds_count_alike}
+use Rattle.vt_mounting.proofs.detach.Finishing.{own_exchanged}
+use Rattle.vt_mounting.proofs.detach.Overlaid.{same_files_rise}
+use Rattle.vt_mounting.proofs.detach.OwnInodesKept.{IsOwn}
+use Rattle.vt_mounting.proofs.attach.NewBase.{rising_last}
+use Rattle.vt_mounting.proofs.attach.NewFilesystems.{number_below}
+use Rattle.vt_mounting.proofs.attach.NewOverlaySame.{same_with_layers_held}
+use Rattle.vt_mounting.proofs.attach.NewOverlayUses.{counted_with_layers, held_by, overlay_last}
+
+module _ (value : WorldValue) (whole : IsHeld value) (base : Filesystems) (entry : stored.OverlayEntry)
+    (are : AreLayers value.filesystems entry.overlay.lowers) (count_is : entry.count ≡ value.next)
+    (held : shown base ≡ map (held_by (map layer_of entry.overlay.lowers)) (shown value.filesystems)) where
+  abbrev layers : List Inode
+  layers = map layer_of entry.overlay.lowers
+
+  abbrev over_base : World ℕ
+  over_base = record (world_of value) {
+    filesystems = woven (filesystems_seen base) (overlays_seen (value.overlays ++ overlay_of_store base entry ∷ []));
+  }
+
+  -- what one of them was
+  pub was_before : (one : FilesystemEntry) → Among one base
+      → (was : FilesystemEntry) × Among was value.filesystems
+      × (shown_entry one ≡ held_by (map layer_of entry.overlay.lowers) (shown_entry was))
+  was_before one m =
+      let from = among-from_map (held_by layers) (shown value.filesystems) (shown_entry one)
+      (subst (Among (shown_entry one)) held (among-map shown_entry base one m)) in
+      let first = among-from_map shown_entry value.filesystems from.0 from.1 in (
+        first.0,
+        first.1,
+        from.2 ∙ ap (held_by layers) first.2,
+      )
+
+  pub own_when_held : All HasOwnInodes base
+  own_when_held =
+      all_from_among HasOwnInodes base (λ one m.
+      let from = was_before one m in
+      subst (λ count. IsOwn count (inodes_seen one)) (sym (ap (λ (s : Shown). s.count) from.2))
+      (subst (IsOwn from.0.count) (sym (ap (λ (s : Shown). s.inodes) from.2))
+      (own_exchanged from.0.count layers [] (inodes_seen from.0)
+      (among_from_all HasOwnInodes value.filesystems whole.own_inodes from.0 from.1))))
+
+  -- inodes count the layers
+  pub counted_when_held : (one : FilesystemEntry) → Among one base
+      → IsCounted over_base (filesystem_numbered nat_eq over_base (counted one.count)) (inodes_seen one)
+  counted_when_held one m =
+      let from = was_before one m in
+      subst (λ count. IsCounted over_base (filesystem_numbered nat_eq over_base (counted count)) (inodes_seen one))
+      (sym (ap (λ (s : Shown). s.count) from.2))
+      (subst (IsCounted over_base (filesystem_numbered nat_eq over_base (counted from.0.count)))
+      (sym (ap (λ (s : Shown). s.inodes) from.2))
+      (any_same_worlds_count_alike (overlay_last value base entry) over_base (counted from.0.count)
+      (exchanged (counted from.0.count) layers [] (inodes_seen from.0))
+      (same_with_layers_held value whole base entry layers count_is held)
+      (counted_with_layers value whole base entry are count_is from.0 from.1)))
+
+  -- all stand in order
+  pub rising_when_held : are_rising (woven (filesystems_seen base)
+      (overlays_seen (value.overlays ++ overlay_of_store base entry ∷ []))) ≡ true
+  rising_when_held =
+      same_files_rise (overlay_last value base entry).filesystems over_base.filesystems
+      (same_with_layers_held value whole base entry layers count_is held).filesystems
+      (rising_last (world_of value).filesystems (overlay_seen (overlay_of_store base entry)) whole.overlays.all_rise
+      (all_pass (λ (f : Filesystem ℕ). nat_lt f.number (counted entry.count)) (world_of value).filesystems (λ f m.
+      let low = number_below value whole f m in
+      lt-ltb f.number (counted entry.count) (omega (arith, low, count_is)))))

@@ -1,0 +1,215 @@
+-- Once the layers of a new overlay are held, plain filesystems count them as their own, all mounts show directories
+-- that are there, and all inodes are in use.
+use Rattle.std.proofs.Common.{◌≡◌, refl, sym, ap, ◌∙◌, ⊎_elim, ℕ, ◌+◌, nat_eq, lt-ltb, true, cond, ◌||◌, List, [], ◌∷◌, ◌++◌, map, flat_map, Option, Some, None, unwrap_or, arith}
+use Rattle.std.specs.Prelude.{option_to_list}
+use Rattle.std.specs.List.{list_all}
+use Rattle.std.proofs.lemmas.Bool.{and_from, and_parts, ltb-true, ne_eqb, or_cases}
+use Rattle.std.proofs.lemmas.List.Elements.{All-weaker}
+use Rattle.std.proofs.lemmas.List.Sorted.{list_any-IsPermutation}
+use Rattle.vt_spec.proofs.Truths.{nat_eq_turned}
+use Rattle.vt_spec.specs.Lists.{is_among}
+use Rattle.vt_spec.specs.Machine.Invariants.{has_its_root}
+use Rattle.vt_spec.specs.Machine.Locked.{of_overlay, overlay_or}
+use Rattle.vt_spec.specs.Machine.Mounts.{Location}
+use Rattle.vt_spec.specs.Machine.SameWorlds.{SameFilesystem, SameWorlds}
+use Rattle.vt_spec.specs.Machine.Settled.{layers_in, located_in, named_in, objects_of_overlay, used_in}
+use Rattle.vt_spec.specs.Machine.World.{Filesystem, Layer, World, filesystem_numbered, is_directory_at, layers_of, mount_at, no_filesystem}
+use Rattle.vt_spec.specs.Tree.{is_directory_node}
+use Rattle.vt_laws_mounts.specs.Counts.OverlaysStay.{layer_count}
+use Rattle.vt_laws_mounts.specs.LettingGo.Counts.{inode_uses, mounts_showing, times}
+use Rattle.vt_laws_mounts.specs.LettingGo.InUse.{InodesInUse, is_inode_used}
+use Rattle.vt_laws_mounts.specs.LettingGo.Keeping.{has_only_named}
+use Rattle.vt_laws_mounts.specs.LettingGo.OneByOne.{Inode}
+use Rattle.vt_laws_mounts.proofs.letting_go.Lists.{Among, all_pass, among_from_all, is_among_left, or_first, or_second, passes}
+use Rattle.vt_laws_mounts.proofs.letting_go.sweeps.UsesCounted.{used_while_counted}
+use Rattle.vt_laws_worlds.proofs.one_text.answered.AlikeSettled.{used_permuted}
+use Rattle.vt_laws_worlds.proofs.one_text.answered.AlikeWorlds.{alike_from_same}
+use Rattle.vt_laws_worlds.proofs.one_text.same.SameInvariants.{roots_keep}
+use Rattle.vt_laws_worlds.specs.OverlaysStay.Woven.{woven}
+use Rattle.vt_laws_worlds.proofs.permits.same.EachHas.{each_holds}
+use Rattle.vt_laws_trees.proofs.runs.Each.{each_flat}
+use Rattle.vt_laws_trees.proofs.runs.Permuted.{list_all-IsPermutation}
+use Rattle.vt_laws_worlds.proofs.RaisedInUse.{worlds_are_in_use}
+use Rattle.vt_laws_worlds.proofs.worlds.Roots.{directory_there}
+use Rattle.vt_fs.specs.FilesystemsValue.{FilesystemEntry, Filesystems, Shown, filesystems_seen, shown}
+use Rattle.vt_location.specs.Numbers.{counted}
+use Rattle.vt_overlay.specs.declared.merge.layers.LayerRef.{LayerRef}
+use Rattle.vt_mount.specs.MountsValue.{mounts_in}
+use Rattle.vt_overlay.specs.MergedTree.{AreLayers, layer_seen}
+use Rattle.vt_store.specs.OverlaysValue as stored
+use Rattle.vt_world.specs.Held.{CountsItsMounts, IsHeld}
+use Rattle.vt_world.specs.StoredWorld.{overlay_of_store}
+use Rattle.vt_world.specs.WorldValue.{WorldValue, overlay_seen, overlays_seen, world_of}
+use Rattle.vt_mounting.specs.Detach.Stored.{layer_of}
+use Rattle.vt_mounting.proofs.attach.NewBase.{found_before}
+use Rattle.vt_mounting.proofs.attach.NewFilesystems.{found_below}
+use Rattle.vt_mounting.proofs.attach.NewOverlay.{all_last}
+use Rattle.vt_mounting.proofs.attach.NewOverlayBase.{was_before}
+use Rattle.vt_mounting.proofs.attach.NewOverlaySame.{same_with_layers_held}
+use Rattle.vt_mounting.proofs.attach.NewOverlayUses.{held_by, layers_more_there, overlay_last, uses_then}
+
+-- Worlds that are the same but for change numbers and the order of the numbers beside trees
+
+module _ (one other : World ℕ) (same : SameWorlds one other) where
+  -- overlays have as many layers in each filesystem
+  same_worlds_count_layers_alike : (number : ℕ) → layer_count one number ≡ layer_count other number
+  same_worlds_count_layers_alike number =
+      ap (times (λ (layer : Layer ℕ). nat_eq number layer.filesystem))
+      (each_flat SameFilesystem (of_overlay [] layers_of) (of_overlay [] layers_of)
+      (λ first second known. ap (overlay_or [] layers_of) known.overlay)
+      one.filesystems other.filesystems (alike_from_same one other same).filesystems)
+
+  -- where all inodes of one are in use, so are those of the other
+  same_worlds_use_inodes_alike : InodesInUse one → InodesInUse other
+  same_worlds_use_inodes_alike =
+      each_holds SameFilesystem (λ f. list_all (is_inode_used one f) f.files.numbers ≡ true)
+      (λ f. list_all (is_inode_used other f) f.files.numbers ≡ true)
+      (λ a b alike is. sym (used_alike a b alike) ∙ is) one.filesystems other.filesystems
+      (alike_from_same one other same).filesystems
+    where
+      used_alike : (a b : Filesystem ℕ) → SameFilesystem a b
+          → list_all (is_inode_used one a) a.files.numbers ≡ list_all (is_inode_used other b) b.files.numbers
+      used_alike a b alike =
+          list_all-IsPermutation (is_inode_used one a) a.files.numbers b.files.numbers alike.files.numbers
+          ∙ (λ i. list_all (λ number. list_any-IsPermutation (nat_eq number) (used_in nat_eq one a)
+          (used_in nat_eq other b) (used_permuted one other (alike_from_same one other same) a b alike) i)
+          b.files.numbers)
+
+-- the layers in a filesystem are the uses that are held there
+held_there : (number : ℕ) (lowers : List LayerRef)
+    → times (λ (layer : Layer ℕ). nat_eq number layer.filesystem) (map layer_seen lowers)
+    ≡ times (λ (inode : Inode). nat_eq inode.0 number) (map layer_of lowers)
+held_there number [] = refl
+held_there number (first ∷ rest) = λ i.
+    cond (nat_eq_turned number (counted first.directory.filesystem.count) i) 1 0 + held_there number rest i
+
+module _ (value : WorldValue) (whole : IsHeld value) (base : Filesystems) (entry : stored.OverlayEntry)
+    (are : AreLayers value.filesystems entry.overlay.lowers) (count_is : entry.count ≡ value.next)
+    (held : shown base ≡ map (held_by (map layer_of entry.overlay.lowers)) (shown value.filesystems)) where
+  abbrev world : World ℕ
+  world = world_of value
+
+  abbrev over : Filesystem ℕ
+  over = overlay_seen (overlay_of_store base entry)
+
+  abbrev layers : List Inode
+  layers = map layer_of entry.overlay.lowers
+
+  abbrev last : World ℕ
+  last = overlay_last value base entry
+
+  abbrev over_base : World ℕ
+  over_base = record (world_of value) {
+    filesystems = woven (filesystems_seen base) (overlays_seen (value.overlays ++ overlay_of_store base entry ∷ []));
+  }
+
+  same_when_held : SameWorlds last over_base
+  same_when_held = same_with_layers_held value whole base entry layers count_is held
+
+  -- Mounts and layers are counted
+
+  layers_when_held : (number : ℕ)
+      → layer_count over_base number
+      ≡ layer_count world number + times (λ (inode : Inode). nat_eq inode.0 number) layers
+  layers_when_held number =
+      sym (same_worlds_count_layers_alike last over_base same_when_held number)
+      ∙ layers_more_there world over (map layer_seen entry.overlay.lowers) refl (λ n. refl) number
+      ∙ ap (λ n. layer_count world number + n) (held_there number entry.overlay.lowers)
+
+  pub mounts_when_held : (one : FilesystemEntry) → Among one base
+      → one.mounts
+      ≡ mounts_showing (world_of value) (counted one.count)
+      + layer_count (record (world_of value) {
+        filesystems = woven (filesystems_seen base) (overlays_seen (value.overlays ++ overlay_of_store base entry ∷ []));
+      }) (counted one.count)
+  mounts_when_held one m =
+      let from = was_before value whole base entry are count_is held one m in
+      let kept : one.mounts
+      ≡ from.0.mounts + times (λ (inode : Inode). nat_eq inode.0 (counted from.0.count)) layers =
+      ap (λ (s : Shown). s.mounts) from.2 in
+      let counts = (among_from_all (CountsItsMounts world) value.filesystems whole.filesystems from.0 from.1).mounts in
+      let more = layers_when_held (counted from.0.count) in
+      let sum : one.mounts
+      ≡ mounts_showing world (counted from.0.count) + layer_count over_base (counted from.0.count) =
+      omega (arith, kept, counts, more) in
+      sum
+      ∙ ap (λ count. mounts_showing world (counted count) + layer_count over_base (counted count))
+      (sym (ap (λ (s : Shown). s.count) from.2))
+
+  -- Mounts show directories
+
+  -- a directory that is there stays there
+  stays : (number inode : ℕ)
+      → is_directory_node ((filesystem_numbered nat_eq world number).files.tree.node inode) ≡ true
+      → is_directory_node ((filesystem_numbered nat_eq last number).files.tree.node inode) ≡ true
+  stays number inode is =
+      let low = found_below value whole number inode
+      (directory_there ((filesystem_numbered nat_eq world number).files.tree.node inode) is) in
+      ap (λ (found : Option (Filesystem ℕ)).
+      is_directory_node ((unwrap_or found (no_filesystem number)).files.tree.node inode))
+      (found_before world.filesystems over number
+      (ne_eqb number (counted entry.count) (λ same. absurd (omega (arith, low, same, count_is)))))
+      ∙ is
+
+  roots_last : list_all (has_its_root nat_eq last) (mounts_in value.mounts) ≡ true
+  roots_last =
+      all_pass (has_its_root nat_eq last) (mounts_in value.mounts) (λ mount m.
+      let parts = and_parts _ _ (passes (has_its_root nat_eq world) (mounts_in value.mounts) whole.in_world.roots mount
+      m) in
+      and_from _ _ (stays mount.filesystem mount.root parts.0) (by mount.mount_point parts.1))
+    where
+      by : (o : Option (Location ℕ)) → list_all (is_directory_at nat_eq world) (option_to_list o) ≡ true
+          → list_all (is_directory_at nat_eq last) (option_to_list o) ≡ true
+      by None is = refl
+      by (Some location) is =
+          and_from _ _ (stays (mount_at nat_eq world location).filesystem location.node (and_parts _ _ is).0) refl
+
+  pub roots_when_held : list_all (has_its_root nat_eq (record (world_of value) {
+    filesystems = woven (filesystems_seen base) (overlays_seen (value.overlays ++ overlay_of_store base entry ∷ []));
+  })) (mounts_in value.mounts) ≡ true
+  roots_when_held = roots_keep last over_base (alike_from_same last over_base same_when_held) roots_last
+
+  -- Inodes are in use
+
+  -- what is used is used
+  used_still : (f : Filesystem ℕ) (number : ℕ) → is_inode_used world f number ≡ true
+      → is_inode_used last f number ≡ true
+  used_still f number is =
+      let some = ltb-true 0 (inode_uses world f number) (sym (used_while_counted world f number) ∙ is) in
+      let more = uses_then world over (map layer_seen entry.overlay.lowers) refl (λ n. refl) f number in
+      used_while_counted last f number ∙ lt-ltb 0 (inode_uses last f number) (omega (arith, some, more))
+
+  -- what has a name is used
+  named_used : (f : Filesystem ℕ) → has_only_named f ≡ true → list_all (is_inode_used last f) f.files.numbers ≡ true
+  named_used f named =
+      all_pass (is_inode_used last f) f.files.numbers (λ number m.
+      ⊎_elim
+      (λ root. or_first (nat_eq number f.files.tree.root) (is_among nat_eq number others) root)
+      (λ name. or_second (nat_eq number f.files.tree.root) (is_among nat_eq number others)
+      (is_among_left number (named_in f.files ++ located_in nat_eq last f.number ++ layers_in nat_eq last f.number)
+      (flat_map (objects_of_overlay nat_eq f.number) last.filesystems)
+      (is_among_left number (named_in f.files ++ located_in nat_eq last f.number) (layers_in nat_eq last f.number)
+      (is_among_left number (named_in f.files) (located_in nat_eq last f.number) name))))
+      (or_cases (nat_eq number f.files.tree.root) (is_among nat_eq number (named_in f.files))
+      (passes (λ n. nat_eq n f.files.tree.root || is_among nat_eq n (named_in f.files)) f.files.numbers named number m)))
+    where
+      others : List ℕ
+      others =
+          named_in f.files ++ located_in nat_eq last f.number ++ layers_in nat_eq last f.number
+          ++ flat_map (objects_of_overlay nat_eq f.number) last.filesystems
+
+  in_use_last : has_only_named over ≡ true → InodesInUse last
+  in_use_last named =
+      all_last (λ (f : Filesystem ℕ). list_all (is_inode_used last f) f.files.numbers ≡ true) world.filesystems over
+      (All-weaker (λ (f : Filesystem ℕ). list_all (is_inode_used world f) f.files.numbers ≡ true)
+      (λ f. list_all (is_inode_used last f) f.files.numbers ≡ true)
+      (λ f used. all_pass (is_inode_used last f) f.files.numbers (λ number m.
+      used_still f number (passes (is_inode_used world f) f.files.numbers used number m)))
+      world.filesystems (worlds_are_in_use world whole.in_world).inodes)
+      (named_used over named)
+
+  pub in_use_when_held : has_only_named (overlay_seen (overlay_of_store base entry)) ≡ true
+      → InodesInUse (record (world_of value) {
+        filesystems = woven (filesystems_seen base) (overlays_seen (value.overlays ++ overlay_of_store base entry ∷ []));
+      })
+  in_use_when_held named = same_worlds_use_inodes_alike last over_base same_when_held (in_use_last named)

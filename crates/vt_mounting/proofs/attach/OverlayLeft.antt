@@ -1,0 +1,297 @@
+-- What the permit that mounts an overlay leaves: the plain filesystems that are kept once the layers are held, the
+-- overlay that these show, and a mount of it, but for the order of the numbers beside trees.
+use Rattle.std.proofs.Common.{◌≡◌, refl, sym, ap, subst, ◌∙◌, ℕ, nat_eq, Bool, true, false, cond, not, ◌||◌, List, [], ◌∷◌, ◌++◌, map, filter, flat_map, length, Some, None, is_some}
+use Rattle.std.specs.Prelude.{All}
+use Rattle.std.specs.List.{list_all, list_any}
+use Rattle.std.proofs.lemmas.List.Sorted.{length_permutation, list_any-IsPermutation}
+use Rattle.std.proofs.lemmas.Option.{same_Some}
+use Rattle.vt_spec.proofs.FreshNumbers.{evens-distinct, served-distinct}
+use Rattle.vt_spec.proofs.Lists.{pair-filter}
+use Rattle.vt_spec.specs.FileTree.{targets_in}
+use Rattle.vt_spec.specs.Language.Calls.{MountFlags}
+use Rattle.vt_spec.specs.Lists.{Fresh, any_pair, each_once, evens, is_among, odds}
+use Rattle.vt_spec.specs.Machine.Attach.{attach}
+use Rattle.vt_spec.specs.Machine.Merging.{MergedInode, merged_inodes, merged_objects, tree_of}
+use Rattle.vt_spec.specs.Machine.Mounts as meant
+use Rattle.vt_spec.specs.Machine.Mounts.{Location}
+use Rattle.vt_spec.specs.Machine.NewMounts.{inode_count, new_mount, overlay_filesystem, with_new_filesystem}
+use Rattle.vt_spec.specs.Machine.Permits.Permit.{ToMountOverlay}
+use Rattle.vt_spec.specs.Machine.SameWorlds.{SameFiles, SameFilesystem, SameWorlds}
+use Rattle.vt_spec.specs.Machine.Settled.{named_in}
+use Rattle.vt_spec.specs.Machine.World.{Filesystem, Overlay, Task, World, open_layer, shown_layers}
+use Rattle.vt_spec.specs.Tree.{Tree}
+use Rattle.vt_laws_mounts.proofs.counts.Listed.{same_numbers_are_permuted}
+use Rattle.vt_laws_worlds.specs.Given.LeftWorlds.{IsGivenToTask}
+use Rattle.vt_laws_trees.proofs.layers.directories.Merged.{merged_lists_numbers}
+use Rattle.vt_laws_trees.specs.Layers.Layers.Mounted as mounted
+use Rattle.vt_laws_mounts.specs.LettingGo.Keeping.{has_only_named}
+use Rattle.vt_laws_mounts.specs.LettingGo.OneByOne.{Inode}
+use Rattle.vt_laws_mounts.proofs.letting_go.Lists.{all_from_among}
+use Rattle.vt_laws_worlds.proofs.one_text.answered.AlikeAttached.{attach_alike}
+use Rattle.vt_laws_worlds.proofs.one_text.answered.AlikeWorlds.{Alike, alike_from_same, alike_onward, same_from_alike}
+use Rattle.vt_world.proofs.overlays_kept.inodes.InodesInOrder.{inodes_are_the_tree, inodes_have_their_objects, inodes_stay}
+use Rattle.vt_world.specs.OverlaysKept.Inodes.{inodes_kept}
+use Rattle.vt_world.specs.OverlaysKept.Kept.{IsShownAlike, ShowsLayer, ShowsLayers, with_objects}
+use Rattle.vt_laws_worlds.proofs.overlays_let_go.mounting.NewOverlays.{new_mounts_of_overlays_keep_all, new_overlays_are_named}
+use Rattle.vt_world.proofs.overlays_made.Numbers.{made_overlays_are_same}
+use Rattle.vt_world.specs.OverlaysMade.Made.{handed_in, overlay_shown}
+use Rattle.vt_laws_worlds.specs.OverlaysStay.Woven.{woven}
+use Rattle.vt_laws_rules.proofs.same.SameLooks.{found_same}
+use Rattle.vt_laws_trees.proofs.runs.Each.{each_append}
+use Rattle.vt_laws_trees.proofs.runs.Permuted.{IsPermutation-flat_map, list_all-IsPermutation}
+use Rattle.vt_laws_trees.proofs.runs.answered.AlikeWorlds.{sameness_is_an_equivalence}
+use Rattle.vt_location.specs.Numbers.{counted}
+use Rattle.vt_fs.proofs.Numbers.{found_by_number}
+use Rattle.vt_fs.specs.FilesystemsValue.{Filesystems, filesystems_seen, shown}
+use Rattle.vt_overlay.specs.declared.merge.layers.LayerRef.{LayerRef}
+use Rattle.vt_overlay.specs.MergedTree as Kept
+use Rattle.vt_overlay.specs.MergedTree.{AreLayers, OverlayValue, layer_seen}
+use Rattle.vt_store.proofs.OverlaysAlike.{overlays_stay_with_layers}
+use Rattle.vt_store.specs.Laws.{IsSameLayer}
+use Rattle.vt_store.specs.OverlaysValue as stored
+use Rattle.vt_store.specs.StoreValue as store
+use Rattle.vt_world.specs.Held.{IsHeld}
+use Rattle.vt_world.specs.StoredWorld.{overlay_of_store}
+use Rattle.vt_world.specs.WorldValue.{WorldValue, overlay_seen, overlays_seen, world_of}
+use Rattle.vt_mounting.specs.Detach.Events.{layer_kept, left_by, overlay_kept, supply_of}
+use Rattle.vt_mounting.specs.Detach.Stored.{layer_of}
+use Rattle.vt_mounting.proofs.detach.OverlayGranted.{NamesLayers, kept_layers, lowers_seen, overlay_names}
+use Rattle.vt_mounting.proofs.attach.NewOverlaySame.{all_same_when_held, same_with_layers_held}
+use Rattle.vt_mounting.proofs.attach.NewOverlayUses.{held_by, overlay_last}
+
+-- Trees of inodes
+
+none_left : (a : ℕ) (list : List ℕ) → list_any (nat_eq a) (filter (λ b. not (nat_eq a b)) list) ≡ false
+none_left a [] = refl
+none_left a (first ∷ list) = by (nat_eq a first) refl (none_left a list)
+  where
+    others : List ℕ
+    others = filter (λ b. not (nat_eq a b)) list
+
+    by : (b : Bool) → nat_eq a first ≡ b → list_any (nat_eq a) (filter (λ b. not (nat_eq a b)) list) ≡ false
+        → list_any (nat_eq a) (cond (not b) (first ∷ others) others) ≡ false
+    by true e later = later
+    by false e later = ap (λ b. b || list_any (nat_eq a) others) e ∙ later
+
+once_apart : (list : List ℕ) → any_pair nat_eq (each_once nat_eq list) ≡ false
+once_apart [] = refl
+once_apart (a ∷ rest) =
+    ap (λ b. b || any_pair nat_eq (filter (λ b. not (nat_eq a b)) (each_once nat_eq rest)))
+    (none_left a (each_once nat_eq rest))
+    ∙ pair-filter nat_eq (λ b. not (nat_eq a b)) (each_once nat_eq rest) (once_apart rest)
+
+-- where two of them are one tree, they have the same numbers beside it
+same_inodes : (root again : ℕ) (one other : List (MergedInode ℕ))
+    → (tree_of nat_eq root one).tree ≡ (tree_of nat_eq again other).tree
+    → SameFiles (tree_of nat_eq root one) (tree_of nat_eq again other)
+same_inodes root again one other same = record {
+  tree = same;
+  numbers = same_numbers_are_permuted (tree_of nat_eq root one).numbers (tree_of nat_eq again other).numbers
+      (once_apart (map (λ (inode : MergedInode ℕ). inode.number) one))
+      (once_apart (map (λ (inode : MergedInode ℕ). inode.number) other))
+      (λ n. merged_lists_numbers root one n ∙ ap (λ (tree : Tree ℕ). is_some (tree.node n)) same
+      ∙ sym (merged_lists_numbers again other n));
+}
+
+-- What is named does not depend on the order of the numbers.
+pub named_same : (a b : Filesystem ℕ) → SameFilesystem a b → has_only_named a ≡ has_only_named b
+named_same a b same =
+    list_all-IsPermutation (λ n. nat_eq n a.files.tree.root || is_among nat_eq n (named_in a.files)) a.files.numbers
+    b.files.numbers same.files.numbers
+    ∙ (λ i. list_all (λ n. nat_eq n (same.files.tree i).root || among n i) b.files.numbers)
+  where
+    among : (n : ℕ) → is_among nat_eq n (named_in a.files) ≡ is_among nat_eq n (named_in b.files)
+    among n =
+        list_any-IsPermutation (nat_eq n)
+        (flat_map (λ directory. targets_in (a.files.tree.node directory)) a.files.numbers)
+        (flat_map (λ directory. targets_in (a.files.tree.node directory)) b.files.numbers)
+        (IsPermutation-flat_map (λ directory. targets_in (a.files.tree.node directory)) a.files.numbers b.files.numbers
+        same.files.numbers)
+        ∙ (λ i. list_any (nat_eq n)
+        (flat_map (λ directory. targets_in ((same.files.tree i).node directory)) b.files.numbers))
+
+-- An overlay is shown as it was, once its layers are held.
+module _ (old base : Filesystems) (entry : stored.OverlayEntry) (are : AreLayers old entry.overlay.lowers)
+    (layers : List Inode) (held : shown base ≡ map (held_by layers) (shown old)) where
+  same_layer : (layer : LayerRef) → IsSameLayer old base layer
+  same_layer layer =
+      let count = layer.directory.filesystem.count in
+      let alike = found_same (counted count) (filesystems_seen old) (filesystems_seen base)
+      (all_same_when_held layers old base held) in
+      record {
+        tree =
+            ap (λ (f : Filesystem ℕ). f.files.tree) (sym (found_by_number base count)) ∙ sym alike.files.tree
+            ∙ ap (λ (f : Filesystem ℕ). f.files.tree) (found_by_number old count);
+        numbers =
+            ap (λ (f : Filesystem ℕ). length f.files.numbers) (sym (found_by_number base count))
+            ∙ length_permutation _ _ alike.files.numbers
+            ∙ ap (λ (f : Filesystem ℕ). length f.files.numbers) (found_by_number old count);
+      }
+
+  filesystem_stays : store.overlay_filesystem base entry ≡ store.overlay_filesystem old entry
+  filesystem_stays =
+      overlays_stay_with_layers old base entry are
+      (all_from_among (IsSameLayer old base) entry.overlay.lowers (λ layer m. same_layer layer))
+
+  shown_when_held : IsShownAlike old base entry.overlay
+  shown_when_held = record {
+    tree = ap (λ (f : Filesystem ℕ). f.files.tree) filesystem_stays;
+    real = ap (λ (o : Overlay ℕ). o.real) (same_Some _ _ (ap (λ (f : Filesystem ℕ). f.overlay) filesystem_stays));
+  }
+
+  pub overlay_stays_when_held : overlay_of_store base entry ≡ overlay_of_store old entry
+  overlay_stays_when_held = λ i. record (overlay_of_store old entry) {
+    root = (shown_when_held.tree i).root;
+    inodes = inodes_stay old base entry.overlay shown_when_held i;
+  }
+
+module _ (value : WorldValue) (whole : IsHeld value) (task : Task ℕ) (place : Location ℕ) (overlay : Overlay ℕ)
+    (flags : MountFlags)
+    (given : IsGivenToTask (supply_of value (ToMountOverlay place overlay flags)) (world_of value) task
+    (ToMountOverlay place overlay flags))
+    (lower : overlay.upper ≡ None) where
+  abbrev world : World ℕ
+  world = world_of value
+
+  abbrev fresh : Fresh ℕ
+  fresh = supply_of value (ToMountOverlay place overlay flags)
+
+  pub names_layers : NamesLayers (world_of value) task place overlay
+  names_layers =
+      overlay_names value whole (supply_of value (ToMountOverlay place overlay flags)) task given.called given.call
+      place overlay flags given.judged
+
+  distinct : (j k : ℕ) → fresh j ≡ fresh k → j ≡ k
+  distinct = served-distinct world fresh given.serves
+
+  abbrev made : Filesystem ℕ
+  made = overlay_filesystem nat_eq (evens fresh) world overlay
+
+  abbrev made_inodes : List (MergedInode ℕ)
+  made_inodes =
+      merged_inodes nat_eq (odds (evens fresh)) (is_some overlay.upper)
+      (map (open_layer nat_eq world) (shown_layers overlay))
+      (merged_objects (map (open_layer nat_eq world) (shown_layers overlay)) (inode_count world))
+
+  -- nothing goes, so what is left is the world with the overlay that is made
+  left_is : left_by value task (ToMountOverlay place overlay flags)
+      ≡ attach nat_eq (with_new_filesystem world made) (odds fresh) place false
+      (new_mount made.number made.files.tree.root flags ∷ [])
+  left_is =
+      new_mounts_of_overlays_keep_all fresh world task place overlay flags whole.in_world names_layers.layers distinct
+      (ap is_some names_layers.to.own)
+
+  module _ (entry : stored.OverlayEntry) (kept : entry.overlay ≡ overlay_kept value.next overlay)
+      (count_is : entry.count ≡ value.next) where
+    lowers_are : map layer_kept overlay.lowers ≡ entry.overlay.lowers
+    lowers_are = sym (ap (λ (o : OverlayValue). o.lowers) kept)
+
+    pub shows_layers : ShowsLayers (world_of value) value.filesystems entry.overlay
+    shows_layers =
+        let both = kept_layers value whole overlay lower names_layers.layers in
+        record {
+          are = subst (AreLayers value.filesystems) lowers_are both.0;
+          all = subst (All (ShowsLayer world value.filesystems)) lowers_are both.1;
+        }
+
+    -- an overlay without a work directory is seen as it was, once it is kept
+    pub seen_again : overlay.work ≡ None → overlay.real ≡ (λ number. None) → overlay ≡ Kept.overlay_seen entry.overlay
+    seen_again none unmade = λ i. record {
+      upper = lower i;
+      work = none i;
+      lowers = (sym (lowers_seen value whole overlay lower names_layers.layers) ∙ ap (map layer_seen) lowers_are) i;
+      mounter = sym (ap (λ (o : OverlayValue). o.mounter) kept) i;
+      real = unmade i;
+    }
+
+    module _ (seen : overlay ≡ Kept.overlay_seen entry.overlay) where
+      abbrev shown_over : Filesystem ℕ
+      shown_over = overlay_seen (overlay_of_store value.filesystems entry)
+
+      supply_is : fresh ≡ handed_in world value.filesystems entry.overlay
+      supply_is = ap (handed_in world value.filesystems) (sym kept)
+
+      made_as_shown : SameFilesystem made (overlay_shown value.filesystems entry.overlay)
+      made_as_shown =
+          subst (λ (f : Filesystem ℕ). SameFilesystem f (overlay_shown value.filesystems entry.overlay))
+          (λ i. overlay_filesystem nat_eq (evens (sym supply_is i)) world (sym seen i))
+          (made_overlays_are_same world value.filesystems entry.overlay whole.in_world
+          (subst (mounted.AreLayers world) seen names_layers.layers) shows_layers
+          (subst (λ (supply : Fresh ℕ). (j k : ℕ) → supply j ≡ supply k → j ≡ k) supply_is distinct))
+
+      -- it is the one that a store shows
+      made_same : SameFilesystem made shown_over
+      made_same = record {
+        number = made_as_shown.number ∙ ap counted (ap (λ (o : OverlayValue). o.number.count) kept ∙ sym count_is);
+        files = same_inodes (odds (evens fresh) 0) (overlay_of_store value.filesystems entry).root made_inodes
+            (inodes_kept value.filesystems entry.overlay)
+            (made_as_shown.files.tree ∙ sym (inodes_are_the_tree value.filesystems entry.overlay));
+        overlay =
+            made_as_shown.overlay
+            ∙ (λ i. Some (record (with_objects value.filesystems entry.overlay) {
+              real = sym (inodes_have_their_objects value.filesystems entry.overlay shows_layers.are) i;
+            }));
+      }
+
+      module _ (base : Filesystems)
+          (held : shown base ≡ map (held_by (map layer_of entry.overlay.lowers)) (shown value.filesystems)) where
+        abbrev over : Filesystem ℕ
+        over = overlay_seen (overlay_of_store base entry)
+
+        abbrev over_base : World ℕ
+        over_base = record (world_of value) {
+          filesystems =
+              woven (filesystems_seen base) (overlays_seen (value.overlays ++ overlay_of_store base entry ∷ []));
+        }
+
+        over_same : SameFilesystem made over
+        over_same =
+            subst (λ one. SameFilesystem made (overlay_seen one))
+            (sym (overlay_stays_when_held value.filesystems base entry shows_layers.are (map layer_of entry.overlay.lowers)
+            held))
+            made_same
+
+        -- each of its inodes has a name
+        pub new_overlay_is_named : has_only_named (overlay_seen (overlay_of_store base entry)) ≡ true
+        new_overlay_is_named =
+            sym (named_same made over over_same)
+            ∙ new_overlays_are_named (evens fresh) world overlay whole.in_world names_layers.layers
+            (evens-distinct fresh distinct)
+
+        worlds_alike : Alike (with_new_filesystem world made) over_base
+        worlds_alike =
+            let itself = alike_from_same world world (sameness_is_an_equivalence.itself world) in
+            alike_onward (with_new_filesystem world made) (overlay_last value base entry) over_base
+            (record {
+              mounts = refl;
+              master = refl;
+              filesystems =
+                  each_append SameFilesystem world.filesystems world.filesystems (made ∷ []) (over ∷ [])
+                  itself.filesystems (over_same, tt);
+              namespaces = itself.namespaces;
+              tasks = itself.tasks;
+            })
+            (alike_from_same (overlay_last value base entry) over_base
+            (same_with_layers_held value whole base entry (map layer_of entry.overlay.lowers) count_is held))
+
+        -- so with its mount the world is what the permit leaves
+        pub overlay_left : SameWorlds (left_by value task (ToMountOverlay place overlay flags))
+            (attach nat_eq (record (world_of value) {
+              filesystems =
+                  woven (filesystems_seen base) (overlays_seen (value.overlays ++ overlay_of_store base entry ∷ []));
+            }) (odds (supply_of value (ToMountOverlay place overlay flags))) place false
+            (new_mount (counted value.next) (overlay_seen (overlay_of_store base entry)).files.tree.root flags ∷ []))
+        overlay_left =
+            subst (λ (w : World ℕ). SameWorlds w (attach nat_eq over_base (odds fresh) place false
+            (new_mount (counted value.next) over.files.tree.root flags ∷ []))) (sym left_is)
+            (subst (λ (tree : List (meant.Mount ℕ)). SameWorlds (attached_made) (attach nat_eq over_base (odds fresh) place
+            false tree))
+            (λ i. new_mount ((over_same.number ∙ ap counted count_is) i) (over_same.files.tree i).root flags ∷ [])
+            (same_from_alike attached_made (attach nat_eq over_base (odds fresh) place false made_tree)
+            (attach_alike (odds fresh) place false made_tree (with_new_filesystem world made) over_base worlds_alike)))
+          where
+            made_tree : List (meant.Mount ℕ)
+            made_tree = new_mount made.number made.files.tree.root flags ∷ []
+
+            attached_made : World ℕ
+            attached_made = attach nat_eq (with_new_filesystem world made) (odds fresh) place false made_tree

@@ -1,0 +1,191 @@
+-- A new overlay in a store: its layers are in use, and it comes after all others.
+use Rattle.std.proofs.Common.{◌≡◌, ◌≤◌, refl, sym, ap, ◌∙◌, ℕ, ◌+◌, nat_eq, eq-eqb, nat_lt, Bool, true, false, cond, not, ◌&&◌, List, [], ◌∷◌, ◌++◌, length, map, Option, Some, None, option_map, unwrap_or, arith}
+use Rattle.std.specs.Prelude.{nat_le}
+use Rattle.std.specs.List.{list_all}
+use Rattle.std.proofs.lemmas.Bool.{and_parts, le-leb, leb-true, ltb-true, ne_eqb}
+use Rattle.vt_spec.specs.Lists.{folded}
+use Rattle.vt_spec.proofs.Lists.{map_alike}
+use Rattle.vt_fs.specs.FilesystemsValue.{Shown, shown_with}
+use Rattle.vt_spec.specs.Inodes.{pinned}
+use Rattle.vt_laws_mounts.specs.Counts.Using.{pinned_if}
+use Rattle.vt_laws_mounts.specs.LettingGo.OneByOne.{Inode}
+use Rattle.vt_laws_mounts.proofs.letting_go.Lists.{all_pass, filter_here, filter_skip, passes}
+use Rattle.vt_location.specs.declared.locations.Location.{Location}
+use Rattle.vt_location.specs.declared.mounts.Mount.{Mount}
+use Rattle.vt_location.specs.Locations.{inode_of as inode_number_of}
+use Rattle.vt_location.specs.Numbers.{counted}
+use Rattle.vt_location.proofs.NumberLemmas.{counted_test}
+use Rattle.vt_overlay.specs.declared.merge.layers.LayerRef.{LayerRef}
+use Rattle.vt_store.specs.LayersHeld as Stored
+use Rattle.vt_store.specs.LayersHeld.{lowers_in, with_layers}
+use Rattle.vt_store.specs.OverlaysValue.{OverlayEntry, Overlays, entry_kept, without_overlay}
+use Rattle.vt_store.specs.StoreValue.{StoreValue}
+use Rattle.vt_mounting.specs.Detach.Stored.{layer_of}
+use Rattle.vt_mounting.specs.Detach.Uses.{Merged, inode_of, merged_at, mounted_in, mounts_shown, pinned_in}
+use Rattle.vt_mounting.proofs.detach.Shown.{changed_inodes, counted_eq_back}
+use Rattle.vt_mounting.specs.Attach.Room.{has_room, merged_has_room, point_has_room, uses_shown}
+use Rattle.vt_mounting.proofs.attach.RoomLemmas.{mounted_mounts, mounted_uses, pinned_mounts, pinned_uses}
+
+-- Layers
+
+-- a layer more, by numbers: a use of its directory, and a mount of its filesystem
+abbrev pub with_layer : List Shown → Inode → List Shown
+with_layer all inode = mounted_in inode.0 (pinned_in inode all)
+
+pinned_shown : (count number : ℕ) (all : List Shown)
+    → shown_with count (λ inodes. pinned nat_eq inodes number) all ≡ pinned_in (counted count, number) all
+pinned_shown count number all =
+    changed_inodes count (λ inodes. pinned nat_eq inodes number)
+    (λ filesystem inodes. pinned_if filesystem inodes (counted count, number))
+    (λ other inodes. ap (λ b. cond b (pinned nat_eq inodes number) inodes) (counted_eq_back other count)) all
+
+layer_more : (all : List Shown) (layer : LayerRef) → Stored.with_layer all layer ≡ with_layer all (layer_of layer)
+layer_more all layer =
+    map_alike (λ (one : Shown). cond (nat_eq count one.count) (record one { mounts = one.mounts + 1 }) one)
+    (λ (one : Shown). cond (nat_eq (counted count) (counted one.count)) (record one { mounts = one.mounts + 1 }) one)
+    used (λ one m. ap (λ b. cond b (record one { mounts = one.mounts + 1 }) one) (sym (counted_test count one.count)))
+    ∙ ap (mounted_in (counted count)) (pinned_shown count (inode_number_of layer.directory) all)
+  where
+    count : ℕ
+    count = layer.directory.filesystem.count
+
+    used : List Shown
+    used = shown_with count (λ inodes. pinned nat_eq inodes (inode_number_of layer.directory)) all
+
+-- those of an overlay, as they are counted
+pub layers_more : (layers : List LayerRef) (all : List Shown)
+    → with_layers layers all ≡ folded with_layer all (map layer_of layers)
+layers_more [] all = refl
+layers_more (layer ∷ rest) all =
+    layers_more rest (Stored.with_layer all layer)
+    ∙ ap (λ more. folded with_layer more (map layer_of rest)) (layer_more all layer)
+
+-- one use more of an inode, and one mount of a filesystem, for each at the most
+
+uses_with : (layers : List Inode) (other : Inode) (all : List Shown)
+    → uses_shown other (folded with_layer all layers) ≤ uses_shown other all + length layers
+uses_with [] other all = omega arith
+uses_with (inode ∷ rest) other all =
+    let later = uses_with rest other (with_layer all inode) in
+    let pinned_so = pinned_uses inode other all in
+    let mounted_so = mounted_uses inode.0 other (pinned_in inode all) in
+    omega (arith, later, pinned_so, mounted_so)
+
+mounts_with : (layers : List Inode) (other : ℕ) (all : List Shown)
+    → mounts_shown other (folded with_layer all layers) ≤ mounts_shown other all + length layers
+mounts_with [] other all = omega arith
+mounts_with (inode ∷ rest) other all =
+    let later = mounts_with rest other (with_layer all inode) in
+    let pinned_so = pinned_mounts inode other all in
+    let mounted_so = mounted_mounts inode.0 other (pinned_in inode all) in
+    omega (arith, later, pinned_so, mounted_so)
+
+-- Room for what comes beside
+
+module _ (layers : List Inode) (all : List Shown) (less most : ℕ) (fits : less + length layers ≤ most) where
+  uses_fit : (other : Inode) → nat_le (uses_shown other all) less ≡ true
+      → nat_le (uses_shown other (folded with_layer all layers)) most ≡ true
+  uses_fit other room =
+      let was = leb-true (uses_shown other all) less room in
+      let more = uses_with layers other all in
+      le-leb (uses_shown other (folded with_layer all layers)) most (omega (arith, was, more, fits))
+
+  point_fits : (point : Option Location) → point_has_room less all point ≡ true
+      → point_has_room most (folded with_layer all layers) point ≡ true
+  point_fits None room = refl
+  point_fits (Some point) room = uses_fit (inode_of point.node) room
+
+  mount_fits : (mount : Mount) → has_room less all mount ≡ true
+      → has_room most (folded with_layer all layers) mount ≡ true
+  mount_fits mount room =
+      let number = counted mount.root.filesystem.count in
+      let both = and_parts (nat_le (uses_shown (inode_of mount.root) all) less
+      && point_has_room less all mount.mount_point) (nat_le (mounts_shown number all) less) room in
+      let uses = and_parts (nat_le (uses_shown (inode_of mount.root) all) less)
+      (point_has_room less all mount.mount_point) both.0 in
+      let was = leb-true (mounts_shown number all) less both.1 in
+      let more = mounts_with layers number all in
+      let shows : nat_le (mounts_shown number (folded with_layer all layers)) most ≡ true =
+      le-leb (mounts_shown number (folded with_layer all layers)) most (omega (arith, was, more, fits)) in
+      λ i. uses_fit (inode_of mount.root) uses.0 i && point_fits mount.mount_point uses.1 i && shows i
+
+  -- the copies have room with the layers,
+  pub copies_fit : (copies : List Mount) → list_all (has_room less all) copies ≡ true
+      → list_all (has_room most (folded with_layer all layers)) copies ≡ true
+  copies_fit copies room =
+      all_pass (has_room most (folded with_layer all layers)) copies (λ mount m.
+      mount_fits mount (passes (has_room less all) copies room mount m))
+
+  -- and so have mount points
+  pub points_fit : {A : Type 0} (place : A → Location) (points : List A)
+      → list_all (λ point. point_has_room less all (Some (place point))) points ≡ true
+      → list_all (λ point. point_has_room most (folded with_layer all layers) (Some (place point))) points ≡ true
+  points_fit {A = A} place points room =
+      all_pass (λ (point : A). point_has_room most (folded with_layer all layers) (Some (place point))) points
+      (λ point m. point_fits (Some (place point))
+      (passes (λ (one : A). point_has_room less all (Some (place one))) points room point m))
+
+-- Overlays
+
+-- one without mounts leaves as much room
+same_mounts : (number : ℕ) (all : List Merged) (one : Merged) → one.mounts ≡ 0
+    → unwrap_or (option_map (λ (m : Merged). m.mounts) (merged_at number (all ++ one ∷ []))) 0
+    ≡ unwrap_or (option_map (λ (m : Merged). m.mounts) (merged_at number all)) 0
+same_mounts number [] one none = by (nat_eq number one.number)
+  where
+    by : (b : Bool) → unwrap_or (option_map (λ (m : Merged). m.mounts) (cond b (Some one) None)) 0 ≡ 0
+    by true = none
+    by false = refl
+same_mounts number (first ∷ rest) one none = by (nat_eq number first.number) (same_mounts number rest one none)
+  where
+    mounts_of : Option Merged → ℕ
+    mounts_of o = unwrap_or (option_map (λ (m : Merged). m.mounts) o) 0
+
+    by : (b : Bool) → mounts_of (merged_at number (rest ++ one ∷ [])) ≡ mounts_of (merged_at number rest)
+        → mounts_of (cond b (Some first) (merged_at number (rest ++ one ∷ [])))
+        ≡ mounts_of (cond b (Some first) (merged_at number rest))
+    by true later = refl
+    by false later = later
+
+pub overlays_fit : (most : ℕ) (all : List Merged) (one : Merged) → one.mounts ≡ 0 → (copies : List Mount)
+    → list_all (merged_has_room most all) copies ≡ true
+    → list_all (merged_has_room most (all ++ one ∷ [])) copies ≡ true
+overlays_fit most all one none copies room =
+    all_pass (merged_has_room most (all ++ one ∷ [])) copies (λ mount m.
+    ap (λ n. nat_le n most) (same_mounts (counted mount.root.filesystem.count) all one none)
+    ∙ passes (merged_has_room most all) copies room mount m)
+
+-- the new one is found by its count,
+found_new : (overlays : Overlays) (entry : OverlayEntry)
+    → list_all (λ (other : OverlayEntry). nat_lt other.count entry.count) overlays ≡ true
+    → entry_kept (overlays ++ entry ∷ []) entry.count ≡ Some entry
+found_new [] entry above = ap (λ b. cond b (Some entry) None) (eq-eqb entry.count entry.count refl)
+found_new (first ∷ rest) entry above =
+    let parts = and_parts (nat_lt first.count entry.count)
+    (list_all (λ (other : OverlayEntry). nat_lt other.count entry.count) rest) above in
+    let low = ltb-true first.count entry.count parts.0 in
+    ap (λ b. cond b (Some first) (entry_kept (rest ++ entry ∷ []) entry.count))
+    (ne_eqb entry.count first.count (λ same. absurd (omega (arith, low, same))))
+    ∙ found_new rest entry parts.1
+
+pub lowers_new : (store : StoreValue) (entry : OverlayEntry)
+    → list_all (λ (other : OverlayEntry). nat_lt other.count entry.count) store.overlays ≡ true
+    → lowers_in (record store { overlays = store.overlays ++ entry ∷ [] }) entry.count ≡ entry.overlay.lowers
+lowers_new store entry above =
+    ap (λ o. unwrap_or (option_map (λ overlay. overlay.lowers) (option_map (λ (one : OverlayEntry). one.overlay) o)) [])
+    (found_new store.overlays entry above)
+
+-- and without it the others are left
+pub withdrawn : (overlays : Overlays) (entry : OverlayEntry)
+    → list_all (λ (other : OverlayEntry). nat_lt other.count entry.count) overlays ≡ true
+    → without_overlay entry.count (overlays ++ entry ∷ []) ≡ overlays
+withdrawn [] entry above =
+    filter_skip (λ (other : OverlayEntry). not (nat_eq entry.count other.count)) entry []
+    (ap not (eq-eqb entry.count entry.count refl))
+withdrawn (first ∷ rest) entry above =
+    let parts = and_parts (nat_lt first.count entry.count)
+    (list_all (λ (other : OverlayEntry). nat_lt other.count entry.count) rest) above in
+    let low = ltb-true first.count entry.count parts.0 in
+    filter_here (λ (other : OverlayEntry). not (nat_eq entry.count other.count)) first (rest ++ entry ∷ [])
+    (ap not (ne_eqb entry.count first.count (λ same. absurd (omega (arith, low, same)))))
+    ∙ ap (λ others. first ∷ others) (withdrawn rest entry parts.1)

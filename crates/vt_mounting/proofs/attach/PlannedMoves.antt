@@ -1,0 +1,202 @@
+-- Mounts that get other mount points, one after the other: their room, and the uses of their mount points.
+use Rattle.std.proofs.Common.{◌≡◌, refl, ap, subst, sym, ◌∙◌, ℕ, ◌+◌, ◌-◌, ◌<◌, ◌≤◌, nat_eq, Bool, true, false, cond, ◌&&◌, List, [], ◌∷◌, length, Some, None, Option, option_map, take, drop, get_or, is_some, map, inl, arith}
+use Rattle.std.specs.Prelude.{IsErr, OnOk, Result, nat_le, option_to_list, ⊤}
+use Rattle.std.specs.List.{list_all}
+use Rattle.std.proofs.lemmas.Bool.{and_parts, le-leb, leb-true}
+use Rattle.std.proofs.lemmas.List.{flat_map_more, length-append, length-map, length-take-le, map_more, take-append-drop, take_more}
+use Rattle.std.proofs.lemmas.List.Folds.{list_all-append, list_all_more}
+use Rattle.vt_fs.specs.FilesystemsValue.{ChangesInodes, Filesystems, Shown, inodes_at, shown}
+use Rattle.vt_spec.specs.Inodes.{pinned, uses_in}
+use Rattle.vt_laws_mounts.proofs.letting_go.Lists.{Among, among-append_left, among-append_right, among-map, passes}
+use Rattle.vt_laws_mounts.specs.LettingGo.OneByOne.{Inode}
+use Rattle.vt_location.specs.declared.locations.Location.{Location}
+use Rattle.vt_location.specs.declared.mounts.Mount.{Mount}
+use Rattle.vt_location.specs.Locations.{location_of, number_of}
+use Rattle.vt_location.specs.Numbers.{counted}
+use Rattle.vt_mount.specs.declared.moving.Moved.{Moved}
+use Rattle.vt_mount.specs.MountsValue.{MountEntry, entry_numbered}
+use Rattle.vt_spec.specs.Lists.{folded}
+use Rattle.vt_mounting.specs.Attach.Planned.{Point, left_of, pinned_by, placed_entry, points_taken, taken_at, taken_of, unpinned_by, with_points}
+use Rattle.vt_mounting.specs.Attach.Room.{has_room, most_counted, point_has_room, uses_shown}
+use Rattle.vt_mounting.specs.Detach.Uses.{inode_of, mounts_shown}
+use Rattle.vt_mounting.proofs.detach.Shown.{pins}
+use Rattle.vt_mounting.proofs.attach.RoomLemmas.{folded_more, not_refused, pinned_mounts, pinned_uses, uses_are_shown}
+use Rattle.vt_mounting.proofs.detach.LostUses.{folded_append}
+
+-- Their numbers stay
+
+pub number_stays : (place : Location) (entry : MountEntry) (b : Bool)
+    → (cond b (placed_entry place entry) entry).mount.number ≡ entry.mount.number
+number_stays place entry true = refl
+number_stays place entry false = refl
+
+pub mapped_points : (o : Option Location)
+    → map location_of (option_to_list o) ≡ option_to_list (option_map location_of o)
+mapped_points None = refl
+mapped_points (Some point) = refl
+
+-- The mount points that are taken are among those of the list
+
+pub taken_pass : (test : Location → Bool) (points : List Point) (entries : List MountEntry)
+    → list_all (λ (point : Point). test point.place) points ≡ true → list_all test (points_taken points entries) ≡ true
+taken_pass test [] entries all = refl
+taken_pass test (point ∷ rest) entries all =
+    list_all-append test (points_taken rest entries) (taken_at point (with_points rest entries))
+    ∙ (λ i. taken_pass test rest entries parts.1 i
+    && by (is_some (entry_numbered (with_points rest entries) (counted point.mount.count))) i)
+  where
+    parts : (test point.place ≡ true) × (list_all (λ (other : Point). test other.place) rest ≡ true)
+    parts = and_parts (test point.place) (list_all (λ (other : Point). test other.place) rest) all
+
+    by : (b : Bool) → list_all test (cond b (point.place ∷ []) []) ≡ true
+    by true = λ i. parts.0 i && true
+    by false = refl
+
+pub taken_few : (points : List Point) (entries : List MountEntry) → length (points_taken points entries) ≤ length points
+taken_few [] entries = omega arith
+taken_few (point ∷ rest) entries =
+    let both = length-append (points_taken rest entries) (taken_at point (with_points rest entries)) in
+    let few = taken_few rest entries in
+    let one = by (is_some (entry_numbered (with_points rest entries) (counted point.mount.count))) in
+    omega (arith, both, few, one)
+  where
+    by : (b : Bool) → length (cond b (point.place ∷ []) []) ≤ 1
+    by true = omega arith
+    by false = omega arith
+
+-- Room for them, and for the mounts that come then
+
+pub pins_more : (points : List Location) (other : Inode) (all : List Shown)
+    → uses_shown other (folded pinned_by all points) ≤ uses_shown other all + length points
+pins_more [] other all = omega arith
+pins_more (point ∷ rest) other all =
+    let later = pins_more rest other (pinned_by all point) in
+    let first = pinned_uses (inode_of point.node) other all in
+    omega (arith, later, first)
+
+pins_mounts : (points : List Location) (other : ℕ) (all : List Shown)
+    → mounts_shown other (folded pinned_by all points) ≡ mounts_shown other all
+pins_mounts [] other all = refl
+pins_mounts (point ∷ rest) other all = pins_mounts rest other (pinned_by all point)
+    ∙ pinned_mounts (inode_of point.node) other all
+
+-- one has room when those before it are in use
+pin_room : (front : List Location) (point : Location) (all now : List Shown) (n : ℕ) → length front < n
+    → n ≤ most_counted → point_has_room (most_counted - n) all (Some point) ≡ true → now ≡ folded pinned_by all front
+    → uses_shown (inode_of point.node) now < most_counted
+pin_room front point all now n less fits room so_far =
+    let was = leb-true (uses_shown (inode_of point.node) all) (most_counted - n) room in
+    let more = pins_more front (inode_of point.node) all in
+    subst (λ later. uses_shown (inode_of point.node) later < most_counted) (sym so_far)
+    (omega (arith, was, more, less, fits))
+
+-- fewer uses are room for more
+pub room_stays : (most less : ℕ) (all : List Shown) → less ≤ most → (points : List Location)
+    → list_all (λ (point : Location). point_has_room less all (Some point)) points ≡ true
+    → list_all (λ (point : Location). point_has_room most all (Some point)) points ≡ true
+room_stays most less all fewer [] room = refl
+room_stays most less all fewer (point ∷ rest) room =
+    let parts = and_parts (point_has_room less all (Some point))
+    (list_all (λ (other : Location). point_has_room less all (Some other)) rest) room in
+    let few = leb-true (uses_shown (inode_of point.node) all) less parts.0 in
+    λ i. le-leb (uses_shown (inode_of point.node) all) most (omega (arith, few, fewer)) i
+    && room_stays most less all fewer rest parts.1 i
+
+module _ (points : List Location) (all : List Shown) (less most : ℕ) (fits : less + length points ≤ most) where
+  point_room_then : (point : Option Location) → point_has_room less all point ≡ true
+      → point_has_room most (folded pinned_by all points) point ≡ true
+  point_room_then None room = refl
+  point_room_then (Some point) room =
+      let was = leb-true (uses_shown (inode_of point.node) all) less room in
+      let more = pins_more points (inode_of point.node) all in
+      le-leb (uses_shown (inode_of point.node) (folded pinned_by all points)) most (omega (arith, was, more, fits))
+
+  room_then : (mount : Mount) → has_room less all mount ≡ true
+      → has_room most (folded pinned_by all points) mount ≡ true
+  room_then mount room =
+      let first = and_parts (nat_le (uses_shown (inode_of mount.root) all) less
+      && point_has_room less all mount.mount_point) _ room in
+      let second = and_parts (nat_le (uses_shown (inode_of mount.root) all) less) _ first.0 in
+      let root = leb-true (uses_shown (inode_of mount.root) all) less second.0 in
+      let shows = leb-true (mounts_shown (counted mount.root.filesystem.count) all) less first.1 in
+      let more = pins_more points (inode_of mount.root) all in
+      let same = pins_mounts points (counted mount.root.filesystem.count) all in
+      λ i. le-leb (uses_shown (inode_of mount.root) (folded pinned_by all points)) most
+      (omega (arith, root, more, fits)) i
+      && point_room_then mount.mount_point second.1 i
+      && le-leb (mounts_shown (counted mount.root.filesystem.count) (folded pinned_by all points)) most
+      (omega (arith, shows, same, fits)) i
+
+  pub all_room_then : (new : List Mount) → list_all (has_room less all) new ≡ true
+      → list_all (has_room most (folded pinned_by all points)) new ≡ true
+  all_room_then [] room = refl
+  all_room_then (mount ∷ new) room =
+      let parts = and_parts (has_room less all mount) (list_all (has_room less all) new) room in
+      λ i. room_then mount parts.0 i && all_room_then new parts.1 i
+
+-- One step of a loop
+
+pub pinned_next : (moved : List Moved) (old : List Shown) (before after : Filesystems) (i : ℕ) (d : Moved)
+    → i < length moved
+    → length moved ≤ most_counted
+    → list_all (λ (point : Location). point_has_room (most_counted - length moved) old (Some point)) (taken_of moved)
+    ≡ true
+    → shown before ≡ folded pinned_by old (taken_of (take i moved)) → {E : Type 0} (result : Result ⊤ E)
+    → (IsErr result
+    → uses_in ((inodes_at before (get_or moved i d).to.node.filesystem.count).inode
+    (number_of (get_or moved i d).to.node)) ≡ most_counted)
+    → OnOk result (ChangesInodes (get_or moved i d).to.node.filesystem.count
+    (λ inodes. pinned nat_eq inodes (number_of (get_or moved i d).to.node)) before after)
+    → shown after ≡ folded pinned_by old (taken_of (take (i + 1) moved))
+pinned_next moved old before after i d less fits room so_far result limit ok =
+    let point = (get_or moved i d).to in
+    let node = point.node in
+    let size : length (taken_of (take i moved)) ≡ i =
+    length-map (take i moved) place ∙ length-take-le i moved (omega (arith, less)) in
+    let few = pin_room (taken_of (take i moved)) point old (shown before) (length moved) (omega (arith, size, less))
+    fits
+    (passes (λ (other : Location). point_has_room (most_counted - length moved) old (Some other)) (taken_of moved) room
+    point (among-map place moved (get_or moved i d) (at moved i less))) so_far in
+    let same = uses_are_shown node.filesystem.count (number_of node) before in
+    pins node.filesystem.count (number_of node) before after
+    (not_refused result (ChangesInodes node.filesystem.count
+    (λ inodes. pinned nat_eq inodes (number_of node)) before after)
+    (uses_in ((inodes_at before node.filesystem.count).inode (number_of node)) ≡ most_counted) limit ok
+    (λ full. omega (arith, full, few, same)))
+    ∙ ap (λ all. pinned_by all point) so_far
+    ∙ sym (ap (folded pinned_by old) (map_more place moved i d less)
+    ∙ folded_more pinned_by (taken_of (take i moved)) point old)
+  where
+    place : Moved → Location
+    place one = one.to
+
+    at : (list : List Moved) (k : ℕ) → k < length list → Among (get_or list k d) list
+    at list k low =
+        subst (Among (get_or list k d)) (take-append-drop (k + 1) list)
+        (among-append_left (take (k + 1) list) (drop (k + 1) list) (get_or list k d)
+        (subst (Among (get_or list k d)) (sym (take_more list k d low))
+        (among-append_right (take k list) (get_or list k d ∷ []) (get_or list k d) (inl refl))))
+
+pub unpinned_next : (moved : List Moved) (old before after : List Shown) (i : ℕ) (d : Moved) → i < length moved
+    → before ≡ folded unpinned_by old (left_of (take i moved))
+    → after ≡ folded unpinned_by before (option_to_list (get_or moved i d).from)
+    → after ≡ folded unpinned_by old (left_of (take (i + 1) moved))
+unpinned_next moved old before after i d less so_far step =
+    step ∙ ap (λ all. folded unpinned_by all (option_to_list (get_or moved i d).from)) so_far
+    ∙ sym (folded_append unpinned_by old (left_of (take i moved)) (option_to_list (get_or moved i d).from))
+    ∙ ap (folded unpinned_by old)
+    (flat_map_more (λ (one : Moved). option_to_list one.from) [] (take i moved) (get_or moved i d)
+    ∙ sym (ap left_of (take_more moved i d less)))
+
+pub place_next : (most : ℕ) (filesystems : Filesystems) (points : List Point) (i : ℕ) (d : Point) → i < length points
+    → list_all (λ (point : Point). point_has_room most (shown filesystems) (Some point.place)) (take i points) ≡ true
+    → (n : ℕ)
+    → n ≡ uses_in ((inodes_at filesystems (get_or points i d).place.node.filesystem.count).inode
+    (number_of (get_or points i d).place.node)) → n ≤ most
+    → list_all (λ (point : Point). point_has_room most (shown filesystems) (Some point.place)) (take (i + 1) points)
+    ≡ true
+place_next most filesystems points i d less so_far n is few =
+    let node = (get_or points i d).place.node in
+    let same = uses_are_shown node.filesystem.count (number_of node) filesystems in
+    list_all_more (λ (point : Point). point_has_room most (shown filesystems) (Some point.place)) points i d less
+    ∙ (λ j. so_far j && le-leb (uses_shown (inode_of node) (shown filesystems)) most (omega (arith, is, few, same)) j)

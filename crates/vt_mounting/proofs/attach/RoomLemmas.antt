@@ -1,0 +1,303 @@
+-- Uses of inodes and filesystems that new mounts make, and room for them.
+use Rattle.std.proofs.Common.{◌≡◌, refl, sym, ap, subst, ◌∙◌, ℕ, ◌+◌, ◌*◌, ◌-◌, ◌<◌, ◌≤◌, nat_eq, eqb-true, Bool, true, false, cond, ◌&&◌, List, [], ◌∷◌, ◌++◌, length, find, Option, Some, None, option_map, unwrap_or, take, get_or, arith}
+use Rattle.std.specs.Prelude.{Err, IsErr, Ok, OnOk, Result, nat_le, ⊤}
+use Rattle.std.specs.List.{list_all}
+use Rattle.std.proofs.lemmas.Bool.{and_parts, le-leb, leb-true}
+use Rattle.std.proofs.lemmas.List.{length-take-le}
+use Rattle.vt_spec.specs.Lists.{folded}
+use Rattle.vt_spec.specs.Inodes.{Inode as Counted, Inodes, pinned, used_once_more, uses_in}
+use Rattle.vt_laws_mounts.specs.Counts.Using.{pinned_if}
+use Rattle.vt_fs.specs.FilesystemsValue.{Filesystems, Shown, entry_of, inodes_at, inodes_seen, no_entry, shown, shown_entry, with_changed}
+use Rattle.vt_laws_mounts.specs.LettingGo.OneByOne.{Inode}
+use Rattle.vt_laws_mounts.proofs.letting_go.Lists.{passes}
+use Rattle.vt_location.specs.declared.locations.Location.{Location}
+use Rattle.vt_location.specs.declared.mounts.Mount.{Mount}
+use Rattle.vt_location.specs.Locations.{number_of}
+use Rattle.vt_location.specs.Numbers.{counted}
+use Rattle.vt_mounting.specs.Attach.Room.{has_room, most_counted, point_has_room, uses_shown}
+use Rattle.vt_mounting.specs.Detach.Uses.{inode_of, mounted_if, mounted_in, mounts_shown, pinned_at, pinned_in, shown_by}
+use Rattle.vt_mounting.proofs.attach.EnteringLemmas.{among_at}
+use Rattle.vt_location.proofs.NumberLemmas.{counted_test}
+
+-- the uses of an inode, as code counts them
+pub uses_are_shown : (count number : ℕ) (filesystems : Filesystems)
+    → uses_in ((inodes_at filesystems count).inode number) ≡ uses_shown (counted count, number) (shown filesystems)
+uses_are_shown count number [] = refl
+uses_are_shown count number (entry ∷ rest) =
+    by (nat_eq count entry.count) (uses_are_shown count number rest)
+    ∙ ap (λ b. unwrap_or (option_map (λ one. uses_in (one.inodes.inode number))
+    (cond b (Some (shown_entry entry)) (find (λ one. nat_eq (counted count) (counted one.count)) (shown rest)))) 0)
+    (sym (counted_test count entry.count))
+  where
+    by : (b : Bool) → uses_in ((inodes_seen (unwrap_or (entry_of rest count) (no_entry count))).inode number)
+        ≡ uses_shown (counted count, number) (shown rest)
+        → uses_in ((inodes_seen (unwrap_or (cond b (Some entry) (entry_of rest count)) (no_entry count))).inode number)
+        ≡ unwrap_or (option_map (λ one. uses_in (one.inodes.inode number))
+        (cond b (Some (shown_entry entry)) (find (λ one. nat_eq (counted count) (counted one.count)) (shown rest)))) 0
+    by true later = refl
+    by false later = later
+
+-- What a mount uses
+
+used_more : (o : Option (Counted ℕ)) → uses_in (used_once_more o) ≤ uses_in o + 1
+used_more None = omega arith
+used_more (Some inode) = omega arith
+
+pinned_more : (inodes : Inodes ℕ) (number other : ℕ)
+    → uses_in ((pinned nat_eq inodes number).inode other) ≤ uses_in (inodes.inode other) + 1
+pinned_more inodes number other = by (nat_eq other number) refl
+  where
+    by : (b : Bool) → nat_eq other number ≡ b
+        → uses_in (cond b (used_once_more (inodes.inode number)) (inodes.inode other)) ≤ uses_in
+        (inodes.inode other) + 1
+    by true e = subst (λ n. uses_in (used_once_more (inodes.inode n)) ≤ uses_in (inodes.inode other) + 1)
+        (eqb-true other number e) (used_more (inodes.inode other))
+    by false e = omega arith
+
+pub pinned_if_more : (filesystem : ℕ) (inodes : Inodes ℕ) (inode : Inode) (other : ℕ)
+    → uses_in ((pinned_if filesystem inodes inode).inode other) ≤ uses_in (inodes.inode other) + 1
+pinned_if_more filesystem inodes inode other = by (nat_eq filesystem inode.0)
+  where
+    by : (b : Bool) → uses_in ((cond b (pinned nat_eq inodes inode.1) inodes).inode other) ≤ uses_in
+        (inodes.inode other) + 1
+    by true = pinned_more inodes inode.1 other
+    by false = omega arith
+
+pub pinned_uses : (inode other : Inode) (all : List Shown)
+    → uses_shown other (pinned_in inode all) ≤ uses_shown other all + 1
+pinned_uses inode other [] = omega arith
+pinned_uses inode other (one ∷ rest) = by (nat_eq other.0 (counted one.count)) (pinned_uses inode other rest)
+  where
+    use_of : Option Shown → ℕ
+    use_of o = unwrap_or (option_map (λ (found : Shown). uses_in (found.inodes.inode other.1)) o) 0
+
+    by : (b : Bool) → uses_shown other (pinned_in inode rest) ≤ uses_shown other rest + 1
+        → use_of (cond b (Some (record one { inodes = pinned_if (counted one.count) one.inodes inode }))
+        (find (λ found. nat_eq other.0 (counted found.count)) (pinned_in inode rest)))
+        ≤ use_of (cond b (Some one) (find (λ found. nat_eq other.0 (counted found.count)) rest)) + 1
+    by true later = pinned_if_more (counted one.count) one.inodes inode other.1
+    by false later = later
+
+pub pinned_mounts : (inode : Inode) (filesystem : ℕ) (all : List Shown)
+    → mounts_shown filesystem (pinned_in inode all) ≡ mounts_shown filesystem all
+pinned_mounts inode filesystem [] = refl
+pinned_mounts inode filesystem (one ∷ rest) = by (nat_eq filesystem (counted one.count))
+    (pinned_mounts inode filesystem rest)
+  where
+    mounts_of : Option Shown → ℕ
+    mounts_of o = unwrap_or (option_map (λ (found : Shown). found.mounts) o) 0
+
+    by : (b : Bool) → mounts_shown filesystem (pinned_in inode rest) ≡ mounts_shown filesystem rest
+        → mounts_of (cond b (Some (record one { inodes = pinned_if (counted one.count) one.inodes inode }))
+        (find (λ found. nat_eq filesystem (counted found.count)) (pinned_in inode rest)))
+        ≡ mounts_of (cond b (Some one) (find (λ found. nat_eq filesystem (counted found.count)) rest))
+    by true later = refl
+    by false later = later
+
+mounted_count : (filesystem : ℕ) (one : Shown) → (mounted_if filesystem one).count ≡ one.count
+mounted_count filesystem one = by (nat_eq filesystem (counted one.count))
+  where
+    by : (b : Bool) → (cond b (record one { mounts = one.mounts + 1 }) one).count ≡ one.count
+    by true = refl
+    by false = refl
+
+mounted_inodes : (filesystem : ℕ) (one : Shown) → (mounted_if filesystem one).inodes ≡ one.inodes
+mounted_inodes filesystem one = by (nat_eq filesystem (counted one.count))
+  where
+    by : (b : Bool) → (cond b (record one { mounts = one.mounts + 1 }) one).inodes ≡ one.inodes
+    by true = refl
+    by false = refl
+
+mounted_more : (filesystem : ℕ) (one : Shown) → (mounted_if filesystem one).mounts ≤ one.mounts + 1
+mounted_more filesystem one = by (nat_eq filesystem (counted one.count))
+  where
+    by : (b : Bool) → (cond b (record one { mounts = one.mounts + 1 }) one).mounts ≤ one.mounts + 1
+    by true = omega arith
+    by false = omega arith
+
+pub mounted_uses : (filesystem : ℕ) (other : Inode) (all : List Shown)
+    → uses_shown other (mounted_in filesystem all) ≡ uses_shown other all
+mounted_uses filesystem other [] = refl
+mounted_uses filesystem other (one ∷ rest) =
+    ap (λ count. use_of (cond (nat_eq other.0 (counted count)) (Some (mounted_if filesystem one))
+    (find (λ found. nat_eq other.0 (counted found.count)) (mounted_in filesystem rest))))
+    (mounted_count filesystem one)
+    ∙ by (nat_eq other.0 (counted one.count)) (mounted_uses filesystem other rest)
+  where
+    use_of : Option Shown → ℕ
+    use_of o = unwrap_or (option_map (λ (found : Shown). uses_in (found.inodes.inode other.1)) o) 0
+
+    by : (b : Bool) → uses_shown other (mounted_in filesystem rest) ≡ uses_shown other rest
+        → use_of (cond b (Some (mounted_if filesystem one))
+        (find (λ found. nat_eq other.0 (counted found.count)) (mounted_in filesystem rest)))
+        ≡ use_of (cond b (Some one) (find (λ found. nat_eq other.0 (counted found.count)) rest))
+    by true later = ap (λ (inodes : Inodes ℕ). uses_in (inodes.inode other.1)) (mounted_inodes filesystem one)
+    by false later = later
+
+pub mounted_mounts : (filesystem other : ℕ) (all : List Shown)
+    → mounts_shown other (mounted_in filesystem all) ≤ mounts_shown other all + 1
+mounted_mounts filesystem other [] = omega arith
+mounted_mounts filesystem other (one ∷ rest) =
+    subst (λ count. mounts_of (cond (nat_eq other (counted count)) (Some (mounted_if filesystem one))
+    (find (λ found. nat_eq other (counted found.count)) (mounted_in filesystem rest)))
+    ≤ mounts_of (cond (nat_eq other (counted one.count)) (Some one)
+    (find (λ found. nat_eq other (counted found.count)) rest)) + 1) (sym (mounted_count filesystem one))
+    (by (nat_eq other (counted one.count)) (mounted_mounts filesystem other rest))
+  where
+    mounts_of : Option Shown → ℕ
+    mounts_of o = unwrap_or (option_map (λ (found : Shown). found.mounts) o) 0
+
+    by : (b : Bool) → mounts_shown other (mounted_in filesystem rest) ≤ mounts_shown other rest + 1
+        → mounts_of (cond b (Some (mounted_if filesystem one))
+        (find (λ found. nat_eq other (counted found.count)) (mounted_in filesystem rest)))
+        ≤ mounts_of (cond b (Some one) (find (λ found. nat_eq other (counted found.count)) rest)) + 1
+    by true later = mounted_more filesystem one
+    by false later = later
+
+-- two uses of an inode at the most, and one mount of a filesystem
+uses_at : (point : Option Location) (other : Inode) (all : List Shown)
+    → uses_shown other (pinned_at point all) ≤ uses_shown other all + 1
+uses_at None other all = omega arith
+uses_at (Some point) other all = pinned_uses (inode_of point.node) other all
+
+pub mounts_at : (point : Option Location) (other : ℕ) (all : List Shown)
+    → mounts_shown other (pinned_at point all) ≡ mounts_shown other all
+mounts_at None other all = refl
+mounts_at (Some point) other all = pinned_mounts (inode_of point.node) other all
+
+uses_by : (mount : Mount) (other : Inode) (all : List Shown)
+    → uses_shown other (shown_by all mount) ≤ uses_shown other all + 2
+uses_by mount other all =
+    let mounted = mounted_uses (counted mount.root.filesystem.count) other
+    (pinned_at mount.mount_point (pinned_in (inode_of mount.root) all)) in
+    let point = uses_at mount.mount_point other (pinned_in (inode_of mount.root) all) in
+    let root = pinned_uses (inode_of mount.root) other all in
+    omega (arith, mounted, point, root)
+
+mounts_by : (mount : Mount) (other : ℕ) (all : List Shown)
+    → mounts_shown other (shown_by all mount) ≤ mounts_shown other all + 1
+mounts_by mount other all =
+    let mounted = mounted_mounts (counted mount.root.filesystem.count) other
+    (pinned_at mount.mount_point (pinned_in (inode_of mount.root) all)) in
+    let point = mounts_at mount.mount_point other (pinned_in (inode_of mount.root) all) in
+    let root = pinned_mounts (inode_of mount.root) other all in
+    omega (arith, mounted, point, root)
+
+pub uses_by_all : (new : List Mount) (other : Inode) (all : List Shown)
+    → uses_shown other (folded shown_by all new) ≤ uses_shown other all + 2 * length new
+uses_by_all [] other all = omega arith
+uses_by_all (mount ∷ new) other all =
+    let rest = uses_by_all new other (shown_by all mount) in
+    let first = uses_by mount other all in
+    omega (arith, rest, first)
+
+pub mounts_by_all : (new : List Mount) (other : ℕ) (all : List Shown)
+    → mounts_shown other (folded shown_by all new) ≤ mounts_shown other all + length new
+mounts_by_all [] other all = omega arith
+mounts_by_all (mount ∷ new) other all =
+    let rest = mounts_by_all new other (shown_by all mount) in
+    let first = mounts_by mount other all in
+    omega (arith, rest, first)
+
+-- Where there is room for all before the first, there is room for each when its turn comes.
+module _ (before : List Mount) (size : ℕ) (all : List Shown) (few : length before < size)
+    (fits : 2 * size ≤ most_counted) where
+  point_later : (point : Option Location) → point_has_room (most_counted - 2 * size) all point ≡ true
+      → point_has_room (most_counted - 2) (folded shown_by all before) point ≡ true
+  point_later None room = refl
+  point_later (Some point) room =
+      let was = leb-true (uses_shown (inode_of point.node) all) (most_counted - 2 * size) room in
+      let more = uses_by_all before (inode_of point.node) all in
+      le-leb (uses_shown (inode_of point.node) (folded shown_by all before)) (most_counted - 2)
+      (omega (arith, was, more, few, fits))
+
+  pub room_later : (mount : Mount) → has_room (most_counted - 2 * size) all mount ≡ true
+      → has_room (most_counted - 2) (folded shown_by all before) mount ≡ true
+  room_later mount room =
+      let first = and_parts (nat_le (uses_shown (inode_of mount.root) all) (most_counted - 2 * size)
+      && point_has_room (most_counted - 2 * size) all mount.mount_point) _ room in
+      let second = and_parts (nat_le (uses_shown (inode_of mount.root) all) (most_counted - 2 * size)) _ first.0 in
+      let root = leb-true (uses_shown (inode_of mount.root) all) (most_counted - 2 * size) second.0 in
+      let root_more = uses_by_all before (inode_of mount.root) all in
+      let mounts = leb-true (mounts_shown (counted mount.root.filesystem.count) all)
+      (most_counted - 2 * size) first.1 in
+      let mounts_more = mounts_by_all before (counted mount.root.filesystem.count) all in
+      λ i. le-leb (uses_shown (inode_of mount.root) (folded shown_by all before)) (most_counted - 2)
+      (omega (arith, root, root_more, few, fits)) i
+      && point_later mount.mount_point second.1 i
+      && le-leb (mounts_shown (counted mount.root.filesystem.count) (folded shown_by all before)) (most_counted - 2)
+      (omega (arith, mounts, mounts_more, few, fits)) i
+
+pub room_at : (new : List Mount) (all now : List Shown) (i : ℕ) (d : Mount) → i < length new
+    → 2 * length new ≤ most_counted
+    → list_all (has_room (most_counted - 2 * length new) all) new ≡ true → now ≡ folded shown_by all (take i new)
+    → has_room (most_counted - 2) now (get_or new i d) ≡ true
+room_at new all now i d less fits room so_far =
+    subst (λ later. has_room (most_counted - 2) later (get_or new i d) ≡ true) (sym so_far)
+    (room_later (take i new) (length new) all
+    (let size = length-take-le i new (omega (arith, less)) in omega (arith, size, less)) fits (get_or new i d)
+    (passes (has_room (most_counted - 2 * length new) all) new room (get_or new i d) (among_at new i d less)))
+
+-- one more at the end
+pub folded_more : {A B : Type 0} (add : B → A → B) (front : List A) (last : A) (b : B)
+    → folded add b (front ++ last ∷ []) ≡ add (folded add b front) last
+folded_more add [] last b = refl
+folded_more add (first ∷ front) last b = folded_more add front last (add b first)
+
+-- What code counts
+
+pub holds : (count : ℕ) (old : Filesystems)
+    → shown (with_changed count (λ entry. record entry { mounts = entry.mounts + 1 }) old)
+    ≡ mounted_in (counted count) (shown old)
+holds count [] = refl
+holds count (entry ∷ rest) =
+    λ i. (by (nat_eq count entry.count)
+    ∙ ap (λ b. cond b (record (shown_entry entry) { mounts = entry.mounts + 1 }) (shown_entry entry))
+    (sym (counted_test count entry.count))) i
+    ∷ holds count rest i
+  where
+    by : (b : Bool) → shown_entry (cond b (record entry { mounts = entry.mounts + 1 }) entry)
+        ≡ cond b (record (shown_entry entry) { mounts = entry.mounts + 1 }) (shown_entry entry)
+    by true = refl
+    by false = refl
+
+-- what is refused at the most alone is not refused below
+pub not_refused : {E : Type 0} (result : Result ⊤ E) (P Q : Type 0) → (IsErr result → Q)
+    → OnOk result P → (Q → ⊥) → P
+not_refused (Ok value) P Q limit ok less = ok
+not_refused (Err refused) P Q limit ok less = absurd (less (limit refl))
+
+-- the parts of room
+pub root_has_room : (most : ℕ) (filesystems : Filesystems) (mount : Mount)
+    → has_room most (shown filesystems) mount ≡ true
+    → uses_in ((inodes_at filesystems mount.root.filesystem.count).inode (number_of mount.root)) ≤ most
+root_has_room most filesystems mount room =
+    let first = and_parts (nat_le (uses_shown (inode_of mount.root) (shown filesystems)) most
+    && point_has_room most (shown filesystems) mount.mount_point) _ room in
+    let second = and_parts (nat_le (uses_shown (inode_of mount.root) (shown filesystems)) most) _ first.0 in
+    subst (λ n. n ≤ most) (sym (uses_are_shown mount.root.filesystem.count (number_of mount.root) filesystems))
+    (leb-true _ most second.0)
+
+pub filesystem_has_room : (most : ℕ) (all : List Shown) (mount : Mount) → has_room most all mount ≡ true
+    → mounts_shown (counted mount.root.filesystem.count) all ≤ most
+filesystem_has_room most all mount room =
+    leb-true _ most (and_parts (nat_le (uses_shown (inode_of mount.root) all) most
+    && point_has_room most all mount.mount_point) _ room).1
+
+-- one use more leaves room for one less
+pub point_room_left : (all : List Shown) (mount : Mount) → has_room (most_counted - 2) all mount ≡ true
+    → point_has_room (most_counted - 1) (pinned_in (inode_of mount.root) all) mount.mount_point ≡ true
+point_room_left all mount room =
+    by mount.mount_point
+    (and_parts (nat_le (uses_shown (inode_of mount.root) all) (most_counted - 2)) _
+    (and_parts (nat_le (uses_shown (inode_of mount.root) all) (most_counted - 2)
+    && point_has_room (most_counted - 2) all mount.mount_point) _ room).0).1
+  where
+    by : (o : Option Location) → point_has_room (most_counted - 2) all o ≡ true
+        → point_has_room (most_counted - 1) (pinned_in (inode_of mount.root) all) o ≡ true
+    by None e = refl
+    by (Some point) e =
+        let was = leb-true (uses_shown (inode_of point.node) all) (most_counted - 2) e in
+        let more = pinned_uses (inode_of mount.root) (inode_of point.node) all in
+        le-leb (uses_shown (inode_of point.node) (pinned_in (inode_of mount.root) all)) (most_counted - 1)
+        (omega (arith, was, more))

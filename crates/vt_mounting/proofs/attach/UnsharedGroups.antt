@@ -1,0 +1,71 @@
+-- The groups of an unshare before the old namespace is left: each copy is in those of the mount that it copies.
+use Rattle.std.proofs.Common.{◌≡◌, refl, sym, ap, subst, ◌∙◌, inl, ℕ, nat_eq, true, List, [], ◌++◌, map, Option, Some, is_some}
+use Rattle.vt_spec.specs.Language.Calls.{TaskName}
+use Rattle.vt_spec.specs.Lists.{holds_of}
+use Rattle.vt_spec.specs.Machine.Mounts.{Mount, group_of}
+use Rattle.vt_spec.specs.Machine.Receives.{has_members, is_member_of}
+use Rattle.vt_spec.specs.Machine.Run.{Serves}
+use Rattle.vt_spec.specs.Machine.World.{Task, World, task_called}
+use Rattle.vt_group.specs.Grouping.{Grouping, Has, HasGroup, are_rising}
+use Rattle.vt_group.specs.Laws.{typed_by}
+use Rattle.vt_group.specs.Together.{Grows, GrowsTo, typed}
+use Rattle.vt_laws_mounts.proofs.letting_go.Lists.{Among, all_from_among, among-map, any_passes, map_same, one_passes}
+use Rattle.vt_location.specs.declared.mounts.Mount.{Mount as Attached}
+use Rattle.vt_location.specs.MountValue.{mount_of}
+use Rattle.vt_location.specs.Numbers.{counted}
+use Rattle.vt_mount.specs.MountsValue.{MountEntry, mounts_in}
+use Rattle.vt_laws_trees.specs.Runs.Handed.{counts_from}
+use Rattle.vt_mounting.specs.Attach.AttachedGroups.{type_of}
+use Rattle.vt_world.specs.Held.{IsHeld}
+use Rattle.vt_retype.specs.Retyping.{AreTyped}
+use Rattle.vt_world.specs.WorldValue.{WorldValue, world_of}
+use Rattle.vt_mounting.proofs.detach.FollowedTypes.{world_typed}
+use Rattle.vt_mounting.proofs.attach.GrownGroups.{attached_worlds_grow}
+use Rattle.vt_mounting.proofs.attach.UnsharedWorlds as Worlds
+use Rattle.vt_spec.proofs.Lists.{map_twice}
+use Rattle.vt_laws_mounts.specs.Mounts.Attaching.{numbers_of}
+
+module _ (value : WorldValue) (whole : IsHeld value) (name : TaskName) (task : Task ℕ)
+    (found : task_called (world_of value) name ≡ Some task)
+    (serves : Serves nat_eq (world_of value) (counts_from value.next)) (count : ℕ)
+    (in_namespace : counted count ≡ task.namespace) (copies : List Attached)
+    (same : map mount_of copies ≡ Worlds.copies value whole name task found serves count in_namespace)
+    (rising : are_rising (numbers_of ((world_of value).mounts ++ map mount_of copies)) ≡ true)
+    (grown : Grouping) (grows : GrowsTo value.groups grown (map typed copies) []) where
+  abbrev world : World ℕ
+  world = world_of value
+
+  abbrev base : World ℕ
+  base = Worlds.base value whole name task found serves count in_namespace (map mount_of copies) same
+
+  -- a group of a copy was there
+  was_there : (group : ℕ) → has_members nat_eq (map mount_of copies) group ≡ true → HasGroup world group
+  was_there group has =
+      let member = one_passes (is_member_of nat_eq group) (map mount_of copies) has in
+      let from = Worlds.copy_of value whole name task found serves count in_namespace (map mount_of copies) same
+      member.0 member.1 in
+      any_passes (is_member_of nat_eq group) world.mounts from.0 from.1
+      (ap (λ kind. holds_of (nat_eq group) (group_of kind)) (sym from.3) ∙ member.2)
+
+  pub base_has : Has base grown
+  base_has =
+      grows world base whole.groups
+      (subst (λ types. Grows world base types []) (map_twice type_of mount_of copies)
+      (attached_worlds_grow world base (λ mount. mount) (map mount_of copies) [] (record {
+        mounts = ap (λ front. front ++ map mount_of copies)
+            (sym (map_same (λ (mount : Mount ℕ). mount) world.mounts (λ mount m. refl)));
+        number = λ mount. refl;
+        kind = λ mount. refl;
+        order = rising;
+        master = λ group. refl;
+        begin = all_from_among (λ (entry : ℕ × Option ℕ). is_some entry.1 ≡ true
+            → has_members nat_eq (map mount_of copies) entry.0 ≡ true) [] (λ entry m. absurd m);
+        named = λ group has. inl (was_there group has);
+      })))
+
+  -- each mount has the type that they tell
+  pub base_typed : (entries : List MountEntry) → mounts_in entries ≡ base.mounts → AreTyped grown entries
+  base_typed entries are =
+      all_from_among (λ (entry : MountEntry). typed_by grown entry.mount ≡ entry.mount) entries (λ entry m.
+      world_typed grown base base_has entry.mount
+      (subst (Among entry.mount) are (among-map (λ (one : MountEntry). one.mount) entries entry m)))

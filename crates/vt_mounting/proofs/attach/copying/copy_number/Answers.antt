@@ -1,0 +1,15 @@
+use Rattle.std.proofs.Common.{ap, rules, ◌∙◌}
+use Rattle.std.proofs.lemmas.List.Sorted.{answers_always}
+use Rattle.vt_location.specs.Numbers.{counted}
+use Rattle.vt_mount.proofs.AttachedLemmas.{found_place}
+use Rattle.vt_mounting.proofs.attach.CopyLemmas.{numbered_so}
+use Rattle.vt_mounting.proofs.attach.copying.copy_number.Goals as goal
+
+pub returns : goal.returns
+returns c =
+    let facts = c.binary_search_by_key.ensures in
+    let by_key = facts.position (λ id. id.count) (answers_always _ _ _ (λ f a r g called. search rules)) in
+    let place = c.unwrap_or-place.ensures
+    ∙ found_place c.args.originals.now c.requires.order c.args.id.count c.args.id c.binary_search_by_key.result facts.bound by_key in
+    λ all are. ap (λ id. counted id.count) c.new.ensures
+    ∙ numbered_so c.args.next c.args.id c.args.originals.now c.unwrap_or-place.result place all are

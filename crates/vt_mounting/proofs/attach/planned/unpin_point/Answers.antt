@@ -1,0 +1,14 @@
+use Rattle.std.proofs.Common.{ap, sym, ◌∙◌}
+use Rattle.std.specs.Prelude.{option_to_list}
+use Rattle.vt_fs.specs.FilesystemsValue.{shown}
+use Rattle.vt_location.specs.Locations.{number_of}
+use Rattle.vt_spec.specs.Lists.{folded}
+use Rattle.vt_mounting.specs.Attach.Planned.{unpinned_by}
+use Rattle.vt_mounting.proofs.detach.Shown.{unpins}
+use Rattle.vt_mounting.proofs.attach.planned.unpin_point.Goals as goal
+
+pub returns-in-Some : goal.returns-in-Some
+returns-in-Some c =
+    let node = c.in-Some.point.node in
+    unpins node.filesystem.count (number_of node) c.args.filesystems.now c.unpin.new.self c.unpin.ensures
+    ∙ ap (λ point. folded unpinned_by (shown c.args.filesystems.now) (option_to_list point)) (sym c.in-Some.is)

@@ -1,0 +1,320 @@
+-- A task enters a namespace: setns(2).
+use Rattle.std.proofs.Common.{◌≡◌, ◌<◌, refl, sym, ap, subst, ◌∙◌, inl, inr, ℕ, ◌+◌, nat_eq, eq-eqb, eqb-true, Bool, true, false, true≢false, cond, not, ◌&&◌, ◌==◌, List, [], ◌∷◌, ◌++◌, length, map, filter, find, Option, Some, None, option_map, is_some, unwrap_or, append_assoc, arith}
+use Rattle.std.specs.Prelude.{IsSome, option_to_list}
+use Rattle.std.specs.List.{list_all}
+use Rattle.std.proofs.lemmas.Bool.{and_parts}
+use Rattle.std.proofs.lemmas.Option.{same_Some}
+use Rattle.vt_spec.specs.Language.Calls.{TaskName}
+use Rattle.vt_spec.specs.Lists.{folded, holds_of}
+use Rattle.vt_spec.specs.Machine.Mounts as meant
+use Rattle.vt_spec.specs.Machine.Mounts.{Mount, root_of, topmost}
+use Rattle.vt_spec.specs.Machine.Namespaces.{entered_at, has_tasks, namespace_root, namespaces_ended}
+use Rattle.vt_spec.specs.Machine.Permits.Permit.{ToEnterNamespace}
+use Rattle.vt_spec.specs.Machine.Run.{numbers_in_use, used_by_filesystem, used_by_mount}
+use Rattle.vt_spec.specs.Machine.World.{Namespace, Task, World, mount_numbered, mounts_of, root_mount, task_called, with_task}
+use Rattle.vt_spec.specs.Machine.Invariants.{has_its_root, has_one_root, is_located_well, is_root_mount}
+use Rattle.vt_fs.specs.FilesystemsValue.{Filesystems}
+use Rattle.vt_group.specs.Grouping.{Grouping}
+use Rattle.vt_laws_rules.proofs.numbers.Supports.{used_numbers_are_named}
+use Rattle.vt_laws_mounts.specs.LettingGo.Counts.{times}
+use Rattle.vt_laws_mounts.proofs.letting_go.Lists.{Among, among-append_right, among-from_filter, among-from_map, among-map, among_from_all, among_numbers, is_among_numbers, passes}
+use Rattle.vt_laws_mounts.proofs.letting_go.leaving.PlacesLeft.{found_itself}
+use Rattle.vt_location.specs.declared.locations.Location.{Location}
+use Rattle.vt_location.specs.Locations.{is_small_node, location_of, number_of}
+use Rattle.vt_location.specs.Numbers.{counted}
+use Rattle.vt_mount.specs.MountsValue.{MountEntry}
+use Rattle.vt_laws_trees.specs.Runs.Handed.{is_counted_before}
+use Rattle.vt_tasks.specs.Counts.{locations_in, one_if}
+use Rattle.vt_tasks.specs.declared.task.Left.{Left}
+use Rattle.vt_tasks.specs.TasksValue.{Tasks, called, changed_by, changed_called, left_by, left_of, replaced}
+use Rattle.vt_laws_worlds.proofs.worlds.Reached.{topmost_found}
+use Rattle.vt_laws_worlds.proofs.worlds.Roots.{directory_there}
+use Rattle.vt_mounting.specs.Detach.Events.{Permits}
+use Rattle.vt_mounting.specs.Detach.Forking.{more_tasks, with_task_more}
+use Rattle.vt_world.specs.Held.{CountsWhatIsInIt, IsHeld}
+use Rattle.vt_mounting.specs.Detach.NamespacesLeft.{MountsAreLeft, namespace_entry, with_one_task_less}
+use Rattle.vt_mounting.specs.Detach.Uses.{Kept, Merged, kept_of, kept_with, overlays_kept, with_location, with_use, without_location}
+use Rattle.vt_world.specs.WorldValue.{NamespaceEntry, WorldValue, namespace_of, world_of}
+use Rattle.vt_mounting.proofs.detach.Departing.{departs}
+use Rattle.vt_mounting.proofs.detach.Exiting.{left_so, located}
+use Rattle.vt_mounting.proofs.detach.FileEvents.{permit_fits}
+use Rattle.vt_mounting.proofs.detach.LocationsSeen.{seen_where_located}
+use Rattle.vt_mounting.proofs.detach.MidwayDone.{leave_use}
+use Rattle.vt_mounting.proofs.detach.Moving.{Moves, gain}
+use Rattle.vt_mounting.proofs.detach.NamespacesEnded.{CountsOneMore, tasks_counted}
+use Rattle.vt_mounting.proofs.detach.Places.{standing}
+use Rattle.vt_mounting.proofs.detach.Shown.{counted_eq_back}
+use Rattle.vt_mounting.proofs.detach.Splits.{IsSplit, locations_around, replaced_split, times_replaced, writes_replaced}
+use Rattle.vt_mounting.proofs.detach.Staying.{IsDone}
+
+-- The root of a namespace is there
+
+pub root_is_located : (value : WorldValue) → IsHeld value → (task : Task ℕ) (namespace : ℕ) (root : meant.Location ℕ)
+    → namespace_root nat_eq (world_of value) namespace ≡ Some root → is_located_well nat_eq (world_of value) root ≡ true
+root_is_located value whole task namespace root is = by (root_mount nat_eq (world_of value) namespace) refl is
+  where
+    world : World ℕ
+    world = world_of value
+
+    found_one : (p : Mount ℕ → Bool) (mounts : List (Mount ℕ)) (mount : Mount ℕ) → find p mounts ≡ Some mount
+        → Among mount mounts
+    found_one p [] mount e = absurd cc
+    found_one p (x ∷ xs) mount e = one (p x) e (found_one p xs mount)
+      where
+        one : (b : Bool) → cond b (Some x) (find p xs) ≡ Some mount → (find p xs ≡ Some mount → Among mount xs)
+            → Among mount (x ∷ xs)
+        one true f later = inl (sym (same_Some x mount f))
+        one false f later = inr (later f)
+
+    held : (o : Option ℕ) → holds_of (nat_eq namespace) o ≡ true → list_all (nat_eq namespace) (option_to_list o) ≡ true
+    held None e = refl
+    held (Some n) e = ap (λ b. b && true) e
+
+    by : (o : Option (Mount ℕ)) → root_mount nat_eq world namespace ≡ o
+        → option_map (λ mount. topmost nat_eq world.mounts (root_of mount)) o ≡ Some root
+        → is_located_well nat_eq world root ≡ true
+    by None e f = absurd (none f)
+      where
+        none : None ≡ Some root → ⊥
+        none g = cc
+    by (Some mount) e f =
+        let among = among-from_filter (λ (x : Mount ℕ). holds_of (nat_eq namespace) x.namespace) world.mounts mount
+        (found_one (λ (x : Mount ℕ). not (is_some x.mount_point)) (mounts_of nat_eq world namespace) mount e) in
+        let itself = found_itself world.mounts whole.in_world.mounts.one_number mount among.0 in
+        let directory = (and_parts _ _
+        (passes (has_its_root nat_eq world) world.mounts whole.in_world.roots mount among.0)).0 in
+        let there = topmost_found world whole.in_world (record task { namespace = namespace }) (root_of mount) (
+          (
+            is_among_numbers mount.number (map (λ (x : Mount ℕ). x.number) world.mounts)
+                (among-map (λ (x : Mount ℕ). x.number) world.mounts mount among.0),
+            ap (λ (x : Mount ℕ). list_all (nat_eq namespace) (option_to_list x.namespace)) itself
+                ∙ held mount.namespace among.1,
+          ),
+          ap (λ (x : Mount ℕ). is_some ((Rattle.vt_spec.specs.Machine.World.filesystem_numbered nat_eq world x.filesystem).files.tree.node mount.root)) itself
+              ∙ directory_there _ directory,
+        ) in
+        let same : topmost nat_eq world.mounts (root_of mount) ≡ root = same_Some _ _ f in
+        subst (λ l. is_located_well nat_eq world l ≡ true) same
+        (λ i. there.0.0 i && there.1 i)
+
+-- there is one
+
+nothing_found : (p : Mount ℕ → Bool) (mounts : List (Mount ℕ)) → find p mounts ≡ None → filter p mounts ≡ []
+nothing_found p [] e = refl
+nothing_found p (x ∷ xs) e = by (p x) e (nothing_found p xs)
+  where
+    by : (b : Bool) → cond b (Some x) (find p xs) ≡ None → (find p xs ≡ None → filter p xs ≡ [])
+        → cond b (x ∷ filter p xs) (filter p xs) ≡ []
+    by true f later = absurd cc
+    by false f later = later f
+
+pub namespace_has_a_root : (value : WorldValue) → IsHeld value → (name : TaskName) (count : ℕ) (root : Option Location)
+    → Permits value name (ToEnterNamespace (counted count))
+    → option_map location_of root ≡ namespace_root nat_eq (world_of value) (counted count) → IsSome root
+namespace_has_a_root value whole name count None permits is = absurd
+    (by (root_mount nat_eq world (counted count)) refl is)
+  where
+    world : World ℕ
+    world = world_of value
+
+    one_root : (length (filter (is_root_mount nat_eq) (mounts_of nat_eq world (counted count))) == 1) ≡ true
+    one_root =
+        let from = among-from_map (λ (n : Namespace ℕ). n.number) world.namespaces (counted count)
+        (among_numbers (counted count) (map (λ (n : Namespace ℕ). n.number) world.namespaces)
+        (permit_fits value whole name (ToEnterNamespace (counted count)) permits).names) in
+        ap (λ n. length (filter (is_root_mount nat_eq) (mounts_of nat_eq world n)) == 1) from.2
+        ∙ passes (has_one_root nat_eq world) world.namespaces whole.in_world.namespaces.root_mounts from.0 from.1
+
+    by : (o : Option (Mount ℕ)) → root_mount nat_eq world (counted count) ≡ o
+        → None ≡ option_map (λ mount. topmost nat_eq world.mounts (root_of mount)) o → ⊥
+    by (Some mount) e f = cc
+    by None e f =
+        true≢false
+        (sym one_root ∙ ap (λ (list : List (Mount ℕ)). length list == 1)
+        (nothing_found (is_root_mount nat_eq) (mounts_of nat_eq world (counted count)) e))
+namespace_has_a_root value whole name count (Some root) permits is = refl
+
+-- The task
+
+module _ (value : WorldValue) (whole : IsHeld value) (name : TaskName) (task : Task ℕ)
+    (found : task_called (world_of value) name ≡ Some task)
+    (count : ℕ) (root : meant.Location ℕ) (well : is_located_well nat_eq (world_of value) root ≡ true) where
+  abbrev world : World ℕ
+  world = world_of value
+
+  abbrev entered : Task ℕ
+  entered = entered_at task (counted count) root
+
+  abbrev tasks : Tasks
+  tasks = replaced entered value.tasks
+
+  abbrev split : IsSplit task entered value.tasks tasks
+  split = replaced_split name value.tasks task entered whole.in_world.tasks.one_task found refl
+
+  abbrev files : List (meant.Location ℕ)
+  files = map (λ (d : Rattle.vt_spec.specs.Machine.World.Descriptor ℕ). d.location) task.descriptors
+
+  pub enter_moves : Moves value tasks (standing root ∷ standing root ∷ [])
+      (standing task.root ∷ standing task.directory ∷ [])
+  enter_moves = record {
+    front = locations_in split.front;
+    back = files ++ locations_in split.back;
+    was = ap locations_in split.was ∙ locations_around split.front task split.back;
+    is = ap locations_in split.is ∙ locations_around split.front entered split.back;
+    there = λ i. well i && (well i && true);
+    writes = λ mount.
+        let moved = writes_replaced name value.tasks task entered whole.in_world.tasks.one_task found refl mount in
+        omega (arith, moved);
+  }
+
+  -- one task more there, and one less where it was
+  pub enter_counts : (left : ℕ) → task.namespace ≡ counted left → (entry : NamespaceEntry)
+      → Among entry (with_task_more count value.namespaces)
+      → CountsOneMore left tasks entry
+  enter_counts left its entry m =
+      let from = among-from_map (λ (e : NamespaceEntry). cond (nat_eq count e.count)
+      (more_tasks e) e) value.namespaces entry m in
+      subst (CountsOneMore left tasks) (sym from.2) (one from.0 from.1 (nat_eq count from.0.count) refl)
+    where
+      one : (e : NamespaceEntry) → Among e value.namespaces → (b : Bool) → nat_eq count e.count ≡ b
+          → CountsOneMore left tasks (cond b (more_tasks e) e)
+      one e n b is =
+          let had = (among_from_all (CountsWhatIsInIt world) value.namespaces whole.namespaces e n).tasks in
+          let moved = times_replaced name value.tasks task entered whole.in_world.tasks.one_task found refl
+          (λ (other : Task ℕ). nat_eq (counted e.count) other.namespace) in
+          let come : one_if (nat_eq (counted e.count) (counted count))
+          ≡ cond b 1 0 = ap one_if (counted_eq_back e.count count ∙ is) in
+          let gone : one_if (nat_eq (counted e.count) task.namespace) ≡ cond (nat_eq left e.count) 1 0 =
+          ap (λ k. one_if (nat_eq (counted e.count) k)) its ∙ ap one_if (counted_eq_back e.count left) in
+          let some : nat_eq e.tasks 0 ≡ false = ap (λ k. nat_eq k 0) had
+          ∙ tasks_counted (counted e.count) value.tasks
+          (passes (has_tasks nat_eq world) world.namespaces whole.in_world.namespaces.namespaces_live (namespace_of e)
+          (among-map namespace_of value.namespaces e n)) in
+          by b (e.tasks + cond b 1 0) refl
+          (let all : e.tasks + cond b 1 0
+          ≡ times (λ (other : Task ℕ). nat_eq (counted e.count) other.namespace) tasks + cond
+          (nat_eq left e.count) 1 0 =
+          omega (arith, had, moved, come, gone) in all) some
+        where
+          by : (b : Bool) (n : ℕ) → n ≡ e.tasks + cond b 1 0
+              → n ≡ times (λ (other : Task ℕ). nat_eq (counted e.count) other.namespace) tasks + cond
+              (nat_eq left e.count) 1 0 → nat_eq e.tasks 0 ≡ false
+              → CountsOneMore left tasks (cond b (more_tasks e) e)
+          by true n is all some = record {
+            inside = sym is ∙ all;
+            some = Rattle.std.proofs.Common.ne_eqb (e.tasks + 1) 0
+                (λ z. let zero : e.tasks + 1 ≡ 0 = z in absurd (omega (arith, zero)));
+          }
+          by false n is all some = record {
+            inside = (let same : e.tasks ≡ n = omega (arith, is) in same) ∙ all;
+            some = some;
+          }
+
+pub same_namespaces_more : (count : ℕ) (all : List NamespaceEntry)
+    → map namespace_of all ≡ map namespace_of (with_task_more count all)
+same_namespaces_more count [] = refl
+same_namespaces_more count (e ∷ es) = λ i. one (nat_eq count e.count) i ∷ same_namespaces_more count es i
+  where
+    one : (b : Bool) → namespace_of e ≡ namespace_of (cond b (more_tasks e) e)
+    one true = refl
+    one false = refl
+
+-- a namespace that is listed has a number that was given out
+listed_is_named : (value : WorldValue) → IsHeld value → (namespace : ℕ)
+    → Rattle.vt_spec.specs.Machine.Invariants.is_listed nat_eq (world_of value) namespace ≡ true
+    → is_counted_before value.next namespace ≡ true
+listed_is_named value whole namespace listed =
+    used_numbers_are_named (is_counted_before value.next) (world_of value) whole.given
+    (3, 7, (λ e. absurd (omega (arith, e))), refl, refl) namespace
+    (is_among_numbers namespace (numbers_in_use (world_of value))
+    (among-append_right (Rattle.std.proofs.Common.flat_map used_by_mount (world_of value).mounts
+    ++ Rattle.std.proofs.Common.flat_map used_by_filesystem (world_of value).filesystems)
+    (map (λ (n : Namespace ℕ). n.number) (world_of value).namespaces) namespace
+    (among_numbers namespace (map (λ (n : Namespace ℕ). n.number) (world_of value).namespaces) listed)))
+
+-- what code holds is what the definitions name
+held_so : (value : WorldValue) → IsHeld value → (at : Location) (k : Kept) → is_small_node at.node ≡ true
+    → is_located_well nat_eq (world_of value) (location_of at) ≡ true
+    → with_location at false k ≡ gain (world_of value) k (standing (location_of at))
+held_so value whole at k few well =
+    λ i. with_use (counted at.mount.count)
+    (sym (seen_where_located value whole at few well) i, number_of at.node) false k
+
+pub task_enters : (value : WorldValue) (name : TaskName) (count : ℕ) (root : Location) (left : Left)
+    (mounts : List MountEntry) (groups : Grouping) (filesystems : Filesystems) (overlays : List Merged)
+    (namespaces : List NamespaceEntry)
+    (new_tasks : Tasks) (k : Kept)
+    → IsHeld value → Permits value name (ToEnterNamespace (counted count))
+    → Some (location_of root) ≡ namespace_root nat_eq (world_of value) (counted count)
+    → is_small_node root.node ≡ true → is_small_node left.root.node ≡ true
+    → is_small_node left.directory.node ≡ true
+    → Some (left_of left) ≡ option_map left_by (called name value.tasks)
+    → new_tasks ≡ changed_called name (λ task. entered_at task (counted count) (location_of root)) value.tasks
+    → k ≡ without_location left.directory false (without_location left.root false
+    (with_location root false (with_location root false (kept_of value))))
+    → namespaces ≡ with_one_task_less left.namespace.count (with_task_more count value.namespaces)
+    → MountsAreLeft (counted left.namespace.count)
+    (namespace_entry left.namespace.count (with_task_more count value.namespaces)) k value.groups
+    (kept_with mounts filesystems overlays) groups
+    → IsDone value name (ToEnterNamespace (counted count))
+    (record value {
+      mounts = mounts;
+      groups = groups;
+      filesystems = filesystems;
+      overlays = overlays_kept overlays value.overlays;
+      namespaces = namespaces;
+      tasks = new_tasks;
+    })
+task_enters value name count root left mounts groups filesystems overlays namespaces new_tasks k whole permits root_is few few_root few_directory left_is are k_is namespaces_are mounts_are =
+    let task = permits.task in
+    let world = world_of value in
+    let place = location_of root in
+    let well = root_is_located value whole task (counted count) place (sym root_is) in
+    let same : left_of left ≡ left_by task = same_Some _ _ (left_is ∙ ap (option_map left_by) permits.called) in
+    let namespace_is : task.namespace ≡ counted left.namespace.count = ap (λ one. one.0) (sym same) in
+    let at_root : location_of left.root ≡ task.root = ap (λ one. one.1) same in
+    let at_directory : location_of left.directory ≡ task.directory = ap (λ one. one.2) same in
+    let located_so = located value whole name task permits.called in
+    let old = kept_of value in
+    let held = gain world (gain world old (standing place)) (standing place) in
+    let k_so : k ≡ folded (leave_use world) held (standing task.root ∷ standing task.directory ∷ []) =
+    k_is
+    ∙ ap (λ one. without_location left.directory false (without_location left.root false one))
+    (ap (with_location root false) (held_so value whole root old few well)
+    ∙ held_so value whole root (gain world old (standing place)) few well)
+    ∙ ap (without_location left.directory false)
+    (left_so value whole left.root false held few_root
+    (ap (is_located_well nat_eq world) at_root ∙ located_so task.root (inl refl))
+    ∙ ap (λ l. leave_use world held (standing l)) at_root)
+    ∙ left_so value whole left.directory false (leave_use world held (standing task.root)) few_directory
+    (ap (is_located_well nat_eq world) at_directory ∙ located_so task.directory (inr (inl refl)))
+    ∙ ap (λ l. leave_use world (leave_use world held (standing task.root)) (standing l)) at_directory in
+    subst (λ all. IsDone value name (ToEnterNamespace (counted count))
+    (record value {
+      mounts = mounts;
+      groups = groups;
+      filesystems = filesystems;
+      overlays = overlays_kept overlays value.overlays;
+      namespaces = namespaces;
+      tasks = all;
+    }))
+    (sym (are ∙ ap (changed_by (λ one. entered_at one (counted count) place) value.tasks) permits.called))
+    (departs value whole (replaced (entered_at task (counted count) place) value.tasks)
+    (standing place ∷ standing place ∷ []) (standing task.root ∷ standing task.directory ∷ [])
+    (enter_moves value whole name task permits.called count place well)
+    left.namespace.count (with_task_more count value.namespaces)
+    (enter_counts value whole name task permits.called count place well left.namespace.count namespace_is)
+    (same_namespaces_more count value.namespaces) filesystems overlays namespaces namespaces_are
+    name (ToEnterNamespace (counted count)) task
+    (record {
+      called = permits.called;
+      given = permits.given;
+      named = listed_is_named value whole (counted count)
+          (permit_fits value whole name (ToEnterNamespace (counted count)) permits).names;
+      applied = λ fresh. ap (λ o. namespaces_ended nat_eq
+          (with_task world (entered_at task (counted count) (unwrap_or o task.root)))) (sym root_is);
+    })
+    mounts groups
+    (subst (λ one. MountsAreLeft (counted left.namespace.count)
+    (namespace_entry left.namespace.count (with_task_more count value.namespaces)) one
+    value.groups (kept_with mounts filesystems overlays) groups) k_so mounts_are))

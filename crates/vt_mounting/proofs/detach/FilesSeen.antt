@@ -1,0 +1,252 @@
+-- The filesystem that a location of the code's world is in, by what is kept of it.
+use Rattle.std.proofs.Common.{◌≡◌, refl, sym, ap, ◌∙◌, ⊎_elim, inl, inr, true≢false, ℕ, ◌<◌, ◌%◌, nat_eq, eq-eqb, eqb-true, Bool, true, false, cond, ◌||◌, ◌&&◌, List, [], ◌∷◌, ◌++◌, map, flat_map, Some, is_some, unwrap_or, arith}
+use Rattle.std.specs.Prelude.{All, nat_lt, option_to_list, ◌/◌}
+use Rattle.std.proofs.lemmas.Bool.{and_parts, or_parts}
+use Rattle.std.proofs.lemmas.List.Elements.{All-head, All-tail}
+use Rattle.std.specs.List.{list_any}
+use Rattle.vt_spec.specs.Lists.{any_pair, is_among}
+use Rattle.vt_spec.specs.Machine.Mounts.{Mount, source_of}
+use Rattle.vt_spec.specs.Machine.Run.{used_by_filesystem, used_by_mount}
+use Rattle.vt_spec.specs.Machine.World.{Filesystem, Namespace, filesystem_at, filesystem_numbered, is_overlay, mount_at}
+use Rattle.vt_spec.specs.Machine.Invariants.{is_located_well}
+use Rattle.vt_spec.specs.Inodes.{Inodes, node_in}
+use Rattle.vt_spec.specs.TreeInvariant.{IsTree}
+use Rattle.vt_fs.specs.FilesystemsValue.{FilesystemEntry, Filesystems, entry_of, files_at, filesystem_seen, filesystems_seen, inodes_at, inodes_seen, no_entry}
+use Rattle.vt_laws_rules.specs.Numbers.{location_named}
+use Rattle.vt_laws_rules.proofs.numbers.Supports.{used_numbers_are_named}
+use Rattle.vt_laws_mounts.proofs.letting_go.Lists.{Among, among_from_all, among-map, fails}
+use Rattle.vt_location.specs.declared.locations.Location.{Location}
+use Rattle.vt_location.specs.declared.locations.NodeRef.{NodeRef}
+use Rattle.vt_location.specs.declared.births.Birth.TheVariants.{Here}
+use Rattle.vt_location.specs.Births.{born_in}
+use Rattle.vt_location.specs.Locations.{location_of, number_of}
+use Rattle.vt_location.specs.Numbers.{counted, inode_number, is_own_number}
+use Rattle.vt_location.proofs.NodeLemmas.{own_birth, own_count}
+use Rattle.vt_location.proofs.NumberLemmas.{counted_same, counted_test}
+use Rattle.vt_laws_trees.specs.Runs.Handed.{is_counted_before}
+use Rattle.vt_world.specs.Held.{HasOwnInodes, IsHeld}
+use Rattle.vt_world.specs.WorldValue.{WorldValue, world_of}
+use Rattle.vt_mounting.proofs.detach.Overlaid.{found_plain_one, plain_one_among}
+use Rattle.vt_mounting.proofs.detach.PlainFound.{found_where_plain}
+use Rattle.vt_mounting.proofs.detach.FilesystemsFound.{found as filesystem_found, found_if}
+use Rattle.vt_laws_worlds.proofs.permits.in_use.InUseServes.{leaves_two}
+use Rattle.vt_spec.proofs.Found.{is_among_left}
+
+-- Filesystems by their counts
+
+-- no two have one count
+pub one_entry : (fs : Filesystems)
+    → any_pair (λ (a b : Filesystem ℕ). nat_eq a.number b.number) (filesystems_seen fs) ≡ false
+    → (entry : FilesystemEntry) → Among entry fs → entry_of fs entry.count ≡ Some entry
+one_entry [] one entry m = absurd m
+one_entry (first ∷ rest) one entry m =
+    let parts = or_parts (list_any (λ (b : Filesystem ℕ). nat_eq (counted first.count) b.number)
+    (filesystems_seen rest))
+    (any_pair (λ (a b : Filesystem ℕ). nat_eq a.number b.number) (filesystems_seen rest)) one in
+    by parts.0 (nat_eq entry.count first.count) refl m (λ n. one_entry rest parts.1 entry n)
+  where
+    by : list_any (λ (b : Filesystem ℕ). nat_eq (counted first.count) b.number) (filesystems_seen rest) ≡ false
+        → (b : Bool) → nat_eq entry.count first.count ≡ b → Among entry (first ∷ rest)
+        → (Among entry rest → entry_of rest entry.count ≡ Some entry)
+        → cond b (Some first) (entry_of rest entry.count) ≡ Some entry
+    by others true e n next =
+        ⊎_elim (λ same. ap Some (sym same))
+        (λ later. absurd (true≢false
+        (sym (eq-eqb (counted first.count) (counted entry.count)
+        (ap counted (sym (eqb-true entry.count first.count e))))
+        ∙ fails (λ (b : Filesystem ℕ). nat_eq (counted first.count) b.number) (filesystems_seen rest) others
+        (filesystem_seen entry)
+        (among-map filesystem_seen rest entry later)))) n
+    by others false e n next =
+        ⊎_elim (λ same. absurd (true≢false (sym (eq-eqb entry.count first.count (ap (λ x. x.count) same)) ∙ e))) next n
+
+-- The filesystem with a number, and an inode that is in it
+pub record IsSeenIn (fs : Filesystems) (number inode : ℕ) : Type 0 where
+  pub entry : FilesystemEntry
+  pub among : Among entry fs
+  pub found : entry_of fs entry.count ≡ Some entry
+  pub number_is : number ≡ counted entry.count
+  pub own : is_own_number entry.count inode ≡ true
+
+-- an inode that is found stands in a filesystem of code
+pub seen_in : (fs : Filesystems) → All HasOwnInodes fs → (number inode : ℕ)
+    → is_some ((filesystem_found fs number).files.tree.node inode) ≡ true → IsSeenIn fs number inode
+seen_in [] own number inode there = absurd (true≢false (sym there))
+seen_in (x ∷ fs) own number inode there =
+    by (nat_eq number (counted x.count)) refl there (seen_in fs (All-tail HasOwnInodes x fs own) number inode)
+  where
+    here : (b : Bool) → is_own_number x.count inode ≡ b → is_some ((filesystem_seen x).files.tree.node inode) ≡ true
+        → is_own_number x.count inode ≡ true
+    here true e there = e
+    here false e there =
+        absurd (true≢false (sym there ∙ ap (λ o. is_some (node_in o)) (All-head HasOwnInodes x fs own inode e)))
+
+    by : (b : Bool) → nat_eq number (counted x.count) ≡ b
+        → is_some ((found_if b x fs number).files.tree.node inode) ≡ true
+        → (is_some ((filesystem_found fs number).files.tree.node inode) ≡ true → IsSeenIn fs number inode)
+        → IsSeenIn (x ∷ fs) number inode
+    by true e there rest = record {
+      entry = x;
+      among = inl refl;
+      found = ap (λ b. cond b (Some x) (entry_of fs x.count)) (eq-eqb x.count x.count refl);
+      number_is = eqb-true number (counted x.count) e;
+      own = here (is_own_number x.count inode) refl there;
+    }
+    by false e there rest = let later = rest there in record {
+      entry = later.entry;
+      among = inr later.among;
+      found =
+          ap (λ b. cond b (Some x) (entry_of fs later.entry.count))
+          (sym (counted_test later.entry.count x.count) ∙ ap (λ n. nat_eq n (counted x.count)) (sym later.number_is)
+          ∙ e)
+          ∙ later.found;
+      number_is = later.number_is;
+      own = later.own;
+    }
+
+-- Numbers that are counted before the next one
+
+-- the number of a node was counted
+inodes_named : (next f slot : ℕ) → is_counted_before next (inode_number f slot) ≡ true
+inodes_named next f slot = ap (λ b. b || is_counted_before_odd) (eq-eqb (inode_number f slot % 2) 0 (omega arith))
+  where
+    is_counted_before_odd : Bool
+    is_counted_before_odd =
+        nat_eq (inode_number f slot % 4) 1 && nat_lt (inode_number f slot / 4) next
+
+pub nodes_named : (next : ℕ) (node : NodeRef) → is_counted_before next (number_of node) ≡ true
+nodes_named next node = inodes_named next (born_in node.filesystem.count node.birth) node.slot
+
+true_or : (a b : Bool) → b ≡ true → (a || b) ≡ true
+true_or true b e = refl
+true_or false b e = e
+
+among_goes_on : (n : ℕ) (a b c : List ℕ) → is_among nat_eq n (b ++ c) ≡ true → is_among nat_eq n ((a ++ b) ++ c) ≡ true
+among_goes_on n [] b c m = m
+among_goes_on n (x ∷ a) b c m = true_or (nat_eq n x) (is_among nat_eq n ((a ++ b) ++ c)) (among_goes_on n a b c m)
+
+-- mounts that are there are in use
+used_mount : (n : ℕ) (mounts : List (Mount ℕ)) (rest : List ℕ)
+    → is_among nat_eq n (map (λ (mount : Mount ℕ). mount.number) mounts) ≡ true
+    → is_among nat_eq n (flat_map used_by_mount mounts ++ rest) ≡ true
+used_mount n [] rest m = absurd (true≢false (sym m))
+used_mount n (first ∷ mounts) rest m = by (nat_eq n first.number) m (used_mount n mounts rest)
+  where
+    by : (b : Bool) → (b || is_among nat_eq n (map (λ (mount : Mount ℕ). mount.number) mounts)) ≡ true
+        → (is_among nat_eq n (map (λ (mount : Mount ℕ). mount.number) mounts) ≡ true
+        → is_among nat_eq n (flat_map used_by_mount mounts ++ rest) ≡ true)
+        → (b || is_among nat_eq n ((option_to_list (source_of first.propagation) ++ flat_map used_by_mount mounts)
+        ++ rest)) ≡ true
+    by true e next = refl
+    by false e next = among_goes_on n (option_to_list (source_of first.propagation))
+        (flat_map used_by_mount mounts) rest (next e)
+
+-- and so was that of a mount
+pub mount_named : (value : WorldValue) → IsHeld value → (number : ℕ)
+    → is_among nat_eq number (map (λ (mount : Mount ℕ). mount.number) (world_of value).mounts) ≡ true
+    → is_counted_before value.next number ≡ true
+mount_named value held number there =
+    used_numbers_are_named (is_counted_before value.next) (world_of value) held.given (leaves_two value.next) number
+    (is_among_left number
+    (flat_map used_by_mount (world_of value).mounts ++ flat_map used_by_filesystem (world_of value).filesystems)
+    (map (λ (namespace : Namespace ℕ). namespace.number) (world_of value).namespaces)
+    (used_mount number (world_of value).mounts (flat_map used_by_filesystem (world_of value).filesystems) there))
+
+-- A location that is there: the filesystem that it is in, as it is kept
+pub record IsLocated (value : WorldValue) (at : Location) : Type 0 where
+  pub entry : FilesystemEntry
+  pub among : Among entry value.filesystems
+  pub found : entry_of value.filesystems entry.count ≡ Some entry
+  pub count_is : entry.count ≡ at.node.filesystem.count
+  pub born_here : at.node.birth ≡ Here
+  pub shows : (mount_at nat_eq (world_of value) (location_of at)).filesystem ≡ counted entry.count
+  pub named : location_named (is_counted_before value.next) (location_of at) ≡ true
+
+-- an inode that is there, where that is no overlay, is one of those that are kept
+pub there_where_plain : (value : WorldValue) → IsHeld value → (number inode : ℕ)
+    → is_overlay (filesystem_numbered nat_eq (world_of value) number) ≡ false
+    → is_some ((filesystem_numbered nat_eq (world_of value) number).files.tree.node inode) ≡ true
+    → is_some ((filesystem_found value.filesystems number).files.tree.node inode) ≡ true
+there_where_plain value held number inode plain there =
+    ap (λ (filesystem : Filesystem ℕ). is_some (filesystem.files.tree.node inode))
+    (sym (found_where_plain value held number plain))
+    ∙ there
+
+-- it is in no overlay
+abbrev pub IsPlainAt : WorldValue → Location → Type 0
+IsPlainAt value at = is_overlay (filesystem_at nat_eq (world_of value) (location_of at)) ≡ false
+
+-- a location of the world that is in no overlay stands in a filesystem of code
+pub located : (value : WorldValue) → IsHeld value → (at : Location) → at.node.slot < 18446744073709551616
+    → IsPlainAt value at
+    → is_located_well nat_eq (world_of value) (location_of at) ≡ true → IsLocated value at
+located value held at small plain there =
+    let parts = and_parts (is_among nat_eq (counted at.mount.count)
+    (map (λ (mount : Mount ℕ). mount.number) (world_of value).mounts)) _ there in
+    let seen = seen_in value.filesystems held.own_inodes (mount_at nat_eq (world_of value) (location_of at)).filesystem
+    (number_of at.node)
+    (there_where_plain value held (mount_at nat_eq (world_of value) (location_of at)).filesystem
+    (number_of at.node) plain parts.1) in
+    record {
+      entry = seen.entry;
+      among = seen.among;
+      found = seen.found;
+      count_is = own_count seen.entry.count at.node small seen.own;
+      born_here = own_birth seen.entry.count at.node small seen.own;
+      shows = seen.number_is;
+      named = λ i. mount_named value held (counted at.mount.count) parts.0 i
+          && nodes_named value.next at.node i;
+    }
+
+-- the definitions find it there
+pub located_filesystem : (value : WorldValue) → IsHeld value → (at : Location) (seen : IsLocated value at)
+    → filesystem_at nat_eq (world_of value) (location_of at) ≡ filesystem_seen seen.entry
+located_filesystem value held at seen =
+    ap (filesystem_numbered nat_eq (world_of value)) seen.shows ∙ found_plain_one value held seen.entry seen.among
+
+-- so it is no overlay
+pub located_plain : (value : WorldValue) → IsHeld value → (at : Location) (seen : IsLocated value at)
+    → IsPlainAt value at
+located_plain value held at seen = ap is_overlay (located_filesystem value held at seen)
+
+-- and so does code
+pub located_inodes : (value : WorldValue) (at : Location) (seen : IsLocated value at)
+    → inodes_at value.filesystems at.node.filesystem.count ≡ inodes_seen seen.entry
+located_inodes value at seen =
+    ap (inodes_at value.filesystems) (sym seen.count_is)
+    ∙ ap (λ found. inodes_seen (unwrap_or found (no_entry seen.entry.count))) seen.found
+
+-- which has the same inodes there
+pub kept_there : (value : WorldValue) → IsHeld value → (at : Location) (seen : IsLocated value at) (number : ℕ)
+    → is_some ((filesystem_at nat_eq (world_of value) (location_of at)).files.tree.node number) ≡ true
+    → is_some ((files_at value.filesystems at.node.filesystem.count).tree.node number) ≡ true
+kept_there value held at seen number there =
+    ap (λ (inodes : Inodes ℕ). is_some (node_in (inodes.inode number))) (located_inodes value at seen)
+    ∙ ap (λ (filesystem : Filesystem ℕ). is_some (filesystem.files.tree.node number))
+    (sym (located_filesystem value held at seen))
+    ∙ there
+
+-- another inode of that filesystem
+pub also_there : (value : WorldValue) → IsHeld value → (at : Location) (seen : IsLocated value at) (object : NodeRef)
+    → object.slot < 18446744073709551616
+    → is_some ((filesystem_at nat_eq (world_of value) (location_of at)).files.tree.node (number_of object)) ≡ true
+    → object.filesystem ≡ at.node.filesystem
+also_there value held at seen object small there =
+    let own = seen_in value.filesystems held.own_inodes (mount_at nat_eq (world_of value) (location_of at)).filesystem
+    (number_of object)
+    (there_where_plain value held (mount_at nat_eq (world_of value) (location_of at)).filesystem (number_of object)
+    (located_plain value held at seen) there)
+    in
+    let same : object.filesystem.count ≡ at.node.filesystem.count =
+    sym (own_count own.entry.count object small own.own)
+    ∙ counted_same own.entry.count seen.entry.count (sym own.number_is ∙ seen.shows)
+    ∙ seen.count_is in
+    λ i. record { count = same i }
+
+-- its tree is one
+pub tree_of_entry : (value : WorldValue) → IsHeld value → (entry : FilesystemEntry) → Among entry value.filesystems
+    → IsTree (filesystem_seen entry).files.tree
+tree_of_entry value held entry m =
+    among_from_all (λ (filesystem : Filesystem ℕ). IsTree filesystem.files.tree)
+    (world_of value).filesystems held.in_world.files.trees
+    (filesystem_seen entry) (plain_one_among value held.overlays.merged entry m)

@@ -1,0 +1,372 @@
+-- Events of tasks after which the mount of a location that was left goes, and its filesystem with its last mount.
+use Rattle.std.proofs.Common.{◌≡◌, refl, sym, ap, subst, ◌∙◌, ⊎_elim, ℕ, ◌+◌, nat_eq, Bool, true, false, cond, not, ◌||◌, List, [], ◌∷◌, ◌++◌, map, filter, is_some}
+use Rattle.std.specs.Prelude.{nat_lt}
+use Rattle.std.proofs.lemmas.Bool.{and_parts}
+use Rattle.std.proofs.lemmas.List.{append-nil}
+use Rattle.vt_spec.specs.Language.Calls.{TaskName}
+use Rattle.vt_spec.specs.Lists.{folded, is_among}
+use Rattle.vt_spec.specs.Machine.Mounts.{Location, Mount}
+use Rattle.vt_spec.specs.Machine.Permits.{Permit}
+use Rattle.vt_spec.specs.Machine.Settled.{is_located, is_mounted, without_dead_filesystems, without_dead_mounts}
+use Rattle.vt_spec.specs.Machine.World.{Filesystem, Task, World, all_locations, is_overlay, mount_numbered}
+use Rattle.vt_spec.specs.Machine.Invariants.{is_located_well}
+use Rattle.vt_laws_mounts.specs.Counts.OverlaysStay.{layer_count, mounted_layer_count}
+use Rattle.vt_laws_mounts.specs.Counts.Using.{Exchanges, exchanged}
+use Rattle.vt_laws_mounts.proofs.counts.going.Gone.{mount_takes_its_count}
+use Rattle.vt_laws_mounts.proofs.counts.using.MountRoots as Roots
+use Rattle.vt_laws_mounts.proofs.counts.using.Places.{exchanges_follow}
+use Rattle.vt_fs.specs.FilesystemsValue.{FilesystemEntry, Filesystems, Shown, filesystem_seen, inodes_seen, shown, shown_entry}
+use Rattle.vt_laws_mounts.specs.LettingGo.Counts.{mount_uses, mounts_showing, times}
+use Rattle.vt_laws_mounts.specs.LettingGo.Keeping.{LocationsStand}
+use Rattle.vt_laws_mounts.specs.LettingGo.Leaving.{MountsStand}
+use Rattle.vt_laws_mounts.specs.LettingGo.Mounting.{inode_at}
+use Rattle.vt_laws_mounts.specs.LettingGo.OneByOne.{Inode, is_mount_used, without_mount}
+use Rattle.vt_laws_mounts.proofs.letting_go.Lists.{Among, all_from_among, all_pass, among-append, among-append_left, among-append_right, among-from_filter, among-from_map, among-map, among_from_all, passes}
+use Rattle.vt_laws_mounts.proofs.letting_go.sweeps.OfWorlds.{mounts_of_worlds_stand}
+use Rattle.vt_laws_mounts.proofs.letting_go.sweeps.UsesCounted.{located_while_counted}
+use Rattle.vt_location.specs.Numbers.{counted}
+use Rattle.vt_mount.specs.MountsValue.{MountEntry, mounts_in, without}
+use Rattle.vt_tasks.specs.TasksValue.{Tasks}
+use Rattle.vt_world.specs.Held.{CountsItsMounts, CountsItsUses, CountsWhatIsInIt, IsHeld, IsMountedSoOften}
+use Rattle.vt_mounting.specs.Detach.Uses as meant
+use Rattle.vt_mounting.specs.Detach.Uses.{Kept, Merged, kept_of, kept_with}
+use Rattle.vt_world.specs.WorldValue.{WorldValue, overlays_seen, world_of}
+use Rattle.vt_mounting.proofs.detach.Bridging.{IsSwept}
+use Rattle.vt_mounting.proofs.detach.Finishing.{CountsBeside, IsApplied, finished}
+use Rattle.vt_mounting.proofs.detach.Grouped.{left_has}
+use Rattle.vt_mounting.proofs.detach.Moving.{Moves, Use, entry_counts, exchanged_shown, filesystems_moved, gained_there, held_counts, hold_if, inodes_of_uses, locations, mounts_moved, moved_kept, moved_overlays, release_if, released_counts, swap_eq, uses_moved}
+use Rattle.vt_mounting.proofs.detach.Remaining.{remade_with}
+use Rattle.vt_mounting.proofs.detach.Staying.{IsDone, after}
+use Rattle.vt_mounting.proofs.detach.LayersLeft.{less as later_shown}
+use Rattle.vt_mounting.proofs.detach.LostUses.{positive}
+use Rattle.vt_mounting.proofs.detach.MountsLeave.{LeavesOverlays, layers_exchanged, layers_stay, leaves_alike, leaves_at_first, leaves_then, left_counted, left_shown, merged_at_first, numbers_are, overlay_was, overlays_apart, overlays_stay, shown_are, some_at_first}
+use Rattle.vt_mounting.proofs.detach.OverlaysGone.{layers_gone, merged_in}
+use Rattle.vt_mounting.proofs.detach.OverlaysKept.{merged_then}
+use Rattle.vt_mounting.proofs.detach.OverlaysRemade.{counted_kept, seen_kept}
+use Rattle.vt_mounting.proofs.detach.Overlaid.{KeepsOverlays, is_plain_one, keeps_itself, layers_of_fewer, overlay_apart, plain_ones_are, same_files_keep}
+use Rattle.vt_spec.proofs.Lists.{map_alike, map_twice}
+use Rattle.vt_laws_mounts.specs.LettingGo.TreesOverlays.{in_use_of}
+
+-- Lists
+
+pub map_filtered : {A B : Type 0} (f : A → B) (p : A → Bool) (q : B → Bool) → ((a : A) → q (f a) ≡ p a) → (xs : List A)
+    → map f (filter p xs) ≡ filter q (map f xs)
+map_filtered f p q same [] = refl
+map_filtered f p q same (x ∷ xs) =
+    by (p x) (map_filtered f p q same xs)
+    ∙ ap (λ b. cond b (f x ∷ filter q (map f xs)) (filter q (map f xs))) (sym (same x))
+  where
+    by : (b : Bool) → map f (filter p xs) ≡ filter q (map f xs)
+        → map f (cond b (x ∷ filter p xs) (filter p xs)) ≡ cond b (f x ∷ filter q (map f xs)) (filter q (map f xs))
+    by true later = ap (λ rest. f x ∷ rest) later
+    by false later = later
+
+module _ (value : WorldValue) (whole : IsHeld value) (tasks : Tasks) (more : List Use) (left_use : Use)
+    (moves : Moves value tasks more (left_use ∷ []))
+    (mounts : List MountEntry) (filesystems : Filesystems) (overlays : List Merged) (mount : Mount ℕ)
+    (found_so : mount_numbered nat_eq (world_of value) left_use.location.mount ≡ mount)
+    (there : is_among nat_eq left_use.location.mount (map (λ x. x.number) (world_of value).mounts) ≡ true)
+    (nowhere : is_some mount.namespace ≡ false)
+    (unused : mount_uses (world_of (after value tasks)) left_use.location.mount ≡ 0)
+    (dead : without_dead_mounts nat_eq (world_of (after value tasks))
+    ≡ without_mount (world_of (after value tasks)) left_use.location.mount)
+    (is_kept : kept_with mounts filesystems overlays
+    ≡ meant.without_mount left_use.location.mount mount
+    (moved_kept (world_of value) more (left_use ∷ []) (kept_of value))) where
+  abbrev world : World ℕ
+  world = world_of value
+
+  abbrev next : World ℕ
+  next = world_of (after value tasks)
+
+  abbrev number : ℕ
+  number = left_use.location.mount
+
+  abbrev less : List Use
+  less = left_use ∷ []
+
+  abbrev mounted : World ℕ
+  mounted = without_mount next number
+
+  abbrev gained : List Inode
+  gained = inodes_of_uses world more
+
+  -- what the use leaves, and what goes with the mount
+  abbrev lost_first : List Inode
+  lost_first = inode_at world left_use.location ∷ []
+
+  abbrev moved_all : Kept
+  moved_all = moved_kept world more less (kept_of value)
+
+  abbrev lost_here : List Inode
+  lost_here = (mount.filesystem, mount.root) ∷ layers_gone mount.filesystem moved_all.overlays
+
+  abbrev lost : List Inode
+  lost = inode_at world left_use.location ∷ lost_here
+
+  abbrev moved_entry : MountEntry → MountEntry
+  moved_entry entry = folded release_if (folded hold_if entry more) less
+
+  -- Mounts
+
+  same_mount : (entry : MountEntry) → (moved_entry entry).mount ≡ entry.mount
+  same_mount entry = (released_counts less (folded hold_if entry more)).mount ∙ (held_counts more entry).mount
+
+  entries_are : mounts ≡ without number (map moved_entry value.mounts)
+  entries_are = ap (λ (k : Kept). k.mounts) is_kept
+      ∙ ap (without number) (mounts_moved world more less (kept_of value))
+
+  pub mounts_are : mounts_in mounts ≡ mounted.mounts
+  mounts_are =
+      ap mounts_in entries_are
+      ∙ map_filtered (λ (entry : MountEntry). entry.mount) (λ entry. not (nat_eq number entry.mount.number))
+      (λ x. not (nat_eq x.number number))
+      (λ entry. ap not (swap_eq entry.mount.number number)) (map moved_entry value.mounts)
+      ∙ ap (filter (λ x. not (nat_eq x.number number)))
+      (map_twice (λ (entry : MountEntry). entry.mount) moved_entry value.mounts
+      ∙ map_alike (λ entry. (moved_entry entry).mount) (λ entry. entry.mount) value.mounts
+      (λ entry m. same_mount entry))
+
+  entry_was : (entry : MountEntry) → Among entry mounts
+      → (was : MountEntry) × Among was value.mounts × (entry ≡ moved_entry was)
+  entry_was entry m =
+      among-from_map moved_entry value.mounts entry
+      (among-from_filter (λ (x : MountEntry). not (nat_eq number x.mount.number)) (map moved_entry value.mounts) entry
+      (subst (λ all. Among entry all) entries_are m)).0
+
+  -- Filesystems
+
+  takes : (n : ℕ) → mounts_showing world n ≡ mounts_showing mounted n + cond (nat_eq mount.filesystem n) 1 0
+  takes n =
+      mount_takes_its_count world number n whole.in_world.mounts.one_number there
+      ∙ ap (λ (x : Mount ℕ). mounts_showing mounted n + cond (nat_eq n x.filesystem) 1 0) found_so
+      ∙ ap (λ b. mounts_showing mounted n + cond b 1 0) (swap_eq n mount.filesystem)
+
+  leaves_next : LeavesOverlays value next
+  leaves_next = leaves_alike world next refl (λ n. refl) value (leaves_at_first value whole)
+
+  merged_next : moved_all.overlays ≡ map (merged_in next) (filter is_overlay next.filesystems)
+  merged_next = moved_overlays world more less (kept_of value) ∙ merged_at_first value whole
+
+  moved_was : (one : Shown) → Among one moved_all.filesystems
+      → (was : FilesystemEntry) × Among was value.filesystems
+      × (one ≡ exchanged_shown gained lost_first (shown_entry was))
+  moved_was one m =
+      let from = among-from_map (exchanged_shown gained lost_first) (shown value.filesystems) one
+      (subst (λ all. Among one all) (filesystems_moved world more less (kept_of value)) m) in
+      let first = among-from_map shown_entry value.filesystems from.0 from.1 in
+      (first.0, first.1, from.2 ∙ ap (exchanged_shown gained lost_first) first.2)
+
+  each : (one : Shown) → Among one moved_all.filesystems
+      → one.mounts ≡ mounts_showing next (counted one.count) + layer_count next (counted one.count)
+  each one m =
+      let from = moved_was one m in
+      ap (λ (x : Shown). x.mounts) from.2
+      ∙ (among_from_all (CountsItsMounts world) value.filesystems whole.filesystems from.0 from.1).mounts
+      ∙ ap (λ (x : Shown). mounts_showing next (counted x.count) + layer_count next (counted x.count)) (sym from.2)
+
+  some : (one : Shown) → Among one moved_all.filesystems → nat_eq one.mounts 0 ≡ false
+  some one m =
+      let from = moved_was one m in
+      ap (λ (x : Shown). nat_eq x.mounts 0) from.2 ∙ some_at_first value whole from.0 from.1
+
+  apart : (one : Shown) → Among one moved_all.filesystems → (overlay : Filesystem ℕ)
+      → Among overlay (overlays_seen value.overlays) → nat_eq (counted one.count) overlay.number ≡ false
+  apart one m overlay n =
+      let from = moved_was one m in
+      ap (λ (x : Shown). nat_eq (counted x.count) overlay.number) from.2
+      ∙ overlay_apart value whole from.0 from.1 overlay n
+
+  numbers_next : map (λ (f : Filesystem ℕ). f.number) (filter is_plain_one next.filesystems)
+      ≡ map (λ (one : Shown). counted one.count) moved_all.filesystems
+  numbers_next =
+      ap (map (λ (f : Filesystem ℕ). f.number)) (plain_ones_are value whole.overlays)
+      ∙ map_twice (λ (f : Filesystem ℕ). f.number) filesystem_seen value.filesystems
+      ∙ sym (map_twice (λ (one : Shown). counted one.count) shown_entry value.filesystems)
+      ∙ sym (map_twice (λ (one : Shown). counted one.count) (exchanged_shown gained lost_first)
+      (shown value.filesystems))
+      ∙ sym (ap (map (λ (one : Shown). counted one.count)) (filesystems_moved world more less (kept_of value)))
+
+  abbrev remaining : World ℕ
+  remaining = without_dead_filesystems nat_eq mounted
+
+  living_now : in_use_of next ≡ remaining
+  living_now = ap (without_dead_filesystems nat_eq) dead
+
+  shown_left : shown filesystems
+      ≡ left_shown value whole next leaves_next number mount.filesystem takes mount.root moved_all.overlays merged_next
+      moved_all.filesystems each some apart numbers_next
+  shown_left =
+      ap (λ (k : Kept). k.filesystems) is_kept
+      ∙ shown_are value whole next leaves_next number mount.filesystem takes mount.root moved_all.overlays merged_next
+      moved_all.filesystems each some apart numbers_next
+
+  overlays_left : overlays ≡ map (merged_in remaining) (filter is_overlay remaining.filesystems)
+  overlays_left =
+      ap (λ (k : Kept). k.overlays) is_kept
+      ∙ (λ i. meant.merged_left_by mount.filesystem (meant.merged_at mount.filesystem (merged_next i)) (merged_next i))
+      ∙ merged_then next number mount.filesystem takes (filter is_overlay next.filesystems)
+      (overlays_apart value whole next leaves_next)
+      (λ overlay m. (overlay_was value whole next leaves_next overlay m).1)
+      ∙ ap (map (merged_in mounted)) (sym (overlays_stay value whole next leaves_next number mount.filesystem takes))
+
+  leaves_left : LeavesOverlays value remaining
+  leaves_left = leaves_then value whole next leaves_next number mount.filesystem takes
+
+  -- an entry comes from one that was moved
+  record Comes (entry : FilesystemEntry) : Type 0 where
+    was : FilesystemEntry
+    among : Among was value.filesystems
+    count : entry.count ≡ was.count
+    inodes : inodes_seen entry ≡ exchanged (counted was.count) gained lost (inodes_seen was)
+    often : entry.mounts ≡ mounts_showing remaining (counted entry.count) + layer_count remaining (counted entry.count)
+    some_there : nat_lt 0 (mounts_showing mounted (counted was.count) + mounted_layer_count mounted (counted was.count))
+        ≡ true
+
+  comes : (entry : FilesystemEntry) → Among entry filesystems → Comes entry
+  comes entry m =
+      let from = left_counted value whole next leaves_next number mount.filesystem takes mount.root moved_all.overlays
+      merged_next moved_all.filesystems each some apart numbers_next (shown_entry entry)
+      (subst (λ all. Among (shown_entry entry) all) shown_left (among-map shown_entry filesystems entry m)) in
+      let first = moved_was from.0 from.1 in
+      let is : shown_entry entry ≡ later_shown lost_here (exchanged_shown gained lost_first (shown_entry first.0)) =
+      from.2 ∙ ap (later_shown lost_here) first.2 in
+      let count : entry.count ≡ first.0.count = ap (λ (x : Shown). x.count) is in
+      record {
+        was = first.0;
+        among = first.1;
+        count = count;
+        inodes = ap (λ (x : Shown). x.inodes) is;
+        often = from.3;
+        some_there = positive (mounts_showing mounted (counted first.0.count)
+            + mounted_layer_count mounted (counted first.0.count))
+            ∙ ap (λ n. not (nat_eq n 0))
+            (ap (λ n. mounts_showing mounted (counted first.0.count) + n)
+            (sym (layers_stay value whole next leaves_next number mount.filesystem takes (counted first.0.count)))
+            ∙ ap (λ n. mounts_showing remaining (counted n) + layer_count remaining (counted n)) (sym count)
+            ∙ sym from.3)
+            ∙ ap not from.4;
+      }
+
+  keeps_next : KeepsOverlays value next
+  keeps_next = same_files_keep value world next refl (keeps_itself value whole.overlays)
+
+  -- Exchanges
+
+  stand : MountsStand next
+  stand = let was = mounts_of_worlds_stand world whole.in_world in
+      record { one_number = was.one_number; nowhere = was.nowhere; on_attached = was.on_attached }
+
+  located : LocationsStand next
+  located =
+      all_pass (λ location. is_among nat_eq location.mount (map (λ x. x.number) next.mounts)) (all_locations next)
+      (λ location m.
+      ⊎_elim
+      (λ f. old location (subst (λ all. Among location all) (sym moves.was)
+      (among-append_left moves.front (locations less ++ moves.back) location f)))
+      (λ rest. ⊎_elim
+      (λ come. (and_parts (is_among nat_eq location.mount (map (λ x. x.number) next.mounts)) _
+      (passes (is_located_well nat_eq world) (locations more) moves.there location come)).0)
+      (λ b. old location (subst (λ all. Among location all) (sym moves.was)
+      (among-append_right moves.front (locations less ++ moves.back) location
+      (among-append_right (locations less) moves.back location b))))
+      (among-append (locations more) moves.back location rest))
+      (among-append moves.front (locations more ++ moves.back) location (subst (λ all. Among location all) moves.is m)))
+    where
+      old : (location : Location ℕ) → Among location (all_locations world)
+          → is_among nat_eq location.mount (map (λ x. x.number) next.mounts) ≡ true
+      old location m = passes (λ location. is_among nat_eq location.mount (map (λ x. x.number) world.mounts))
+          (all_locations world)
+          (Roots.locations_of_worlds_stand world whole.in_world) location m
+
+  unused_so : is_mount_used next number ≡ false
+  unused_so =
+      ap (λ (x : Mount ℕ). is_some x.namespace || is_located nat_eq next number) found_so
+      ∙ ap (λ b. b || is_located nat_eq next number) nowhere
+      ∙ located_while_counted next number ∙ ap (nat_lt 0) unused
+
+  exchanges_are : (k : ℕ) → nat_lt 0 (mounts_showing mounted k + mounted_layer_count mounted k) ≡ true
+      → ((overlay : Filesystem ℕ) → Among overlay (overlays_seen value.overlays) → nat_eq k overlay.number ≡ false)
+      → Exchanges gained lost k world (in_use_of next)
+  exchanges_are k some_there no_overlay =
+      let first = uses_moved value whole tasks more less moves k in
+      let second = subst (λ (x : Mount ℕ). Exchanges [] ((x.filesystem, x.root) ∷ []) k next mounted) found_so
+      (Roots.mounts_leave_their_roots next number stand located there unused_so k) in
+      let third = layers_exchanged value whole next leaves_next number mount.filesystem takes mount.root
+      moved_all.overlays merged_next moved_all.filesystems each some apart numbers_next k some_there
+      (λ overlay m. no_overlay overlay (overlay_was value whole next leaves_next overlay m).0) in
+      let later = exchanges_follow next mounted remaining [] ((mount.filesystem, mount.root) ∷ []) []
+      (layers_gone mount.filesystem moved_all.overlays) k second third in
+      let all = exchanges_follow world next remaining gained lost_first [] lost_here k first later in
+      subst (Exchanges gained lost k world) (sym living_now)
+      (subst (λ all_gained. Exchanges all_gained lost k world remaining) (append-nil gained) all)
+
+  numbers_left : map (λ (f : Filesystem ℕ). f.number) (filter is_plain_one remaining.filesystems)
+      ≡ map (λ (entry : FilesystemEntry). counted entry.count) filesystems
+  numbers_left =
+      numbers_are value whole next leaves_next number mount.filesystem takes mount.root moved_all.overlays merged_next
+      moved_all.filesystems each some apart numbers_next
+      ∙ sym (ap (map (λ (one : Shown). counted one.count)) shown_left)
+      ∙ map_twice (λ (one : Shown). counted one.count) shown_entry filesystems
+
+  abbrev new : WorldValue
+  new = remade_with value mounts filesystems overlays tasks
+
+  -- the overlays are those of before that mounts show still
+  seen_left : overlays_seen new.overlays
+      ≡ filter (λ overlay. is_mounted nat_eq remaining overlay.number) (overlays_seen value.overlays)
+  seen_left = seen_kept value whole remaining leaves_left overlays overlays_left
+
+  gone_swept : IsSwept value next gained lost new
+  gone_swept = record {
+    midway = keeps_next;
+    overlays = seen_left
+        ∙ ap (λ (w : World ℕ). filter (λ overlay. is_mounted nat_eq w overlay.number) (overlays_seen value.overlays))
+        (sym living_now);
+    mounts = ap (λ (one : World ℕ). one.mounts) living_now ∙ sym mounts_are;
+    numbers = ap (λ (one : World ℕ). map (λ (f : Filesystem ℕ). f.number) (filter is_plain_one one.filesystems))
+        living_now ∙ numbers_left;
+    entries = λ entry m. let from = comes entry m in record {
+      was = from.was;
+      among = from.among;
+      count = from.count;
+      there = gained_there value whole tasks more less moves from.was from.among;
+      inodes = from.inodes;
+      exchanges = exchanges_are (counted from.was.count) from.some_there (overlay_apart value whole from.was from.among);
+    };
+    namespaces = refl;
+    tasks = refl;
+  }
+
+  -- Counts
+
+  gone_counted : ((namespace : ℕ)
+      → times (λ task. nat_eq namespace task.namespace) tasks
+      ≡ times (λ task. nat_eq namespace task.namespace) value.tasks)
+      → CountsBeside new
+  gone_counted inside = record {
+    uses = all_from_among (CountsItsUses (world_of new)) mounts (λ entry m.
+        let from = entry_was entry m in
+        let counts = subst (CountsItsUses next) (sym from.2)
+        (entry_counts value whole tasks more less moves from.0 from.1) in
+        record { uses = counts.uses; writers = counts.writers });
+    mounts = λ entry m.
+        (comes entry m).often
+        ∙ (λ i. times (λ (x : Mount ℕ). nat_eq (counted entry.count) x.filesystem) (sym mounts_are i)
+        + sym (layers_of_fewer value new whole.overlays (λ overlay. is_mounted nat_eq remaining overlay.number)
+        seen_left remaining leaves_left.overlays (counted entry.count)) i);
+    overlays = all_from_among (IsMountedSoOften (world_of new)) new.overlays (λ entry m.
+        among_from_all (IsMountedSoOften remaining) new.overlays
+        (counted_kept value whole remaining leaves_left overlays overlays_left) entry m
+        ∙ (λ i. times (λ (x : Mount ℕ). nat_eq entry.number x.filesystem) (sym mounts_are i)));
+    namespaces = all_from_among (CountsWhatIsInIt (world_of new)) value.namespaces (λ entry m.
+        let was = among_from_all (CountsWhatIsInIt world) value.namespaces whole.namespaces entry m in
+        record { tasks = was.tasks ∙ sym (inside (counted entry.count)) });
+  }
+
+  pub gone_done : (name : TaskName) (permit : Permit ℕ) (task : Task ℕ) → IsApplied value name permit task next
+      → ((namespace : ℕ) → times (λ task. nat_eq namespace task.namespace) tasks
+      ≡ times (λ task. nat_eq namespace task.namespace) value.tasks)
+      → IsDone value name permit new
+  gone_done name permit task is inside =
+      finished value whole name permit task next is gained lost new gone_swept (left_has value whole next refl (λ group. refl)) (gone_counted inside) refl

@@ -1,0 +1,171 @@
+-- Uses that go one by one from plain filesystems, each with a mount or a layer: what nothing is left of goes.
+use Rattle.std.proofs.Common.{◌≡◌, refl, sym, ap, ◌∙◌, ℕ, ◌+◌, ◌-◌, nat_eq, eqb-true, eq-eqb, Bool, true, false, true≢false, cond, not, ◌||◌, List, [], ◌∷◌, map, filter, arith}
+use Rattle.std.proofs.Math.Bool.{or-false, or-true}
+use Rattle.vt_spec.specs.Lists.{folded}
+use Rattle.vt_spec.proofs.Lists.{map_alike, map_twice}
+use Rattle.vt_fs.specs.FilesystemsValue.{Shown}
+use Rattle.vt_laws_mounts.specs.Counts.Using.{unpinned_if}
+use Rattle.vt_laws_mounts.specs.LettingGo.Counts.{times}
+use Rattle.vt_laws_mounts.specs.LettingGo.OneByOne.{Inode}
+use Rattle.vt_laws_mounts.proofs.letting_go.Lists.{Among, among-from_filter, among-from_map, filter-map, filter_all, filter_alike, filter_less}
+use Rattle.vt_location.specs.Numbers.{counted}
+use Rattle.vt_mounting.specs.Detach.Uses.{mounts_shown, released_if, without_layer}
+use Rattle.vt_mounting.proofs.detach.FilesystemsLeft.{let_go_is, stays_at}
+use Rattle.vt_mounting.proofs.detach.LostUses.{shown_by_rule}
+use Rattle.vt_mounting.proofs.detach.Moving.{map_itself, swap_eq}
+
+-- with these uses less, and as many mounts and layers
+abbrev pub less : List Inode → Shown → Shown
+less lost one = record one {
+  inodes = folded (unpinned_if (counted one.count)) one.inodes lost;
+  mounts = one.mounts - times (λ (inode : Inode). nat_eq (counted one.count) inode.0) lost;
+}
+
+abbrev pub is_some_left : Shown → Bool
+is_some_left one = not (nat_eq one.mounts 0)
+
+nothing_less : (all : List Shown) → map (less []) all ≡ all
+nothing_less all =
+    map_alike (less []) (λ one. one) all (λ one m. λ i. record one { mounts = none one.mounts i }) ∙ sym (map_itself all)
+  where
+    none : (n : ℕ) → n - 0 ≡ n
+    none n = omega arith
+
+module _ (inode : Inode) (all : List Shown) (counts : ℕ → ℕ)
+    (each : (one : Shown) → Among one all → one.mounts ≡ counts (counted one.count))
+    (some : (one : Shown) → Among one all → nat_eq one.mounts 0 ≡ false) where
+  abbrev step : Shown → Shown
+  step one = released_if inode.0 (record one { inodes = unpinned_if (counted one.count) one.inodes inode })
+
+  abbrev stepped : List Shown
+  stepped = map step all
+
+  abbrev counts_then : ℕ → ℕ
+  counts_then n = counts n - cond (nat_eq inode.0 n) 1 0
+
+  step_is : (one : Shown) → Among one all → ((step one).count ≡ one.count)
+      × ((step one).mounts ≡ one.mounts - cond (nat_eq inode.0 (counted one.count)) 1 0)
+  step_is one m = by (nat_eq inode.0 (counted one.count))
+    where
+      by : (b : Bool)
+          → ((cond b (record one { inodes = unpinned_if (counted one.count) one.inodes inode; mounts = one.mounts - 1 })
+          (record one { inodes = unpinned_if (counted one.count) one.inodes inode })).count ≡ one.count)
+          × ((cond b (record one { inodes = unpinned_if (counted one.count) one.inodes inode; mounts = one.mounts - 1 })
+          (record one { inodes = unpinned_if (counted one.count) one.inodes inode })).mounts ≡ one.mounts - cond b 1 0)
+      by true = (refl, refl)
+      by false = (refl, omega arith)
+
+  each_then : (one : Shown) → Among one stepped → one.mounts ≡ counts_then (counted one.count)
+  each_then one m =
+      let from = among-from_map step all one m in
+      let is = step_is from.0 from.1 in
+      ap (λ (x : Shown). x.mounts) from.2 ∙ is.1
+      ∙ ap (λ n. n - cond (nat_eq inode.0 (counted from.0.count)) 1 0) (each from.0 from.1)
+      ∙ ap (λ count. counts_then (counted count)) (sym is.0)
+      ∙ ap (λ (x : Shown). counts_then (counted x.count)) (sym from.2)
+
+  -- what stays has something left
+  stays_is : (one : Shown) → Among one stepped → stays_at inode.0 stepped (counted one.count) ≡ is_some_left one
+  stays_is one m = by (nat_eq inode.0 (counted one.count)) refl
+    where
+      by : (b : Bool) → nat_eq inode.0 (counted one.count) ≡ b
+          → stays_at inode.0 stepped (counted one.count) ≡ is_some_left one
+      by true e =
+          ap (λ b. not (nat_eq (mounts_shown inode.0 stepped) 0) || not b) e
+          ∙ or-false (not (nat_eq (mounts_shown inode.0 stepped) 0))
+          ∙ ap (λ n. not (nat_eq n 0))
+          (shown_by_rule inode.0 counts_then stepped each_then one m (eqb-true inode.0 (counted one.count) e)
+          ∙ ap counts_then (eqb-true inode.0 (counted one.count) e) ∙ sym (each_then one m))
+      by false e =
+          let from = among-from_map step all one m in
+          let is = step_is from.0 from.1 in
+          let apart : nat_eq inode.0 (counted from.0.count) ≡ false =
+          ap (λ count. nat_eq inode.0 (counted count)) (sym (ap (λ (x : Shown). x.count) from.2 ∙ is.0)) ∙ e in
+          let same : (step from.0).mounts ≡ from.0.mounts - 0 =
+          is.1 ∙ ap (λ b. from.0.mounts - cond b 1 0) apart in
+          let kept : (step from.0).mounts ≡ from.0.mounts = omega (arith, same) in
+          ap (λ b. not (nat_eq (mounts_shown inode.0 stepped) 0) || not b) e
+          ∙ or-true (not (nat_eq (mounts_shown inode.0 stepped) 0))
+          ∙ sym (ap (λ (x : Shown). is_some_left x) from.2 ∙ ap (λ n. not (nat_eq n 0)) kept
+          ∙ ap not (some from.0 from.1))
+
+  one_goes : without_layer all inode ≡ filter is_some_left stepped
+  one_goes =
+      ap (Rattle.vt_mounting.specs.Detach.Uses.let_go_filesystem inode.0)
+      (map_twice (released_if inode.0)
+      (λ (one : Shown). record one { inodes = unpinned_if (counted one.count) one.inodes inode }) all)
+      ∙ let_go_is inode.0 stepped
+      ∙ filter_alike (λ (one : Shown). stays_at inode.0 stepped (counted one.count)) is_some_left stepped stays_is
+
+  less_again : (rest : List Inode) → map (less rest) stepped ≡ map (less (inode ∷ rest)) all
+  less_again rest =
+      map_twice (less rest) step all
+      ∙ map_alike (λ one. less rest (step one)) (less (inode ∷ rest)) all
+      (λ one m. by one (nat_eq inode.0 (counted one.count)) ∙ (λ i. record one {
+        inodes = folded (unpinned_if (counted one.count)) one.inodes (inode ∷ rest);
+        mounts = turned one i;
+      }))
+    where
+      rest_in : Shown → ℕ
+      rest_in one = times (λ (other : Inode). nat_eq (counted one.count) other.0) rest
+
+      by : (one : Shown) (b : Bool)
+          → less rest (cond b
+          (record one { inodes = unpinned_if (counted one.count) one.inodes inode; mounts = one.mounts - 1 })
+          (record one { inodes = unpinned_if (counted one.count) one.inodes inode }))
+          ≡ record one {
+            inodes = folded (unpinned_if (counted one.count)) one.inodes (inode ∷ rest);
+            mounts = one.mounts - cond b 1 0 - rest_in one;
+          }
+      by one true = refl
+      by one false = λ i. record one {
+        inodes = folded (unpinned_if (counted one.count)) one.inodes (inode ∷ rest);
+        mounts = none one.mounts (rest_in one) i;
+      }
+        where
+          none : (n k : ℕ) → n - k ≡ n - 0 - k
+          none n k = omega arith
+
+      turned : (one : Shown) → one.mounts - cond (nat_eq inode.0 (counted one.count)) 1 0 - rest_in one
+          ≡ one.mounts - (cond (nat_eq (counted one.count) inode.0) 1 0 + rest_in one)
+      turned one =
+          together one.mounts (cond (nat_eq inode.0 (counted one.count)) 1 0) (rest_in one)
+          ∙ ap (λ b. one.mounts - (cond b 1 0 + rest_in one)) (swap_eq inode.0 (counted one.count))
+        where
+          together : (n a k : ℕ) → n - a - k ≡ n - (a + k)
+          together n a k = omega arith
+
+-- They are all that are left with something.
+pub go_one_by_one : (lost : List Inode) (all : List Shown) (counts : ℕ → ℕ)
+    → ((one : Shown) → Among one all → one.mounts ≡ counts (counted one.count))
+    → ((one : Shown) → Among one all → nat_eq one.mounts 0 ≡ false)
+    → folded without_layer all lost ≡ filter is_some_left (map (less lost) all)
+go_one_by_one [] all counts each some =
+    sym (filter_all is_some_left all (λ one m. ap not (some one m)))
+    ∙ ap (filter is_some_left) (sym (nothing_less all))
+go_one_by_one (inode ∷ rest) all counts each some =
+    let then = stepped inode all counts each some in
+    ap (λ left. folded without_layer left rest) (one_goes inode all counts each some)
+    ∙ go_one_by_one rest (filter is_some_left then) (counts_then inode all counts each some)
+    (λ one m. each_then inode all counts each some one (among-from_filter is_some_left then one m).0)
+    (λ one m. turned (nat_eq one.mounts 0) (among-from_filter is_some_left then one m).1)
+    ∙ filter-map is_some_left (less rest) (filter is_some_left then) (λ one. refl)
+    ∙ ap (map (less rest)) (filter_less (λ one. is_some_left (less rest one)) is_some_left then
+    (λ one m none. gone one.mounts (times (λ (other : Inode). nat_eq (counted one.count) other.0) rest)
+    (turned_back (nat_eq one.mounts 0) none)))
+    ∙ sym (filter-map is_some_left (less rest) then (λ one. refl))
+    ∙ ap (filter is_some_left) (less_again inode all counts each some rest)
+  where
+    turned : (b : Bool) → not b ≡ true → b ≡ false
+    turned true e = absurd (true≢false (sym e))
+    turned false e = refl
+
+    turned_back : (b : Bool) → not b ≡ false → b ≡ true
+    turned_back true e = refl
+    turned_back false e = absurd (true≢false e)
+
+    gone : (n k : ℕ) → nat_eq n 0 ≡ true → not (nat_eq (n - k) 0) ≡ false
+    gone n k zero =
+        let none : n ≡ 0 = eqb-true n 0 zero in
+        let left : n - k ≡ 0 = omega (arith, none) in
+        ap not (eq-eqb (n - k) 0 left)

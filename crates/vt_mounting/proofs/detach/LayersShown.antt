@@ -1,0 +1,144 @@
+-- The layers of an overlay of the code's world are directories of the plain trees that are kept, which the world shows.
+use Rattle.std.proofs.Common.{◌≡◌, ◌≤◌, ◌<◌, refl, sym, ap, subst, ◌∙◌, ⊎_elim, inl, inr, zero, ℕ, nat_eq, eqb-true, Bool, true, false, true≢false, not, ◌&&◌, List, [], ◌∷◌, length, map, Option, Some, None, unwrap_or, arith, suc}
+use Rattle.std.specs.Prelude.{All, nat_le, nat_lt, slice_get}
+use Rattle.std.specs.List.{list_all}
+use Rattle.std.proofs.Math.Bool.{and-false}
+use Rattle.std.proofs.lemmas.Bool.{and_parts, leb-true}
+use Rattle.std.proofs.lemmas.Option.{same_Some}
+use Rattle.vt_spec.proofs.Options.{none_is_some}
+use Rattle.vt_spec.proofs.Found.{found_among, found_passes}
+use Rattle.vt_spec.specs.Language.Limits.{most_lowers}
+use Rattle.vt_spec.specs.Lists.{is_empty_list}
+use Rattle.vt_spec.specs.Machine.Invariants.{has_fit_layers, is_plain_layer}
+use Rattle.vt_spec.specs.Machine.Locked.{of_overlay}
+use Rattle.vt_spec.specs.Machine.World.{Filesystem, World, filesystem_numbered, is_overlay, layers_of}
+use Rattle.vt_spec.specs.Tree.{is_directory_node}
+use Rattle.vt_spec.specs.TreeInvariant.{IsTree}
+use Rattle.vt_laws_mounts.proofs.letting_go.Lists.{Among, all_from_among, among-map, among_from_all, passes}
+use Rattle.vt_world.specs.OverlaysKept.Kept.{ShowsLayer}
+use Rattle.vt_laws_trees.proofs.trees.TreesOfWorlds.{numbered_all}
+use Rattle.vt_location.specs.Locations.{inode_of}
+use Rattle.vt_location.specs.Numbers.{counted, is_inode_of}
+use Rattle.vt_fs.specs.FilesystemsValue.{FilesystemEntry, entry_at, entry_of, filesystem_seen, inodes_at, inodes_seen, no_entry}
+use Rattle.vt_overlay.specs.declared.merge.layers.LayerRef.{LayerRef}
+use Rattle.vt_overlay.specs.MergedTree.{AreLayers, IsLayer, layer_seen}
+use Rattle.vt_world.specs.Held.{HasOwnInodes, IsHeld}
+use Rattle.vt_world.specs.WorldValue.{OverlayEntry, WorldValue, overlay_seen, world_of}
+use Rattle.vt_mounting.proofs.detach.PlainFound.{counted_where_plain, overlay_among}
+
+-- inodes of a kept filesystem have its own numbers
+own_at : (value : WorldValue) → IsHeld value → (count number : ℕ) → is_inode_of count number ≡ false
+    → (inodes_at value.filesystems count).inode number ≡ None
+own_at value held count number other = by (entry_of value.filesystems count) refl
+  where
+    by : (o : Option FilesystemEntry) → entry_of value.filesystems count ≡ o
+        → (inodes_seen (unwrap_or o (no_entry count))).inode number ≡ None
+    by None e = refl
+    by (Some entry) e =
+        let same = eqb-true count entry.count
+        (found_passes (λ (one : FilesystemEntry). nat_eq count one.count) value.filesystems entry e) in
+        among_from_all HasOwnInodes value.filesystems held.own_inodes entry
+        (found_among (λ (one : FilesystemEntry). nat_eq count one.count) value.filesystems entry e) number
+        (ap (λ b. nat_lt entry.count 18446744073709551616 && b) (ap (λ n. is_inode_of n number) (sym same) ∙ other)
+        ∙ and-false (nat_lt entry.count 18446744073709551616))
+
+not_so : (b : Bool) → not b ≡ true → b ≡ false
+not_so true e = absurd (true≢false (sym e))
+not_so false e = refl
+
+some_there : (list : List LayerRef) → not (is_empty_list (map layer_seen list)) ≡ true → 0 < length list
+some_there [] e = absurd (true≢false (sym e))
+some_there (layer ∷ list) e = omega arith
+
+length-seen : (lowers : List LayerRef) → length (map layer_seen lowers) ≡ length lowers
+length-seen [] = refl
+length-seen (layer ∷ lowers) = ap suc (length-seen lowers)
+
+among_slice : (list : List LayerRef) (place : ℕ) (layer : LayerRef) → slice_get list place ≡ Some layer
+    → Among layer list
+among_slice [] place layer e = absurd (none_is_some layer e)
+among_slice (first ∷ list) zero layer e = inl (sym (same_Some first layer e))
+among_slice (first ∷ list) (suc place) layer e = inr (among_slice list place layer e)
+
+-- layers that are directories of plain trees of the world
+module _ (value : WorldValue) (held : IsHeld value) (lowers : List LayerRef)
+    (all_plain : list_all (is_plain_layer nat_eq (world_of value)) (map layer_seen lowers) ≡ true) where
+  module _ (layer : LayerRef) (n : Among layer lowers) where
+    abbrev count : ℕ
+    count = layer.directory.filesystem.count
+
+    parts : (not (is_overlay (filesystem_numbered nat_eq (world_of value) (counted count))) ≡ true)
+        × (is_directory_node ((filesystem_numbered nat_eq (world_of value) (counted count)).files.tree.node
+        (inode_of layer.directory)) ≡ true)
+    parts =
+        and_parts (not (is_overlay (filesystem_numbered nat_eq (world_of value) (counted count)))) _
+        (passes (is_plain_layer nat_eq (world_of value)) (map layer_seen lowers) all_plain (layer_seen layer)
+        (among-map layer_seen lowers layer n))
+
+    is_kept : filesystem_numbered nat_eq (world_of value) (counted count)
+        ≡ filesystem_seen (entry_at value.filesystems count)
+    is_kept =
+        counted_where_plain value held count
+        (not_so (is_overlay (filesystem_numbered nat_eq (world_of value) (counted count))) parts.0)
+
+    shows_it : ShowsLayer (world_of value) value.filesystems layer
+    shows_it = record {
+      tree = ap (λ (f : Filesystem ℕ). f.files.tree) (sym is_kept);
+      numbers = ap (λ (f : Filesystem ℕ). length f.files.numbers) (sym is_kept);
+    }
+
+    is_layer : IsLayer value.filesystems layer
+    is_layer = record {
+      tree = subst (λ (f : Filesystem ℕ). IsTree f.files.tree) is_kept
+          (⊎_elim (λ tree. tree)
+          (λ missing. absurd (true≢false (sym parts.1
+          ∙ ap (λ (f : Filesystem ℕ). is_directory_node (f.files.tree.node (inode_of layer.directory))) missing.0)))
+          (numbered_all (λ (f : Filesystem ℕ). IsTree f.files.tree) (counted count) (world_of value).filesystems
+          held.in_world.files.trees));
+      directory =
+          ap (λ (f : Filesystem ℕ). is_directory_node (f.files.tree.node (inode_of layer.directory))) (sym is_kept)
+          ∙ parts.1;
+      own_numbers = own_at value held count;
+    }
+
+  -- they are layers of what is kept, which the world shows
+  pub plain_layers_shown : AreLayers value.filesystems lowers
+      × All (ShowsLayer (world_of value) value.filesystems) lowers
+  plain_layers_shown = (
+    λ place layer at. is_layer layer (among_slice lowers place layer at),
+    all_from_among (ShowsLayer (world_of value) value.filesystems) lowers shows_it,
+  )
+
+-- an overlay of the value, whose layers are these
+module _ (value : WorldValue) (held : IsHeld value) (entry : OverlayEntry) (m : Among entry value.overlays)
+    (lowers : List LayerRef) (same : entry.lowers ≡ map layer_seen lowers) where
+  abbrev world : World ℕ
+  world = world_of value
+
+  among : Among (overlay_seen entry) (world_of value).filesystems
+  among =
+      (overlay_among value held.overlays (overlay_seen entry) (among-map overlay_seen value.overlays entry m)).0
+
+  all_plain : list_all (is_plain_layer nat_eq (world_of value)) (map layer_seen lowers) ≡ true
+  all_plain =
+      subst (λ layers. list_all (is_plain_layer nat_eq (world_of value)) layers ≡ true) same
+      (passes (of_overlay true (λ overlay. list_all (is_plain_layer nat_eq (world_of value)) (layers_of overlay)))
+      (world_of value).filesystems held.in_world.overlays.plain_layers (overlay_seen entry) among)
+
+  -- they are layers, which the world shows
+  pub layers_shown_well : AreLayers value.filesystems lowers × All (ShowsLayer (world_of value) value.filesystems) lowers
+  layers_shown_well = plain_layers_shown value held lowers all_plain
+
+  fits : (not (is_empty_list entry.lowers) ≡ true) × (nat_le (length entry.lowers) most_lowers ≡ true)
+  fits =
+      and_parts (not (is_empty_list entry.lowers)) (nat_le (length entry.lowers) most_lowers)
+      (and_parts (not (is_empty_list entry.lowers) && nat_le (length entry.lowers) most_lowers) true
+      (passes (of_overlay true has_fit_layers) (world_of value).filesystems held.in_world.overlays.fit_layers
+      (overlay_seen entry) among)).0
+
+  -- one at least, and not too many
+  pub layers_number : (0 < length lowers) × (length lowers ≤ most_lowers)
+  layers_number =
+      let most = leb-true (length entry.lowers) most_lowers fits.1 in
+      let as_many = ap length same ∙ length-seen lowers in
+      (some_there lowers (ap (λ layers. not (is_empty_list layers)) (sym same) ∙ fits.0), omega (arith, most, as_many))

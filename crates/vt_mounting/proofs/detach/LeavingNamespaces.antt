@@ -1,0 +1,126 @@
+-- A task has left a namespace: what code has then is what the sweep leaves, once mounts get the types that groups tell.
+use Rattle.std.proofs.Common.{◌≡◌, refl, sym, ap, subst, ◌∙◌, ℕ, nat_eq, eq-eqb, Bool, true, false, true≢false, ◌&&◌, List, [], map, Option, Some, None, is_some}
+use Rattle.vt_spec.specs.Lists.{holds_of}
+use Rattle.vt_spec.specs.Machine.Mounts.{Location, Mount}
+use Rattle.vt_spec.specs.Machine.Receives.{regrouped}
+use Rattle.vt_spec.specs.Machine.World.{Namespace, World, mount_at}
+use Rattle.vt_spec.specs.Machine.Invariants.{MountInvariants}
+use Rattle.vt_group.specs.Grouping.{Grouping, Has}
+use Rattle.vt_group.specs.Laws.{typed_by}
+use Rattle.vt_group.specs.Together.{TakesAway}
+use Rattle.vt_group.proofs.Others.{has_ordered}
+use Rattle.vt_laws_mounts.specs.LettingGo.OneByOne.{Inode}
+use Rattle.vt_laws_mounts.proofs.letting_go.Lists.{Among, among_from_all, fails, map_same}
+use Rattle.vt_location.specs.Numbers.{counted}
+use Rattle.vt_mount.specs.MountsValue.{MountEntry}
+use Rattle.vt_tasks.specs.TasksValue.{Tasks}
+use Rattle.vt_world.specs.Held.{IsHeld}
+use Rattle.vt_mounting.specs.Detach.NamespacesLeft.{EndsIf, MountsAreLeft, NamespaceIsLeft, has_one_task, is_attached_in, namespace_entry, numbers_inside}
+use Rattle.vt_retype.specs.Retyping.{AreTyped, typed_entry}
+use Rattle.vt_mounting.specs.Detach.Uses.{Kept}
+use Rattle.vt_world.specs.WorldValue.{NamespaceEntry, WorldValue}
+use Rattle.vt_mounting.proofs.detach.Midway.{Reached}
+use Rattle.vt_mounting.proofs.detach.MidwayDone.{detaches_all}
+use Rattle.vt_mounting.proofs.detach.NamespacesEnded.{CountsOneMore, ends, ends_by}
+use Rattle.vt_mounting.proofs.detach.NamespacesTyped.{gone_numbers, left_has_groups, left_has_same, left_world}
+use Rattle.std.proofs.Math.Bool.{and-false}
+pub use Rattle.std.proofs.Math.Bool.{and-false as nothing_goes_with}
+
+-- the mounts of a namespace go, if it ends
+abbrev pub goes_with : Bool → ℕ → Mount ℕ → Bool
+goes_with ends namespace mount = ends && holds_of (nat_eq namespace) mount.namespace
+
+goes_with_attached : (ends : Bool) (namespace : ℕ) (mount : Mount ℕ) → goes_with ends namespace mount ≡ true
+    → is_some mount.namespace ≡ true
+goes_with_attached ends namespace mount e = by ends mount.namespace e
+  where
+    by : (b : Bool) (o : Option ℕ) → (b && holds_of (nat_eq namespace) o) ≡ true → is_some o ≡ true
+    by true (Some n) f = refl
+    by true None f = absurd (true≢false (sym f))
+    by false o f = absurd (true≢false (sym f))
+
+-- mounts that have the types that groups tell keep them
+all_typed : (groups : Grouping) (entries : List MountEntry) → AreTyped groups entries
+    → map (typed_entry groups) entries ≡ entries
+all_typed groups entries typed = map_same (typed_entry groups) entries (λ entry m i. record entry {
+  mount = among_from_all (λ (one : MountEntry). typed_by groups one.mount ≡ one.mount) entries typed entry m i;
+})
+
+-- Mounts that are to go are detached, and none of them is left. Then all get the types that the groups tell, which are
+-- those of the world `start` once its groups without members end.
+pub record IsLeft (value : WorldValue) (start : World ℕ) (gained : List Inode) (goes : Mount ℕ → Bool) (new : Kept)
+    (groups : Grouping) : Type 0 where
+  pub entries : List MountEntry
+  pub reached : Reached value start gained goes [] (record new { mounts = entries })
+  pub all_gone : (entry : MountEntry) → Among entry entries → goes entry.mount ≡ false
+  pub typed : new.mounts ≡ map (typed_entry groups) entries
+  pub has : Has (regrouped nat_eq start) groups
+
+module _ (value : WorldValue) (whole : IsHeld value) (world : World ℕ) (invariants : MountInvariants nat_eq world)
+    (tasks : Tasks) (count : ℕ) (entries : List NamespaceEntry)
+    (counts : (entry : NamespaceEntry) → Among entry entries → CountsOneMore count tasks entry)
+    (namespaces : List (Namespace ℕ))
+    (stays : (mount : Mount ℕ) → Among mount world.mounts
+    → goes_with (ends count tasks entries counts) (counted count) mount ≡ false
+    → (place : Location ℕ) → mount.mount_point ≡ Some place
+    → goes_with (ends count tasks entries counts) (counted count) (mount_at nat_eq world place) ≡ false) where
+  abbrev ends_now : Bool
+  ends_now = ends count tasks entries counts
+
+  abbrev pub going : Mount ℕ → Bool
+  going mount = goes_with (ends count tasks entries counts) (counted count) mount
+
+  abbrev start : World ℕ
+  start = left_world world invariants tasks going namespaces stays
+
+  module _ (before : Grouping) (has : Has world before) (gained : List Inode) (old new : Kept)
+      (reached : Reached value start gained going [] old) (typed : AreTyped before old.mounts)
+      (inside : ends_now ≡ true → numbers_inside (counted count) old.mounts
+      ≡ gone_numbers world invariants tasks going namespaces stays) (groups : Grouping) where
+    -- no namespace ends
+    stay : ends_now ≡ false → (new ≡ old) × (groups ≡ before) → IsLeft value start gained going new groups
+    stay none same = record {
+      entries = new.mounts;
+      reached = subst (Reached value start gained going []) (sym same.0) reached;
+      all_gone = λ entry m. goes_not entry.mount;
+      typed = sym (subst (λ (k : Kept). map (typed_entry groups) k.mounts ≡ k.mounts) (sym same.0)
+          (subst (λ one. map (typed_entry one) old.mounts ≡ old.mounts) (sym same.1)
+          (all_typed before old.mounts typed)));
+      has = subst (Has (regrouped nat_eq start)) (sym same.1)
+          (left_has_same world invariants tasks going namespaces stays goes_not before has);
+    }
+      where
+        goes_not : (mount : Mount ℕ) → going mount ≡ false
+        goes_not mount = ap (λ b. goes_with b (counted count) mount) none
+
+    -- one does: its mounts leave their groups at once
+    leave : ends_now ≡ true → NamespaceIsLeft (counted count) old before new groups
+        → IsLeft value start gained going new groups
+    leave last gone = record {
+      entries = gone.entries;
+      reached = detaches_all value whole start gained going (goes_with_attached ends_now (counted count))
+          (counted count)
+          (λ mount its. (λ i. last i && holds_of (nat_eq (counted count)) (its i))
+          ∙ eq-eqb (counted count) (counted count) refl)
+          gone.ends.gone [] old (record new { mounts = gone.entries }) gone.ends.detached reached;
+      all_gone = λ entry m.
+          ap (λ b. ends_now && b) (fails (is_attached_in (counted count)) gone.entries gone.ends.none_left entry m)
+          ∙ and-false ends_now;
+      typed = gone.types (has_ordered world before has) typed;
+      has = left_has_groups world invariants tasks going namespaces stays before groups has
+          (subst (TakesAway before groups) (inside last) gone.groups);
+    }
+
+    pub leaves : MountsAreLeft (counted count) (namespace_entry count entries) old before new groups
+        → IsLeft value start gained going new groups
+    leaves left = by (namespace_entry count entries) refl left
+      where
+        by : (o : Option NamespaceEntry) → namespace_entry count entries ≡ o
+            → MountsAreLeft (counted count) o old before new groups → IsLeft value start gained going new groups
+        by None e same = stay (ap (ends_by count tasks entries counts) e) same
+        by (Some entry) e same = chosen (has_one_task entry) refl same
+          where
+            chosen : (b : Bool) → has_one_task entry ≡ b → EndsIf b (counted count) old before new groups
+                → IsLeft value start gained going new groups
+            chosen false f h = stay (ap (ends_by count tasks entries counts) e ∙ f) h
+            chosen true f h = leave (ap (ends_by count tasks entries counts) e ∙ f) h

@@ -1,0 +1,21 @@
+-- The filesystem that the mount of a location shows, where the location is there: the one of its node.
+use Rattle.std.specs.Prelude.{map, nat_eq, true, ℕ, ◌≡◌}
+use Rattle.std.proofs.lemmas.Bool.{and_parts}
+use Rattle.vt_spec.specs.Lists.{is_among}
+use Rattle.vt_location.specs.declared.locations.Location.{Location}
+use Rattle.vt_location.specs.Locations.{is_small_node, location_of}
+use Rattle.vt_location.specs.Numbers.{counted}
+use Rattle.vt_spec.specs.Machine.Mounts.{Mount}
+use Rattle.vt_spec.specs.Machine.World.{mount_at}
+use Rattle.vt_spec.specs.Machine.Invariants.{is_located_well}
+use Rattle.vt_world.specs.Held.{IsHeld}
+use Rattle.vt_world.specs.WorldValue.{WorldValue, world_of}
+use Rattle.vt_mounting.proofs.detach.NodesFound.{at_home}
+
+pub seen_where_located : (value : WorldValue) → IsHeld value → (at : Location) → is_small_node at.node ≡ true
+    → is_located_well nat_eq (world_of value) (location_of at) ≡ true
+    → (mount_at nat_eq (world_of value) (location_of at)).filesystem ≡ counted at.node.filesystem.count
+seen_where_located value held at small there =
+    at_home value held (mount_at nat_eq (world_of value) (location_of at)).filesystem at.node small
+    (and_parts (is_among nat_eq (counted at.mount.count)
+    (map (λ (mount : Mount ℕ). mount.number) (world_of value).mounts)) _ there).1

@@ -1,0 +1,91 @@
+-- The end of a namespace whose mounts are in peer groups: exit(2), setns(2), unshare(2). Its mounts leave their groups
+-- at once, and the others get the types that the groups then tell.
+use Rattle.std.proofs.Common.{◌≡◌, refl, sym, ap, subst, ◌∙◌, ℕ, nat_eq, Bool, true, false, cond, List, map, filter, Some, is_some}
+use Rattle.std.specs.List.{list_any}
+use Rattle.vt_spec.specs.Machine.Detach.{taken_away}
+use Rattle.vt_spec.specs.Machine.Mounts.{Location, Mount, detached}
+use Rattle.vt_spec.specs.Machine.Mounts.Propagation.{Private}
+use Rattle.vt_spec.specs.Machine.Receives.{lost_a_group, regrouped, regrouped_by}
+use Rattle.vt_spec.specs.Machine.World.{Namespace, World, mount_at, with_mounts}
+use Rattle.vt_spec.specs.Machine.Invariants.{MountInvariants, is_nowhere_or_attached}
+use Rattle.vt_group.specs.Grouping.{Grouping, Has}
+use Rattle.vt_group.specs.Together.{TakesAway}
+use Rattle.vt_group.proofs.Together.{regrouped_living}
+use Rattle.vt_laws_mounts.proofs.letting_go.Lists.{Among, among-from_map, map_same, passes}
+use Rattle.vt_tasks.specs.TasksValue.{Tasks}
+use Rattle.vt_mounting.proofs.detach.Grouped.{same_has, stays_private}
+use Rattle.vt_mounting.proofs.detach.Midway.{gone_if}
+use Rattle.vt_mounting.proofs.detach.NamespacesEnded.{taken_regrouped}
+
+-- Groups are lost by mounts and masters alone
+pub regrouped_beside : (world : World ℕ) (namespaces : List (Namespace ℕ)) (tasks : Tasks)
+    → regrouped nat_eq (record world { namespaces = namespaces; tasks = tasks })
+    ≡ record (regrouped nat_eq world) { namespaces = namespaces; tasks = tasks }
+regrouped_beside world namespaces tasks = by (list_any (lost_a_group nat_eq world) world.mounts)
+  where
+    by : (b : Bool) → regrouped_by nat_eq b (record world { namespaces = namespaces; tasks = tasks })
+        ≡ record (regrouped_by nat_eq b world) { namespaces = namespaces; tasks = tasks }
+    by true = refl
+    by false = refl
+
+-- Mounts of a world are detached, and then the groups without members end
+module _ (world : World ℕ) (invariants : MountInvariants nat_eq world) (tasks : Tasks) (goes : Mount ℕ → Bool)
+    (namespaces : List (Namespace ℕ))
+    (stays : (mount : Mount ℕ) → Among mount world.mounts → goes mount ≡ false → (place : Location ℕ)
+    → mount.mount_point ≡ Some place → goes (mount_at nat_eq world place) ≡ false) where
+  -- the world with these mounts detached, and no group ended yet
+  abbrev pub left_world : World ℕ
+  left_world = record (with_mounts world (map (gone_if goes) world.mounts)) { namespaces = namespaces; tasks = tasks }
+
+  abbrev pub gone_numbers : List ℕ
+  gone_numbers = map (λ (mount : Mount ℕ). mount.number) (filter goes world.mounts)
+
+  pub taken_is_left : record (taken_away nat_eq
+      (record world { tasks = tasks }) gone_numbers) { namespaces = namespaces }
+      ≡ regrouped nat_eq left_world
+  taken_is_left =
+      ap (λ (one : World ℕ). record one { namespaces = namespaces })
+      (taken_regrouped (record world { tasks = tasks }) invariants.one_number goes stays)
+      ∙ ap (λ (one : World ℕ). record one { namespaces = namespaces })
+      (regrouped_beside (with_mounts world (map (gone_if goes) world.mounts)) world.namespaces tasks)
+      ∙ sym (regrouped_beside (with_mounts world (map (gone_if goes) world.mounts)) namespaces tasks)
+
+  -- the groups are those of that world, once it is regrouped
+  pub left_has_groups : (before groups : Grouping) → Has world before → TakesAway before groups gone_numbers
+      → Has (regrouped nat_eq left_world) groups
+  left_has_groups before groups has follows =
+      subst (λ one. Has one groups) (sym
+      (regrouped_beside (with_mounts world (map (gone_if goes) world.mounts)) namespaces tasks))
+      (same_has (regrouped nat_eq (with_mounts world (map (gone_if goes) world.mounts)))
+      (record (regrouped nat_eq (with_mounts world
+      (map (gone_if goes) world.mounts))) { namespaces = namespaces; tasks = tasks }) groups
+      (subst (λ one. Has one groups) (taken_regrouped world invariants.one_number goes stays)
+      (follows world has invariants.groups)) refl (λ group. refl))
+
+  -- where none is detached, no group ends
+  pub left_has_same : ((mount : Mount ℕ) → goes mount ≡ false) → (groups : Grouping) → Has world groups
+      → Has (regrouped nat_eq left_world) groups
+  left_has_same none groups has =
+      subst (λ one. Has one groups) (sym none_end) (same_has world left_world groups has same_mounts (λ group. refl))
+    where
+      same_mounts : map (gone_if goes) world.mounts ≡ world.mounts
+      same_mounts = map_same (gone_if goes) world.mounts (λ mount m.
+          ap (λ b. cond b (detached mount) mount) (none mount))
+
+      none_end : regrouped nat_eq left_world ≡ left_world
+      none_end =
+          ap (λ (mounts : List (Mount ℕ)). regrouped nat_eq (record left_world { mounts = mounts })) same_mounts
+          ∙ regrouped_beside world namespaces tasks
+          ∙ ap (λ (one : World ℕ). record one { namespaces = namespaces; tasks = tasks })
+          (regrouped_living world invariants.groups)
+          ∙ ap (λ (mounts : List (Mount ℕ)). record left_world { mounts = mounts }) (sym same_mounts)
+
+  -- a mount that is in no namespace is private
+  pub nowhere_private : (mount : Mount ℕ) → Among mount left_world.mounts → is_some mount.namespace ≡ false
+      → mount.propagation ≡ Private
+  nowhere_private mount m none =
+      let from = among-from_map (gone_if goes) world.mounts mount m in
+      ap (λ (x : Mount ℕ). x.propagation) from.2
+      ∙ stays_private from.0 (passes is_nowhere_or_attached world.mounts invariants.nowhere from.0 from.1)
+      (goes from.0)
+      (ap (λ (x : Mount ℕ). is_some x.namespace) (sym from.2) ∙ none)

@@ -1,0 +1,253 @@
+-- Events of tasks in which no location is left: umask(2), capset(2).
+use Rattle.std.proofs.Common.{◌≡◌, refl, sym, ap, subst, ◌∙◌, ℕ, ◌||◌, ◌&&◌, nat_eq, eq-eqb, true, [], ◌∷◌, ◌++◌, map, filter, flat_map, Some, arith}
+use Rattle.std.specs.Prelude.{filter_map, option_map, unwrap_or}
+use Rattle.vt_spec.specs.Language.Calls.{TaskName}
+use Rattle.vt_spec.specs.Lists.{Fresh}
+use Rattle.vt_spec.specs.Machine.Apply.{apply}
+use Rattle.vt_spec.specs.Machine.Mounts.{Location, root_of, same_location}
+use Rattle.vt_spec.specs.Machine.Permits.{Permit}
+use Rattle.vt_spec.specs.Machine.Permits.Permit.{ToSetCredentials, ToSetUmask}
+use Rattle.vt_spec.specs.Machine.Tasks.{with_dropped}
+use Rattle.vt_spec.specs.Rights.{Credentials}
+use Rattle.std.proofs.lemmas.Option.{same_Some}
+use Rattle.vt_spec.specs.Machine.SameWorlds.{SameWorlds}
+use Rattle.vt_spec.specs.Machine.Settled.{layers_in, located_in, named_in, objects_of_overlay, settled}
+use Rattle.vt_spec.specs.Machine.World.{Filesystem, Task, all_locations, first_credentials, locations_of, mount_at, task_called, with_task}
+use Rattle.vt_spec.specs.Machine.Invariants.{IsWorld}
+use Rattle.vt_fs.specs.FilesystemsValue.{filesystem_seen}
+use Rattle.vt_laws_rules.specs.Numbers.{KeepsTo}
+use Rattle.vt_laws_mounts.specs.LettingGo.Counts.{inode_uses, times}
+use Rattle.vt_laws_mounts.specs.LettingGo.Leaving.{is_location_among, only_these_are_left}
+use Rattle.vt_laws_mounts.proofs.letting_go.Lists.{Among, all_from_among, all_pass, among_from_all, any_passes, or_first}
+use Rattle.vt_location.specs.Numbers.{counted}
+use Rattle.vt_laws_trees.proofs.runs.answered.AlikeWorlds.{sameness_is_an_equivalence}
+use Rattle.vt_tasks.specs.Counts.{one_if}
+use Rattle.vt_laws_mounts.proofs.letting_go.sweeps.OfWorlds.{worlds_are_settled}
+use Rattle.vt_laws_mounts.proofs.letting_go.leaving.LeftWithOverlays.{staying_keeps_overlays}
+use Rattle.vt_laws_worlds.specs.Permits.Left.{IsGiven}
+use Rattle.vt_laws_worlds.specs.Permits.Named.{permit_named}
+use Rattle.vt_laws_worlds.proofs.permits.named.PermitsKeepTo.{permits_keep_to_numbers}
+use Rattle.vt_laws_worlds.specs.OverlaysRead.Writers.{WritersHaveLayers}
+use Rattle.vt_laws_worlds.proofs.overlays_stay.left.Given.{given_permits_give_no_upper}
+use Rattle.vt_laws_trees.specs.Runs.Handed.{is_counted_before}
+use Rattle.vt_tasks.specs.TasksValue.{Tasks, changed_by, changed_called, replaced}
+use Rattle.vt_mounting.specs.Detach.Events.{Becomes, Permits, credentials_called, left_by, supply_of}
+use Rattle.vt_world.specs.Held.{CountsItsMounts, CountsItsUses, CountsWhatIsInIt, IsHeld, writes_of, writes_of_task, writes_on}
+use Rattle.vt_world.specs.WorldValue.{WorldValue, world_of}
+use Rattle.vt_mounting.proofs.detach.Splits.{locations_stay, replaced_split, times_replaced, writes_replaced}
+use Rattle.vt_mounting.proofs.detach.Overlaid.{overlays_counted}
+use Rattle.vt_mounting.proofs.detach.Grouped.{same_has}
+use Rattle.vt_mounting.proofs.detach.Writers.{left_writers}
+
+-- the world with other tasks
+abbrev pub after : WorldValue → Tasks → WorldValue
+after value tasks = record value { tasks = tasks }
+
+-- Where all locations are as they were, all counts are.
+
+module _ (value : WorldValue) (tasks : Tasks)
+    (same : all_locations (world_of (after value tasks)) ≡ all_locations (world_of value)) where
+  same_located : (number : ℕ) → located_in nat_eq (world_of (after value tasks)) number
+      ≡ located_in nat_eq (world_of value) number
+  same_located number = λ i. map (λ location. location.node)
+      (filter (λ location. nat_eq number (mount_at nat_eq (world_of value) location).filesystem)
+      (same i ++ map root_of (world_of value).mounts
+      ++ filter_map (λ mount. mount.mount_point) (world_of value).mounts))
+
+  same_uses : (filesystem : Filesystem ℕ) (number : ℕ)
+      → inode_uses (world_of value) filesystem number ≡ inode_uses (world_of (after value tasks)) filesystem number
+  same_uses filesystem number = λ i.
+      times (nat_eq number) (filesystem.files.tree.root
+      ∷ (named_in filesystem.files ++ sym (same_located filesystem.number) i
+      ++ layers_in nat_eq (world_of value) filesystem.number
+      ++ flat_map (objects_of_overlay nat_eq filesystem.number) (world_of value).filesystems))
+
+  -- what holds of each world holds where tasks keep what they use
+  pub stays_held : IsHeld value
+      → ((mount : ℕ) → writes_of mount tasks ≡ writes_of mount value.tasks)
+      → ((namespace : ℕ) → times (λ task. nat_eq namespace task.namespace) tasks
+      ≡ times (λ task. nat_eq namespace task.namespace) value.tasks)
+      → IsWorld nat_eq (world_of (after value tasks))
+      → KeepsTo (is_counted_before value.next) (world_of (after value tasks))
+      → WritersHaveLayers (world_of (after value tasks)) → IsHeld (after value tasks)
+  stays_held held writes inside is keeps writers = record {
+    in_world = is;
+    groups = same_has (world_of value) (world_of (after value tasks)) value.groups held.groups refl (λ group. refl);
+    given = keeps;
+    mounts = all_from_among (CountsItsUses (world_of (after value tasks))) value.mounts (λ entry m.
+        let was = among_from_all (CountsItsUses (world_of value)) value.mounts held.mounts entry m in record {
+          uses = was.uses ∙ ap (λ locations.
+              times (λ (location : Location ℕ). nat_eq entry.mount.number location.mount) locations) (sym same);
+          writers = was.writers ∙ sym (writes entry.mount.number);
+        });
+    filesystems = all_from_among (CountsItsMounts (world_of (after value tasks))) value.filesystems (λ entry m.
+        let was = among_from_all (CountsItsMounts
+        (world_of value)) value.filesystems held.filesystems entry m in record {
+          mounts = was.mounts;
+          inodes = record {
+            root = was.inodes.root;
+            node = was.inodes.node;
+            uses = λ number. was.inodes.uses number ∙ same_uses (filesystem_seen entry) number;
+            count = was.inodes.count;
+            once = was.inodes.once;
+          };
+        });
+    own_inodes = held.own_inodes;
+    overlays = record {
+      merged = held.overlays.merged;
+      read_only = held.overlays.read_only;
+      writers = writers;
+      named = held.overlays.named;
+      overlays_rise = held.overlays.overlays_rise;
+      all_rise = held.overlays.all_rise;
+      mounts = overlays_counted value (after value tasks) held.overlays refl (λ number. refl);
+      own_nodes = held.overlays.own_nodes;
+    };
+    namespaces = all_from_among (CountsWhatIsInIt (world_of (after value tasks))) value.namespaces (λ entry m.
+        let was = among_from_all (CountsWhatIsInIt
+        (world_of value)) value.namespaces held.namespaces entry m in record {
+          tasks = was.tasks ∙ sym (inside (counted entry.count));
+        });
+  }
+
+  -- no location is left
+  pub none_left : only_these_are_left (world_of value) tasks [] ≡ true
+  none_left =
+      all_pass (λ location. is_location_among (all_locations (world_of (after value tasks))) location
+      || is_location_among [] location)
+      (all_locations (world_of value))
+      (λ location m. or_first _ _ (any_passes (same_location nat_eq location)
+      (all_locations (world_of (after value tasks))) location
+      (subst (λ locations. Among location locations) (sym same) m)
+      (λ i. eq-eqb location.mount location.mount refl i && eq-eqb location.node location.node refl i)))
+
+-- What an event leaves in which a task gets another umask or other credentials, in the same place
+
+pub record IsStaying (value : WorldValue) (name : TaskName) (permit : Permit ℕ) (task new : Task ℕ) : Type 0 where
+  pub called : task_called (world_of value) name ≡ Some task
+  pub given : IsGiven (supply_of value permit) (world_of value) task permit
+  pub named : permit_named (is_counted_before value.next) permit ≡ true
+  pub applied : (fresh : Fresh ℕ)
+      → (apply nat_eq fresh (world_of value) task permit).world ≡ with_task (world_of value) new
+  pub same_name : new.name ≡ task.name
+  pub same_places : locations_of new ≡ locations_of task
+  pub same_namespace : new.namespace ≡ task.namespace
+  pub same_descriptors : new.descriptors ≡ task.descriptors
+
+module _ (value : WorldValue) (name : TaskName) (permit : Permit ℕ) (task new : Task ℕ) (held : IsHeld value)
+    (stays : IsStaying value name permit task new) where
+  abbrev tasks_after : Tasks
+  tasks_after = replaced new value.tasks
+
+  places_stay : all_locations (world_of (after value tasks_after)) ≡ all_locations (world_of value)
+  places_stay =
+      locations_stay task new value.tasks tasks_after
+      (replaced_split name value.tasks task new held.in_world.tasks.one_task stays.called stays.same_name) stays.same_places
+
+  -- the settled world is the one with the new task
+  pub stayed_exactly : (fresh : Fresh ℕ)
+      → settled nat_eq (apply nat_eq fresh (world_of value) task permit).world ≡ world_of (after value tasks_after)
+  stayed_exactly fresh =
+      ap (settled nat_eq) (stays.applied fresh)
+      ∙ staying_keeps_overlays (world_of value) tasks_after (worlds_are_settled (world_of value) held.in_world)
+      (none_left value tasks_after places_stay)
+
+  -- and code's world but for change numbers
+  pub stayed_becomes : SameWorlds (left_by value task permit) (world_of (after value tasks_after))
+  stayed_becomes =
+      subst (λ world. SameWorlds world (world_of (after value tasks_after)))
+      (sym (stayed_exactly (supply_of value permit)))
+      (sameness_is_an_equivalence.itself (world_of (after value tasks_after)))
+
+  -- what holds of each world holds of it
+  pub stayed_held : IsHeld (after value tasks_after)
+  stayed_held =
+      stays_held value tasks_after places_stay held
+      (λ mount. let moved = writes_replaced name value.tasks task new held.in_world.tasks.one_task stays.called stays.same_name mount in
+      let own : writes_of_task mount new
+      ≡ writes_of_task mount task = ap (times (writes_on mount)) stays.same_descriptors in omega
+      (arith, moved, own))
+      (λ namespace. let moved = times_replaced name value.tasks task new held.in_world.tasks.one_task stays.called stays.same_name (λ one. nat_eq namespace one.namespace) in
+      let own : one_if (nat_eq namespace new.namespace)
+      ≡ one_if (nat_eq namespace task.namespace) = ap
+      (λ number. one_if (nat_eq namespace number)) stays.same_namespace in
+      omega (arith, moved, own))
+      (subst (IsWorld nat_eq) (stayed_exactly (supply_of value permit))
+      (given_permits_give_no_upper (world_of value) (supply_of value permit) task permit held.in_world
+      held.overlays.read_only stays.given).0)
+      (subst (KeepsTo (is_counted_before value.next)) (stayed_exactly (λ k. 0))
+      (permits_keep_to_numbers (is_counted_before value.next) (λ k. 0)
+      (world_of value) task permit stays.given.called held.given (λ k. refl) stays.named))
+      (subst WritersHaveLayers (stayed_exactly (supply_of value permit))
+      (left_writers value held task permit stays.given))
+
+-- an event that leaves the invariants and does what its permit says
+pub record IsDone (value : WorldValue) (name : TaskName) (permit : Permit ℕ) (new : WorldValue) : Type 0 where
+  pub held : IsHeld new
+  pub becomes : Becomes value name permit new
+
+-- a world that code leaves is the one that the permit leaves
+pub becomes_so : (value : WorldValue) (name : TaskName) (permit : Permit ℕ) (new : WorldValue) (task : Task ℕ)
+    → task_called (world_of value) name ≡ Some task → SameWorlds (left_by value task permit) (world_of new)
+    → Becomes value name permit new
+becomes_so value name permit new task found same other called =
+    subst (λ one. SameWorlds (left_by value one permit) (world_of new)) (same_Some task other (sym found ∙ called)) same
+
+-- An event that changes a task and nothing that it uses is done.
+pub staying_is_done : (value : WorldValue) (name : TaskName) (permit : Permit ℕ) (task new : Task ℕ) (tasks : Tasks)
+    → IsHeld value
+    → IsStaying value name permit task new → tasks ≡ replaced new value.tasks
+    → IsDone value name permit (after value tasks)
+staying_is_done value name permit task new tasks held stays is =
+    subst (λ others. IsDone value name permit (after value others)) (sym is) (record {
+      held = stayed_held value name permit task new held stays;
+      becomes = becomes_so value name permit (after value (replaced new value.tasks)) task stays.called
+          (stayed_becomes value name permit task new held stays);
+    })
+
+-- The events
+
+-- the umask is set
+pub umask_is_set : (value : WorldValue) (name : TaskName) (umask : ℕ) (tasks : Tasks) → IsHeld value
+    → Permits value name (ToSetUmask umask)
+    → tasks ≡ changed_called name (λ task. record task { umask = umask }) value.tasks
+    → IsDone value name (ToSetUmask umask) (after value tasks)
+umask_is_set value name umask tasks held permits is =
+    staying_is_done value name (ToSetUmask umask) permits.task (record permits.task { umask = umask }) tasks held
+    (record {
+      called = permits.called;
+      given = permits.given;
+      named = refl;
+      applied = λ fresh. refl;
+      same_name = refl;
+      same_places = refl;
+      same_namespace = refl;
+      same_descriptors = refl;
+    })
+    (is ∙ ap (changed_by (λ task. record task { umask = umask }) value.tasks) permits.called)
+
+-- capabilities are dropped
+pub caps_are_dropped : (value : WorldValue) (name : TaskName) (bits : ℕ) (tasks : Tasks) → IsHeld value
+    → Permits value name (ToSetCredentials (with_dropped (credentials_called value name) bits))
+    → tasks ≡ changed_called name (λ task. record task { credentials = with_dropped task.credentials bits }) value.tasks
+    → IsDone value name (ToSetCredentials (with_dropped (credentials_called value name) bits)) (after value tasks)
+caps_are_dropped value name bits tasks held permits is =
+    staying_is_done value name (ToSetCredentials credentials) permits.task
+    (record permits.task { credentials = credentials }) tasks held
+    (record {
+      called = permits.called;
+      given = permits.given;
+      named = refl;
+      applied = λ fresh. refl;
+      same_name = refl;
+      same_places = refl;
+      same_namespace = refl;
+      same_descriptors = refl;
+    })
+    (is ∙ ap (changed_by (λ task. record task { credentials = with_dropped task.credentials bits }) value.tasks) permits.called
+    ∙ ap (λ own. replaced (record permits.task { credentials = with_dropped own bits }) value.tasks)
+    (sym (ap (λ found. unwrap_or (option_map
+    (λ (task : Task ℕ). task.credentials) found) first_credentials) permits.called)))
+  where
+    credentials : Credentials
+    credentials = with_dropped (credentials_called value name) bits

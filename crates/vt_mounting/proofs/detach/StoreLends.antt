@@ -1,0 +1,133 @@
+-- What a store lends for its nodes is what the world that holds it tells.
+use Rattle.std.proofs.Common.{◌≡◌, refl, sym, ap, ◌∙◌, inl, inr, zero, suc, ℕ, nat_eq, eqb-true, List, [], ◌∷◌, Option, Some, None, option_map, arith}
+use Rattle.std.specs.Prelude.{All, slice_get}
+use Rattle.std.proofs.lemmas.Option.{same_Some, slice_get-map}
+use Rattle.vt_spec.proofs.Found.{found_among, found_passes}
+use Rattle.vt_spec.proofs.Options.{none_is_some}
+use Rattle.vt_spec.specs.Lists.{then_some}
+use Rattle.vt_spec.specs.Machine.Layers.{at_path, node_at_path}
+use Rattle.vt_spec.specs.Machine.World.{Filesystem, Layer, Real, World, filesystem_numbered, open_layer}
+use Rattle.vt_spec.specs.Machine.World.Real.{Lower, Upper}
+use Rattle.vt_laws_mounts.proofs.letting_go.Lists.{Among, among-map, among_from_all}
+use Rattle.vt_world.proofs.overlays_kept.inodes.InodesInOrder.{inodes_have_their_objects}
+use Rattle.vt_world.proofs.overlays_kept.lending.ObjectsLent.{real_objects_are_lent}
+use Rattle.vt_world.specs.OverlaysKept.Kept.{ShowsLayer, with_objects}
+use Rattle.vt_world.specs.OverlaysKept.Lending.{lent_on, object_lent}
+use Rattle.vt_laws_trees.proofs.trees.TreesOfWorlds.{number_numbered}
+use Rattle.vt_location.specs.Numbers.{counted}
+use Rattle.vt_fs.specs.FilesystemsValue.{filesystem_seen, entry_at, node_seen}
+use Rattle.vt_overlay.specs.Merge.LayerValue.{layer_of}
+use Rattle.vt_overlay.specs.declared.merge.layers.LayerRef.{LayerRef}
+use Rattle.vt_overlay.specs.Alike.{lent_at, real_lent}
+use Rattle.vt_overlay.specs.MergedTree.{AreLayers, layer_seen}
+use Rattle.vt_store.specs.OverlaysValue as stored
+use Rattle.vt_store.specs.StoreValue.{StoreValue, entry_in, filesystems_of, lent_in, overlay_in}
+use Rattle.vt_store.specs.StoreValue as stores
+use Rattle.vt_world.specs.Held.{IsHeld}
+use Rattle.vt_world.specs.Lent.{count_of, lent_by, lent_in_layers, lent_of_world}
+use Rattle.vt_world.specs.StoredWorld.{overlay_of_store, with_store}
+use Rattle.vt_world.specs.WorldValue.{WorldValue, world_of}
+use Rattle.vt_mounting.proofs.detach.LayersShown.{layers_shown_well}
+use Rattle.vt_mounting.proofs.detach.StoreShown.{overlay_found, plain_found}
+
+count_back : (count : ℕ) → count_of (counted count) ≡ count
+count_back count = omega arith
+
+among_slice : (list : List LayerRef) (place : ℕ) (layer : LayerRef) → slice_get list place ≡ Some layer
+    → Among layer list
+among_slice [] place layer e = absurd (none_is_some layer e)
+among_slice (first ∷ list) zero layer e = inl (sym (same_Some first layer e))
+among_slice (first ∷ list) (suc place) layer e = inr (among_slice list place layer e)
+
+module _ (base : WorldValue) (store : StoreValue) (held : IsHeld (with_store store base)) where
+  abbrev world : World ℕ
+  world = world_of (with_store store base)
+
+  module _ (entry : stored.OverlayEntry) (m : Among entry store.overlays) where
+    shown : AreLayers store.plain entry.overlay.lowers
+        × All (ShowsLayer (world_of (with_store store base)) store.plain) entry.overlay.lowers
+    shown =
+        layers_shown_well (with_store store base) held (overlay_of_store store.plain entry)
+        (among-map (overlay_of_store store.plain) store.overlays entry m) entry.overlay.lowers refl
+
+    -- what a path leads to in a layer, in the store and in the world
+    layer_lends : (path : List (List ℕ)) (layer : LayerRef) → Among layer entry.overlay.lowers
+        → lent_on store.plain path layer
+        ≡ option_map (node_seen (count_of (counted layer.directory.filesystem.count)))
+        (node_at_path (open_layer nat_eq (world_of (with_store store base)) (layer_seen layer)) path)
+    layer_lends path layer n =
+        by (at_path (layer_of store.plain layer) path)
+        ∙ ap (λ open_layer. option_map (node_seen layer.directory.filesystem.count) (node_at_path open_layer path))
+        (λ i. record (layer_of store.plain layer) {
+          tree = (among_from_all (ShowsLayer (world_of (with_store store base)) store.plain) entry.overlay.lowers
+              shown.1 layer n).tree i;
+        })
+        ∙ ap (λ count. option_map (node_seen count)
+        (node_at_path (open_layer nat_eq (world_of (with_store store base)) (layer_seen layer)) path))
+        (sym (count_back layer.directory.filesystem.count))
+      where
+        by : (o : Option ℕ)
+            → then_some o (λ object. lent_at store.plain object layer)
+            ≡ option_map (node_seen layer.directory.filesystem.count)
+            (then_some o (λ object. (layer_of store.plain layer).tree.node object))
+        by None = refl
+        by (Some object) = refl
+
+    object_lends : (real : Real ℕ)
+        → object_lent store.plain entry.overlay real
+        ≡ lent_in_layers (world_of (with_store store base)) (with_objects store.plain entry.overlay) real
+    object_lends (Upper object) = refl
+    object_lends (Lower place path) =
+        by (slice_get entry.overlay.lowers place) refl
+        ∙ ap (λ o. then_some o (λ (layer : Layer ℕ). option_map (node_seen (count_of layer.filesystem))
+        (node_at_path (open_layer nat_eq (world_of (with_store store base)) layer) path)))
+        (sym (slice_get-map layer_seen entry.overlay.lowers place))
+      where
+        by : (o : Option LayerRef) → slice_get entry.overlay.lowers place ≡ o
+            → then_some o (lent_on store.plain path)
+            ≡ then_some (option_map layer_seen o) (λ (layer : Layer ℕ).
+            option_map (node_seen (count_of layer.filesystem))
+            (node_at_path (open_layer nat_eq (world_of (with_store store base)) layer) path))
+        by None at = refl
+        by (Some layer) at = layer_lends path layer (among_slice entry.overlay.lowers place layer at)
+
+    -- the overlay in the world has the real objects
+    overlay_is : (filesystem_numbered nat_eq (world_of (with_store store base)) (counted entry.count)).overlay
+        ≡ Some (with_objects store.plain entry.overlay)
+    overlay_is =
+        ap (λ (f : Filesystem ℕ). f.overlay) (overlay_found base store held entry m)
+        ∙ (λ i. Some (record (with_objects store.plain entry.overlay) {
+          real = inodes_have_their_objects store.plain entry.overlay shown.0 i;
+        }))
+
+    over_lends : (number : ℕ)
+        → real_lent store.plain entry.overlay number
+        ≡ lent_of_world (world_of (with_store store base)) (counted entry.count) number
+    over_lends number =
+        real_objects_are_lent store.plain entry.overlay shown.0 number
+        ∙ ap (then_some ((with_objects store.plain entry.overlay).real number)) (λ i. λ real. object_lends real i)
+        ∙ ap (lent_by (world_of (with_store store base)) number
+        (filesystem_numbered nat_eq (world_of (with_store store base)) (counted entry.count))) (sym overlay_is)
+
+  -- each node
+  pub store_lends : (count number : ℕ)
+      → lent_in store count number ≡ lent_of_world (world_of (with_store store base)) (counted count) number
+  store_lends count number = by (entry_in store count) refl
+    where
+      by : (o : Option stored.OverlayEntry) → entry_in store count ≡ o
+          → stores.lent_by store.plain count number (option_map (λ entry. entry.overlay) o)
+          ≡ lent_of_world (world_of (with_store store base)) (counted count) number
+      by None e =
+          let found = plain_found base store held count (ap (option_map (λ entry. entry.overlay)) e) in
+          let number_is : (filesystem_seen (entry_at store.plain count)).number ≡ counted count =
+          ap (λ (f : Filesystem ℕ). f.number) (sym found)
+          ∙ number_numbered (counted count) (world_of (with_store store base)).filesystems in
+          ap (λ n. option_map (node_seen n) ((filesystem_seen (entry_at store.plain count)).files.tree.node number))
+          (sym (ap count_of number_is ∙ count_back count))
+          ∙ ap (λ (f : Filesystem ℕ). lent_by (world_of (with_store store base)) number f f.overlay) (sym found)
+      by (Some entry) e =
+          let same = eqb-true count entry.count
+          (found_passes (λ (one : stored.OverlayEntry). nat_eq count one.count) store.overlays entry e) in
+          over_lends entry (found_among (λ (one : stored.OverlayEntry). nat_eq count one.count) store.overlays entry e)
+          number
+          ∙ ap (λ n. lent_of_world (world_of (with_store store base)) (counted n) number) (sym same)

@@ -1,0 +1,138 @@
+-- The filesystems of a store are those of the world that holds it.
+use Rattle.std.proofs.Common.{◌≡◌, refl, sym, ap, subst, ◌∙◌, ⊎_elim, ℕ, nat_eq, eq-eqb, Bool, true, false, cond, not, List, [], ◌∷◌, find, Option, Some, None, unwrap_or, option_map, arith}
+use Rattle.std.specs.Prelude.{All}
+use Rattle.vt_spec.proofs.Options.{none_is_some}
+use Rattle.vt_spec.specs.Machine.World.{Filesystem, World, filesystem_numbered, no_filesystem}
+use Rattle.vt_spec.specs.Tree.{Tree}
+use Rattle.vt_spec.specs.TreeInvariant.{HasOwnParents, IsTree}
+use Rattle.vt_laws_mounts.proofs.letting_go.Lists.{Among, all_from_among, among-from_map, among-map}
+use Rattle.vt_laws_mounts.proofs.letting_go.sweeps.OfWorlds.{found_filesystem}
+use Rattle.vt_world.proofs.overlays_kept.inodes.InodesInOrder.{inodes_are_the_tree}
+use Rattle.vt_laws_worlds.proofs.overlays_stay.weaving.WovenLists.{plain_ones_are_found}
+use Rattle.vt_laws_trees.proofs.trees.TreesOfWorlds.{number_numbered, numbered_all}
+use Rattle.vt_location.specs.Numbers.{counted}
+use Rattle.vt_location.proofs.NumberLemmas.{counted_test}
+use Rattle.vt_fs.proofs.Numbers.{found_by_number}
+use Rattle.vt_fs.proofs.Parents.{parents_named}
+use Rattle.vt_fs.specs.FilesystemsValue.{entry_at, filesystem_seen, filesystems_seen}
+use Rattle.vt_fs.specs.Laws.{ParentsAreNamed}
+use Rattle.vt_overlay.specs.MergedTree.{OverlayValue}
+use Rattle.vt_store.proofs.Woven.{is_over, is_plain}
+use Rattle.vt_store.specs.OverlaysValue as stored
+use Rattle.vt_store.specs.StoreValue.{StandOnLayers, StandsOnLayers, StoreValue, entry_in, files_in, filesystems_of, overlay_in}
+use Rattle.vt_world.specs.Held.{IsHeld}
+use Rattle.vt_world.specs.StoredWorld.{overlay_of_store, overlays_of_store, with_store}
+use Rattle.vt_world.specs.WorldValue.{WorldValue, overlay_seen, overlays_seen, world_of}
+use Rattle.vt_mounting.proofs.detach.LayersShown.{layers_number, layers_shown_well}
+use Rattle.vt_mounting.proofs.detach.PlainFound.{overlay_among}
+
+-- where none is found, each fails
+none_found : {A : Type 0} (test : A → Bool) (list : List A) → find test list ≡ None → (a : A) → Among a list
+    → test a ≡ false
+none_found test [] none a m = absurd m
+none_found {A = A} test (first ∷ rest) none a m =
+    by (test first) refl none (none_found test rest)
+  where
+    by : (b : Bool) → test first ≡ b → cond b (Some first) (find test rest) ≡ None
+        → (find test rest ≡ None → (a : A) → Among a rest → test a ≡ false) → test a ≡ false
+    by true e none later = absurd (none_is_some first (sym none))
+    by false e none later = ⊎_elim (λ same. ap test same ∙ e) (later none a) m
+
+module _ (base : WorldValue) (store : StoreValue) (held : IsHeld (with_store store base)) where
+  abbrev value : WorldValue
+  value = with_store store base
+
+  abbrev world : World ℕ
+  world = world_of (with_store store base)
+
+  kept_among : (entry : stored.OverlayEntry) → Among entry store.overlays
+      → Among (overlay_of_store store.plain entry) (overlays_of_store store)
+  kept_among entry m = among-map (overlay_of_store store.plain) store.overlays entry m
+
+  -- its overlays stand on layers
+  pub store_stands : StandOnLayers store
+  store_stands =
+      all_from_among (StandsOnLayers store.plain) store.overlays (λ entry m.
+      let shown = layers_shown_well (with_store store base) held (overlay_of_store store.plain entry)
+      (kept_among entry m) entry.overlay.lowers refl in
+      let number = layers_number (with_store store base) held (overlay_of_store store.plain entry)
+      (kept_among entry m) entry.overlay.lowers refl in
+      let few = number.1 in
+      record { layers = shown.0; some = number.0; few = omega (arith, few) })
+
+  -- an overlay of it is found in the world
+  pub overlay_found : (entry : stored.OverlayEntry) → Among entry store.overlays
+      → filesystem_numbered nat_eq (world_of (with_store store base)) (counted entry.count)
+      ≡ overlay_seen (overlay_of_store store.plain entry)
+  overlay_found entry m =
+      found_filesystem (world_of (with_store store base)).filesystems held.in_world.files.one_filesystem
+      (overlay_seen (overlay_of_store store.plain entry))
+      (overlay_among (with_store store base) held.overlays (overlay_seen (overlay_of_store store.plain entry))
+      (among-map overlay_seen (overlays_of_store store) (overlay_of_store store.plain entry) (kept_among entry m))).0
+
+  -- and so is what is no overlay
+  pub plain_found : (count : ℕ) → overlay_in store count ≡ None
+      → filesystem_numbered nat_eq (world_of (with_store store base)) (counted count)
+      ≡ filesystem_seen (entry_at store.plain count)
+  plain_found count none =
+      ap (λ o. unwrap_or o (no_filesystem (counted count)))
+      (plain_ones_are_found (filesystems_seen store.plain) (overlays_seen (overlays_of_store store)) (counted count)
+      (all_from_among (λ (overlay : Filesystem ℕ). nat_eq (counted count) overlay.number ≡ false)
+      (overlays_seen (overlays_of_store store)) (λ overlay m.
+      let one = among-from_map overlay_seen (overlays_of_store store) overlay m in
+      let entry = among-from_map (overlay_of_store store.plain) store.overlays one.0 one.1 in
+      ap (λ (f : Filesystem ℕ). nat_eq (counted count) f.number) (one.2 ∙ ap overlay_seen entry.2)
+      ∙ counted_test count entry.0.count
+      ∙ none_found (λ (one : stored.OverlayEntry). nat_eq count one.count) store.overlays
+      (no_entry (entry_in store count) none) entry.0 entry.1)))
+      ∙ found_by_number store.plain count
+    where
+      no_entry : (o : Option stored.OverlayEntry)
+          → option_map (λ (entry : stored.OverlayEntry). entry.overlay) o ≡ None → o ≡ None
+      no_entry None e = refl
+      no_entry (Some entry) e = absurd (none_is_some entry.overlay (sym e))
+
+  -- each tree of the store is that of the world
+  pub files_shown : (count : ℕ)
+      → (files_in store count).tree
+      ≡ (filesystem_numbered nat_eq (world_of (with_store store base)) (counted count)).files.tree
+  files_shown count = by (overlay_in store count) refl
+    where
+      by : (o : Option OverlayValue) → overlay_in store count ≡ o
+          → (files_in store count).tree
+          ≡ (filesystem_numbered nat_eq (world_of (with_store store base)) (counted count)).files.tree
+      by None e =
+          ap (λ (f : Filesystem ℕ). f.files.tree) (is_plain store count e ∙ sym (plain_found count e))
+      by (Some overlay) e =
+          let over = is_over store count overlay e in
+          let number : counted count ≡ counted over.entry.count =
+          sym (number_numbered (counted count) (filesystems_of store))
+          ∙ ap (λ (f : Filesystem ℕ). f.number) over.is in
+          ap (λ (f : Filesystem ℕ). f.files.tree) over.is
+          ∙ sym (inodes_are_the_tree store.plain over.entry.overlay)
+          ∙ ap (λ (f : Filesystem ℕ). f.files.tree)
+          (sym (ap (filesystem_numbered nat_eq (world_of (with_store store base))) number
+          ∙ overlay_found over.entry over.among))
+
+  -- in each directories are named by their parents
+  pub parents_named_in : (count : ℕ) → ParentsAreNamed (files_in store count).tree
+  parents_named_in count =
+      subst (λ (tree : Tree ℕ). ParentsAreNamed tree) (sym (files_shown count))
+      (⊎_elim
+      (λ tree. ⊎_elim
+      (λ own. parents_named (filesystem_numbered nat_eq world (counted count)).files.tree tree own)
+      missing
+      (numbered_all (λ (f : Filesystem ℕ). HasOwnParents f.files.tree) (counted count) world.filesystems
+      held.in_world.files.own_parents))
+      missing
+      (numbered_all (λ (f : Filesystem ℕ). IsTree f.files.tree) (counted count) world.filesystems
+      held.in_world.files.trees))
+    where
+      missing : (filesystem_numbered nat_eq (world_of (with_store store base)) (counted count)
+          ≡ no_filesystem (counted count))
+          × All (λ (f : Filesystem ℕ). nat_eq (counted count) f.number ≡ false)
+          (world_of (with_store store base)).filesystems
+          → ParentsAreNamed (filesystem_numbered nat_eq (world_of (with_store store base)) (counted count)).files.tree
+      missing none =
+          subst (λ (f : Filesystem ℕ). ParentsAreNamed f.files.tree) (sym none.0)
+          (λ directory other. ap not (sym (eq-eqb directory directory refl)))

@@ -1,0 +1,35 @@
+use Rattle.std.proofs.Common.{List, filter, length, nat_eq, ℕ}
+use Rattle.vt_spec.specs.Machine.Receives.{regrouped}
+use Rattle.vt_spec.specs.Machine.World.{World}
+use Rattle.vt_location.specs.Numbers.{counted}
+use Rattle.vt_group.specs.Grouping.{Has}
+use Rattle.vt_group.specs.Together.{as_private, with_changed}
+use Rattle.vt_mount.specs.MountsValue.{MountEntry}
+use Rattle.vt_retype.specs.Leaving.{OnlyTypesChange}
+use Rattle.vt_retype.specs.Retyping.{AreTyped}
+use Rattle.vt_retype.proofs.Left.{StillTyped}
+use Rattle.vt_mounting.specs.Detach.NamespacesLeft.{AreDetached, Detached, is_attached_in}
+use Rattle.vt_mounting.specs.Detach.Stored.{OverlaysLeft, kept}
+use Rattle.vt_mounting.proofs.detach.TypesAside.{gone_numbers}
+use Rattle.vt_mounting.proofs.detach.ending.end_namespace.Given as goal
+use Rattle.vt_laws_mounts.specs.Mounts.Receivers.{AllGroupsLive}
+
+-- those that are gone were detached one after the other, and have left their groups; the mounts that their detaching
+-- alone leaves differ in types only
+abbrev pub invariant-loop-last : goal.invariant-loop-last
+invariant-loop-last l = record {
+  gone : List Detached;
+  entries : List MountEntry;
+  detached : AreDetached (counted l.fn.id.count) gone (kept l.initial.mounts l.initial.store)
+      (kept entries l.store);
+  only_types : OnlyTypesChange entries l.mounts;
+  groups : (world : World ℕ) → Has world l.initial.groups → AllGroupsLive world
+      → Has (regrouped nat_eq (with_changed as_private world (gone_numbers gone))) l.groups;
+  types : AreTyped l.initial.groups l.initial.mounts
+      → StillTyped l.groups (gone_numbers gone) (gone_numbers gone) l.mounts;
+  overlays : OverlaysLeft l.initial.store.overlays l.store.overlays;
+}
+
+-- how many are still to go
+abbrev pub decreases-loop-last : goal.decreases-loop-last
+decreases-loop-last l = length (filter (is_attached_in (counted l.fn.id.count)) l.mounts)

@@ -1,0 +1,36 @@
+-- Mounts, and a store of filesystems, as they are counted.
+use Rattle.std.specs.Prelude.{Bool, List, filter, map, ℕ, ◌≡◌}
+use Rattle.vt_laws_mounts.specs.LettingGo.OneByOne.{Inode}
+use Rattle.vt_location.specs.Locations.{inode_of}
+use Rattle.vt_location.specs.Numbers.{counted}
+use Rattle.vt_overlay.specs.declared.merge.layers.LayerRef.{LayerRef}
+use Rattle.vt_mount.specs.MountsValue.{MountEntry}
+use Rattle.vt_overlay.specs.MergedTree.{OverlayValue}
+use Rattle.vt_store.specs.OverlaysValue.{OverlayEntry, Overlays}
+use Rattle.vt_store.specs.StoreValue.{StoreValue}
+use Rattle.vt_mounting.specs.Detach.Uses.{Kept, Merged, kept_with}
+
+-- a layer by the inode of its directory
+abbrev pub layer_of : LayerRef → Inode
+layer_of layer = (counted layer.directory.filesystem.count, inode_of layer.directory)
+
+-- an overlay of a store as it is counted
+abbrev pub merged_of : OverlayEntry → Merged
+merged_of entry =
+    record { number = counted entry.count; mounts = entry.mounts; layers = map layer_of entry.overlay.lowers }
+
+-- mounts with a store
+abbrev pub kept : List MountEntry → StoreValue → Kept
+kept mounts store = kept_with mounts store.plain (map merged_of store.overlays)
+
+-- the overlays under their counts, with their layers and who mounted them
+abbrev pub under_counts : Overlays → List (ℕ × OverlayValue)
+under_counts overlays = map (λ entry. (entry.count, entry.overlay)) overlays
+
+-- some of them are left, in their order
+abbrev pub OverlaysLeft : Overlays → Overlays → Type 0
+OverlaysLeft old new = (stays : ℕ × OverlayValue → Bool) × (under_counts new ≡ filter stays (under_counts old))
+
+-- or all, and none comes
+abbrev pub OverlaysStay : Overlays → Overlays → Type 0
+OverlaysStay old new = under_counts new ≡ under_counts old

@@ -1,0 +1,2 @@
+pub mod Detach
+pub mod Attach

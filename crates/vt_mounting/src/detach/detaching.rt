@@ -1,0 +1,54 @@
+//! Mounts that leave their namespaces: umount(2).
+ghost use Rattle.std.specs.Prelude.{◌≡◌, IfSome, map, option_map, true};
+ghost use Rattle.vt_location.specs.Locations.{is_small_node, location_of};
+ghost use Rattle.vt_location.specs.Numbers.{mount_number};
+ghost use Rattle.vt_mounting.specs.Detach.Detached.{LeaveInTurn, LeaveTogether};
+ghost use Rattle.vt_mounting.specs.Detach.Stored.{OverlaysLeft, kept};
+ghost use Rattle.vt_mounting.specs.Detach.Uses.{point_of, without_attachment};
+
+use crate::detach::uses::let_go_mount;
+use vt_group::Groups;
+use vt_location::{Location, MountId};
+use vt_mount::Mounts;
+use vt_retype::leave_all;
+use vt_store::Store;
+
+/// A mount leaves its namespace and its mount point, which is returned, and goes if nothing is on it. It takes no
+/// memory.
+pub fn detach(mounts: &mut Mounts, store: &mut Store, id: MountId) -> Option<Location>
+    ensures point { option_map location_of result ≡ point_of (mount_number id) mounts.old }
+    ensures left { kept mounts.new store.new
+        ≡ without_attachment (mount_number id) result (kept mounts.old store.old) }
+    ensures overlays { OverlaysLeft store.old.overlays store.new.overlays }
+    ensures slot { IfSome result (λ point. is_small_node point.node ≡ true) }
+{
+    let mount = mounts.get(id)?;
+    mounts.detach(id);
+    if let Some(point) = mount.mount_point {
+        store.plain_mut().unpin(point.node);
+    }
+    let_go_mount(mounts, store, id);
+    mount.mount_point
+}
+
+/// Mounts leave their namespaces one after the other. It does not allocate.
+pub fn detach_each(mounts: &mut Mounts, store: &mut Store, ids: &[MountId])
+    ensures left { LeaveInTurn (map mount_number ids.now) (kept mounts.old store.old)
+        (kept mounts.new store.new) }
+    ensures overlays { OverlaysLeft store.old.overlays store.new.overlays }
+{
+    for id in ids {
+        detach(mounts, store, *id);
+    }
+}
+
+/// Mounts leave their namespaces one after the other, and their groups at once: the slaves of a group that ends get its
+/// master. It does not allocate.
+pub fn detach_together(mounts: &mut Mounts, groups: &mut Groups, store: &mut Store, ids: &[MountId])
+    ensures left { LeaveTogether (map mount_number ids.now) (kept mounts.old store.old) groups.old
+        (kept mounts.new store.new) groups.new }
+    ensures overlays { OverlaysLeft store.old.overlays store.new.overlays }
+{
+    detach_each(mounts, store, ids);
+    leave_all(mounts, groups, ids);
+}

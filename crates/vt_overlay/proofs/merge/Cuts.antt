@@ -1,0 +1,43 @@
+-- A layer cuts at a path if something hides on the way.
+use Rattle.std.proofs.Common.{◌≡◌, ◌∷◌, ◌||◌, ◌∙◌, [], Bool, List, None, Option, Some, ap, false, map, refl, ℕ}
+use Rattle.std.specs.List.{list_any}
+use Rattle.vt_spec.specs.Lists.{prefixes}
+use Rattle.vt_spec.specs.Machine.Layers.{OpenLayer, view_of}
+use Rattle.vt_spec.specs.Machine.Views.{cuts, hides, node_led}
+use Rattle.vt_spec.specs.Tree.{Tree}
+use Rattle.vt_spec.specs.TreeInvariant.{entry_at}
+use Rattle.vt_overlay.specs.Merge.LayerValue.{cut_on}
+
+abbrev pub layer_in : Tree ℕ → ℕ → OpenLayer ℕ
+layer_in tree directory = record { tree = tree; directory = directory }
+
+abbrev any_cut : Tree ℕ → ℕ → List (List (List ℕ)) → Bool
+any_cut tree directory paths = list_any (λ prefix. hides (node_led (view_of (layer_in tree directory)) prefix)) paths
+
+any_none : (tree : Tree ℕ) (directory : ℕ) (name : List ℕ) (paths : List (List (List ℕ)))
+    → entry_at tree directory name ≡ None → any_cut tree directory (map (λ prefix. name ∷ prefix) paths) ≡ false
+any_none tree directory name [] none = refl
+any_none tree directory name (path ∷ paths) none = rw none (any_none tree directory name paths none)
+
+any_some : (tree : Tree ℕ) (directory next : ℕ) (name : List ℕ) (paths : List (List (List ℕ)))
+    → entry_at tree directory name ≡ Some next
+    → any_cut tree directory (map (λ prefix. name ∷ prefix) paths) ≡ any_cut tree next paths
+any_some tree directory next name [] some = refl
+any_some tree directory next name (path ∷ paths) some =
+    rw some (ap (λ rest. hides (node_led (view_of (layer_in tree next)) path) || rest)
+    (any_some tree directory next name paths some))
+
+by_entry : (tree : Tree ℕ) (directory : ℕ) (name : List ℕ) (path : List (List ℕ)) (found : Option ℕ)
+    → ((next : ℕ) → cuts (view_of (layer_in tree next)) path ≡ cut_on tree path next)
+    → entry_at tree directory name ≡ found
+    → cuts (view_of (layer_in tree directory)) (name ∷ path) ≡ cut_on tree (name ∷ path) directory
+by_entry tree directory name path None rest none = rw none (any_none tree directory name (prefixes path) none)
+by_entry tree directory name path (Some next) rest some =
+    rw some (ap (λ rest. hides (tree.node next) || rest)
+    (any_some tree directory next name (prefixes path) some ∙ rest next))
+
+pub cuts_on : (tree : Tree ℕ) (path : List (List ℕ)) (directory : ℕ)
+    → cuts (view_of (layer_in tree directory)) path ≡ cut_on tree path directory
+cuts_on tree [] directory = refl
+cuts_on tree (name ∷ path) directory =
+    by_entry tree directory name path (entry_at tree directory name) (cuts_on tree path) refl

@@ -1,0 +1,167 @@
+-- What layers show under a name is what the directories show that are merged under it, in whatever trees.
+use Rattle.std.proofs.Common.{◌≡◌, ◌≢◌, ◌∙◌, ◌+◌, ◌++◌, ◌∷◌, ◌<◌, ◌≤◌, ◌||◌, [], Bool, List, None, Option, Some, ap, append_assoc, drop, false, get_or, length, map, option_and_then, refl, sym, true, ℕ}
+use Rattle.std.proofs.lemmas.List.{append-nil, at_drop_all, drop_more, map-append}
+use Rattle.std.specs.Prelude.{if◌then◌else◌, option_to_list}
+use Rattle.vt_spec.specs.declared.attributes.Attr.{Attr}
+use Rattle.vt_spec.specs.Machine.Layers.{view_of}
+use Rattle.vt_spec.specs.Machine.Views.{Shown, cuts, hides, shown_over}
+use Rattle.vt_spec.specs.Tree.{Content, Node, Tree, entries_in, entry_named, is_directory_node}
+use Rattle.vt_spec.specs.Tree.Content.{Directory, Regular, Symlink, Whiteout}
+use Rattle.vt_spec.specs.TreeInvariant.{entry_at, led}
+use Rattle.vt_fs.specs.FilesystemsValue.{Filesystems}
+use Rattle.vt_laws_trees.specs.Layers.Layers.Directories.{PlacedLayer, PlacedView, directories_under, directory_over, placed_view, shown_in}
+use Rattle.vt_overlay.specs.Merge.LayerValue.{cut_by, cut_on, placed_layers, placed_of}
+use Rattle.vt_overlay.specs.declared.merge.layers.MergedDirectory.{MergedDirectory}
+use Rattle.vt_overlay.proofs.merge.Cuts.{cuts_on}
+
+abbrev views : List (PlacedLayer ℕ) → List (PlacedView ℕ)
+views layers = map placed_view layers
+
+-- where a directory has no entries names lead nowhere, and hide nothing
+no_entry : (tree : Tree ℕ) (directory : ℕ) (name : List ℕ) → entries_in (tree.node directory) ≡ []
+    → entry_at tree directory name ≡ None
+no_entry tree directory name none = ap (entry_named name) none
+
+module _ (top : PlacedLayer ℕ) (name first : List ℕ) (rest : List (List ℕ)) (lower under : List (PlacedLayer ℕ))
+    (below : shown_in (views under) (first ∷ rest) ≡ shown_in (views lower) (name ∷ first ∷ rest)) where
+  abbrev tree : Tree ℕ
+  tree = top.open_layer.tree
+
+  abbrev path : List (List ℕ)
+  path = first ∷ rest
+
+  abbrev own : ℕ → PlacedLayer ℕ
+  own object = record { layer = top.layer; open_layer = record { tree = tree; directory = object } }
+
+  abbrev over : Option ℕ → Bool → Option (Shown ℕ)
+  over found cut = shown_over (view_of top.open_layer) top.layer found cut (shown_in (views lower) (name ∷ path))
+
+  -- an opaque directory shows what it has alone
+  alone : (object : ℕ) (found : Option ℕ) (cut : Bool)
+      → shown_over (view_of (own object).open_layer) top.layer found cut None ≡ over found true
+  alone object (Some other) cut = refl
+  alone object None true = refl
+  alone object None false = refl
+
+  abbrev Shows : ℕ → Option (Node ℕ) → Type 0
+  Shows object node =
+      shown_in (views ((if is_directory_node node then own object ∷ [] else []) ++ (if hides node then [] else under)))
+      path
+      ≡ over (led tree object path) (hides node || cut_on tree path object)
+
+  -- what is no directory has nothing under it
+  nothing : (object : ℕ) → entries_in (tree.node object) ≡ [] → led tree object path ≡ None
+  nothing object none = ap (option_and_then (λ next. led tree next rest)) (no_entry tree object first none)
+
+  nothing_cut : (object : ℕ) → entries_in (tree.node object) ≡ [] → cut_on tree path object ≡ false
+  nothing_cut object none = ap (λ o. cut_by tree o (cut_on tree rest)) (no_entry tree object first none)
+
+  of_content : (object : ℕ) (attr : Attr) (content : Content ℕ)
+      → tree.node object ≡ Some (record { attr = attr; content = content })
+      → Shows object (Some (record { attr = attr; content = content }))
+  of_content object attr (Directory parent entries true) is =
+      alone object (led tree object path) (cuts (view_of (own object).open_layer) path)
+  of_content object attr (Directory parent entries false) is =
+      (λ i. shown_over (view_of (own object).open_layer) top.layer (led tree object path)
+      (cuts_on tree path object i) (below i))
+  of_content object attr (Regular bytes) is =
+      sym (ap (λ o. over o true) (nothing object (ap entries_in is)))
+  of_content object attr (Symlink text) is =
+      sym (ap (λ o. over o true) (nothing object (ap entries_in is)))
+  of_content object attr Whiteout is =
+      sym (ap (λ o. over o true) (nothing object (ap entries_in is)))
+
+  of_node : (object : ℕ) (node : Option (Node ℕ)) → tree.node object ≡ node → Shows object node
+  of_node object None is =
+      below ∙ sym (λ i. over (nothing object (ap entries_in is) i) (nothing_cut object (ap entries_in is) i))
+  of_node object (Some node) is = of_content object node.attr node.content is
+
+  of_entry : (found : Option ℕ)
+      → shown_in (views (directory_over top found under)) path
+      ≡ over (option_and_then (λ next. led tree next path) found) (cut_by tree found (cut_on tree path))
+  of_entry None = below
+  of_entry (Some object) = of_node object (tree.node object) refl
+
+-- the same for all
+shown_under : (layers : List (PlacedLayer ℕ)) (name first : List ℕ) (rest : List (List ℕ))
+    → shown_in (views (directories_under layers name)) (first ∷ rest)
+    ≡ shown_in (views layers) (name ∷ first ∷ rest)
+shown_under [] name first rest = refl
+shown_under (top ∷ lower) name first rest =
+    of_entry top name first rest lower (directories_under lower name) (shown_under lower name first rest)
+    (entry_at top.open_layer.tree top.open_layer.directory name)
+    ∙ sym (ap (λ cut. shown_over (view_of top.open_layer) top.layer
+    (led top.open_layer.tree top.open_layer.directory (name ∷ first ∷ rest)) cut
+    (shown_in (views lower) (name ∷ first ∷ rest)))
+    (cuts_on top.open_layer.tree (name ∷ first ∷ rest) top.open_layer.directory))
+
+pub shown_under_name : (layers : List (PlacedLayer ℕ)) (name : List ℕ) (path : List (List ℕ)) → path ≢ []
+    → shown_in (views (directories_under layers name)) path ≡ shown_in (views layers) (name ∷ path)
+shown_under_name layers name [] some = absurd (some refl)
+shown_under_name layers name (first ∷ rest) some = shown_under layers name first rest
+
+-- one directory more is merged
+module _ (fs : Filesystems) (name : List ℕ) (above merged new : List MergedDirectory) (index : ℕ)
+    (default : MergedDirectory) (directory : Option MergedDirectory) (h : Bool) where
+  abbrev below_index : List (PlacedLayer ℕ)
+  below_index = directories_under (placed_layers fs (drop (index + 1) above)) name
+
+  abbrev here : PlacedLayer ℕ
+  here = placed_of fs (get_or above index default)
+
+  pub one_more : index < length above
+      → placed_layers fs merged ++ directories_under (placed_layers fs (drop index above)) name
+      ≡ directories_under (placed_layers fs above) name
+      → ((lower : List (PlacedLayer ℕ))
+      → placed_layers fs (option_to_list directory) ++ (if h then [] else lower)
+      ≡ directory_over here (entry_at here.open_layer.tree here.open_layer.directory name) lower)
+      → new ≡ merged ++ option_to_list directory
+      → placed_layers fs new ++ (if h then [] else below_index) ≡ directories_under (placed_layers fs above) name
+  one_more within so_far found grown =
+      ap (λ l. placed_layers fs l ++ (if h then [] else below_index)) grown
+      ∙ ap (λ l. l ++ (if h then [] else below_index)) (map-append (placed_of fs) merged (option_to_list directory))
+      ∙ append_assoc (placed_layers fs merged) (placed_layers fs (option_to_list directory))
+      (if h then [] else below_index)
+      ∙ ap (λ l. placed_layers fs merged ++ l) (found below_index)
+      ∙ ap (λ l. placed_layers fs merged ++ directories_under (placed_layers fs l) name)
+      (sym (drop_more above index default within))
+      ∙ so_far
+
+  -- it is the last one, or others follow
+  module _ (within : index < length above)
+      (so_far : placed_layers fs merged ++ directories_under (placed_layers fs (drop index above)) name
+      ≡ directories_under (placed_layers fs above) name)
+      (found : (lower : List (PlacedLayer ℕ))
+      → placed_layers fs (option_to_list directory) ++ (if h then [] else lower)
+      ≡ directory_over here (entry_at here.open_layer.tree here.open_layer.directory name) lower)
+      (grown : new ≡ merged ++ option_to_list directory) where
+    pub last_one : h ≡ true → placed_layers fs new ≡ directories_under (placed_layers fs above) name
+    last_one hidden =
+        sym (append-nil (placed_layers fs new))
+        ∙ ap (λ b. placed_layers fs new ++ (if b then [] else below_index)) (sym hidden)
+        ∙ one_more within so_far found grown
+
+    pub next_one : h ≡ false
+        → placed_layers fs new ++ below_index ≡ directories_under (placed_layers fs above) name
+    next_one open_below =
+        ap (λ b. placed_layers fs new ++ (if b then [] else below_index)) (sym open_below)
+        ∙ one_more within so_far found grown
+
+-- none is left
+pub all_merged : (fs : Filesystems) (name : List ℕ) (above merged : List MergedDirectory) (index : ℕ)
+    → length above ≤ index
+    → placed_layers fs merged ++ directories_under (placed_layers fs (drop index above)) name
+    ≡ directories_under (placed_layers fs above) name
+    → placed_layers fs merged ≡ directories_under (placed_layers fs above) name
+all_merged fs name above merged index past so_far =
+    sym (append-nil (placed_layers fs merged))
+    ∙ sym (at_drop_all (λ l. placed_layers fs merged ++ directories_under (placed_layers fs l) name) above index past)
+    ∙ so_far
+
+-- what is merged so shows what was shown under the name
+pub shows : (fs : Filesystems) (name : List ℕ) (above merged : List MergedDirectory)
+    → placed_layers fs merged ≡ directories_under (placed_layers fs above) name
+    → (path : List (List ℕ)) → path ≢ []
+    → shown_in (views (placed_layers fs merged)) path ≡ shown_in (views (placed_layers fs above)) (name ∷ path)
+shows fs name above merged is path some =
+    ap (λ l. shown_in (views l) path) is ∙ shown_under_name (placed_layers fs above) name path some
