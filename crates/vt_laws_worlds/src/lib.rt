@@ -8,7 +8,7 @@
 //! | `worlds`, `kept`, `opening`, `settling` | worlds without overlays: every call keeps the invariants |
 //! | `permits` | permits on plain filesystems, applied to a world that is the same but for numbers |
 //! | `overlays_let_go` | what a call on overlays let go of |
-//! | `merging`, `seen` | the merged tree of an overlay, in terms of its layers alone |
+//! | `merging`, `seen` | overlays whose merged tree is not kept: changes, copies, uses |
 //! | `overlay_permits`, `given` | permits on overlays; every world keeps its invariants |
 //! | `overlays_granted`, `overlays_read`, `overlays_stay` | overlays without an upper layer |
 //! | `one_text` | a script has one text, whatever numbers are handed in |

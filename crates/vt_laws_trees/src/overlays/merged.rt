@@ -1,4 +1,7 @@
 //! Each merged tree is a function of what the layers show.
+//!
+//! A merged tree (`IsMergedTree`) is a listed tree that is what the layers show, each layer a directory of a tree. It
+//! is named (`IsNamedBy`) by the number that each real object has, and by what is held without a name.
 ghost use Rattle.vt_laws_trees.specs.Overlays.MergedTrees.{InodesAreThoseShown, MergedTreesAreOne, NumbersAreThoseShown, OtherInodesAreHeld, OverlaysAreMergedTrees};
 
 /// A path leads to the number of what the layers show there, or nowhere (`numbers`). The inode there has kind, owner,
