@@ -11,7 +11,6 @@ ghost use Rattle.vt_world.specs.WorldValue.{world_of};
 
 use crate::world::World;
 use std::alloc::AllocError;
-use vt_fs::Filesystems;
 use vt_location::{Location, Mount, NamespaceId};
 use vt_mount::Mounts;
 use vt_request::Spot;
@@ -31,13 +30,6 @@ impl World {
         ensures { result.now ≡ self.now.mounts }
     {
         &self.mounts
-    }
-
-    /// Its filesystems.
-    pub fn filesystems(&self) -> &Filesystems
-        ensures { result.now ≡ self.now.filesystems }
-    {
-        self.store.plain()
     }
 
     /// Its filesystems, overlays among them.
