@@ -8,7 +8,7 @@ use Rattle.std.proofs.lemmas.Bool.{eqb-true, or_parts}
 use Rattle.std.proofs.lemmas.List.{length-append, length-map}
 use Rattle.std.proofs.lemmas.List.Elements.{filter-append}
 use Rattle.vt_spec.specs.Lists.{folded, holds_of, is_among}
-use Rattle.vt_spec.specs.Machine.Attach.{Copies, Graft, attached_by, copies_at, copy_at, graft_of, parts_of, pushed_onto, pushed_up, receiver_stood_on, receivers_of, takes_part, twig_of}
+use Rattle.vt_spec.specs.Machine.Attach.{Copies, Graft, attached_by, copies_at, copy_at, graft_of, parts_of, pushed_up, receivers_of, takes_part, twig_of}
 use Rattle.vt_spec.specs.Machine.Mounts.{Location, Mount, group_of, mount_in, no_mount, with_mount}
 use Rattle.vt_spec.specs.Machine.World.{World, mount_at}
 use Rattle.vt_spec.proofs.Lists.{Among, among-from_map, among-map, is_among_numbers, none_among}

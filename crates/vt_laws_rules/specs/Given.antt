@@ -1,7 +1,7 @@
 -- Which call each permit is given to, and what it holds of what the call asked.
-use Rattle.std.specs.Prelude.{Bool, List, Ok, Option, [], false, nat_eq, true, ℕ, ⊤, ◌∷◌, ◌≡◌, ◌⊎◌}
+use Rattle.std.specs.Prelude.{Bool, List, Ok, Option, false, nat_eq, true, ℕ, ◌≡◌, ◌⊎◌}
 use Rattle.vt_spec.specs.declared.attributes.Attr.{Attr}
-use Rattle.vt_spec.specs.Errors.{NoneFails, Rules}
+use Rattle.vt_spec.specs.Errors.{NoneFails}
 use Rattle.vt_spec.specs.Language.Calls.{Call, CapabilityWord, Creation, ForkWords, OverlayWords, TaskName}
 use Rattle.vt_spec.specs.Language.Calls.Call.{Bind, Chdir, Chmod, Chown, Chroot, Close, Drop, Exec, Exit, Fork, Lazy, LinkTo, ListMounts, Ls, Lstat, MakeWhiteout, Mkdir, MountOverlay, MountPlain, MoveMount, Opaque, OpenFile, PivotRoot, Pread, Pwrite, Read, Readlink, Remount, Rename, Rmdir, SetType, Setns, Stat, SymlinkAt, Umask, Umount, Unlink, Unshare, Write}
 use Rattle.vt_spec.specs.Language.Calls.Creation.{Exclusive, NoCreation, OrCreate}

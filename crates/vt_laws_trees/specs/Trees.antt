@@ -9,9 +9,9 @@ use Rattle.vt_spec.specs.Language.Changes.{Change, changed}
 use Rattle.vt_spec.specs.Language.Changes.Change.{AddName, CopyUp, Make, Move, Remove, SetAttr, SetBytes, SetMark}
 use Rattle.vt_spec.specs.FileTree.{FileTree}
 use Rattle.vt_spec.specs.Machine.Invariants.{ListsNumbers}
-use Rattle.vt_spec.specs.Tree.{Node, Tree, entries_in, is_directory_node, parent_in}
+use Rattle.vt_spec.specs.Tree.{Node, Tree, entries_in, is_directory_node}
 pub use Rattle.vt_spec.specs.TreeInvariant.{HasOwnParents}
-use Rattle.vt_spec.specs.TreeInvariant.{HasName, IsDirectory, IsReached, IsTree, entry_at, led}
+use Rattle.vt_spec.specs.TreeInvariant.{IsDirectory, IsReached, IsTree, entry_at, led}
 
 -- a name that is free, in a directory that names lead to from the root: EEXIST and ENOENT of mkdir(2)
 pub record IsFree (tree : Tree ℕ) (directory : ℕ) (name : List ℕ) : Type 0 where

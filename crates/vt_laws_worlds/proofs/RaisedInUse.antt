@@ -1,12 +1,11 @@
 -- What is in use does not go by change numbers, so raising them keeps all invariants.
 use Rattle.std.proofs.Common.{arith}
 use Rattle.std.proofs.lemmas.Grind.{common_steps}
-use Rattle.std.proofs.Common.{◌≡◌, refl, sym, ap, subst, ◌∙◌, ℕ, nat_eq, Bool, true, false, cond, List, [], ◌∷◌, ◌++◌, ◌||◌, ◌&&◌, map, is_some}
+use Rattle.std.proofs.Common.{◌≡◌, refl, sym, ap, subst, ◌∙◌, ℕ, nat_eq, true, cond, List, [], ◌∷◌, ◌++◌, ◌||◌, ◌&&◌, map, is_some}
 use Rattle.std.specs.Prelude.{filter, filter_map}
 use Rattle.std.specs.List.{list_all, list_any}
 use Rattle.std.proofs.lemmas.List.Elements.{All-map, All-weaker}
-use Rattle.std.proofs.lemmas.List.{map-id}
-use Rattle.vt_spec.specs.Machine.Filesystems.{filesystems_raised, raised, raised_if_changed}
+use Rattle.vt_spec.specs.Machine.Filesystems.{raised, raised_if_changed}
 use Rattle.vt_spec.specs.Machine.Locked.{of_overlay}
 use Rattle.vt_spec.specs.Machine.Mounts.{Location, Mount, root_of}
 use Rattle.vt_spec.specs.Machine.Policy.{numbers_raised, raised_namespace, raised_task, same_mounts_in}
@@ -118,25 +117,6 @@ module _ (changed : List ℕ) (world : World ℕ) where
       ≡ record filesystem { change = number_if filesystem }
   raised_filesystem_is filesystem = grind (arith, common_steps)
 
-  filesystems_raised_are : filesystems_raised nat_eq changed world
-      ≡ counted number_if (λ namespace. namespace.change) (λ task. task.change) world.change world
-  filesystems_raised_are = λ i. record world {
-    filesystems = map (λ filesystem. raised_filesystem_is filesystem i) world.filesystems;
-    namespaces = sym (map-id world.namespaces) i;
-    tasks = sym (map-id world.tasks) i;
-  }
-
-  pub raising_filesystems_keeps : IsWorldButForUse world → IsWorldButForUse (filesystems_raised nat_eq changed world)
-  raising_filesystems_keeps is =
-      subst IsWorldButForUse (sym filesystems_raised_are)
-      (unsettled_counted number_if (λ namespace. namespace.change) (λ task. task.change) world.change world is)
-
-  pub raising_filesystems_keeps_world : IsWorld nat_eq world → IsPlain world
-      → IsWorld nat_eq (filesystems_raised nat_eq changed world) × IsPlain (filesystems_raised nat_eq changed world)
-  raising_filesystems_keeps_world is plain =
-      subst (λ w. IsWorld nat_eq w × IsPlain w) (sym filesystems_raised_are)
-      (world_counted number_if (λ namespace. namespace.change) (λ task. task.change) world.change world is plain)
-
 module _ (before : World ℕ) (name : TaskName) (changed : List ℕ) (world : World ℕ) where
   abbrev pub namespace_if : Namespace ℕ → ℕ
   namespace_if namespace = cond (same_mounts_in nat_eq before world namespace.number) namespace.change
@@ -160,12 +140,6 @@ module _ (before : World ℕ) (name : TaskName) (changed : List ℕ) (world : Wo
     tasks = map (λ task. raised_task_is task i) world.tasks;
     change = raised world.change;
   }
-
-  pub raising_numbers_keeps : IsWorldButForUse world
-      → IsWorldButForUse (numbers_raised nat_eq before name changed world)
-  raising_numbers_keeps is =
-      subst IsWorldButForUse (sym numbers_raised_are)
-      (unsettled_counted (number_if changed world) namespace_if task_if (raised world.change) world is)
 
   pub raising_numbers_keeps_world : IsWorld nat_eq world → IsPlain world
       → IsWorld nat_eq (numbers_raised nat_eq before name changed world)

@@ -1,13 +1,12 @@
 -- Tasks keep names of their own: what a fork names is a new name, where tasks have counted their forks.
 use Rattle.std.proofs.lemmas.Grind.{common_steps}
 use Rattle.std.proofs.Common.{◌≡◌, refl, sym, ap, subst, ◌∙◌, ◌⊎◌, inl, inr, ⊎_elim, ℕ, nat_eq, Bool, true, false, cond, true≢false, filter, not, List, [], ◌∷◌, ◌++◌, ◌+◌, ◌≤◌, ◌||◌, append_assoc, arith, is_some, map}
-use Rattle.std.specs.Prelude.{if◌then◌else◌}
 use Rattle.std.specs.List.{list_any}
 use Rattle.std.specs.Cmp.Lexicographic.{bytes_decides}
 use Rattle.std.proofs.lemmas.Bool.{or_parts}
 use Rattle.vt_spec.specs.Lists.{Fresh, any_pair, first_of_list, rest_of}
 use Rattle.vt_spec.specs.Machine.Mounts.{Mount}
-use Rattle.vt_spec.specs.Machine.Namespaces.{pivoted_location, pivoted_task}
+use Rattle.vt_spec.specs.Machine.Namespaces.{pivoted_task}
 use Rattle.vt_spec.specs.Machine.Tasks.{child_name, child_of}
 use Rattle.vt_spec.specs.Machine.Invariants.{ForksAreCounted}
 use Rattle.vt_spec.specs.Machine.World.{Task, World, first_task, opening, replaced_if_called}

@@ -1,6 +1,6 @@
 -- A lazy unmount keeps the invariants of mounts: as the event of a mount comes, nothing stands on it any more.
 use Rattle.std.proofs.lemmas.Grind.{common_steps}
-use Rattle.std.proofs.Common.{◌≡◌, refl, sym, ap, subst, ◌∙◌, true, false, nat_eq, ℕ, Bool, List, None, Option, Some, [], arith, eqb-true, inl, inr, is_some, not, suc, true≢false, ⊎_elim, ◌∷◌, ◌<◌, ◌≤◌, ◌⊎◌, ◌&&◌, ◌||◌}
+use Rattle.std.proofs.Common.{◌≡◌, refl, sym, ap, subst, ◌∙◌, true, false, nat_eq, ℕ, Bool, List, None, Option, Some, [], arith, eqb-true, inl, inr, is_some, suc, true≢false, ⊎_elim, ◌∷◌, ◌<◌, ◌≤◌, ◌⊎◌}
 use Rattle.std.proofs.lemmas.Bool.{false_from_ne_true}
 use Rattle.std.specs.Prelude.{if◌then◌else◌}
 use Rattle.vt_spec.proofs.Lists.{Among, among-from_map, among_cases, among_from_list_all, among_numbers, none_from_among}
@@ -8,7 +8,7 @@ use Rattle.vt_spec.specs.Machine.Detach.{depth_of, going, has_child, taken_away,
 use Rattle.vt_spec.specs.Lists.{folded, holds_of, is_among}
 use Rattle.vt_spec.specs.Machine.Mounts.{Location, Mount, stands_on}
 use Rattle.vt_spec.specs.Machine.World.{World, mount_numbered}
-use Rattle.vt_spec.specs.Machine.Invariants.{MountInvariants, is_nowhere_or_attached, is_private}
+use Rattle.vt_spec.specs.Machine.Invariants.{MountInvariants}
 use Rattle.vt_laws_mounts.specs.Mounts.Attaching.{numbers_of}
 use Rattle.vt_laws_mounts.specs.Mounts.Invariants.{NowhereOrAttached}
 use Rattle.vt_laws_mounts.specs.Mounts.Ending.{LazyUnmountKeepsMounts}

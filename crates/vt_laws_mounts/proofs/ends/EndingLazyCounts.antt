@@ -1,12 +1,12 @@
 -- What namespaces have left of their mounts after a lazy unmount.
 use Rattle.std.proofs.lemmas.Grind.{common_steps}
-use Rattle.std.proofs.Common.{◌≡◌, refl, sym, ap, ◌∙◌, true, false, nat_eq, ℕ, Bool, List, None, Option, Some, [], arith, inl, inr, is_some, length, option_map, true≢false, ⊎_elim, ◌∷◌, ◌⊎◌, ◌≤◌}
+use Rattle.std.proofs.Common.{◌≡◌, refl, sym, ap, ◌∙◌, true, false, nat_eq, ℕ, Bool, List, None, [], arith, inl, inr, is_some, length, true≢false, ⊎_elim, ◌∷◌, ◌⊎◌, ◌≤◌}
 use Rattle.std.proofs.lemmas.Bool.{le-leb, leb-true}
 use Rattle.std.specs.Prelude.{if◌then◌else◌}
 use Rattle.vt_spec.proofs.Lists.{Among, all_from_among, among_from_all, among_from_contains}
-use Rattle.vt_spec.specs.Machine.Detach.{going, is_going, mount_point_left, taken_away, unmounted, unmounted_if_there}
+use Rattle.vt_spec.specs.Machine.Detach.{going, taken_away, unmounted, unmounted_if_there}
 use Rattle.vt_spec.specs.Lists.{folded}
-use Rattle.vt_spec.specs.Machine.Mounts.{Location, Mount}
+use Rattle.vt_spec.specs.Machine.Mounts.{Mount}
 use Rattle.vt_spec.specs.Machine.World.{World, mount_numbered, mounts_of}
 use Rattle.vt_laws_mounts.specs.Mounts.Invariants.{OneNumberEach}
 use Rattle.vt_laws_mounts.specs.Mounts.Ending.{ByLazyUnmount, HasNoMoreMounts, IsOutOrStays, KeepsRootMounts, LazyUnmountKeepsRootMounts, TakesNoMountsIn, root_mounts_in}

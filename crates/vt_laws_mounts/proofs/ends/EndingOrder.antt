@@ -1,8 +1,8 @@
 -- The mounts of a lazy unmount: each of the tree, the deepest first.
 use Rattle.std.proofs.lemmas.Grind.{common_steps}
-use Rattle.std.proofs.Common.{◌≡◌, refl, sym, ap, subst, ◌∙◌, true, false, nat_eq, nat_lt, ℕ, Bool, List, [], arith, flat_map, inl, inr, length, map, zero, suc, ⊎_elim, ◌∷◌, ◌≤◌, ◌<◌, ◌⊎◌}
+use Rattle.std.proofs.Common.{◌≡◌, refl, sym, ap, subst, ◌∙◌, true, nat_eq, ℕ, List, [], arith, flat_map, inl, inr, length, map, zero, suc, ⊎_elim, ◌∷◌, ◌≤◌, ◌⊎◌}
 use Rattle.std.proofs.lemmas.Bool.{ltb-false, ltb-true}
-use Rattle.std.specs.Prelude.{if◌then◌else◌, ⊤}
+use Rattle.std.specs.Prelude.{⊤}
 use Rattle.vt_spec.proofs.Lists.{Among, among-from_flat_map, among-from_map, among-map, among-flat_map, among_numbers, is_among_numbers}
 use Rattle.vt_spec.specs.Machine.Detach.{deepest_first, depth_of, insert_deepest, is_going}
 use Rattle.vt_spec.specs.Lists.{folded, is_among}
@@ -27,12 +27,6 @@ module _ (world : World ℕ) where
 
   abbrev insert : Mount ℕ → List (Mount ℕ) → List (Mount ℕ)
   insert mount sorted = insert_deepest nat_eq world mount sorted
-
-  abbrev inserts_by : Mount ℕ → Mount ℕ → List (Mount ℕ) → Bool → List (Mount ℕ)
-  inserts_by mount other rest b = if b then other ∷ insert mount rest else mount ∷ other ∷ rest
-
-  abbrev is_less_deep : Mount ℕ → Mount ℕ → Bool
-  is_less_deep mount other = nat_lt (depth_of nat_eq world mount) (depth_of nat_eq world other)
 
   pub among_inserted : (mount : Mount ℕ) (sorted : List (Mount ℕ)) (x : Mount ℕ) → Among x (insert mount sorted)
       → Among x (mount ∷ sorted)

@@ -8,13 +8,13 @@ use Rattle.vt_laws_mounts.specs.Mounts.Ends.{LazyDetachesOrKeeps, LazyIsOfMounts
 use Rattle.vt_spec.specs.Machine.Mounts.Propagation.{Private, Shared, Slave, Unbindable}
 use Rattle.vt_spec.specs.Machine.Mounts.{Propagation, child_at, children, detached, group_of, is_shared, mount_tree, source_of, stands_on, Mount}
 use Rattle.vt_spec.specs.Machine.World.{World, mount_at, mount_numbered}
-use Rattle.vt_spec.specs.Machine.Detach.{after_going, deepest_first, goes_at, going, going_at, going_from, is_going, may_go, only_cover, taken_away, unmounted, unmounted_if_there}
-use Rattle.vt_laws_mounts.proofs.ends.Unmounting.{all_but_mounts, detached_by_number, going_is_detached, kept_by_number, middle, place_kept, staying_is_placed, taken, type_kept}
+use Rattle.vt_spec.specs.Machine.Detach.{deepest_first, goes_at, going, going_at, going_from, is_going, may_go, only_cover, taken_away, unmounted, unmounted_if_there}
+use Rattle.vt_laws_mounts.proofs.ends.Unmounting.{all_but_mounts, detached_by_number, going_is_detached, kept_by_number, place_kept, staying_is_placed, taken, type_kept}
 use Rattle.vt_laws_mounts.proofs.ends.UnmountingGoes.{child_goes_so, receivers_of_shared}
 use Rattle.std.specs.Prelude.{filter_map, if◌then◌else◌}
 use Rattle.vt_spec.specs.Lists.{folded, is_among}
 use Rattle.vt_laws_mounts.proofs.mounts.MountsPlaces.{found_at_its_place}
-use Rattle.vt_spec.specs.Machine.Receives.{inheriting, receivers, receives}
+use Rattle.vt_spec.specs.Machine.Receives.{receivers, receives}
 use Rattle.std.specs.List.{list_any}
 use Rattle.vt_laws_mounts.proofs.mounts.Receivers.{receives_from_source}
 use Rattle.vt_spec.proofs.Worlds.{number-mount_in, found_or_none}

@@ -1,12 +1,12 @@
 -- Mounts that go with all that stands on them leave at most one mount at a place.
 use Rattle.std.proofs.lemmas.Grind.{common_steps}
-use Rattle.std.proofs.Common.{◌≡◌, refl, sym, ap, subst, ◌∙◌, true, false, zero, suc, nat_eq, ℕ, Bool, List, None, Option, Some, arith, eq-eqb, eqb-true, flat_map, inl, inr, is_some, length, map, option_map, true≢false, ⊎_elim, ◌⊎◌}
+use Rattle.std.proofs.Common.{◌≡◌, refl, sym, ap, subst, ◌∙◌, true, zero, suc, nat_eq, ℕ, List, None, Option, Some, arith, eq-eqb, eqb-true, flat_map, inl, inr, is_some, length, map, option_map, true≢false, ⊎_elim, ◌⊎◌}
 use Rattle.vt_spec.specs.Machine.Mounts.{Location, Mount, children, mount_tree, stands_on, tree_from}
 use Rattle.vt_spec.proofs.Lists.{Among, among-filter, among-flat_map, among-from_filter, among-from_flat_map, among-from_map, among-map, among_from_list_all, among_numbers, chain_goes_on, is_among_numbers, last_of_chain, pair-map}
 use Rattle.vt_laws_mounts.specs.Mounts.Invariants.{AreApart, OneNumberEach, TreesLeaveOneMountAMountPoint}
 use Rattle.vt_laws_mounts.specs.Mounts.Unmounting.{ChainsEnd}
 use Rattle.vt_spec.specs.Machine.World.{World, mount_at, mount_numbered}
-use Rattle.vt_spec.specs.Machine.Detach.{after_going, is_going, mount_point_left, taken_away}
+use Rattle.vt_spec.specs.Machine.Detach.{after_going, is_going, taken_away}
 use Rattle.std.proofs.lemmas.Bool.{and_parts, false_from_ne_true, not-true}
 use Rattle.vt_spec.specs.Lists.{any_pair, chain, holds_of, last_or}
 use Rattle.vt_laws_mounts.proofs.mounts.MountsReplaced.{found_itself}

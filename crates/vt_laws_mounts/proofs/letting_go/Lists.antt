@@ -4,7 +4,6 @@ use Rattle.std.proofs.Common.{◌≡◌, refl, sym, ap, subst, ◌∙◌, inl, i
 use Rattle.std.specs.Prelude.{Some, nat_lt}
 use Rattle.std.specs.List.{list_any}
 use Rattle.std.proofs.lemmas.Bool.{or_parts}
-use Rattle.std.proofs.lemmas.Option.{same_Some}
 use Rattle.vt_spec.specs.Lists.{any_pair, holds_of, is_among}
 use Rattle.std.proofs.Math.Nat.{add_assoc}
 use Rattle.vt_spec.proofs.Truths.{as_many_with_none, one_more_is_some}

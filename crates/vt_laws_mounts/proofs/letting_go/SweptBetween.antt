@@ -20,8 +20,6 @@ use Rattle.vt_laws_mounts.proofs.letting_go.Lists.{Among, among-append, among-ap
 use Rattle.vt_laws_mounts.proofs.letting_go.sweeps.Merged.{HasReals, left_of, reals_without, without_all, without_both}
 use Rattle.vt_spec.proofs.Lists.{map_alike, map_twice}
 use Rattle.vt_spec.proofs.Lists.{none-filter}
-use Rattle.std.specs.Prelude.{if◌then◌else◌}
-use Rattle.vt_spec.specs.Machine.Receives.{is_member_of}
 use Rattle.vt_spec.specs.Machine.Settled.{without_dead_groups}
 
 -- one of two tests that follows from the other

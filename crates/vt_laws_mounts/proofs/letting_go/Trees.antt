@@ -2,8 +2,7 @@
 use Rattle.std.proofs.Common.{arith}
 use Rattle.std.proofs.lemmas.Grind.{common_steps}
 use Rattle.std.proofs.Common.{◌≡◌, ◌≢◌, refl, sym, ap, ◌∙◌, true≢false, ⊎_elim, ℕ, nat_eq, true, false, List, [], map, Option, Some, None, is_some}
-use Rattle.vt_spec.specs.Tree.{Content, Node, entries_in, entry_named, is_directory_node}
-use Rattle.vt_spec.specs.Tree.Content.{Directory, Regular, Symlink, Whiteout}
+use Rattle.vt_spec.specs.Tree.{Node, entries_in, entry_named, is_directory_node}
 use Rattle.vt_spec.specs.TreeInvariant.{HasName}
 use Rattle.vt_spec.specs.FileTree.{FileTree, targets_in}
 use Rattle.vt_spec.specs.Lists.{is_among}

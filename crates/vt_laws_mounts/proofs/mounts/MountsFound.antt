@@ -1,9 +1,8 @@
 -- Mounts found by their numbers.
 use Rattle.std.proofs.Common.{arith}
 use Rattle.std.proofs.lemmas.Grind.{common_steps}
-use Rattle.std.proofs.Common.{◌≡◌, refl, sym, ap, subst, ◌∙◌, inl, inr, ⊎_elim, ℕ, nat_eq, Bool, true, false, cond, List, [], ◌∷◌, map, true≢false, None, Some, find, is_some, ◌||◌}
+use Rattle.std.proofs.Common.{◌≡◌, refl, sym, ap, ◌∙◌, ⊎_elim, ℕ, nat_eq, Bool, true, false, cond, List, [], ◌∷◌, map, true≢false, None, Some, find, is_some}
 use Rattle.std.specs.Prelude.{unwrap_or}
-use Rattle.std.proofs.lemmas.Option.{same_Some}
 use Rattle.vt_spec.specs.Machine.Mounts.{Location, Mount, mount_in, no_mount}
 use Rattle.vt_spec.specs.Lists.{is_among}
 use Rattle.vt_spec.proofs.Lists.{Among}

@@ -3,17 +3,15 @@ use Rattle.std.proofs.Common.{arith}
 use Rattle.std.proofs.lemmas.Grind.{common_steps}
 use Rattle.vt_spec.specs.Machine.World.{World, mount_at, mount_numbered, with_flags}
 use Rattle.vt_laws_mounts.proofs.mounts.MountsReplaced.{one_number_by_numbers, numbers-with_mount}
-use Rattle.std.proofs.Common.{◌≡◌, refl, sym, ap, ◌∙◌, true, false, Bool, List, None, Option, Some, filter, is_some, map, not, option_map, true≢false, ◌&&◌, ◌||◌, ℕ, nat_eq}
+use Rattle.std.proofs.Common.{◌≡◌, refl, ap, ◌∙◌, true, List, filter, map, true≢false, ℕ, nat_eq}
 use Rattle.std.specs.List.{list_all}
-use Rattle.vt_spec.specs.Machine.Mounts.Propagation.{Private, Shared, Slave, Unbindable}
 use Rattle.vt_laws_mounts.specs.Mounts.Invariants.{KeptByEndedNamespaces, KeptByFlags, KeptByInheritance, KeptByPivot, KeptBySettling, KeptByTakingAway, KeptByType, KeptByUnmount, NowhereOrAttached, OneNumberEach}
-use Rattle.vt_spec.specs.Machine.Mounts.{Location, Propagation, Mount, detached}
-use Rattle.vt_spec.specs.Machine.Detach.{after_going, going, is_going, mount_point_left, taken_away}
+use Rattle.vt_spec.specs.Machine.Mounts.{Mount}
+use Rattle.vt_spec.specs.Machine.Detach.{after_going, going, taken_away}
 use Rattle.vt_spec.proofs.Lists.{all-filter, all-map, pair-filter}
-use Rattle.std.specs.Prelude.{if◌then◌else◌}
-use Rattle.vt_spec.specs.Machine.Receives.{inherited, inheriting, regrouped}
+use Rattle.vt_spec.specs.Machine.Receives.{inheriting, regrouped}
 use Rattle.vt_spec.specs.Machine.Namespaces.{is_in_ended, pivoted, pivoted_mount}
-use Rattle.vt_spec.specs.Machine.Invariants.{is_private, is_nowhere_or_attached}
+use Rattle.vt_spec.specs.Machine.Invariants.{is_nowhere_or_attached}
 use Rattle.vt_laws_mounts.proofs.ends.Unmounting.{middle, numbers_taken}
 use Rattle.vt_spec.specs.Machine.Settled.{mount_lives}
 use Rattle.vt_laws_mounts.proofs.Groups.{mounts-regrouped}

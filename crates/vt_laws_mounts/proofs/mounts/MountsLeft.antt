@@ -1,17 +1,17 @@
 -- Calls that are of no mount leave the mounts as they were.
 use Rattle.std.proofs.Common.{arith}
 use Rattle.std.proofs.lemmas.Grind.{common_steps}
-use Rattle.std.proofs.Common.{◌≡◌, refl, sym, ℕ, nat_eq, Bool, true, false, true≢false, List, [], ◌∷◌, Option, Some, None}
+use Rattle.std.proofs.Common.{◌≡◌, refl, sym, ℕ, nat_eq, Bool, true, false, true≢false, List, [], ◌∷◌}
 use Rattle.vt_spec.specs.Language.Calls.{Call}
 use Rattle.vt_spec.specs.Language.Calls.Call.{Bind, Exit, Lazy, MountOverlay, MountPlain, MoveMount, PivotRoot, Remount, Rename, Rmdir, SetType, Setns, Umount, Unshare}
 use Rattle.vt_spec.specs.Language.Changes.{Change}
-use Rattle.vt_spec.specs.Machine.Filesystems.{filesystem_changed, overlay_changed, with_change}
+use Rattle.vt_spec.specs.Machine.Filesystems.{with_change}
 use Rattle.vt_spec.specs.Lists.{Fresh, odds, evens}
 use Rattle.vt_spec.specs.Machine.Mounts.{Location}
 use Rattle.vt_spec.specs.Machine.Descriptors.{pwritten, with_copy, is_copied_up, overwritten}
 use Rattle.vt_spec.specs.Machine.Rows.{file_mode, linking, making, new_file}
 use Rattle.vt_spec.specs.Machine.Rules.Removing.{object_there, removing}
-use Rattle.vt_spec.specs.Machine.World.{Filesystem, Layer, Overlay, Task, World, filesystem_at, node_at}
+use Rattle.vt_spec.specs.Machine.World.{Task, World, node_at}
 use Rattle.vt_spec.specs.Tree.{bytes_in}
 use Rattle.vt_laws_mounts.specs.Mounts.FileCalls.{FileCallsLeaveMounts, is_of_no_mount}
 use Rattle.vt_laws_mounts.proofs.mounts.MountsGranted.{policy_leaves}

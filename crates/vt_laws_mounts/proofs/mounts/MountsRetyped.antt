@@ -1,7 +1,7 @@
 -- A change of flags or of type is of the mounts that it names.
 use Rattle.std.proofs.Common.{arith}
 use Rattle.std.proofs.lemmas.Grind.{common_steps}
-use Rattle.std.proofs.Common.{◌≡◌, refl, sym, ap, ◌∙◌, true, false, Bool, subst, ℕ, nat_eq, List, None, [], inl, map, ◌∷◌, ◌||◌}
+use Rattle.std.proofs.Common.{◌≡◌, refl, sym, ap, ◌∙◌, true, false, Bool, ℕ, nat_eq, List, None, [], inl, map, ◌∷◌, ◌||◌}
 use Rattle.std.specs.List.{list_any}
 use Rattle.vt_spec.specs.Machine.Mounts.Propagation.{Private, Shared, Slave, Unbindable}
 use Rattle.vt_spec.specs.Language.Calls.TypeWord.{ToSlave}
@@ -12,7 +12,7 @@ use Rattle.vt_spec.specs.Language.Calls.{TypeWord}
 use Rattle.vt_spec.specs.Machine.World.{World, mount_numbered, mount_at}
 use Rattle.vt_laws_mounts.proofs.mounts.MountsFound.{found-map, found-map_there, numbers-map}
 use Rattle.vt_laws_mounts.proofs.mounts.MountsReplaced.{found-with_mount_itself, found-with_mount_other, none_numbered}
-use Rattle.vt_spec.specs.Machine.Receives.{has_members, inherited, inheriting, lost_a_group, regrouped_by, slave_of_heir}
+use Rattle.vt_spec.specs.Machine.Receives.{has_members, inherited, inheriting, slave_of_heir}
 use Rattle.vt_laws_mounts.proofs.Groups.{inherited_kept, members-regrouped, mounts-regrouped, no_heir}
 use Rattle.vt_spec.specs.Lists.{is_among, Fresh}
 use Rattle.vt_laws_mounts.specs.Mounts.Attaching.{is_mount, numbers_of}

@@ -8,7 +8,7 @@ use Rattle.std.proofs.lemmas.List.Filters.{length-filter_both}
 use Rattle.std.proofs.lemmas.Option.{same_Some}
 use Rattle.vt_spec.proofs.Lists.{Among, all_from_among, among-filter, among-from_filter, among-from_flat_map, among-map, among_from_all, among_from_list_all, among_numbers, chain_ends, chain_goes_on, last_of_chain, list_all_from_among, none_among, none_from_among, pair-filter}
 use Rattle.vt_spec.specs.Machine.Detach.{depth_of}
-use Rattle.vt_spec.specs.Lists.{any_pair, chain, holds_of, last_or, same_option}
+use Rattle.vt_spec.specs.Lists.{any_pair, chain, last_or, same_option}
 use Rattle.vt_spec.specs.Machine.Mounts.{Location, Mount, children, is_unbindable, no_mount, stands_on, tree_from}
 use Rattle.vt_spec.specs.Machine.Attach.{bind_tree, bindable_children, bindable_tree, bound, stands_under}
 use Rattle.vt_spec.specs.Machine.World.{World, mount_at, mount_numbered}

@@ -1,7 +1,7 @@
 -- What moves, before anything is attached for the receivers: each mount stands, at most one at a place.
 use Rattle.std.proofs.Common.{arith}
 use Rattle.std.proofs.lemmas.Grind.{common_steps}
-use Rattle.std.proofs.Common.{◌≡◌, refl, sym, ap, subst, ◌∙◌, true, false, nat_eq, ℕ, Bool, List, None, Option, Some, [], eq-eqb, eqb-true, inl, inr, is_some, map, not, option_map, true≢false, ⊎_elim, ◌&&◌, ◌∷◌, ◌||◌}
+use Rattle.std.proofs.Common.{◌≡◌, refl, sym, ap, subst, ◌∙◌, true, false, nat_eq, ℕ, Bool, List, None, Option, Some, [], eq-eqb, eqb-true, inl, inr, is_some, map, option_map, true≢false, ⊎_elim, ◌∷◌}
 use Rattle.std.specs.List.{list_any}
 use Rattle.std.specs.Prelude.{if◌then◌else◌, unwrap_or}
 use Rattle.std.proofs.lemmas.Bool.{false_from_ne_true, or_from, or_parts}
@@ -11,7 +11,7 @@ use Rattle.vt_spec.specs.Machine.Attach.{Copies, Graft, Twig, copy_at, graft_of,
 use Rattle.vt_spec.specs.Lists.{any_pair, first_of_list, folded, holds_of, is_among}
 use Rattle.vt_spec.specs.Machine.Mounts.{Location, Mount, child_at, group_of, mount_in, stands_at, with_mount}
 use Rattle.vt_spec.specs.Machine.World.{World, mount_at, mount_numbered}
-use Rattle.vt_spec.specs.Machine.Invariants.{Stands, is_nowhere_or_attached, is_private}
+use Rattle.vt_spec.specs.Machine.Invariants.{Stands}
 use Rattle.vt_spec.specs.Machine.Invariants.Stands.{at_root, on_parent}
 use Rattle.vt_laws_mounts.specs.Mounts.Attaching.{OneNumberAMount, is_mount, numbers_of}
 use Rattle.vt_laws_mounts.specs.Mounts.Invariants.{NowhereOrAttached}

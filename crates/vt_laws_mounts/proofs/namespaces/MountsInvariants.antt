@@ -5,7 +5,7 @@ use Rattle.std.proofs.Common.{◌≡◌, refl, sym, ap, ◌∙◌, true, false, 
 use Rattle.std.specs.List.{list_any}
 use Rattle.vt_spec.proofs.Lists.{Among, among-from_map, among_from_list_all, any_among, list_all_from_among}
 use Rattle.vt_spec.specs.Lists.{Fresh}
-use Rattle.vt_spec.specs.Machine.Mounts.{Location, Mount, mount_in, replaced_if_same}
+use Rattle.vt_spec.specs.Machine.Mounts.{Location, Mount, replaced_if_same}
 use Rattle.vt_spec.specs.Language.Calls.{MountFlags}
 use Rattle.vt_spec.specs.Machine.World.{World, mount_at, mount_numbered, with_flags}
 use Rattle.vt_spec.specs.Machine.Receives.{inheriting}

@@ -1,15 +1,15 @@
 -- An unshare: the mounts of each namespace.
 use Rattle.std.proofs.Common.{arith}
 use Rattle.std.proofs.lemmas.Grind.{common_steps}
-use Rattle.std.proofs.Common.{◌≡◌, refl, sym, ap, subst, ◌∙◌, true, false, nat_eq, ℕ, None, Option, Some, eq-eqb, eqb-true, filter, flat_map, is_some, length, map, not, option_map, option_to_list, true≢false, ◌++◌}
+use Rattle.std.proofs.Common.{◌≡◌, refl, sym, ap, subst, ◌∙◌, true, false, nat_eq, ℕ, None, Option, Some, eq-eqb, eqb-true, filter, flat_map, map, option_to_list, true≢false, ◌++◌}
 use Rattle.std.specs.List.{list_all}
 use Rattle.std.proofs.lemmas.Bool.{and_parts, false_from_ne_true}
 use Rattle.std.proofs.lemmas.List.{append-nil, length-map}
 use Rattle.std.proofs.lemmas.List.Elements.{filter-append}
 use Rattle.vt_spec.proofs.Lists.{Among, among-append_right, among-from_map, among_from_list_all, among_numbers, filter_none, is_among_numbers, none_from_among}
 use Rattle.vt_spec.specs.Lists.{evens, holds_of, odds}
-use Rattle.vt_spec.specs.Machine.Mounts.{Location, Mount, numbers_by}
-use Rattle.vt_spec.specs.Machine.Namespaces.{copied_mount, location_on_copy}
+use Rattle.vt_spec.specs.Machine.Mounts.{Mount, numbers_by}
+use Rattle.vt_spec.specs.Machine.Namespaces.{copied_mount}
 use Rattle.vt_spec.specs.Machine.Run.{numbers_in_use, used_by_filesystem, used_by_mount}
 use Rattle.vt_spec.specs.Machine.World.{Namespace, mounts_of}
 use Rattle.vt_spec.specs.Machine.Invariants.{is_listed, is_root_mount}

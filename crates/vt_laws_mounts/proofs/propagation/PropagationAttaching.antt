@@ -1,12 +1,12 @@
 -- Copies of a tree that is attached: that they are there, where they stand, and their types.
 use Rattle.std.proofs.Common.{arith}
 use Rattle.std.proofs.lemmas.Grind.{common_steps}
-use Rattle.std.proofs.Common.{◌≡◌, refl, sym, ap, subst, ◌∙◌, true, false, nat_eq, ℕ, Bool, List, None, Option, Some, inl, is_some, true≢false, ⊎_elim, ◌&&◌, ◌∷◌}
+use Rattle.std.proofs.Common.{◌≡◌, refl, sym, ap, subst, ◌∙◌, true, false, nat_eq, ℕ, Bool, List, None, Some, inl, is_some, true≢false, ⊎_elim, ◌&&◌, ◌∷◌}
 use Rattle.std.specs.Prelude.{Contains, if◌then◌else◌}
 use Rattle.std.specs.List.{list_any}
 use Rattle.std.proofs.lemmas.Bool.{false_from_ne_true}
 use Rattle.vt_spec.proofs.Lists.{Among, among_from_contains, contains_from_among, among-from_map, among_numbers, any_from_among, is_among_numbers}
-use Rattle.vt_spec.specs.Machine.Attach.{Copies, copies_from, parts_of, pushed_onto, receiver_stood_on, type_at, type_on_shared}
+use Rattle.vt_spec.specs.Machine.Attach.{Copies, copies_from, parts_of, type_at, type_on_shared}
 use Rattle.vt_spec.specs.Lists.{holds_of, is_among, rest_of}
 use Rattle.vt_spec.specs.Machine.Mounts.{Location, Mount, Propagation, group_of, is_shared, same_location}
 use Rattle.vt_spec.specs.Machine.Mounts.Propagation.{Private, Shared, Slave, Unbindable}
@@ -18,7 +18,7 @@ use Rattle.vt_laws_mounts.specs.Mounts.Propagation.{Attachment, CanAttach, Copie
 use Rattle.vt_laws_mounts.proofs.GroupsKept.{shared_member}
 use Rattle.vt_laws_mounts.proofs.mounts.MountsAttached.{is_pushed_by}
 use Rattle.vt_laws_mounts.proofs.mounts.MountsNumbered.{is_one_of, number_in_use, supplies_serve_as_copies, supplies_serve_as_images}
-use Rattle.vt_laws_mounts.proofs.propagation.PropagationCopies.{arrived, arrived_keeps, first_not_pushed, first_location, found_copy, made, not_pushed, other_place, push, tree}
+use Rattle.vt_laws_mounts.proofs.propagation.PropagationCopies.{arrived, arrived_keeps, first_not_pushed, first_location, found_copy, made, not_pushed, other_place, tree}
 use Rattle.vt_laws_mounts.proofs.propagation.PropagationTypes.{image_new, image_of, kind, kind_there, lower_master, private_there, shared_kind, slave_kind, slave_there, there_new}
 use Rattle.vt_spec.proofs.Worlds.{number-mount_in, found_or_none}
 

@@ -18,14 +18,6 @@ side zero (suc (suc further)) = Beyond further
 side (suc m) zero = Before
 side (suc m) (suc r) = side m r
 
-side_before : (m r : ℕ) → r ≤ m → side m r ≡ Before
-unfolding side
-side_before zero zero h = refl
-side_before zero (suc zero) h = absurd (omega arith)
-side_before zero (suc (suc further)) h = absurd (omega arith)
-side_before (suc m) zero h = refl
-side_before (suc m) (suc r) h = let less : r ≤ m = omega arith in side_before m r less
-
 side_at : (m : ℕ) → side m (suc m) ≡ At
 unfolding side
 side_at zero = refl

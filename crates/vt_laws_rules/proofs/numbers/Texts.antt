@@ -108,10 +108,6 @@ module _ (grammar : Grammar) where
       ++ rows_text (suc m) (step_world world (line_step nat_eq grammar world line (Some (spread (suc m)))))
       (number + 1) lines refused
 
-  -- the numbers in hand are renamed to numbers of the rows so far
-  AreEarly : (ℕ → Bool) → (ℕ → ℕ) → ℕ → Type 0
-  AreEarly in_hand rename m = (number : ℕ) → in_hand number ≡ true → row (rename number) ≤ m
-
   -- A line that is handed some supply, and the same line in the renamed world that is handed the next row
   module _ (m : ℕ) (renaming : Renaming ℕ ℕ) (in_hand : ℕ → Bool) (world other : World ℕ)
       (same : renamed renaming.there renaming.back world ≡ other)

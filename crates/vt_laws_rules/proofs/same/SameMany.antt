@@ -8,7 +8,7 @@ use Rattle.vt_laws_rules.proofs.same.SameJudged.{same_worlds_are_judged_alike}
 use Rattle.vt_laws_rules.proofs.same.SameLooks.{found_same}
 use Rattle.vt_laws_rules.specs.Same.{SameWorldsJudgeAlike}
 use Rattle.vt_spec.specs.Machine.Apply.{overfills}
-use Rattle.vt_spec.specs.Machine.Attach.{Copies, Graft, Twig, added_mounts, all_groups_made, attach, attached_at, bindable_children, bindable_tree, bound, bound_at, copies_at, copies_from, copy_at, copy_mount_point, copy_number, copy_type, graft_of, has_too_many, is_destination, nearest_image, parts_of, pushed_onto, pushed_up, reaches, receiver_stood_on, receivers_of, stands_under, takes_part, top_of_copies, with_moved_mounts}
+use Rattle.vt_spec.specs.Machine.Attach.{Copies, Graft, Twig, added_mounts, attach, attached_at, bindable_children, bindable_tree, bound, bound_at, copies_at, copies_from, copy_at, copy_mount_point, copy_number, copy_type, graft_of, has_too_many, is_destination, parts_of, pushed_onto, receiver_stood_on, receivers_of, stands_under, takes_part, top_of_copies, with_moved_mounts}
 use Rattle.vt_spec.specs.Language.Limits.{most_mounts}
 use Rattle.vt_spec.specs.Language.Calls.{Call, MountFlags}
 use Rattle.vt_spec.specs.Language.Calls.Call.{Bind, MountOverlay, MountPlain, MoveMount}
@@ -98,12 +98,6 @@ module _ (world : World ℕ) (others : List (Filesystem ℕ)) (namespaces : List
   parts_same place = λ i.
       mount_at nat_eq world place
       ∷ filter (λ mount. takes_same place mount i) (receivers_of nat_eq world (mount_at nat_eq world place))
-
-  nearest_same : (new : Copies ℕ) (parts : List (Mount ℕ)) (destination : Mount ℕ) (twig : Twig ℕ) (group : Option ℕ)
-      → nearest_image nat_eq world new parts destination twig group
-      ≡ nearest_image nat_eq other new parts destination twig group
-  nearest_same new parts destination twig None = refl
-  nearest_same new parts destination twig (Some group) = refl
 
   type_same : (new : Copies ℕ) (parts : List (Mount ℕ)) (destination : Mount ℕ) (twig : Twig ℕ) (kind : Propagation ℕ)
       → copy_type nat_eq world new parts destination twig kind ≡ copy_type nat_eq other new parts destination twig kind

@@ -106,10 +106,6 @@ module _ {A B C : Type 0} (f : A → C) (g : B → C) where
   )
 
 module _ {A : Type 0} (R : A → A → Type 0) where
-  pub each_itself : ((a : A) → R a a) → (list : List A) → Each R list list
-  each_itself itself [] = tt
-  each_itself itself (a ∷ rest) = (itself a, each_itself itself rest)
-
   pub each_back : ((a b : A) → R a b → R b a) → (ones others : List A) → Each R ones others → Each R others ones
   each_back back [] [] each = tt
   each_back back [] (b ∷ others) each = absurd each

@@ -62,9 +62,6 @@ module _ (world : World ℕ) (fresh : Fresh ℕ) (task : Task ℕ) (serves : Ser
   abbrev after : Permit ℕ → World ℕ
   after permit = (apply nat_eq fresh world task permit).world
 
-  abbrev same_number : ℕ → ℕ
-  same_number number = number
-
   are : AreNamespaces world
   are = are_namespaces world is.namespaces
 

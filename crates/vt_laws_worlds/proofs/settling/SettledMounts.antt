@@ -1,11 +1,10 @@
 -- Mounts and namespaces where what nothing uses goes.
 use Rattle.std.proofs.Common.{arith}
 use Rattle.std.proofs.lemmas.Grind.{common_steps}
-use Rattle.std.proofs.Common.{◌≡◌, refl, sym, ap, ◌∙◌, ℕ, nat_eq, Bool, true, false, List, Option, Some, None, filter, is_some, ◌&&◌}
+use Rattle.std.proofs.Common.{◌≡◌, sym, ap, ◌∙◌, ℕ, nat_eq, true, List, Some, filter, is_some}
 use Rattle.std.specs.Prelude.{length, nat_lt, option_to_list, ◌==◌}
 use Rattle.std.specs.List.{list_all, list_any}
 use Rattle.vt_spec.specs.Language.Limits.{most_mounts}
-use Rattle.vt_spec.specs.Lists.{holds_of}
 use Rattle.vt_spec.specs.Machine.Mounts.{Location, Mount}
 use Rattle.vt_spec.specs.Machine.Settled.{mount_lives, settled}
 use Rattle.vt_spec.specs.Machine.World.{Namespace, World, mount_at, mount_numbered, mounts_of}

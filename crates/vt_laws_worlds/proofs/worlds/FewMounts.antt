@@ -1,18 +1,17 @@
 -- Where no namespace gets mounts, none has too many.
 use Rattle.std.proofs.lemmas.Grind.{common_steps}
-use Rattle.std.proofs.Common.{◌≡◌, refl, sym, ap, subst, ◌∙◌, true≢false, arith, inl, inr, ⊎_elim, ◌⊎◌, ℕ, nat_eq, nat_lt, Bool, true, false, cond, List, [], ◌∷◌, ◌≤◌, filter, map, length, Option, Some, None, option_map}
-use Rattle.std.specs.List.{list_any}
+use Rattle.std.proofs.Common.{◌≡◌, refl, sym, ap, subst, ◌∙◌, true≢false, arith, inl, inr, ⊎_elim, ◌⊎◌, ℕ, nat_eq, nat_lt, Bool, true, false, cond, List, [], ◌∷◌, ◌≤◌, filter, map, length, None}
 use Rattle.std.proofs.lemmas.Bool.{le-ltb, ltb-false}
 use Rattle.vt_spec.specs.Machine.Attach.{has_too_many}
 use Rattle.vt_spec.specs.Language.Limits.{most_mounts}
 use Rattle.vt_spec.specs.Language.Changes.{Change}
-use Rattle.vt_spec.specs.Machine.Detach.{after_going, deepest_first, is_going, lazily_unmounted, mount_point_left, taken_away, unmounted, unmounted_if_there}
-use Rattle.vt_spec.specs.Machine.Filesystems.{filesystem_changed, overlay_changed, with_change}
+use Rattle.vt_spec.specs.Machine.Detach.{after_going, deepest_first, lazily_unmounted, taken_away, unmounted_if_there}
+use Rattle.vt_spec.specs.Machine.Filesystems.{with_change}
 use Rattle.vt_spec.specs.Lists.{Fresh, folded, holds_of}
-use Rattle.vt_spec.specs.Machine.Mounts.{Location, Mount, detached, mount_tree}
+use Rattle.vt_spec.specs.Machine.Mounts.{Location, Mount, mount_tree}
 use Rattle.vt_spec.specs.Machine.Namespaces.{has_tasks, is_in_ended, namespaces_ended}
-use Rattle.vt_spec.specs.Machine.Receives.{inheriting, lost_a_group, regrouped, regrouped_by}
-use Rattle.vt_spec.specs.Machine.World.{Filesystem, Layer, Namespace, Overlay, World, filesystem_at, mount_numbered, with_mounts}
+use Rattle.vt_spec.specs.Machine.Receives.{regrouped}
+use Rattle.vt_spec.specs.Machine.World.{Namespace, World, mount_numbered, with_mounts}
 use Rattle.vt_spec.proofs.Lists.{Among, among-from_filter, none_among, none_from_among}
 use Rattle.vt_laws_mounts.specs.Mounts.Ending.{count_in, is_in}
 

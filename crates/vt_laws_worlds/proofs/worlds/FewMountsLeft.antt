@@ -1,8 +1,6 @@
 -- Permits that attach nothing leave no namespace with too many mounts.
 use Rattle.std.proofs.lemmas.Grind.{common_steps}
-use Rattle.std.proofs.Common.{◌≡◌, refl, sym, ap, ◌∙◌, true≢false, arith, inl, inr, ⊎_elim, ◌⊎◌, eqb-true, eq-eqb, ℕ, nat_eq, nat_lt, Bool, true, false, cond, List, [], ◌∷◌, ◌++◌, ◌+◌, ◌*◌, ◌≤◌, ◌&&◌, filter, map, length, flat_map, Option, Some, None}
-use Rattle.std.specs.Prelude.{option_to_list}
-use Rattle.std.specs.List.{list_all, list_any}
+use Rattle.std.proofs.Common.{◌≡◌, refl, sym, ap, ◌∙◌, true≢false, arith, inl, inr, ⊎_elim, ◌⊎◌, eqb-true, eq-eqb, ℕ, nat_eq, nat_lt, Bool, true, false, List, [], ◌∷◌, ◌++◌, ◌+◌, ◌≤◌, ◌&&◌, filter, map, length, Option, Some, None}
 use Rattle.std.proofs.lemmas.List.{length-append, length-map}
 use Rattle.std.proofs.lemmas.List.Elements.{filter-append}
 use Rattle.vt_spec.specs.Machine.Apply.{apply}
@@ -11,14 +9,14 @@ use Rattle.vt_spec.specs.Language.Limits.{most_mounts}
 use Rattle.vt_spec.specs.Language.Calls.{MountFlags, TypeWord}
 use Rattle.vt_spec.specs.Language.Changes.Change.{CopyUp}
 use Rattle.vt_spec.specs.Machine.Detach.{without_mounts_on, without_replaced}
-use Rattle.vt_spec.specs.Lists.{Fresh, evens, holds_of, is_among, odds}
+use Rattle.vt_spec.specs.Lists.{Fresh, evens, odds}
 use Rattle.vt_spec.specs.Machine.Mounts.{Location, Mount, numbers_by, replaced_if_same}
 use Rattle.vt_spec.specs.Machine.Namespaces.{copied_mount, namespace_entered, pivoted_mount, unshared}
 use Rattle.vt_spec.specs.Machine.Descriptors.{is_copied_up, pwritten, with_copy}
 use Rattle.vt_spec.specs.Machine.Permits.{Permit}
 use Rattle.vt_spec.specs.Machine.Permits.Permit.{ToBind, ToChange, ToEnterNamespace, ToExit, ToMake, ToMountOverlay, ToMountPlain, ToMove, ToOpen, ToOpenNew, ToPivot, ToRemoveDirectory, ToRename, ToSetFlags, ToSetType, ToUnmount, ToUnmountLazily, ToUnshare, ToWritePart}
-use Rattle.vt_spec.specs.Machine.Run.{Serves, numbers_in_use, used_by_filesystem, used_by_mount}
-use Rattle.vt_spec.specs.Machine.Types.{named_mounts, retyped_mount, type_after, with_new_groups, with_type}
+use Rattle.vt_spec.specs.Machine.Run.{Serves}
+use Rattle.vt_spec.specs.Machine.Types.{named_mounts, retyped_mount, with_new_groups, with_type}
 use Rattle.vt_spec.specs.Machine.World.{Namespace, Task, World, mount_at, mount_numbered, mounts_of, task_called, without_task}
 use Rattle.vt_spec.specs.Machine.Invariants.{IsWorld, is_listed}
 use Rattle.vt_spec.proofs.Lists.{Among, among-append, among-append_right, among-from_map, among_from_list_all, among_numbers, is_among_numbers, none_from_among}

@@ -1,6 +1,5 @@
 -- A permit that fits keeps filesystems plain, with numbers of their own.
 use Rattle.std.proofs.Common.{◌≡◌, refl, sym, ap, subst, ◌∙◌, inl, inr, ⊎_elim, ℕ, nat_eq, Bool, true, false, List, [], ◌∷◌, ◌++◌, ◌||◌, map}
-use Rattle.std.specs.Prelude.{All}
 use Rattle.std.specs.List.{list_any}
 use Rattle.std.proofs.lemmas.Bool.{or_parts}
 use Rattle.vt_spec.specs.Machine.Apply.{apply}
@@ -17,10 +16,10 @@ use Rattle.vt_spec.specs.Machine.Permits.{Permit}
 use Rattle.vt_spec.specs.Machine.Permits.Permit.{ToChange, ToEnterNamespace, ToExit, ToMake, ToMountOverlay, ToMountPlain, ToOpen, ToOpenNew, ToRemoveDirectory, ToRename, ToSetType, ToUnmount, ToUnmountLazily, ToUnshare, ToWritePart}
 use Rattle.vt_spec.specs.Machine.Run.{Serves}
 use Rattle.vt_spec.specs.Machine.World.{Filesystem, Task, World, is_overlay, mount_at, mount_numbered, replaced_if_numbered, without_task}
-use Rattle.vt_spec.proofs.Lists.{Among, all_from_among, among-append, among_from_all, none_among, none_from_among}
+use Rattle.vt_spec.proofs.Lists.{Among, among-append, none_among, none_from_among}
 use Rattle.vt_laws_mounts.proofs.mounts.MountsRetyped.{types_are_of_mounts}
 use Rattle.vt_laws_mounts.proofs.ends.UnmountingEnds.{lazy_is_of_mounts}
-use Rattle.vt_laws_trees.proofs.trees.TreesOfWorlds.{numbered_anyhow, replaced_all}
+use Rattle.vt_laws_trees.proofs.trees.TreesOfWorlds.{numbered_anyhow}
 use Rattle.vt_laws_worlds.specs.Worlds.Filesystems.{OneFilesystemANumber}
 use Rattle.vt_laws_worlds.specs.Worlds.Kept.{IsPlain, KeptByPermits}
 use Rattle.vt_laws_worlds.specs.Worlds.Permits.{NamesWhatIsThere}
@@ -38,9 +37,6 @@ pub data FilesystemsGoOn (before : List (Filesystem ℕ)) : List (Filesystem ℕ
   one_more : (new : Filesystem ℕ) (after : List (Filesystem ℕ)) → is_overlay new ≡ false
       → ((old : Filesystem ℕ) → Among old before → nat_eq old.number new.number ≡ false)
       → after ≡ before ++ (new ∷ []) → FilesystemsGoOn before after
-
-abbrev ArePlain : List (Filesystem ℕ) → Type 0
-ArePlain list = All (λ filesystem. is_overlay filesystem ≡ false) list
 
 abbrev AreApart : List (Filesystem ℕ) → Type 0
 AreApart list = any_pair (λ (a b : Filesystem ℕ). nat_eq a.number b.number) list ≡ false
@@ -73,17 +69,6 @@ appended_apart (first ∷ rest) new e differ =
     (λ none. absurd none) r)
     (among-append rest (new ∷ []) b m)))
     ∙ appended_apart rest new parts.1 (λ old m. differ old (inr m))
-
-go_on_plain : (before after : List (Filesystem ℕ)) → FilesystemsGoOn before after → ArePlain before → ArePlain after
-go_on_plain before after (same_ones list e) plain = subst ArePlain (sym e) plain
-go_on_plain before after (one_changed new list one e) plain =
-    subst ArePlain (sym e) (replaced_all (λ filesystem. is_overlay filesystem ≡ false) new before plain (inl one))
-go_on_plain before after (one_more new list one differ e) plain =
-    subst ArePlain (sym e)
-    (all_from_among (λ (f : Filesystem ℕ). is_overlay f ≡ false) (before ++ (new ∷ [])) (λ f m.
-    ⊎_elim (among_from_all (λ (g : Filesystem ℕ). is_overlay g ≡ false) before plain f)
-    (λ r. ⊎_elim (λ same. ap is_overlay same ∙ one) (λ none. absurd none) r)
-    (among-append before (new ∷ []) f m)))
 
 go_on_apart : (before after : List (Filesystem ℕ)) → FilesystemsGoOn before after → AreApart before → AreApart after
 go_on_apart before after (same_ones list e) apart_all = subst AreApart (sym e) apart_all
@@ -163,11 +148,6 @@ module _ (world : World ℕ) (fresh : Fresh ℕ) (task : Task ℕ) (plain : IsPl
       same_ones (after (ToSetType mount word recursive)).filesystems
       (types_are_of_mounts world fresh mount word recursive).filesystems
   filesystems_go_on permit fits = same_ones world.filesystems refl
-
-pub permits_keep_filesystems_plain : KeptByPermits IsPlain
-permits_keep_filesystems_plain world fresh task permit is plain serves called fits =
-    go_on_plain world.filesystems (after world fresh task plain serves permit).filesystems
-    (filesystems_go_on world fresh task plain serves permit fits.names) plain
 
 pub permits_keep_filesystem_numbers : KeptByPermits OneFilesystemANumber
 permits_keep_filesystem_numbers world fresh task permit is plain serves called fits =

@@ -12,18 +12,16 @@ use Rattle.vt_spec.specs.Machine.Descriptors.{is_copied_up, with_descriptor, wit
 use Rattle.vt_spec.specs.Machine.Permits.{Permit}
 use Rattle.vt_spec.specs.Machine.Permits.Permit.{ToChange, ToClose, ToEnterNamespace, ToExit, ToFork, ToMake, ToMountOverlay, ToOpen, ToOpenNew, ToPivot, ToRemoveDirectory, ToRename, ToSetCredentials, ToSetDirectory, ToSetRoot, ToSetType, ToSetUmask, ToUnmount, ToUnmountLazily, ToUnshare, ToWritePart}
 use Rattle.vt_spec.specs.Machine.World.{Task, World, mount_at, mount_numbered, mounts_of, replaced_if_called, without_task}
-use Rattle.vt_spec.specs.Machine.Invariants.{ForksAreCounted, TaskInvariants}
+use Rattle.vt_spec.specs.Machine.Invariants.{ForksAreCounted}
 use Rattle.vt_laws_mounts.proofs.mounts.MountsRetyped.{types_are_of_mounts}
 use Rattle.vt_laws_mounts.proofs.ends.UnmountingEnds.{lazy_is_of_mounts}
 use Rattle.vt_laws_worlds.specs.Worlds.Kept.{KeptByAllPermits, KeptByPermits}
 use Rattle.vt_laws_worlds.specs.Worlds.Permits.{NamesWhatIsThere}
 use Rattle.vt_laws_worlds.specs.Worlds.Tasks.{OneTaskAName}
-use Rattle.vt_laws_worlds.proofs.worlds.PermitsPlaced.{permits_keep_directories, permits_keep_locations, permits_keep_open_files}
 use Rattle.vt_laws_worlds.proofs.worlds.PermitsSeen.{gone_on}
 use Rattle.vt_laws_worlds.proofs.TasksNamed.{GoOn, counted_among, counted_from, go_on_apart, go_on_counted}
 use Rattle.vt_laws_worlds.proofs.TasksNamed.GoOn.{all_moved, one_changed, one_left, one_more, same_ones}
 use Rattle.vt_spec.proofs.Worlds.{tasks-taken_away, tasks-with_change, tasks-without_replaced}
-use Rattle.vt_laws_trees.specs.Trees.Limits.{HasSmallTasks}
 use Rattle.vt_laws_trees.proofs.trees.TreesTasks.{called_there, tasks-with_copy, tasks-pwritten}
 
 module _ (world : World ℕ) (fresh : Fresh ℕ) (task : Task ℕ) where
@@ -120,14 +118,3 @@ all_permits_keep_counting_forks world fresh task permit is serves called fits =
 pub permits_keep_counting_forks : KeptByPermits ForksAreCounted
 permits_keep_counting_forks world fresh task permit is plain serves called fits =
     all_permits_keep_counting_forks world fresh task permit is serves called fits
-
--- All invariants of tasks, where tasks stay within their limits
-pub permits_keep_tasks : KeptByPermits (λ after. HasSmallTasks after → TaskInvariants nat_eq after)
-permits_keep_tasks world fresh task permit is plain serves called fits limits = record {
-  one_task = permits_keep_names world fresh task permit is plain serves called fits;
-  small_tasks = limits;
-  forks_counted = permits_keep_counting_forks world fresh task permit is plain serves called fits;
-  locations_live = permits_keep_locations world fresh task permit is plain serves called fits;
-  directories = permits_keep_directories world fresh task permit is plain serves called fits;
-  open_files = permits_keep_open_files world fresh task permit is plain serves called fits;
-}

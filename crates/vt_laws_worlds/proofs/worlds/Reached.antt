@@ -1,7 +1,7 @@
 -- Where one step of a walk leads: to what is there, on a mount of the task's namespace or on one that is in none.
 use Rattle.std.proofs.Common.{arith}
 use Rattle.std.proofs.lemmas.Grind.{common_steps}
-use Rattle.std.proofs.Common.{◌≡◌, refl, sym, ap, subst, ◌∙◌, true≢false, ⊎_elim, ℕ, nat_eq, Bool, true, false, not, cond, List, [], ◌∷◌, ◌&&◌, ◌||◌, length, Option, Some, None, is_some, option_map, ok_or, Ok, Err, Result}
+use Rattle.std.proofs.Common.{◌≡◌, refl, sym, ap, subst, ◌∙◌, true≢false, ⊎_elim, ℕ, nat_eq, Bool, true, false, not, cond, List, [], ◌∷◌, ◌&&◌, ◌||◌, length, Option, Some, None, is_some, option_map, ok_or, Ok, Err}
 use Rattle.std.specs.Prelude.{option_to_list}
 use Rattle.std.specs.List.{list_all}
 use Rattle.std.proofs.lemmas.Bool.{and_from}
@@ -10,8 +10,7 @@ use Rattle.vt_spec.specs.declared.attributes.Kind.TheVariants.{File, White}
 use Rattle.vt_spec.specs.declared.errors.Deny.{Deny}
 use Rattle.vt_spec.specs.declared.errors.Rule.TheVariants.{W6, W8}
 use Rattle.vt_spec.specs.Errors.{denial, unless}
-use Rattle.vt_spec.specs.Tree.{Content, Node, entries_in, entry_named, is_directory_node}
-use Rattle.vt_spec.specs.Tree.Content.{Directory, Regular, Symlink, Whiteout}
+use Rattle.vt_spec.specs.Tree.{Node, entries_in, entry_named, is_directory_node}
 use Rattle.vt_spec.specs.FileTree.{is_kind_in, symlink_text}
 use Rattle.vt_spec.specs.Lists.{is_among, last_or}
 use Rattle.vt_spec.specs.Machine.Mounts.{Location, Mount, child_at, root_of, same_location, stands_at, topmost}

@@ -9,7 +9,7 @@ use Rattle.vt_spec.specs.Language.Changes.{Change, changed, changed_node, conten
 use Rattle.vt_spec.specs.Language.Changes.Change.{AddName, CopyUp, Make, Move, Remove, SetAttr, SetBytes, SetMark}
 use Rattle.vt_spec.specs.FileTree.{FileTree, a_name}
 use Rattle.vt_spec.specs.Lists.{Fresh, evens, odds}
-use Rattle.vt_spec.specs.Machine.CopyUp.{Merge, Stack, copied_content, copied_each, copied_up, copy_named, copy_of, copy_of_node, copy_parent, hides_directory, is_in_upper, line_to, merge_changed, merge_with_moved, merge_with_new, merge_without_name, name_left_by, shown_in_lowers_at, upper_directory_named, upper_of, whiteout_of, with_mark, without_contents}
+use Rattle.vt_spec.specs.Machine.CopyUp.{Merge, Stack, copied_content, copied_each, copied_up, copy_named, copy_of, copy_of_node, copy_parent, hides_directory, is_in_upper, merge_changed, merge_with_moved, merge_with_new, merge_without_name, name_left_by, shown_in_lowers_at, upper_directory_named, upper_of, whiteout_of, with_mark, without_contents}
 use Rattle.vt_spec.specs.Machine.Filesystems.{filesystem_changed, merge_of, overlay_changed, stack_of, with_change, with_files}
 use Rattle.vt_spec.specs.Machine.Invariants.{ListsNumbers, OverlayInvariants, is_plain_layer}
 use Rattle.vt_spec.specs.Machine.Locked.{of_overlay, overlay_or}
@@ -404,11 +404,6 @@ module _ (fresh : Fresh ℕ) (world : World ℕ) (location : Location ℕ) (chan
 
   pub change_keeps_mounts : (with_change nat_eq fresh world location change).mounts ≡ world.mounts
   change_keeps_mounts = rest.mounts
-
-  pub change_keeps_numbers : map (λ (f : Filesystem ℕ). f.number)
-      (with_change nat_eq fresh world location change).filesystems
-      ≡ map (λ (f : Filesystem ℕ). f.number) world.filesystems
-  change_keeps_numbers = rest.numbers
 
 -- What is made is there, where an overlay has an upper layer
 module _ (fresh : Fresh ℕ) (world : World ℕ) (elsewhere : UppersAreElsewhere world) (are_new : AreNewInodes fresh world)

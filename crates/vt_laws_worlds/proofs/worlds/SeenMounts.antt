@@ -1,17 +1,16 @@
 -- Changes of mounts keep what is seen: mounts that are taken away, attached, moved, copied or changed.
 use Rattle.std.proofs.Common.{arith}
 use Rattle.std.proofs.lemmas.Grind.{common_steps}
-use Rattle.std.proofs.Common.{◌≡◌, refl, sym, ap, subst, ◌∙◌, inl, inr, ⊎_elim, ℕ, zero, suc, nat_eq, eqb-true, Bool, true, false, cond, true≢false, find, length, List, [], ◌∷◌, ◌++◌, Some, is_some, map}
-use Rattle.std.specs.Prelude.{if◌then◌else◌, unwrap_or}
+use Rattle.std.proofs.Common.{◌≡◌, refl, sym, ap, subst, ◌∙◌, inl, inr, ⊎_elim, ℕ, zero, suc, nat_eq, eqb-true, Bool, true, false, true≢false, length, List, [], ◌∷◌, ◌++◌, map}
 use Rattle.vt_spec.specs.Machine.Attach.{Copies, attach, copy_at, graft_of, parts_of, twig_of}
 use Rattle.vt_spec.specs.Language.Calls.{MountFlags, TypeWord}
-use Rattle.vt_spec.specs.Machine.Detach.{deepest_first, going, is_going, lazily_unmounted, taken_away, unmounted, unmounted_if_there}
+use Rattle.vt_spec.specs.Machine.Detach.{deepest_first, lazily_unmounted, taken_away, unmounted_if_there}
 use Rattle.vt_spec.specs.Lists.{Fresh, folded, holds_of, is_among}
 use Rattle.vt_spec.specs.Machine.Mounts.{Location, Mount, children, group_of, mount_in, mount_tree, stands_on, tree_from, with_mount}
 use Rattle.vt_spec.specs.Machine.Namespaces.{pivoted, pivoted_mount}
 use Rattle.vt_spec.specs.Machine.NewMounts.{mounted, new_mount, with_new_filesystem}
 use Rattle.vt_spec.specs.Machine.Types.{with_type}
-use Rattle.vt_spec.specs.Machine.World.{Filesystem, World, mount_at, mount_numbered, no_filesystem, with_mounts}
+use Rattle.vt_spec.specs.Machine.World.{Filesystem, World, mount_at, mount_numbered, with_mounts}
 use Rattle.vt_spec.specs.Machine.Invariants.{Stands}
 use Rattle.vt_spec.specs.Machine.Invariants.Stands.{at_root, on_parent}
 use Rattle.vt_spec.proofs.Lists.{Among, among-from_filter, among-from_flat_map, among-from_map, among_numbers, is_among_numbers}
@@ -23,7 +22,7 @@ use Rattle.vt_laws_mounts.proofs.mounts.MountsRetyped.{numbers_with_type, type_i
 use Rattle.vt_laws_mounts.proofs.ends.Unmounting.{numbers_taken}
 use Rattle.vt_laws_mounts.proofs.ends.UnmountingEnds.{others_are_kept, taken_are_detached}
 use Rattle.vt_laws_trees.proofs.trees.TreesOfWorlds.{numbered}
-use Rattle.vt_laws_worlds.proofs.worlds.Seen.{KeepsKind, KeepsView, KeepsWhatIsSeen, is_in, kind_seen, same_seen, same_view, seen_alike, seen_by_mounts, seen_on}
+use Rattle.vt_laws_worlds.proofs.worlds.Seen.{KeepsKind, KeepsView, KeepsWhatIsSeen, is_in, same_seen, same_view, seen_alike, seen_by_mounts, seen_on}
 use Rattle.vt_spec.proofs.Found.{is_among_left}
 use Rattle.vt_spec.proofs.Worlds.{filesystems-taken_away, number-mount_in, number-pivoted_mount, tree_among}
 

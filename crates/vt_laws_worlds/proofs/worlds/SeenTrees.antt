@@ -2,10 +2,10 @@
 -- overlays.
 use Rattle.std.proofs.Common.{arith}
 use Rattle.std.proofs.lemmas.Grind.{common_steps}
-use Rattle.std.proofs.Common.{◌≡◌, refl, sym, ap, subst, ◌∙◌, ◌⊎◌, inl, inr, ⊎_elim, ℕ, nat_eq, eqb-true, eq-eqb, Bool, true, false, cond, true≢false, find, flat_map, List, [], ◌∷◌, ◌++◌, Option, Some, None, map}
-use Rattle.std.specs.Prelude.{All, unwrap_or, ⊤}
+use Rattle.std.proofs.Common.{◌≡◌, refl, sym, ap, ◌∙◌, ◌⊎◌, inr, ℕ, nat_eq, eqb-true, eq-eqb, Bool, true, false, cond, true≢false, flat_map, List, [], ◌∷◌, ◌++◌, Option, Some, None, map}
+use Rattle.std.specs.Prelude.{All, ⊤}
 use Rattle.vt_spec.specs.declared.attributes.Attr.{Attr}
-use Rattle.vt_spec.specs.Language.Changes.{Change, changed, content_with_mark, content_with_parent, node_with_attr, node_with_mark, node_with_parent, node_without_entry, with_inode, with_name, without_entry, without_name, without_parent}
+use Rattle.vt_spec.specs.Language.Changes.{Change, changed, node_with_attr, node_with_mark, node_with_parent, node_without_entry, with_inode, with_name, without_entry, without_name, without_parent}
 use Rattle.vt_spec.specs.Language.Changes.Change.{AddName, CopyUp, Make, Move, Remove, SetAttr, SetBytes, SetMark}
 use Rattle.vt_spec.specs.FileTree.{FileTree}
 use Rattle.vt_spec.specs.Machine.Filesystems.{filesystem_changed, with_change, with_files}
@@ -14,13 +14,13 @@ use Rattle.vt_spec.specs.Machine.Mounts.{Location}
 use Rattle.vt_spec.specs.Machine.Run.{Serves, numbers_in_use, used_by_filesystem, used_by_mount}
 use Rattle.vt_spec.specs.Machine.World.{Filesystem, World, filesystem_at, is_overlay, mount_at, no_filesystem, replaced_if_numbered, with_filesystem}
 use Rattle.vt_spec.specs.Machine.Invariants.{ListsNumbers}
-use Rattle.vt_spec.specs.Tree.{Content, Node, entries_in, entries_of, entry_named, kind_of, node_with_bytes, node_with_entry, with_bytes, with_entries, with_entry}
+use Rattle.vt_spec.specs.Tree.{Content, Node, entries_in, entries_of, entry_named, kind_of, node_with_bytes, node_with_entry, with_entries, with_entry}
 use Rattle.vt_spec.specs.Tree.Content.{Directory, Regular, Symlink, Whiteout}
 use Rattle.vt_spec.proofs.Lists.{Among, all_from_among, among-append_left, among-append_right, among-flat_map, among_from_all, among_numbers, none_among}
 use Rattle.vt_laws_trees.proofs.trees.ChangesNodes.{part_stays}
 use Rattle.vt_laws_trees.proofs.trees.TreesOfWorlds.{number_numbered, numbered, numbered_anyhow}
 use Rattle.vt_laws_worlds.specs.Worlds.Kept.{IsPlain}
-use Rattle.vt_laws_worlds.proofs.worlds.Seen.{KeepsKind, KeepsWhatIsSeen, kind_seen, same_kind, seen_by_nodes}
+use Rattle.vt_laws_worlds.proofs.worlds.Seen.{KeepsKind, kind_seen, same_kind}
 use Rattle.vt_spec.proofs.Options.{none_from_not_some}
 use Rattle.vt_spec.proofs.Worlds.{number-replaced_if_numbered}
 use Rattle.vt_laws_trees.specs.Trees.Settling.{inode_in}
@@ -184,29 +184,12 @@ module _ (fresh : Fresh ℕ) (world : World ℕ) (plain : IsPlain world) (locati
   pub old_number : old.number ≡ (mount_at nat_eq world location).filesystem
   old_number = number_numbered (mount_at nat_eq world location).filesystem world.filesystems
 
-  pub change_seen : MakesNew old.files change → KeepsWhatIsSeen world
-      (with_change nat_eq fresh world location change)
-  change_seen new =
-      subst (KeepsWhatIsSeen world) (sym change_of_plain)
-      (seen_by_nodes world (with_filesystem nat_eq world changed_one) refl
-      (replaced_keeps changed_one world.filesystems
-      (λ k. subst (λ n. KeepsKind ((numbered n world.filesystems).files.tree.node k) (changed_one.files.tree.node k))
-      (sym old_number)
-      (changes_keep_kinds old.files change new k))))
-
   -- the mounts and tasks stay
   pub change_mounts : (with_change nat_eq fresh world location change).mounts ≡ world.mounts
   change_mounts = ap (λ (w : World ℕ). w.mounts) change_of_plain
 
   pub change_tasks : (with_change nat_eq fresh world location change).tasks ≡ world.tasks
   change_tasks = ap (λ (w : World ℕ). w.tasks) change_of_plain
-
-  pub change_filesystems : map (λ (f : Filesystem ℕ). f.number)
-      (with_change nat_eq fresh world location change).filesystems
-      ≡ map (λ (f : Filesystem ℕ). f.number) world.filesystems
-  change_filesystems =
-      ap (λ (w : World ℕ). map (λ (f : Filesystem ℕ). f.number) w.filesystems) change_of_plain
-      ∙ numbers-replaced changed_one world.filesystems
 
 -- A number that is handed in is that of no inode
 pub unused_number : (world : World ℕ) (fresh : Fresh ℕ) → Serves nat_eq world fresh → (k number : ℕ)

@@ -1,7 +1,7 @@
 -- What mounts show, and where they stand, stays there when mounts are taken away, changed or copied.
 use Rattle.std.proofs.Common.{arith}
 use Rattle.std.proofs.lemmas.Grind.{common_steps}
-use Rattle.std.proofs.Common.{◌≡◌, refl, sym, ap, subst, ◌∙◌, ⊎_elim, ℕ, nat_eq, eqb-true, eq-eqb, Bool, true, false, true≢false, not, List, [], ◌∷◌, ◌&&◌, ◌||◌, Option, Some, None, is_some, length, map, option_map}
+use Rattle.std.proofs.Common.{◌≡◌, refl, sym, ap, subst, ◌∙◌, ⊎_elim, ℕ, nat_eq, eqb-true, eq-eqb, Bool, true, false, true≢false, List, [], ◌∷◌, Option, Some, None, is_some, length, map, option_map}
 use Rattle.std.specs.Prelude.{if◌then◌else◌, option_to_list, unwrap_or}
 use Rattle.std.specs.List.{list_all}
 use Rattle.std.proofs.lemmas.Bool.{and_from, and_parts}
@@ -15,7 +15,7 @@ use Rattle.vt_spec.specs.Machine.Receives.{inheriting}
 use Rattle.vt_spec.specs.Machine.Run.{Serves}
 use Rattle.vt_spec.specs.Machine.Types.{named_mounts, with_type}
 use Rattle.vt_spec.specs.Machine.World.{Task, World, is_directory_at, mount_at, mount_numbered, mounts_of, node_at, with_mounts}
-use Rattle.vt_spec.specs.Machine.Invariants.{IsWorld, Stands, has_its_root, is_nowhere_or_attached, is_private}
+use Rattle.vt_spec.specs.Machine.Invariants.{IsWorld, Stands, has_its_root}
 use Rattle.vt_spec.specs.Machine.Invariants.Stands.{at_root, on_parent}
 use Rattle.vt_spec.specs.Tree.{is_directory_node}
 use Rattle.vt_spec.proofs.Lists.{Among, among-append, among-filter, among-from_filter, among-from_map, among_from_all, among_from_list_all, list_all_from_among}

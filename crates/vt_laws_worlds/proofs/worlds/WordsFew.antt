@@ -1,14 +1,14 @@
 -- The groups that a line names are at most 32.
 use Rattle.std.proofs.Common.{arith}
 use Rattle.std.proofs.lemmas.Grind.{common_steps}
-use Rattle.std.proofs.Common.{◌≡◌, refl, sym, ap, ◌∙◌, ℕ, Bool, true, false, cond, List, [], ◌∷◌, Option, Some, None, option_map, suc}
+use Rattle.std.proofs.Common.{◌≡◌, refl, sym, ap, ◌∙◌, ℕ, Bool, true, false, cond, List, [], ◌∷◌, Option, Some, None, option_map}
 use Rattle.std.specs.Prelude.{codes, length, nat_le, unwrap_or, ⊤}
 use Rattle.std.specs.Str.{bytes_eq}
 use Rattle.vt_spec.specs.PathText.{parts}
-use Rattle.vt_spec.specs.Language.Calls.{Access, Call, CapabilityWord, Creation, Directive, plain_flags}
+use Rattle.vt_spec.specs.Language.Calls.{Access, Call, CapabilityWord, Creation, plain_flags}
 use Rattle.vt_spec.specs.Language.Calls.Call.{Fork, Mkdir, MountOverlay, MountPlain, OpenFile}
 use Rattle.vt_spec.specs.Lists.{then_some, when}
-use Rattle.vt_spec.specs.Language.Script.{access_word, bytes_word, descriptor_word, flags_word, kept_or_identity, mode_word, offset_word, options_of, path_word, task_word, type_word, yes_or_no_word, Grammar, Request, Version, Who, asked_by, attribute_words, call_read, capabilities_word, call_words, chown_call, creation_words, descriptor_words, directive_words, each_of, fork_words, groups_word, identity_word, may_have, mount_words, mounting_words, naming_words, no_more, request_of, request_of_texts, second_words, task_words, token_text, raw_tokens, who_of, with_first, word_then}
+use Rattle.vt_spec.specs.Language.Script.{access_word, bytes_word, descriptor_word, flags_word, kept_or_identity, mode_word, offset_word, options_of, path_word, task_word, type_word, yes_or_no_word, Grammar, Request, Version, Who, asked_by, attribute_words, call_read, capabilities_word, call_words, chown_call, creation_words, descriptor_words, each_of, fork_words, groups_word, identity_word, may_have, mount_words, mounting_words, naming_words, no_more, request_of, request_of_texts, second_words, task_words, token_text, raw_tokens, who_of, word_then}
 use Rattle.vt_spec.specs.Language.Script.Request.{Asking, Calling}
 use Rattle.vt_spec.specs.Language.Script.Version.{One, Two}
 use Rattle.vt_spec.specs.Language.Script.Who.{Nobody, Someone}

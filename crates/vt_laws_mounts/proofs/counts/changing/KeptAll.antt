@@ -10,7 +10,7 @@ use Rattle.vt_spec.specs.Lists.{any_pair, is_among}
 use Rattle.vt_spec.specs.Machine.World.{Filesystem}
 use Rattle.vt_spec.specs.Fits.{Fits}
 use Rattle.vt_spec.specs.Inodes.{Inode, Inodes, changed, node_in, pinned, used_once_more, with_changed}
-use Rattle.vt_spec.specs.Tree.{Node, node_with_bytes, node_with_entry}
+use Rattle.vt_spec.specs.Tree.{node_with_bytes, node_with_entry}
 use Rattle.vt_laws_mounts.specs.LettingGo.TreeChanges.{with_tree}
 use Rattle.vt_laws_mounts.proofs.letting_go.Lists.{all_pass, is_among_numbers}
 use Rattle.vt_laws_mounts.proofs.counts.counting.Times.{among_times, times_in}

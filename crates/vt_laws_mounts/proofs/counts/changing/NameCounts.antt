@@ -10,7 +10,7 @@ use Rattle.vt_spec.specs.Laws.Trees.{IsNewIn}
 use Rattle.vt_spec.specs.Inodes.{Inodes, inode_with_node, node_in, with_changed, with_new, without_name, without_replaced}
 use Rattle.vt_spec.specs.Tree.{Node, entries_in, entry_named, is_directory_node, name_cmp, node_with_entry, with_entry}
 use Rattle.vt_laws_mounts.proofs.counts.counting.Counts as Counts
-use Rattle.vt_laws_mounts.proofs.counts.counting.Counts.{apart_one, counted_new, one_if-itself, other_if}
+use Rattle.vt_laws_mounts.proofs.counts.counting.Counts.{apart_one, counted_new, one_if-itself}
 use Rattle.vt_laws_mounts.proofs.counts.counting.Entries.{at_other, at_place, changed_at, commute, find_without, found_target, named_apart, named_by, named_changed, new_entries, one_if, one_if_some, part_at, sorted_at, sorted_without, targets, times_put, times_without}
 use Rattle.vt_laws_mounts.proofs.counts.counting.Times.{times_append, times_in}
 use Rattle.vt_laws_mounts.proofs.counts.changing.TreeCounts.{IsStart, IsTallied, added_targets, changed_counts, changed_same, once_directory, other_uses, there_directory, unpinned_counts, uses_of}

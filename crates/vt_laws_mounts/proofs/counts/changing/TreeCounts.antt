@@ -6,7 +6,7 @@ use Rattle.vt_spec.specs.FileTree.{targets_in}
 use Rattle.vt_spec.specs.Inodes.{Inode, Inodes, count_after, inode_with_node, node_in, unpinned, used_once_less, uses_in, with_changed, with_inode, with_name}
 use Rattle.vt_spec.specs.Tree.{Node, entries_in, entry_named, is_directory_node, name_cmp, node_with_entry, with_entry}
 use Rattle.vt_laws_mounts.proofs.counts.counting.Counts as Counts
-use Rattle.vt_laws_mounts.proofs.counts.counting.Counts.{at_or, counted_changed, counted_new, counted_pinned, counted_some, one_if-itself, other_if, some_inode}
+use Rattle.vt_laws_mounts.proofs.counts.counting.Counts.{at_or, counted_changed, counted_pinned, counted_some, one_if-itself, other_if, some_inode}
 use Rattle.vt_laws_mounts.proofs.counts.counting.Entries.{at_place, named_by, named_changed, one_if, one_if_some, part_at, targets, times_put}
 use Rattle.vt_laws_mounts.proofs.counts.counting.Times.{length_removed, removed, times_in, times_removed}
 use Rattle.vt_spec.proofs.Nodes.{directory_is_there}
@@ -30,10 +30,6 @@ pub record IsStart (base : ℕ → ℕ) (node : ℕ → Option (Node ℕ)) (numb
 pub other_uses : (uses now : ℕ → ℕ) (node : ℕ → Option (Node ℕ)) (inodes : Inodes ℕ) → ((n : ℕ) → uses n ≡ now n)
     → Counts.IsCounted uses node inodes → Counts.IsCounted now node inodes
 other_uses uses now node inodes same counted = subst (λ u. Counts.IsCounted u node inodes) (λ i. λ n. same n i) counted
-
-other_nodes : (uses : ℕ → ℕ) (node now : ℕ → Option (Node ℕ)) (inodes : Inodes ℕ) → ((n : ℕ) → node n ≡ now n)
-    → Counts.IsCounted uses node inodes → Counts.IsCounted uses now inodes
-other_nodes uses node now inodes same counted = subst (λ f. Counts.IsCounted uses f inodes) (λ i. λ n. same n i) counted
 
 -- A node that is changed where it is, if it is there
 pub changed_counts : (uses : ℕ → ℕ) (node : ℕ → Option (Node ℕ)) (inodes : Inodes ℕ) (place : ℕ)

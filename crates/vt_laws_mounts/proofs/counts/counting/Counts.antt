@@ -1,11 +1,11 @@
 -- Inodes that count their uses, after each step of a change.
-use Rattle.std.proofs.Common.{◌≡◌, ◌≢◌, refl, sym, ap, subst, ◌∙◌, ⊎_elim, ℕ, suc, ◌+◌, ◌-◌, ◌≤◌, nat_eq, nat_le, eq-eqb, ne_eqb, true, false, cond, List, [], ◌∷◌, length, Option, Some, None, is_some, arith}
-use Rattle.std.proofs.lemmas.Bool.Decides.{eqb_tells, leb_tells}
+use Rattle.std.proofs.Common.{◌≡◌, ◌≢◌, refl, sym, ap, subst, ◌∙◌, ⊎_elim, ℕ, ◌+◌, ◌≤◌, nat_eq, eq-eqb, ne_eqb, true, false, cond, List, [], ◌∷◌, length, Option, Some, None, is_some, arith}
+use Rattle.std.proofs.lemmas.Bool.Decides.{eqb_tells}
 use Rattle.vt_spec.specs.FileTree.{targets_in}
-use Rattle.vt_spec.specs.Inodes.{Inode, Inodes, count_after, inode_with_node, node_in, pinned, unpinned, used_once_less, used_once_more, uses_in, with_changed, with_inode}
+use Rattle.vt_spec.specs.Inodes.{Inode, Inodes, inode_with_node, node_in, pinned, used_once_more, uses_in, with_changed, with_inode}
 use Rattle.vt_spec.specs.Tree.{Node}
 use Rattle.vt_laws_mounts.proofs.counts.counting.Entries.{changed_at, one_if}
-use Rattle.vt_laws_mounts.proofs.counts.counting.Times.{length_removed, removed, times_in, times_removed}
+use Rattle.vt_laws_mounts.proofs.counts.counting.Times.{times_in}
 
 -- Inodes that count these uses, have these nodes so far as they are there, and are as many as they count.
 pub record IsCounted (uses : ℕ → ℕ) (node : ℕ → Option (Node ℕ)) (inodes : Inodes ℕ) : Type 0 where
@@ -85,109 +85,6 @@ module _ (uses : ℕ → ℕ) (node : ℕ → Option (Node ℕ)) (inodes : Inode
     where
       more : Option (Inode ℕ)
       more = Some (record { node = inode.node; uses = inode.uses + 1 })
-
-  -- one use less, after which an inode without entries may go
-  pub counted_unpinned : (left : ℕ → ℕ) → ((number : ℕ) → one_if number place + left number ≡ uses number)
-      → targets_in (node place) ≡ [] → IsCounted left node (unpinned nat_eq inodes place)
-  counted_unpinned left less empty =
-      subst (λ o. IsCounted left node
-      (record (with_inode nat_eq inodes place (used_once_less o)) {
-        count = cond (is_some o)
-            (count_after inodes.count (used_once_less o)) inodes.count;
-      })) (sym is)
-      (⊎_elim (λ t. last t.0 t.1) (λ t. kept t.0 (let h = t.1 in omega arith)) (leb_tells inode.uses 1))
-    where
-      left_here : suc (left place) ≡ inode.uses
-      left_here =
-          let e = here_uses in let one : one_if place place ≡ 1 = one_if-itself place in let f = less place in omega
-          arith
-
-      left_there : (number : ℕ) → number ≢ place → uses_in (inodes.inode number) ≡ left number
-      left_there number apart =
-          let e =
-          counted.uses_are number in let none : one_if number place ≡ 0 = other_if number place apart in let f =
-          less number in omega arith
-
-      last : nat_le inode.uses 1 ≡ true → inode.uses ≤ 1
-          → IsCounted left node
-          (record (with_inode nat_eq inodes place
-          (cond (nat_le inode.uses 1) None (Some (record inode { uses = inode.uses - 1 })))) {
-            count = count_after inodes.count
-                (cond (nat_le inode.uses 1) None (Some (record inode { uses = inode.uses - 1 })));
-          })
-      last e low = subst (λ b. IsCounted left node
-          (record (with_inode nat_eq inodes place
-          (cond b None (Some (record inode { uses = inode.uses - 1 })))) {
-            count =
-                count_after inodes.count (cond b None (Some (record inode { uses = inode.uses - 1 })));
-          })) (sym e) (record {
-            uses_are =
-                at_or (λ number o. uses_in o ≡ left number) inodes.inode place None
-                (let h = left_here in let g = here_in_use in
-                omega arith) left_there;
-            in_use =
-                at_or (λ number o. is_some o ≡ true → 1 ≤ uses_in o) inodes.inode place None (λ e. cc)
-                (λ number apart. counted.in_use number);
-            kept =
-                at_or (λ number o. is_some o ≡ true → node number ≡ node_in o) inodes.inode place None (λ e. cc)
-                (λ number apart. counted.kept number);
-            emptied =
-                at_or (λ number o. is_some o ≡ false → targets_in (node number) ≡ []) inodes.inode place None
-                (λ e. empty)
-                (λ number apart. counted.emptied number);
-            list = removed place counted.list;
-            listed = at_or (λ number o. times_in number (removed place counted.list)
-                ≡ cond (is_some o) 1 0) inodes.inode place None
-                (let all : one_if place place + times_in place
-                (removed place counted.list) ≡ times_in place counted.list = times_removed place place counted.list
-                (let h = here_listed in omega arith) in
-                let one : one_if place place ≡ 1 = one_if-itself place in let h = here_listed in omega arith)
-                (λ number apart.
-                (let all : one_if number place + times_in number
-                (removed place counted.list) ≡ times_in number counted.list = times_removed place number counted.list
-                (let h = here_listed in omega arith) in
-                let none : one_if number place ≡ 0 = other_if number place apart in
-                let same : times_in number (removed place counted.list) ≡ times_in number counted.list =
-                omega arith in same) ∙ counted.listed number);
-            as_many =
-                let h : suc (length (removed place counted.list)) ≡ length counted.list =
-                length_removed place counted.list (let h = here_listed in omega arith) in let g = counted.as_many in
-                omega arith;
-          })
-
-      kept : nat_le inode.uses 1 ≡ false → 2 ≤ inode.uses
-          → IsCounted left node
-          (record (with_inode nat_eq inodes place
-          (cond (nat_le inode.uses 1) None (Some (record inode { uses = inode.uses - 1 })))) {
-            count = count_after inodes.count
-                (cond (nat_le inode.uses 1) None (Some (record inode { uses = inode.uses - 1 })));
-          })
-      kept e high = subst (λ b. IsCounted left node
-          (record (with_inode nat_eq inodes place
-          (cond b None (Some (record inode { uses = inode.uses - 1 })))) {
-            count =
-                count_after inodes.count (cond b None (Some (record inode { uses = inode.uses - 1 })));
-          })) (sym e) (record {
-            uses_are =
-                at_or (λ number o. uses_in o ≡ left number) inodes.inode place
-                (Some (record inode { uses = inode.uses - 1 }))
-                (let h = left_here in omega arith) left_there;
-            in_use =
-                at_or (λ number o. is_some o ≡ true → 1 ≤ uses_in o) inodes.inode place
-                (Some (record inode { uses = inode.uses - 1 })) (λ e. omega arith)
-                (λ number apart. counted.in_use number);
-            kept =
-                at_or (λ number o. is_some o ≡ true → node number ≡ node_in o) inodes.inode place
-                (Some (record inode { uses = inode.uses - 1 })) (λ e. here_node) (λ number apart. counted.kept number);
-            emptied =
-                at_or (λ number o. is_some o ≡ false → targets_in (node number) ≡ []) inodes.inode place
-                (Some (record inode { uses = inode.uses - 1 })) (λ e. cc) (λ number apart. counted.emptied number);
-            list = counted.list;
-            listed =
-                at_or (λ number o. times_in number counted.list ≡ cond (is_some o) 1 0) inodes.inode place
-                (Some (record inode { uses = inode.uses - 1 })) here_listed (λ number apart. counted.listed number);
-            as_many = counted.as_many;
-          })
 
   -- another node
   pub counted_changed : (change : Option (Node ℕ) → Option (Node ℕ)) (new : Node ℕ)

@@ -4,7 +4,7 @@ use Rattle.std.proofs.lemmas.Bool.Decides.{eqb_tells}
 use Rattle.std.proofs.lemmas.Bool.{and_parts}
 use Rattle.std.proofs.lemmas.Float.{T_from_true}
 use Rattle.std.specs.Cmp.Lexicographic.{nat_list_cmp_total, texts_ties, bytes_decides}
-use Rattle.std.specs.FinMap.Entries.{below_all, by_order, is_sorted, is_sorted-put, is_sorted-where_key}
+use Rattle.std.specs.FinMap.Entries.{below_all, by_order, is_sorted, is_sorted-where_key}
 use Rattle.std.specs.Ordering.{is_eq, is_lt}
 use Rattle.std.specs.Str.{bytes_eq}
 use Rattle.std.specs.declared.cmp.Ordering.{Ordering}
@@ -109,11 +109,6 @@ times_without number name (entry ∷ rest) sorted =
         absurd (true≢false (sym ((bytes_decides entry.0 name).1 (sym same)) ∙ e))
     by false e false f later = omega arith
 
-pub sorted_put : (name : List ℕ) (object : ℕ) (entries : Entries ℕ) → is_sorted name_cmp entries ≡ true
-    → is_sorted name_cmp (with_entry name object entries) ≡ true
-sorted_put name object entries sorted =
-    passes _ (is_sorted-put name_cmp nat_list_cmp_total name object entries (T_from_true _ sorted))
-
 pub sorted_without : (name : List ℕ) (entries : Entries ℕ) → is_sorted name_cmp entries ≡ true
     → is_sorted name_cmp (without_entry name entries) ≡ true
 sorted_without name entries sorted =
@@ -196,22 +191,6 @@ named_changed number node place new (first ∷ rest) one =
         ap (λ b. times_in number (targets_in (cond b new (node first)))) (ne_eqb first place (λ e. apart (sym e))) in
         let a = whole in let b = now in omega arith
 
--- what one directory among them leads to
-pub named_of : (number : ℕ) (node : ℕ → Option (Node ℕ)) (place : ℕ) (numbers : List ℕ) → 1 ≤ times_in place numbers
-    → times_in number (targets_in (node place)) ≤ times_in number (named_by node numbers)
-named_of number node place [] found = absurd (omega arith)
-named_of number node place (first ∷ rest) found =
-    let whole : times_in number (named_by node (first ∷ rest))
-    ≡ times_in number (targets_in (node first)) + times_in number
-    (named_by node rest) = times_append number (targets_in (node first)) (named_by node rest) in
-    ⊎_elim
-    (λ t. let same : times_in number (targets_in (node place)) ≡ times_in number (targets_in (node first)) = ap
-    (λ n. times_in number (targets_in (node n))) t.1 in omega arith)
-    (λ t. let later : times_in number (targets_in (node place)) ≤ times_in number
-    (named_by node rest) = named_of number node place rest (let h : one_if place first ≡ 0 = ap (λ b. cond b 1 0) t.0 in
-    omega arith) in omega arith)
-    (eqb_tells place first)
-
 -- a node changed where it stands
 abbrev pub at_place : (ℕ → Option (Node ℕ)) → ℕ → (Option (Node ℕ) → Option (Node ℕ)) → ℕ → Option (Node ℕ)
 at_place node place change = changed_at node place (change (node place))
@@ -224,10 +203,6 @@ part_at part node place change same n =
     (λ t. ap (λ b. part (cond b (change (node place)) (node n))) t.0 ∙ same ∙ ap (λ m. part (node m)) (sym t.1))
     (λ t. ap (λ b. part (cond b (change (node place)) (node n))) t.0)
     (eqb_tells n place)
-
-pub at_here : (node : ℕ → Option (Node ℕ)) (place : ℕ) (change : Option (Node ℕ) → Option (Node ℕ))
-    → at_place node place change place ≡ change (node place)
-at_here node place change = ap (λ b. cond b (change (node place)) (node place)) (eq-eqb place place refl)
 
 pub at_other : (node : ℕ → Option (Node ℕ)) (place : ℕ) (change : Option (Node ℕ) → Option (Node ℕ)) (n : ℕ) → n ≢ place
     → at_place node place change n ≡ node n

@@ -1,7 +1,6 @@
 -- How often a number stands in a list.
 use Rattle.std.proofs.Common.{◌≡◌, ◌≢◌, refl, sym, ap, subst, ◌∙◌, ⊎_elim, ℕ, suc, ◌+◌, ◌≤◌, nat_eq, eq-eqb, Bool, true, false, cond, ◌&&◌, ◌||◌, List, [], ◌∷◌, ◌++◌, length, filter, arith}
 use Rattle.std.specs.List.{list_all}
-use Rattle.std.proofs.lemmas.Bool.{and_parts}
 use Rattle.std.proofs.lemmas.Bool.Decides.{eqb_tells}
 use Rattle.vt_spec.specs.Lists.{is_among}
 use Rattle.vt_laws_mounts.specs.LettingGo.Counts.{times}
@@ -111,17 +110,6 @@ filter_all p (first ∷ rest) e = by (p first) e (filter_all p rest)
         → cond b (first ∷ filter p rest) (filter p rest) ≡ first ∷ rest
     by true e later = ap (λ l. first ∷ l) (later e)
     by false e later = cc
-
-all_among : (p : ℕ → Bool) (number : ℕ) (list : List ℕ) → list_all p list ≡ true → 1 ≤ times_in number list
-    → p number ≡ true
-all_among p number [] e found = absurd (omega arith)
-all_among p number (first ∷ rest) e found =
-    ⊎_elim
-    (λ t. ap p t.1 ∙ (and_parts (p first) (list_all p rest) e).0)
-    (λ t. all_among p number rest (and_parts (p first) (list_all p rest) e).1
-    (let h : 1 ≤ 0 + times_in number rest = subst
-    (λ b. 1 ≤ cond b 1 0 + times_in number rest) t.0 found in omega arith))
-    (eqb_tells number first)
 
 pub times_filter : (p : ℕ → Bool) (number : ℕ) (list : List ℕ)
     → times_in number (filter p list) ≡ cond (p number) (times_in number list) 0

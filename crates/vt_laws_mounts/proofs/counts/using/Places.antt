@@ -15,7 +15,7 @@ use Rattle.vt_spec.specs.Tree.{new_directory}
 use Rattle.vt_laws_mounts.specs.LettingGo.Counts.{inode_uses, mounts_showing, times}
 use Rattle.vt_laws_mounts.specs.LettingGo.Mounting.{inode_at}
 use Rattle.vt_laws_mounts.specs.LettingGo.OneByOne.{Inode}
-use Rattle.vt_laws_mounts.proofs.letting_go.Lists.{Among, all_pass, among-append_left, among-append_right, among_numbers, passes}
+use Rattle.vt_laws_mounts.proofs.letting_go.Lists.{Among, among-append_left, among-append_right, passes}
 use Rattle.vt_laws_mounts.proofs.letting_go.leaving.PlacesLeft.{found_itself, no_layers_of}
 use Rattle.vt_laws_mounts.proofs.counts.counting.Entries.{one_if}
 use Rattle.vt_laws_mounts.proofs.counts.counting.Times.{times_in}

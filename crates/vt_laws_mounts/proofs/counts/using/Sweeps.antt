@@ -72,12 +72,6 @@ module _ (world after : World ℕ) (gained lost : List Inode) (k : ℕ) (inodes 
       ap (has_upper_in k) from.2 ∙ upper_used some (chosen from.0) from.0
       ∙ among_from_all (λ g. has_upper_in k g ≡ false) some.filesystems so from.0 from.1)
 
-  number_used : (some : World ℕ) (chosen : Bool) (g : Filesystem ℕ)
-      → (only_used nat_eq some chosen g).number ≡ g.number
-  number_used some true g = number-left (used_in nat_eq some g) g
-      (list_all (λ n. is_among nat_eq n (used_in nat_eq some g)) g.files.numbers)
-  number_used some false g = refl
-
   -- layers stay
   layers_swept : layers_in nat_eq swept k ≡ layers_in nat_eq lives k
   layers_swept =

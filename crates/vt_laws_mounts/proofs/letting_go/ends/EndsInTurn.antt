@@ -6,17 +6,16 @@ use Rattle.std.specs.List.{list_all}
 use Rattle.std.proofs.lemmas.Bool.{cases_Bool}
 use Rattle.std.proofs.lemmas.Option.{same_Some}
 use Rattle.vt_spec.specs.Language.Calls.{same_name}
-use Rattle.vt_spec.specs.Lists.{holds_of}
 use Rattle.vt_spec.specs.Machine.Detach.{is_going, mount_point_left, taken_away}
 use Rattle.vt_spec.specs.Machine.Invariants.{MountInvariants, is_nowhere_or_attached}
 use Rattle.vt_spec.specs.Machine.Mounts.{Location, Mount, mount_in}
 use Rattle.vt_spec.specs.Machine.Namespaces.{has_tasks, is_in_ended}
-use Rattle.vt_spec.specs.Machine.Settled.{is_located, mount_lives, settled}
+use Rattle.vt_spec.specs.Machine.Settled.{settled}
 use Rattle.vt_spec.specs.Machine.World.{Namespace, Task, World, all_locations, locations_of, mount_at, without_task}
 use Rattle.vt_laws_mounts.specs.LettingGo.Leaving.{MountsStand, comes_nowhere, is_location_among, stands_on_attached, with_tasks}
 use Rattle.vt_laws_mounts.specs.LettingGo.Mounting.{ended_mounts}
 use Rattle.vt_laws_mounts.specs.LettingGo.Several.{OneSweepForAllExits, OneSweepForAllExitsWithOverlays, OneSweepForEnds, OneSweepForEndsWithOverlays, OneSweepForExits, OneSweepForExitsWithOverlays, ended_task}
-use Rattle.vt_laws_mounts.proofs.letting_go.Lists.{Among, all_pass, among-filter, among-flat_map, among-from_filter, among-from_flat_map, among-from_map, among-map, among_numbers, filter_twice, is_among_numbers, or_first, passes}
+use Rattle.vt_laws_mounts.proofs.letting_go.Lists.{Among, all_pass, among-filter, among-flat_map, among-from_filter, among-from_flat_map, among-from_map, among-map, among_numbers, filter_twice, is_among_numbers, passes}
 use Rattle.vt_laws_mounts.proofs.letting_go.SweptBetween.{follows}
 use Rattle.vt_laws_mounts.proofs.letting_go.leaving.Detached.{found-map}
 use Rattle.vt_laws_mounts.proofs.letting_go.leaving.LeftOneByOne.{plain_reals, plain_uppers}

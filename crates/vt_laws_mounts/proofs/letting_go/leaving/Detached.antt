@@ -1,11 +1,11 @@
 -- What goes when a mount leaves its place.
 use Rattle.std.proofs.Common.{arith}
 use Rattle.std.proofs.lemmas.Grind.{common_steps}
-use Rattle.std.proofs.Common.{◌≡◌, refl, sym, ap, ◌∙◌, ◌⊎◌, inl, inr, ⊎_elim, ℕ, zero, suc, nat_eq, eqb-true, eq-eqb, Bool, true, false, cond, not, ◌||◌, List, [], ◌∷◌, find, length, map, true≢false, Option, Some, None, option_map, option_to_list, unwrap_or}
+use Rattle.std.proofs.Common.{◌≡◌, refl, sym, ap, ◌∙◌, ◌⊎◌, inl, ⊎_elim, ℕ, nat_eq, eqb-true, eq-eqb, Bool, true, false, cond, not, ◌||◌, List, [], ◌∷◌, find, map, true≢false, Option, Some, None, option_map, option_to_list, unwrap_or}
 use Rattle.std.specs.List.{list_all}
 use Rattle.std.proofs.lemmas.Bool.{and_parts, not-true}
-use Rattle.vt_spec.specs.Machine.Detach.{after_going, going_at, going_from, has_child, mount_point_of_parent, mount_point_left, taken_away, unmounted}
-use Rattle.vt_spec.specs.Lists.{chain, holds_of, last_or}
+use Rattle.vt_spec.specs.Machine.Detach.{after_going, going_at, going_from, has_child, mount_point_left, taken_away, unmounted}
+use Rattle.vt_spec.specs.Lists.{holds_of}
 use Rattle.vt_spec.specs.Machine.Mounts.{Location, Mount, detached, is_shared, mount_in, no_mount, stands_on}
 use Rattle.vt_spec.specs.Machine.Receives.{regrouped}
 use Rattle.vt_spec.specs.Machine.World.{World, mount_at, mount_numbered, with_mounts}

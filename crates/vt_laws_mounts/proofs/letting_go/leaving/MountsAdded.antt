@@ -1,10 +1,10 @@
 -- Mounts and filesystems that are added.
 use Rattle.std.proofs.Common.{arith}
 use Rattle.std.proofs.lemmas.Grind.{common_steps}
-use Rattle.std.proofs.Common.{◌≡◌, refl, sym, ap, inl, inr, ⊎_elim, ℕ, nat_eq, Bool, true, false, cond, ◌||◌, List, [], ◌∷◌, find, map, true≢false, ◌++◌, Option, Some, is_some, unwrap_or}
+use Rattle.std.proofs.Common.{◌≡◌, refl, sym, ap, inl, inr, ⊎_elim, ℕ, nat_eq, true, List, [], ◌∷◌, map, true≢false, ◌++◌, Option, is_some}
 use Rattle.std.specs.List.{list_all}
 use Rattle.vt_spec.specs.Lists.{is_among}
-use Rattle.vt_spec.specs.Machine.Mounts.{Mount, mount_in, no_mount}
+use Rattle.vt_spec.specs.Machine.Mounts.{Mount, mount_in}
 use Rattle.vt_spec.specs.Machine.Settled.{is_located, is_mounted, mount_lives}
 use Rattle.vt_spec.specs.Machine.Invariants.{is_nowhere_or_attached}
 use Rattle.vt_spec.specs.Machine.World.{Filesystem, World}

@@ -1,13 +1,13 @@
 -- What goes when a plain tree changes.
 use Rattle.std.proofs.Common.{arith}
 use Rattle.std.proofs.lemmas.Grind.{common_steps}
-use Rattle.std.proofs.Common.{◌≡◌, refl, sym, ap, subst, ◌∙◌, ◌⊎◌, inl, inr, ⊎_elim, ℕ, nat_eq, eqb-true, eq-eqb, Bool, true, false, cond, ◌||◌, ◌&&◌, List, [], ◌∷◌, find, map, true≢false, flat_map, ◌++◌, Some, unwrap_or}
+use Rattle.std.proofs.Common.{◌≡◌, refl, sym, ap, subst, ◌∙◌, ◌⊎◌, inl, inr, ⊎_elim, ℕ, nat_eq, eqb-true, eq-eqb, true, false, ◌||◌, ◌&&◌, List, [], ◌∷◌, find, map, true≢false, unwrap_or}
 use Rattle.std.specs.List.{list_all}
 use Rattle.std.proofs.lemmas.Bool.{or_cases}
 use Rattle.vt_spec.specs.FileTree.{FileTree}
 use Rattle.vt_spec.specs.Machine.Filesystems.{with_files}
 use Rattle.vt_spec.specs.Lists.{is_among}
-use Rattle.vt_spec.specs.Machine.Settled.{filesystem_lives, is_mounted, layers_in, located_in, named_in, objects_of_overlay, settled, without_dead_filesystems, without_dead_mounts}
+use Rattle.vt_spec.specs.Machine.Settled.{filesystem_lives, is_mounted, located_in, named_in, settled, without_dead_filesystems, without_dead_mounts}
 use Rattle.vt_spec.specs.Machine.World.{Filesystem, World, filesystem_numbered, is_overlay, no_filesystem, replaced_if_numbered}
 use Rattle.vt_laws_mounts.specs.LettingGo.InUse.{FilesystemsInUse, HasTrees, IsListedTree, is_inode_used, AllInUse}
 use Rattle.vt_laws_mounts.specs.LettingGo.Leaving.{IsSettledPlain}

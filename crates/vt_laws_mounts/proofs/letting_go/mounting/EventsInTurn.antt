@@ -1,14 +1,14 @@
 -- Unmount events in a world that was swept before, or that was not.
 use Rattle.std.proofs.lemmas.Grind.{common_steps}
-use Rattle.std.proofs.Common.{◌≡◌, refl, sym, ap, subst, ◌∙◌, inl, inr, ⊎_elim, ℕ, nat_eq, Bool, true, false, true≢false, cond, List, [], ◌∷◌, filter, find, length, map, Option, Some, None, is_some, option_map, unwrap_or, arith}
+use Rattle.std.proofs.Common.{◌≡◌, refl, sym, ap, subst, ◌∙◌, inl, inr, ⊎_elim, ℕ, nat_eq, Bool, true, false, true≢false, cond, List, [], ◌∷◌, filter, find, length, map, Option, Some, None, is_some, unwrap_or, arith}
 use Rattle.std.specs.Prelude.{filter_map}
 use Rattle.std.proofs.lemmas.Bool.{cases_Bool}
 use Rattle.std.proofs.lemmas.List.{length-map}
-use Rattle.vt_spec.specs.Lists.{holds_of, is_among, then_some, when}
+use Rattle.vt_spec.specs.Lists.{holds_of, is_among}
 use Rattle.vt_spec.specs.Machine.Attach.{receivers_of}
-use Rattle.vt_spec.specs.Machine.Detach.{going, going_at, going_from, goes_at, may_go, only_cover, taken_away, unmounted, unmounted_if_there}
+use Rattle.vt_spec.specs.Machine.Detach.{going, going_at, going_from, goes_at, taken_away, unmounted, unmounted_if_there}
 use Rattle.vt_spec.specs.Machine.Invariants.{HasLivingGroups, MountInvariants, is_nowhere_or_attached, is_private}
-use Rattle.vt_spec.specs.Machine.Mounts.{Location, Mount, Propagation, child_at, children, group_of, is_shared, mount_in, source_of, stands_at, stands_on}
+use Rattle.vt_spec.specs.Machine.Mounts.{Location, Mount, Propagation, child_at, children, group_of, mount_in, source_of, stands_at, stands_on}
 use Rattle.vt_spec.specs.Machine.Mounts.Propagation.{Private, Shared, Slave, Unbindable}
 use Rattle.vt_spec.specs.Machine.Receives.{groups_up, receivers, receives}
 use Rattle.vt_spec.specs.Machine.Settled.{is_located, mount_lives, settled}

@@ -1,9 +1,9 @@
 -- What goes after pivot_root.
 use Rattle.std.proofs.Common.{arith}
 use Rattle.std.proofs.lemmas.Grind.{common_steps}
-use Rattle.std.proofs.Common.{◌≡◌, refl, sym, ap, subst, ◌∙◌, ◌⊎◌, inl, inr, ⊎_elim, ℕ, nat_eq, eqb-true, eq-eqb, Bool, true, false, cond, ◌||◌, [], Option, Some, is_some, option_to_list}
+use Rattle.std.proofs.Common.{◌≡◌, refl, sym, ap, subst, ◌∙◌, ◌⊎◌, inl, inr, ⊎_elim, ℕ, nat_eq, eqb-true, eq-eqb, true, cond, ◌||◌, [], Option, Some, is_some, option_to_list}
 use Rattle.std.proofs.lemmas.Bool.{or_cases}
-use Rattle.vt_spec.specs.Machine.Mounts.{Location, Mount, mount_in, root_of, same_location}
+use Rattle.vt_spec.specs.Machine.Mounts.{Location, Mount, mount_in, root_of}
 use Rattle.vt_spec.specs.Machine.Namespaces.{pivoted, pivoted_location, pivoted_mount, pivoted_task}
 use Rattle.vt_spec.specs.Machine.Receives.{is_member_of}
 use Rattle.vt_spec.specs.Machine.Settled.{is_located, mount_lives}

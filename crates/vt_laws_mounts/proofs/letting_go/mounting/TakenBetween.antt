@@ -6,7 +6,7 @@ use Rattle.std.specs.Prelude.{filter_map}
 use Rattle.std.specs.List.{list_any}
 use Rattle.std.proofs.lemmas.Bool.{or_cases}
 use Rattle.std.proofs.lemmas.List.{length-map}
-use Rattle.vt_spec.specs.Lists.{chain, holds_of, last_or, then_some}
+use Rattle.vt_spec.specs.Lists.{chain, last_or, then_some}
 use Rattle.vt_spec.specs.Machine.Detach.{after_going, is_going, mount_point_left, mount_point_of_parent, taken_away}
 use Rattle.vt_spec.specs.Machine.Invariants.{HasLivingGroups, MountInvariants, Stands, is_nowhere_or_attached, is_private}
 use Rattle.vt_spec.specs.Machine.Invariants.Lives.{has_master, has_no_master}

@@ -1,16 +1,15 @@
 -- Where all is in use nothing goes, and what is left is in use.
 use Rattle.std.proofs.Common.{arith}
 use Rattle.std.proofs.lemmas.Grind.{common_steps}
-use Rattle.std.proofs.Common.{◌≡◌, refl, sym, ap, subst, ◌∙◌, ⊎_elim, ℕ, nat_eq, eq-eqb, Bool, true, false, cond, not, ◌||◌, ◌&&◌, List, [], ◌∷◌, filter, map, true≢false, flat_map, ◌++◌, Option, Some, None, is_some, option_map}
+use Rattle.std.proofs.Common.{◌≡◌, refl, sym, ap, subst, ◌∙◌, ⊎_elim, ℕ, nat_eq, eq-eqb, Bool, true, false, cond, not, ◌||◌, ◌&&◌, List, [], ◌∷◌, filter, map, true≢false, flat_map, ◌++◌, None}
 use Rattle.std.specs.Prelude.{All, filter_map}
 use Rattle.std.specs.List.{list_all, list_any}
 use Rattle.vt_spec.specs.FileTree.{targets_in}
-use Rattle.vt_spec.specs.Lists.{holds_of, is_among}
-use Rattle.vt_spec.specs.Machine.Locked.{of_overlay, overlay_or}
+use Rattle.vt_spec.specs.Lists.{is_among}
+use Rattle.vt_spec.specs.Machine.Locked.{of_overlay}
 use Rattle.vt_spec.specs.Machine.Mounts.{Location, root_of}
-use Rattle.vt_spec.specs.Machine.Receives.{has_members}
-use Rattle.vt_spec.specs.Machine.Settled.{filesystem_lives, has_layer_on, is_mounted, layers_in, located_in, mount_lives, named_in, objects_of_overlay, only_used, only_used_by, real_among, settled, used_in, without_dead_filesystems, without_dead_groups, without_dead_in, without_dead_inodes, without_dead_mounts}
-use Rattle.vt_spec.specs.Machine.World.{Filesystem, Layer, Overlay, World, all_locations, is_overlay, layers_of, mount_at, upper_object, with_mounts}
+use Rattle.vt_spec.specs.Machine.Settled.{filesystem_lives, has_layer_on, is_mounted, layers_in, located_in, mount_lives, named_in, objects_of_overlay, only_used, only_used_by, settled, used_in, without_dead_filesystems, without_dead_groups, without_dead_in, without_dead_inodes, without_dead_mounts}
+use Rattle.vt_spec.specs.Machine.World.{Filesystem, Layer, World, all_locations, is_overlay, layers_of, mount_at, with_mounts}
 use Rattle.vt_laws_mounts.specs.LettingGo.InUse.{AllInUse, FilesystemsInUse, GroupsInUse, HasTrees, InodesInUse, IsListedTree, MountsInUse, NothingGoes, OneSweepIsEnough, UppersArePlain, WhatIsLeftIsInUse, has_upper_in, is_inode_used}
 use Rattle.vt_laws_mounts.proofs.letting_go.Lists.{Among, all_from_among, all_pass, among-filter, among-flat_map, among-from_flat_map, among-from_map, among-map, among_from_all, any_passes, flat_map_none, one_passes, or_first, among-from_filter, flat_map-filter, flat_map-map, flat_map_alike, is_among_numbers, map_same, or_second, passes}
 use Rattle.vt_laws_mounts.proofs.letting_go.Trees.{unnamed_is_empty}

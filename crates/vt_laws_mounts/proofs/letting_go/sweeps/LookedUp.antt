@@ -1,13 +1,11 @@
 -- A mount, a filesystem, an inode or a group that is looked at is looked up by its number.
 use Rattle.std.proofs.Common.{arith}
 use Rattle.std.proofs.lemmas.Grind.{common_steps}
-use Rattle.std.proofs.Common.{◌≡◌, refl, sym, ap, ◌∙◌, ℕ, nat_eq, eqb-true, Bool, true, false, cond, not, ◌&&◌, ◌||◌, Option, None, is_some}
-use Rattle.vt_spec.specs.Machine.Mounts.{Mount, mount_in}
-use Rattle.vt_spec.specs.Machine.Receives.{has_members}
-use Rattle.vt_spec.specs.Machine.Settled.{filesystem_lives, is_located, mount_lives}
-use Rattle.vt_spec.specs.Machine.World.{Filesystem, filesystem_numbered, mount_numbered, no_filesystem, with_mounts}
+use Rattle.std.proofs.Common.{◌≡◌, refl, sym, ap, ◌∙◌, ℕ, nat_eq, eqb-true, Bool, true, false, cond, not, ◌&&◌, ◌||◌}
+use Rattle.vt_spec.specs.Machine.Settled.{filesystem_lives}
+use Rattle.vt_spec.specs.Machine.World.{Filesystem, filesystem_numbered, no_filesystem}
 use Rattle.vt_laws_mounts.specs.LettingGo.InUse.{is_inode_used}
-use Rattle.vt_laws_mounts.specs.LettingGo.OneByOne.{FilesystemIsLookedUp, GroupIsLookedUp, InodeIsLookedUp, MountIsLookedUp, is_filesystem_used, is_inode_used_in, is_mount_used, let_go_filesystem, let_go_group, let_go_inode, let_go_inode_of, let_go_mount, without_filesystem, without_inode, without_inode_at, without_inode_in, without_master, without_mount}
+use Rattle.vt_laws_mounts.specs.LettingGo.OneByOne.{FilesystemIsLookedUp, GroupIsLookedUp, InodeIsLookedUp, MountIsLookedUp, is_filesystem_used, is_inode_used_in, let_go_filesystem, let_go_inode, let_go_inode_of, without_filesystem, without_inode, without_inode_at, without_inode_in}
 use Rattle.vt_laws_mounts.proofs.letting_go.Lists.{Among, found_by, map_same}
 use Rattle.vt_laws_mounts.proofs.letting_go.leaving.PlacesLeft.{found_itself}
 use Rattle.vt_spec.proofs.Found.{filter_alike, filter_all}

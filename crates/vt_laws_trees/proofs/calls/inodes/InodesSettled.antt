@@ -115,11 +115,6 @@ module _ (Q : Inode → Type 0) (number inode : ℕ) where
                     (sym f') later
                 inside false e' c f' later = later
 
-    used_by_number : (whole : Bool) (used : List ℕ) (filesystem : Filesystem ℕ)
-        → (only_used_by nat_eq whole used filesystem).number ≡ filesystem.number
-    used_by_number true used filesystem = refl
-    used_by_number false used filesystem = refl
-
     used_by_holds : (whole : Bool) (used : List ℕ) (filesystem : Filesystem ℕ) → Q (filesystem.files.tree.node inode)
         → Q ((only_used_by nat_eq whole used filesystem).files.tree.node inode)
     used_by_holds true used filesystem h = h

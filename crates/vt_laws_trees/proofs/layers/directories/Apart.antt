@@ -1,17 +1,17 @@
 -- Upper and work directories still lie apart when an overlay is mounted that the rules on layers let be mounted.
 use Rattle.std.proofs.Common.{arith}
 use Rattle.std.proofs.lemmas.Grind.{common_steps}
-use Rattle.std.proofs.Common.{◌≡◌, ◌⊎◌, inl, inr, ⊎_elim, refl, sym, ap, subst, ◌∙◌, true≢false, ℕ, nat_eq, eqb-true, Bool, true, false, ◌&&◌, ◌||◌, List, [], ◌∷◌, ◌++◌, flat_map, map, Option, Some, None}
+use Rattle.std.proofs.Common.{◌≡◌, ◌⊎◌, inl, inr, ⊎_elim, refl, sym, ap, subst, ◌∙◌, true≢false, ℕ, nat_eq, eqb-true, Bool, true, false, ◌||◌, List, [], ◌∷◌, ◌++◌, flat_map, map}
 use Rattle.std.specs.List.{list_all, list_any}
 use Rattle.std.specs.Prelude.{option_to_list}
 use Rattle.std.proofs.lemmas.Grind.{flat_map-append}
 use Rattle.std.proofs.lemmas.List.Elements.{filter-append}
-use Rattle.vt_spec.specs.Lists.{Fresh, any_pair, evens, holds_of, is_among}
-use Rattle.vt_spec.specs.Machine.Locked.{counts_in_layer, in_use, is_object_of, lies_in_layer, lies_or_counts_under, live_layers, live_upper_and_work, of_overlay, overlay_or, overlaps_one_of, overlays, upper_and_work}
+use Rattle.vt_spec.specs.Lists.{Fresh, any_pair, evens, is_among}
+use Rattle.vt_spec.specs.Machine.Locked.{in_use, lies_or_counts_under, live_layers, live_upper_and_work, of_overlay, overlaps_one_of, overlays, upper_and_work}
 use Rattle.vt_spec.specs.declared.errors.Rule.TheVariants.{O2, O3, O5}
 use Rattle.vt_spec.specs.Machine.Rules.Mounting.{LayerLocations}
 use Rattle.vt_spec.proofs.Tables.{layer_rules}
-use Rattle.vt_spec.specs.Machine.World.{Filesystem, Layer, Overlay, World, filesystem_numbered, is_overlay, layers_of}
+use Rattle.vt_spec.specs.Machine.World.{Layer, Overlay, World, filesystem_numbered, is_overlay, layers_of}
 use Rattle.vt_spec.specs.Machine.Invariants.{IsWorld, is_plain_layer, live_lowers, overlap}
 use Rattle.vt_laws_trees.specs.Layers.Layers.Mounted.{AreLayers}
 use Rattle.vt_laws_trees.specs.Layers.Layers.NewOverlays.{ChangedStayApart, LowersStayApart, NoneRefuses}

@@ -2,7 +2,7 @@
 use Rattle.std.proofs.Common.{arith}
 use Rattle.std.proofs.lemmas.Grind.{common_steps}
 use Rattle.std.proofs.Common.{◌≡◌, ◌≤◌, refl, sym, ap, ◌∙◌, true≢false, ℕ, nat_eq, eqb-true, Bool, true, false, cond, not, ◌&&◌, ◌||◌, List, [], ◌∷◌, ◌++◌, length, map, Option, Some, None, is_some, option_and_then, inl, inr, slice_get}
-use Rattle.std.specs.List.{filter_map, find, list_all, list_any}
+use Rattle.std.specs.List.{filter_map, find, list_all}
 use Rattle.std.specs.Ordering.{eq_by_cmp}
 use Rattle.std.specs.Prelude.{nat_le, option_map, option_to_list}
 use Rattle.vt_spec.specs.declared.attributes.Attr.{Attr}
@@ -13,7 +13,7 @@ use Rattle.vt_spec.specs.Lists.{Fresh, is_among, odds}
 use Rattle.vt_spec.specs.Machine.Merging.{Merged, MergedInode, entry_in_directory, inode_of, merged_content}
 use Rattle.vt_spec.specs.Language.Limits.{largest_file, longest_path}
 use Rattle.vt_spec.specs.Machine.NewMounts.{inode_count, overlay_filesystem}
-use Rattle.vt_spec.specs.Machine.World.{Filesystem, Overlay, World, open_layer, shown_layers}
+use Rattle.vt_spec.specs.Machine.World.{Overlay, World, open_layer, shown_layers}
 use Rattle.vt_spec.specs.Machine.Invariants.{IsWorld, ListsNumbers, is_fit_filesystem}
 use Rattle.vt_spec.specs.PathText.{is_empty}
 use Rattle.vt_spec.specs.Tree.{Content, Entries, Node, bytes_in, entries_in, entry_named, name_cmp, names_in}
@@ -30,7 +30,6 @@ use Rattle.vt_laws_trees.proofs.layers.layers.ShownNames.{last_name}
 use Rattle.vt_laws_trees.proofs.layers.layers.ShownObjects.{Among, from_filter_map, object_is}
 use Rattle.vt_laws_trees.proofs.layers.layers.ShownWhole.{is_of_object}
 use Rattle.vt_laws_trees.proofs.layers.layers.UpperWorld.{all_found}
-use Rattle.std.proofs.lemmas.Option.{same_Some}
 use Rattle.vt_spec.proofs.Options.{none_is_some}
 use Rattle.vt_spec.proofs.Truths.{and_true_left, and_true_right}
 use Rattle.vt_spec.proofs.FreshNumbers.{odds-distinct}

@@ -9,7 +9,7 @@ use Rattle.std.proofs.lemmas.List.Folds.{list_any-append}
 use Rattle.vt_spec.specs.FileTree.{is_directory_under, is_file_under, is_under}
 use Rattle.vt_spec.specs.Machine.Layers.{at_path}
 use Rattle.vt_spec.specs.Lists.{Fresh, evens, holds_of, is_among, odds}
-use Rattle.vt_spec.specs.Machine.Locked.{counts_in_layer, is_object_of, is_real_upper, lies_in_layer, lies_or_counts_under, overlaps_one_of, overlays, overlay_or}
+use Rattle.vt_spec.specs.Machine.Locked.{counts_in_layer, is_real_upper, lies_in_layer, lies_or_counts_under, overlaps_one_of, overlays}
 use Rattle.vt_spec.specs.Machine.Merging.{Merged, real_object, real_of}
 use Rattle.vt_spec.specs.Machine.NewMounts.{inode_count, overlay_filesystem, with_new_filesystem}
 use Rattle.vt_spec.specs.Machine.World.{Filesystem, Layer, Overlay, Real, World, filesystem_numbered, is_overlay, no_filesystem, open_layer, shown_layers}

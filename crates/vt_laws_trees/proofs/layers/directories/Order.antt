@@ -1,8 +1,8 @@
 -- The names of a merged directory stand in their order.
 use Rattle.std.proofs.Common.{arith}
 use Rattle.std.proofs.lemmas.Grind.{common_steps}
-use Rattle.std.proofs.Common.{◌≡◌, ◌≤◌, ◌⊎◌, inl, inr, ⊎_elim, refl, sym, ap, subst, ◌∙◌, ℕ, zero, suc, nat_eq, Bool, true, false, cond, T, List, [], ◌∷◌, ◌++◌, filter, flat_map, length, map, Option, Some, None}
-use Rattle.std.specs.List.{cons_option, filter_map}
+use Rattle.std.proofs.Common.{◌≡◌, ◌≤◌, ◌⊎◌, inl, inr, ⊎_elim, refl, sym, ap, subst, ◌∙◌, ℕ, zero, suc, nat_eq, Bool, true, T, List, [], ◌∷◌, ◌++◌, filter, flat_map, length, map, Option, Some, None}
+use Rattle.std.specs.List.{filter_map}
 use Rattle.std.specs.Cmp.{tied_itself}
 use Rattle.std.specs.Cmp.Lexicographic.{nat_list_cmp_total}
 use Rattle.std.specs.FinMap.Entries.{below_all, is_sorted, is_sorted-put}

@@ -4,7 +4,7 @@ use Rattle.std.proofs.lemmas.Grind.{common_steps}
 use Rattle.std.proofs.Common.{◌≡◌, ◌∙◌, refl, sym, ap, subst, inl, inr, ℕ, zero, suc, nat_eq, eqb-true, Bool, true, false, cond, List, [], ◌∷◌, ◌++◌, map, Option, Some, None, is_some, slice_get, unwrap_or}
 use Rattle.std.specs.List.{find, list_any}
 use Rattle.std.specs.Prelude.{option_map, option_to_list}
-use Rattle.vt_spec.specs.Machine.Layers.{node_at_path, shown}
+use Rattle.vt_spec.specs.Machine.Layers.{shown}
 use Rattle.vt_spec.specs.Lists.{Fresh, evens, holds_of, is_among, then_some}
 use Rattle.vt_spec.specs.Machine.Merging.{layer_node, merged_at, real_object}
 use Rattle.vt_spec.specs.Machine.NewMounts.{overlay_filesystem}

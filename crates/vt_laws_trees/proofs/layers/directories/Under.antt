@@ -1,16 +1,13 @@
 -- What layers show under a name is what the directories show that are merged under it.
 use Rattle.std.proofs.lemmas.Grind.{common_steps}
-use Rattle.std.proofs.Common.{◌≡◌, ◌≢◌, refl, sym, ap, ◌∙◌, true≢false, arith, ℕ, suc, ◌+◌, Bool, true, false, cond, not, ◌||◌, List, [], ◌∷◌, ◌++◌, map, Option, Some, None, option_and_then}
+use Rattle.std.proofs.Common.{◌≡◌, ◌≢◌, refl, sym, ap, ◌∙◌, true≢false, arith, ℕ, suc, ◌+◌, Bool, true, false, cond, ◌||◌, List, [], ◌∷◌, ◌++◌, Option, Some, None, option_and_then}
 use Rattle.std.specs.Prelude.{option_map}
-use Rattle.vt_spec.specs.declared.attributes.Kind.TheVariants.{White}
 use Rattle.std.proofs.lemmas.List.Elements.{All-cons, All-head, All-nil, All-tail}
-use Rattle.vt_spec.specs.FileTree.{is_kind_in, opaque_of}
-use Rattle.vt_spec.specs.Lists.{prefixes, then_some, when}
-use Rattle.vt_spec.specs.Machine.Views.{Shown, View, cuts, hides, node_led, shown, shown_from, shown_over}
-use Rattle.vt_spec.specs.Rights.{is_directory}
-use Rattle.vt_spec.specs.Tree.{Node, Tree, is_directory_node, kind_of}
+use Rattle.vt_spec.specs.Lists.{prefixes, then_some}
+use Rattle.vt_spec.specs.Machine.Views.{Shown, View, cuts, hides, node_led, shown_from, shown_over}
+use Rattle.vt_spec.specs.Tree.{Node, Tree, is_directory_node}
 use Rattle.vt_spec.specs.TreeInvariant.{entry_at, led}
-use Rattle.vt_laws_trees.specs.Layers.Layers.Directories.{AreViews, DirectoriesAreMerged, IsView, LayersAreViews, MergedAreViews, PlacedShowTheSame, PlacedView, PlacesAreCountedBack, ShownUnderName, counted_back, directories_under, directory_over, merged_over, merged_under, placed_from, placed_view, shown_in, view_under}
+use Rattle.vt_laws_trees.specs.Layers.Layers.Directories.{AreViews, DirectoriesAreMerged, IsView, LayersAreViews, MergedAreViews, PlacedShowTheSame, PlacedView, PlacesAreCountedBack, ShownUnderName, merged_under, placed_from, shown_in, view_under}
 use Rattle.vt_laws_trees.proofs.layers.layers.ShownDirectories.{led_is_there}
 use Rattle.vt_laws_trees.proofs.layers.layers.ShownFronts.{prefix_found, list_any_of_map}
 use Rattle.vt_laws_trees.proofs.layers.layers.UpperLine.{has_entries}
@@ -18,11 +15,6 @@ use Rattle.vt_spec.proofs.Options.{none_is_some}
 
 abbrev pub HasView : PlacedView ℕ → Type 0
 HasView top = IsView top.view
-
--- what is not there, or is a directory, is all that hides nothing
-not_there : (node : Option (Node ℕ)) → is_directory_node node ≡ false → hides node ≡ false → node ≡ None
-not_there None d h = refl
-not_there (Some node) d h = grind (arith, common_steps, true≢false)
 
 -- nothing is cut where names lead to nothing
 never_cuts : (view : View ℕ) (path : List (List ℕ)) → ((front : List (List ℕ)) → front ≢ [] → view.leads front ≡ None)

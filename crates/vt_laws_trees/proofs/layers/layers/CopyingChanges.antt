@@ -1,13 +1,13 @@
 -- A change of an overlay does to its upper layer what it is asked, clause by clause.
 use Rattle.std.proofs.lemmas.Grind.{common_steps}
-use Rattle.std.proofs.Common.{◌≡◌, ◌≢◌, refl, sym, ap, ◌∙◌, true≢false, arith, ℕ, suc, nat_eq, eq-eqb, ne_eqb, Bool, true, false, cond, ◌||◌, List, [], ◌∷◌, ◌++◌, Option, Some, None, is_some, unwrap_or}
+use Rattle.std.proofs.Common.{◌≡◌, ◌≢◌, refl, sym, ap, ◌∙◌, true≢false, arith, ℕ, suc, nat_eq, eq-eqb, ne_eqb, true, cond, ◌||◌, List, [], ◌∷◌, ◌++◌, Option, Some, is_some, unwrap_or}
 use Rattle.vt_spec.specs.Language.Changes.{content_with_parent, node_with_parent, node_without_entry, with_inode, with_moved, with_name, without_name, without_parent}
 use Rattle.vt_spec.specs.Machine.CopyUp.{Merge, Stack, hides_directory, merge_with_moved, merge_with_new, merge_without_name, name_left_by, shown_in_lowers_at, upper_directory_named, upper_of, with_mark, without_contents}
 use Rattle.vt_spec.specs.FileTree.{FileTree, is_opaque_in}
-use Rattle.vt_spec.specs.Lists.{Fresh, then_some}
+use Rattle.vt_spec.specs.Lists.{Fresh}
 use Rattle.vt_spec.specs.Machine.World.{Real, upper_object}
 use Rattle.vt_spec.specs.Machine.World.Real.{Upper}
-use Rattle.vt_spec.specs.Tree.{Content, Node, entries_in, entry_named, is_directory_node, new_directory, node_with_bytes, node_with_entry}
+use Rattle.vt_spec.specs.Tree.{Node, entries_in, entry_named, is_directory_node, new_directory, node_with_entry}
 use Rattle.vt_spec.specs.TreeInvariant.{IsDirectory, IsTree, entry_at}
 use Rattle.vt_spec.specs.Machine.Invariants.{number_at_path}
 use Rattle.vt_spec.proofs.Nodes.{node_set}

@@ -1,6 +1,6 @@
 -- Each change of an overlay does to its upper layer what it is asked.
 use Rattle.std.proofs.lemmas.Grind.{common_steps}
-use Rattle.std.proofs.Common.{◌≡◌, ◌≢◌, refl, sym, ap, subst, ◌∙◌, true≢false, arith, ℕ, ◌+◌, ◌*◌, nat_eq, Bool, true, false, ◌++◌, Some, is_some}
+use Rattle.std.proofs.Common.{◌≡◌, ◌≢◌, refl, sym, ap, subst, true≢false, arith, ℕ, ◌+◌, ◌*◌, nat_eq, true, ◌++◌, Some, is_some}
 use Rattle.vt_spec.specs.Language.Changes.{Change, node_with_attr, node_with_mark}
 use Rattle.vt_spec.specs.Language.Changes.Change.{AddName, CopyUp, Make, Move, Remove, SetAttr, SetBytes, SetMark}
 use Rattle.vt_spec.specs.Machine.CopyUp.{Merge, Stack, changed_both, copied_up, line_to, merge_changed, merge_with_link, merge_with_moved, merge_with_new, merge_without_name, upper_of}

@@ -4,7 +4,7 @@ use Rattle.std.proofs.Common.{◌≡◌, ◌≢◌, ◌≤◌, refl, sym, ap, su
 use Rattle.std.specs.List.{list_any}
 use Rattle.std.proofs.lemmas.List.Sorted.{IsPermutation-reverse, list_any-IsPermutation}
 use Rattle.vt_spec.specs.Language.Changes.{with_inode, with_name}
-use Rattle.vt_spec.specs.Machine.CopyUp.{Merge, copied_content, copied_each, copied_up, copy_of, copy_parent, directories_to, is_in_upper, line_by, upper_of}
+use Rattle.vt_spec.specs.Machine.CopyUp.{Merge, copied_content, copied_each, copied_up, copy_of, copy_parent, directories_to, is_in_upper, upper_of}
 use Rattle.vt_spec.specs.FileTree.{FileTree, a_name, ancestors, named_parent}
 use Rattle.vt_spec.specs.Lists.{Fresh, chain, is_among}
 use Rattle.vt_spec.specs.Machine.World.{Real, upper_object}

@@ -6,13 +6,12 @@ use Rattle.std.specs.Cmp.{tied_itself}
 use Rattle.std.specs.Cmp.Lexicographic.{bytes_decides, nat_list_cmp_total, texts_ties}
 use Rattle.std.specs.Ordering.{eq_by_cmp, is_eq}
 use Rattle.std.specs.Str.{bytes_eq}
-use Rattle.vt_spec.specs.Language.Changes.{changed_node, content_with_mark, node_with_mark, node_with_parent, node_without_entries, node_without_entry, with_inode, with_moved, with_name, without_entry, without_name, without_parent}
+use Rattle.vt_spec.specs.Language.Changes.{changed_node, node_with_mark, node_with_parent, node_without_entries, node_without_entry, with_inode, with_moved, with_name, without_entry, without_name, without_parent}
 use Rattle.vt_spec.specs.Machine.CopyUp.{Stack, name_left_by, whiteout_of, with_mark, without_contents}
-use Rattle.vt_spec.specs.FileTree.{FileTree, is_opaque_in, opaque_of}
+use Rattle.vt_spec.specs.FileTree.{FileTree, is_opaque_in}
 use Rattle.vt_spec.specs.Machine.Layers.{Shown}
 use Rattle.vt_spec.specs.Lists.{Fresh}
-use Rattle.vt_spec.specs.Rights.{is_directory}
-use Rattle.vt_spec.specs.Tree.{Content, Entries, Node, entries_in, entries_of, entry_named, is_directory_node, kind_of, name_cmp, node_with_entry, with_entries, with_entry}
+use Rattle.vt_spec.specs.Tree.{Content, Entries, Node, entries_in, entries_of, entry_named, is_directory_node, name_cmp, node_with_entry, with_entries}
 use Rattle.vt_spec.specs.Tree.Content.{Directory, Regular, Symlink, Whiteout}
 use Rattle.vt_spec.specs.TreeInvariant.{entry_at}
 use Rattle.vt_spec.proofs.Nodes.{entries-node_with_entry, entry_named-with_entry, entry_named-without_entry, node_set, same_name}

@@ -19,14 +19,6 @@ pub record KeepsButNames (change : Option (Node ℕ) → Option (Node ℕ)) : Ty
 
 -- other entries
 module _ (change : Entries ℕ → Entries ℕ) where
-  node_with : Option (Node ℕ) → Option (Node ℕ)
-  node_with None = None
-  node_with (Some node) = Some (record {
-    attr = node.attr;
-    content = with_entries node.content
-        (change (entries_of node.content));
-  })
-
   other_kind : (content : Content ℕ) (entries : Entries ℕ) → kind_of (with_entries content entries) ≡ kind_of content
   other_kind (Directory parent old opaque) entries = refl
   other_kind (Regular bytes) entries = refl

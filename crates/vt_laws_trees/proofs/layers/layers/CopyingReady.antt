@@ -1,13 +1,12 @@
 -- What a change of an overlay finds when what it asks to be copied is copied.
 use Rattle.std.proofs.Common.{arith}
 use Rattle.std.proofs.lemmas.Grind.{common_steps}
-use Rattle.std.proofs.Common.{◌≡◌, inl, inr, refl, sym, ap, subst, ◌∙◌, true≢false, ℕ, zero, suc, nat_eq, eq-eqb, Bool, true, false, ◌||◌, List, [], ◌∷◌, ◌++◌, reverse, Option, Some, None, is_some, ⊎_elim, length}
+use Rattle.std.proofs.Common.{◌≡◌, inl, inr, refl, sym, ap, subst, ◌∙◌, true≢false, ℕ, nat_eq, eq-eqb, Bool, true, false, List, [], ◌∷◌, ◌++◌, Option, Some, None, is_some, ⊎_elim}
 use Rattle.std.specs.List.{list_any}
 use Rattle.std.proofs.lemmas.List.Folds.{list_any-append}
-use mathlib.Core.List.{reverse-cons}
 use Rattle.vt_spec.specs.Machine.CopyUp.{Merge, copied_up, directories_to, line_by, line_to}
-use Rattle.vt_spec.specs.FileTree.{FileTree, a_name, named_parent}
-use Rattle.vt_spec.specs.Lists.{Fresh, chain, is_among}
+use Rattle.vt_spec.specs.FileTree.{FileTree, a_name}
+use Rattle.vt_spec.specs.Lists.{Fresh, is_among}
 use Rattle.vt_spec.specs.Machine.World.{Real, upper_object}
 use Rattle.vt_spec.specs.TreeInvariant.{entry_at}
 use Rattle.vt_laws_trees.specs.Layers.Layers.ChangesUpper.{IsFitToChange, StandsNow, IsNewBy}
@@ -16,7 +15,7 @@ use Rattle.vt_spec.proofs.Worlds.{stands_still}
 use Rattle.vt_laws_trees.proofs.layers.layers.CopyingSound.{IsSound, Soundly, State}
 use Rattle.vt_laws_trees.proofs.layers.layers.UpperLine.{named_so}
 use Rattle.vt_laws_trees.proofs.layers.layers.UpperShown.{has_a_name}
-use Rattle.std.proofs.lemmas.Bool.{or_cases, or_left, or_right}
+use Rattle.std.proofs.lemmas.Bool.{or_cases, or_left}
 
 -- a directory is in the line to itself, and so in the line to what it has a name of
 pub in_its_line : (files : FileTree ℕ) (directory : ℕ)

@@ -3,12 +3,11 @@ use Rattle.std.proofs.Common.{arith}
 use Rattle.std.proofs.lemmas.Grind.{common_steps}
 use Rattle.std.proofs.Common.{◌≡◌, refl, sym, ap, subst, ◌∙◌, ℕ, nat_eq, false, cond, List, ⊎_elim, Option, Some, None, is_some}
 use Rattle.std.proofs.lemmas.Bool.Decides.{eqb_tells}
-use Rattle.vt_spec.specs.Language.Changes.{Change, changed, changed_node, content_with_parent, node_with_attr, node_with_mark, node_with_parent, node_without_entry, with_inode, with_moved, with_name, without_name, without_parent}
+use Rattle.vt_spec.specs.Language.Changes.{Change, changed, changed_node, node_with_attr, node_with_mark, node_with_parent, node_without_entry, with_inode, with_moved, with_name, without_name, without_parent}
 use Rattle.vt_spec.specs.Language.Changes.Change.{AddName, CopyUp, Make, Move, Remove, SetAttr, SetBytes, SetMark}
-use Rattle.vt_spec.specs.FileTree.{FileTree, attr_in, is_opaque_in, kind_in, opaque_of}
+use Rattle.vt_spec.specs.FileTree.{FileTree, attr_in, is_opaque_in, kind_in}
 use Rattle.vt_spec.specs.Lists.{is_among}
-use Rattle.vt_spec.specs.Tree.{Content, Node, bytes_in, bytes_of, entries_in, entries_of, entry_named, kind_of, node_with_bytes, node_with_entry}
-use Rattle.vt_spec.specs.Tree.Content.{Directory, Regular, Symlink, Whiteout}
+use Rattle.vt_spec.specs.Tree.{Node, bytes_in, entries_in, entry_named, node_with_bytes, node_with_entry}
 use Rattle.vt_laws_trees.specs.Layers.Layers.Untouched.{IsKept, inodes_changed}
 use Rattle.vt_spec.proofs.Truths.{or_false_left, or_false_right}
 

@@ -13,12 +13,6 @@ use Rattle.vt_laws_trees.proofs.layers.layers.ShownFronts.{cuts_by, prefix_found
 use Rattle.std.proofs.lemmas.Option.{same_Some}
 use Rattle.vt_spec.proofs.Options.{none_is_some}
 
-whiteout_kind : (content : Content ℕ) → is_kind White (kind_of content) ≡ true → content ≡ Whiteout
-whiteout_kind (Directory parent entries opaque) e = absurd (true≢false (sym e))
-whiteout_kind (Regular bytes) e = absurd (true≢false (sym e))
-whiteout_kind (Symlink text) e = absurd (true≢false (sym e))
-whiteout_kind Whiteout e = refl
-
 is_no_whiteout : (content : Content ℕ) → content ≢ Whiteout → is_kind White (kind_of content) ≡ false
 is_no_whiteout (Directory parent entries opaque) n = refl
 is_no_whiteout (Regular bytes) n = refl

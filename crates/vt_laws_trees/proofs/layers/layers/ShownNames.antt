@@ -9,7 +9,7 @@ use Rattle.std.specs.FinMap.Entries.{find-put, is_some-find}
 use Rattle.std.specs.Ordering.{eq_by_cmp, is_eq}
 use Rattle.vt_spec.proofs.Layers.{names_at}
 use Rattle.vt_spec.specs.Machine.Layers.{OpenLayer, Shown, at_path, names_shown, node_at_path, shown}
-use Rattle.vt_spec.specs.Lists.{folded, then_some}
+use Rattle.vt_spec.specs.Lists.{folded}
 use Rattle.vt_spec.specs.Tree.{Entries, Tree, entries_in, entry_named, name_cmp, with_entry}
 use Rattle.vt_spec.specs.TreeInvariant.{entry_at, led}
 use Rattle.vt_spec.proofs.Nodes.{same_name}

@@ -1,16 +1,14 @@
 -- A copy-up writes to new inodes and to objects of the upper layer alone: the parents of what is copied are there
 -- first.
 use Rattle.std.proofs.lemmas.Grind.{common_steps}
-use Rattle.std.proofs.Common.{◌≡◌, ◌≢◌, ◌≤◌, refl, sym, ap, subst, ◌∙◌, true≢false, arith, ℕ, zero, suc, ◌+◌, nat_eq, eq-eqb, ne_eqb, Bool, true, false, cond, List, [], ◌∷◌, ◌++◌, reverse, length, Option, Some, None, is_some, unwrap_or}
+use Rattle.std.proofs.Common.{◌≡◌, ◌≢◌, ◌≤◌, refl, sym, ap, subst, ◌∙◌, true≢false, arith, ℕ, zero, suc, ◌+◌, nat_eq, eq-eqb, true, false, List, [], ◌∷◌, ◌++◌, reverse, length, Option, Some, None, is_some}
 use mathlib.Core.List.{reverse-cons}
-use Rattle.vt_spec.specs.Language.Changes.{with_inode}
-use Rattle.vt_spec.specs.Machine.CopyUp.{Merge, copied_content, copied_each, copied_up, copy_named, copy_of, copy_parent, directories_to, is_in_upper, line_by, upper_of, with_real}
+use Rattle.vt_spec.specs.Machine.CopyUp.{Merge, copied_each, copied_up, copy_of, directories_to, is_in_upper, line_by, upper_of}
 use Rattle.vt_spec.specs.FileTree.{FileTree, a_name, named_parent}
 use Rattle.vt_spec.specs.Lists.{Fresh, chain}
 use Rattle.vt_spec.specs.Machine.World.{Real, upper_object}
-use Rattle.vt_spec.specs.Machine.World.Real.{Upper}
 use Rattle.vt_spec.specs.Machine.Invariants.{ListsNumbers}
-use Rattle.vt_spec.specs.Tree.{Node, node_with_entry}
+use Rattle.vt_spec.specs.Tree.{Node}
 use Rattle.vt_spec.specs.TreeInvariant.{IsTree}
 use Rattle.vt_spec.proofs.Nodes.{directory_used}
 use Rattle.vt_laws_trees.proofs.layers.layers.LowersKept.{kept_elsewhere}

@@ -1,12 +1,10 @@
 -- Each overlay of a world is fit to change.
 use Rattle.std.proofs.Common.{arith}
 use Rattle.std.proofs.lemmas.Grind.{common_steps}
-use Rattle.std.proofs.Common.{◌≡◌, refl, sym, ap, subst, ◌∙◌, true≢false, ℕ, zero, suc, nat_eq, true, List, ◌∷◌, ◌++◌, map, Option, Some, None, is_some}
-use Rattle.std.specs.Prelude.{option_map, option_to_list}
+use Rattle.std.proofs.Common.{◌≡◌, refl, sym, ap, ◌∙◌, true≢false, ℕ, nat_eq, List, Option, Some, None, is_some}
 use Rattle.vt_spec.specs.Machine.Filesystems.{merge_of}
-use Rattle.vt_spec.specs.Machine.Layers.{OpenLayer, Shown, shown}
-use Rattle.vt_spec.specs.Lists.{Fresh, holds_of, then_some}
-use Rattle.vt_spec.specs.Machine.Merging.{layer_node, real_object}
+use Rattle.vt_spec.specs.Machine.Layers.{OpenLayer}
+use Rattle.vt_spec.specs.Lists.{Fresh, holds_of}
 use Rattle.vt_spec.specs.Machine.World.{Filesystem, Layer, Overlay, Real, World, filesystem_numbered, open_layer, upper_object}
 use Rattle.vt_spec.specs.Machine.World.Real.{Lower, Upper}
 use Rattle.vt_spec.specs.Machine.Invariants.{IsWorld, SameObject, is_there, number_at_path}
@@ -38,9 +36,6 @@ module _ (world : World ℕ) (conditions : IsWorld nat_eq world) (number : ℕ) 
 
   abbrev top : OpenLayer ℕ
   top = open_layer nat_eq world upper
-
-  abbrev lower : List (OpenLayer ℕ)
-  lower = map (open_layer nat_eq world) overlay.lowers
 
   -- an inode with a name has an upper object of its own kind
   kinds : (path : List (List ℕ)) (inode object : ℕ) → number_at_path merged.files path ≡ Some inode

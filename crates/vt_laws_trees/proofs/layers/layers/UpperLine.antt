@@ -7,8 +7,7 @@ use Rattle.std.specs.List.{find, filter_map}
 use Rattle.std.specs.Prelude.{option_map}
 use Rattle.vt_spec.specs.FileTree.{FileTree, a_name, has_entry_to, name_in}
 use Rattle.vt_spec.specs.Lists.{first_of_list}
-use Rattle.vt_spec.specs.Tree.{Content, Node, Tree, entries_in, entries_of, entry_named, is_directory_node, parent_in}
-use Rattle.vt_spec.specs.Tree.Content.{Directory, Regular, Symlink, Whiteout}
+use Rattle.vt_spec.specs.Tree.{Tree, entries_in, entry_named, parent_in}
 use Rattle.vt_spec.specs.TreeInvariant.{HasName, IsDirectory, IsTree, entry_at, led}
 use Rattle.std.proofs.lemmas.Option.{same_Some}
 use Rattle.vt_spec.proofs.NodeChanges.{entry_from, entry_to, found_is_named}

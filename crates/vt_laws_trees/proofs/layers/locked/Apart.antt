@@ -1,21 +1,20 @@
 -- Objects of an upper layer lie under no other layer of a live overlay.
 use Rattle.std.proofs.Common.{arith}
 use Rattle.std.proofs.lemmas.Grind.{common_steps}
-use Rattle.std.proofs.Common.{◌≡◌, ◌≢◌, refl, sym, ap, subst, ◌∙◌, true≢false, ℕ, nat_eq, eq-eqb, eqb-true, Bool, true, false, cond, not, ◌&&◌, List, [], ◌∷◌, ◌++◌, Option, Some, None, is_some, unwrap_or, inl, inr, ◌⊎◌, ⊎_elim}
+use Rattle.std.proofs.Common.{◌≡◌, ◌≢◌, refl, sym, ap, subst, ◌∙◌, true≢false, ℕ, nat_eq, eq-eqb, eqb-true, Bool, true, false, not, ◌&&◌, List, [], ◌∷◌, ◌++◌, Option, Some, None, is_some, unwrap_or, inl, inr, ◌⊎◌, ⊎_elim}
 use Rattle.std.specs.List.{find, list_any, list_all}
 use Rattle.std.specs.Prelude.{flat_map, option_to_list}
-use Rattle.vt_spec.specs.FileTree.{FileTree, is_under, named_parent}
-use Rattle.vt_spec.specs.Lists.{any_pair, chain, holds_of, is_among, then_some}
-use Rattle.vt_spec.specs.Machine.Locked.{counts_in_layer, is_locked, is_object_of, is_real_upper, lies_in_layer, lies_or_counts_under, live_layers, live_upper_and_work, of_overlay, overlaps_one_of, overlay_or, overlays, upper_and_work}
+use Rattle.vt_spec.specs.FileTree.{FileTree, is_under}
+use Rattle.vt_spec.specs.Lists.{any_pair, holds_of}
+use Rattle.vt_spec.specs.Machine.Locked.{counts_in_layer, is_object_of, is_real_upper, lies_in_layer, lies_or_counts_under, live_upper_and_work, of_overlay, overlaps_one_of, overlay_or, overlays, upper_and_work}
 use Rattle.vt_spec.specs.Machine.World.{Filesystem, Layer, Overlay, World, filesystem_numbered, is_overlay, layers_of, no_filesystem, upper_object}
-use Rattle.vt_spec.specs.Machine.Invariants.{IsWorld, ListsNumbers, SameObject, is_plain_layer, is_there, live_lowers, overlap, real_node}
-use Rattle.vt_spec.specs.Tree.{Node, is_directory_node}
+use Rattle.vt_spec.specs.Machine.Invariants.{IsWorld, ListsNumbers, is_plain_layer, is_there, live_lowers, overlap}
+use Rattle.vt_spec.specs.Tree.{is_directory_node}
 use Rattle.vt_spec.proofs.Lists.{Among, among-append_right, among-filter, among-flat_map, among_from_list_all, among_numbers, any_among, any_from_among, none_among}
 use Rattle.vt_laws_trees.proofs.layers.layers.LowersWorld.{number_of_filesystem}
 use Rattle.vt_laws_trees.specs.Layers.Layers.Upper.{IsUpperObject}
 use Rattle.vt_laws_trees.proofs.layers.layers.UpperWorld.{all_found, overlay_found, overlay_merges}
-use Rattle.std.proofs.lemmas.Bool.{and_from, or_cases, or_left, or_right}
-use Rattle.std.proofs.lemmas.Option.{same_Some}
+use Rattle.std.proofs.lemmas.Bool.{and_from, or_left, or_right}
 use Rattle.vt_spec.proofs.Options.{none_is_some}
 use Rattle.vt_spec.proofs.Truths.{and_true_left, and_true_right, or_false_left, or_false_right}
 use Rattle.vt_laws_trees.specs.Trees.Settling.{inode_in}
@@ -180,11 +179,6 @@ module _ (world : World ℕ) (conditions : IsWorld nat_eq world) where
           (and_from _ _
           (ap (holds_of (λ u. lies_in_layer nat_eq world u.filesystem u.directory upper)) has ∙ directory_lies)
           is_of)))
-
-      pub object_locked : is_locked nat_eq world upper.filesystem object ≡ true
-      object_locked =
-          any_from_among (lies_or_counts_under nat_eq world upper.filesystem object) (live_layers world) upper
-          (layer_among world layers_of number overlay is upper upper_in_layers) object_counts
 
       pub object_listed : Among object (filesystem_numbered nat_eq world upper.filesystem).files.numbers
       object_listed = listed upper.filesystem object object_there

@@ -4,7 +4,7 @@ use Rattle.std.proofs.lemmas.Grind.{common_steps}
 use Rattle.std.proofs.Common.{◌≡◌, ◌≢◌, refl, sym, ap, subst, ◌∙◌, ℕ, nat_eq, true, false, List, Option, Some, None, inr, ◌⊎◌, ⊎_elim}
 use Rattle.std.proofs.lemmas.Bool.Decides.{eqb_tells}
 use Rattle.vt_spec.specs.Language.Changes.{Change, changed}
-use Rattle.vt_spec.specs.Machine.Filesystems.{filesystem_changed, overlay_changed, with_change, with_files}
+use Rattle.vt_spec.specs.Machine.Filesystems.{filesystem_changed, with_change, with_files}
 use Rattle.vt_spec.specs.Lists.{Fresh, is_among}
 use Rattle.vt_spec.specs.Machine.Locked.{is_locked}
 use Rattle.vt_spec.specs.Machine.Mounts.{Location}

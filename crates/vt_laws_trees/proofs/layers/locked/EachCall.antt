@@ -1,14 +1,14 @@
 -- Each call on files leaves the filesystems as they were, or with one change that is granted.
 use Rattle.std.proofs.Common.{arith}
 use Rattle.std.proofs.lemmas.Grind.{common_steps}
-use Rattle.std.proofs.Common.{Bool, List, None, Option, Some, [], ap, eqb-true, false, inl, is_some, nat_eq, ne_eqb, not, option_map, refl, subst, sym, true, true≢false, unwrap_or, ℕ, ◌*◌, ◌+◌, ◌||◌, ◌∙◌, ◌∷◌, ◌≡◌, ◌≢◌, Result}
+use Rattle.std.proofs.Common.{List, None, Option, Some, [], ap, eqb-true, false, inl, is_some, nat_eq, ne_eqb, not, option_map, refl, subst, sym, true, true≢false, unwrap_or, ℕ, ◌*◌, ◌+◌, ◌||◌, ◌∙◌, ◌∷◌, ◌≡◌, ◌≢◌, Result}
 use Rattle.vt_spec.specs.Language.Calls.{Access, Call}
 use Rattle.vt_spec.specs.Language.Changes.{Change}
-use Rattle.vt_spec.specs.Language.Changes.Change.{CopyUp, SetBytes, SetMark}
+use Rattle.vt_spec.specs.Language.Changes.Change.{SetBytes, SetMark}
 use Rattle.vt_spec.specs.Lists.{Fresh, evens, is_among, odds}
 use Rattle.vt_spec.specs.Machine.Locked.{is_locked, is_locked_at}
 use Rattle.vt_spec.specs.Machine.Mounts.{Location}
-use Rattle.vt_spec.specs.Machine.Descriptors.{is_copied_up, pwritten, with_copy}
+use Rattle.vt_spec.specs.Machine.Descriptors.{pwritten}
 use Rattle.vt_spec.specs.Machine.Rows.{file_mode, linking, making, new_file}
 use Rattle.vt_spec.proofs.Tables.{with_new}
 use Rattle.vt_spec.specs.Machine.Rules.Removing.{moving, object_there, removing, rename_rules}

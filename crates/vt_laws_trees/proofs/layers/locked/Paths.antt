@@ -1,16 +1,15 @@
 -- Where what lies under a layer stays as it was, paths lead from the layer's directory where they led.
 use Rattle.std.proofs.Common.{arith}
 use Rattle.std.proofs.lemmas.Grind.{common_steps}
-use Rattle.std.proofs.Common.{◌≡◌, ◌≢◌, refl, sym, ap, subst, ◌∙◌, true≢false, eq-eqb, ℕ, nat_eq, true, cond, not, ◌&&◌, ◌||◌, List, Option, Some, None, is_some, unwrap_or}
+use Rattle.std.proofs.Common.{◌≡◌, ◌≢◌, refl, sym, ap, ◌∙◌, true≢false, eq-eqb, ℕ, nat_eq, true, cond, not, ◌&&◌, ◌||◌, List, Some, is_some}
 use Rattle.std.specs.List.{find, list_any}
 use Rattle.vt_spec.specs.FileTree.{is_directory_under, is_file_under, is_under}
-use Rattle.vt_spec.specs.Lists.{Fresh, then_some}
+use Rattle.vt_spec.specs.Lists.{Fresh}
 use Rattle.vt_spec.specs.Machine.Layers.{at_path}
 use Rattle.vt_spec.specs.Machine.Locked.{counts_in_layer, lies_or_counts_under, overlays, upper_and_work}
 use Rattle.vt_spec.specs.Machine.Policy.{call_outcome}
-use Rattle.vt_spec.specs.Machine.World.{Filesystem, Layer, World, filesystem_numbered, is_overlay, layers_of, no_filesystem, open_layer}
+use Rattle.vt_spec.specs.Machine.World.{Filesystem, Layer, World, filesystem_numbered, is_overlay, layers_of, open_layer}
 use Rattle.vt_spec.specs.Machine.Invariants.{IsWorld, ListsNumbers, is_plain_layer}
-use Rattle.vt_spec.specs.Tree.{entry_named, is_directory_node}
 use Rattle.vt_spec.specs.TreeInvariant.{IsDirectory, IsTree}
 use Rattle.vt_spec.proofs.Lists.{Among, among-append_left, among-append_right, among_from_contains}
 use Rattle.vt_laws_trees.specs.Layers.Layers.Locked.{AreNoInodes, LeadsAsBefore, LowerPathsAreLocked, OtherPathsStay}

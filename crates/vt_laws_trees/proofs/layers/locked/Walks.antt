@@ -1,5 +1,5 @@
 -- Where a task's walk ends something is, and so where its descriptors are.
-use Rattle.std.proofs.Common.{◌≡◌, refl, sym, ap, subst, ◌∙◌, ℕ, zero, suc, nat_eq, Bool, true, false, cond, List, [], ◌∷◌, ◌+◌, ◌&&◌, map, reverse, Option, Some, None, is_some, Ok, Err, Result, ok_or, inr}
+use Rattle.std.proofs.Common.{◌≡◌, refl, sym, ap, subst, ℕ, zero, suc, nat_eq, Bool, true, false, cond, List, [], ◌∷◌, ◌+◌, reverse, Option, Some, None, is_some, Ok, Err, Result, ok_or, inr}
 use Rattle.std.specs.List.{find}
 use Rattle.std.specs.Prelude.{option_to_list}
 use Rattle.vt_spec.specs.Errors.{denial}

@@ -7,13 +7,12 @@ use Rattle.std.proofs.lemmas.List.{append-nil}
 use Rattle.std.specs.List.{list_any}
 use Rattle.vt_spec.specs.declared.attributes.Attr.{Attr}
 use Rattle.vt_spec.specs.declared.attributes.Kind.TheVariants.{White}
-use Rattle.vt_spec.specs.Language.Changes.{Change, changed, changed_node, content_with_mark, node_with_attr, node_with_mark}
+use Rattle.vt_spec.specs.Language.Changes.{Change, changed, changed_node, node_with_attr, node_with_mark}
 use Rattle.vt_spec.specs.Language.Changes.Change.{AddName, CopyUp, Make, Move, Remove, SetAttr, SetBytes, SetMark}
-use Rattle.vt_spec.specs.FileTree.{FileTree, is_kind, is_kind_in, opaque_of}
+use Rattle.vt_spec.specs.FileTree.{FileTree, is_kind, is_kind_in}
 use Rattle.vt_spec.specs.Lists.{prefixes, same_option, then_some, when}
 use Rattle.vt_spec.specs.Machine.Views.{View, cuts, node_led, shown_from, shown_over}
-use Rattle.vt_spec.specs.Tree.{Content, Node, Tree, kind_of, node_with_bytes, with_bytes}
-use Rattle.vt_spec.specs.Tree.Content.{Directory, Regular, Symlink, Whiteout}
+use Rattle.vt_spec.specs.Tree.{Node, Tree, kind_of, node_with_bytes}
 use Rattle.vt_spec.specs.TreeInvariant.{IsDirectory, IsTree, led}
 use Rattle.vt_laws_trees.specs.Layers.Layers.Mounted.{IsAlike}
 use Rattle.vt_laws_trees.specs.Layers.Layers.Shown.{IsFrontOf}

@@ -1,11 +1,11 @@
 -- The entries of a tree after a change of one inode.
 use Rattle.std.proofs.Common.{arith}
 use Rattle.std.proofs.lemmas.Grind.{common_steps}
-use Rattle.std.proofs.Common.{◌≡◌, refl, sym, ap, ◌∙◌, true≢false, ℕ, nat_eq, Bool, true, false, not, cond, ◌&&◌, List, ⊎_elim, Option, Some, None}
+use Rattle.std.proofs.Common.{◌≡◌, sym, ap, ◌∙◌, true≢false, ℕ, nat_eq, Bool, true, cond, ◌&&◌, List, ⊎_elim, Option, Some, None}
 use Rattle.std.proofs.lemmas.Bool.Decides.{eqb_tells}
 use Rattle.std.specs.Cmp.Lexicographic.{bytes_decides, texts_ties}
 use Rattle.std.specs.Str.{bytes_eq}
-use Rattle.vt_spec.specs.Language.Changes.{changed_node, node_without_entry, with_name, without_name}
+use Rattle.vt_spec.specs.Language.Changes.{changed_node, with_name, without_name}
 use Rattle.vt_spec.specs.FileTree.{FileTree}
 use Rattle.vt_spec.specs.Tree.{Node, entries_in, entry_named, node_with_entry}
 use Rattle.vt_spec.specs.TreeInvariant.{IsDirectory, entry_at}

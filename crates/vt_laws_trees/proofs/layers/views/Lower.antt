@@ -6,8 +6,8 @@ use Rattle.std.proofs.lemmas.List.{append-nil}
 use Rattle.std.specs.List.{list_any}
 use Rattle.vt_spec.specs.Language.Changes.Change.{Move, Remove}
 use Rattle.vt_spec.specs.FileTree.{FileTree}
-use Rattle.vt_spec.specs.Lists.{without_last, prefixes, holds_of, then_some}
-use Rattle.vt_spec.specs.Machine.Views.{Shown, View, shown_in_lowers, cuts, hides, node_led, shown_from, shown_over}
+use Rattle.vt_spec.specs.Lists.{prefixes, holds_of}
+use Rattle.vt_spec.specs.Machine.Views.{View, shown_in_lowers, shown_from}
 use Rattle.vt_spec.specs.Tree.{Tree}
 use Rattle.vt_spec.specs.TreeInvariant.{IsTree, entry_at, led}
 use Rattle.vt_laws_trees.specs.Layers.Layers.ShownAfter.{LeadAlikeTo, MovedShowsBelow, RemovedShowsBelow}

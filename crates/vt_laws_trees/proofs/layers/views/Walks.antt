@@ -1,10 +1,9 @@
 -- Where paths lead when one entry of a tree changes.
 use Rattle.std.proofs.Common.{arith}
 use Rattle.std.proofs.lemmas.Grind.{common_steps}
-use Rattle.std.proofs.Common.{◌≡◌, ◌≢◌, refl, sym, ap, ◌∙◌, true≢false, ℕ, nat_eq, Bool, true, false, cond, ◌&&◌, ◌||◌, List, [], ◌∷◌, ◌++◌, map, Option, Some, None, option_and_then}
+use Rattle.std.proofs.Common.{◌≡◌, ◌≢◌, refl, sym, ap, ◌∙◌, true≢false, ℕ, Bool, true, false, cond, ◌||◌, List, [], ◌∷◌, ◌++◌, map, Option, Some, None, option_and_then}
 use Rattle.std.specs.List.{list_any}
-use Rattle.std.specs.Str.{bytes_eq}
-use Rattle.vt_spec.specs.Lists.{without_last, prefixes, holds_of, last_or, same_option}
+use Rattle.vt_spec.specs.Lists.{prefixes, holds_of}
 use Rattle.vt_spec.specs.Machine.Views.{View}
 use Rattle.vt_spec.specs.Tree.{Tree}
 use Rattle.vt_spec.specs.TreeInvariant.{entry_at, led}

@@ -8,7 +8,7 @@ use Rattle.vt_spec.specs.Language.Changes.Change.{Make}
 use Rattle.vt_spec.specs.Laws.Trees.{IsNewIn}
 use Rattle.vt_spec.specs.Lists.{then_some, when}
 use Rattle.vt_spec.specs.Machine.CopyUp.{Merge, Stack, copied_content, copy_named, copy_of_node, copy_parent, upper_of, with_real}
-use Rattle.vt_spec.specs.Machine.Layers.{OpenLayer, shown, view_of}
+use Rattle.vt_spec.specs.Machine.Layers.{shown, view_of}
 use Rattle.vt_spec.specs.Machine.Views.{View, cuts, hides, node_led, shown_from}
 use Rattle.vt_spec.specs.Machine.World.{Real, upper_object}
 use Rattle.vt_spec.specs.Machine.World.Real.{Upper}

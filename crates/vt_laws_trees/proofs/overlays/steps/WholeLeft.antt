@@ -8,7 +8,7 @@ use Rattle.vt_spec.specs.Machine.CopyUp.{Merge, Stack, upper_directory_named, wi
 use Rattle.vt_spec.proofs.Layers.{shown_from}
 use Rattle.vt_spec.specs.Machine.Layers.{OpenLayer, Shown, at_path, view_of}
 use Rattle.vt_spec.specs.Machine.Views
-use Rattle.vt_spec.specs.Machine.Views.{View, cuts, hides, node_led, shown_over}
+use Rattle.vt_spec.specs.Machine.Views.{cuts, node_led, shown_over}
 use Rattle.vt_spec.specs.Machine.World.{Real, upper_object}
 use Rattle.vt_spec.specs.Machine.World.Real.{Lower, Upper}
 use Rattle.vt_spec.specs.Machine.Invariants.{number_at_path}

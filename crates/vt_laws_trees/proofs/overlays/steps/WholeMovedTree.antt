@@ -10,13 +10,12 @@ use Rattle.vt_spec.specs.Machine.World.Real.{Upper}
 use Rattle.vt_spec.specs.Machine.Invariants.{number_at_path}
 use Rattle.vt_spec.specs.Tree.{entries_in, entry_named, is_directory_node, node_with_entry}
 use Rattle.vt_spec.specs.TreeInvariant.{IsDirectory, IsTree, entry_at, led}
-use Rattle.vt_spec.proofs.Nodes.{node_other, node_set}
+use Rattle.vt_spec.proofs.Nodes.{node_other}
 use Rattle.vt_laws_trees.specs.Trees.{MayMove}
 use Rattle.vt_laws_trees.specs.Layers.Layers.ChangesUpper.{StandsInUpper}
 use Rattle.vt_laws_trees.specs.Layers.Layers.Mounted.{IsAlike}
 use Rattle.vt_laws_trees.specs.Layers.Layers.Views.{goes_through, names_entry, view_in}
 use Rattle.vt_laws_trees.proofs.layers.layers.CopyingParts.{entry_keeps, without_entry_keeps}
-use Rattle.vt_laws_trees.proofs.layers.layers.ShownDirectories.{led_is_there}
 use Rattle.vt_laws_trees.proofs.layers.layers.ShownFronts.{prefix_passes}
 use Rattle.vt_laws_trees.proofs.layers.layers.UpperLine.{has_entries}
 use Rattle.vt_laws_trees.proofs.layers.views.After.{fails}
@@ -30,7 +29,7 @@ use Rattle.vt_laws_trees.specs.Overlays.WhatIsShown.{IsWhole}
 use Rattle.vt_laws_trees.proofs.overlays.steps.WholeAttributes.{top_open, upper_real}
 use Rattle.vt_laws_trees.proofs.overlays.steps.WholeGrown.{directory_alike}
 use Rattle.vt_laws_trees.proofs.overlays.steps.WholeLeft.{beside_led, emptied_alike, emptied_entries, named_in_upper, one_named, own_upper, up_way, way}
-use Rattle.vt_laws_trees.proofs.overlays.steps.WholeNames.{above_named, directory_above, is_fine, named_above, named_led}
+use Rattle.vt_laws_trees.proofs.overlays.steps.WholeNames.{above_named, directory_above, is_fine}
 use Rattle.vt_laws_trees.proofs.overlays.steps.WholeParts.{IsFine}
 use Rattle.std.proofs.lemmas.Option.{same_Some}
 use Rattle.vt_spec.proofs.NodeChanges.{directory_no_whiteout, entries-node_with_mark}

@@ -1,5 +1,5 @@
 -- A new inode under a name of the upper layer: where its view leads, and what it hides.
-use Rattle.std.proofs.Common.{◌≡◌, ◌≢◌, sym, ap, subst, ◌∙◌, true≢false, ℕ, nat_eq, Bool, true, false, cond, List, [], Some, None, is_some}
+use Rattle.std.proofs.Common.{◌≡◌, ◌≢◌, ap, subst, ◌∙◌, ℕ, nat_eq, Bool, true, false, cond, List, [], Some, None}
 use Rattle.vt_spec.specs.FileTree.{FileTree}
 use Rattle.vt_spec.specs.Language.Changes.{changed}
 use Rattle.vt_spec.specs.Language.Changes.Change.{Make}
@@ -8,7 +8,6 @@ use Rattle.vt_spec.specs.Tree.{Node, entries_of}
 use Rattle.vt_spec.specs.TreeInvariant.{IsDirectory, IsTree, led}
 use Rattle.vt_laws_trees.specs.Layers.Layers.Mounted.{IsAlike}
 use Rattle.vt_laws_trees.specs.Layers.Layers.Views.{TakesName, goes_through, names_entry, view_in}
-use Rattle.vt_laws_trees.proofs.layers.layers.ShownDirectories.{led_is_there}
 use Rattle.vt_laws_trees.proofs.layers.layers.ShownFronts.{prefix_found, prefix_passes}
 use Rattle.vt_laws_trees.proofs.layers.views.Fronts.{hides_so, hiding_alike}
 use Rattle.vt_laws_trees.proofs.layers.views.Names.{make_adds_inode, make_adds_path, make_is_seen}
@@ -30,20 +29,11 @@ module _ (upper : FileTree ℕ) (top : ℕ) (top_tree : IsTree upper.tree) (top_
   leads_same path e =
       make_adds_path upper top ud c w new takes vacant bare path ∙ ap (λ b. cond b (Some c) (led upper.tree top path)) e
 
-  pub leads_new : (path : List (List ℕ)) → names_entry before ud w path ≡ true → led grown.tree top path ≡ Some c
-  leads_new path e =
-      make_adds_path upper top ud c w new takes vacant bare path ∙ ap (λ b. cond b (Some c) (led upper.tree top path)) e
-
   pub others_alike : (u : ℕ) → u ≢ c → IsAlike (upper.tree.node u) (grown.tree.node u)
   others_alike = (make_adds_inode upper top ud c w new takes.in_directory vacant).1
 
   pub new_there : grown.tree.node c ≡ Some new
   new_there = (make_adds_inode upper top ud c w new takes.in_directory vacant).0
-
-  pub is_old : (path : List (List ℕ)) (k : ℕ) → led upper.tree top path ≡ Some k → k ≢ c
-  is_old path k l same =
-      true≢false (sym (led_is_there (record { tree = upper.tree; directory = top }) top_tree top_directory path k l)
-      ∙ ap (λ n. is_some (upper.tree.node n)) same ∙ ap is_some vacant)
 
   pub hides_at : (front : List (List ℕ)) (b : Bool) → names_entry before ud w front ≡ b
       → hides (node_led after front) ≡ cond b (hides (Some new)) (hides (node_led before front))

@@ -1,5 +1,5 @@
 -- Where the names of a plain tree lead after each part of a change.
-use Rattle.std.proofs.Common.{◌≡◌, ◌≢◌, refl, sym, ap, ◌∙◌, true≢false, ⊎_elim, inl, inr, ◌⊎◌, ℕ, nat_eq, Bool, true, false, cond, List, [], Option, Some, None}
+use Rattle.std.proofs.Common.{◌≡◌, ◌≢◌, refl, sym, ap, ◌∙◌, ⊎_elim, inl, inr, ◌⊎◌, ℕ, nat_eq, Bool, true, false, List, [], Option, Some, None}
 use Rattle.std.proofs.lemmas.Bool.Decides.{eqb_tells}
 use Rattle.vt_spec.specs.FileTree.{FileTree}
 use Rattle.vt_spec.specs.Language.Changes.{changed_node, node_with_mark, node_with_parent, node_without_entries, with_inode, with_moved, with_name, without_name, without_parent}

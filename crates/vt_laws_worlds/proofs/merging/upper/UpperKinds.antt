@@ -157,9 +157,6 @@ module _ (fresh : Fresh ℕ) (stack : Stack ℕ) (merge : Merge ℕ) (whole : Is
   upper_is : c.upper ≡ copied_to fresh stack merge.upper path
   upper_is = (at_place fresh stack merge whole new object there (Named path) leads).0
 
-  leads_later : number_at_path c.files path ≡ Some object
-  leads_later = ap (λ files. number_at_path files path) line.files ∙ leads
-
   directory_later : (way : List (List ℕ)) (directory : ℕ) → LeadsToDirectory merge way directory
       → LeadsToDirectory c way directory
   directory_later way directory is = (

@@ -11,7 +11,7 @@ use Rattle.vt_spec.specs.Machine.Locked.{counts_in_layer, is_object_of, is_real_
 use Rattle.vt_spec.specs.Machine.World.{Filesystem, Layer, Overlay, World, filesystem_numbered, is_overlay, layers_of, open_layer, upper_object}
 use Rattle.vt_spec.specs.Machine.World.Real.{Upper}
 use Rattle.vt_spec.specs.Tree.{Node, is_directory_node}
-use Rattle.vt_spec.specs.TreeInvariant.{IsReached, IsTree, led}
+use Rattle.vt_spec.specs.TreeInvariant.{IsReached, IsTree}
 use Rattle.vt_spec.proofs.Lists.{Among, among-append_left, among-append_right, among-from_filter, among-from_flat_map, among_from_list_all, among_numbers, any_among, any_from_among, list_all_from_among, none_among, none_from_among}
 use Rattle.vt_laws_mounts.proofs.letting_go.sweeps.OfWorlds.{found_filesystem}
 use Rattle.vt_laws_trees.proofs.trees.TreesOfWorlds.{numbered_all, numbered_anyhow}
@@ -165,11 +165,6 @@ module _ (world later : World ℕ) (files : AreTrees world) (are : OverlayInvari
           absurd (true≢false (sym (and_true_left
           (not (is_overlay (filesystem_numbered nat_eq world layer.filesystem))) _ live.plain)
           ∙ ap (λ o. not (is_some o)) (goes layer.filesystem after e).is))
-
-  -- What lies under it lay under it
-  abbrev LedIn : World ℕ → Layer ℕ → ℕ → Type 0
-  LedIn w layer object = (path : List (List ℕ))
-      × (led (filesystem_numbered nat_eq w layer.filesystem).files.tree layer.directory path ≡ Some object)
 
   lay : (layer : Layer ℕ) → IsLive layer → (n object : ℕ) → lies_in_layer nat_eq later n object layer ≡ true
       → lies_in_layer nat_eq world n object layer ≡ true

@@ -3,7 +3,7 @@ use Rattle.std.proofs.Common.{eq-eqb, ◌≡◌, refl, sym, ap, subst, ◌∙◌
 use Rattle.std.specs.Prelude.{unwrap_or}
 use Rattle.vt_spec.specs.Lists.{Fresh, folded, index_from, then_some, when}
 use Rattle.vt_spec.specs.Machine.Attach.{Copies, Graft, Twig, added_mounts, attach, attached_at, copies_from, copy_type, image, is_top, masters_with, nearest_image, index_in_rows, takes_part, twig_master, twig_of, with_moved_mounts}
-use Rattle.vt_spec.specs.Machine.Mounts.{Location, Mount, Propagation, group_of, index_of, mount_in}
+use Rattle.vt_spec.specs.Machine.Mounts.{Location, Mount, Propagation, group_of, index_of}
 use Rattle.vt_spec.specs.Machine.Receives.{is_member_of, receivers}
 use Rattle.vt_spec.specs.Machine.World.{World, mount_at}
 use Rattle.vt_spec.proofs.Worlds.{number-mount_in}
@@ -112,30 +112,7 @@ module _ (world : World ℕ) (place : Location ℕ) (mounts : List (Mount ℕ)) 
         ∙ ap (λ b. attached_alone b moves (copies_from nat_eq fresh (destination ∷ []) mounts))
         (eq-eqb destination.number place.mount (number-mount_in world.mounts place.mount))
 
-  -- the namespaces of the mounts do not go by the numbers
-  abbrev pub namespace_of : Mount ℕ → Option ℕ
-  namespace_of mount = mount.namespace
-
-  front_same : (front one other : List (Mount ℕ)) → map namespace_of (one ++ []) ≡ map namespace_of (other ++ [])
-      → map namespace_of (front ++ one ++ []) ≡ map namespace_of (front ++ other ++ [])
-  front_same [] one other same = same
-  front_same (mount ∷ front) one other same = λ i. mount.namespace ∷ front_same front one other same i
-
-  tail_namespaces : (new : Copies ℕ) (list : List (Twig ℕ))
-      → map namespace_of (map (copy_by true false new) list ++ []) ≡ map (λ (twig : Twig ℕ). destination.namespace) list
-  tail_namespaces new [] = refl
-  tail_namespaces new (twig ∷ list) = λ i. destination.namespace ∷ tail_namespaces new list i
-
   module _ (alone : group_of destination.propagation ≡ None) (fresh again : Fresh ℕ) where
-    pub namespaces_same : map namespace_of (attach nat_eq world fresh place false mounts).mounts
-        ≡ map namespace_of (attach nat_eq world again place false mounts).mounts
-    namespaces_same =
-        (λ i. map namespace_of (at_destination alone false fresh i).mounts)
-        ∙ front_same (map (λ (mount : Mount ℕ). mount) world.mounts) _ _
-        (tail_namespaces (copies_from nat_eq fresh (destination ∷ []) mounts) twigs
-        ∙ sym (tail_namespaces (copies_from nat_eq again (destination ∷ []) mounts) twigs))
-        ∙ (λ i. map namespace_of (sym (at_destination alone false again) i).mounts)
-
     -- what moves takes no number
     pub moved_same : attach nat_eq world fresh place true mounts ≡ attach nat_eq world again place true mounts
     moved_same = at_destination alone true fresh ∙ sym (at_destination alone true again)
@@ -158,26 +135,3 @@ module _ (world : World ℕ) (place : Location ℕ) (mounts : List (Mount ℕ)) 
             image = (copies_from nat_eq fresh (destination ∷ []) mounts).image;
           }))
           ∙ sym (at_destination alone false again)
-
--- one mount that is attached in either of two worlds with the same mounts
-pub copies_at_one : (world other : World ℕ) → other.mounts ≡ world.mounts → (place : Location ℕ) (one new : Mount ℕ)
-    → group_of (mount_at nat_eq world place).propagation ≡ None → (fresh again : Fresh ℕ)
-    → map (λ (mount : Mount ℕ). mount.namespace) (attach nat_eq world fresh place false (one ∷ [])).mounts
-    ≡ map (λ (mount : Mount ℕ). mount.namespace) (attach nat_eq other again place false (new ∷ [])).mounts
-copies_at_one world other same place one new alone fresh again =
-    ends world one alone fresh
-    ∙ (λ i. fronted (sym same i))
-    ∙ sym (ends other new (subst (λ mounts. group_of (mount_in nat_eq mounts place.mount).propagation ≡ None)
-    (sym same) alone) again)
-  where
-    fronted : List (Mount ℕ) → List (Option ℕ)
-    fronted mounts =
-        map (λ (mount : Mount ℕ). mount.namespace)
-        (map (λ (mount : Mount ℕ). mount) mounts ++ (mount_in nat_eq mounts place.mount ∷ []) ++ [])
-
-    ends : (w : World ℕ) (m : Mount ℕ) → group_of (mount_at nat_eq w place).propagation ≡ None → (supply : Fresh ℕ)
-        → map (λ (mount : Mount ℕ). mount.namespace) (attach nat_eq w supply place false (m ∷ [])).mounts
-        ≡ fronted w.mounts
-    ends w m there supply =
-        (λ i. map (λ (mount : Mount ℕ). mount.namespace) (at_destination w place (m ∷ []) there false supply i).mounts)
-        ∙ front_same w place (m ∷ []) (map (λ (mount : Mount ℕ). mount) w.mounts) _ (mount_at nat_eq w place ∷ []) refl

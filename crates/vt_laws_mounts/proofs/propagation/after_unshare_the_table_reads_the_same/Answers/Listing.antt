@@ -1,14 +1,13 @@
 -- The list of mounts after an unshare.
 use Rattle.std.proofs.Common.{arith}
 use Rattle.std.proofs.lemmas.Grind.{common_steps}
-use Rattle.std.proofs.Common.{◌≡◌, refl, sym, ap, ◌∙◌, Bool, List, [], None, eq-eqb, eqb-true, true≢false, Option, Some, cond, false, flat_map, map, nat_eq, option_map, true, unwrap_or, ℕ, ◌+◌, ◌∷◌, inl, inr}
+use Rattle.std.proofs.Common.{◌≡◌, refl, sym, ap, ◌∙◌, List, [], None, eq-eqb, eqb-true, true≢false, Option, Some, cond, flat_map, map, nat_eq, option_map, unwrap_or, ℕ, ◌+◌, ◌∷◌, inl, inr}
 use Rattle.std.proofs.lemmas.List.Folds.{flat_map-map}
-use Rattle.std.proofs.lemmas.Bool.{false_from_ne_true}
 use Rattle.vt_spec.proofs.Lists.{Among, among-filter, among-from_filter}
 use Rattle.vt_spec.specs.FileTree.{path_down}
 use Rattle.vt_spec.specs.Machine.Listing.{groups_shown, mount_line, number_among, mount_point_spot, root_spot, spot_of, type_line}
 use Rattle.vt_spec.specs.Lists.{Fresh, each_once, evens, holds_of, odds, index_from}
-use Rattle.vt_spec.specs.Machine.Mounts.{Location, Mount, index_of, numbers_by}
+use Rattle.vt_spec.specs.Machine.Mounts.{Location, Mount, numbers_by}
 use Rattle.vt_spec.specs.Machine.Namespaces.{copied_mount, location_on_copy, unshared}
 use Rattle.vt_spec.specs.Language.Answers.{Spot}
 use Rattle.vt_spec.specs.Machine.Run.{Serves}

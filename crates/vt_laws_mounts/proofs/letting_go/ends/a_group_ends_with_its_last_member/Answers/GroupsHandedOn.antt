@@ -1,13 +1,13 @@
 -- A group that loses its last member hands its slaves on.
 use Rattle.std.proofs.Common.{arith}
 use Rattle.std.proofs.lemmas.Grind.{common_steps}
-use Rattle.std.proofs.Common.{◌≡◌, refl, sym, ap, ◌∙◌, ⊎_elim, ℕ, suc, nat_eq, eqb-true, eq-eqb, Bool, true, false, cond, not, ◌||◌, List, [], ◌∷◌, find, length, true≢false, Option, Some, None, is_some, option_to_list}
+use Rattle.std.proofs.Common.{◌≡◌, refl, sym, ap, ◌∙◌, ⊎_elim, ℕ, suc, nat_eq, eqb-true, eq-eqb, Bool, true, false, cond, not, ◌||◌, find, length, true≢false, Option, Some, None, is_some, option_to_list}
 use Rattle.std.specs.List.{list_all, list_any}
-use Rattle.std.proofs.lemmas.Bool.{and_parts, or_cases, or_parts, cases_Bool}
+use Rattle.std.proofs.lemmas.Bool.{and_parts, or_parts, cases_Bool}
 use Rattle.vt_spec.specs.Lists.{chain, holds_of, then_some}
 use Rattle.vt_spec.specs.Machine.Mounts.{Mount, Propagation, group_of, source_of}
 use Rattle.vt_spec.specs.Machine.Mounts.Propagation.{Private, Shared, Slave, Unbindable}
-use Rattle.vt_spec.specs.Machine.Receives.{has_members, heir, inherited, inheriting, is_lost_group, is_member_of, lost_a_group, regrouped, regrouped_by, slave_of_heir}
+use Rattle.vt_spec.specs.Machine.Receives.{has_members, heir, inherited, inheriting, is_lost_group, is_member_of, lost_a_group, regrouped, regrouped_by}
 use Rattle.vt_spec.specs.Machine.World.{World}
 use Rattle.vt_laws_mounts.specs.LettingGo.Groups.{GroupsLiveBut, NoGroupIsHandedOn, OneGroupIsHandedOn, hand_on, handed_on, is_group_or_lives, master_handed_on, mount_handed_on}
 use Rattle.vt_laws_mounts.proofs.letting_go.Lists.{fails, map_same, one_passes, or_second, passes}
