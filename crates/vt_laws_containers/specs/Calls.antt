@@ -1,7 +1,6 @@
 -- Which calls of theirs give others no foothold and end alike, whatever the world is (profile).
 use Rattle.std.specs.Prelude.{Bool, List, false, map, nat_eq, true, ℕ, ◌≡◌}
 use Rattle.vt_spec.specs.Language.Calls.{Call, TaskName, same_name}
-use Rattle.vt_spec.specs.Language.Calls.Call.{Bind, MountOverlay, MountPlain, MoveMount, SetType, Unshare}
 use Rattle.vt_spec.specs.Language.Script.{Grammar}
 use Rattle.vt_spec.specs.Lists.{Fresh, is_among}
 use Rattle.vt_spec.specs.Machine.Run.{Serves}

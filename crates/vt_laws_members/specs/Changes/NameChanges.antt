@@ -1,16 +1,13 @@
 -- Calls of tasks of a sealed set that make, give and take names on plain filesystems, in the world and in the part of
 -- the set (profile).
-use Rattle.std.specs.Prelude.{Bool, List, None, Ok, Option, Some, false, nat_eq, not, ℕ, ◌&&◌, ◌≡◌}
-use Rattle.std.specs.List.{list_any}
+use Rattle.std.specs.Prelude.{List, Ok, Option, Some, false, nat_eq, ℕ, ◌≡◌}
 use Rattle.vt_spec.specs.Language.Calls.{Access, Call, Creation, TaskName}
-use Rattle.vt_spec.specs.Language.Calls.Call.{LinkTo, MakeWhiteout, Mkdir, OpenFile, Rename, Rmdir, SymlinkAt, Unlink, Write}
-use Rattle.vt_spec.specs.Lists.{Fresh, holds_of}
-use Rattle.vt_spec.specs.Machine.Detach.{mounts_on}
+use Rattle.vt_spec.specs.Language.Calls.Call.{LinkTo, MakeWhiteout, Mkdir, OpenFile, SymlinkAt, Unlink, Write}
+use Rattle.vt_spec.specs.Lists.{Fresh}
 use Rattle.vt_spec.specs.Machine.Judge.{judge_in}
-use Rattle.vt_spec.specs.Machine.Mounts.{Location, Mount}
-use Rattle.vt_spec.specs.Machine.Permits.Permit.{ToMake, ToOpenNew, ToRemoveDirectory, ToRename}
+use Rattle.vt_spec.specs.Machine.Mounts.{Location}
+use Rattle.vt_spec.specs.Machine.Permits.Permit.{ToMake, ToOpenNew}
 use Rattle.vt_spec.specs.Machine.Run.{Serves}
-use Rattle.vt_spec.specs.Machine.Sealed.{is_own_namespace}
 use Rattle.vt_spec.specs.Machine.World.{Task, World, filesystem_at, is_overlay, task_called}
 use Rattle.vt_spec.specs.Tree.{Node}
 use Rattle.vt_laws_members.specs.Changes.Changes.{EndsAlike, IsCallOfTheirs, PlainChangeEndsAlike}
