@@ -2,7 +2,7 @@
 ghost use Rattle.std.specs.Prelude.{◌≡◌, IfErr};
 ghost use Rattle.vt_run.specs.Status.{IsOfWords};
 
-use crate::explaining::Options;
+use crate::explaining::LineAsked;
 use crate::line::command_line;
 use clap::error::ErrorKind;
 use clap::{ArgMatches, Error};
@@ -11,7 +11,6 @@ use std::rt::Env;
 use std::{env, io};
 use vt_check::check;
 use vt_check::draft::Draft;
-use vt_explain::Format;
 use vt_run::fault::{Fault, out_of_memory};
 use vt_script::{RunFault, Version};
 use vt_show::show;
@@ -130,7 +129,7 @@ pub enum Asked<'a, 'm> {
     },
     Explain {
         file: &'a str,
-        options: Options,
+        line: LineAsked,
     },
     New {
         name: Option<&'a str>,
@@ -240,12 +239,12 @@ fn explain_asked<'a, 'm>(alloc: Global, given: &'m ArgMatches<'a>) -> Result<Ask
     let line = number_of(alloc, word, NO_NUMBER)?;
     Ok(Asked::Explain {
         file: file_of(given),
-        options: Options {
+        line: LineAsked {
             version: version_asked(given),
             line,
             format: match given.get_str("format") {
-                Some("json") => Format::Json,
-                _ => Format::Text,
+                Some("json") => check::Format::Json,
+                _ => check::Format::Text,
             },
         },
     })

@@ -12,6 +12,9 @@ mod showing;
 mod tools;
 
 pub use command::words;
+pub use explaining::{Explainer, LineAsked};
 pub use order::obey;
+pub use showing::{count_refused, refuse_text, script_at, scripts_in};
+pub use tools::{hand_on_text, readable};
 pub use vt_run::fault::{Fault, status};
 pub use vt_run::running::Pace;

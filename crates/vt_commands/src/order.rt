@@ -3,7 +3,8 @@ ghost use Rattle.std.specs.Prelude.{◌≡◌, IfErr, true};
 ghost use Rattle.vt_run.specs.Status.{comes_before_output};
 
 use crate::command::{Asked, asked_by, matches_of};
-use crate::{cookbook, explaining, rules, showing, tools};
+use crate::explaining::Explainer;
+use crate::{cookbook, rules, showing, tools};
 use clap::ArgMatches;
 use std::io::Write;
 use std::rt::Files;
@@ -12,7 +13,7 @@ use vt_run::fault::Fault;
 use vt_run::running::{Pace, run_named};
 
 // Does what the words of a command ask for.
-fn obey_matches<R: Files + Input + Eprint + AllocGlobal, W: Write>(
+fn obey_matches<E: Explainer, R: Files + Input + Eprint + AllocGlobal, W: Write>(
     rt: &R,
     matches: &ArgMatches<'_>,
     pace: Pace,
@@ -35,7 +36,7 @@ fn obey_matches<R: Files + Input + Eprint + AllocGlobal, W: Write>(
             line,
             options,
         } => showing::show(rt, version, file, line, options, output),
-        Asked::Explain { file, options } => explaining::explain(rt, file, options, output),
+        Asked::Explain { file, line } => E::explain(rt, file, line, output),
         Asked::New { name } => cookbook::write(rt, name, output),
         Asked::Rules { word, page } => rules::tell(rt.alloc(), word, page, output),
     }
@@ -47,7 +48,7 @@ fn obey_matches<R: Files + Input + Eprint + AllocGlobal, W: Write>(
 ///
 /// The words are read first, and then files are opened. What was answered is handed on to the output, also
 /// before a fault. What a file holds no clause can say: that FILE is what is read, tests show.
-pub fn obey<R: Files + Input + Eprint + AllocGlobal, W: Write>(
+pub fn obey<E: Explainer, R: Files + Input + Eprint + AllocGlobal, W: Write>(
     rt: &R,
     words: &[String],
     pace: Pace,
@@ -56,7 +57,7 @@ pub fn obey<R: Files + Input + Eprint + AllocGlobal, W: Write>(
     ensures { IfErr result (λ fault. comes_before_output fault ≡ true → output.new ≡ output.old) }
 {
     let matches = matches_of(rt.alloc(), words)?;
-    let outcome = obey_matches(rt, &matches, pace, output);
+    let outcome = obey_matches::<E, _, _>(rt, &matches, pace, output);
     drop(matches);
     outcome
 }

@@ -1,7 +1,8 @@
 //! Where the layers of an overlay that is to be mounted lead.
 use crate::asked::{Last, PathAsked};
-use crate::report::{Format, Heads, Section};
+use crate::report::{Heads, Section};
 use crate::walked::{View, Walked, push_walk};
+use vt_check::check::Format;
 use vt_check::draft::Draft;
 use vt_layers::LayerOptions;
 use vt_location::Location;

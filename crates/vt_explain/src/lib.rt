@@ -20,4 +20,4 @@ mod walked;
 
 pub use explaining::{Numbered, explain};
 pub use lines::{is_spoken, line_at, nearest_call};
-pub use report::Format;
+pub use vt_check::check::Format;

@@ -1,16 +1,10 @@
 //! What is told, as tables: each a text or objects of JSON.
 use serde_json::Value;
 use std::alloc::Global;
+use vt_check::check::Format;
 use vt_check::draft::Draft;
 use vt_check::object::Object;
 use vt_show::columns::{Table, Word};
-
-/// The form in which a line is explained.
-#[derive(Clone, Copy, PartialEq, Eq)]
-pub enum Format {
-    Text,
-    Json,
-}
 
 /// A table: how it is named in either form, and its columns.
 pub struct Heads {

@@ -1,8 +1,9 @@
 //! Where a path leads, word by word.
 use crate::asked::{Last, PathAsked};
-use crate::report::{Format, Heads, Section};
+use crate::report::{Heads, Section};
 use crate::rights::push_rights;
 use std::alloc::{AllocError, Global};
+use vt_check::check::Format;
 use vt_check::draft::Draft;
 use vt_cred::Kind;
 use vt_location::Location;

@@ -2,10 +2,25 @@
 use std::alloc::{AllocError, Global};
 use std::env::FillError;
 use std::fs::File;
-use std::rt::Env;
+use std::io::Write;
+use std::rt::{Env, Files};
 use std::test::Fail;
 use std::{env, fs};
-use vt_commands::{Fault, Pace, obey, status, words};
+use vt_commands::{Explainer, Fault, LineAsked, Pace, obey, status, words};
+
+// No line is explained here.
+struct NoExplainer;
+
+impl Explainer for NoExplainer {
+    fn explain<R: Files + Input + Eprint + AllocGlobal, W: Write>(
+        _rt: &R,
+        _name: &str,
+        _asked: LineAsked,
+        _output: &mut W,
+    ) -> Result<(), Fault> {
+        Err(Fault::Found)
+    }
+}
 
 fn owned(alloc: Global, words: &[&str]) -> Result<Vec<String>, AllocError> {
     let mut all = Vec::new(alloc);
@@ -71,7 +86,7 @@ fn faults_name_what_failed_and_what_to_do(rt: HostRuntime) -> Result<(), Fail> {
     for (words, wanted, text) in FAULTS {
         let mut output = Vec::new(rt.alloc());
         let words = owned(rt.alloc(), words)?;
-        let outcome = obey(&rt, words.as_slice(), Pace::Blocks, &mut output);
+        let outcome = obey::<NoExplainer, _, _>(&rt, words.as_slice(), Pace::Blocks, &mut output);
         assert_eq!(rt; status(&outcome), wanted);
         assert!(rt; output.is_empty());
         let said = outcome.expect_err(&rt, "no fault").to_string(rt.alloc())?;
@@ -198,7 +213,7 @@ fn ended(rt: &HostRuntime, words: &[&str], file: &str) -> Result<(u8, Vec<u8>), 
     let mut output = Vec::new(rt.alloc());
     let mut words = owned(rt.alloc(), words)?;
     words.push(file.to_string(rt.alloc())?)?;
-    let outcome = obey(rt, words.as_slice(), Pace::Lines, &mut output);
+    let outcome = obey::<NoExplainer, _, _>(rt, words.as_slice(), Pace::Lines, &mut output);
     Ok((status(&outcome), output))
 }
 
@@ -230,7 +245,7 @@ fn answers_that_cannot_be_written_are_a_fault(rt: HostRuntime) -> Result<(), Fai
     let file = format!(in alloc; "{}/vtree-test-of-writes.vt", folder.as_str())?;
     fs::write(&rt, file.as_str(), "t ls /\n")?;
     let mut full = File::create(&rt, "/dev/full")?;
-    let outcome = obey(
+    let outcome = obey::<NoExplainer, _, _>(
         &rt,
         owned(alloc, &["vtree", "run", file.as_str()])?.as_slice(),
         Pace::Blocks,

@@ -2,6 +2,9 @@
 //! is wrong with its lines, and `vtree test` compares its answers with those that it wants.
 #![tactic(auto)]
 
+mod explaining;
+
+use crate::explaining::LineExplainer;
 use std::io::{self, IsTerminal};
 use std::process::ExitCode;
 use vt_commands::{Fault, Pace, obey, status, words};
@@ -13,7 +16,9 @@ fn main(rt: HostRuntime) -> ExitCode {
         Pace::Blocks
     };
     let outcome = match words(&rt) {
-        Ok(words) => obey(&rt, words.as_slice(), pace, &mut io::writer(&rt)),
+        Ok(words) => {
+            obey::<LineExplainer, _, _>(&rt, words.as_slice(), pace, &mut io::writer(&rt))
+        },
         Err(fault) => Err(fault),
     };
     // A fault of the error output changes nothing more.
