@@ -1,3 +1,4 @@
+pub mod PathLemmas
 pub mod Renamed
 pub mod Entries
 pub mod Standing

@@ -1,5 +1,4 @@
 pub mod InodeLemmas
-pub mod PathLemmas
 pub mod MoveLemmas
 pub mod SlotLemmas
 pub mod NameCounts

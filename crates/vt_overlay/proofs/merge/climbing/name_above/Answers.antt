@@ -1,5 +1,5 @@
 use Rattle.vt_fs.specs.Trees.TreeValue.{tree_of}
-use Rattle.vt_fs.proofs.tree.PathLemmas.{one_name_in}
+use Rattle.vt_fs.proofs.PathLemmas.{one_name_in}
 use Rattle.vt_overlay.proofs.merge.climbing.name_above.Goals as goal
 
 pub name_of-requires : goal.name_of-requires

@@ -1,6 +1,6 @@
 use Rattle.std.proofs.Common.{rules, ◌≡◌, sym, ap, ◌∙◌, false, nat_eq, None, option_map}
 use Rattle.vt_fs.specs.Trees.TreeValue.{tree_of}
-use Rattle.vt_fs.proofs.tree.PathLemmas.{nothing_in, one_name_in, parent_in_which}
+use Rattle.vt_fs.proofs.PathLemmas.{nothing_in, one_name_in, parent_in_which}
 use Rattle.vt_fs.proofs.tree.trees.Tree.name_above.Goals as goal
 
 pub name_of-requires : goal.name_of-requires

@@ -3,7 +3,7 @@ use Rattle.vt_spec.specs.FileTree.{named_parent}
 use Rattle.vt_spec.specs.Lists.{chain}
 use Rattle.vt_fs.specs.Trees.Paths.{path_in}
 use Rattle.vt_fs.specs.Trees.TreeValue.{inodes_of, tree_of}
-use Rattle.vt_fs.proofs.tree.PathLemmas.{path_from}
+use Rattle.vt_fs.proofs.PathLemmas.{path_from}
 use Rattle.vt_fs.proofs.tree.trees.Tree.path_down.Given as goal
 
 -- the names so far are the last of the path, and the way that is left leads to the others
