@@ -1,11 +1,20 @@
 //! Sealed containers: what calls of their tasks leave to others, and the answers to whole scripts and turns.
 //!
-//! | module | laws of |
-//! |---|---|
-//! | `footholds`, `attached_apart`, `types_apart`, `unshared_apart` | footholds of others after a call of a task of the set |
-//! | `scripts`, `sealed_scripts` | whole scripts, answered as if the set were alone |
-//! | `sealed_turns`, `members_turns` | turns of others and of tasks of the set |
-//! | `same_sets` | sets in worlds that are the same but for change numbers and the order of numbers |
+//! Words are those of `vt_laws_sealed`, `vt_laws_turns` and `vt_laws_members`. Laws of footholds have the premises of
+//! `vt_laws_members` (`IsCallOfTheirs`), and the numbers handed in are unused.
+//!
+//! A call *gives others no foothold* (`GivesNoFoothold`) if the first three conditions of `sealed` hold of the set that
+//! it leaves: `holds_all_tasks`, `shares_no_events`, `no_outsider_on_mounts`. On a filesystem that this set uses,
+//! others must have a foothold just if the set used it before and they had one. The set need not be sealed off: an
+//! overlay that locked the filesystem may be gone.
+//!
+//! Laws of turns are of states of a scheduler whose world has all invariants. The *part of a state* is the part of its
+//! world, the set's calls under way, and all queues (`part_of_sched`). `HasItSealed` says that the set is sealed off
+//! and that each of its names is the name of a task.
+//!
+//! A *turn of others* (`IsOutsidersTurn`) is of a task outside the set or of `!`. A call first in its queue enters no
+//! namespace of theirs and, if it is a fork, names at most 32 supplementary groups. Numbers handed in, if any, are
+//! unused.
 //!
 //! Each public function is a theorem of the written policy, and does nothing.
 #![tactic(auto)]

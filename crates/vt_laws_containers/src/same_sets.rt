@@ -1,7 +1,5 @@
-//! Sealed sets in worlds that are the same but for change numbers and the order of numbers beside trees (`SameWorlds`).
-//!
-//! The contracts of a program speak of worlds that are the same as the policy's: what is proved of a sealed set in the
-//! policy's world holds in the program's.
+//! Worlds are *the same* (`SameWorlds`) if they differ at most in change numbers and in the order of the numbers beside
+//! trees.
 
 pub mod members;
 pub mod outsiders;

@@ -1,20 +1,20 @@
-//! The answers to the calls of a sealed set, over scripts.
+//! The calls of a set, from some line of a script on. The world has all invariants then, the set is sealed off, and
+//! each of its names is the name of a task. The world has no number that is handed to this or a later line
+//! (`IsSealedOffAt`). Each line is handed its row of `numbers_for`; no allocation fails.
+//!
+//! The set changes with each of its calls (`grown`). If its calls are made alone, it is sealed off after each. With the
+//! calls of others, no `setns` of the set enters a namespace of others, and none of others one of theirs
+//! (`StaysSealed`).
 ghost use Rattle.vt_laws_containers.specs.Calls.{RunsEndAlike, SetsThatKeepOthersOutAreAnsweredAsAlone};
 ghost use Rattle.vt_laws_containers.specs.Scripts.{SealedSetsStandSo, SetsAreAnsweredAsAlone};
 
-/// A set of tasks is sealed off before some line of a script, and the world has all invariants. Then **the later calls
-/// of its tasks have the answers that they have if they are made alone, without the calls of others** (`alone`), for
-/// each script whose members' calls end alike. So `EachEndsAlike` asks of each call of theirs, in both runs: it ends in
-/// the part of the set as in the world (`EndsAlike`), and gives others no foothold (`GivesNoFoothold`).
+/// The calls of the set have the answers that they have without the calls of others, if in both runs each ends alike
+/// and gives others no foothold (`alone`, `EachEndsAlike`). It is enough that none gives others a foothold in either
+/// run (`kept_out`).
 ///
-/// The set has the children of its tasks, and loses those that exit. If its calls are made alone, the set is sealed off
-/// after each of them. Each name of it is the name of a task. No `setns` of one of theirs enters a namespace of others,
-/// and none of others one of theirs. Both runs hand each line the same numbers, its row of `numbers_for`, and the world
-/// has none of them before. So it stands after the lines of any script, from the opening world on (`after_lines`).
-///
-/// Every call of theirs ends alike, so it is enough that none of them gives others a foothold (`kept_out`). Calls that
-/// do both in every world do so along each run (`runs`). All calls do: of every set see
-/// `sealed_sets_are_answered_as_if_alone` of `sealed_scripts`.
+/// If calls of theirs do both in every world by one supply, a fork if it names at most 32 supplementary groups
+/// (`AlwaysEndsAlike`), they do along the run (`runs`). After any lines of a script, `IsSealedOffAt` holds of a set
+/// that is sealed off, if each of its names is the name of a task (`after_lines`).
 pub fn sealed_sets_are_answered_as_alone()
     ensures alone { SetsAreAnsweredAsAlone }
     ensures runs { RunsEndAlike }

@@ -1,4 +1,4 @@
-//! Sealed sets are answered as if nobody else were there, whatever their tasks call.
+//! Sealed sets are answered as if nobody else were there.
 
 pub mod footholds;
 pub mod scripts;

@@ -1,4 +1,4 @@
-//! What calls of a task of a sealed set answer and change, in the world and in the part of the set.
+//! Calls of members by what they change.
 
 pub mod files;
 pub mod letting_go;

@@ -1,4 +1,4 @@
-//! Calls of a task of a sealed set that detach mounts of theirs, in the world and in the part of the set.
+//! Calls of members that detach mounts.
 
 pub mod lazily;
 pub mod removals;

@@ -1,5 +1,4 @@
-//! What calls of a task of a sealed set that make, give and take names through overlays answer and change, in the
-//! world and in the part of the set.
+//! Calls of members on files and names through overlays.
 
 pub mod each_call;
 pub mod names;

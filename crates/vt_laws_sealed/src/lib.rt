@@ -1,15 +1,20 @@
-//! The part of the world of a sealed set of tasks (`part`), and calls of others beside it (`outsiders`).
+//! The part of the world of a sealed set of tasks, and calls of others beside it.
 //!
-//! Wrong definitions were tried by hand, on scripts in which a task leaves for a root of its own (`unshare`,
-//! `pivot_root`, `lazy`). A law here, or `sealed_is_decided_by_part_and_footholds`, is false with each of these:
+//! *Others* are the tasks outside the set. A mount is *theirs* if it is in a namespace of a task of the set. So is a
+//! lower layer of an overlay on which such a mount or a location of the set is. Others have a *foothold* on a
+//! filesystem if they have a mount of another namespace or a location on it, or on an overlay with a layer in it.
+//! Numbers handed in are *unused* if the world uses none of them and no two are equal (`Serves`).
+//!
+//! Wrong definitions were tried by hand, on scripts with `unshare`, `pivot_root` and `lazy`. These made a law here
+//! false:
 //!
 //! - a `sealed` that always holds;
-//! - a part without the mounts of no namespace under members' directories;
+//! - a part without detached mounts under members' directories;
 //! - a `wholly_locked` that forgets inodes without a name;
 //! - mounts that share events by masters alone.
 //!
-//! None was seen false with a foothold that forgets lower layers of overlays of others, which are locked for members.
-//! Nor was one with an `is_locked` that forgets upper inodes without a name.
+//! With two others no law was seen false: a foothold that forgets lower layers of overlays of others, and an
+//! `is_locked` that forgets upper inodes without a name.
 //!
 //! Each public function is a theorem of the written policy, and does nothing.
 #![tactic(auto)]

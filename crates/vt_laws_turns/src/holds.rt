@@ -1,17 +1,17 @@
 //! The filesystems that a half-done walk holds are seen by its task.
 ghost use Rattle.vt_laws_turns.specs.Holds.Held.{SchedulersBeginSo, SchedulesHoldWhatIsSeen, SchedulesOfScriptsHoldWhatIsSeen, TurnsHoldWhatIsSeen, WordsMeetWhatIsSeen};
 
-/// A filesystem is seen by a task if a mount of its namespace shows it, or the mount under its root or working
-/// directory (`is_seen_by`). In a world with all invariants, the first words of a path meet filesystems that are seen
-/// by the task that walks them (`words`).
+/// A task *sees* the filesystems of the mounts of its namespace, and of those under its root and working directory
+/// (`is_seen_by`). In a world with all invariants, the first words of a path meet only these (`words`).
 ///
-/// So **a call under way holds filesystems that its task sees**, while the change numbers that it holds of the task and
-/// of the namespace are current and not the largest one (`FilesystemsHeldAreSeen`). The task of each call under way
-/// exists, and neither number is more than the current one, unless that is the largest (`HoldsWhatIsSeen`). So it is
-/// where a scheduler begins, with no call under way (`begins`). Each turn keeps it and the invariants of the world
-/// (`turns`), and so does any number of turns (`schedules`). The numbers handed in for a turn are unused, and a fork that
-/// is then first in the queue names at most 32 supplementary groups (`IsFitTurn`). So it is in each schedule of each
-/// script, in whichever turns allocations fail (`scripts`).
+/// Calls under way *hold what their tasks see* (`HoldsWhatIsSeen`) if this is so of each. Its task exists. The change
+/// numbers that it holds of its task and namespace are no more than the current ones, unless those are the largest.
+/// While both are unraised, its task sees each filesystem that it holds.
+///
+/// This holds without calls under way (`begins`), and after each schedule of each script, in whichever turns
+/// allocations fail (`scripts`). Each turn (`turns`) and schedule (`schedules`) keeps it together with all invariants
+/// of the world. Numbers handed in for these are unused, and a fork first in its queue names at most 32 supplementary
+/// groups (`IsFitTurn`).
 pub fn filesystems_held_are_seen()
     ensures words { WordsMeetWhatIsSeen }
     ensures begins { SchedulersBeginSo }

@@ -1,13 +1,13 @@
-//! Calls cut into turns are whole calls, in the order of their last turns.
+//! Calls cut into turns are whole calls.
 ghost use Rattle.vt_laws_turns.specs.Commits.{CommitsAreFronts, FailedAllocationsAnswerS5, RepliesAreOfCommits, TextsAreOfCommits, UnansweredTurnsChangeNothing};
 
-/// For every schedule, from any state of a scheduler, the replies are those of the calls that finish, run whole by the
-/// policy in the order of their last turns from its world, and the world is theirs (`replies`); so it is with the text
-/// that a script's queues give (`texts`). Each call that finishes is there once: what finished of a task, in order, and
-/// then what is left of its queue, is its queue (`fronts`).
+/// The items of queues are calls, directives and refused lines. For each schedule, from any state of a scheduler,
+/// replies and world are those of the answered items, run whole in the order of their last turns (`replies`). So is the
+/// text of a script's queues, from the opening world, in whichever turns allocations fail (`texts`).
 ///
-/// A turn without a reply changes neither the world nor the queues (`unanswered`). Where an allocation fails, the turn
-/// is the last of its call, which answers S5 and has no effect (`allocation`).
+/// Each queue is what was answered of it, in order, and then what is left (`fronts`). A turn without a reply changes
+/// neither world nor queues (`unanswered`). If an allocation fails, the turn answers S5 to the task's call or the
+/// directive that is first in its queue, and leaves the world (`allocation`).
 pub fn turns_are_whole_calls()
     ensures replies { RepliesAreOfCommits }
     ensures fronts { CommitsAreFronts }

@@ -1,4 +1,4 @@
-//! Walks of calls under way, which go on word by word.
+//! Walks of calls under way.
 
 pub mod alike;
 pub mod by_words;

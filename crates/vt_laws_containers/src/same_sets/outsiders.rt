@@ -1,12 +1,12 @@
-//! Calls of tasks outside a sealed set, where a program keeps worlds that are the same as the policy's.
+//! Calls of tasks outside a sealed set in worlds that are the same.
 ghost use Rattle.vt_laws_containers.specs.SameSets.Outsiders.{OutsidersLeadToSealedWorlds, OutsidersLeaveSameWorldsSealed};
 
-/// A call of a task outside a sealed set (`IsOutsidersCall`) leaves a world. In every world that is the same as that
-/// one (`SameWorlds`) the set is sealed off. Its part is the same as in each world that is the same as the one before,
-/// and others have no foothold where they had none there (`call`).
+/// A task outside a sealed set makes a call (`IsOutsidersCall`). In each world that is the same as the one that it
+/// leaves, the set is sealed off. The part there is the same as in each world that is the same as the one before, and
+/// others get no foothold on a filesystem that existed (`call`).
 ///
-/// So the set stays sealed off, with the same part, through any number of such calls (`in_turn`). After each the run
-/// goes on from any world that is the same as the policy's.
+/// After any number of such calls the set is sealed off, with the same part (`in_turn`). Each call is made in any world
+/// that is the same as the one left by the call before.
 pub fn outsiders_leave_same_worlds_sealed()
     ensures call { OutsidersLeaveSameWorldsSealed }
     ensures in_turn { OutsidersLeadToSealedWorlds }

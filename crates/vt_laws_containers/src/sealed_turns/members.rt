@@ -1,27 +1,18 @@
-//! Turns of the tasks of a set, in the world and in the part of the set.
+//! Turns of the tasks of a set.
 ghost use Rattle.vt_laws_containers.specs.SealedTurns.MembersTurns.{OutsidersOvertakeNoCallOfTheirs, TheirAnswersAreOfTheGrownPart, TheirAnswersAreOfTheirPart, TheirCallsAreOvertakenAlike, TheirExitsAreOfTheGrownPart, TheirForksAreOfTheGrownPart, TheirRefusalsAreOfTheirPart, TheirTurnsAnswerAlike, TheirWordsAreOfTheirPart};
 
-/// The world has all invariants, and calls under way hold what their tasks see (`HasCallsUnderWay`). Then a call under
-/// way of a task of a set is overtaken in the world just if it is in the part of the set (`overtaken`). A turn of such
-/// a task answers something in the world just if it does in the part (`answers`). The set need not be sealed off.
+/// Calls under way hold what their tasks see (`HasCallsUnderWay`), and the set need not be sealed off. A call under way
+/// of an existing task of the set is overtaken in the world just if it is in the part (`overtaken`). A turn of a task
+/// of the set has a reply just if it has one where the state is its part (`answers`). If it has none, it leaves the
+/// same part of the state as there (`words`).
 ///
-/// **A turn of theirs that answers nothing is a turn of their part alone** (`words`): it leaves of the part, of the
-/// queues and of their calls under way what it leaves where the world is the part. It walks the same word through the
-/// same filesystems, or restarts the call alike.
+/// A turn with numbers handed in answers a call that ends alike by the same numbers. It has the reply that it has where
+/// the state is its part, and leaves the same part of the state, for the set that the call leaves (`grown`), which may
+/// be the set itself (`answered`). Each `fork`, each `exit` and each refused call (`refused`) does this with the
+/// premises of `vt_laws_members` (`IsCallOfTheirs`) in place of ending alike.
 ///
-/// So is a turn that answers a call which ends alike in the part by the same numbers (`EndsAlike`), and after which the
-/// set has the tasks that it had (`answered`): its reply is that of the part, too (`IsOfTheirPart`). So is each that
-/// refuses a call, if the set is sealed off and the call enters no namespace but one of theirs (`refused`).
-///
-/// After a call that ends alike the set may have other tasks: with the child of a `fork`, without a task that ends. For
-/// **the set that the call leaves**, too, the turn leaves what it leaves where the world is the part (`grown`): the part
-/// of that set, the queues and its calls under way. The reply is that of the part (`TurnsAlikeFor`). If the set is
-/// sealed off, each `fork` and each `exit` of one of them ends alike, so this holds of all of them, granted or refused
-/// (`fork`, `exit`).
-///
-/// Where the set is sealed off (`HasItSealed`), turns of tasks outside, however many, leave each call of theirs under
-/// way, and none of these is overtaken that was not (`others`). Of each of these turns `IsOutsidersTurn` says what is
-/// asked.
+/// If `HasItSealed` holds, any number of turns of others leave each call under way of an existing task of the set,
+/// overtaken or not as it was (`others`).
 pub fn turns_of_theirs_are_of_their_part()
     ensures overtaken { TheirCallsAreOvertakenAlike }
     ensures answers { TheirTurnsAnswerAlike }

@@ -1,10 +1,12 @@
-//! What is wholly locked for a sealed set, and what others may change. Filesystems are trees, with the numbers of their
-//! inodes beside them.
+//! What is wholly locked for a set and what others may change.
 ghost use Rattle.vt_laws_sealed.specs.Part.Locked.{OthersChangesLeaveThePart, OthersChangeWhatIsNotUsed, WhollyLockedIsLocked};
 
-/// Each inode of a filesystem that is wholly locked for a set is `locked` (L1). Where others have a mount or a location
-/// on a filesystem, an existing location there that is not locked is in no filesystem that a sealed set uses
-/// (`unused`). So a change there leaves the `part`, if the filesystem is plain and holds no lower layer of theirs.
+/// Filesystems are trees with the numbers of their inodes beside them (`IsListedTree`). Each inode of a filesystem that
+/// is wholly locked for a set is `locked` (L1).
+///
+/// A set is sealed off, and others have a mount or a location on a filesystem. An inode at a location there is not
+/// locked (`IsOthersToChange`). The set does not use that filesystem (`unused`). If it is plain and holds no lower
+/// layer of theirs, a change at the location leaves the `part`.
 pub fn others_change_no_file_of_a_sealed_set()
     ensures locked { WhollyLockedIsLocked }
     ensures unused { OthersChangeWhatIsNotUsed }

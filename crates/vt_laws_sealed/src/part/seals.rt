@@ -1,14 +1,17 @@
-//! By what a set of tasks is sealed off. Worlds have all invariants.
+//! By what a set of tasks is sealed off.
 ghost use Rattle.vt_laws_sealed.specs.Part.Seals.{FewerFootholdsSealToo, SealedIsByPartAndFootholds, TheirOverlaysAreInThePart};
 
-/// **The part of a set and the footholds of others decide whether it is sealed** (`by_part`), if the first three
-/// conditions of `sealed` hold: `holds_all_tasks`, `shares_no_events`, `no_outsider_on_mounts`. On each filesystem that
-/// the set uses in the part others have no foothold, or it is locked whole: by an overlay of the part on which they
-/// have none, with a name for each inode but the root.
+/// The world has all invariants. For `by_part` and `fewer` the first three conditions of `sealed` hold (`IsApart`):
+/// `holds_all_tasks`, `shares_no_events`, `no_outsider_on_mounts`.
 ///
-/// One of the `overlays` on which others have no foothold is in the part. Of two worlds with one part, let others have
-/// no foothold in the first where they have none in the second. Then the set is sealed in the first, with those
-/// conditions, if it is in the second (`fewer`).
+/// The set is sealed off just if each filesystem that it uses in the part has no foothold of others or is locked whole
+/// (`by_part`). It is locked whole if its root is a lower layer of an overlay of the part without such a foothold, and
+/// each other inode has a name.
+///
+/// Each overlay on which others have no foothold is in the part (`overlays`).
+///
+/// The set is sealed off if it is in a second world with all invariants and the same part (`fewer`). Others have a
+/// foothold there on each filesystem of the set on which they have one here.
 pub fn sealed_is_decided_by_part_and_footholds()
     ensures by_part { SealedIsByPartAndFootholds }
     ensures overlays { TheirOverlaysAreInThePart }

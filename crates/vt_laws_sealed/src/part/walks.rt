@@ -1,9 +1,13 @@
 //! Walks from mounts on which two worlds show the same.
 ghost use Rattle.vt_laws_sealed.specs.Part.Walks.{StepsAgree, TextsAgree, WordsAgree};
 
-/// Two worlds show the same on some mounts, from which no step leads to other mounts. Then walks from these mounts are
-/// alike, by `words` and by `texts` of symlinks of any depth: they end on these mounts, or are refused alike. One of
-/// the `steps` leads alike if the filesystems that it meets show the same.
+/// Two worlds show the same on some mounts, which no step leaves, and the task's root is on one (`ShowAlike`). Walks
+/// from these mounts by `words`, and by `texts` of symlinks of any depth, end alike: on these mounts, or with the same
+/// refusal.
+///
+/// For `steps`, inodes are the same in some filesystems alone, and the root may be elsewhere (`ShowAlikeWhereSeen`). A
+/// step that meets only these filesystems leads alike, to one of the mounts and of the filesystems, or is refused
+/// alike.
 pub fn walks_on_alike_mounts_agree()
     ensures words { WordsAgree }
     ensures texts { TextsAgree }
