@@ -4,8 +4,8 @@
 ghost use Rattle.vt_laws_later_calls.specs.Ends.{OnlyTheseEndInodes, OtherCallsLeaveAll, TypesLeaveAllButMasters};
 ghost use Rattle.vt_laws_later_calls.specs.Whiteouts.{AllTypesLeaveAllButMasters, OnlyTheseEndOtherInodes, OnlyWhiteoutsAreTaken, OtherCallsKeepAll, OtherCallsLetWhiteoutsGo, PlainChangesKeepAll, ReplacedAreWhiteouts};
 
-/// The sweep after another call but `type`, by a task of the world, is to look at one inode at most: what the upper
-/// layer of an overlay had at the name that the call gives there (`all`, `replaced_by`). It is freed if nothing uses
+/// The sweep after another call but `type`, by an existing task, is to look at one inode at most (`all`). That is what
+/// the upper layer of an overlay had at the name that the call gives there (`replaced_by`). It is freed if nothing uses
 /// it.
 ///
 /// - `whiteouts`: it is a whiteout.
@@ -33,7 +33,7 @@ pub fn only_these_calls_end_inodes()
     ensures { OnlyTheseEndInodes }
 {}
 
-/// In a plain world the sweep takes nothing after another call but `mount overlay` and `type`, by a task of the world
+/// In a plain world the sweep takes nothing after another call but `mount overlay` and `type`, by an existing task
 /// (`all`). After `type` it takes masters of groups at most (`types`).
 pub fn other_calls_let_nothing_go()
     ensures all { OtherCallsLeaveAll }

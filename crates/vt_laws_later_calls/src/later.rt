@@ -11,8 +11,8 @@ ghost use Rattle.vt_laws_later_calls.specs.Later.{CreateThenPread, ExclusiveThen
 /// - `opened`, `opened_or_created`: `open` of an existing file, without `creat` or with it, gives the least free number
 ///   and the access asked for, on the file that the walk led to. `pread` by a descriptor that reads gives that file's
 ///   bytes.
-/// - `created`, `created_alone`: so does `open` with `creat` of a missing name, and with `creat` and `excl`, on a new
-///   empty regular file. That has the mode asked for, less the umask, and the first number handed in.
+/// - `created`, `created_alone`: `open` with `creat` of a missing name, and with `creat` and `excl`, gives the same on
+///   a new empty regular file. That has the mode asked for, less the umask, and the first number handed in.
 pub fn later_calls_see_earlier_ones()
     ensures written_through { PwriteThenPread }
     ensures opened { OpenThenPread }
@@ -40,10 +40,9 @@ pub fn later_calls_see_earlier_ones()
 /// For `moved` and `moved_listed` neither the root nor the working directory of the task that renames, nor a mount
 /// point of its namespace, lies in the directory.
 ///
-/// After any `rename`, but of two names of one object, the new name may be free or not, and any path of any task may
-/// lead to it in its directory. There `lstat` tells what it told of the old path, where a slash at the end needs a
-/// directory; at the old name W6 refuses it (`found`). Of a directory `ls` lists what it listed, unless C1 refuses
-/// (`listed`).
+/// After any `rename`, but of two names of one object, a path of any task may lead to the new name, free before or not,
+/// in its directory. There `lstat` tells what it told of the old path; a slash at the end needs a directory. At the old
+/// name W6 refuses `lstat` (`found`). Of a directory `ls` lists what it listed, unless C1 refuses (`listed`).
 pub fn later_calls_see_it_at_the_path()
     ensures written { WriteThenRead }
     ensures made { MkdirThenList }

@@ -11,8 +11,8 @@ pub fn permits_are_for_their_calls()
 {}
 
 /// Each call that `judge` permits is `granted` in one of 44 ways (`IsGranted`): where its walks end, that no rule of
-/// its tables fails, and its permit. A call granted in such a way gets that permit from `judge` (`judged`). Both hold
-/// for any given answers to M9.
+/// its tables fails, and its permit. A call granted so gets that permit from `judge` (`judged`). Both hold for any
+/// given answers to M9.
 pub fn calls_are_granted_in_these_ways()
     ensures granted { CallsAreGranted }
     ensures judged { GrantsAreJudged }

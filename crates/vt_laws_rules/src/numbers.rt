@@ -29,13 +29,13 @@ pub fn calls_make_no_other_number()
 {}
 
 /// A script, with given lines in which allocations fail, has one text, whatever unused numbers each line is handed
-/// (`one`). Each line leaves infinitely many numbers over; those that the world no longer keeps to may come again.
+/// (`one`). Each line leaves infinitely many over; those that the world no longer keeps to may come again.
 ///
-/// - `supplies`: in worlds that differ in their numbers alone, a call is answered alike by any two such supplies. It
+/// - `supplies`: in worlds that differ in their numbers alone, a call is answered alike by any two such supplies, and
 ///   leaves such worlds.
 /// - `hand`: after a line the world keeps to the numbers in hand, those kept before it and those handed in.
 /// - `serves`: none of the numbers of such a supply is in use, and no two are equal.
-/// - `allowed`: each such text is one that the definition of the machine allows.
+/// - `allowed`: the definition of the machine allows each such text.
 pub fn answers_are_one_text()
     ensures one { AnyTwoTextsAreOne }
     ensures supplies { SuppliesDoNotMatter }
@@ -44,8 +44,8 @@ pub fn answers_are_one_text()
     ensures allowed { TextsAreTold }
 {}
 
-/// `text_of`, which hands each line a row of numbers of its own, computes a text of each script (`some`), if it is
-/// given for each line whether an allocation fails. Each text of the script is that one (`one`).
+/// `text_of`, which hands each line its own row of numbers, computes a text of each script (`some`), given for each
+/// line whether an allocation fails. Each text of the script is that one (`one`).
 pub fn whole_machine_has_one_text()
     ensures some { SomeTextIsThere }
     ensures one { WholeMachineHasOneText }

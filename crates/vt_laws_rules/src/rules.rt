@@ -26,7 +26,7 @@ pub fn the_least_rule_answers()
 {}
 
 /// The policy orders rules by letter (S, K, W, E, F, L, P, C, O, B, M), then by number. In order are the tables checked
-/// before the walks (`first`, no W rule) and after them (`last`, beyond W9), and those of `texts`, `steps` and
+/// before the walks (`first`, up to W1) and after them (`last`, beyond W9), and those of `texts`, `steps` and
 /// `parents`. So are the special last words of `rmdir` and of an exclusive `open` (`last_words`, beyond W9).
 ///
 /// Exceptions:
