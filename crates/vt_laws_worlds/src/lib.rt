@@ -5,10 +5,9 @@
 //! last. A world is *plain* without overlays. It is *fit for overlays* if filesystems are trees, no upper layer is in
 //! an overlay, and only inodes that exist have real objects.
 //!
-//! Worlds are *the same* (`SameWorlds`) if they differ at most in change numbers and in the order of the numbers beside
-//! trees. A world *keeps to* some numbers if each renaming of others leaves it as it is (`KeepsTo`). Numbers are
-//! *unused* if none is in use and no two are equal (`Serves`). The count `c` is the number `4·c + 1`; inodes have even
-//! numbers.
+//! Worlds are *the same* (`SameWorlds`) but for change numbers and the order of the numbers beside trees. A world
+//! *keeps to* some numbers if each renaming of others leaves it as it is (`KeepsTo`). Numbers are *unused* if none is
+//! in use and no two are equal (`Serves`). The count `c` is the number `4·c + 1`; inodes have even numbers.
 //!
 //! *Each call*, granted or refused, is handed unused numbers, and a fork names at most 32 supplementary groups. A
 //! permit is *given* if such a call of an existing task is given it (`IsGivenToTask`; not for `mount overlay`

@@ -2,7 +2,7 @@
 ghost use Rattle.vt_laws_worlds.specs.Worlds.Kept.{SettlingLeavesAWorld};
 ghost use Rattle.vt_laws_worlds.specs.Worlds.Swept.{ExitsAreSweptOnce, LazyUnmountsAreSweptOnce};
 
-/// The sweep leaves of a plain world under way a plain one with all invariants.
+/// The sweep of a plain world under way leaves a plain one with all invariants.
 pub fn what_is_left_is_a_world()
     ensures { SettlingLeavesAWorld }
 {}

@@ -2,13 +2,13 @@
 ghost use Rattle.vt_laws_worlds.specs.Worlds.Calls.{AllPermitsFit, CallsKeepWorlds, ScriptsLeadToWorlds};
 
 /// What a call of an existing task, but `mount overlay`, is permitted by unused numbers fits (`IsFitPermit`). Locations
-/// at which it changes something, and mounts and namespaces that it names, exist and are of the right kind. No
+/// at which it changes something, and mounts and namespaces that it names, exist and are of the right kind; no
 /// namespace has too many mounts afterwards. Of what it only looks at this says nothing.
 pub fn what_is_permitted_is_there()
     ensures { AllPermitsFit }
 {}
 
-/// Each call but `mount overlay` leaves of a plain world a plain one with all invariants.
+/// After each call but `mount overlay` a plain world is plain and has all invariants.
 pub fn every_call_keeps_the_invariants()
     ensures { CallsKeepWorlds }
 {}

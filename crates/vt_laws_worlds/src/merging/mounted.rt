@@ -22,8 +22,8 @@ pub fn mounting_an_overlay_leaves_the_invariants()
 /// `layers` lead at every path to what those of the old one led to, but for numbers, or are the `same`, on unchanged
 /// trees. In the world that the policy leaves it shows the tree that the old one showed.
 ///
-/// The upper layers, or their lack, and the lower ones are the same, on unchanged trees. Two paths lead to one inode of
-/// it just where they did in the old one (`links`).
+/// Over the same upper layer (or none in both) and lower ones, on unchanged trees, two paths lead to one inode just if
+/// they did in the old one (`links`).
 pub fn an_overlay_mounted_anew_shows_the_same()
     ensures layers { MountedAnewShowsTheSame }
     ensures same { MountedOverTheSameLayers }

@@ -7,10 +7,10 @@ ghost use Rattle.vt_laws_worlds.specs.Merging.UpperCalls.{AskedChangesHavePlaces
 
 /// The copy of what a path leads to copies what is shown at each prefix where the upper layer has nothing, by the new
 /// number for the prefix's length. An object without a name is copied alone (`copies`). Each prefix then leads to what
-/// it led to, or to its copy, and every other path where it led (`lead`).
+/// it led to, or to its copy, and every other path where it led (`lead`). Inodes at prefixes have these for real
+/// objects, all others keep theirs (`real`; `held` without a name).
 ///
-/// Inodes at prefixes have these for real objects, all others keep theirs (`real`; `held` without a name). What lower
-/// layers show at a name of a directory, and whether it is a directory, stays (`below`).
+/// What lower layers show at a name of a directory, and whether it is a directory, stays (`below`).
 pub fn copies_are_of_prefixes()
     ensures copies { CopiesAreOfFronts }
     ensures lead { FrontsLeadToCopies }

@@ -3,7 +3,7 @@ ghost use Rattle.vt_laws_worlds.specs.OneText.Runs.{EveryProgramHasOneText, Ever
 
 /// Every script has one text in each grammar, with given lines in which allocations fail (`runs`). After each line the
 /// run goes on from any world that is the same as the policy's. It hands each line numbers in hand to which that world
-/// does not keep. Infinitely many are not in hand; four different ones of the opening world are. So has each run that
+/// does not keep; infinitely many are not in hand, four different ones of the opening world are. So has each run that
 /// hands out any numbers but `4·c + 3` (`programs`).
 pub fn every_run_has_one_text()
     ensures runs { EveryRunHasOneText }

@@ -1,5 +1,5 @@
-//! Every world that a script leads to. A clause `scripts` is of any line after which an overlay, the filesystem of that
-//! number, exists and any later one, if it is live after each line between.
+//! Every world that a script leads to. A clause `scripts` is of any line after which an overlay exists and any later
+//! one, if the overlay, named by its filesystem's number, is live after each line between.
 ghost use Rattle.vt_laws_worlds.specs.OverlayPermits.HiddenOverScripts.{EveryCallUncoversNothing, HiddenOverScripts};
 ghost use Rattle.vt_laws_worlds.specs.OverlayPermits.LockedOverScripts.{EveryCallLeavesLowers, LowersStayOverScripts};
 ghost use Rattle.vt_laws_worlds.specs.OverlayPermits.MountedOverScripts.{LinksOverScripts, MountedAnewOverScripts, SameLayersOverScripts};
@@ -15,7 +15,7 @@ pub fn every_script_leads_to_worlds()
     ensures { EveryScriptLeadsToWorlds }
 {}
 
-/// The sweep leaves of a world under way one with all invariants.
+/// The sweep of a world under way leaves one with all invariants.
 pub fn the_sweep_leaves_a_world()
     ensures { SettlingLeavesEveryWorld }
 {}

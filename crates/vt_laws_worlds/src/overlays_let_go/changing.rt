@@ -11,8 +11,8 @@ ghost use Rattle.vt_laws_worlds.specs.OverlaysLetGo.OverlayNames.{OnlyTheseLoseN
 ///
 /// - `names`: these have the name there that is given, removed or left, or are named in a directory there that is
 ///   removed or replaced.
-/// - `kept`: if no name that something had is given, removed or left, in the overlay or its upper layer, nothing goes.
-/// - `written`: nor does it by `pwrite`, of no bytes without any premise but invariants.
+/// - `kept`: nothing goes if no name that something had is given, removed or left, in the overlay or its upper layer.
+/// - `written`: nor by `pwrite`; of no bytes this needs all invariants alone.
 /// - `with_mounts`: if mounts are taken away too, and the overlay keeps one (`keeps_a_mount`), there come their losers
 ///   with layers.
 /// - `rmdir`, `rename`: so it is of a granted call of an existing task that removes or replaces an object, of the

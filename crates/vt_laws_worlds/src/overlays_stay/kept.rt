@@ -2,7 +2,7 @@
 ghost use Rattle.vt_laws_worlds.specs.OverlaysStay.Kept.{MountedOverlayStays, MountedOverlaysStay, NumbersRiseStill, PermitsLeaveOverlays, PlainWorldsHaveNoOverlays, SameWorldsHaveNoUpperAlike, SeenTreesStay, SweepsGiveNoUpper, SweepsKeepNames};
 
 /// Of a world without an upper layer a permit leaves, before the sweep, all overlays as they were, in their order
-/// (`unswept`). If all are named, the sweep leaves those that are `mounted`, as they were; so is each that is left
+/// (`unswept`). If all are named, the sweep leaves as they were those that are `mounted`, and so each that is left
 /// (`one`). Its tree and real objects are found along the paths of its layers as they were, however they are numbered
 /// (`seen`).
 pub fn overlays_without_an_upper_layer_stay()

@@ -1,7 +1,7 @@
 //! What a permit leaves where no overlay has an upper layer.
 ghost use Rattle.vt_laws_worlds.specs.OverlaysStay.Left.{GivenPermitsAreUnderWayWithoutUpper, GivenPermitsGiveNoUpper, GivenPermitsKeepNames, GivenPermitsLeaveLowers, SameGivesNoUpper};
 
-/// A permit leaves of a world without an upper layer such a world with all invariants (`worlds`), and so is each that
+/// Of a world without an upper layer a permit leaves such a world with all invariants (`worlds`), and so is each that
 /// is the `same`; before the sweep it is one `under_way`. If all are `named`, they are then and after the sweep.
 pub fn given_permits_give_no_upper_layer()
     ensures worlds { GivenPermitsGiveNoUpper }
