@@ -39,9 +39,9 @@ pub fn settling_keeps_trees()
     ensures locations { LocatedStays }
 {}
 
-/// In a world of file trees, a plain call leaves file trees and no overlay (`calls`). No inode has a handed-in number,
-/// and the root and the mount point of each mount are directories, as in every world with all invariants (`standing`).
-/// The `opening` world has such trees and mounts.
+/// In a world of file trees, a plain call leaves file trees and no overlay (`calls`). This asks that no inode has a
+/// handed-in number, and that the root and the mount point of each mount are directories. They are in every world with
+/// all invariants (`standing`). The `opening` world has such trees and mounts.
 pub fn calls_keep_trees()
     ensures opening { OpeningHasTrees }
     ensures standing { WorldsAreStanding }

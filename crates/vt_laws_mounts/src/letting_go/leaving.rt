@@ -95,9 +95,9 @@ pub fn what_loses_its_name_goes_with_overlays()
     ensures plain { UnnamedGoWithOverlays }
 {}
 
-/// Mounts are taken away (`removed`), or tasks leave locations (`left`), and filesystems change so: the losers are
-/// those of both. If no location, name or real object is lost, nothing goes (`opened`). A new inode without a name is a
-/// real object of an overlay that is left without unused mounts and filesystems.
+/// Mounts are taken away (`removed`), or tasks leave locations (`left`), and filesystems change as in the law before.
+/// The losers are those of both. If no location, name or real object is lost, nothing goes (`opened`). A new inode
+/// without a name is a real object of an overlay that is left without unused mounts and filesystems.
 pub fn what_one_call_leaves_goes_with_overlays()
     ensures removed { TakenAndChangedLetsGo }
     ensures left { LeftAndChangedLetsGo }
