@@ -4,7 +4,6 @@ use Rattle.std.specs.Prelude.{IfSome, IsSome, if◌then◌else◌, take_while}
 use Rattle.std.proofs.lemmas.Bool.{eqb-true}
 use Rattle.std.proofs.lemmas.List.Sums.{take_while-cons}
 use Rattle.std.proofs.lemmas.Option.{same_Some}
-use Rattle.vt_spec.proofs.Truths.{and_from_three}
 use Rattle.vt_spec.specs.Language.Changes.{node_with_attr, node_with_mark}
 use Rattle.vt_spec.specs.Language.Changes.Change.{SetAttr, SetBytes, SetMark}
 use Rattle.vt_spec.specs.declared.attributes.Attr.{Attr}
@@ -21,7 +20,7 @@ use Rattle.vt_location.specs.Locations.{number_of, plain_at, plain_of}
 use Rattle.vt_location.specs.Numbers.{counted, exchanged, inode_number, is_inode_of}
 use Rattle.vt_location.proofs.NumberLemmas.{counted_inode, exchanged_back, no_slot}
 use Rattle.vt_fs.specs.Trees.TreeValue.{TreeValue, inodes_of}
-use Rattle.vt_fs.specs.FilesystemsValue.{ChangesInodes, FilesystemEntry, Filesystems, IsNowhere, entry_of, files_at, inodes_at, inodes_seen, no_entry, seen_in, with_tree}
+use Rattle.vt_fs.specs.FilesystemsValue.{ChangesInodes, FilesystemEntry, Filesystems, IsNowhere, entry_of, files_at, inodes_at, inodes_seen, no_entry, seen_in}
 use Rattle.vt_fs.specs.Laws.{LieUnderRoot, is_lost_under}
 use Rattle.vt_fs.proofs.Standing.{Standing, at_look, changes_seen, entry_nowhere, kept, nothing_changes}
 use Rattle.vt_fs.proofs.TreesLookedAt.{nowhere_removed, nowhere_under, under_nowhere}

@@ -1,5 +1,5 @@
 -- Paths from one directory of a filesystem down to another.
-use Rattle.std.proofs.Common.{◌≡◌, refl, sym, ap, ◌∙◌, true≢false, ℕ, nat_eq, eq-eqb, eqb-true, ne_eqb, Bool, true, false, cond, ◌||◌, not, List, [], ◌∷◌, map, reverse, Option, Some, None, is_some, option_map, unwrap_or, arith}
+use Rattle.std.proofs.Common.{◌≡◌, refl, sym, ap, ◌∙◌, true≢false, ℕ, nat_eq, ne_eqb, Bool, true, false, cond, ◌||◌, not, List, [], ◌∷◌, map, reverse, Option, Some, None, is_some, option_map, unwrap_or}
 use Rattle.std.proofs.lemmas.List.Sums.{take_while-cons}
 use Rattle.std.proofs.lemmas.Option.{same_Some}
 use Rattle.vt_spec.specs.FileTree.{named_parent, own_name, path_down}
@@ -11,7 +11,7 @@ use Rattle.vt_fs.specs.Trees.TreeValue.{TreeValue, inodes_of, tree_of}
 use Rattle.vt_location.specs.declared.locations.NodeRef.{NodeRef}
 use Rattle.vt_location.specs.Births.{born_in}
 use Rattle.vt_location.specs.Locations.{number_of}
-use Rattle.vt_location.specs.Numbers.{counted, exchanged, inode_number}
+use Rattle.vt_location.specs.Numbers.{counted, exchanged}
 use Rattle.vt_location.proofs.NumberLemmas.{counted_inode, exchanged_back}
 use Rattle.vt_fs.specs.FilesystemsValue.{FilesystemEntry, Filesystems, entry_at, entry_of, files_at, files_seen, inodes_seen, no_entry}
 use Rattle.vt_fs.proofs.Numbers.{numbers_counted}

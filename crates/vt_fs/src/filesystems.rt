@@ -184,6 +184,7 @@ impl Filesystems {
     }
 
     /// How often an inode is in use: the names that lead to it, and what is pinned.
+    #[inline(always)]
     pub fn uses(&self, inode: NodeRef) -> u64
         ensures { result ≡ uses_in ((inodes_at self.now inode.filesystem.count).inode (number_of inode)) }
     {
@@ -287,6 +288,7 @@ impl Filesystems {
     }
 
     /// How many mounts show a filesystem.
+    #[inline(always)]
     pub fn mounts(&self, filesystem: FilesystemId) -> u64
         ensures { result ≡ (entry_at self.now filesystem.count).mounts }
     {
@@ -299,6 +301,7 @@ impl Filesystems {
     /// Counts one more mount of a filesystem. It does not allocate.
     ///
     /// An error says that it has 2^64 - 1 mounts.
+    #[inline(always)]
     pub fn hold_mount(&mut self, filesystem: FilesystemId) -> Result<(), AllocError>
         ensures ok { OnOk result
             (self.new ≡ with_changed filesystem.count (λ entry. record entry { mounts = entry.mounts + 1 }) self.old) }
@@ -315,6 +318,7 @@ impl Filesystems {
     }
 
     /// Takes back a mount that `hold_mount` counted; a count of 0 stays 0. It does not allocate.
+    #[inline(always)]
     pub fn release_mount(&mut self, filesystem: FilesystemId)
         ensures { self.new ≡ with_changed filesystem.count
             (λ entry. record entry { mounts = entry.mounts - 1 }) self.old }
@@ -552,6 +556,7 @@ impl Filesystems {
     /// Counts one more use of an inode, as open(2) does: an inode in use is kept. It does not allocate.
     ///
     /// An error says that the inode has 2^64 - 1 uses.
+    #[inline(always)]
     pub fn pin(&mut self, object: NodeRef) -> Result<(), AllocError>
         ensures ok { OnOk result
             (ChangesInodes object.filesystem.count
@@ -570,6 +575,7 @@ impl Filesystems {
     }
 
     /// Takes back one use of an inode, as close(2) does: with its last use it is freed. It does not allocate.
+    #[inline(always)]
     pub fn unpin(&mut self, object: NodeRef)
         ensures { ChangesInodes object.filesystem.count
             (λ inodes. unpinned nat_eq inodes (number_of object)) self.old self.new }

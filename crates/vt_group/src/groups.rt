@@ -1,24 +1,22 @@
 //! Peer groups.
-ghost use Rattle.std.specs.Prelude.{◌≢◌, ◌≡◌, Bool, ◌⊎◌, ◌&&◌, ◌||◌, not, [], ⊤, ℕ, None, Some, false, true, if◌then◌else◌, length, nat_eq, map, IfOk, IfSome, OnOk, OnErr, option_map};
-ghost use Rattle.vt_spec.specs.Lists.{chain, holds_of, is_among};
+ghost use Rattle.std.specs.Prelude.{◌≢◌, ◌≡◌, Bool, ◌⊎◌, ◌&&◌, ◌||◌, not, [], ⊤, ℕ, None, Some, false, true, if◌then◌else◌, nat_eq, map, IfOk, IfSome, OnOk, OnErr, option_map};
+ghost use Rattle.vt_spec.specs.Lists.{is_among};
 ghost use Rattle.vt_spec.specs.Machine.Mounts.Propagation.{Private, Shared as SharedIn, Slave as SlaveOf};
 ghost use Rattle.vt_spec.specs.Machine.Receives.{receivers};
 ghost use Rattle.vt_spec.specs.Machine.Mounts.{group_of, source_of};
 ghost use Rattle.vt_spec.specs.Machine.World.{World};
-ghost use Rattle.vt_location.specs.declared.numbers.GroupId.{GroupId as GroupNumber};
 ghost use Rattle.vt_location.specs.MountValue.{propagation_of};
 ghost use Rattle.vt_location.specs.Numbers.{counted, group_number, mount_number};
 ghost use Rattle.vt_group.specs.Grouping.{Follows, Has, HasGroup, HasMount, LacksGroup, below, master_in, no_groups, propagation_in, with_propagation};
 ghost use Rattle.vt_group.specs.Additions.{typed_pair};
-ghost use Rattle.vt_group.specs.Together.{GrowsTo, Shares, is_ordered, new_group, pair_of};
+ghost use Rattle.vt_group.specs.Together.{GrowsTo, Shares, new_group, pair_of};
 ghost use Rattle.vt_group.specs.Together.{shared_group, shared_type, typed};
-ghost use Rattle.vt_group.specs.Leaving.{is_member_of, lone_group, lost_group, master_after_end, type_after_end, type_once_ended, type_once_left, type_once_retyped, type_once_slave};
+ghost use Rattle.vt_group.specs.Leaving.{lone_group, lost_group, master_after_end, type_after_end, type_once_ended, type_once_left, type_once_retyped, type_once_slave};
 ghost use Rattle.std.specs.List.Sorted.{IsStrictlySortedBy};
 ghost use Rattle.std.specs.Ordering.{nat_cmp};
-ghost use Rattle.vt_spec.specs.Lists.{or_else};
 ghost use Rattle.vt_group.specs.Receiving.{FindsBelow, IsLonger, is_in, is_noted, receivers_from, receives_from};
 ghost use Rattle.vt_group.specs.Steps.{numbered_peer};
-ghost use Rattle.vt_group.specs.Steps.{ended, ended_if_lost, handed, handed_type, has_peers, retyped, type_or_private};
+ghost use Rattle.vt_group.specs.Steps.{ended, ended_if_lost, has_peers, retyped, type_or_private};
 ghost use Rattle.vt_laws_mounts.specs.Mounts.Attaching.{numbers_of};
 ghost use Rattle.vt_laws_mounts.specs.Mounts.Receivers.{AllGroupsLive};
 

@@ -1,5 +1,5 @@
 //! The lists by which the groups find mounts and groups without passing over all of them.
-ghost use Rattle.std.specs.Prelude.{◌≡◌, ◌≢◌, ◌&&◌, ℕ, None, Some, OnErr, OnOk, IfSome, IsSome, false, true};
+ghost use Rattle.std.specs.Prelude.{◌≡◌, ◌≢◌, ◌&&◌, ℕ, None, Some, OnOk, IsSome, false, true};
 ghost use Rattle.vt_group.specs.ByNumber.{value_at};
 ghost use Rattle.std.specs.List.{list_any};
 ghost use Rattle.vt_location.specs.declared.mounts.Propagation.{Propagation as TypeKept};
@@ -8,7 +8,7 @@ ghost use Rattle.vt_location.specs.declared.numbers.GroupId.{GroupId as GroupNum
 ghost use Rattle.vt_location.specs.declared.numbers.MountId.{MountId as MountNumber};
 ghost use Rattle.vt_spec.specs.Lists.{then_some};
 ghost use Rattle.vt_group.specs.Handing.{group_handed, kind_handed};
-ghost use Rattle.vt_group.specs.Indexed.{Hands, group_of_kind, has_source, is_listed, is_lower, is_relative, source_of_kind};
+ghost use Rattle.vt_group.specs.Indexed.{Hands, has_source, is_listed, is_lower, is_relative, source_of_kind};
 ghost use Rattle.vt_group.specs.Listing.{EachJoined, EachListed, EachShared, IsJoined, IsListed, IsShared};
 ghost use Rattle.vt_group.specs.Names.{KeepsNames, is_under};
 ghost use Rattle.vt_group.specs.Sets.{has, same_group, same_id};

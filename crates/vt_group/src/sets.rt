@@ -1,5 +1,5 @@
 //! Sets of mounts or groups, each under a group.
-ghost use Rattle.std.specs.Prelude.{◌≡◌, IsSome, ◌&&◌, false, true, IfOk, OnOk};
+ghost use Rattle.std.specs.Prelude.{◌≡◌, IsSome, ◌&&◌, false, true, OnOk};
 ghost use Rattle.vt_location.specs.declared.numbers.GroupId.{GroupId as GroupNumber};
 ghost use Rattle.vt_location.specs.declared.numbers.MountId.{MountId as MountNumber};
 ghost use Rattle.vt_group.specs.ByNumber.{value_at};

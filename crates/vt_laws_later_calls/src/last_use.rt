@@ -3,30 +3,35 @@ ghost use Rattle.vt_laws_later_calls.specs.LastUse.{CloseTakesItsFilesystem, Clo
 
 use vt_laws_mounts::letting_go::ends::a_group_ends_with_its_last_member;
 
-/// All is in use in the world before, and one use is taken away: the thing goes if the use was its last, by the counts
-/// of that world, and nothing else of its kind. Each clause but the last four of this list is of one step of the
-/// sweep, or of the end of namespaces and groups before it. Each filesystem has a number of its own, where overlays
-/// are beside or inodes are meant.
+/// One use is taken away. What the table names is freed if that was its last use, by the counts of the world before,
+/// and nothing else of its kind. All is in use before (`AllInUse`), but for `namespace` and `exchange`. Only for `exit`
+/// and the last four clauses the world has all invariants.
 ///
-/// - `mount`: a location of a task: its mount, unless that is in a namespace (mounts have numbers of their own).
-/// - `filesystem`: a mount: what it shows (no overlay; the same filesystems). `filesystem_beside_overlays`: a plain
-///   one, unless a mounted overlay has a layer in it. `overlay`: an overlay, in which no overlay has a layer; then the
-///   filesystems of its layers are looked at.
-/// - `inode`: one use (`LosesOneUse`: it has one less, every other inode as many): that inode (plain filesystems,
-///   trees). An exchange of one use is such a loss (`exchange`).
-/// - `inode_beside_overlays`: the same of a plain tree; no upper layer is in an overlay, real objects exist, as in the
-///   next three.
-/// - `inode_of_overlay`: the same of an overlay; then the upper inode that was its real object, if any, is looked at.
-/// - `inode_over_lowers`: if that is no upper inode, the inode alone. `upper_inode`: if it is one, that too, unless it
-///   has another use (the number stands once beside the tree).
-/// - `namespace`: a task: its namespace, with its mounts (the invariants of mounts and namespaces). `exit`: so it is
-///   before the sweep, in a world with all invariants.
-/// - `group`: a member of a group that gets no master: its slaves and the groups below it get its master (the
-///   invariants of mounts). `master`: in the sweep, the master of the group.
-/// - `location`, `close`: a location in a plain tree whose mount stays, or a descriptor there that is closed: the
-///   inode, after the whole sweep, and nothing else (all invariants).
-/// - `last_location`, `last_close`: the last location on a mount in no namespace, if no other mount shows its
-///   filesystem: these two, after the whole sweep, and nothing else (all invariants, no overlay).
+/// An inode *loses one use* (`LosesOneUse`) if it has one less, every other inode as many, and filesystems have the
+/// same inodes. An exchange of that use for none is such a loss (`exchange`).
+///
+/// | clause | use | freed | needs |
+/// |---|---|---|---|
+/// | `mount` | a location of tasks | its mount, unless that is in a namespace | mounts have numbers of their own |
+/// | `filesystem` | a mount | the filesystem that it shows | no overlay; the same filesystems |
+/// | `filesystem_beside_overlays` | a mount of a plain filesystem | that, unless a mounted overlay has a layer in it | the same filesystems, numbered |
+/// | `overlay` | a mount of an overlay | that; then its layers' filesystems are looked at | the same; no overlay has a layer in it |
+/// | `inode` | one of an inode | the inode | no overlay; trees; numbered |
+/// | `inode_beside_overlays` | one of an inode in a plain tree | the inode | fit |
+/// | `inode_of_overlay` | one of an inode in an overlay | the inode; then the upper inode that was its real object, if any, is looked at | fit |
+/// | `inode_over_lowers` | the same, if its real object is no upper inode | the inode alone | fit |
+/// | `upper_inode` | the same, if it is one | the inode, and the upper inode if that has no other use | fit; the inode's number stands once beside the tree |
+/// | `namespace` | a task | its namespace, with its mounts | invariants of mounts and namespaces |
+/// | `exit` | a task, by `exit` | the same, before the sweep | |
+/// | `group` | a member that gets no master | before the sweep, slaves and groups below get the group's master | invariants of mounts |
+/// | `master` | the same | in the sweep, the group's master | |
+/// | `location` | a location in a plain tree, whose mount stays | the inode there, and nothing else in the whole sweep | |
+/// | `close` | a descriptor there, by `close` | the same | |
+/// | `last_location` | the last location on a mount in no namespace, whose filesystem no other mount shows | these two, and nothing else in the whole sweep | no overlay |
+/// | `last_close` | such a descriptor, by `close` | the same | no overlay |
+///
+/// *Numbered*: filesystems have numbers of their own. *Fit*: numbered, trees, no upper layer in an overlay, and an
+/// inode that does not exist has no real object.
 pub fn each_thing_goes_with_its_last_use()
     ensures mount { MountGoesWithItsLastUse }
     ensures filesystem { FilesystemGoesWithItsLastUse }

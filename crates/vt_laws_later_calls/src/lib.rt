@@ -1,5 +1,7 @@
-//! What later calls see of earlier ones; which calls let something go; what the list of mounts tells after an unshare;
-//! what an unmount undoes; what an exit leaves; that each thing goes with its last use; and namespaces at their limit.
+//! What later calls see of earlier ones, and what calls let go of.
+//!
+//! Unless a law says otherwise, the world has all invariants, and the numbers handed in are *unused*: the world uses
+//! none of them, and no two are equal (`Serves`). A world is *plain* if it has no overlay.
 //!
 //! Each public function is a theorem of the written policy, and does nothing.
 #![tactic(auto)]

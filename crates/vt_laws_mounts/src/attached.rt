@@ -1,16 +1,15 @@
-//! What attached mounts keep of mounts in no namespace, and of groups.
+//! What attached mounts keep.
 ghost use Rattle.vt_laws_mounts.specs.Mounts.Attached.{BindsKeepGroups, BindsKeepNowhere, MovesKeepGroups, MovesKeepNowhere, NewMountsKeepGroups, NewMountsKeepNowhere};
 
-/// A mount in no namespace still has no mount point and is private after a `bind`, a `new_mount` and a move (`moves`),
-/// where the destination is in a namespace.
+/// To a destination in a namespace, a `bind`, a `new_mount` and a move (`moves`) keep mounts nowhere outside.
 pub fn attaching_keeps_mounts_nowhere()
     ensures bind { BindsKeepNowhere }
     ensures new_mount { NewMountsKeepNowhere }
     ensures moves { MovesKeepNowhere }
 {}
 
-/// Groups live on after a `bind`, a `new_mount` and a move (`moves`), by new numbers. For a bind and a move mounts
-/// stand, each with a number of its own, and the mount that moves exists.
+/// By new numbers, a `bind`, a `new_mount` and a move (`moves`) of an existing mount keep groups living. For bind and
+/// move mounts are numbered and standing.
 pub fn attaching_keeps_groups_living()
     ensures bind { BindsKeepGroups }
     ensures new_mount { NewMountsKeepGroups }

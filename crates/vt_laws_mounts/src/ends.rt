@@ -1,9 +1,10 @@
-//! What takes mounts away.
+//! What takes mounts away: an `unmount` with its receivers, a `lazy` one, and four ends without propagation. These are
+//! of `trees` of mounts, of mounts on a removed directory (`points`) or a `replaced` object, and of namespaces without
+//! tasks (`ended`).
 ghost use Rattle.vt_laws_mounts.specs.Mounts.Ending.{UnmountKeepsMounts, LazyUnmountKeepsMounts, TreesKeepMounts, PointsKeepMounts, ReplacedKeepsMounts, EndedNamespacesKeepMounts, ByUnmount, ByLazyUnmount, ByTrees, ByPoints, ByReplaced, ByEndedNamespaces, HasNoMoreMounts, TakesNoMountsIn, UnmountKeepsRootMounts, LazyUnmountKeepsRootMounts, TreesKeepRootMounts, PointsKeepRootMounts, ReplacedKeepsRootMounts, EndedNamespacesKeepRootMounts};
 
-/// The invariants of mounts hold after an `unmount` of a mount without children, any `lazy` unmount, and the end of
-/// `trees` of mounts. So they do after the end of the mounts on a directory that is removed (`points`) or `replaced`,
-/// and of namespaces (`ended`).
+/// An `unmount` of a mount without children, `lazy`, `trees`, `points`, `replaced` and `ended` keep the invariants of
+/// mounts, all five together.
 pub fn what_takes_mounts_away_keeps_their_invariants()
     ensures unmount { UnmountKeepsMounts }
     ensures lazy { LazyUnmountKeepsMounts }
@@ -13,9 +14,8 @@ pub fn what_takes_mounts_away_keeps_their_invariants()
     ensures ended { EndedNamespacesKeepMounts }
 {}
 
-/// Each namespace has as many root mounts after an `unmount`, a `lazy` one, the end of `trees`, and that of the mounts
-/// on a removed (`points`) or `replaced` directory. So has each that has tasks, after the end of others (`ended`).
-/// Each mount has a number of its own; what is unmounted, and the top of each tree, has a mount point.
+/// Mounts are numbered; what is unmounted, and the top of each tree, has a mount point. Each namespace has as many root
+/// mounts after `unmount`, `lazy`, `trees`, `points` and `replaced`, and each listed one with tasks after `ended`.
 pub fn namespaces_keep_their_root_mounts()
     ensures unmount { UnmountKeepsRootMounts }
     ensures lazy { LazyUnmountKeepsRootMounts }
@@ -25,8 +25,7 @@ pub fn namespaces_keep_their_root_mounts()
     ensures ended { EndedNamespacesKeepRootMounts }
 {}
 
-/// None of these changes (`unmount`, `lazy`, `trees`, `points`, `replaced`, `ended`) leaves a namespace with more
-/// mounts.
+/// No namespace has more mounts after `unmount`, `lazy`, `trees`, `points`, `replaced` and `ended`.
 pub fn namespaces_have_no_more_mounts()
     ensures unmount { ByUnmount HasNoMoreMounts }
     ensures lazy { ByLazyUnmount HasNoMoreMounts }
@@ -36,8 +35,8 @@ pub fn namespaces_have_no_more_mounts()
     ensures ended { ByEndedNamespaces HasNoMoreMounts }
 {}
 
-/// After each of these changes (`unmount`, `lazy`, `trees`, `points`, `replaced`, `ended`) a mount is in no namespace,
-/// or in that in which one with its number was.
+/// After `unmount`, `lazy`, `trees`, `points`, `replaced` and `ended` a mount is in no namespace, or in that of an old
+/// one of its number.
 pub fn mounts_come_to_no_other_namespace()
     ensures unmount { ByUnmount TakesNoMountsIn }
     ensures lazy { ByLazyUnmount TakesNoMountsIn }

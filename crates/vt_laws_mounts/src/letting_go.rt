@@ -1,37 +1,30 @@
-//! What a call let go of: laws of the sweep at its end.
+//! What a call let go of: the sweep at its end (`settled`). Worlds are settled plain, unless a law says otherwise.
 //!
-//! At the end of each call the definitions sweep the whole world (`Settled.antt`: `settled`): what nothing uses is
-//! freed, first mounts, then filesystems, then inodes, then masters of groups without members. Code looks at single
-//! things that may have lost a use, the *losers*. To look at a thing is to free it if nothing uses it.
+//! To *look* at a thing is to free it if nothing uses it. *The losers are* some things if the sweep is to look at these
+//! alone, one by one: mounts, filesystems, inodes of overlays with their real objects, inodes of plain trees, and
+//! groups, whose master goes. *Nothing goes* if the sweep leaves the world.
 //!
-//! | kind | freed when |
-//! |---|---|
-//! | mount | it is in no namespace, and no root, working directory or descriptor of a task is on it |
-//! | filesystem | no mount shows it, and no mounted overlay has a layer in it |
-//! | inode of a plain tree | it is not the root, has no name, and no location, mount, mount point, layer or upper object is there |
-//! | inode of an overlay | the same; it goes with its real object, before plain trees are looked at |
-//! | peer group | it has no members: the sweep takes its master |
-//! | namespace | no task is in it: `exit`, `setns` and `unshare` end it, before the sweep |
+//! Losers of a *location* are its mount and inode, and the mount's filesystem and root. Those of a *mount* are itself,
+//! its filesystem and root, and the inodes of its mount point and its children's. *With layers* they are also the
+//! filesystems of the layers of each filesystem among them, and directories of layers and upper objects of all these.
+//! *Named groups* are any, if all others without members have no master afterwards. *Attached* mounts are in a
+//! namespace.
 //!
-//! Words of the premises:
+//! - *All in use* (`AllInUse`): each mount, filesystem and inode is used, and groups without members have no master.
+//! - *Mounts stand* (`MountsStand`): they are numbered, nowhere outside, with mount points on attached mounts alone.
+//! - *Locations stand* (`LocationsStand`): roots, working directories and descriptors are on existing mounts.
+//! - *Trees* (`HasTrees`): filesystems are trees with the numbers of their inodes beside them; *plain trees*, if also
+//!   none is an overlay.
+//! - *Fit for overlays*: trees, no upper layer in an overlay (`UppersArePlain`), no real object of an inode that does
+//!   not exist (`RealsAreThere`).
+//! - *Settled* (`IsSettled`): all in use, fit for overlays, mounts stand.
+//! - *Settled plain* (`IsSettledPlain`): all in use, plain trees, mounts stand.
+//! - *On the way* (`KeepsMounts`): in the world, and after each of several changes without sweeps.
 //!
-//! | words | meaning |
-//! |---|---|
-//! | all is in use (`AllInUse`) | each mount, filesystem and inode is used, and a group without members has no master |
-//! | mounts stand (`MountsStand`) | each has its own number; one in no namespace has no mount point and is private; a mount point is on a mount in a namespace |
-//! | locations stand (`LocationsStand`) | each root, working directory and descriptor is on a mount that exists |
-//! | trees (`HasTrees`) | each filesystem is a tree, with the numbers of its inodes beside it |
-//! | fit for overlays | trees; no upper layer is in an overlay (`UppersArePlain`); an inode of an overlay that does not exist has no real object (`RealsAreThere`) |
-//! | settled plain (`IsSettledPlain`) | all is in use, no filesystem is an overlay, trees, mounts stand |
-//! | settled (`IsSettled`) | all is in use, fit for overlays, mounts stand |
-//! | attached | in a namespace |
-//! | with a sweep after each (`with_sweeps`) | changes are made one after the other, and the world is swept after each |
-//! | on the way (`KeepsMounts`) | the invariants of mounts hold in the world and after each of several changes without sweeps |
-//!
-//! A world with all invariants is settled, and its locations stand; without overlays it is settled plain. Losers *with
-//! layers* are, beside the losers, the filesystems of the layers of each filesystem among them, and the directories of
-//! layers and the upper objects of all these. A law whose name ends with `with_overlays` is of every world, the one
-//! before it of plain filesystems.
+//! *One sweep is enough* if a sweep before a change, or before and after each of several (`with_sweeps`), makes no
+//! difference after the one at the end. A law `.._with_overlays` may say *the same* as the law whose name lacks these
+//! words. Its worlds are settled, or fit for overlays, in place of settled plain, or of plain trees, and its losers are
+//! with layers.
 
 pub mod ends;
 pub mod leaving;

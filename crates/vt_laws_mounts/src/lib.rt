@@ -1,17 +1,16 @@
 //! Where mounts stand, which receive events, what mount calls change, and what goes with its last use.
 //!
-//! | module | laws of |
-//! |---|---|
-//! | `letting_go` | the sweep at a call's end, where only single things may have lost a use |
-//! | `counts` | inodes, mounts and filesystems that count their uses |
-//! | the others | mounts and peer groups |
+//! The *invariants of mounts* (`MountInvariants`) are five. Mounts are *numbered*: no two have one number. They are
+//! *standing*: the chain of parents of each ends in its namespace. They are *apart*: no two have one mount point. They
+//! are *nowhere outside*: one in no namespace has no mount point and is private. Groups *live* (`GroupsLive`): the
+//! group or master of each mount has members, as has each group up the masters, which come to an end.
 //!
-//! Every change of mounts keeps the invariants of mounts (`MountInvariants`), all five together: each mount has a
-//! number of its own; each stands, as its chain of parents ends in its namespace; no two have one mount point; one in
-//! no namespace has no mount point and is private; and groups live (`GroupsLive`): they have members, and so has each
-//! group up their masters, which come to an end.
+//! A change *keeps* what holds after it if it held before. But for whole calls, it comes before the sweep at a call's
+//! end. *New numbers* are handed in, unused in the world, for a new mount in its filesystem too, and no two equal
+//! (`Serves`).
 //!
-//! "New numbers" are handed-in numbers that are not in use, each another.
+//! A *detached* mount loses namespace, mount point and group alone. An *ended* group lost its last member. *All else
+//! stays*: filesystems, namespaces, tasks and the change number do; of masters this says nothing.
 //!
 //! Each public function is a theorem of the written policy, and does nothing.
 #![tactic(auto)]

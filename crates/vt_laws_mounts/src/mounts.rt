@@ -1,4 +1,5 @@
-//! Where mounts stand, who receives, and what mount calls change.
+//! Where mounts stand, who receives, and what mount calls change. A call *leaves the mounts of* a change if it leaves
+//! those after the change, in order, without those that nothing uses then (`HasLiving`).
 ghost use Rattle.vt_laws_mounts.specs.Mounts.Attaching.{NewMountsFollow, AttachKeepsMounts, AttachLeavesMounts, MoveKeepsMounts, MoveLeavesMounts, MovedMountsShow};
 ghost use Rattle.vt_laws_mounts.specs.Mounts.Changing.{FlagsAreSet, FlagsAreOfOne, TypeIsAllThatChanges, TypeIsOfTheNamed, TypeIsTaken, AloneIsPrivate, TypesAreOfMounts};
 ghost use Rattle.vt_laws_mounts.specs.Mounts.Copies.{CopiesKeepNumbers, SuppliesServeAsCopies, SuppliesServeAsImages};
@@ -11,14 +12,13 @@ ghost use Rattle.vt_laws_mounts.specs.Mounts.Receivers.{ReceivesIsComputed, Rece
 ghost use Rattle.vt_laws_mounts.specs.Mounts.Standing.{BindsKeepNumbers, BindsKeepMountPoints, BindsKeepStanding, BindsTakeEachOnce, MovesKeepNumbers, NewMountsKeepNumbers, NewMountsKeepMountPoints, NewMountsKeepStanding, StandingIsComputed, TreesHaveEachOnce};
 ghost use Rattle.vt_laws_mounts.specs.Mounts.Unmounting.{WhatGoesIsNamed, UnmountKeepsTheOrder, WhatGoesIsDetached, WhatStaysKeeps, WhatStaysKeepsItsMountPoint, RootMountsStay, WhatCoveredFalls, WhatStaysKeepsItsType, SlavesAreInherited, GroupsKeepTheirMasters, UnmountIsOfMounts, UmountUnmounts};
 
-/// Where no two mounts have one mount point, each mount that has one is the mount that `child_at` finds there.
+/// If mounts are apart, `child_at` finds at each mount point the mount that has it.
 pub fn one_mount_stands_at_a_mount_point()
     ensures { StandsAloneAtItsMountPoint }
 {}
 
-/// Where groups live, what receives from a group is the least set that holds its members, its slaves, and what
-/// receives from each group whose master it is: `receivers` lists it, `computed` is its test, and it is `closed`. That
-/// it is `least` holds in every world.
+/// What receives from a group is the `least` set of its members, its slaves, and what receives from each group whose
+/// master it is. Where groups live, it is `closed` so, the test finds it (`computed`), and `receivers` lists it.
 pub fn receivers_are_the_closure()
     ensures computed { ReceivesIsComputed }
     ensures receivers { ReceiversReceive }
@@ -26,19 +26,17 @@ pub fn receivers_are_the_closure()
     ensures least { ReceiversAreLeast }
 {}
 
-/// An unmount detaches just the mounts that propagation names, where groups live (`named`). They stay listed, all in
-/// their `order`, but lose namespace, mount point and group (`gone`), until nothing uses them.
+/// Where groups live, just the mounts that propagation names go (`named`). All stay listed, in `order`; those that go
+/// are detached (`gone`).
 ///
-/// - `kept`, `root_mounts`: every other mount keeps number, namespace, filesystem, root and flags; a root mount stays
-///   one.
-/// - `place`: it keeps its mount point, if that is on a mount that stays.
-/// - `covered`: else it takes the first mount point along its chain of parents that is on a mount that stays, where
-///   chains end.
-/// - `kind`, `slaves`: it keeps its type, but a slave of a group that lost its last member gets the nearest group up
-///   the masters with a member left, or is private.
-/// - `masters`: a group keeps its master, unless that lost its last member.
-/// - `itself`: the named mount goes, if it has a mount point and no child, and no two mounts have one mount point.
-/// - `others`: nothing but mounts changes.
+/// - `kept`, `root_mounts`: each other keeps number, namespace, filesystem, root and flags; a root mount stays one.
+/// - `place`, `covered`: it keeps a mount point on a mount that stays. Else, where chains of parents end, it takes the
+///   first such one along its parents.
+/// - `kind`, `slaves`: it keeps its type; but a slave of an ended group gets the nearest group up the masters with
+///   members, or is private.
+/// - `masters`: groups keep masters that have not ended.
+/// - `itself`: the named mount goes, if it has a mount point and no child, and mounts are apart.
+/// - `others`: all else stays.
 pub fn an_unmount_takes_just_what_propagation_names()
     ensures named { WhatGoesIsNamed }
     ensures order { UnmountKeepsTheOrder }
@@ -54,48 +52,43 @@ pub fn an_unmount_takes_just_what_propagation_names()
     ensures others { UnmountIsOfMounts }
 {}
 
-/// The mounts that a granted `umount` leaves are those after that unmount, of the mount that its path leads to,
-/// without those that nothing uses then.
+/// A granted `umount` leaves the mounts of the unmount of the mount that its path leads to.
 pub fn umount_unmounts_the_mount_of_its_path()
     ensures { UmountUnmounts }
 {}
 
-/// A call that is no mount call, and none of `rmdir`, `rename`, `exit`, `unshare` and `setns`, leaves each mount its
-/// record. Mounts in no namespace that nothing uses then are freed.
+/// A call leaves each mount its record, but for those in no namespace that nothing uses then. It is no mount call, and
+/// none of `pivot_root`, `rmdir`, `rename`, `exit`, `unshare` and `setns`.
 pub fn calls_on_files_are_of_no_mount()
     ensures { FileCallsLeaveMounts }
 {}
 
-/// A bind or a new mount leaves each mount that existed its record (`left`). One at the same location of a receiver
-/// that takes part keeps all but its mount point (`kept`). New mounts come after all others (`order`).
+/// A bind or a new mount leaves each old mount its record (`left`), or, at the same location of a receiver that takes
+/// part, all but its mount point (`kept`). New mounts come last, of a move too (`order`).
 pub fn a_bind_leaves_the_other_mounts()
     ensures order { NewMountsFollow }
     ensures kept { AttachKeepsMounts }
     ensures left { AttachLeavesMounts }
 {}
 
-/// A move leaves each mount that does not move its record (`left`). One at the same location of a receiver that takes
-/// part keeps all but its mount point (`kept`). What moves shows what it showed, where each mount has a number of its
-/// own (`moved`).
+/// A move leaves the same to each mount that does not move (`left`, `kept`). If mounts are numbered, each keeps
+/// filesystem, root and flags (`moved`).
 pub fn a_move_leaves_the_other_mounts()
     ensures kept { MoveKeepsMounts }
     ensures left { MoveLeavesMounts }
     ensures moved { MovedMountsShow }
 {}
 
-/// A change of flags gives the named mount its flags (`set`), and leaves it all else, and every other mount its record
-/// (`others`).
+/// A change of flags gives an existing mount its flags and leaves it all else (`set`); each other mount keeps its
+/// record (`others`).
 pub fn a_change_of_flags_is_of_one_mount()
     ensures set { FlagsAreSet }
     ensures others { FlagsAreOfOne }
 {}
 
-/// A change of type leaves each mount all but its type (`alone`), and what is no mount as it was (`rest`).
-///
-/// - `taken`: a named mount takes the type of the table, unless that makes it a slave of a group that so lost its last
-///   member.
-/// - `others`: another one keeps its type, unless it is such a slave.
-/// - `last_member`: a shared mount that was alone in a group without a master is private after it is made a slave.
+/// A change of type leaves each mount all but its type (`alone`), and all else stays (`rest`). A named mount takes the
+/// type of the table (`taken`), and another keeps its own (`others`), unless that is slave of a group that so ended. A
+/// shared mount alone in a group without a master is private once made a slave (`last_member`).
 pub fn a_change_of_type_is_of_the_named_mounts()
     ensures alone { TypeIsAllThatChanges }
     ensures others { TypeIsOfTheNamed }
@@ -104,12 +97,10 @@ pub fn a_change_of_type_is_of_the_named_mounts()
     ensures rest { TypesAreOfMounts }
 {}
 
-/// Each mount has a number of its own after each of these changes, if it had before: `taking_away` of any mounts,
-/// `unmount`, `ended` namespaces, `inheritance` of groups, `types`, `flags`, `pivot`, `lazy` unmount and `settling`
-/// (the sweep).
-///
-/// So it is with what is attached (`attach`) and with an `unshare`, by new numbers. Copies with numbers that serve
-/// keep it (`copies`), and a supply of new ones has such numbers (`supplied_copies`, `supplied_images`).
+/// These keep mounts numbered: `taking_away` of any mounts, `unmount`, `lazy`, `ended` namespaces, `inheritance` of
+/// groups, `types`, `flags`, `pivot`, `settling` (the sweep); by new numbers `unshare`, and `attach` of a numbered
+/// tree. So do `copies` of such a tree by unused numbers, no two equal, as new numbers give them (`supplied_copies`,
+/// `supplied_images`).
 pub fn mounts_keep_numbers_of_their_own()
     ensures taking_away { KeptByTakingAway OneNumberEach }
     ensures unmount { KeptByUnmount OneNumberEach }
@@ -127,20 +118,19 @@ pub fn mounts_keep_numbers_of_their_own()
     ensures settling { KeptBySettling OneNumberEach }
 {}
 
-/// Where each mount has a number of its own, the test by chains of parents computes that all stand (`computed`). Then
-/// each mount is once in the tree of a mount (`trees`), and in what a bind takes (`binds`).
+/// Where mounts are numbered, the test by chains of parents computes whether they stand (`computed`). If they do, each
+/// is once in the tree of a mount (`trees`) and in what a bind takes (`binds`).
 pub fn mounts_stand_on_one_another()
     ensures computed { StandingIsComputed }
     ensures trees { TreesHaveEachOnce }
     ensures binds { BindsTakeEachOnce }
 {}
 
-/// After a bind and a new mount mounts stand, each with a number of its own, and no two with one mount point, copies
-/// at receivers and what they push up included: `bind`, `bind_numbers`, `bind_places`, `new_mount`,
-/// `new_mount_numbers`, `new_mount_places`. After a move each has a number of its own (`move_numbers`).
+/// By new numbers, mounts stay numbered in a bind (`bind_numbers`) and a move (`move_numbers`), if standing, and in a
+/// new mount (`new_mount_numbers`).
 ///
-/// By new numbers; mounts stand, each with its own number. Standing and mount points ask that the destination's mount
-/// exists and that a mount in no namespace has no mount point; mount points, that no mount stands at the destination.
+/// If also standing and nowhere outside, they stay standing in a `bind` and a `new_mount` to an existing mount. They
+/// stay apart, if none stands at the destination (`bind_places`, `new_mount_places`).
 pub fn attaching_keeps_mounts_standing()
     ensures bind { BindsKeepStanding }
     ensures bind_numbers { BindsKeepNumbers }
@@ -151,8 +141,8 @@ pub fn attaching_keeps_mounts_standing()
     ensures new_mount_places { NewMountsKeepMountPoints }
 {}
 
-/// A mount in no namespace still has no mount point and is private after these changes: `taking_away`, `unmount`,
-/// `ended`, `inheritance`, `flags` (where each mount has a number of its own), `unshare`, `lazy` and `settling`.
+/// These keep mounts nowhere outside: `taking_away`, `unmount`, `lazy`, `ended`, `inheritance`, `unshare`, `settling`,
+/// and, if mounts are numbered, `flags`.
 pub fn mounts_outside_stay_nowhere()
     ensures taking_away { KeptByTakingAway NowhereOrAttached }
     ensures unmount { KeptByUnmount NowhereOrAttached }
@@ -164,9 +154,8 @@ pub fn mounts_outside_stay_nowhere()
     ensures settling { KeptBySettling NowhereOrAttached }
 {}
 
-/// Where each mount has a number of its own, no two have one mount point after these changes, if so before: an
-/// `unmount` of a mount without children; the end of `trees` and of namespaces (`ended`), where chains of parents end;
-/// `inheritance`, `types`, `flags` and `settling`.
+/// If mounts are numbered, these keep them apart: `unmount` of one without children, `inheritance`, `types`, `flags`,
+/// `settling`; where chains of parents end, `trees` and `ended`.
 pub fn mount_points_keep_one_mount()
     ensures unmount { UnmountLeavesOneMountAMountPoint }
     ensures trees { TreesLeaveOneMountAMountPoint }
@@ -177,9 +166,9 @@ pub fn mount_points_keep_one_mount()
     ensures settling { KeptBySettling AreApart }
 {}
 
-/// Where mounts are taken away without propagation, just those are detached (`taken`). Each other mount keeps number,
-/// namespace, filesystem, root and flags (`kept`), and its mount point, if that is on a mount that stays (`places`).
-/// It keeps its type, unless it is a slave of a group that lost its last member (`types`).
+/// Mounts that are taken away without propagation are detached (`taken`). Each other keeps number, namespace,
+/// filesystem, root and flags (`kept`), and a mount point on a mount that stays (`places`). It keeps its type, unless
+/// it is slave of a group that so ended (`types`).
 pub fn mounts_that_end_are_just_those()
     ensures taken { TakenAreDetached }
     ensures kept { OthersAreKept }
@@ -187,16 +176,15 @@ pub fn mounts_that_end_are_just_those()
     ensures types { OthersKeepTheirTypes }
 {}
 
-/// A lazy unmount detaches a mount, or leaves it all but its mount point and its type (`mounts`). Nothing but mounts
-/// changes (`others`).
+/// A lazy unmount detaches a mount, or leaves it all but mount point and type (`mounts`); all else stays (`others`).
 pub fn a_lazy_unmount_detaches_or_keeps()
     ensures mounts { LazyDetachesOrKeeps }
     ensures others { LazyIsOfMounts }
 {}
 
-/// The mounts that a granted call of a task leaves are those after one change, of what its paths lead to, without
-/// those that nothing uses then. The calls are `bind`, `moves`, `mount`, `overlay`, `lazy`, `remount`, `kind` (of
-/// `type`), `pivot`, `rmdir`, `rename` (`rename_of_one` object does nothing), `exit`, `unshare` and `setns`.
+/// A granted call of a task leaves the mounts of one change, of what its paths lead to: `bind`, `moves`, `mount`,
+/// `overlay`, `lazy`, `remount`, `kind` (of `type`), `pivot`, `rmdir`, `rename` (`rename_of_one` object changes none),
+/// `exit`, `unshare` and `setns`.
 pub fn granted_calls_make_these_changes()
     ensures bind { BindBinds }
     ensures moves { MoveMoves }
@@ -214,9 +202,9 @@ pub fn granted_calls_make_these_changes()
     ensures setns { SetnsEnters }
 {}
 
-/// The test by chains of masters computes that groups live (`computed`). They do after these changes, if before:
-/// `taking_away`, `unmount`, `lazy`, `ended`, `inheritance`, `pivot`, `unshare`; `types`, by new numbers; `flags`,
-/// where each mount has a number of its own; and `settling`, where a mount in no namespace is private.
+/// The test by chains of masters computes whether groups live (`computed`). These keep them living: `taking_away`,
+/// `unmount`, `lazy`, `ended`, `inheritance`, `pivot`, `unshare`; `types` by new numbers; `flags`, if mounts are
+/// numbered; `settling`, if mounts are nowhere outside.
 pub fn groups_live_on()
     ensures computed { LivingIsComputed }
     ensures taking_away { KeptByTakingAway GroupsLive }
@@ -231,8 +219,8 @@ pub fn groups_live_on()
     ensures settling { SettlingKeepsGroups }
 {}
 
-/// Where each mount has a number of its own, chains of parents end in one namespace after a change of `types`, of
-/// `flags`, and the `inheritance` of groups, if they did before.
+/// If mounts are numbered, `types`, `flags` and `inheritance` of groups keep that chains of parents end in one
+/// namespace.
 pub fn chains_of_mount_points_end()
     ensures types { TypeKeepsChainsEnding }
     ensures flags { FlagsKeepChainsEnding }

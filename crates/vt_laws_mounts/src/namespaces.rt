@@ -1,15 +1,14 @@
-//! The topmost mount over a location, and what an unshare, a pivot of the root, types and flags keep.
+//! Mounts of namespaces.
 ghost use Rattle.vt_laws_mounts.specs.Mounts.Namespaces.{NewNamespaceIsEmpty, NumberedMountsCanPivot, PivotKeepsCounts, PivotKeepsMounts, SetFlagsKeepCounts, SetFlagsKeepMounts, SetTypeKeepsCounts, SetTypeKeepsMounts, TopmostIsFree, UnshareCopiesMounts, UnshareKeepsCounts, UnshareKeepsMounts, UnshareLeavesNamespaces};
 
-/// Where the invariants of mounts hold, no mount stands over the topmost mount over a location, so a destination is
-/// free.
+/// Where the invariants of mounts hold, no mount stands on the topmost location over a location.
 pub fn the_topmost_location_is_free()
     ensures { TopmostIsFree }
 {}
 
-/// An unshare by new numbers keeps the invariants of `mounts`. Each namespace but the new one has the mounts that it
-/// had (`others`). The new one has `copies` of the caller's, as many mounts and root mounts (`counts`), where no mount
-/// was in it before; so it is where the namespace of each mount is listed (`empty`).
+/// By new numbers, an unshare keeps the invariants of `mounts`. Each namespace but the new one has the mounts that it
+/// had (`others`). The new one, if it had none, has `copies` of the caller's, as many mounts and root mounts
+/// (`counts`). It had none (`empty`), if each mount's namespace is listed.
 pub fn unsharing_keeps_mounts()
     ensures mounts { UnshareKeepsMounts }
     ensures others { UnshareLeavesNamespaces }
@@ -18,19 +17,18 @@ pub fn unsharing_keeps_mounts()
     ensures counts { UnshareKeepsCounts }
 {}
 
-/// A pivot that may be made (`CanPivot`) keeps the invariants of `mounts`, and leaves each namespace as many mounts
-/// and root mounts (`counts`), where those invariants hold. It may be made where all three locations are in one
-/// namespace, the new root lies under the old one, and a free mount point for the old one under the new one
-/// (`numbered`).
+/// Where the invariants of `mounts` hold, a pivot that may be made (`CanPivot`) keeps them, and each namespace's number
+/// of mounts and root mounts (`counts`). It may be made (`numbered`) if old root mount, new root and `put` are in one
+/// namespace, and `put` is free, at or under the new root. The new root is that of a descendant of the old root mount.
 pub fn pivoting_keeps_mounts()
     ensures mounts { PivotKeepsMounts }
     ensures numbered { NumberedMountsCanPivot }
     ensures counts { PivotKeepsCounts }
 {}
 
-/// A change of `types`, of a mount in a namespace or its tree, by new numbers, keeps the invariants of mounts; so does
-/// one of `flags`. Each namespace has as many mounts and root mounts (`type_counts`; `flag_counts`, where each mount
-/// has a number of its own).
+/// A change of `types`, of a mount in a namespace or its tree, by new numbers, and one of `flags` keep the invariants
+/// of mounts. Each namespace keeps its number of mounts and root mounts (`type_counts`; if mounts are numbered,
+/// `flag_counts`).
 pub fn types_and_flags_keep_mounts()
     ensures types { SetTypeKeepsMounts }
     ensures type_counts { SetTypeKeepsCounts }

@@ -1,16 +1,16 @@
-//! What copies of mounts are, who hears of their events, and how lists of mounts read.
+//! Copies of mounts: where they stand, their types, and who hears of their events.
+//!
+//! The *parts* of a bind, a new mount or a move are the destination and each receiver that takes part. Each gets a
+//! *copy* of each mount of the tree; the destination of a move gets the mount itself. The first three laws are of
+//! attachments that can be made (`CanAttach`).
 ghost use Rattle.vt_laws_mounts.specs.Mounts.Propagation.{BindsCan, CopiesAreNew, CopiesAtLowerGroupsFollow, CopiesAtPeersArePeers, CopiesAtSlavesAreSlaves, CopiesHearAsTheirOrigins, CopiesHearOneAnother, EachIsCopied, FirstStandsOnItsPart, LowerGroupsHaveAGroupAbove, MovesCan, NewMountsCan, OthersStandOnCopies, PrivateOnShared, SharedOnShared, SlaveOnShared, SlavesHaveAGroupAbove, TypeOnNotShared, UnmountUndoesBind, UnmountUndoesNewMount, UnshareListsOthersTheSame, UnshareListsTheSame};
 
-/// The parts are the destination and each receiver that takes part. A bind, a new mount and a move give each a copy of
-/// each mount of the tree, with its filesystem, root and flags (`copied`), and a new number (`new`). At the
-/// destination of a move it is the mount itself.
+/// By new numbers, where the invariants of mounts hold, `binds`, `new_mounts` and `moves` of existing mounts can be
+/// made. Each copy is in its part's namespace, with filesystem, root and flags of its origin (`copied`). Its number is
+/// `new`, but for what moves.
 ///
-/// The `first` of the tree stands on the part, at the node of the destination. Each of the `others` stands on the copy
-/// of the mount on which it stood, at the same node. Of what stood at that location of a receiver this is not said at
-/// the destination of a move.
-///
-/// This asks for new numbers, the invariants of mounts, and that what moves exists (`binds`, `new_mounts`, `moves`),
-/// as do the next two laws.
+/// The `first` of the tree stands on the part, at the destination's node; each of the `others` on the copy of its
+/// parent, at the same node. At a move's destination this is not said of what stood at that location of a receiver.
 pub fn copies_take_their_mount_points()
     ensures binds { BindsCan }
     ensures new_mounts { NewMountsCan }
@@ -21,12 +21,14 @@ pub fn copies_take_their_mount_points()
     ensures others { OthersStandOnCopies }
 {}
 
-/// At the destination a mount of the tree has its type by the table of sharedsubtree: `not_shared`, `shared`,
-/// `private`, `slave`. Of an unbindable one at a shared destination, which M3 and M5 refuse, nothing is said.
+/// At a destination that is `not_shared` a mount keeps its type. At a shared one a `shared` mount stays in its group, a
+/// `private` one gets a new group without master, a `slave` a new group with its master. Of an unbindable one there (M3
+/// and M5 refuse it) nothing is said.
 ///
-/// At receivers copies at `peers` are peers, those at `slaves` are slaves, and those at members of lower groups are in
-/// a new group, whose master is the group above (`lower_groups`). Each such receiver has a group above it of which a
-/// part is a member, in every world (`above_slaves`, `above_groups`).
+/// *Above* a receiver is the nearest group, up its masters, with a part as member. Each slave and each member of a
+/// group other than the destination's has one, in every world (`above_slaves`, `above_groups`). Copies at `peers` are
+/// peers. Those at `slaves` are slaves of the copies above, and those at other groups' members are in a new group with
+/// these copies' group as master (`lower_groups`).
 pub fn copies_take_their_type()
     ensures not_shared { TypeOnNotShared }
     ensures shared { SharedOnShared }
@@ -39,26 +41,24 @@ pub fn copies_take_their_type()
     ensures above_groups { LowerGroupsHaveAGroupAbove }
 {}
 
-/// Copies of a mount hear one another just as the parts do (`one_another`). Of groups that had members before they
-/// hear just what the mount heard that they are made from (`origins`).
+/// Copies of a mount hear one another just as the parts do (`one_another`). Of groups that had members they hear just
+/// what their origin heard (`origins`).
 pub fn copies_hear_as_receivers_do()
     ensures one_another { CopiesHearOneAnother }
     ensures origins { CopiesHearAsTheirOrigins }
 {}
 
-/// The unmount of a `new_mount`, or of a `bind` of one mount, at a free location of a mount undoes it. Each mount that
-/// existed has its record back, all copies are detached, and groups that had members have their masters.
-///
-/// By new numbers; the invariants of mounts hold, and nothing is mounted at the same location of a receiver (else see
-/// `an_unmount_undoes_a_mount_beneath_others`).
+/// By new numbers, the unmount of a `new_mount`, or of a `bind` of one mount, at a free location of a mount undoes it.
+/// Each old mount has its record back, all copies are detached, and groups that had members have their masters. The
+/// invariants of mounts hold, and nothing stands at the same location of a receiver.
 pub fn an_unmount_undoes_a_mount()
     ensures new_mount { UnmountUndoesNewMount }
     ensures bind { UnmountUndoesBind }
 {}
 
-/// After an unshare, before a namespace without tasks ends, the list of the caller's mounts is the same text as before
-/// (`caller`). So is the list of each other namespace (`others`). By new numbers, with no mount in the new namespace;
-/// the invariants of mounts hold. Of the whole call see `an_unshare_leaves_the_list_of_mounts`.
+/// By new numbers, where the invariants of mounts hold, an unshare, before a namespace ends, leaves the list of each
+/// other namespace the same text (`others`). That of the new one, if it had no mount, is the text of the caller's
+/// (`caller`).
 pub fn after_unshare_the_table_reads_the_same()
     ensures caller { UnshareListsTheSame }
     ensures others { UnshareListsOthersTheSame }

@@ -1,16 +1,15 @@
-//! What refused calls, and calls that only look, leave.
+//! Calls that change nothing.
 ghost use Rattle.vt_laws_rules.specs.Denials.{DenialChangesNothing, DeniedLineChangesNothing, DirectiveChangesNothing, LookChangesNothing, RefusedMemoryChangesNothing};
 
-/// A refused `call` leaves the whole world as it was, change numbers too. So does a `line` of a script that is
-/// answered by a denial, and one in which an allocation fails (`memory`).
+/// A refused `call`, a `line` of a script that is answered by a denial, and one in which an allocation fails (`memory`)
+/// leave the whole world, change numbers too.
 pub fn denials_change_nothing()
     ensures call { DenialChangesNothing }
     ensures line { DeniedLineChangesNothing }
     ensures memory { RefusedMemoryChangesNothing }
 {}
 
-/// A `call` that only looks leaves the world as it was, granted or refused; so does a `directive`. No change number is
-/// raised.
+/// A `call` that only looks, granted or refused, and a `directive` leave the whole world, change numbers too.
 pub fn looks_change_nothing()
     ensures call { LookChangesNothing }
     ensures directive { DirectiveChangesNothing }

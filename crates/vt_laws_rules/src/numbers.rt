@@ -1,9 +1,10 @@
-//! Numbers of inodes, mounts, groups, filesystems and namespaces do not matter.
+//! Numbers of inodes, mounts, groups, filesystems and namespaces do not matter. A world *keeps to* some numbers if each
+//! renaming of others leaves it as it is (`KeepsTo`).
 ghost use Rattle.vt_laws_rules.specs.Numbers.{AnyTwoTextsAreOne, CallsDoNotSeeNumbers, CallsKeepToNumbers, CallsMakeNoOtherNumber, LinesKeepToNumbers, OpeningKeepsToFour, RoomServes, TextsAreTold, UsedNumbersAreNamed, WholeMachineHasOneText, WorldsKeepToHand, DirectivesDoNotSeeNumbers, LinesDoNotSeeNumbers, NamedIsKept, SameWorldsAnswerAlike, SomeTextIsThere, SuppliesDoNotMatter, TurnsDoNotSeeNumbers};
 
-/// In a world whose numbers are renamed one-to-one each call, directive, line and turn (`calls`, `directives`,
-/// `lines`, `turns`) is answered alike. It leaves the world that it left before, renamed. So two worlds that differ in
-/// their numbers alone stay so (`same`).
+/// All numbers of a world, and those handed in, are renamed one-to-one. Each call, directive, line and turn (`calls`,
+/// `directives`, `lines`, `turns`) is answered alike and leaves the renamed world. Two worlds that differ in their
+/// numbers alone answer each call alike and stay so (`same`).
 pub fn numbers_do_not_matter()
     ensures calls { CallsDoNotSeeNumbers }
     ensures directives { DirectivesDoNotSeeNumbers }
@@ -12,12 +13,12 @@ pub fn numbers_do_not_matter()
     ensures same { SameWorldsAnswerAlike }
 {}
 
-/// Where a world keeps to some numbers, and those handed in are among them, the world after a call or a line keeps to
-/// them too (`calls`, `lines`). The opening world keeps to its four (`opening`), and each world to all that it names
-/// (`named`).
+/// If a world keeps to some numbers, and those handed in are among them, so does the world after a call or a line
+/// (`calls`, `lines`). The opening world keeps to its four numbers (`opening`), and each world to all that it has
+/// anywhere (`named`).
 ///
-/// So the numbers in use are among those kept to (`used`), and those in use after a call among these and those handed
-/// in (`made`), if two are left out.
+/// If at least two numbers are left out, those in use are among the numbers kept to (`used`), also after a call
+/// (`made`).
 pub fn calls_make_no_other_number()
     ensures opening { OpeningKeepsToFour }
     ensures named { NamedIsKept }
@@ -27,13 +28,14 @@ pub fn calls_make_no_other_number()
     ensures made { CallsMakeNoOtherNumber }
 {}
 
-/// The answers to a script are one text, whatever unused numbers are handed in line by line, as long as each line
-/// leaves endless others (`one`). Numbers that the world no longer keeps to may come again.
+/// A script, with given lines in which allocations fail, has one text, whatever unused numbers each line is handed
+/// (`one`). Each line leaves infinitely many over; those that the world no longer keeps to may come again.
 ///
-/// - `supplies`: which supply a call is handed does not matter, in worlds that differ in their numbers alone.
-/// - `hand`: after a line the world keeps to the numbers in hand.
-/// - `serves`: none of the numbers of such a supply is in use, and each is another one.
-/// - `allowed`: each such text is one that the definition of the machine allows.
+/// - `supplies`: in worlds that differ in their numbers alone, a call is answered alike by any two such supplies, and
+///   leaves such worlds.
+/// - `hand`: after a line the world keeps to the numbers in hand, those kept before it and those handed in.
+/// - `serves`: none of the numbers of such a supply is in use, and no two are equal.
+/// - `allowed`: the definition of the machine allows each such text.
 pub fn answers_are_one_text()
     ensures one { AnyTwoTextsAreOne }
     ensures supplies { SuppliesDoNotMatter }
@@ -42,8 +44,8 @@ pub fn answers_are_one_text()
     ensures allowed { TextsAreTold }
 {}
 
-/// `text_of`, which hands each line a row of numbers of its own, computes a text of each script (`some`), and that is
-/// its one text (`one`).
+/// `text_of`, which hands each line its own row of numbers, computes a text of each script (`some`), given for each
+/// line whether an allocation fails. Each text of the script is that one (`one`).
 pub fn whole_machine_has_one_text()
     ensures some { SomeTextIsThere }
     ensures one { WholeMachineHasOneText }

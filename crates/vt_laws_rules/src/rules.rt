@@ -1,20 +1,21 @@
 //! Which rule refuses a call.
 ghost use Rattle.vt_laws_rules.specs.RuleOrder.{DenialHasErrorOfRule, DenialIsOwn, DeniedLineIsOwn, FirstRulesAnswer, FirstTablesInOrder, FollowRulesInReverse, LastRulesAnswer, LastTablesInOrder, LastWordRulesInOrder, MissingBeforeSlash, NoTaskIsRefused, ParentRulesInOrder, RemovedBeforeSlash, RemovedBeforeSlashOfRename, StepRulesInOrder, TextRulesInOrder, WalksAnswerNext, WalksRefuseAsWalks};
 
-/// A call is refused by S2, its own rules and those of its walks alone (`own`), with the error of the rule (`error`).
-/// So is a `line` of a script, which the grammar and a failed allocation may refuse, too.
+/// A call is refused by S2, its own rules and those of its walks alone (`own`), with the error of the rule (`error`). A
+/// `line` may also be refused by the grammar (S1) or for a failed allocation (S5), a directive only by these and S2.
 pub fn denials_are_by_own_rules()
     ensures own { DenialIsOwn }
     ensures error { DenialHasErrorOfRule }
     ensures line { DeniedLineIsOwn }
 {}
 
-/// Of several rules that fail, the least in the policy's order answers, and a call that fails none is granted.
+/// Of several rules that fail, the least in the policy's order answers.
 ///
 /// - `no_task`: a call of a task that does not exist is refused by S2.
-/// - `first`: S and K rules that are checked before the walks answer first.
+/// - `first`: if S or K rules that are checked before the walks fail, the least of them answers.
 /// - `walks`: if none of these fails, a refused walk is the call's refusal, path by path.
-/// - `last`: if no walk is refused, the least failing rule of the call's last table answers, or the call is granted.
+/// - `last`: if no walk is refused, the least failing rule of the call's last table answers. If none fails, the call is
+///   granted.
 /// - `walk_rules`: a walk is refused by rules of walks, or by its special last word.
 pub fn the_least_rule_answers()
     ensures no_task { NoTaskIsRefused }
@@ -24,14 +25,15 @@ pub fn the_least_rule_answers()
     ensures walk_rules { WalksRefuseAsWalks }
 {}
 
-/// Each table of rules is in the policy's order: those checked before the walks (`first`) and after them (`last`),
-/// those of `texts`, of `steps` and of `parents`. The exceptions are exact:
+/// The policy orders rules by letter (S, K, W, E, F, L, P, C, O, B, M), then by number. In order are the tables checked
+/// before the walks (`first`, up to W1) and after them (`last`, beyond W9), and those of `texts`, `steps` and
+/// `parents`. So are the special last words of `rmdir` and of an exclusive `open` (`last_words`, beyond W9).
+///
+/// Exceptions:
 ///
 /// - `links`: of a symlink W9 is checked before W7, and W7 before W2.
-/// - `last_words`: the special last words of `rmdir` and of an exclusive `open` come before the last table, which
-///   begins with a lesser rule.
-/// - `removed_before_slash`, `removed_before_slash_of_rename`: a removed directory (W8) answers before a slash behind
-///   a missing name (W6; of a rename W3).
+/// - `removed_before_slash`, `removed_before_slash_of_rename`: a removed directory (W8) answers before a slash behind a
+///   missing name (W6; of a rename W3).
 /// - `missing_before_slash`: a missing name (W6) answers before the slash behind it (W3).
 pub fn tables_are_in_order()
     ensures first { FirstTablesInOrder }

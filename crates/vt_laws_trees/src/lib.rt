@@ -1,13 +1,9 @@
-//! Trees: every call leaves trees, within their limits; what calls change of inodes and tasks; and the layers of
-//! overlays, what they show, and changes through them.
+//! Trees: every call leaves trees, within their limits; what calls change of inodes and tasks; what the layers of
+//! overlays show, and changes through overlays.
 //!
-//! | module | laws of |
-//! |---|---|
-//! | `trees` | what each change of a tree leaves |
-//! | `calls` | what calls may change of tasks and inodes, and which directories walks search |
-//! | `runs` | runs of a program over plain filesystems, which gives the numbers of inodes out again |
-//! | `layers` | what layers show, what locks them, and what `mount overlay` makes of them |
-//! | `overlays` | changes of overlays, and their merged trees in terms of the layers alone |
+//! A *plain call* is made in a world without overlays, and is no `mount overlay`. A *call on files*
+//! (`changes_no_mount`) is no mount call, and none of `pivot_root`, `exit`, `unshare` and `setns`. Numbers are
+//! *distinct* if no two are equal.
 //!
 //! Each public function is a theorem of the written policy, and does nothing.
 #![tactic(auto)]

@@ -1,5 +1,5 @@
-//! Runs of a program, which keeps its world but for change numbers and the order of numbers beside trees, and gives
-//! the numbers of inodes out again. Filesystems are plain, and no call mounts an overlay.
+//! Runs of a program that keeps its world but for change numbers and the order of numbers beside trees (`SameWorlds`),
+//! and gives numbers of inodes out again. Calls are plain.
 
 pub mod answered;
 pub mod handed;

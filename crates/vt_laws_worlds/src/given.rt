@@ -1,5 +1,4 @@
-//! Laws of the permits that calls are given in worlds with overlays: what they leave, and the numbers that a call is
-//! handed.
+//! Permits that calls are given.
 
 pub mod handed;
 pub mod left;

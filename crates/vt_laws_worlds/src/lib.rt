@@ -1,17 +1,18 @@
 //! The invariants of a world, which every call of every script keeps, and what permits do to a world with them.
 //!
-//! `IsWorld` (`Invariants.antt`) has the invariants of trees, overlays, mounts, namespaces and tasks, that the root
-//! and the mount point of each mount exist, and that all is in use.
+//! *All invariants* (`IsWorld`) are those of trees, overlays, mounts, namespaces and tasks; that roots and mount points
+//! of mounts exist; and that all is in use. Worlds have them unless a law says *any* world; *under way* they lack the
+//! last. A world is *plain* without overlays. It is *fit for overlays* if filesystems are trees, no upper layer is in
+//! an overlay, and only inodes that exist have real objects.
 //!
-//! | module | laws of |
-//! |---|---|
-//! | `worlds`, `kept`, `opening`, `settling` | worlds without overlays: every call keeps the invariants |
-//! | `permits` | permits on plain filesystems, applied to a world that is the same but for numbers |
-//! | `overlays_let_go` | what a call on overlays let go of |
-//! | `merging`, `seen` | overlays whose merged tree is not kept: changes, copies, uses |
-//! | `overlay_permits`, `given` | permits on overlays; every world keeps its invariants |
-//! | `overlays_granted`, `overlays_read`, `overlays_stay` | overlays without an upper layer |
-//! | `one_text` | a script has one text, whatever numbers are handed in |
+//! Worlds are *the same* (`SameWorlds`) but for change numbers and the order of the numbers beside trees. A world
+//! *keeps to* some numbers if each renaming of others leaves it as it is (`KeepsTo`). Numbers are *unused* if none is
+//! in use and no two are equal (`Serves`). The count `c` is the number `4·c + 1`; inodes have even numbers.
+//!
+//! *Each call*, granted or refused, is handed unused numbers, and a fork names at most 32 supplementary groups. A
+//! permit is *given* if such a call of an existing task is given it (`IsGivenToTask`; not for `mount overlay`
+//! `IsGiven`). It *leaves* the world that it makes, swept (`left_by`). A script *leads to* worlds from an opening world
+//! without equal numbers, by unused numbers, whichever lines an allocation fails in (`LeadsTo`).
 //!
 //! Each public function is a theorem of the written policy, and does nothing.
 #![tactic(auto)]

@@ -1,4 +1,4 @@
-//! Merged trees of overlays, for code that keeps none: what a change makes of the upper layer, in terms of layers alone.
+//! Overlays, for code that keeps no merged tree.
 
 pub mod mounted;
 pub mod upper;

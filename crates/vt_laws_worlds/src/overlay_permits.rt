@@ -1,5 +1,5 @@
-//! Permits on overlays, and every world: of every world with all invariants, with overlays or without, and every call
-//! of a task of it, by unused numbers.
+//! Granted calls of existing tasks, by unused numbers. A permit asks for the change that it makes, also for the copy of
+//! an `open`.
 
 pub mod asked;
 pub mod changed;

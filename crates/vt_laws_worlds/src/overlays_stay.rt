@@ -1,12 +1,6 @@
-//! Laws of worlds whose overlays have no upper layer: a call other than the mount of an overlay leaves these overlays
-//! as they are, and gives none an upper layer.
-//!
-//! | words | meaning |
-//! |---|---|
-//! | no upper layer (`OverlaysHaveNoUpper`) | no overlay of the world has one; so each is read-only (the kernel's overlayfs document, "multiple lower layers") |
-//! | named (`OverlaysAreNamed`) | each inode of each overlay is the root, or has a name |
-//! | woven (`woven`) | plain filesystems and overlays that are kept apart, put together in the order of their numbers |
-//! | given (`IsGiven`) | a call of a task that exists, other than the mount of an overlay, is given the permit; the numbers handed in are unused |
+//! Overlays without an upper layer stay, and none gets one. A world *has no upper layer* (`OverlaysHaveNoUpper`) if
+//! none of its overlays has one. *All are named* (`OverlaysAreNamed`) if each inode of each overlay is the root or has
+//! a name. Permits are given, and not for `mount overlay` (`IsGiven`).
 
 pub mod in_use;
 pub mod kept;

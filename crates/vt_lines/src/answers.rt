@@ -1,5 +1,5 @@
 //! The answers to a script, as a run writes them.
-ghost use Rattle.std.specs.Prelude.{◌≡◌, ◌^◌, ◌<◌, length, IfOk};
+ghost use Rattle.std.specs.Prelude.{◌≡◌, ◌^◌, ◌<◌, IfOk};
 ghost use Rattle.vt_line.specs.Versions.{version_of};
 ghost use Rattle.vt_lines.specs.Answers.{IsWrittenBy};
 

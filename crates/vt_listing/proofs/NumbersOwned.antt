@@ -1,13 +1,11 @@
 -- The inodes of plain filesystems and of overlays have numbers of their own nodes, which tell them apart.
 use Rattle.std.proofs.Common.{◌≡◌, ◌<◌, ◌≤◌, refl, sym, ap, subst, ◌∙◌, true≢false, ℕ, nat_eq, eq-eqb, Bool, true, false, List, Option, Some, None, is_some, length, arith}
 use Rattle.std.proofs.lemmas.Option.{slice_get_within}
-use Rattle.vt_spec.proofs.Options.{none_is_some}
 use Rattle.vt_spec.specs.Inodes.{node_in}
 use Rattle.vt_spec.specs.Tree.{Node}
 use Rattle.vt_laws_mounts.proofs.letting_go.Lists.{among_from_all}
 use Rattle.vt_location.specs.declared.births.Birth.TheVariants.{Here}
 use Rattle.vt_location.specs.declared.locations.NodeRef.{NodeRef}
-use Rattle.vt_location.specs.declared.numbers.FilesystemId.{FilesystemId}
 use Rattle.vt_location.specs.Births.{born_in}
 use Rattle.vt_location.specs.Locations.{number_of}
 use Rattle.vt_location.specs.NodeNumbers.{IsSmall}
@@ -15,7 +13,7 @@ use Rattle.vt_location.specs.Numbers.{counted, is_inode_of}
 use Rattle.vt_location.proofs.NodeLemmas.{one_to_one}
 use Rattle.vt_location.proofs.NumberLemmas.{counted_inode, slot_of}
 use Rattle.vt_fs.specs.FilesystemsValue.{Filesystems, files_at, inodes_at}
-use Rattle.vt_overlay.specs.MergedTree.{AreLayers, OverlayValue, birth_at, longest, merged_tree, node_born, overlay_seen, path_at, plain_world, real_number, slot_at}
+use Rattle.vt_overlay.specs.MergedTree.{AreLayers, OverlayValue, longest, merged_tree, node_born, overlay_seen, path_at, plain_world, real_number}
 use Rattle.vt_overlay.proofs.BirthsFound.{in_slot, small_birth}
 use Rattle.vt_overlay.proofs.TreeFound.{found_is_at}
 use Rattle.vt_laws_trees.specs.Overlays.TreesSeen.{node_by}

@@ -1,5 +1,5 @@
 -- What a table of mounts shows of the worlds that have its mounts, groups and filesystems.
-use Rattle.std.proofs.Common.{◌≡◌, refl, sym, ap, ◌∙◌, nat_eq, ℕ, List, [], Option, map, reverse}
+use Rattle.std.proofs.Common.{◌≡◌, refl, ◌∙◌, nat_eq, ℕ, List, [], Option, map, reverse}
 use Rattle.vt_spec.specs.FileTree.{FileTree, ancestors, own_name, path_down}
 use Rattle.vt_spec.specs.Lists.{before_first, is_among, when}
 use Rattle.vt_spec.specs.Machine.World.{World, filesystem_numbered}
@@ -8,7 +8,7 @@ use Rattle.vt_group.specs.Grouping.{master_in}
 use Rattle.vt_location.specs.Numbers.{counted}
 use Rattle.vt_mount.specs.MountsValue.{mounts_in}
 use Rattle.vt_store.specs.StoreValue.{files_in}
-use Rattle.vt_listing.specs.Shown.{IsShown, world_shown}
+use Rattle.vt_listing.specs.Shown.{IsShown}
 use Rattle.vt_listing.specs.declared.table.MountTable.{MountTable}
 
 -- the names that lead down to a directory, by the directories above it

@@ -1,10 +1,9 @@
 //! A task that forks: fork(2).
-ghost use Rattle.std.specs.Prelude.{◌<◌, ◌↔◌, ◌≡◌, IfOk, IfSome, OnErr, OnOk, Some, false, find, nat_eq, option_map, true, unwrap_or};
+ghost use Rattle.std.specs.Prelude.{◌<◌, ◌↔◌, ◌≡◌, IfOk, IfSome, OnErr, OnOk, Some, false, find, nat_eq, option_map, true};
 ghost use Rattle.vt_location.specs.Locations.{is_small_node};
 ghost use Rattle.vt_spec.specs.Machine.Tasks.{child_name};
 ghost use Rattle.vt_spec.specs.Machine.Permits.Permit.{ToFork};
 ghost use Rattle.vt_spec.specs.Machine.World.{task_called};
-ghost use Rattle.vt_spec.specs.Errors.{denial};
 ghost use Rattle.vt_mounting.specs.Detach.Events.{Becomes, Permits};
 ghost use Rattle.vt_mounting.specs.Detach.Forking.{HasRoom, with_task_more};
 ghost use Rattle.vt_mounting.specs.Detach.Stored.{kept};

@@ -3,7 +3,6 @@ ghost use Rattle.std.specs.Prelude.{◌≡◌, IfSome, None, Some, nat_eq, optio
 ghost use Rattle.vt_cred.specs.Rights.{right_bits};
 ghost use Rattle.vt_spec.specs.Machine.Rightful.{node_allows};
 ghost use Rattle.vt_spec.specs.Machine.World.{mount_numbered};
-ghost use Rattle.vt_location.specs.Locations.{location_of, number_of};
 ghost use Rattle.vt_location.specs.Numbers.{filesystem_number, mount_number};
 ghost use Rattle.vt_mounting.specs.Detach.Looking.{is_seen, looks_of_value};
 ghost use Rattle.vt_store.specs.StoreValue.{overlay_in};

@@ -10,7 +10,7 @@ ghost use Rattle.vt_spec.specs.Machine.Mounts as meant;
 ghost use Rattle.vt_spec.specs.Language.Calls.{MountFlags};
 ghost use Rattle.vt_spec.specs.Machine.Permits.Permit.{ToMountOverlay, ToMove};
 ghost use Rattle.vt_spec.specs.Machine.Rules.Mounting.{overlay_at};
-ghost use Rattle.vt_spec.specs.Machine.World.{Overlay, World as Meant, mount_numbered};
+ghost use Rattle.vt_spec.specs.Machine.World.{Overlay, World as Meant};
 ghost use Rattle.vt_tasks.specs.TaskValue.{task_of};
 ghost use Rattle.vt_layers.specs.LayersValue.{lowers_alone, lowers_of};
 ghost use Rattle.vt_mounting.specs.Detach.Looking.{looks_of_value, overfills_of};

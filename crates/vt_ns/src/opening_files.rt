@@ -1,13 +1,11 @@
 //! The event that makes a file and opens it: open(2) with O_CREAT.
-ghost use Rattle.std.specs.Prelude.{◌<◌, ◌≡◌, IfOk, None, OnErr, OnOk, Some, nat_eq, option_map, true};
-ghost use Rattle.vt_fs.specs.FilesystemsValue.{ChangesInodes, entry_at, files_at, next_seen, node_seen};
+ghost use Rattle.std.specs.Prelude.{◌<◌, ◌≡◌, IfOk, None, OnErr, OnOk, Some, option_map, true};
+ghost use Rattle.vt_fs.specs.FilesystemsValue.{files_at};
 ghost use Rattle.vt_location.specs.Locations.{number_of};
 ghost use Rattle.vt_location.specs.Numbers.{counted, mount_number};
 ghost use Rattle.vt_mount.specs.MountsValue.{uses_of, writers_of};
 ghost use Rattle.vt_permits.specs.GrantValue.{descriptor_permit};
 ghost use Rattle.vt_permits.specs.declared.grant.DescriptorGrant.TheVariants.{OpenNew};
-ghost use Rattle.vt_spec.specs.Inodes.{changed};
-ghost use Rattle.vt_spec.specs.Language.Changes.Change.{Make};
 ghost use Rattle.vt_spec.specs.Laws.Trees.{IsNewIn};
 ghost use Rattle.vt_spec.specs.Machine.Descriptors.{free_number};
 ghost use Rattle.vt_spec.specs.Machine.World.{task_called};

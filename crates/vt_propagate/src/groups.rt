@@ -1,5 +1,5 @@
 //! Types and groups of copies: the kernel's document sharedsubtree, "Bind semantics" and "Move semantics".
-ghost use Rattle.std.specs.Prelude.{◌≡◌, ◌<◌, find, length, map, nat_eq, option_map};
+ghost use Rattle.std.specs.Prelude.{◌≡◌, ◌<◌, find, length, nat_eq, option_map};
 ghost use Rattle.vt_spec.specs.Machine.Attach.{image as image_of};
 ghost use Rattle.vt_spec.specs.Machine.Receives.{groups_up, has_members};
 ghost use Rattle.vt_location.specs.Numbers.{group_number};

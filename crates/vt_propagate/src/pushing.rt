@@ -4,7 +4,7 @@ ghost use Rattle.std.specs.Prelude.{◌≡◌, ◌*◌, ◌++◌, [], IfOk, OnOk
 ghost use Rattle.std.specs.List.{cons_option};
 ghost use Rattle.vt_spec.specs.Lists.{holds_of};
 ghost use Rattle.vt_spec.specs.Machine.Attach.{parts_of, top_of_copies};
-ghost use Rattle.vt_spec.specs.Machine.Mounts.{child_at, root_of, same_location, stands_at as stands_at_place, topmost as topmost_of};
+ghost use Rattle.vt_spec.specs.Machine.Mounts.{child_at, root_of, stands_at as stands_at_place, topmost as topmost_of};
 ghost use Rattle.vt_spec.specs.Machine.World.{World};
 ghost use Rattle.vt_location.specs.Locations.{location_of};
 ghost use Rattle.vt_location.specs.MountValue.{mount_of};

@@ -1,6 +1,6 @@
 //! Inodes by number. A number keeps its inode until the last use of the inode goes, and only then is it given out
 //! again.
-ghost use Rattle.std.specs.Prelude.{◌≡◌, ℕ, ◌^◌, [], ◌+◌, ◌-◌, ◌<◌, ◌≤◌, None, Some, IsSome, IsOk, IfOk, OnOk, OnErr, ◌↔◌, option_copied, if◌then◌else◌, IsErr};
+ghost use Rattle.std.specs.Prelude.{◌≡◌, ℕ, ◌^◌, [], ◌+◌, ◌-◌, ◌<◌, ◌≤◌, None, Some, IsSome, IsOk, OnOk, OnErr, ◌↔◌, option_copied, if◌then◌else◌, IsErr};
 ghost use Rattle.std.specs.Option.{option_copied_mut};
 ghost use Rattle.std.specs.Borrow.{Lends, sem};
 ghost use Rattle.vt_spec.specs.Inodes.{uses_in, used_once_less, used_once_more};

@@ -1,10 +1,11 @@
-//! Whether namespaces have room for the mounts that a call attaches.
+//! Whether namespaces have room for the mounts that a call attaches. Numbers handed in are any, and a `bind` is in any
+//! world.
 ghost use Rattle.vt_laws_later_calls.specs.Limits.Room.{BindNeedsRoom, BindsAskForRoom, MoveNeedsRoom, MovesAskForRoom, NewMountNeedsRoom, NewMountsAskForRoom, OverlaysAskForRoom};
 
 /// M9 fails just if the mounts of some namespace, with those that the call adds there, are over the limit
-/// (`lacks_room`). A `new_mount`, or one of an `overlay`, adds one for each part in the namespace. A `bind` adds as
-/// many for each part as it copies mounts, in every world. A move (`moves`) of an existing mount adds its tree for each
-/// part, less those of the tree that are in the namespace already. All but `bind` ask for a world with all invariants.
+/// (`lacks_room`). For each part in the namespace a `new_mount`, or one of an `overlay`, adds one, a `bind` as many as
+/// it copies. A move (`moves`) of an existing mount adds its tree for each part, less those of the tree that are there
+/// already.
 pub fn full_namespaces_are_counted()
     ensures new_mount { NewMountsAskForRoom }
     ensures overlay { OverlaysAskForRoom }
@@ -12,10 +13,9 @@ pub fn full_namespaces_are_counted()
     ensures moves { MovesAskForRoom }
 {}
 
-/// **A full namespace refuses an attachment.** Where some namespace lacks room, M9 refuses a `new_mount`, a `bind` and
-/// a move (`moves`), and the world stays. Where each has room, they are granted. The task exists and holds
-/// CAP_SYS_ADMIN, paths lead where they have to, and no other rule of the table fails. All but `bind` ask for all
-/// invariants.
+/// If some namespace lacks room, M9 refuses a `new_mount`, `bind` and move (`moves`), and the world stays; else they
+/// are granted. The task exists and holds CAP_SYS_ADMIN, paths lead where they have to, and no other rule of the last
+/// table fails. Of `mount overlay` this says nothing.
 pub fn a_full_namespace_refuses_attachments()
     ensures new_mount { NewMountNeedsRoom }
     ensures bind { BindNeedsRoom }

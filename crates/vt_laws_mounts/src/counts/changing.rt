@@ -1,10 +1,10 @@
-//! A change of a plain tree, with the counts of its inodes: all eight kinds of change (`IsChange`).
+//! Changes of a plain tree with the counts of its inodes.
 ghost use Rattle.vt_laws_mounts.specs.Counts.Changing.{CountedChangesAreSwept, CountsFollowChanges, NamesKeepAll, OnlyFilesChange, OtherCountsStay};
 ghost use Rattle.vt_laws_mounts.specs.Counts.Numbers.{SameNumbersArePermuted};
 
-/// After a change and the sweep the world differs in the files of that filesystem alone (`only`). The changed inodes
-/// are its counted inodes then (`counts`), and those of every other filesystem stay (`others`). Where no name goes
-/// (all but `Remove` and `Move`) the sweep takes nothing (`named`).
+/// A change, of any of the eight kinds, and the sweep change the files of that filesystem `only`. Its counted inodes
+/// are the changed ones (`counts`), and those of other filesystems stay (`others`). If it is no `Remove` and no `Move`,
+/// the sweep takes nothing (`named`).
 pub fn changes_are_counted()
     ensures only { OnlyFilesChange }
     ensures counts { CountsFollowChanges }
@@ -12,9 +12,9 @@ pub fn changes_are_counted()
     ensures named { NamesKeepAll }
 {}
 
-/// A `world` with the tree of the changed inodes, their numbers beside it in whatever order, each once, is the same as
-/// the one after the change and the sweep (`SameWorlds`). Two lists of the same `numbers`, each once, are permutations
-/// of each other.
+/// The `world` after a change and the sweep is the same (`SameWorlds`) as the old one with the tree of the changed
+/// inodes. Their numbers stand beside it, each once, in any order. Two lists of the same `numbers`, each once, are
+/// permutations.
 pub fn counted_inodes_are_the_world()
     ensures numbers { SameNumbersArePermuted }
     ensures world { CountedChangesAreSwept }

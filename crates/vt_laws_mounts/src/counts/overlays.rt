@@ -1,34 +1,33 @@
-//! Counts in worlds with overlays: inodes of plain trees beside overlays, filesystems in which overlays have layers,
-//! and overlays that stay.
+//! Counts in worlds with overlays.
 ghost use Rattle.vt_laws_mounts.specs.Counts.BesideOverlays.{AnySameWorldsCountAlike, CountedChangesAreSweptBesideOverlays, CountsFollowChangesBesideOverlays, NamesKeepAllBesideOverlays, NewTreeIsCountedBesideOverlays, NoUpperIsInAny, OnlyFilesChangeBesideOverlays, OtherCountsStayBesideOverlays, OverlaysAreUses, OverlaysTakeTheirUses, PlainOnesUseNothing, UsesAreExchangedBesideOverlays, UsesAreSweptBesideOverlays};
 ghost use Rattle.vt_laws_mounts.specs.Counts.OverlaysStay.{AllLayersAreMounted, FilesystemGoesAtZeroBesideOverlays, LayersLeftAreMounted, LivesWhileCounted, LivesWhileMounted, NamedOverlayStays, NamedOverlaysStay, OverlaysAreMounted, OverlaysAreNoLayers, OverlaysUseFilesystems};
 
-/// `uses_are_exchanged` in a world with overlays, of a filesystem in which none has its upper layer afterwards
-/// (`one_by_one`, `swept`). Where no overlay has an upper layer, none has one in any filesystem (`none`).
+/// `uses_are_exchanged` (`one_by_one`, `swept`) with overlays, none of which has its upper layer in the filesystem
+/// afterwards. If no overlay has an upper layer, none has one in any (`none`).
 pub fn uses_are_exchanged_beside_overlays()
     ensures one_by_one { UsesAreExchangedBesideOverlays }
     ensures swept { UsesAreSweptBesideOverlays }
     ensures none { NoUpperIsInAny }
 {}
 
-/// Where overlays come and go, a filesystem that stays gets the uses of those that come, and loses the uses of those
-/// that go (`lists`). These are directories of layers, and upper objects; mounts and locations are the same. So where
-/// those go that do not pass a `test`. Where `plain` filesystems come and go alone, nothing is exchanged.
+/// Mounts and locations stay. In a filesystem that stays, overlays that come and go exchange the directories of their
+/// layers and their upper objects (`lists`), as do those that a `test` takes away. If `plain` filesystems alone come
+/// and go, nothing is exchanged.
 pub fn overlays_are_uses()
     ensures lists { OverlaysAreUses }
     ensures test { OverlaysTakeTheirUses }
     ensures plain { PlainOnesUseNothing }
 {}
 
-/// Overlays that come and go are as many layers more and less in the counts of layers (`layers`). Where those are left
-/// that are mounted, that is the count of layers that mounted overlays had (`left`).
+/// Overlays that come and go are as many layers more and less in the counts of layers (`layers`). If just the mounted
+/// ones are left, the count is that of layers of mounted ones before (`left`).
 pub fn overlays_count_as_layers()
     ensures layers { OverlaysUseFilesystems }
     ensures left { LayersLeftAreMounted }
 {}
 
-/// `changes_are_counted` and `counted_inodes_are_the_world` of a plain filesystem, in every world, overlays or not
-/// (`IsChangeOfPlain`).
+/// `changes_are_counted` (`only`, `counts`, `others`, `named`) and `counted_inodes_are_the_world` (`world`) of a plain
+/// filesystem, with overlays in the world or not (`IsChangeOfPlain`).
 pub fn changes_beside_overlays_are_counted()
     ensures only { OnlyFilesChangeBesideOverlays }
     ensures counts { CountsFollowChangesBesideOverlays }
@@ -37,35 +36,34 @@ pub fn changes_beside_overlays_are_counted()
     ensures world { CountedChangesAreSweptBesideOverlays }
 {}
 
-/// Worlds that differ in change numbers and the order of numbers alone (`SameWorlds`) have the same counted inodes.
+/// `same_worlds_count_alike` with overlays.
 pub fn any_same_worlds_count_alike()
     ensures { AnySameWorldsCountAlike }
 {}
 
-/// `a_new_tree_is_counted` in a world with overlays, none of which has a layer in that tree.
+/// `shown` of `a_new_tree_is_counted` with overlays, none of which has a layer in that tree.
 pub fn a_new_tree_is_counted_beside_overlays()
     ensures { NewTreeIsCountedBesideOverlays }
 {}
 
-/// A filesystem lives just while mounts show it or mounted overlays have layers in it (`lives`). So to look at it is to
-/// free it if both counts are zero (`goes`). One in which no overlay has a layer lives just while mounts show it
-/// (`mounted`).
+/// A filesystem lives just while mounts show it or mounted overlays have layers in it (`lives`); to look at it is to
+/// free it if both counts are zero (`goes`). If no overlay has a layer in it, mounts alone count (`mounted`).
 pub fn filesystems_live_while_counted()
     ensures lives { LivesWhileCounted }
     ensures goes { FilesystemGoesAtZeroBesideOverlays }
     ensures mounted { LivesWhileMounted }
 {}
 
-/// In a world with all invariants no overlay has a layer in an overlay (`no_layers`), each overlay is `mounted`, and
-/// all layers are of mounted overlays (`all`).
+/// In a world with all invariants no overlay has a layer in another (`no_layers`), each is `mounted`, and all layers
+/// are of mounted ones (`all`).
 pub fn overlays_of_worlds_are_mounted()
     ensures no_layers { OverlaysAreNoLayers }
     ensures mounted { OverlaysAreMounted }
     ensures all { AllLayersAreMounted }
 {}
 
-/// Where each inode of each overlay is the root or has a name, the sweep leaves overlays as they are, in their order,
-/// but for those that nothing uses (`all`). So it leaves each by its number (`one`).
+/// If each inode of each overlay is the root or has a name, the sweep frees unused overlays alone. It leaves the rest
+/// as they are, in order (`all`), and each by its number (`one`).
 pub fn overlays_whose_inodes_have_names_stay()
     ensures all { NamedOverlaysStay }
     ensures one { NamedOverlayStays }

@@ -1,16 +1,14 @@
-//! Each directory on the way of a walk is searched, in every world, with mounts, symlinks and overlays. The way of a
-//! path (`Way`, `Searched.antt`) is defined apart from walks: each word is looked up where the words before it lead.
-//! From a symlink it goes on where the words of its text lead. What is passed are the locations in which words are
-//! looked up.
+//! Each directory on the way of a walk is searched, in every world, with mounts, symlinks and overlays. On the *way* of
+//! a path (`Way`), defined apart from walks, each word is looked up where those before it lead. After a symlink it goes
+//! on where the words of its text lead. A location is *passed* if a word is looked up there.
 ghost use Rattle.vt_laws_trees.specs.Calls.Searched.{DestinationWaysAreSearched, DirectoryWaysAreSearched, EachLastWordIsLookedUpByRight, EachWordIsLookedUpByRight, FileWaysAreSearched, NewLeafWaysAreSearched, NewNameWaysAreSearched, ObjectWaysAreSearched, OldLeafWaysAreSearched, OldNameWaysAreSearched, PlaceWaysAreSearched, RenamedWaysAreSearched, SourceWaysAreSearched, SymlinkWaysAreSearched, WaysAreOne};
 
-/// A word is looked up in a directory that the task may search, and on an overlay its mounter, or the walk is refused
-/// (`words`). So is the last word of a path, if a call takes the name itself (`last_words`). Words have `one` way at
+/// A word is looked up in a directory that the task, and on an overlay its mounter, may search, or the walk is refused
+/// (`words`). The same is so of the last word, if a call takes the name itself (`last_words`). Words have `one` way at
 /// most.
 ///
-/// So a walk to one of `objects`, `directories` or `sources` that is not refused has gone the way of its path, and
-/// each location that it passed is such a directory. A walk to one of the `destinations` then goes on to the topmost
-/// mount over it.
+/// A walk to one of `objects`, `directories` or `sources` that is not refused went the way of its path, and passed such
+/// directories alone. One to `destinations` did, too, and then goes on to the topmost mount.
 pub fn each_directory_on_the_way_is_searched()
     ensures words { EachWordIsLookedUpByRight }
     ensures last_words { EachLastWordIsLookedUpByRight }
@@ -21,10 +19,9 @@ pub fn each_directory_on_the_way_is_searched()
     ensures one { WaysAreOne }
 {}
 
-/// So has a walk that does not follow a final symlink (`symlinks`), and each walk to a name that is made, moved,
-/// replaced or removed: `places`, `new_names`, `new_leaves`, `old_names`, `old_leaves`, `renamed`. The last word is
-/// looked up in such a directory too. So has the walk to one of `files` that is opened or made, through the texts of
-/// final symlinks.
+/// A walk that follows no final symlink does the same (`symlinks`), and one to a name that is made, moved, replaced or
+/// removed: `places`, `new_names`, `new_leaves`, `old_names`, `old_leaves`, `renamed`. The last word is looked up in
+/// such a directory, too. A walk to `files` opened or made does, through texts of final symlinks.
 pub fn each_directory_on_the_way_to_a_name_is_searched()
     ensures symlinks { SymlinkWaysAreSearched }
     ensures places { PlaceWaysAreSearched }

@@ -5,9 +5,9 @@ ghost use Rattle.vt_laws_trees.specs.Layers.Layers.Shown.{OneObjectIsShown, Show
 ghost use Rattle.vt_laws_trees.specs.Layers.Layers.Untouched.{OtherInodesStay, OtherFilesystemsStay, ChangeKeepsTheRest, LockedInodesStay};
 ghost use Rattle.vt_laws_trees.specs.Layers.Layers.Upper.{UpperFilesystemKeepsTheRest};
 
-/// At a path `one` object is shown or none: that of the highest layer that has one there and is not cut, unless it is
-/// a whiteout. What computes it finds this one (`computed`), or none (`nothing`). A directory shows just the `names`
-/// for which something is shown.
+/// At a path at most `one` object is shown: that of the highest layer that has one there and is not cut, unless it is a
+/// whiteout. It is the one `computed`, and none if none is (`nothing`). A directory shows just the `names` for which
+/// something is shown.
 pub fn one_object_is_shown()
     ensures one { OneObjectIsShown }
     ensures computed { ShownIsComputed }
@@ -15,14 +15,14 @@ pub fn one_object_is_shown()
     ensures names { NamesAreThoseShown }
 {}
 
-/// - `inodes`: a change of a tree leaves each inode that it does not make, or give other names, bytes, attributes or
-///   mark.
-/// - `filesystems`, `rest`: one through a mount leaves every filesystem but its own and that of its upper layer, and
-///   what is no filesystem.
-/// - `upper`: in the latter it leaves each inode that is not new and no upper object of the overlay, in a world with
-///   all invariants, if what the change speaks of exists.
-/// - `locked`: in every world a locked inode of a tree in which no overlay has its upper layer stays in every call on
-///   files, before the sweep, if its number is not new.
+/// Changes and calls keep, by clause:
+///
+/// - `inodes`: a change of a tree, each inode that it neither makes, nor gives other names, bytes, attributes or mark.
+/// - `filesystems`, `rest`: one through a mount, all but that filesystem and the one of its upper layer.
+/// - `upper`: in the latter, in a world with all invariants, if what the change names exists, each inode neither handed
+///   in nor an upper object of the overlay.
+/// - `locked`: a call on files, in every world, a locked inode, not handed in, of a plain tree in which no overlay has
+///   its upper layer.
 pub fn lower_layers_stay()
     ensures inodes { OtherInodesStay }
     ensures filesystems { OtherFilesystemsStay }
@@ -31,28 +31,24 @@ pub fn lower_layers_stay()
     ensures locked { LockedInodesStay }
 {}
 
-/// Where an overlay, as one record, is fit to change, and what the change speaks of exists, its tree changes as any
-/// tree (`changes`). In the upper layer stands, with its parents, what was asked for: a new object under its name, a
-/// further or another name, bytes, owner and mode, mark. There is a whiteout where a lower name is left, an opaque
-/// mark where a lower directory would be merged, and no whiteout in a directory that was removed or replaced. Every
-/// inode of that tree stays that is not new and no upper object.
+/// An overlay, as one record, is fit to change (`IsFitToChange`), and what the change names exists. Its tree changes as
+/// any tree. Its upper layer gets, with missing parents, what was asked for: an object under a name, bytes, owner and
+/// mode, or mark. It gets a whiteout where a lower name is left, and an opaque mark where a lower directory would be
+/// merged. No whiteout stays in a removed or replaced directory, and all inodes are kept there, but handed-in ones and
+/// upper objects (`changes`).
 ///
-/// - `copies`: what lay only below is copied to an inode with no names in it, under the name that it has, or under
-///   none.
-/// - `fit`: each overlay with an upper layer in a world with all invariants is fit to change, by new numbers, each
-///   another, that no inode of the upper layer's filesystem has.
-///
-/// That other upper objects stay says `changes_of_the_upper_layer_are_by_layers`.
+/// - `copies`: what lay only below is copied without names in it, under its name or none.
+/// - `fit`: each overlay with an upper layer in a world with all invariants is fit, by distinct numbers of no inode in
+///   that layer's filesystem.
 pub fn overlays_change_their_upper_layer()
     ensures changes { OverlayChanges }
     ensures copies { CopiesHaveTheirName }
     ensures fit { OverlaysAreFit }
 {}
 
-/// A newly made overlay has at every path what its layers show (`merged`): at least one, each a directory of a plain
-/// tree of a world with all invariants, by numbers that are each another. So one that is made anew over layers that
-/// lead at every path to what another overlay left there shows the same, whoever mounts it (`remount`): kind, owner,
-/// mode, content and mark are the same, numbers may differ.
+/// By distinct numbers, a new overlay that has layers in a world with all invariants is at every path what they show
+/// (`merged`). If these are at every path alike to those of another overlay in such a world, both show the same kind,
+/// owner, mode and content (`remount`). Who mounts it does not matter; numbers may differ.
 pub fn new_overlays_show_their_layers()
     ensures merged { NewOverlayIsMerged }
     ensures remount { RemountShowsTheSame }

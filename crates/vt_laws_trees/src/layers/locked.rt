@@ -1,18 +1,16 @@
-//! What lies in a layer of a live overlay is changed by nobody but that overlay, in its upper layer. These laws are of
-//! calls on files of a task of a world with all invariants, granted or refused, before the sweep; of whole calls and
-//! scripts see `lower_layers_are_locked_over_scripts`.
+//! What lies in a layer of a live overlay is changed by that overlay alone, in its upper layer. Calls are on files,
+//! granted or refused, by a task of a world with all invariants.
 ghost use Rattle.vt_laws_trees.specs.Layers.Layers.Locked.{CallsGoThroughOne, LowerLayersAreLocked, LowerPathsAreLocked, OtherPathsStay, UpperObjectsCount};
 
-/// What lies or counts under a lower layer of a live overlay keeps kind, owner, mode, names, bytes and mark, through
-/// whatever mount, if it has none of the new numbers (`calls`).
+/// What lies or counts under a lower layer of a live overlay is kept, if not handed in (`calls`). Upper `objects`, with
+/// or without a name, count under the upper directory.
 ///
-/// A call goes through one filesystem at most: all others but that of its upper layer are as they were, and what lies
-/// or counts under the upper and work directories of every other overlay stays (`others`). Upper `objects`, with and
-/// without a name, count there.
+/// A call goes through one filesystem at most, and leaves all but that and the one of its upper layer. What lies or
+/// counts under upper and work directories of other overlays is kept, if not handed in (`others`).
 ///
-/// So every path leads from a lower layer's directory where it led, and what is there is as it was, if the new numbers
-/// are of no inode there (`paths`). So it is from the upper and work directories of every overlay that the call does
-/// not go through (`other_paths`).
+/// From a lower layer's directory each path leads where it led, to what is kept, if no inode of that filesystem is
+/// handed in (`paths`). The same is so from upper and work directories of overlays that the call does not go through
+/// (`other_paths`).
 pub fn lower_layers_are_locked()
     ensures calls { LowerLayersAreLocked }
     ensures others { CallsGoThroughOne }

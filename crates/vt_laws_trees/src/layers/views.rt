@@ -1,5 +1,5 @@
-//! What a change of a plain tree is on the view of a layer in it: the inode to which each path leads, and each inode.
-//! "As it was" of an inode means kind, owner and mode, content but for names, and mark.
+//! What a change of a plain tree is on the view of a layer in it: the inode to which each path leads, and each inode. A
+//! name is *taken over* (`TakesName`) if it is free, or of what has no names in it.
 ghost use Rattle.vt_laws_trees.specs.Layers.Layers.ShownAfter.{LinkIsShown, MovedShowsBelow, NewNameIsShown, RemovedShowsBelow};
 ghost use Rattle.vt_laws_trees.specs.Layers.Layers.ShownAfter.{ShownByFronts, ShownElsewhereStays};
 ghost use Rattle.vt_laws_trees.specs.Layers.Layers.Views.{AddNameAddsPath, AddNameIsSeen, AttrChangesOneInode, BytesChangeOneInode};
@@ -8,12 +8,10 @@ ghost use Rattle.vt_laws_trees.specs.Layers.Layers.Views.{MarkChangesOneInode, M
 ghost use Rattle.vt_laws_trees.specs.Layers.Layers.Views.{OldLeadsNowhere, RemoveEndsPaths, RemoveIsSeen, RemoveTakesPath, ShownByViews};
 ghost use Rattle.vt_laws_trees.specs.Layers.Layers.Views.{ThroughIsSplit};
 
-/// - `made`: a new object without names in it, under a name that is free or of what has no names in it: the one path
-///   that ends in that entry leads to it, every other one where it led.
-/// - `inode`, `made_seen`: the new inode is as asked for, every other one as it was, at its number and at its paths.
-/// - `over`: in the place of what had names in it, but none that lead back to the directory, what lay under that is
-///   gone.
-/// - `linked`, `linked_seen`: so it is with a further name of an object that is no directory.
+/// A new object without names in it, by a new number, takes over a name. The one path that ends in that entry leads to
+/// it, others where they led (`made`). The new `inode` is as asked for, others are alike, in a tree at their paths, too
+/// (`made_seen`). If what had the name has names in it, none back to the directory, paths through it lead nowhere
+/// (`over`). A further name of a non-directory does the same (`linked`, `linked_seen`).
 pub fn new_names_add_a_path()
     ensures made { MakeAddsPath }
     ensures inode { MakeAddsInode }
@@ -23,18 +21,18 @@ pub fn new_names_add_a_path()
     ensures linked_seen { AddNameIsSeen }
 {}
 
-/// A name is taken from an object without names in it: the one path that ends in it leads nowhere, every other one
-/// where it led (`removed`), to what was there (`seen`). Whatever the name led to, just the paths that go through it
-/// lead nowhere (`under`).
+/// If a name is taken from an object without names in it, the one path that ends in it leads nowhere. Others lead where
+/// they led (`removed`), to what is alike (`seen`). Whatever had the name, just the paths through it lead nowhere
+/// (`under`).
 pub fn removed_names_take_a_path()
     ensures removed { RemoveTakesPath }
     ensures seen { RemoveIsSeen }
     ensures under { RemoveEndsPaths }
 {}
 
-/// After a move in a tree the new name and what follows lead where the object led by what follows (`on`), and so where
-/// the old name and what follows led (`as_old`). Of the `others` those through the old name lead nowhere, and the rest
-/// where they led. A path that goes through a name is a way to the directory, the name, and what follows (`split`).
+/// An object takes over a name of a directory not under it. In a tree, that name and what follows lead where the object
+/// led by what follows (`on`), as the old name did (`as_old`). Of the `others` those through the old name lead nowhere,
+/// the rest where they led. A path through a name is a way to its directory, the name, and a rest (`split`).
 pub fn moves_take_all_along()
     ensures on { MovedLeadsOn }
     ensures as_old { NewLeadsAsOld }
@@ -42,8 +40,8 @@ pub fn moves_take_all_along()
     ensures split { ThroughIsSplit }
 {}
 
-/// `bytes`, attributes (`attr`) and a `mark` move no path, and change the one inode. Changes of `names` alone leave
-/// every inode as it was. A change of inodes to which no path leads leaves the view (`elsewhere`).
+/// `bytes`, attributes (`attr`) and a `mark` move no path and change one inode. Changes of `names` alone leave inodes
+/// alike. In a tree, a change of inodes to which no path leads leaves the view alike (`elsewhere`).
 pub fn views_change_there_alone()
     ensures bytes { BytesChangeOneInode }
     ensures attr { AttrChangesOneInode }
@@ -52,18 +50,17 @@ pub fn views_change_there_alone()
     ensures elsewhere { ElsewhereKeepsView }
 {}
 
-/// Layers whose views lead alike, to like inodes, show the same object of the same layer `everywhere`. So they do
-/// `at_a_path`, if they lead to one number of one kind there, and at its prefixes to inodes of one kind with the same
-/// mark.
+/// Layers whose views lead alike, to alike inodes, show the same object of the same layer `everywhere`. They do
+/// `at_a_path`, if they lead there to one number of one kind, and at prefixes to one kind and mark.
 pub fn views_say_what_is_shown()
     ensures everywhere { ShownByViews }
     ensures at_a_path { ShownByFronts }
 {}
 
-/// A change of the upper layer leaves what is shown `elsewhere`: at each path that does not go through its names or,
-/// if it sets a mark, to that directory or through it. At a new name the new object is shown (`made`), or the one that
-/// it was given to (`linked`), unless it is a whiteout. At a name that was `removed` or `left` is shown what would be
-/// if the upper layer had nothing there.
+/// In a tree, a change of the upper layer whose new names are taken over leaves what is shown `elsewhere`: at paths not
+/// through its names, nor to or through a directory whose mark it sets. At a new name the new object is shown (`made`),
+/// or the `linked` one, unless a whiteout. At a name `removed` or `left` is shown what would be if the upper layer had
+/// nothing there.
 pub fn changes_of_the_upper_layer_show_there_alone()
     ensures elsewhere { ShownElsewhereStays }
     ensures made { NewNameIsShown }

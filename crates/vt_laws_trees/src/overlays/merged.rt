@@ -1,15 +1,13 @@
-//! Each merged tree is a function of what the layers show.
-//!
-//! A merged tree (`IsMergedTree`) is a listed tree that is what the layers show, each layer a directory of a tree. It
-//! is named (`IsNamedBy`) by the number that each real object has, and by what is held without a name.
+//! A *merged tree* (`IsMergedTree`) is a file tree that is what its layers show, directories of trees. It is *named*
+//! (`IsNamedBy`) by the number of each real object, and by what is held without a name.
 ghost use Rattle.vt_laws_trees.specs.Overlays.MergedTrees.{InodesAreThoseShown, MergedTreesAreOne, NumbersAreThoseShown, OtherInodesAreHeld, OverlaysAreMergedTrees};
 
-/// A path leads to the number of what the layers show there, or nowhere (`numbers`). The inode there has kind, owner,
-/// mode and bytes of that, and as entries the names that the layers show, with their numbers (`inodes`). Every other
-/// inode is just what is `held` under its number, with no names in it.
+/// A path leads to the number of what the layers show there, or nowhere (`numbers`). The inode there has that one's
+/// kind, owner, mode and bytes, and as entries the names shown, with their numbers (`inodes`). Every other is just what
+/// is `held` under its number, without names in it.
 ///
-/// So two merged trees of the same layers, with the same numbers and the same held inodes, are `one` tree with the
-/// same real objects. Each of the `overlays` of a world with all invariants has a merged tree.
+/// Merged trees of the same layers, numbers and held inodes are `one`, with the same real objects. In a world with all
+/// invariants `overlays` have merged trees.
 pub fn a_merged_tree_is_a_function()
     ensures numbers { NumbersAreThoseShown }
     ensures inodes { InodesAreThoseShown }

@@ -2,23 +2,20 @@
 ghost use Rattle.vt_laws_trees.specs.Overlays.WhatIsShown.{AttrKeepsWhole, BytesKeepWhole, CopiesKeepWhole, CopyKeepsWhole};
 ghost use Rattle.vt_laws_trees.specs.Overlays.WhatIsShown.{LinkKeepsShown, MakeKeepsShown, MarkKeepsWhole, MarkOfTheTreeIsNotShown, MoveKeepsShown, RemoveKeepsShown};
 
-/// A whole overlay is whole after each of these steps, or, after the last four, its tree is what its layers show:
+/// By new numbers, a whole overlay stays whole in each of these steps; in the last four it shows its layers.
 ///
 /// - `bytes`, `attr`: bytes, or owner and mode, of what stands in the upper layer are set.
-/// - `mark`: the mark of a directory is set in the upper layer, or taken, where no lower layer that is not cut has a
+/// - `mark`: a directory's mark is set or taken in the upper layer, where no lower layer that is not cut has a
 ///   directory.
-/// - `copy`, `copies`: one object that lies only below is copied up, by a new number, under its name in a directory of
-///   the upper layer or under none; or one with all directories above it that lie only below.
-/// - `made`: a new object, but a whiteout (O4), is put under a name that shows nothing, with an opaque mark over a
-///   lower directory.
-/// - `linked`: an object that is no directory gets a further name; both stand in the upper layer.
-/// - `removed`: the name of an object without names in it is taken, with a whiteout where lower layers show something
-///   there.
-/// - `moved`: an object is moved as the rules of `rename` let pass; all stand in the upper layer; a directory only
-///   where no lower layer that is not cut has one (O1).
+/// - `copy`, `copies`: what lies only below is copied up, under its name in a directory of the upper layer or none; or
+///   with the directories above it.
+/// - `made`: a new object, no whiteout (O4), gets a free name, with an opaque mark over a lower directory.
+/// - `linked`: a non-directory gets a further name.
+/// - `removed`: an object without names in it loses a name, with a whiteout over what lower layers show.
+/// - `moved`: an object moves as the rules of `rename` let pass, a directory by O1.
 ///
-/// If a mark is set on a directory through the overlay, in its own tree too, that is not what the layers show
-/// (`tree_mark`); O4 refuses it.
+/// Directories of the last four, and what is linked or moved, stand in the upper layer. With a directory marked opaque
+/// in its own tree the overlay does not show its layers (`tree_mark`).
 pub fn steps_keep_what_is_shown()
     ensures bytes { BytesKeepWhole }
     ensures attr { AttrKeepsWhole }

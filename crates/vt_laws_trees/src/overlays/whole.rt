@@ -1,11 +1,11 @@
-//! Changes follow one another.
+//! Changes that follow one another.
 ghost use Rattle.vt_laws_trees.specs.Overlays.LayersApart.{LayersStayApart, OverlayInvariantsStay, TreeInvariantsStay, TreesStay};
 ghost use Rattle.vt_laws_trees.specs.Overlays.WholeStays.{ChangesFollowOneAnother, ChangesKeepWhole, LinkKeepsWhole, MakeKeepsWhole};
 ghost use Rattle.vt_laws_trees.specs.Overlays.WholeStays.{MergedTreesStay, MoveKeepsWhole, NamesLeadToOwn, ObjectsAreOwn, RemoveKeepsWhole};
 ghost use Rattle.vt_laws_trees.specs.Overlays.WholeStays.{SizesStay, UpperTreesStay};
 
-/// A whole overlay stays whole in the steps `made`, `linked`, `removed` and `moved`, and in a whole change that asks
-/// for what it may (`changes`). So it does in any number of these (`rows`).
+/// A whole overlay stays whole in the steps `made`, `linked`, `removed` and `moved`, in a good change (`changes`), and
+/// in any number of these (`rows`).
 pub fn changes_keep_overlays_whole()
     ensures made { MakeKeepsWhole }
     ensures linked { LinkKeepsWhole }
@@ -15,12 +15,12 @@ pub fn changes_keep_overlays_whole()
     ensures rows { ChangesFollowOneAnother }
 {}
 
-/// In such a change the trees of the `upper` layer and of the overlay (`merged`) stay trees, with their numbers, and
-/// what lost its name is its own parent.
+/// After a good change the trees of the `upper` layer and of the overlay (`merged`) are file trees, if they were. They
+/// are within their limits, if they were and what the change gives is (`sizes`).
 ///
-/// Each of the `names` of the upper layer's tree leads where it led, to a new inode, or to an upper object of the
-/// overlay. That is no directory, or is led to from the upper layer's directory. The upper object of an inode is the
-/// one that it was, or new (`objects`). Limits are kept where what the change gives is within them (`sizes`).
+/// Each of the `names` of the upper tree leads where it led, to a handed-in number, or to an upper object: a
+/// non-directory, or one reached from the upper directory. The upper object of an inode is the old one, or handed in
+/// (`objects`).
 pub fn changes_keep_both_trees()
     ensures upper { UpperTreesStay }
     ensures merged { MergedTreesStay }
@@ -29,11 +29,9 @@ pub fn changes_keep_both_trees()
     ensures sizes { SizesStay }
 {}
 
-/// In a world with all invariants layers stand `apart` after such a change, by numbers that no inode has: no inode
-/// lies or counts under two that changes write to, nor under one of them and a lower layer of a live overlay. All
-/// invariants of `overlays` hold. Each filesystem is a tree with a number of its own, and names lead to the directory
-/// of the upper layer (`trees`). All invariants of trees hold, where what the change gives is within the limits
-/// (`files`).
+/// After a good change in a world all invariants of `overlays` hold: upper and work directories lie `apart` from each
+/// other and from live lower layers. Filesystems are file trees with their own numbers, and the upper directory is
+/// reached (`trees`). All invariants of trees hold, if what the change gives is within limits (`files`).
 pub fn changes_keep_overlay_invariants()
     ensures apart { LayersStayApart }
     ensures overlays { OverlayInvariantsStay }

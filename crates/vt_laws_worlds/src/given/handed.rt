@@ -1,9 +1,9 @@
-//! Laws of the numbers that a call is handed by a program that counts, and numbers inodes by their slots.
+//! Numbers that a program hands to a call.
 ghost use Rattle.vt_laws_worlds.specs.Given.NumbersHanded.{NumbersAtPlacesServe, NumbersAtPlacesServeNamed};
 
-/// A program hands a call counts from the next one on, and at some places different even numbers in their stead. These
-/// serve as new numbers in a world that keeps to other even numbers and to earlier counts (`serve`), or has no others
-/// (`named`). The places are those of new inodes whose slots are known, as copies to an upper layer.
+/// A program hands out counts from the next one on, with different even numbers at some places. These serve a line
+/// (`ServesInHand`) of any world that keeps to the other even numbers and earlier counts (`serve`), or has no others
+/// (`named`).
 pub fn numbers_at_places_serve()
     ensures serve { NumbersAtPlacesServe }
     ensures named { NumbersAtPlacesServeNamed }

@@ -1,10 +1,8 @@
-//! What a permit leaves is a world, with overlays too.
+//! What a permit leaves.
 ghost use Rattle.vt_laws_worlds.specs.Given.LeftWorlds.{GivenPermitsAreUnderWayAnywhere, GivenPermitsLeaveEveryWorld};
 
-/// The permit of any call, applied in a world with all invariants and swept, leaves such a world, with overlays or
-/// without (`worlds`). Before the sweep all invariants hold but that everything is in use (`under_way`).
-///
-/// The task exists, the numbers handed in are unused, and a fork names at most 32 supplementary groups.
+/// A given permit, also for `mount overlay`, leaves a world with all invariants (`worlds`), before the sweep one
+/// `under_way`.
 pub fn given_permits_leave_every_world()
     ensures worlds { GivenPermitsLeaveEveryWorld }
     ensures under_way { GivenPermitsAreUnderWayAnywhere }

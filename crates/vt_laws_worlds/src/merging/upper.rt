@@ -1,16 +1,16 @@
-//! What a change of an overlay makes of its upper layer. The overlay is whole (`IsWhole`), and new numbers, each
-//! another, are those of no inode of the upper layer's tree.
+//! What a change of a whole overlay (`IsWhole`) makes of its upper layer. New numbers are different, and no inode's of
+//! that layer's tree. A *place* is a path, or the real object of an object without a name.
 ghost use Rattle.vt_laws_worlds.specs.Merging.UpperChanges.{AttrIsSetAbove, BytesAreSetAbove, CopiesAreOfFronts, CopiesHideNothing, FrontsHaveTheirCopies, FrontsLeadToCopies};
 ghost use Rattle.vt_laws_worlds.specs.Merging.UpperChanges.{HeldHaveTheirCopies, LinkedAbove, MadeAbove, MarkIsSetAbove, MovedAbove, OpenedIsCopied, RemovedAbove};
 ghost use Rattle.vt_laws_worlds.specs.Merging.BelowChanges.{BelowEnds, BelowNames, BelowNew, BelowStays};
 ghost use Rattle.vt_laws_worlds.specs.Merging.UpperCalls.{AskedChangesHavePlaces, ChangesAreByLayers, UpperLayersAfterCalls, UpperLayersAfterWholeCalls};
 
-/// What a path leads to is copied up with what is shown at its prefixes, just where the upper layer has nothing, by
-/// the new number at the place of the prefix; an object without a name is copied alone (`copies`). Each prefix then
-/// leads to what it led to, or to its copy, and every other path leads where it led (`lead`).
+/// The copy of what a path leads to copies what is shown at each prefix where the upper layer has nothing, by the new
+/// number for the prefix's length. An object without a name is copied alone (`copies`). Each prefix then leads to what
+/// it led to, or to its copy, and every other path where it led (`lead`). Inodes at prefixes have these for real
+/// objects, all others keep theirs (`real`; `held` without a name).
 ///
-/// An inode at a prefix has for its real object what the prefix leads to then, every other inode keeps its own
-/// (`real`, `held`). What lower layers show at a name of a directory, and whether it is a directory, stays (`below`).
+/// What lower layers show at a name of a directory, and whether it is a directory, stays (`below`).
 pub fn copies_are_of_prefixes()
     ensures copies { CopiesAreOfFronts }
     ensures lead { FrontsLeadToCopies }
@@ -19,10 +19,10 @@ pub fn copies_are_of_prefixes()
     ensures below { CopiesHideNothing }
 {}
 
-/// What each change makes of the upper layer's tree, by its layers and the paths of its objects: `bytes`, owner and
-/// mode (`attr`), `mark`, a copy (`opened`). A new object gets a mark where lower layers show a directory (`made`);
-/// there is a further name (`linked`), a name that is `removed`, with a whiteout where lower layers show something, or
-/// an object that is `moved`. What they show is taken before the change.
+/// Layers and places say what each change makes of the upper layer's tree: `bytes`, owner and mode (`attr`), `mark`, a
+/// copy (`opened`), what is `made`, `linked`, `removed` or `moved`. What is made or moved is marked opaque where lower
+/// layers show a directory before the change. A name that is removed or left gets a whiteout where they show something.
+/// A directory that is removed or replaced loses its whiteouts.
 pub fn changes_of_the_upper_layer_are_by_layers()
     ensures bytes { BytesAreSetAbove }
     ensures attr { AttrIsSetAbove }
@@ -34,11 +34,9 @@ pub fn changes_of_the_upper_layer_are_by_layers()
     ensures moved { MovedAbove }
 {}
 
-/// The same as one function (`changed_above`) of a change that is at places (`Asks`: paths, or objects without a
-/// name): `changes`. What is asked well (`IsAskedWell`) is at some `places`.
-///
-/// In a world with all invariants, after a permit that changes an overlay at places, the files of its upper layer are
-/// those before it, so changed (`calls`). So they are after a `whole` call, before the sweep.
+/// One function (`changed_above`) says the same of each change at places (`changes`, `Asks`). A change that is asked
+/// well (`IsAskedWell`) is at some `places`. Before the sweep, a permit that changes an overlay at places (`calls`),
+/// and a `whole` call, leave the files of the upper layer so changed.
 pub fn calls_change_the_upper_layer_by_layers()
     ensures changes { ChangesAreByLayers }
     ensures places { AskedChangesHavePlaces }
@@ -46,11 +44,12 @@ pub fn calls_change_the_upper_layer_by_layers()
     ensures whole { UpperLayersAfterWholeCalls }
 {}
 
-/// What lower layers show at a path, whatever the upper layer has there, and whether it is a directory, stays in a
-/// change (`stays`), but where the path goes on from a name that is removed, or from the old or the new name of a
-/// move. At those `names` themselves it stays. At a path that goes on from one they show nothing after it (`ends`). At
-/// one that goes on from a `new` name they show nothing before it and after it. The change asks for what it may
-/// (`IsAskedWell`), at places (`Asks`).
+/// A change that is asked well, at places, *ends* the name that it removes, or both names of a move. What lower layers
+/// show at a path, the upper layer left out, and whether it is a directory, `stays` unless the path goes on from such a
+/// name.
+///
+/// At these `names` it stays; at paths that go on from them they show nothing afterwards (`ends`). At paths that go on
+/// from a `new` name, of a new or linked object, they show nothing before and afterwards.
 pub fn changes_leave_what_is_below()
     ensures stays { BelowStays }
     ensures names { BelowNames }

@@ -1,10 +1,10 @@
 //! What permits and the sweep leave of overlays.
 ghost use Rattle.vt_laws_worlds.specs.OverlaysStay.Kept.{MountedOverlayStays, MountedOverlaysStay, NumbersRiseStill, PermitsLeaveOverlays, PlainWorldsHaveNoOverlays, SameWorldsHaveNoUpperAlike, SeenTreesStay, SweepsGiveNoUpper, SweepsKeepNames};
 
-/// A permit that is given in a world with all invariants, in which no overlay has an upper layer, leaves all overlays
-/// as they were, in their order (`unswept`). After the sweep those are left that are `mounted`, as they were, if all
-/// their inodes have names; so each that is left (`one`). Its tree and its real objects are then found along the paths
-/// of its layers as they were (`seen`).
+/// Of a world without an upper layer a permit leaves, before the sweep, all overlays as they were, in their order
+/// (`unswept`). If all are named, the sweep leaves as they were those that are `mounted`, and so each that is left
+/// (`one`). Its tree and real objects are found along the paths of its layers as they were, however they are numbered
+/// (`seen`).
 pub fn overlays_without_an_upper_layer_stay()
     ensures unswept { PermitsLeaveOverlays }
     ensures mounted { MountedOverlaysStay }
@@ -12,22 +12,20 @@ pub fn overlays_without_an_upper_layer_stay()
     ensures seen { SeenTreesStay }
 {}
 
-/// Where the numbers of filesystems rise in the order of their list, whatever overlays there are, they rise after a
-/// permit, before the sweep and after it. A filesystem that the permit makes gets a greater number than all.
+/// Numbers of filesystems that rise in their list, whatever overlays there are, rise after a permit, before the sweep
+/// and after it. A filesystem that the permit makes has the greatest.
 pub fn numbers_of_filesystems_rise_still()
     ensures { NumbersRiseStill }
 {}
 
-/// The sweep gives no overlay an upper layer (`upper`), and leaves none an inode without a name, if none had one
-/// (`named`).
+/// The sweep of any world gives it no upper layer (`upper`), and leaves all named, if they were (`named`).
 pub fn sweeps_give_no_upper_layer()
     ensures upper { SweepsGiveNoUpper }
     ensures named { SweepsKeepNames }
 {}
 
-/// Worlds of `plain` filesystems have no overlay with an upper layer, and none with an inode without a name. Of two
-/// worlds that differ in change numbers and the order of numbers alone, the one has no upper layer if the other has
-/// none (`alike`).
+/// Any `plain` world has no upper layer, and all are named. Nor has one that is the same as a world without one
+/// (`alike`).
 pub fn worlds_without_upper_layers()
     ensures plain { PlainWorldsHaveNoOverlays }
     ensures alike { SameWorldsHaveNoUpperAlike }

@@ -1,10 +1,8 @@
-//! The world that a permit leaves where no overlay has an upper layer.
+//! What a permit leaves where no overlay has an upper layer.
 ghost use Rattle.vt_laws_worlds.specs.OverlaysStay.Left.{GivenPermitsAreUnderWayWithoutUpper, GivenPermitsGiveNoUpper, GivenPermitsKeepNames, GivenPermitsLeaveLowers, SameGivesNoUpper};
 
-/// A permit that is given in a world with all invariants, in which no overlay has an upper layer, leaves such a world
-/// after the sweep (`worlds`). Before it all invariants hold but that everything is in use (`under_way`). Inodes of
-/// overlays that all have names have names then (`named`). A world that differs from what is left in change numbers and
-/// the order of numbers alone is such a world, too (`same`).
+/// Of a world without an upper layer a permit leaves such a world with all invariants (`worlds`), and so is each that
+/// is the `same`; before the sweep it is one `under_way`. If all are `named`, they are then and after the sweep.
 pub fn given_permits_give_no_upper_layer()
     ensures worlds { GivenPermitsGiveNoUpper }
     ensures under_way { GivenPermitsAreUnderWayWithoutUpper }
@@ -12,9 +10,9 @@ pub fn given_permits_give_no_upper_layer()
     ensures same { SameGivesNoUpper }
 {}
 
-/// A permit that is given in a world with all invariants leaves the lower layers of each overlay that is there after
-/// the sweep, with an upper layer or without. The overlay has the layers that it had. Every path leads from the lower
-/// ones where it led, and what is there keeps kind, owner and mode, names, bytes and mark.
+/// Each overlay that exists after a permit, with an upper layer or without, has its layers. Every path leads from the
+/// lower ones where it led, and what is there, or lies or counts under them, keeps kind, owner, mode, names, bytes and
+/// mark.
 pub fn given_permits_leave_lower_layers()
     ensures { GivenPermitsLeaveLowers }
 {}

@@ -1,9 +1,10 @@
-//! Plain filesystems and overlays that are kept apart, woven by their numbers.
+//! *Woven* lists (`woven`) are plain filesystems and overlays, kept apart, put together in the order of their numbers.
+//! But for the last law they are any lists.
 ghost use Rattle.vt_laws_worlds.specs.OverlaysStay.Woven.{LeftWorldsAreWoven, PlainOnesAreFound, RisingListsAreWoven, WovenListsAreAlike, WovenListsAreFailing, WovenListsAreFiltered, WovenListsArePassing, WovenListsPassAll};
 
-/// A list whose numbers rise, taken apart by a test, is woven again (`rising`). Two lists that are woven are taken
-/// apart by a test that the one passes (`passing`) and the other fails (`failing`); the numbers of the one that passes
-/// rise. If the numbers of all that are woven rise, they are filtered as both lists are (`filtered`).
+/// A list whose numbers rise, parted by a test, is woven again (`rising`). Two lists, of which a test fails one and
+/// passes the other, are parted by it when woven: into the one (`failing`), and the other, if its numbers rise
+/// (`passing`). If all numbers rise too, what is woven is filtered as both are (`filtered`).
 pub fn rising_lists_are_woven()
     ensures rising { RisingListsAreWoven }
     ensures passing { WovenListsArePassing }
@@ -11,17 +12,18 @@ pub fn rising_lists_are_woven()
     ensures filtered { WovenListsAreFiltered }
 {}
 
-/// `all` that are woven of two lists pass a test just if all of both do. Lists that are the same but for change numbers
-/// and the order of numbers are woven `alike`. A number that no overlay has is `found` among the plain ones.
+/// All that are woven pass a test just if all of both lists do (`all`). Lists that are the same but for change numbers
+/// and the order of numbers beside trees are woven `alike`. A number that no overlay has is `found` among the plain
+/// ones.
 pub fn woven_lists_have_both()
     ensures all { WovenListsPassAll }
     ensures alike { WovenListsAreAlike }
     ensures found { PlainOnesAreFound }
 {}
 
-/// Let the filesystems of a world with all invariants be plain ones and overlays, woven by rising numbers. Then a
-/// permit leaves the plain ones that are left, woven with the overlays that are mounted. No overlay has an upper layer
-/// or an inode without a name, and a filesystem that the permit makes gets a greater number than all.
+/// Of a world without an upper layer, in which all are named, the filesystems are plain ones and overlays, woven, with
+/// rising numbers; one that the permit makes has the greatest. The permit leaves the plain ones that are left, woven
+/// with the overlays that are mounted.
 pub fn worlds_that_are_left_are_woven()
     ensures { LeftWorldsAreWoven }
 {}

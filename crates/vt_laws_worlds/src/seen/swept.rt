@@ -1,8 +1,9 @@
-//! Laws of what goes before the sweep at the end of a call.
+//! What may go before the sweep at the end of a call.
 ghost use Rattle.vt_laws_worlds.specs.Seen.SweptBefore.{AnyMayGoBefore, AnyOrderIsTheSweep, FilesystemsMayGoBefore, GroupsMayGoBefore, InodesMayGoBefore, MountsMayGoBefore};
 
-/// `mounts`, `filesystems`, `inodes` and `groups` that nothing uses may go before the sweep, which then leaves the same
-/// world.
+/// In any world `mounts`, `filesystems` and `groups` that nothing uses may go before the sweep, which then leaves the
+/// same world. So may `inodes`, if the world is fit for overlays, and without unused mounts no more is located
+/// (`LocationsStay`).
 pub fn what_nothing_uses_may_go_before()
     ensures mounts { MountsMayGoBefore }
     ensures filesystems { FilesystemsMayGoBefore }
@@ -10,9 +11,9 @@ pub fn what_nothing_uses_may_go_before()
     ensures groups { GroupsMayGoBefore }
 {}
 
-/// Where all mounts are in use, filesystems, inodes and groups that nothing uses may go in any order, some or all,
-/// before the sweep. The sweep then leaves the same world (`before`). Once all that is left is in use, that is the
-/// world that the sweep leaves (`whole`).
+/// In any world fit for overlays with all mounts in use, filesystems, inodes and groups that nothing uses may go before
+/// the sweep, in any order, some or all; it then leaves the same world (`before`). Once all that is left is in use,
+/// this is it (`whole`).
 pub fn things_go_in_any_order()
     ensures before { AnyMayGoBefore }
     ensures whole { AnyOrderIsTheSweep }

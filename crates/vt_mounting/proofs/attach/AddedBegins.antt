@@ -20,7 +20,7 @@ use Rattle.vt_laws_mounts.specs.LettingGo.Keeping.{LocationsStand}
 use Rattle.vt_laws_mounts.specs.LettingGo.Leaving.{MountsStand, stands_on_attached}
 use Rattle.vt_laws_mounts.specs.LettingGo.Mounting.{inode_at}
 use Rattle.vt_laws_mounts.specs.LettingGo.OneByOne.{Inode}
-use Rattle.vt_laws_mounts.proofs.letting_go.Lists.{Among, all_pass, among-append, among-append_left, among-append_right, among-from_map, among-map, among_from_all, any_passes, one_passes, or_first, passes, all_from_among}
+use Rattle.vt_laws_mounts.proofs.letting_go.Lists.{Among, all_pass, among-append, among-append_left, among-append_right, among-from_map, among-map, among_from_all, any_passes, one_passes, or_first, passes}
 use Rattle.vt_laws_mounts.proofs.letting_go.leaving.MountsAdded.{found_before}
 use Rattle.vt_laws_mounts.proofs.letting_go.sweeps.OfWorlds.{mounts_of_worlds_stand}
 use Rattle.vt_laws_mounts.proofs.letting_go.sweeps.UsesCounted.{located_while_counted}

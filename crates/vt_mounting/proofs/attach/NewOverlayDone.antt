@@ -49,7 +49,7 @@ use Rattle.vt_location.specs.Locations.{location_of}
 use Rattle.vt_location.specs.MountValue.{mount_of}
 use Rattle.vt_location.specs.Numbers.{counted}
 use Rattle.vt_mount.specs.MountsValue.{MountEntry, are_ascending, mounts_in}
-use Rattle.vt_overlay.specs.MergedTree.{AreLayers, OverlayValue}
+use Rattle.vt_overlay.specs.MergedTree.{OverlayValue}
 use Rattle.vt_overlay.specs.MergedTree as merged
 use Rattle.vt_propagate.specs.declared.copying.Counts.{Counts}
 use Rattle.vt_propagate.specs.declared.copying.Graft.{Graft}

@@ -1,5 +1,5 @@
 -- A task enters a namespace: setns(2).
-use Rattle.std.proofs.Common.{◌≡◌, ◌<◌, refl, sym, ap, subst, ◌∙◌, inl, inr, ℕ, ◌+◌, nat_eq, eq-eqb, eqb-true, Bool, true, false, true≢false, cond, not, ◌&&◌, ◌==◌, List, [], ◌∷◌, ◌++◌, length, map, filter, find, Option, Some, None, option_map, is_some, unwrap_or, append_assoc, arith}
+use Rattle.std.proofs.Common.{◌≡◌, ◌<◌, refl, sym, ap, subst, ◌∙◌, inl, inr, ℕ, ◌+◌, nat_eq, Bool, true, false, true≢false, cond, not, ◌&&◌, ◌==◌, List, [], ◌∷◌, ◌++◌, length, map, filter, find, Option, Some, None, option_map, is_some, unwrap_or, arith}
 use Rattle.std.specs.Prelude.{IsSome, option_to_list}
 use Rattle.std.specs.List.{list_all}
 use Rattle.std.proofs.lemmas.Bool.{and_parts}
@@ -11,7 +11,7 @@ use Rattle.vt_spec.specs.Machine.Mounts.{Mount, root_of, topmost}
 use Rattle.vt_spec.specs.Machine.Namespaces.{entered_at, has_tasks, namespace_root, namespaces_ended}
 use Rattle.vt_spec.specs.Machine.Permits.Permit.{ToEnterNamespace}
 use Rattle.vt_spec.specs.Machine.Run.{numbers_in_use, used_by_filesystem, used_by_mount}
-use Rattle.vt_spec.specs.Machine.World.{Namespace, Task, World, mount_numbered, mounts_of, root_mount, task_called, with_task}
+use Rattle.vt_spec.specs.Machine.World.{Namespace, Task, World, mounts_of, root_mount, task_called, with_task}
 use Rattle.vt_spec.specs.Machine.Invariants.{has_its_root, has_one_root, is_located_well, is_root_mount}
 use Rattle.vt_fs.specs.FilesystemsValue.{Filesystems}
 use Rattle.vt_group.specs.Grouping.{Grouping}

@@ -28,7 +28,7 @@ use Rattle.vt_location.specs.Numbers.{counted}
 use Rattle.vt_mount.specs.MountsValue.{MountEntry, entry_numbered, mounts_in, without}
 use Rattle.vt_world.specs.Held.{CountsItsUses}
 use Rattle.vt_mounting.specs.Detach.Uses as meant
-use Rattle.vt_mounting.specs.Detach.Uses.{Kept, mounts_shown, released_if}
+use Rattle.vt_mounting.specs.Detach.Uses.{Kept}
 use Rattle.vt_world.specs.WorldValue.{WorldValue, overlays_seen, world_of}
 use Rattle.vt_mounting.proofs.detach.Going.{map_filtered}
 use Rattle.vt_mounting.proofs.detach.Keeping.{IsKeptBut, IsShownIn, detached_in, looked_at, points_lost, points_without}

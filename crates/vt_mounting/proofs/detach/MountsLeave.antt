@@ -24,7 +24,7 @@ use Rattle.vt_laws_worlds.proofs.RaisedInUse.{worlds_are_in_use}
 use Rattle.vt_world.specs.Held.{CountsItsMounts, IsHeld, IsMountedSoOften}
 use Rattle.vt_world.specs.WorldValue.{WorldValue, overlay_seen, overlays_seen, world_of}
 use Rattle.vt_mounting.specs.Detach.Uses as meant
-use Rattle.vt_mounting.specs.Detach.Uses.{Merged, let_go_filesystem, merged_at, merged_seen, released_in, shown_left_by, unpinned_in, without_layer}
+use Rattle.vt_mounting.specs.Detach.Uses.{Merged, let_go_filesystem, merged_at, merged_seen, shown_left_by, unpinned_in, without_layer}
 use Rattle.vt_mounting.proofs.detach.BesideOverlays.{mounted_at_first, no_layer_midway, some_of_both}
 use Rattle.vt_mounting.proofs.detach.LayersLeft.{go_one_by_one, is_some_left, less}
 use Rattle.vt_mounting.proofs.detach.LostUses.{found_unless, positive}

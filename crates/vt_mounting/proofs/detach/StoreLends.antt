@@ -21,7 +21,7 @@ use Rattle.vt_overlay.specs.declared.merge.layers.LayerRef.{LayerRef}
 use Rattle.vt_overlay.specs.Alike.{lent_at, real_lent}
 use Rattle.vt_overlay.specs.MergedTree.{AreLayers, layer_seen}
 use Rattle.vt_store.specs.OverlaysValue as stored
-use Rattle.vt_store.specs.StoreValue.{StoreValue, entry_in, filesystems_of, lent_in, overlay_in}
+use Rattle.vt_store.specs.StoreValue.{StoreValue, entry_in, lent_in}
 use Rattle.vt_store.specs.StoreValue as stores
 use Rattle.vt_world.specs.Held.{IsHeld}
 use Rattle.vt_world.specs.Lent.{count_of, lent_by, lent_in_layers, lent_of_world}

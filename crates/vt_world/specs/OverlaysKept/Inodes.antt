@@ -1,6 +1,6 @@
 -- The inodes of an overlay that is kept as its layers, each with its real object, in the order of their numbers. A value
 -- of a world has no functions, so it has these in the place of the tree.
-use Rattle.std.specs.Prelude.{List, None, Option, Some, [], filter_map, map, nat_eq, option_map, unwrap_or, ℕ, ◌≡◌}
+use Rattle.std.specs.Prelude.{List, Option, [], filter_map, map, nat_eq, option_map, unwrap_or, ℕ, ◌≡◌}
 use Rattle.vt_spec.specs.Machine.Invariants.{ListsNumbers}
 use Rattle.vt_spec.specs.Machine.Merging.{MergedInode, real_of, tree_of}
 use Rattle.vt_spec.specs.Machine.World.{Real}

@@ -5,13 +5,12 @@ use Rattle.std.proofs.lemmas.List.Elements.{All-cons, All-head, All-nil, All-tai
 use Rattle.std.proofs.lemmas.Option.{same_Some}
 use Rattle.vt_spec.proofs.Lists.{Among, among-map, contains_from_among}
 use Rattle.vt_spec.proofs.Options.{none_is_some}
-use Rattle.vt_spec.specs.FileTree.{kind_in}
 use Rattle.vt_spec.specs.Lists.{Fresh, holds_of, last_or, then_some, without_last}
 use Rattle.vt_spec.specs.Machine.Invariants.{IsWorld}
 use Rattle.vt_spec.specs.Machine.Layers.{OpenLayer, at_path, names_shown, node_at_path, paths_from, shown}
 use Rattle.vt_spec.specs.Machine.Merging.{is_root_path, layer_node, merged_at, real_object}
 use Rattle.vt_spec.specs.Machine.Permits.{Permit}
-use Rattle.vt_spec.specs.Machine.World.{Filesystem, Layer, Overlay, Real, Task, World, filesystem_numbered, is_overlay, open_layer}
+use Rattle.vt_spec.specs.Machine.World.{Layer, Overlay, Real, Task, World, filesystem_numbered, is_overlay, open_layer}
 use Rattle.vt_spec.specs.Machine.World.Real.{Lower, Upper}
 use Rattle.vt_spec.specs.Rights.{Credentials, is_directory}
 use Rattle.vt_spec.specs.Tree.{Entries, Node, Tree, entries_in, is_directory_node}
@@ -25,13 +24,13 @@ use Rattle.vt_laws_worlds.proofs.overlays_stay.kept.TreesStay.{seen_trees_stay}
 use Rattle.vt_laws_worlds.proofs.overlays_stay.left.Lowers.{given_permits_leave_lowers}
 use Rattle.vt_laws_worlds.specs.Permits.Left.{IsGiven, left_by}
 use Rattle.vt_laws_trees.proofs.overlays.seen.NamedTrees.{seen_trees_are_named}
-use Rattle.vt_laws_trees.specs.Overlays.TreesSeen.{AreNoLarger, files_of, node_by, path_numbered, real_by, real_seen, tree_seen}
+use Rattle.vt_laws_trees.specs.Overlays.TreesSeen.{files_of, node_by, path_numbered, real_by, real_seen, tree_seen}
 use Rattle.vt_node.specs.Ranks.{rank_among}
 use Rattle.vt_location.specs.declared.births.Birth.TheVariants.{Below, Here}
 use Rattle.vt_location.specs.declared.locations.NodeRef.{NodeRef}
 use Rattle.vt_location.specs.Locations.{inode_of, number_of}
 use Rattle.vt_location.specs.Numbers.{exchanged}
-use Rattle.vt_fs.specs.FilesystemsValue.{Filesystems, files_at}
+use Rattle.vt_fs.specs.FilesystemsValue.{Filesystems}
 use Rattle.vt_overlay.specs.Merge.LayerValue.{layer_of, layers_of}
 use Rattle.vt_overlay.specs.declared.merge.layers.LayerRef.{LayerRef}
 use Rattle.vt_overlay.proofs.TreeFound.{layers_are}

@@ -11,7 +11,7 @@ use Rattle.vt_spec.proofs.Options.{none_is_some}
 use Rattle.vt_spec.specs.Machine.Invariants.{real_shown}
 use Rattle.vt_spec.specs.Lists.{holds_of, is_among, then_some}
 use Rattle.vt_spec.specs.Machine.Layers.{OpenLayer, Shown, paths_from, shown}
-use Rattle.vt_spec.specs.Machine.Merging.{Merged, MergedInode, layer_node, real_object, real_of, tree_of}
+use Rattle.vt_spec.specs.Machine.Merging.{Merged, MergedInode, layer_node, real_object}
 use Rattle.vt_spec.specs.Machine.World.{Real}
 use Rattle.vt_spec.specs.Machine.World.Real.{Lower}
 use Rattle.vt_spec.specs.Tree.{Node}
@@ -25,8 +25,8 @@ use Rattle.vt_location.proofs.OrderLemmas.{cmp_total, looked-in_order, found-in_
 use Rattle.vt_fs.specs.FilesystemsValue.{Filesystems}
 use Rattle.vt_overlay.proofs.TreeFound.{layers_are, open_layers}
 use Rattle.vt_overlay.specs.MergedTree.{AreLayers, OverlayValue, longest, merged_tree, number_at, numbers_shown, overlay_seen, path_at, plain_world, real_number}
-use Rattle.vt_world.specs.OverlaysKept.Inodes.{InodesAreTheTree, InodesHaveTheirObjects, InodesStay, NumbersAreListed, inode_kept, inodes_kept, object_at, objects_shown}
-use Rattle.vt_world.specs.OverlaysKept.Kept.{IsShownAlike, real_objects}
+use Rattle.vt_world.specs.OverlaysKept.Inodes.{InodesAreTheTree, InodesHaveTheirObjects, InodesStay, NumbersAreListed, inode_kept, object_at, objects_shown}
+use Rattle.vt_world.specs.OverlaysKept.Kept.{real_objects}
 
 -- Objects under some numbers, looked up
 

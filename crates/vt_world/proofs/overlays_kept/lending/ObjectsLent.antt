@@ -6,9 +6,7 @@ use Rattle.vt_spec.specs.Lists.{then_some}
 use Rattle.vt_spec.specs.Machine.Layers.{OpenLayer, Shown, at_path, shown}
 use Rattle.vt_spec.specs.Machine.Merging.{Merged, real_object}
 use Rattle.vt_spec.specs.Machine.World.{Real}
-use Rattle.vt_spec.specs.Tree.{Node}
 use Rattle.vt_laws_trees.proofs.layers.layers.ShownAtPath.{computed}
-use Rattle.vt_laws_trees.specs.Overlays.MergedTrees.{layers_shown}
 use Rattle.vt_laws_trees.specs.Overlays.TreesSeen.{real_by}
 use Rattle.vt_fs.specs.FilesystemsValue.{Filesystems}
 use Rattle.vt_overlay.specs.Merge.LayerValue.{layer_of, layers_of}

@@ -1,4 +1,4 @@
-use Rattle.std.proofs.Common.{ap, nat_eq, sym, ◌∙◌, ℕ}
+use Rattle.std.proofs.Common.{ap, nat_eq, ◌∙◌, ℕ}
 use Rattle.vt_cred.specs.MountFlags.{flags_of}
 use Rattle.vt_location.specs.MountValue.{propagation_of}
 use Rattle.vt_location.specs.Numbers.{counted}

@@ -1,4 +1,4 @@
-use Rattle.std.proofs.Common.{Some, ap, option_map, rules, subst, sym, ◌≡◌, ◌∙◌, ℕ}
+use Rattle.std.proofs.Common.{ap, option_map, rules, subst, sym, ◌≡◌, ◌∙◌, ℕ}
 use Rattle.std.specs.Prelude.{IfSome, Option, option_copied}
 use Rattle.vt_spec.specs.Tree.{Node, entries_in, entry_named}
 use Rattle.vt_location.specs.Locations.{number_of}

@@ -1,4 +1,4 @@
-use Rattle.std.proofs.Common.{ap, arith, length, map, false, nat_eq, refl, subst, sym, true, ◌≡◌, ◌+◌, ◌*◌, ◌∙◌, List}
+use Rattle.std.proofs.Common.{ap, arith, length, map, false, nat_eq, refl, subst, sym, true, ◌≡◌, ◌+◌, ◌*◌, ◌∙◌}
 use Rattle.vt_location.specs.Locations.{location_of}
 use Rattle.vt_location.specs.MountValue.{mount_of}
 use Rattle.vt_propagate.specs.declared.copying.Counts.{Counts}

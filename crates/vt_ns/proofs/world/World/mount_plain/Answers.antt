@@ -1,4 +1,4 @@
-use Rattle.std.proofs.Common.{[], ap, arith, false, length, map, refl, subst, sym, ℕ, ◌≡◌, ◌+◌, ◌*◌, ◌∙◌, ◌∷◌, nat_eq, List, ◌++◌}
+use Rattle.std.proofs.Common.{[], ap, arith, false, length, map, refl, subst, sym, ℕ, ◌≡◌, ◌+◌, ◌*◌, ◌∙◌, ◌∷◌, nat_eq, ◌++◌}
 use Rattle.vt_cred.specs.MountFlags.{flags_of}
 use Rattle.vt_location.specs.Locations.{location_of}
 use Rattle.vt_location.specs.MountValue.{mount_of}

@@ -1,4 +1,4 @@
-use Rattle.std.proofs.Common.{ap, arith, is_some, length, map, nat_eq, refl, subst, sym, true, ◌≡◌, ◌+◌, ◌*◌, ◌∙◌, List}
+use Rattle.std.proofs.Common.{ap, arith, is_some, length, map, nat_eq, refl, subst, sym, true, ◌≡◌, ◌+◌, ◌*◌, ◌∙◌}
 use Rattle.vt_location.specs.Locations.{location_of}
 use Rattle.vt_location.specs.MountValue.{mount_of}
 use Rattle.vt_location.specs.Numbers.{counted}
