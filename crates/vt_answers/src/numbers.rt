@@ -1,8 +1,7 @@
 //! The change number that a call leaves.
 ghost use Rattle.vt_answers.specs.Numbers.{RaisesTheChangeNumber};
 
-/// A theorem of the written policy, which does nothing: a call that it grants leaves the world's change number as the
-/// trait says (`change_after`).
+/// A call that the written policy grants leaves the world's change number as the trait says (`change_after`).
 pub fn the_change_number_is_the_policys()
     ensures { RaisesTheChangeNumber }
 {}

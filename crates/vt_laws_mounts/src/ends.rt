@@ -14,8 +14,8 @@ pub fn what_takes_mounts_away_keeps_their_invariants()
     ensures ended { EndedNamespacesKeepMounts }
 {}
 
-/// Mounts are numbered; what is unmounted, and the top of each tree, has a mount point. Each namespace has as many root
-/// mounts after `unmount`, `lazy`, `trees`, `points` and `replaced`, and each listed one with tasks after `ended`.
+/// Each namespace has as many root mounts after `unmount`, `lazy`, `trees`, `points` and `replaced`, each listed one
+/// with tasks after `ended`. Mounts are numbered; what is unmounted, and the top of each tree, has a mount point.
 pub fn namespaces_keep_their_root_mounts()
     ensures unmount { UnmountKeepsRootMounts }
     ensures lazy { LazyUnmountKeepsRootMounts }

@@ -1,14 +1,14 @@
-//! What a call let go of: the sweep at its end (`settled`). Worlds are settled plain, unless a law says otherwise.
+//! What the sweep at a call's end (`settled`) frees. Worlds are settled plain, unless a law says otherwise.
 //!
 //! To *look* at a thing is to free it if nothing uses it. *The losers are* some things if the sweep is to look at these
 //! alone, one by one: mounts, filesystems, inodes of overlays with their real objects, inodes of plain trees, and
-//! groups, whose master goes. *Nothing goes* if the sweep leaves the world.
+//! groups, whose master is removed. *Nothing is freed* if the sweep leaves the world as it is.
 //!
 //! Losers of a *location* are its mount and inode, and the mount's filesystem and root. Those of a *mount* are itself,
 //! its filesystem and root, and the inodes of its mount point and its children's. *With layers* they are also the
 //! filesystems of the layers of each filesystem among them, and directories of layers and upper objects of all these.
 //! *Named groups* are any, if all others without members have no master afterwards. *Attached* mounts are in a
-//! namespace.
+//! namespace. Filesystems are *numbered* if no two have one number.
 //!
 //! - *All in use* (`AllInUse`): each mount, filesystem and inode is used, and groups without members have no master.
 //! - *Mounts stand* (`MountsStand`): they are numbered, nowhere outside, with mount points on attached mounts alone.

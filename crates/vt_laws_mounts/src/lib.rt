@@ -1,4 +1,4 @@
-//! Where mounts stand, which receive events, what mount calls change, and what goes with its last use.
+//! Where mounts stand, which receive events, what mount calls change, and what is freed with its last use.
 //!
 //! The *invariants of mounts* (`MountInvariants`) are five. Mounts are *numbered*: no two have one number. They are
 //! *standing*: the chain of parents of each ends in its namespace. They are *apart*: no two have one mount point. They

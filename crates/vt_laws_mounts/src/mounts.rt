@@ -18,7 +18,7 @@ pub fn one_mount_stands_at_a_mount_point()
 {}
 
 /// What receives from a group is the `least` set of its members, its slaves, and what receives from each group whose
-/// master it is. Where groups live, it is `closed` so, the test finds it (`computed`), and `receivers` lists it.
+/// master it is. Where groups live, it is `closed` so, and found by the test (`computed`) and by `receivers`.
 pub fn receivers_are_the_closure()
     ensures computed { ReceivesIsComputed }
     ensures receivers { ReceiversReceive }
@@ -26,17 +26,18 @@ pub fn receivers_are_the_closure()
     ensures least { ReceiversAreLeast }
 {}
 
-/// Where groups live, just the mounts that propagation names go (`named`). All stay listed, in `order`; those that go
-/// are detached (`gone`).
+/// Where groups live, just the mounts that propagation names go (`named`), and are detached (`gone`). Each other keeps
+/// all but mount point and type (`kept`), and all else stays (`others`).
 ///
-/// - `kept`, `root_mounts`: each other keeps number, namespace, filesystem, root and flags; a root mount stays one.
-/// - `place`, `covered`: it keeps a mount point on a mount that stays. Else, where chains of parents end, it takes the
-///   first such one along its parents.
+/// All mounts stay listed, in `order`.
+///
+/// - `root_mounts`: a root mount stays one.
+/// - `place`, `covered`: a mount that stays keeps a mount point on a mount that stays. Else, where chains of parents
+///   end, it takes the first such one along its parents.
 /// - `kind`, `slaves`: it keeps its type; but a slave of an ended group gets the nearest group up the masters with
 ///   members, or is private.
 /// - `masters`: groups keep masters that have not ended.
 /// - `itself`: the named mount goes, if it has a mount point and no child, and mounts are apart.
-/// - `others`: all else stays.
 pub fn an_unmount_takes_just_what_propagation_names()
     ensures named { WhatGoesIsNamed }
     ensures order { UnmountKeepsTheOrder }
@@ -87,8 +88,9 @@ pub fn a_change_of_flags_is_of_one_mount()
 {}
 
 /// A change of type leaves each mount all but its type (`alone`), and all else stays (`rest`). A named mount takes the
-/// type of the table (`taken`), and another keeps its own (`others`), unless that is slave of a group that so ended. A
-/// shared mount alone in a group without a master is private once made a slave (`last_member`).
+/// table's type (`taken`), another keeps its own (`others`), unless that is slave of a group that so ended.
+///
+/// A shared mount alone in a group without a master is private once made a slave (`last_member`).
 pub fn a_change_of_type_is_of_the_named_mounts()
     ensures alone { TypeIsAllThatChanges }
     ensures others { TypeIsOfTheNamed }
@@ -97,10 +99,11 @@ pub fn a_change_of_type_is_of_the_named_mounts()
     ensures rest { TypesAreOfMounts }
 {}
 
-/// These keep mounts numbered: `taking_away` of any mounts, `unmount`, `lazy`, `ended` namespaces, `inheritance` of
-/// groups, `types`, `flags`, `pivot`, `settling` (the sweep); by new numbers `unshare`, and `attach` of a numbered
-/// tree. So do `copies` of such a tree by unused numbers, no two equal, as new numbers give them (`supplied_copies`,
-/// `supplied_images`).
+/// Mounts stay numbered in `taking_away`, `unmount`, `lazy`, `ended`, `inheritance`, `types`, `flags`, `pivot` and
+/// `settling`. By new numbers they do in `unshare`, in an `attach` of a numbered tree, and with `copies` of one.
+///
+/// `taking_away` is of any mounts, `ended` of namespaces without tasks, `inheritance` of groups, `settling` the sweep.
+/// `copies` have unused numbers, no two equal, as new numbers give them (`supplied_copies`, `supplied_images`).
 pub fn mounts_keep_numbers_of_their_own()
     ensures taking_away { KeptByTakingAway OneNumberEach }
     ensures unmount { KeptByUnmount OneNumberEach }
@@ -126,11 +129,11 @@ pub fn mounts_stand_on_one_another()
     ensures binds { BindsTakeEachOnce }
 {}
 
-/// By new numbers, mounts stay numbered in a bind (`bind_numbers`) and a move (`move_numbers`), if standing, and in a
-/// new mount (`new_mount_numbers`).
+/// By new numbers, a `bind` and a `new_mount` to an existing mount keep mounts standing, if also numbered and nowhere
+/// outside. They keep them apart, if none stands at the destination (`bind_places`, `new_mount_places`).
 ///
-/// If also standing and nowhere outside, they stay standing in a `bind` and a `new_mount` to an existing mount. They
-/// stay apart, if none stands at the destination (`bind_places`, `new_mount_places`).
+/// Mounts stay numbered in a bind (`bind_numbers`) and a move (`move_numbers`), if standing, and in a new mount
+/// (`new_mount_numbers`), by new numbers alone.
 pub fn attaching_keeps_mounts_standing()
     ensures bind { BindsKeepStanding }
     ensures bind_numbers { BindsKeepNumbers }
@@ -141,8 +144,8 @@ pub fn attaching_keeps_mounts_standing()
     ensures new_mount_places { NewMountsKeepMountPoints }
 {}
 
-/// These keep mounts nowhere outside: `taking_away`, `unmount`, `lazy`, `ended`, `inheritance`, `unshare`, `settling`,
-/// and, if mounts are numbered, `flags`.
+/// Mounts stay nowhere outside in `taking_away`, `unmount`, `lazy`, `ended`, `inheritance`, `unshare`, `settling`, and,
+/// if mounts are numbered, in `flags`.
 pub fn mounts_outside_stay_nowhere()
     ensures taking_away { KeptByTakingAway NowhereOrAttached }
     ensures unmount { KeptByUnmount NowhereOrAttached }
@@ -154,8 +157,8 @@ pub fn mounts_outside_stay_nowhere()
     ensures settling { KeptBySettling NowhereOrAttached }
 {}
 
-/// If mounts are numbered, these keep them apart: `unmount` of one without children, `inheritance`, `types`, `flags`,
-/// `settling`; where chains of parents end, `trees` and `ended`.
+/// Numbered mounts stay apart in an `unmount` of one without children, `inheritance`, `types`, `flags` and `settling`;
+/// where chains of parents end, in `trees` and `ended`, too.
 pub fn mount_points_keep_one_mount()
     ensures unmount { UnmountLeavesOneMountAMountPoint }
     ensures trees { TreesLeaveOneMountAMountPoint }
@@ -166,9 +169,8 @@ pub fn mount_points_keep_one_mount()
     ensures settling { KeptBySettling AreApart }
 {}
 
-/// Mounts that are taken away without propagation are detached (`taken`). Each other keeps number, namespace,
-/// filesystem, root and flags (`kept`), and a mount point on a mount that stays (`places`). It keeps its type, unless
-/// it is slave of a group that so ended (`types`).
+/// Mounts taken away without propagation are detached (`taken`). Each other keeps all but mount point and type
+/// (`kept`), a mount point on a mount that stays (`places`), and its type, unless slave of an ended group (`types`).
 pub fn mounts_that_end_are_just_those()
     ensures taken { TakenAreDetached }
     ensures kept { OthersAreKept }
@@ -183,8 +185,9 @@ pub fn a_lazy_unmount_detaches_or_keeps()
 {}
 
 /// A granted call of a task leaves the mounts of one change, of what its paths lead to: `bind`, `moves`, `mount`,
-/// `overlay`, `lazy`, `remount`, `kind` (of `type`), `pivot`, `rmdir`, `rename` (`rename_of_one` object changes none),
-/// `exit`, `unshare` and `setns`.
+/// `overlay`, `lazy`, `remount`, `kind`, `pivot`, `rmdir`, `rename`, `exit`, `unshare` and `setns`.
+///
+/// `kind` is of the call `type`. A `rename_of_one` object changes no mount.
 pub fn granted_calls_make_these_changes()
     ensures bind { BindBinds }
     ensures moves { MoveMoves }
@@ -202,9 +205,10 @@ pub fn granted_calls_make_these_changes()
     ensures setns { SetnsEnters }
 {}
 
-/// The test by chains of masters computes whether groups live (`computed`). These keep them living: `taking_away`,
-/// `unmount`, `lazy`, `ended`, `inheritance`, `pivot`, `unshare`; `types` by new numbers; `flags`, if mounts are
-/// numbered; `settling`, if mounts are nowhere outside.
+/// Groups stay living in `taking_away`, `unmount`, `lazy`, `ended`, `inheritance`, `pivot` and `unshare`; by new
+/// numbers in `types`. They do in `flags`, if mounts are numbered, and in `settling`, if mounts are nowhere outside.
+///
+/// The test by chains of masters computes whether groups live (`computed`).
 pub fn groups_live_on()
     ensures computed { LivingIsComputed }
     ensures taking_away { KeptByTakingAway GroupsLive }

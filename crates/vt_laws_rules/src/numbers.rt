@@ -2,9 +2,9 @@
 //! renaming of others leaves it as it is (`KeepsTo`).
 ghost use Rattle.vt_laws_rules.specs.Numbers.{AnyTwoTextsAreOne, CallsDoNotSeeNumbers, CallsKeepToNumbers, CallsMakeNoOtherNumber, LinesKeepToNumbers, OpeningKeepsToFour, RoomServes, TextsAreTold, UsedNumbersAreNamed, WholeMachineHasOneText, WorldsKeepToHand, DirectivesDoNotSeeNumbers, LinesDoNotSeeNumbers, NamedIsKept, SameWorldsAnswerAlike, SomeTextIsThere, SuppliesDoNotMatter, TurnsDoNotSeeNumbers};
 
-/// All numbers of a world, and those handed in, are renamed one-to-one. Each call, directive, line and turn (`calls`,
-/// `directives`, `lines`, `turns`) is answered alike and leaves the renamed world. Two worlds that differ in their
-/// numbers alone answer each call alike and stay so (`same`).
+/// With all numbers of a world and those handed in renamed one-to-one, `calls`, `directives`, `lines` and `turns` are
+/// answered alike and leave the renamed world. Worlds that differ in numbers alone answer each call alike and stay so
+/// (`same`).
 pub fn numbers_do_not_matter()
     ensures calls { CallsDoNotSeeNumbers }
     ensures directives { DirectivesDoNotSeeNumbers }
@@ -13,9 +13,8 @@ pub fn numbers_do_not_matter()
     ensures same { SameWorldsAnswerAlike }
 {}
 
-/// If a world keeps to some numbers, and those handed in are among them, so does the world after a call or a line
-/// (`calls`, `lines`). The opening world keeps to its four numbers (`opening`), and each world to all that it has
-/// anywhere (`named`).
+/// A world that keeps to some numbers, handed-in ones among them, keeps to them after a call or a line (`calls`,
+/// `lines`). The opening world keeps to its four (`opening`), each world to those it has (`named`).
 ///
 /// If at least two numbers are left out, those in use are among the numbers kept to (`used`), also after a call
 /// (`made`).
@@ -28,8 +27,10 @@ pub fn calls_make_no_other_number()
     ensures made { CallsMakeNoOtherNumber }
 {}
 
-/// A script, with given lines in which allocations fail, has one text, whatever unused numbers each line is handed
-/// (`one`). Each line leaves infinitely many over; those that the world no longer keeps to may come again.
+/// Given the lines in which allocations fail, a script has one text, whatever unused numbers each line is handed, if
+/// infinitely many are left over (`one`).
+///
+/// Numbers that the world no longer keeps to may come again.
 ///
 /// - `supplies`: in worlds that differ in their numbers alone, a call is answered alike by any two such supplies, and
 ///   leaves such worlds.
@@ -44,8 +45,10 @@ pub fn answers_are_one_text()
     ensures allowed { TextsAreTold }
 {}
 
-/// `text_of`, which hands each line its own row of numbers, computes a text of each script (`some`), given for each
-/// line whether an allocation fails. Each text of the script is that one (`one`).
+/// `text_of`, given for each line whether an allocation fails, computes a text of the script (`some`), and each text of
+/// the script is that one (`one`).
+///
+/// It hands each line its own row of numbers.
 pub fn whole_machine_has_one_text()
     ensures some { SomeTextIsThere }
     ensures one { WholeMachineHasOneText }

@@ -1,13 +1,12 @@
 //! What judgements do not look at.
 ghost use Rattle.vt_laws_rules.specs.Same.{PlainHasOneName, SameInvariantWorldsJudgeAlike, SameInvariantWorldsLookAlike, SameWorldsAreJudgedAlike, SameWorldsJudgeAlike, SameWorldsLookAlike, WorldsHaveOneName};
 
-/// Two worlds that are the same but for change numbers, and for the order of the numbers beside trees (`SameWorlds`),
-/// look alike (`looks`). Each call is judged alike in both, for any given answers to M9 (`calls`) and with M9 itself
-/// (`judgements`).
+/// Two worlds that are the same but for change numbers and the order of numbers beside trees (`SameWorlds`) look and
+/// judge calls alike (`looks`, `calls`, `judgements`). What lies only in lower layers has names in one directory alone.
 ///
-/// These three ask that what lies only in lower layers of an overlay has names in one directory alone. It has where all
-/// filesystems are plain (`plain`), and in a world with all invariants (`names`), which needs nothing more
-/// (`invariant_looks`, `invariant_judgements`).
+/// Calls are judged alike for any given answers to M9 (`calls`) and with M9 itself (`judgements`). The premise on lower
+/// layers holds where all filesystems are plain (`plain`), and in a world with all invariants (`names`), which needs
+/// nothing more (`invariant_looks`, `invariant_judgements`).
 pub fn same_worlds_are_judged_alike()
     ensures looks { SameWorldsLookAlike }
     ensures calls { SameWorldsAreJudgedAlike }

@@ -6,9 +6,10 @@ ghost use Rattle.vt_laws_trees.specs.Trees.Limits.{CallsKeepSmallTasks, OpeningH
 ghost use Rattle.vt_laws_trees.specs.Trees.Settling.{ForgettingKeepsTrees, LocatedStays, NamedIsUsed, NamedStays, SettlingKeepsTrees, UnusedIsGone, UsedStays};
 ghost use Rattle.vt_laws_trees.specs.Trees.Sizes.{CallsKeepSizes, ChangesKeepSizes, OpeningIsFit, SettlingKeepsSizes};
 
-/// A proper change of a tree (`IsProper`, what the rules of its call check) leaves a tree (`trees`), in which
-/// directories without a name stay their own parents (`own_parents`). Any change leaves the `numbers` of inodes beside
-/// it.
+/// A proper change of a tree (`IsProper`) leaves a tree (`trees`), in which directories without a name stay their own
+/// parents (`own_parents`). Any change keeps that the `numbers` beside a tree are those of its inodes.
+///
+/// A proper change is one that the rules of its call let pass.
 pub fn changes_keep_trees()
     ensures trees { ChangesKeepTrees }
     ensures numbers { ChangesKeepNumbers }
@@ -22,13 +23,11 @@ pub fn changes_keep_sizes()
     ensures settling { SettlingKeepsSizes }
 {}
 
-/// The sweep of one filesystem frees unused inodes (`unused`), and leaves the others as they were (`used`). The root
-/// and what has a name is used (`named`). What is left is a file tree (`trees`), and so is each filesystem of a world
-/// (`worlds`).
+/// Where filesystems are file trees, the sweep frees unused inodes (`unused`) and leaves used ones as they were
+/// (`used`), the root and named ones among them (`named`). File trees are left (`trees`, `worlds`).
 ///
-/// An inode with a name is as it was, if a mount that is left shows its filesystem (`names`). So is what is at a root,
-/// working directory or descriptor on an existing mount (`locations`). All but `used` and `locations` ask for file
-/// trees.
+/// `used` and `locations` ask for no file trees. An inode with a name is as it was, if a mount that is left shows its
+/// filesystem (`names`). So is what is at a root, working directory or descriptor on an existing mount (`locations`).
 pub fn settling_keeps_trees()
     ensures trees { ForgettingKeepsTrees }
     ensures worlds { SettlingKeepsTrees }
@@ -39,9 +38,10 @@ pub fn settling_keeps_trees()
     ensures locations { LocatedStays }
 {}
 
-/// In a world of file trees, a plain call leaves file trees and no overlay (`calls`). This asks that no inode has a
-/// handed-in number, and that the root and the mount point of each mount are directories. They are in every world with
-/// all invariants (`standing`). The `opening` world has such trees and mounts.
+/// In a world of file trees, a plain call leaves file trees and no overlay (`calls`). No inode has a handed-in number,
+/// and the root and the mount point of each mount are directories.
+///
+/// The latter are in every world with all invariants (`standing`). The `opening` world has such trees and mounts.
 pub fn calls_keep_trees()
     ensures opening { OpeningHasTrees }
     ensures standing { WorldsAreStanding }

@@ -6,9 +6,10 @@ ghost use Rattle.vt_propagate.specs.Laws.{DetachingIsSeen, RetypingIsSeen, Shari
 ghost use Rattle.vt_propagate.specs.LazyUnmounts.{LazyUnmountsAreAtOnce, LazyUnmountsAreSeen, LazyUnmountsSettleAlike};
 ghost use Rattle.vt_propagate.specs.LazyUnmounts.{LazyUnmountsTakeTheTree, PartsAreSweptOnce, PartsGoAtOnce};
 
-/// Where mounts and groups were a world's, those that `leave_all`, `make_slaves` and `share` leave are those that the
-/// definitions have then: `detaching`, `retyping`, `slaves`, `sharing`. Masters of groups without members do not
-/// count.
+/// If mounts and groups were a world's, `detaching`, `retyping`, `slaves` and `sharing` of its mounts leave those that
+/// the definitions have then. Groups handed in are new; masters of groups without members do not count.
+///
+/// The changes are those of `leave_all`, `make_slaves` and `share`.
 pub fn what_is_seen_stays_the_world()
     ensures detaching { DetachingIsSeen }
     ensures retyping { RetypingIsSeen }
@@ -16,10 +17,11 @@ pub fn what_is_seen_stays_the_world()
     ensures sharing { SharingIsSeen }
 {}
 
-/// Mounts that are detached in `parts` may as well be detached at once. So a lazy unmount leaves the world from which
-/// all that its events detach was taken at once (`events`), the whole `tree` among it, if the mount is in a namespace.
-/// The two may differ in the masters of groups without members: they are `seen` alike, and both settle to one world
-/// (`settled`). The invariants of mounts hold.
+/// Where the invariants of mounts hold, mounts detached in `parts` may be detached at once. So a lazy unmount leaves
+/// the world from which all that its `events` detach was taken at once (`seen`, `settled`).
+///
+/// The whole `tree` is among these mounts, if the mount is in a namespace. The two worlds may differ in the masters of
+/// groups without members: they are `seen` alike, and both settle to one world (`settled`).
 ///
 /// With a sweep after each part, or one after all were taken at once, the same world is left (`swept`). The world is
 /// fit for overlays, and the invariants of mounts hold on the way.
@@ -32,13 +34,13 @@ pub fn lazy_unmounts_detach_at_once()
     ensures settled { LazyUnmountsSettleAlike }
 {}
 
-/// Mounts are detached one by one, without propagation, with a sweep after each, and none has a child when its turn
-/// comes (`GoInTurn`): the world is left from which all are detached at once and that is swept then (`alone`). So with
-/// the mounts of namespaces without tasks, in whichever order: once these are no longer listed, what is left is what
-/// `namespaces_ended` and one sweep leave (`ended`). They may be taken off the list first (`unlisted`).
+/// Mounts detached one by one, none with a child in its turn, with a sweep after each, leave what all at once and one
+/// sweep leave (`alone`, `ended`). The world is fit for overlays, and the invariants of mounts hold.
 ///
-/// The deepest first is such an order (`order`, `deepest`). That a mount has no child may be seen in the worlds that
-/// are swept (`turns`). The world is fit for overlays, and the invariants of mounts hold.
+/// No event propagates (`GoInTurn`). So with the mounts of namespaces without tasks, in whichever order: once these are
+/// no longer listed, what is left is what `namespaces_ended` and one sweep leave (`ended`). They may be taken off the
+/// list first (`unlisted`). The deepest first is such an order (`order`, `deepest`). That a mount has no child may be
+/// seen in the worlds that are swept (`turns`).
 pub fn namespaces_end_mount_by_mount()
     ensures alone { OneByOneAreSweptOnce }
     ensures ended { NamespacesEndInTurn }
@@ -48,9 +50,10 @@ pub fn namespaces_end_mount_by_mount()
     ensures turns { TurnsAreSeenSwept }
 {}
 
-/// Tasks end one after the other, the last ones of their namespaces too, with a sweep after each. They leave the world
-/// from which all are gone at once, namespaces without tasks then end, and one sweep is made. The world is fit for
-/// overlays, and the invariants of mounts hold.
+/// Tasks that end one by one, with their namespaces and a sweep after each, leave the world that is left if all end at
+/// once before one sweep. It was fit for overlays, and the invariants of mounts held.
+///
+/// All tasks are gone at once, then namespaces without tasks end, and then one sweep is made.
 pub fn tasks_that_end_one_by_one_end_at_once()
     ensures { ExitsAreAtOnce }
 {}

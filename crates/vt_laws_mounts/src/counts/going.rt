@@ -1,8 +1,10 @@
-//! Mounts and filesystems that go with their last use.
+//! Mounts and filesystems that are freed with their last use.
 ghost use Rattle.vt_laws_mounts.specs.Counts.Going.{FilesystemGoesAtZero, LocationsUseMounts, MountGoesAtZero, MountTakesItsCount, MountsUseFilesystems};
 
-/// Mounts are numbered. To look at a `mount` is to free it if it is in no namespace and its count is zero; at a
-/// `filesystem`, among plain ones, if its count is zero. A mount that goes is one less in its filesystem's `count`.
+/// If mounts are numbered, a look frees a `mount` if it is in no namespace and its count is zero. It frees a
+/// `filesystem`, among plain ones, if its count is zero.
+///
+/// A mount that is freed is one less in the `count` of its filesystem.
 pub fn things_go_at_zero()
     ensures mount { MountGoesAtZero }
     ensures filesystem { FilesystemGoesAtZero }

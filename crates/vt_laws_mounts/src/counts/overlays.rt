@@ -2,17 +2,19 @@
 ghost use Rattle.vt_laws_mounts.specs.Counts.BesideOverlays.{AnySameWorldsCountAlike, CountedChangesAreSweptBesideOverlays, CountsFollowChangesBesideOverlays, NamesKeepAllBesideOverlays, NewTreeIsCountedBesideOverlays, NoUpperIsInAny, OnlyFilesChangeBesideOverlays, OtherCountsStayBesideOverlays, OverlaysAreUses, OverlaysTakeTheirUses, PlainOnesUseNothing, UsesAreExchangedBesideOverlays, UsesAreSweptBesideOverlays};
 ghost use Rattle.vt_laws_mounts.specs.Counts.OverlaysStay.{AllLayersAreMounted, FilesystemGoesAtZeroBesideOverlays, LayersLeftAreMounted, LivesWhileCounted, LivesWhileMounted, NamedOverlayStays, NamedOverlaysStay, OverlaysAreMounted, OverlaysAreNoLayers, OverlaysUseFilesystems};
 
-/// `uses_are_exchanged` (`one_by_one`, `swept`) with overlays, none of which has its upper layer in the filesystem
-/// afterwards. If no overlay has an upper layer, none has one in any (`none`).
+/// `uses_are_exchanged` (`one_by_one`, `swept`) holds with overlays, none of which has its upper layer in the
+/// filesystem afterwards. If no overlay has an upper layer, none has one in any (`none`).
 pub fn uses_are_exchanged_beside_overlays()
     ensures one_by_one { UsesAreExchangedBesideOverlays }
     ensures swept { UsesAreSweptBesideOverlays }
     ensures none { NoUpperIsInAny }
 {}
 
-/// Mounts and locations stay. In a filesystem that stays, overlays that come and go exchange the directories of their
-/// layers and their upper objects (`lists`), as do those that a `test` takes away. If `plain` filesystems alone come
-/// and go, nothing is exchanged.
+/// If mounts and locations stay, overlays that come and go exchange the directories of their layers and their upper
+/// objects in a filesystem that stays (`lists`, `test`). If `plain` filesystems alone come and go, nothing is
+/// exchanged.
+///
+/// The overlays of `test` are those that a test takes away.
 pub fn overlays_are_uses()
     ensures lists { OverlaysAreUses }
     ensures test { OverlaysTakeTheirUses }
@@ -26,8 +28,8 @@ pub fn overlays_count_as_layers()
     ensures left { LayersLeftAreMounted }
 {}
 
-/// `changes_are_counted` (`only`, `counts`, `others`, `named`) and `counted_inodes_are_the_world` (`world`) of a plain
-/// filesystem, with overlays in the world or not (`IsChangeOfPlain`).
+/// `changes_are_counted` (`only`, `counts`, `others`, `named`) and `counted_inodes_are_the_world` (`world`) hold of a
+/// plain filesystem in any world with all invariants (`IsChangeOfPlain`).
 pub fn changes_beside_overlays_are_counted()
     ensures only { OnlyFilesChangeBesideOverlays }
     ensures counts { CountsFollowChangesBesideOverlays }
@@ -36,18 +38,18 @@ pub fn changes_beside_overlays_are_counted()
     ensures world { CountedChangesAreSweptBesideOverlays }
 {}
 
-/// `same_worlds_count_alike` with overlays.
+/// `same_worlds_count_alike` holds with overlays.
 pub fn any_same_worlds_count_alike()
     ensures { AnySameWorldsCountAlike }
 {}
 
-/// `shown` of `a_new_tree_is_counted` with overlays, none of which has a layer in that tree.
+/// `shown` of `a_new_tree_is_counted` holds with overlays, none of which has a layer in that tree.
 pub fn a_new_tree_is_counted_beside_overlays()
     ensures { NewTreeIsCountedBesideOverlays }
 {}
 
-/// A filesystem lives just while mounts show it or mounted overlays have layers in it (`lives`); to look at it is to
-/// free it if both counts are zero (`goes`). If no overlay has a layer in it, mounts alone count (`mounted`).
+/// A filesystem lives just while mounts show it or mounted overlays have layers in it (`lives`); a look frees it if
+/// both counts are zero (`goes`). Without layers in it, mounts alone count (`mounted`).
 pub fn filesystems_live_while_counted()
     ensures lives { LivesWhileCounted }
     ensures goes { FilesystemGoesAtZeroBesideOverlays }
@@ -62,7 +64,7 @@ pub fn overlays_of_worlds_are_mounted()
     ensures all { AllLayersAreMounted }
 {}
 
-/// If each inode of each overlay is the root or has a name, the sweep frees unused overlays alone. It leaves the rest
+/// If each inode of each overlay is the root or has a name, the sweep frees unused overlays alone. It leaves the others
 /// as they are, in order (`all`), and each by its number (`one`).
 pub fn overlays_whose_inodes_have_names_stay()
     ensures all { NamedOverlaysStay }

@@ -3,9 +3,10 @@ ghost use Rattle.vt_laws_mounts.specs.Counts.Sweeping.{SameWorldsCountAlike, Use
 ghost use Rattle.vt_laws_mounts.specs.Counts.Using.{ExchangesFollow, ExchangesTurn, LocationsAreUses, MountIsPlaced, MountsAreUses, MountsLeaveTheirRoots, NewTreeIsCounted, OpeningIsCounted, OthersUseNothing, PlacesStand, UsesAreExchanged};
 ghost use Rattle.vt_laws_mounts.specs.LettingGo.Worlds.{LocationsOfWorldsStand};
 
-/// All inodes were in use, there were trees, what gains exists, and filesystems are plain afterwards. To look at the
-/// losers of an exchange leaves the exchanged inodes (`one_by_one`). The sweep does, too, if the exchange leads to the
-/// world without unused mounts and filesystems (`swept`).
+/// All inodes of trees were in use, what gains exists, and filesystems are plain afterwards. To look at the losers of
+/// an exchange, or to sweep, leaves the exchanged inodes (`one_by_one`, `swept`).
+///
+/// For `swept`, the exchange leads to the world without unused mounts and filesystems.
 pub fn uses_are_exchanged()
     ensures one_by_one { UsesAreExchanged }
     ensures swept { UsesAreSwept }
@@ -17,14 +18,12 @@ pub fn exchanges_follow_one_another()
     ensures both { ExchangesFollow }
 {}
 
-/// Inodes are exchanged, by clause:
+/// If all else stays, inodes are exchanged at `locations` that come and go, and at roots and mount points of added
+/// `mounts`. They are at mount points of a mount with another `place`; `others` exchange none.
 ///
-/// - `locations` that come and go, if mounts and filesystems stay: their inodes.
-/// - `mounts` that are added, if filesystems and locations stay: their roots and mount points. All are numbered then,
-///   and all stood on existing mounts.
-/// - `place`: the two mount points of a mount that gets another or none, and keeps number, filesystem and root. Other
-///   mounts, filesystems and locations stay.
-/// - `others`: none, if mounts and locations stay, and other plain filesystems come and go.
+/// - `mounts`: all are numbered then, and all, with all locations, stood on existing mounts.
+/// - `place`: the mount keeps number, filesystem and root, and gets another mount point or none.
+/// - `others`: other plain filesystems come and go, and none is an overlay.
 pub fn locations_and_mounts_are_uses()
     ensures locations { LocationsAreUses }
     ensures mounts { MountsAreUses }
@@ -32,17 +31,18 @@ pub fn locations_and_mounts_are_uses()
     ensures others { OthersUseNothing }
 {}
 
-/// `locations` of a world with all invariants stand. Where mounts and locations stand, roots and mount points are on
-/// existing mounts (`places`), and an existing mount that nothing uses takes one use of its `root` with it.
+/// Where mounts and locations stand, roots and mount points are on existing mounts (`places`), and an existing mount
+/// that nothing uses takes one use of its `root` with it. `locations` of a world with all invariants stand.
 pub fn mounts_leave_their_roots()
     ensures locations { LocationsOfWorldsStand }
     ensures places { PlacesStand }
     ensures root { MountsLeaveTheirRoots }
 {}
 
-/// A new tree of one directory counts it as its root, and for each mount that shows the tree (`shown`). Filesystems are
-/// plain, mounts are numbered, those that show it have this root, and no location or mount point is in it. In the
-/// `opening` world the root has four uses.
+/// A new tree of one directory counts it as its root, and for each mount that shows it (`shown`). Filesystems are
+/// plain, mounts numbered, those that show it have this root, and no location or mount point is in it.
+///
+/// In the `opening` world the root has four uses.
 pub fn a_new_tree_is_counted()
     ensures shown { NewTreeIsCounted }
     ensures opening { OpeningIsCounted }

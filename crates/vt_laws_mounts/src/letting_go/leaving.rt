@@ -1,4 +1,4 @@
-//! What goes with the uses that one kind of change took away.
+//! What is freed with the uses that one kind of change took away.
 ghost use Rattle.vt_laws_mounts.specs.LettingGo.Detaching.{DetachingLetsGo, UnmountIsOfOne};
 ghost use Rattle.vt_laws_mounts.specs.LettingGo.FileChanges.{ChangesKeepNames, FileChangesLetGo, MadeKeepsAll, OpenedNewKeepsAll, RemovedDirectoriesLetGo, ReplacingLetsGo, TakenAndFileChangesLetGo, WrittenPartsKeepAll};
 ghost use Rattle.vt_laws_mounts.specs.LettingGo.Keeping.{FlagsAreOfOne, FlagsKeepAll, NewMountsKeepAll, SetFlagsKeepAll, TypesKeepAll};
@@ -9,11 +9,11 @@ ghost use Rattle.vt_laws_mounts.specs.LettingGo.TaskCalls.{ChangedDirectoriesLet
 ghost use Rattle.vt_laws_mounts.specs.LettingGo.TreeChanges.{NamedStay, UnnamedGo};
 ghost use Rattle.vt_laws_mounts.specs.LettingGo.TreesOverlays.{ChangedTreesKeepAll, ChangedTreesLetGo, LeftAndChangedLetsGo, OpenedKeepsAll, TakenAndChangedLetsGo, UnnamedGoWithOverlays};
 
-/// Tasks come, end or go to other locations, and no namespace ends. The losers are those of each location `left`; if
-/// none was, nothing goes (`stayed`).
+/// If tasks come, end or go to other locations, and no namespace ends, the losers are those of each location `left`; if
+/// none was, nothing is freed (`stayed`). If tasks come to no new location, one sweep is enough.
 ///
-/// If tasks come to no new location, one sweep is enough, for one such change (`several`) and for any number (`each`).
-/// Filesystems are plain trees and mounts stand.
+/// The latter is for one such change (`several`) and for any number (`each`). Filesystems are plain trees and mounts
+/// stand there.
 pub fn what_tasks_leave_goes()
     ensures left { LeavingLetsGo }
     ensures stayed { StayingKeepsAll }
@@ -37,8 +37,8 @@ pub fn what_a_call_of_a_task_leaves_goes()
     ensures chroot { ChangedRootsLetGo }
 {}
 
-/// With the same premises, nothing goes after a `fork`, another `umask`, other `credentials`, or an `open` that copies
-/// nothing up.
+/// With the same premises, nothing is freed after a `fork`, another `umask`, other `credentials`, or an `open` that
+/// copies nothing up.
 pub fn what_a_call_of_a_task_keeps()
     ensures fork { ForksKeepAll }
     ensures umask { NewUmasksKeepAll }
@@ -46,22 +46,24 @@ pub fn what_a_call_of_a_task_keeps()
     ensures open { OpenedFilesKeepAll }
 {}
 
-/// The tree of a filesystem changes: it stays one, with its root and its numbers, and each new inode has a name. The
-/// losers are inodes that may have lost their last name (`unnamed`); if what had a name has one, nothing goes
-/// (`named`).
+/// The tree of an existing filesystem changes to one with its root, in which each new inode has a name. The losers are
+/// inodes that may have lost their last name (`unnamed`); without any, nothing is freed (`named`).
+///
+/// The numbers beside the tree are those of its inodes, before and after.
 pub fn what_loses_its_name_goes()
     ensures unnamed { UnnamedGo }
     ensures named { NamedStay }
 {}
 
-/// A change of a tree keeps the root and all `names`, but the one removed or given. After a `change` of a plain tree
-/// the loser is the inode that had that name, if any; bytes, attributes and marks have none. If mounts are taken away,
-/// too (`with_mounts`), their losers are added with layers. Those of `rmdir`, and of a `rename` that replaces an
-/// object, are the mounts on what goes, and all below.
+/// A `change` of an existing plain tree that stays one (`MayChange`), in a settled world of numbered filesystems, has
+/// as loser the inode with the removed or given name. Mounts taken away add theirs (`with_mounts`, `rmdir`, `rename`).
 ///
-/// The tree is one before and after, with its numbers. A new inode has a new number and a directory for its name; what
-/// moves had the old name and gets a directory. But for `names`, the world is settled, filesystems have their own
-/// numbers, and the changed one exists.
+/// The tree has its numbers before and after. A new inode has a new number and a directory for its name; what moves had
+/// the old name and gets a directory (`MayChange`).
+///
+/// A change keeps the root and all `names`, but the one removed or given; this asks of trees alone. Bytes, attributes
+/// and marks have no loser. Losers of mounts are with layers. Mounts of `rmdir`, and of a `rename` that replaces an
+/// object, are those on what goes, and all below.
 pub fn what_a_file_call_leaves_goes()
     ensures names { ChangesKeepNames }
     ensures change { FileChangesLetGo }
@@ -70,22 +72,26 @@ pub fn what_a_file_call_leaves_goes()
     ensures rename { ReplacingLetsGo }
 {}
 
-/// With the same premises, nothing goes after a call that makes an inode of a new number under a free name: `make`
-/// (`mkdir`, `symlink`, `whiteout`), or `open` by a task of the world, if no two have one name.
+/// With the same premises, nothing is freed after a call that makes an inode of a new number under a free name (`make`,
+/// `open`). For `open` the task is of the world, and no two have one name.
+///
+/// `make` is of `mkdir`, `symlink` and `whiteout`.
 pub fn what_is_made_keeps_all()
     ensures make { MadeKeepsAll }
     ensures open { OpenedNewKeepsAll }
 {}
 
-/// Nothing goes after a write of a part of a file in an existing plain tree, or of no bytes. The world is settled, and
-/// filesystems have their own numbers.
+/// In a settled world of numbered filesystems, nothing is freed after a write of a part of a file in an existing plain
+/// tree, or of no bytes.
 pub fn what_is_written_keeps_all()
     ensures { WrittenPartsKeepAll }
 {}
 
-/// Filesystems of a settled world change, each keeping number, root and layers (`ChangesFilesystem`). Afterwards it is
-/// fit for overlays, and each new inode has a name or is a real object. The losers are inodes that may have lost their
-/// last name, or the overlay of which they were a real object (`trees`); if none did, nothing goes (`kept`).
+/// Filesystems of a settled world change (`ChangesFilesystem`), and it is fit for overlays afterwards. The losers are
+/// inodes that may have lost their last name or overlay (`trees`); if none did, nothing is freed (`kept`).
+///
+/// Each filesystem keeps number, root and layers, and each new inode has a name or is a real object. An inode loses an
+/// overlay if it was a real object of it.
 ///
 /// For a `plain` tree, a layer or not, `what_loses_its_name_goes` holds in a settled world whose filesystems have their
 /// own numbers.
@@ -95,28 +101,30 @@ pub fn what_loses_its_name_goes_with_overlays()
     ensures plain { UnnamedGoWithOverlays }
 {}
 
-/// Mounts are taken away (`removed`), or tasks leave locations (`left`), and filesystems change as in the law before.
-/// The losers are those of both. If no location, name or real object is lost, nothing goes (`opened`). A new inode
-/// without a name is a real object of an overlay that is left without unused mounts and filesystems.
+/// Mounts are taken away (`removed`), or tasks leave locations (`left`), and filesystems change as in the law before:
+/// the losers are those of both. If no location, name or real object is lost, nothing is freed (`opened`).
+///
+/// A new inode without a name is a real object of an overlay that is left without unused mounts and filesystems.
 pub fn what_one_call_leaves_goes_with_overlays()
     ensures removed { TakenAndChangedLetsGo }
     ensures left { LeftAndChangedLetsGo }
     ensures opened { OpenedKeepsAll }
 {}
 
-/// In any world, an `unmount` of a mount without children, whose parent is not shared, detaches it alone; then groups
-/// are handed on.
-///
 /// If a mount without children changes mount point or namespace, and any change type and master, the losers are its own
 /// and the named groups (`left`). Mounts are nowhere outside afterwards.
+///
+/// In any world, an `unmount` of a mount without children, whose parent is not shared, detaches it alone; then groups
+/// are handed on.
 pub fn what_a_mount_leaves_goes()
     ensures unmount { UnmountIsOfOne }
     ensures left { DetachingLetsGo }
 {}
 
-/// In any world in which all was in use, nothing goes where `types`, flags and masters change, and groups without
-/// members have no master afterwards. If mounts are numbered, a change of flags is of `one` record, and nothing goes
-/// with it (`flags`, `set_flags`).
+/// In any world in which all was in use, nothing is freed if `types`, flags and masters change, and groups without
+/// members have no master afterwards. Nor is it by a change of `flags`, if mounts are numbered (`set_flags`).
+///
+/// Such a change of flags is of `one` record.
 pub fn types_and_flags_keep_all()
     ensures types { TypesKeepAll }
     ensures one { FlagsAreOfOne }
@@ -130,9 +138,8 @@ pub fn what_a_change_of_types_leaves_goes()
     ensures { SetTypesLetGo }
 {}
 
-/// In any world in which all was in use, and mounts and locations stand, nothing goes where attached mounts are added,
-/// with filesystems that they show. Each inode of these is the root or has a name, and groups without members have no
-/// master afterwards.
+/// Nothing is freed if attached mounts, and filesystems that they show, are added, and groups without members have no
+/// master then. In any world, all was in use, mounts and locations stand; new inodes are roots or named.
 pub fn new_mounts_keep_all()
     ensures { NewMountsKeepAll }
 {}

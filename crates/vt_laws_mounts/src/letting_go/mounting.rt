@@ -1,29 +1,33 @@
-//! What goes after a change of several mounts.
+//! What is freed after a change of several mounts.
 ghost use Rattle.vt_laws_mounts.specs.LettingGo.Attaching.{BindsKeepAll, CopiesKeepAll, MovedTreesLetGo, MovesLetGo, NewFilesystemsKeepAll, NewMountsOfTreesKeepAll};
 ghost use Rattle.vt_laws_mounts.specs.LettingGo.Mounting.{EndingLetsGo, MovingLetsGo, TakingAwayLetsGo};
 ghost use Rattle.vt_laws_mounts.specs.LettingGo.Pivoting.{PivotedLetsGo, PivotsLetGo};
 ghost use Rattle.vt_laws_mounts.specs.LettingGo.Several.{GoingIsNotSwept, OneSweepForAllEvents, OneSweepForAllMounts, OneSweepForEvents, OneSweepForMounts};
 ghost use Rattle.vt_laws_mounts.specs.LettingGo.Unmounting.{LazyUnmountsLetGo, MountsOnDirectoriesLetGo, TreesLetGo, UnmountsLetGo};
 
-/// Any mounts are `taken_away`, or those of namespaces that `ended`: the losers are theirs and the named groups. If
-/// mounts get other mount points, but keep namespace, filesystem and root, the losers are the inodes of the old ones
-/// and the named groups (`moved`). Mounts are nowhere outside then.
+/// If mounts are `taken_away`, or those of namespaces that `ended`, the losers are theirs and the named groups. If
+/// mounts are `moved`, and nowhere outside then, the losers are the inodes of their old mount points and those groups.
+///
+/// Mounts that are moved keep namespace, filesystem and root.
 pub fn what_mounts_leave_goes()
     ensures taken_away { TakingAwayLetsGo }
     ensures ended { EndingLetsGo }
     ensures moved { MovingLetsGo }
 {}
 
-/// Any mounts are taken away: one sweep is enough (`several`), if mounts stand afterwards; and for any number of lists
-/// (`each`), if the invariants of mounts hold on the way. Filesystems are plain trees, and these invariants hold.
+/// Any mounts are taken away: one sweep is enough (`several`, `each`). Filesystems are plain trees, and the invariants
+/// of mounts hold, for `each` on the way; for `several` mounts stand afterwards.
+///
+/// `each` is for any number of lists of mounts.
 pub fn mounts_that_leave_one_by_one_are_swept_once()
     ensures several { OneSweepForMounts }
     ensures each { OneSweepForAllMounts }
 {}
 
-/// In any world in which all was in use, and mounts and locations stand, nothing goes where `copies` are put on an
-/// attached mount, with one at each receiver. That is so of a `bind`, recursive or not, a `new_mount`, and a mount of a
-/// new `filesystem`, each inode of which is the root or has a name.
+/// Nothing is freed if `copies` are put on an attached mount, by a `bind`, a `new_mount` or a new `filesystem` of root
+/// and named inodes. In any world, all was in use, and mounts and locations stand.
+///
+/// There is a copy at each receiver. A bind may be recursive.
 pub fn what_is_attached_keeps_all()
     ensures copies { CopiesKeepAll }
     ensures bind { BindsKeepAll }
@@ -31,8 +35,8 @@ pub fn what_is_attached_keeps_all()
     ensures new_mount { NewMountsOfTreesKeepAll }
 {}
 
-/// Any mounts of the world move (`trees`), or one with all below it (`moves`): the loser is the inode of the first
-/// one's old mount point. Locations stand; the destination's mount is attached, and so is what `moves`.
+/// If mounts of the world move (`trees`), or an attached one with all below it (`moves`), the loser is the inode of the
+/// first one's old mount point. Locations stand, and the destination's mount is attached.
 pub fn what_a_move_leaves_goes()
     ensures trees { MovedTreesLetGo }
     ensures moves { MovesLetGo }
@@ -55,8 +59,10 @@ pub fn what_an_unmount_leaves_goes()
 {}
 
 /// In any world with the invariants of mounts, an unmount event detaches the same mounts if the world is swept
-/// (`going`). It does nothing, if an earlier one detached its mount. One sweep is enough (`several`, `each`), with the
-/// premises of `mounts_that_leave_one_by_one_are_swept_once`.
+/// (`going`). One sweep is enough (`several`, `each`), with the premises of
+/// `mounts_that_leave_one_by_one_are_swept_once`.
+///
+/// An event does nothing, if an earlier one detached its mount.
 pub fn events_of_unmounts_are_swept_once()
     ensures going { GoingIsNotSwept }
     ensures several { OneSweepForEvents }

@@ -1,4 +1,4 @@
-//! What goes after a change of mounts with overlays.
+//! What is freed after a change of mounts with overlays.
 ghost use Rattle.vt_laws_mounts.specs.LettingGo.MountingOverlays.{EndingWithOverlaysLetsGo, LazyUnmountsWithOverlaysLetGo, MountsOnDirectoriesWithOverlaysLetGo, MovesWithOverlaysLetGo, MovingWithOverlaysLetsGo, PivotsWithOverlaysLetGo, TakingAwayWithOverlaysLetsGo, UnmountsWithOverlaysLetGo};
 ghost use Rattle.vt_laws_mounts.specs.LettingGo.Several.{OneSweepForAllEventsWithOverlays, OneSweepForAllMountsWithOverlays, OneSweepForEventsWithOverlays, OneSweepForMountsWithOverlays};
 

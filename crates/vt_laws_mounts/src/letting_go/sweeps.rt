@@ -1,12 +1,12 @@
-//! What the sweep leaves and what it takes. Worlds are any, unless a law says otherwise.
+//! What the sweep leaves and what it frees. Worlds are any, unless a law says otherwise.
 ghost use Rattle.vt_laws_mounts.specs.LettingGo.Counts.{LocatedWhileCounted, MembersWhileCounted, MountedWhileCounted, OneMountLess, OneUseLess, UsedWhileCounted};
 ghost use Rattle.vt_laws_mounts.specs.LettingGo.InUse.{NothingGoes, WhatIsLeftIsInUse, OneSweepIsEnough};
 ghost use Rattle.vt_laws_mounts.specs.LettingGo.OneByOne.{AllGoesOneByOne, FilesystemIsLookedUp, FilesystemsGoOneByOne, GroupIsLookedUp, GroupsGoOneByOne, InodeIsLookedUp, InodesGoOneByOne, MountIsLookedUp, MountsGoOneByOne};
 ghost use Rattle.vt_laws_mounts.specs.LettingGo.Overlays.{AllInodesGoOneByOne, FilesystemsTakeTheirUses, MergedGoOneByOne, OneUpperUseLess, WithOverlaysAllGoes};
 ghost use Rattle.vt_laws_mounts.specs.LettingGo.Worlds.{LocationsOfWorldsStand, MountsOfWorldsStand, PlainWorldsAreSettled, RealsOfWorldsAreThere, UppersOfWorldsArePlain, WorldsAreSettled, WorldsHaveTrees};
 
-/// If all is in use, the sweep takes `nothing`. If there are trees, and no upper layer is in an overlay, all that it
-/// leaves is in use (`left`), and a second takes nothing (`twice`).
+/// If all is in use, the sweep frees `nothing`. If there are trees, and no upper layer is in an overlay, all that it
+/// leaves is in use (`left`), and a second frees nothing (`twice`).
 pub fn one_sweep_is_enough()
     ensures nothing { NothingGoes }
     ensures left { WhatIsLeftIsInUse }
@@ -14,8 +14,9 @@ pub fn one_sweep_is_enough()
 {}
 
 /// If all others are in use, the sweep of `mounts`, of `filesystems`, overlays too, and of `groups` is to look at the
-/// losers. That of `inodes` is, and the whole (`all`, each kind in the world that those before it left), of plain
-/// trees.
+/// losers. That of `inodes` is, and the whole (`all`), of plain trees.
+///
+/// For `all`, each kind is in use in the world that those before it left.
 pub fn things_go_one_by_one()
     ensures mounts { MountsGoOneByOne }
     ensures filesystems { FilesystemsGoOneByOne }
@@ -24,13 +25,13 @@ pub fn things_go_one_by_one()
     ensures all { AllGoesOneByOne }
 {}
 
-/// In worlds fit for overlays, if all others are in use, the sweep of inodes of overlays is to look at losers there
-/// (`merged`). That of all `inodes` then looks at losers in plain trees, and at upper inodes of the former; so does the
-/// whole (`all`, as above).
+/// In worlds fit for overlays, if all others are in use, the sweep is to look at losers in overlays (`merged`), then in
+/// plain trees and at upper inodes (`inodes`, `all`).
 ///
-/// In all worlds an inode of an overlay that goes is one use less of its upper object, if it has one, and of no other
-/// inode (`upper`). Its number stands once beside the tree. If others are in use, what loses a use with `filesystems`
-/// are directories of layers and upper objects of overlays among them.
+/// The upper inodes are those of the losers in overlays. In all worlds an inode of an overlay that is freed is one use
+/// less of its upper object, if it has one, and of no other inode (`upper`). Its number stands once beside the tree. If
+/// others are in use, what loses a use with `filesystems` are directories of layers and upper objects of overlays among
+/// them.
 pub fn things_of_overlays_go_one_by_one()
     ensures merged { MergedGoOneByOne }
     ensures upper { OneUpperUseLess }
@@ -40,8 +41,7 @@ pub fn things_of_overlays_go_one_by_one()
 {}
 
 /// A mount is `located`, a filesystem `mounted`, an inode used (`inodes`), and a group has `members`, just while its
-/// count is not zero. A `location` that is left is one use less of its mount alone; a `mount` that goes, of its
-/// filesystem alone.
+/// count is not zero. A `location` left is one use less of its mount alone, a freed `mount` of its filesystem.
 pub fn uses_are_counted()
     ensures located { LocatedWhileCounted }
     ensures mounted { MountedWhileCounted }
@@ -51,9 +51,10 @@ pub fn uses_are_counted()
     ensures mount { OneMountLess }
 {}
 
-/// To look at a `mount`, a `filesystem` or an `inode` of a plain tree is to look it up by number, and take it away
-/// unless used. Mounts are numbered; for inodes, filesystems have their own numbers. To look at a `group` is to take
-/// its master unless it has members.
+/// To look at a `mount`, `filesystem` or `inode` of a plain tree is to look it up by number, and free it unless used.
+/// Mounts are numbered; for inodes, filesystems have their own numbers.
+///
+/// To look at a `group` is to take its master unless it has members.
 pub fn things_are_looked_up()
     ensures mount { MountIsLookedUp }
     ensures filesystem { FilesystemIsLookedUp }
@@ -62,7 +63,7 @@ pub fn things_are_looked_up()
 {}
 
 /// A world with all invariants is `settled`; a `plain` one is settled plain. It has `trees`; `mounts` and `locations`
-/// stand; no upper layer is in an overlay (`uppers`), no real object of an inode that does not exist (`reals`).
+/// stand; no upper layer is in an overlay (`uppers`), no real object of a missing inode (`reals`).
 pub fn worlds_are_fit_to_be_swept()
     ensures trees { WorldsHaveTrees }
     ensures mounts { MountsOfWorldsStand }

@@ -3,12 +3,12 @@
 //! on where the words of its text lead. A location is *passed* if a word is looked up there.
 ghost use Rattle.vt_laws_trees.specs.Calls.Searched.{DestinationWaysAreSearched, DirectoryWaysAreSearched, EachLastWordIsLookedUpByRight, EachWordIsLookedUpByRight, FileWaysAreSearched, NewLeafWaysAreSearched, NewNameWaysAreSearched, ObjectWaysAreSearched, OldLeafWaysAreSearched, OldNameWaysAreSearched, PlaceWaysAreSearched, RenamedWaysAreSearched, SourceWaysAreSearched, SymlinkWaysAreSearched, WaysAreOne};
 
-/// A word is looked up in a directory that the task, and on an overlay its mounter, may search, or the walk is refused
-/// (`words`). The same is so of the last word, if a call takes the name itself (`last_words`). Words have `one` way at
-/// most.
+/// A walk to one of `objects`, `directories`, `sources` or `destinations` that is not refused went the way of its path.
+/// It passed only directories that the task, and on an overlay its mounter, may search.
 ///
-/// A walk to one of `objects`, `directories` or `sources` that is not refused went the way of its path, and passed such
-/// directories alone. One to `destinations` did, too, and then goes on to the topmost mount.
+/// A walk to `destinations` then goes on to the topmost mount. A word is looked up in such a directory, or the walk is
+/// refused (`words`). So is the last word, if a call takes the name itself (`last_words`). Words have `one` way at
+/// most.
 pub fn each_directory_on_the_way_is_searched()
     ensures words { EachWordIsLookedUpByRight }
     ensures last_words { EachLastWordIsLookedUpByRight }
@@ -19,9 +19,11 @@ pub fn each_directory_on_the_way_is_searched()
     ensures one { WaysAreOne }
 {}
 
-/// A walk that follows no final symlink does the same (`symlinks`), and one to a name that is made, moved, replaced or
-/// removed: `places`, `new_names`, `new_leaves`, `old_names`, `old_leaves`, `renamed`. The last word is looked up in
-/// such a directory, too. A walk to `files` opened or made does, through texts of final symlinks.
+/// The same holds of a walk that follows no final symlink (`symlinks`), of walks to names (`places`, `new_names`,
+/// `new_leaves`, `old_names`, `old_leaves`, `renamed`), and of those to `files` opened or made.
+///
+/// The names are made, moved, replaced or removed. The last word is looked up in such a directory, too. A walk to
+/// `files` goes through texts of final symlinks.
 pub fn each_directory_on_the_way_to_a_name_is_searched()
     ensures symlinks { SymlinkWaysAreSearched }
     ensures places { PlaceWaysAreSearched }

@@ -4,8 +4,8 @@ ghost use Rattle.vt_laws_trees.specs.Layers.Layers.Directories.{ShownUnderName, 
 ghost use Rattle.vt_laws_trees.specs.Layers.Layers.DirectoryTrees.{OneDirectoryIsEnough, ObjectsAreThoseShown, OverlaysAreMergedByDirectory, RealObjectsAreThoseShown};
 ghost use Rattle.vt_laws_trees.specs.Layers.Layers.NewOverlays.{ChangedStayApart, LowersStayApart, NewOverlayHasOwnParents, NewOverlayIsFit, NewOverlayIsTree, NewOverlayListsNumbers, OverlaysStillMerge};
 
-/// What layers show `under` a name is what the directories merged there show. These are those of the layers that have
-/// one there, from the top to the first that is opaque or has something else there, each with its layer's place.
+/// What views of layers show `under` a name is what the directories merged there show. These are those that layers have
+/// there, from the top to the first that is opaque or has something else there.
 ///
 /// - `views`, `layers`: merged ones are views again, as is that of a tree's directory.
 /// - `directories`: in trees they are found by that name in each layer's directory.
@@ -19,10 +19,11 @@ pub fn layers_merge_one_directory_at_a_time()
     ensures directories { DirectoriesAreMerged }
 {}
 
-/// A `tree` has at every path what the layers show, if each of its directories has under each name what its views show
-/// there. Its root has all layers' views, a directory under a name those merged there. `objects` found in this way are
-/// those shown. For an overlay that has layers in a world with all invariants, the same holds (`overlays`), also of its
-/// `real` objects.
+/// A `tree` has at every path what the layers show, if each directory has under each name what its views show. So it is
+/// for an overlay that has layers in a world with all invariants (`overlays`, `real`).
+///
+/// Its root has all layers' views, a directory under a name those merged there. `objects` found in this way are those
+/// shown, and so are the `real` objects of an overlay.
 pub fn one_directory_at_a_time_is_enough()
     ensures tree { OneDirectoryIsEnough }
     ensures objects { ObjectsAreThoseShown }
@@ -30,12 +31,14 @@ pub fn one_directory_at_a_time_is_enough()
     ensures real { RealObjectsAreThoseShown }
 {}
 
-/// By distinct numbers, a new overlay that has layers in a world with all invariants is a `tree` within the limits
-/// (`fit`). Directories without a name are their `own_parents`, and its `numbers` are those of its inodes.
+/// In a world with all invariants, an overlay is added by distinct new numbers over directories of plain trees that O2,
+/// O3 and O5 allow. It is a tree within limits (`tree`, `fit`); layers stay apart and overlays merged.
 ///
-/// It is added, if O2, O3 and O5 do not refuse it, its work directory is one of a plain tree, and its number is no
-/// filesystem's. Upper and work directories lie apart from each other (`changed`) and from lower layers (`lowers`)
-/// then, and each overlay is what its layers show (`merge`).
+/// For `tree`, `fit`, `own_parents` and `numbers` it has layers, and the numbers are distinct. Directories without a
+/// name are their own parents, and the numbers beside the tree are those of its inodes. For `changed`, `lowers` and
+/// `merge`, too, its work directory is one of a plain tree, and its number no filesystem's. Upper and work directories
+/// lie apart from each other (`changed`) and from lower layers (`lowers`) then, and each overlay is what its layers
+/// show (`merge`).
 pub fn a_new_overlay_meets_the_invariants()
     ensures tree { NewOverlayIsTree }
     ensures own_parents { NewOverlayHasOwnParents }

@@ -8,10 +8,12 @@ ghost use Rattle.vt_laws_trees.specs.Layers.Layers.Views.{MarkChangesOneInode, M
 ghost use Rattle.vt_laws_trees.specs.Layers.Layers.Views.{OldLeadsNowhere, RemoveEndsPaths, RemoveIsSeen, RemoveTakesPath, ShownByViews};
 ghost use Rattle.vt_laws_trees.specs.Layers.Layers.Views.{ThroughIsSplit};
 
-/// A new object without names in it, by a new number, takes over a name. The one path that ends in that entry leads to
-/// it, others where they led (`made`). The new `inode` is as asked for, others are alike, in a tree at their paths, too
+/// A new object without names in it, by a new number, takes over a name: it adds the one path that ends in that entry
+/// (`made`). A further name of a non-directory does the same (`linked`, `linked_seen`).
+///
+/// Others lead where they led. The new `inode` is as asked for, others are alike, in a tree at their paths, too
 /// (`made_seen`). If what had the name has names in it, none back to the directory, paths through it lead nowhere
-/// (`over`). A further name of a non-directory does the same (`linked`, `linked_seen`).
+/// (`over`).
 pub fn new_names_add_a_path()
     ensures made { MakeAddsPath }
     ensures inode { MakeAddsInode }
@@ -21,18 +23,21 @@ pub fn new_names_add_a_path()
     ensures linked_seen { AddNameIsSeen }
 {}
 
-/// If a name is taken from an object without names in it, the one path that ends in it leads nowhere. Others lead where
-/// they led (`removed`), to what is alike (`seen`). Whatever had the name, just the paths through it lead nowhere
-/// (`under`).
+/// If a name is taken from an object without names in it, the one path that ends in it leads nowhere (`removed`).
+/// Others lead where they led, to what is alike (`seen`).
+///
+/// Whatever had the name, just the paths through it lead nowhere (`under`).
 pub fn removed_names_take_a_path()
     ensures removed { RemoveTakesPath }
     ensures seen { RemoveIsSeen }
     ensures under { RemoveEndsPaths }
 {}
 
-/// An object takes over a name of a directory not under it. In a tree, that name and what follows lead where the object
-/// led by what follows (`on`), as the old name did (`as_old`). Of the `others` those through the old name lead nowhere,
-/// the rest where they led. A path through a name is a way to its directory, the name, and a rest (`split`).
+/// In a tree, an object takes over a name of a directory not under it: that name leads where the old one led (`on`,
+/// `as_old`). `others` through the old name lead nowhere, the rest where they led.
+///
+/// What follows the new name leads where the object led by it (`on`). A path through a name is a way to its directory,
+/// the name, and a rest (`split`). `others` and `split` ask for no tree.
 pub fn moves_take_all_along()
     ensures on { MovedLeadsOn }
     ensures as_old { NewLeadsAsOld }
@@ -40,8 +45,10 @@ pub fn moves_take_all_along()
     ensures split { ThroughIsSplit }
 {}
 
-/// `bytes`, attributes (`attr`) and a `mark` move no path and change one inode. Changes of `names` alone leave inodes
+/// `bytes`, attributes (`attr`) and a `mark` move no path and change one inode; changes of `names` alone leave inodes
 /// alike. In a tree, a change of inodes to which no path leads leaves the view alike (`elsewhere`).
+///
+/// What `elsewhere` makes has a new number.
 pub fn views_change_there_alone()
     ensures bytes { BytesChangeOneInode }
     ensures attr { AttrChangesOneInode }
@@ -57,10 +64,11 @@ pub fn views_say_what_is_shown()
     ensures at_a_path { ShownByFronts }
 {}
 
-/// In a tree, a change of the upper layer whose new names are taken over leaves what is shown `elsewhere`: at paths not
-/// through its names, nor to or through a directory whose mark it sets. At a new name the new object is shown (`made`),
-/// or the `linked` one, unless a whiteout. At a name `removed` or `left` is shown what would be if the upper layer had
-/// nothing there.
+/// In a tree, a change of the upper layer whose new names are taken over leaves what is shown `elsewhere`. That is at
+/// paths not through its names, nor to or through a directory whose mark it sets.
+///
+/// At a new name the new object is shown (`made`), or the `linked` one, unless a whiteout. At a name `removed` or
+/// `left` is shown what would be if the upper layer had nothing there.
 pub fn changes_of_the_upper_layer_show_there_alone()
     ensures elsewhere { ShownElsewhereStays }
     ensures made { NewNameIsShown }

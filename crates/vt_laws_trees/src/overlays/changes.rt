@@ -2,8 +2,8 @@
 ghost use Rattle.vt_laws_trees.specs.Overlays.WholeChanges.{CallsKeepOtherOverlays, ChangedOverlayIsMerged, ChangesKeepShown, HiddenStaysHidden};
 ghost use Rattle.vt_laws_trees.specs.Overlays.WholeChanges.{OtherOverlaysStayMerged, OverlaysAreWhole, ShownIsMerged};
 
-/// After a good change the overlay shows its layers (`changes`). What lower layers show then they showed there before
-/// (`hidden`).
+/// After a good change the overlay shows its layers (`changes`), and what was hidden in lower layers stays so
+/// (`hidden`). In a world it and all others are merged then (`world`, `others`, `calls`).
 ///
 /// - `merged`, `whole`: an overlay of a world that shows its layers is merged (`IsMerged`). In a world with all
 ///   invariants each with an upper layer is whole.

@@ -2,7 +2,8 @@
 ghost use Rattle.vt_laws_trees.specs.Overlays.WhatIsShown.{AttrKeepsWhole, BytesKeepWhole, CopiesKeepWhole, CopyKeepsWhole};
 ghost use Rattle.vt_laws_trees.specs.Overlays.WhatIsShown.{LinkKeepsShown, MakeKeepsShown, MarkKeepsWhole, MarkOfTheTreeIsNotShown, MoveKeepsShown, RemoveKeepsShown};
 
-/// By new numbers, a whole overlay stays whole in each of these steps; in the last four it shows its layers.
+/// By new numbers, a whole overlay stays whole in the steps `bytes`, `attr`, `mark`, `copy` and `copies`. It shows its
+/// layers after `made`, `linked`, `removed` and `moved`, and not with a mark in its own tree (`tree_mark`).
 ///
 /// - `bytes`, `attr`: bytes, or owner and mode, of what stands in the upper layer are set.
 /// - `mark`: a directory's mark is set or taken in the upper layer, where no lower layer that is not cut has a
@@ -14,8 +15,7 @@ ghost use Rattle.vt_laws_trees.specs.Overlays.WhatIsShown.{LinkKeepsShown, MakeK
 /// - `removed`: an object without names in it loses a name, with a whiteout over what lower layers show.
 /// - `moved`: an object moves as the rules of `rename` let pass, a directory by O1.
 ///
-/// Directories of the last four, and what is linked or moved, stand in the upper layer. With a directory marked opaque
-/// in its own tree the overlay does not show its layers (`tree_mark`).
+/// Directories of the last four, and what is linked or moved, stand in the upper layer.
 pub fn steps_keep_what_is_shown()
     ensures bytes { BytesKeepWhole }
     ensures attr { AttrKeepsWhole }

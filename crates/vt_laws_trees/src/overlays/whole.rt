@@ -29,9 +29,11 @@ pub fn changes_keep_both_trees()
     ensures sizes { SizesStay }
 {}
 
-/// After a good change in a world all invariants of `overlays` hold: upper and work directories lie `apart` from each
-/// other and from live lower layers. Filesystems are file trees with their own numbers, and the upper directory is
-/// reached (`trees`). All invariants of trees hold, if what the change gives is within limits (`files`).
+/// After a good change in a world all invariants of `overlays` hold, layers lie `apart`, and filesystems are file trees
+/// (`trees`). All invariants of trees hold, if what the change gives is within limits (`files`).
+///
+/// Upper and work directories lie apart from each other and from live lower layers. Filesystems have their own numbers,
+/// and the upper directory is reached (`trees`).
 pub fn changes_keep_overlay_invariants()
     ensures apart { LayersStayApart }
     ensures overlays { OverlayInvariantsStay }

@@ -2,8 +2,9 @@
 ghost use Rattle.vt_world.specs.OverlaysKept.Inodes.{InodesAreTheTree, InodesHaveTheirObjects, InodesStay, NumbersAreListed};
 
 /// The inodes of an overlay, in the order of their numbers, make its `tree` again. If its layers are directories of
-/// plain trees, they have its real `objects`, and the numbers beside the tree are theirs (`listed`). Two lists of
-/// plain trees that show the overlay alike give the same inodes (`stay`).
+/// plain trees, they have its real `objects`, and the numbers beside the tree are theirs (`listed`).
+///
+/// Two lists of plain trees that show the overlay alike give the same inodes (`stay`).
 pub fn overlays_are_their_inodes()
     ensures tree { InodesAreTheTree }
     ensures objects { InodesHaveTheirObjects }
