@@ -26,7 +26,7 @@ pub fn a_regrouped_world_is_typed_by_its_groups()
 /// a new one (`start`). Masters that are given have members; a group joined has members or no master.
 ///
 /// Groups live if the group or master of each mount has members, and so has each group up the masters, which come to an
-/// end.
+/// end. After the change, groups without members are handed on.
 pub fn groups_live_on()
     ensures leave { LeavingKeepsGroups }
     ensures slave { SlavesKeepGroups }

@@ -2,8 +2,8 @@
 ghost use Rattle.vt_laws_rules.specs.Given.{PermitsAreForTheirCalls};
 ghost use Rattle.vt_laws_rules.specs.Granted.{CallsAreGranted, GrantsAreJudged};
 
-/// Each of the 31 permits is granted to its own calls alone, and holds what the call asked for. Of where paths and
-/// descriptors lead, and of what a new object holds, this says nothing.
+/// Each of the 31 permits is granted to its own calls alone, and holds what the call asked for. Of where paths,
+/// descriptors and task names lead, and of what a new object holds, this says nothing.
 ///
 /// What it holds as asked: bytes, offset, size, the access of `open`, mode, owner, group, mark, umask, flags of a
 /// mount, type, and whether a bind or a change of type is recursive. So with the credentials of `drop` and `fork`, and

@@ -21,8 +21,8 @@ pub fn a_namespace_ends_with_its_last_task()
     ensures none { NoNamespaceEnds }
 {}
 
-/// In any world mounts `added` to one namespace count there and in `no_other`; of several, each in its own
-/// (`their_own`). If there were not too many, there are just if the `one`, or one of `several`, that may have more has.
+/// In any world mounts `added` to one namespace count there and in `no_other`; of several, in their own (`their_own`).
+/// If there were not too many, there are just if the `one`, or one of `several`, that may have more has.
 ///
 /// For `one` and `several` the namespaces that may have more are listed, no other has more, and namespaces stay.
 pub fn too_many_mounts_are_counted()

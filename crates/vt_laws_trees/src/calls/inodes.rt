@@ -13,8 +13,10 @@ pub fn calls_change_their_own()
     ensures ends { OnlyUnusedInodesEnd }
 {}
 
-/// A call of a task, granted or refused, leaves each inode as it was, or freed, but those that its paths and
-/// descriptors lead to and one that it makes (`paths`). In every world a remaining filesystem keeps its root (`roots`).
+/// A call of a task leaves each inode as it was, or freed, but those that its paths and descriptors lead to and one
+/// that it makes (`paths`). In every world a remaining filesystem keeps its root (`roots`).
+///
+/// The call is granted or refused.
 pub fn calls_keep_to_their_paths()
     ensures paths { CallsKeepToTheirPaths }
     ensures roots { RootsStay }

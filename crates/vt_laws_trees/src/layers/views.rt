@@ -64,11 +64,12 @@ pub fn views_say_what_is_shown()
     ensures at_a_path { ShownByFronts }
 {}
 
-/// In a tree, a change of the upper layer whose new names are taken over leaves what is shown `elsewhere`. That is at
-/// paths not through its names, nor to or through a directory whose mark it sets.
+/// In a tree, a change of the upper layer whose new names are taken over (`IsPlainChange`) leaves what is shown
+/// `elsewhere`: at paths not through its names, nor to or through a directory whose mark it sets.
 ///
-/// At a new name the new object is shown (`made`), or the `linked` one, unless a whiteout. At a name `removed` or
-/// `left` is shown what would be if the upper layer had nothing there.
+/// What is made has a new number and no names in it, what is linked is no directory, and what moves goes to no
+/// directory under it. At a new name the new object is shown (`made`), or the `linked` one, unless a whiteout. At a
+/// name `removed` or `left` is shown what would be if the upper layer had nothing there.
 pub fn changes_of_the_upper_layer_show_there_alone()
     ensures elsewhere { ShownElsewhereStays }
     ensures made { NewNameIsShown }

@@ -1,11 +1,11 @@
 //! Runs that go on from worlds that are the same.
 ghost use Rattle.vt_laws_trees.specs.Runs.Runs.{GrammarsKeepOverlaysOut, RunsHaveOneText};
 
-/// After each line a run goes on from any same world, and hands out numbers in hand that it does not keep to. If
-/// infinitely many are not in hand, a script without overlays has its one text (`runs`).
+/// A run without overlays goes on from any same world after each line, by numbers in hand unused there. It writes its
+/// script's one text (`runs`), if infinitely many are not in hand, and four for the opening world are.
 ///
-/// Numbers may come again; the opening world has four different ones in hand. Grammars without `mount overlay` read no
-/// script with overlays (`grammars`).
+/// Unused are numbers that the world does not keep to; they may come again. The four are different. Grammars without
+/// `mount overlay` read no script with overlays (`grammars`).
 pub fn runs_have_one_text()
     ensures grammars { GrammarsKeepOverlaysOut }
     ensures runs { RunsHaveOneText }

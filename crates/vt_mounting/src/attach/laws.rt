@@ -6,18 +6,19 @@ ghost use Rattle.vt_mounting.specs.Attach.AttachedNumbers.{BindsKeepToNumbers, M
 ghost use Rattle.vt_mounting.specs.Attach.AttachedNumbers.{UnsharesKeepToNumbers};
 ghost use Rattle.vt_mounting.specs.Attach.PlannedUses.{PointsAreMoved, PointsAreUses};
 
-/// If mounts come after all others, which keep numbers and types but may move, the groups grow by those of the mounts
-/// that come (`ComeAfter`).
+/// If mounts of greater numbers come after all others, which keep numbers and types but may move, the groups grow by
+/// those of the mounts that come (`ComeAfter`).
 ///
 /// Each group of these mounts exists or is new, and each new group with a master has one of them.
 pub fn attached_worlds_grow()
     ensures { AttachedWorldsGrow }
 {}
 
-/// `binds`, `moves` and `new_mounts` take two numbers for each mount of the tree at each part, `unshares`, in worlds
-/// with all invariants, two for each mount. The task exists; world and permit keep to earlier numbers.
+/// `binds` and `moves` take two numbers for each mount of the tree at each part, `new_mounts` four for each part,
+/// `unshares`, in worlds with all invariants, two for each mount. The task exists; world and permit keep to earlier
+/// numbers.
 ///
-/// The world that is left has no others beside its own.
+/// The world that is left has no others beside its own. A new mount is also handed an even number for its root.
 pub fn attachments_keep_to_their_numbers()
     ensures binds { BindsKeepToNumbers }
     ensures moves { MovesKeepToNumbers }
