@@ -65,7 +65,7 @@ pub fn views_say_what_is_shown()
 {}
 
 /// In a tree, a change of the upper layer whose new names are taken over (`IsPlainChange`) leaves what is shown
-/// `elsewhere`: at paths not through its names, nor to or through a directory whose mark it sets.
+/// `elsewhere`. That is at paths not through its names, nor to or through a directory whose mark it sets.
 ///
 /// What is made has a new number and no names in it, what is linked is no directory, and what moves goes to no
 /// directory under it. At a new name the new object is shown (`made`), or the `linked` one, unless a whiteout. At a
