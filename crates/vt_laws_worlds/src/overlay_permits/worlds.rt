@@ -20,8 +20,10 @@ pub fn the_sweep_leaves_a_world()
     ensures { SettlingLeavesEveryWorld }
 {}
 
-/// An overlay that is live after each call (`calls`, `scripts`) has its layers. What lies or counts under a lower one
-/// still does, and keeps kind, owner, mode, names, bytes and mark. Every path leads from its directory where it led.
+/// An overlay that is live after each call (`calls`, `scripts`) has its layers. Paths lead from lower ones where they
+/// led, and what lies or counts under these keeps kind, owner, mode, names, bytes and mark.
+///
+/// It still lies or counts under them.
 pub fn lower_layers_are_locked_over_scripts()
     ensures calls { EveryCallLeavesLowers }
     ensures scripts { LowersStayOverScripts }
