@@ -9,8 +9,9 @@ ghost use Rattle.vt_laws_containers.specs.Calls.{RunsEndAlike, SetsThatKeepOther
 ghost use Rattle.vt_laws_containers.specs.Scripts.{SealedSetsStandSo, SetsAreAnsweredAsAlone};
 
 /// The calls of the set have the answers that they have without the calls of others, if in both runs each ends alike
-/// and gives others no foothold (`alone`, `EachEndsAlike`). It is enough that none gives others a foothold in either
-/// run (`kept_out`).
+/// and gives others no foothold (`alone`, `EachEndsAlike`).
+///
+/// It is enough that none gives others a foothold in either run (`kept_out`).
 ///
 /// If calls of theirs do both in every world by one supply, a fork if it names at most 32 supplementary groups
 /// (`AlwaysEndsAlike`), they do along the run (`runs`). After any lines of a script, `IsSealedOffAt` holds of a set
