@@ -1,6 +1,6 @@
-//! Each turn of a task of a sealed set. The set is sealed off, and calls under way hold what their tasks see. First in
-//! the task's queue is no directive, and no `setns` but to a task of the set. Numbers handed in, if any, are unused
-//! (`IsTurnOfTheirs`). But for the first law, `HasItSealed` holds.
+//! The set is sealed off, and calls under way hold what their tasks see. First in the queue of the task of the set is
+//! no directive, and no `setns` but to a task of the set. Numbers handed in, if any, are unused (`IsTurnOfTheirs`). But
+//! for the first law, `HasItSealed` holds.
 ghost use Rattle.vt_laws_containers.specs.MembersTurns.Rounds.{TheirTurnsLeaveAsAlone, TheirTurnsReplyAsAlone};
 ghost use Rattle.vt_laws_containers.specs.MembersTurns.TheirTurns.{EachTurnOfTheirsIsOfTheirPart, OutsidersChangeNoTurnOfTheirs};
 

@@ -1,6 +1,5 @@
-//! Which calls end an inode, and which let nothing go. The calls `unlink`, `rmdir`, `rename`, `close`, `exit`, `chdir`,
-//! `chroot`, `setns`, `unshare`, `umount`, `lazy`, `move` and `pivot_root` take a use away (`takes_uses`). *Other*
-//! calls are all the rest, granted or refused.
+//! The calls `unlink`, `rmdir`, `rename`, `close`, `exit`, `chdir`, `chroot`, `setns`, `unshare`, `umount`, `lazy`,
+//! `move` and `pivot_root` take a use away (`takes_uses`). *Other* calls are all the rest, granted or refused.
 ghost use Rattle.vt_laws_later_calls.specs.Ends.{OnlyTheseEndInodes, OtherCallsLeaveAll, TypesLeaveAllButMasters};
 ghost use Rattle.vt_laws_later_calls.specs.Whiteouts.{AllTypesLeaveAllButMasters, OnlyTheseEndOtherInodes, OnlyWhiteoutsAreTaken, OtherCallsKeepAll, OtherCallsLetWhiteoutsGo, PlainChangesKeepAll, ReplacedAreWhiteouts};
 

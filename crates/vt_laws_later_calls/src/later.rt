@@ -1,4 +1,4 @@
-//! What later calls see of earlier ones, in a plain world. The call before is granted; those after it are handed any
+//! What later calls see of earlier ones in a plain world. The call before is granted; those after it are handed any
 //! numbers.
 ghost use Rattle.vt_laws_later_calls.specs.LaterNames.{RenameDirectoryThenList, RenameDirectoryThenLstat, RenameThenFound, RenameThenListed};
 ghost use Rattle.vt_laws_later_calls.specs.LaterPaths.{ChmodThenStat, ChownThenStat, ExclusiveTwice, LinkThenLstat, MkdirThenList, RenameThenLstat, RmdirThenLstat, SymlinkThenReadlink, UnlinkThenLstat, WriteThenRead};

@@ -1,5 +1,5 @@
-//! Calls of tasks outside a sealed set. The world has all invariants, each name of the set is the name of a task,
-//! numbers handed in are unused, and a fork names at most 32 supplementary groups (`IsOutsidersCall`).
+//! Calls of others. The world has all invariants, each name of the set is the name of a task, numbers handed in are
+//! unused, and a fork names at most 32 supplementary groups (`IsOutsidersCall`).
 ghost use Rattle.vt_laws_sealed.specs.Outsiders.{OutsidersLeaveASealedSet, OutsidersLeaveItSealedInTurn};
 
 /// A task outside a sealed set makes a call that enters no namespace of theirs. The set stays sealed off, its part

@@ -1,5 +1,5 @@
-//! Overlays without an upper layer: no permit changes one. *Writers have layers* (`WritersHaveLayers`) if no descriptor
-//! is open for writing in such an overlay.
+//! Overlays without an upper layer. *Writers have layers* (`WritersHaveLayers`) if no descriptor is open for writing in
+//! one.
 ghost use Rattle.vt_laws_worlds.specs.OverlaysRead.Writers.{ChangesHaveLayers, EveryCallKeepsWriters, OpensCopyNothing, PermitsKeepWriters, PlainOnesAreChanged, PlainWorldsHaveLayers, SameWorldsHaveLayersAlike, ScriptsChangeNone, ScriptsKeepWriters, SweepsKeepWriters};
 
 /// In any world in which writers have layers no given permit changes an overlay without an upper layer (`layers`). If

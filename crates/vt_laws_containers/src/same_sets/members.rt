@@ -1,5 +1,4 @@
-//! Calls of tasks of a set in worlds that are the same. The world has all invariants, and the set need not be sealed
-//! off.
+//! The world has all invariants, and the set need not be sealed off.
 ghost use Rattle.vt_laws_containers.specs.SameSets.Members.{CallsEndAlikeInSameWorlds};
 
 /// A call that ends alike in a world and in the part of a set has that answer in each world that is the same, and

@@ -1,5 +1,4 @@
-//! Turns of the tasks of a set, which need not be sealed off. Calls under way hold what their tasks see
-//! (`HasCallsUnderWay`).
+//! The set need not be sealed off, and calls under way hold what their tasks see (`HasCallsUnderWay`).
 ghost use Rattle.vt_laws_containers.specs.SealedTurns.MembersTurns.{OutsidersOvertakeNoCallOfTheirs, TheirAnswersAreOfTheGrownPart, TheirAnswersAreOfTheirPart, TheirCallsAreOvertakenAlike, TheirExitsAreOfTheGrownPart, TheirForksAreOfTheGrownPart, TheirRefusalsAreOfTheirPart, TheirTurnsAnswerAlike, TheirWordsAreOfTheirPart};
 
 /// A turn of a task of the set has a reply just if it has one where the state is its part (`answers`). It is the same

@@ -1,5 +1,4 @@
-//! Whether namespaces have room for the mounts that a call attaches. Numbers handed in are any, and a `bind` is in any
-//! world.
+//! Room for the mounts that a call attaches. Numbers handed in are any, and a `bind` is in any world.
 ghost use Rattle.vt_laws_later_calls.specs.Limits.Room.{BindNeedsRoom, BindsAskForRoom, MoveNeedsRoom, MovesAskForRoom, NewMountNeedsRoom, NewMountsAskForRoom, OverlaysAskForRoom};
 
 /// M9 fails for a `new_mount`, `overlay` or `bind`, or a move of an existing mount (`moves`), just if some namespace is

@@ -1,4 +1,4 @@
-//! Events of mounts do not pass between a sealed set and others. The invariants of mounts hold.
+//! Events of mounts, if the invariants of mounts hold.
 ghost use Rattle.vt_laws_sealed.specs.Part.Groups.{NoEventOfOthersReachesThem, NoEventOfTheirsReachesOthers, TheirGroupsReceiveAlike};
 
 /// If no mount of theirs shares events with one of another namespace (`shares_no_events`), neither receives from a

@@ -1,5 +1,5 @@
-//! What is wholly locked for a set and what others may change. Filesystems are trees with the numbers of their inodes
-//! beside them (`IsListedTree`).
+//! What is wholly locked for a set. Filesystems are trees with the numbers of their inodes beside them
+//! (`IsListedTree`).
 ghost use Rattle.vt_laws_sealed.specs.Part.Locked.{OthersChangesLeaveThePart, OthersChangeWhatIsNotUsed, WhollyLockedIsLocked};
 
 /// A sealed set uses no filesystem in which others may change an inode (`IsOthersToChange`, `unused`). Changes there

@@ -1,5 +1,5 @@
-//! What any number of calls leave, one after the other. No number handed in is that of the namespace or filesystem of
-//! the law, and a fork names at most 32 supplementary groups (`IsBeside`).
+//! Any number of calls, one after the other. No number handed in is that of the namespace or filesystem of the law, and
+//! a fork names at most 32 supplementary groups (`IsBeside`).
 ghost use Rattle.vt_laws_turns.specs.Frames.Detached.{OtherTasksStandInTurn};
 ghost use Rattle.vt_laws_turns.specs.Frames.InTurn.{OtherTasksStayInTurn, UnraisedFilesystemsStayInTurn, UnraisedNamespacesKeepMountsInTurn};
 

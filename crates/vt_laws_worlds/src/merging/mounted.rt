@@ -1,4 +1,4 @@
-//! Overlays that are mounted. Numbers handed in are different, and no filesystem's (`AreNewNumbers`).
+//! Overlays that are mounted; numbers handed in are different, and no filesystem's (`AreNewNumbers`).
 ghost use Rattle.vt_laws_worlds.specs.Merging.MountedAnew.{LayersAreReached, MountedAnewLinksTheSame, MountedAnewShowsTheSame, MountedLayersAreReached, MountedOverTheSameLayers, MountingLeavesAWorld, MountingLeavesOverlays, MountingLeavesTrees, MountingLetsNothingGo, PolicyMountsAWorld, RaisingKeepsWorlds};
 
 /// After `mount overlay` of an existing task, granted or refused, by unused numbers, all invariants hold (`world`), and

@@ -1,5 +1,5 @@
 //! What a change of a whole overlay (`IsWhole`) makes of its upper layer. New numbers are different, and no inode's of
-//! that layer's tree. A *place* is a path, or the real object of an object without a name.
+//! that tree. A *place* is a path, or the real object of an object without a name.
 ghost use Rattle.vt_laws_worlds.specs.Merging.UpperChanges.{AttrIsSetAbove, BytesAreSetAbove, CopiesAreOfFronts, CopiesHideNothing, FrontsHaveTheirCopies, FrontsLeadToCopies};
 ghost use Rattle.vt_laws_worlds.specs.Merging.UpperChanges.{HeldHaveTheirCopies, LinkedAbove, MadeAbove, MarkIsSetAbove, MovedAbove, OpenedIsCopied, RemovedAbove};
 ghost use Rattle.vt_laws_worlds.specs.Merging.BelowChanges.{BelowEnds, BelowNames, BelowNew, BelowStays};

@@ -1,5 +1,5 @@
-//! Which filesystem a granted call goes through, and the layers that it leaves. A layer *stays* if paths lead from its
-//! directory where they led, and what is there keeps kind, owner, mode, names, bytes and mark.
+//! A layer *stays* if paths lead from its directory where they led, and what is there keeps kind, owner, mode, names,
+//! bytes and mark.
 ghost use Rattle.vt_laws_worlds.specs.OverlayPermits.Through.{CallsGoThroughTheirLocation, CallsLeaveOtherLayers, EveryCallLeavesOtherLayers, LayersStayOverScripts, OtherCallsLeaveFilesystems, PlainCallsLeaveLayers};
 
 /// Before the sweep, a granted call leaves all filesystems but the one that it changes and its upper layer's

@@ -1,5 +1,5 @@
 //! Every world that a script leads to. A clause `scripts` is of any line after which an overlay exists and any later
-//! one, if the overlay, named by its filesystem's number, is live after each line between.
+//! one, if the overlay, of the same number, is live after each line between.
 ghost use Rattle.vt_laws_worlds.specs.OverlayPermits.HiddenOverScripts.{EveryCallUncoversNothing, HiddenOverScripts};
 ghost use Rattle.vt_laws_worlds.specs.OverlayPermits.LockedOverScripts.{EveryCallLeavesLowers, LowersStayOverScripts};
 ghost use Rattle.vt_laws_worlds.specs.OverlayPermits.MountedOverScripts.{LinksOverScripts, MountedAnewOverScripts, SameLayersOverScripts};

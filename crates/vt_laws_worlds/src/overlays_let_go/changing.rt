@@ -1,6 +1,6 @@
-//! What goes when an overlay changes. But for the second law, it has an upper layer, and the change can be made
-//! (`CanChange`): new numbers are different, and no inode's of the upper layer's filesystem, names are as calls ask,
-//! and both trees are trees afterwards.
+//! But for the second law, the overlay has an upper layer, and the change can be made (`CanChange`): new numbers are
+//! different, and no inode's of the upper layer's filesystem, names are as calls ask, and both trees are trees
+//! afterwards.
 ghost use Rattle.vt_laws_worlds.specs.OverlaysLetGo.NamesGiven.{GivenNamesLetGo, OpenedNamesLetGo};
 ghost use Rattle.vt_laws_worlds.specs.OverlaysLetGo.OverlayCalls.{MadeInOverlaysLetsGo, OpenedNewInOverlaysLetsGo, RemovedFromOverlaysLetGo, RemovingKeepsTheMount, ReplacedInOverlaysLetGo, ReplacingKeepsTheMount, TakenAndOverlayChangesLetGo};
 ghost use Rattle.vt_laws_worlds.specs.OverlaysLetGo.OverlayChanges.{OverlayChangesLetGo};

@@ -1,5 +1,4 @@
-//! Copies to the upper layer, one missing prefix at a time. The overlay is whole (`IsWhole`); new numbers are
-//! different, and no inode's of the upper layer's tree.
+//! Copies to the upper layer of a whole overlay (`IsWhole`). New numbers are different, and no inode's of that tree.
 ghost use Rattle.vt_laws_worlds.specs.Seen.CopySteps.{CopiesAreMadeInTurn, CopiesGoStepByStep, CopiesShowTheSame, PathsHaveTheirCopies};
 
 /// After the copy of a path that leads somewhere, layers show what they showed to be copied (`same`). The copy of one
