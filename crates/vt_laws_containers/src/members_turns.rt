@@ -20,7 +20,7 @@ pub fn turns_of_others_change_no_turn_of_theirs()
 {}
 
 /// With any number of turns of others before each, turns of theirs have the replies that they have `alone`, and leave
-/// the same set, part, calls and queues (`left`). Each leaves the set sealed off, in both runs.
+/// the same set, part, calls and queues (`left`). Each leaves the set sealed off (`IsRound`, `GoesAlone`).
 ///
 /// The set changes with each call of theirs (`set_left`), of which a fork names at most 32 supplementary groups. With
 /// the turns of others and without, each turn of theirs is handed the same numbers, unused in both worlds. No turn of

@@ -1,7 +1,7 @@
 //! How calls of members are judged in the part of their set.
 ghost use Rattle.vt_laws_members.specs.Judging.{MembersAreJudgedAlike, MembersAreJudgedByTheirPart, MembersSeeAlike};
 
-/// A call of a task of the set is granted or refused in the part as in the world, by the same rule or permit, and by
+/// Each call of a task of the set is judged in the part as in the world, by the same rule or with the same permit, by
 /// any numbers (`by_part`).
 ///
 /// So it is for any given answers to M9, the same in both (`judged`).

@@ -2,7 +2,7 @@
 ghost use Rattle.vt_laws_turns.specs.Restarts.{AtMostThreeRestarts, CallsBegin, CallsGoOn, CallsRestart, SchedulersBegin, ScriptsBegin, ThenCallsAreRunWhole, TurnsKeepSchedulers};
 
 /// A turn of an existing task, in which no allocation fails, walks a word of the call first in its queue or answers it.
-/// At most three restart it, from a scheduler with `IsSched`.
+/// From a state with `IsSched`, at most three turns restart it (`at_most_three`).
 ///
 /// A turn walks the first word if no call of the task is under way (`begins`). If one is and is not overtaken, it walks
 /// the next word (`goes_on`). If it is overtaken, the turn restarts it and walks the first word (`restarts`), but

@@ -1,8 +1,8 @@
 //! The set need not be sealed off, and calls under way hold what their tasks see (`HasCallsUnderWay`).
 ghost use Rattle.vt_laws_containers.specs.SealedTurns.MembersTurns.{OutsidersOvertakeNoCallOfTheirs, TheirAnswersAreOfTheGrownPart, TheirAnswersAreOfTheirPart, TheirCallsAreOvertakenAlike, TheirExitsAreOfTheGrownPart, TheirForksAreOfTheGrownPart, TheirRefusalsAreOfTheirPart, TheirTurnsAnswerAlike, TheirWordsAreOfTheirPart};
 
-/// A turn of a task of the set has a reply just if it has one where the state is its part (`answers`). It is the same
-/// if its call ends alike, and leaves the same part (`grown`).
+/// A turn of a task of the set has a reply just if it has one where the state is its part (`answers`). If its call ends
+/// alike, the reply and the part left are the same (`grown`).
 ///
 /// A call under way of an existing task of the set is overtaken in the world just if it is in the part (`overtaken`). A
 /// turn without a reply leaves the same part of the state as there (`words`).

@@ -16,7 +16,7 @@ pub fn a_part_is_what_its_tasks_see()
 {}
 
 /// The part of the part is the part, if the set uses each filesystem with a lower layer of theirs (`again`). By the
-/// invariants of mounts, it has the mounts `over` locations on mounts of theirs.
+/// invariants of mounts, it has the same mounts `over` locations on mounts of theirs.
 ///
 /// For `over`, a mount may also be a detached one with a root or working directory of theirs. By these invariants, too,
 /// setting the `flags` of a mount of theirs and taking the part commute.

@@ -21,8 +21,8 @@ pub fn copies_are_of_prefixes()
     ensures below { CopiesHideNothing }
 {}
 
-/// Layers and places say what a change of existing objects, at places, makes of the upper layer's tree. A directory or
-/// new name is at a path, and what moves may move (`MayMove`).
+/// Layers and places say what a change of existing objects, at places, makes of the upper layer's tree. Directories of
+/// names are at paths, and what moves may move (`MayMove`).
 ///
 /// The change sets `bytes`, owner and mode (`attr`) or the `mark`, copies for an `open` (`opened`), or something is
 /// `made`, `linked`, `removed` or `moved`.

@@ -15,8 +15,8 @@ pub fn granted_calls_change_the_upper_layer_by_layers()
     ensures { GrantedCallsAreByLayers }
 {}
 
-/// Before the sweep, a granted call leaves what lower layers show. Where a path goes on from a removed name, or from
-/// either name of a move, they show nothing afterwards.
+/// Before the sweep, a granted call leaves what lower layers show at paths that go on from no removed name and no name
+/// of a move. At other paths they show nothing.
 ///
 /// The lower layers are those before the call, and the upper layer is left out at the path.
 pub fn granted_calls_leave_what_is_below()

@@ -2,7 +2,7 @@
 ghost use Rattle.vt_laws_worlds.specs.OverlaysStay.Kept.{MountedOverlayStays, MountedOverlaysStay, NumbersRiseStill, PermitsLeaveOverlays, PlainWorldsHaveNoOverlays, SameWorldsHaveNoUpperAlike, SeenTreesStay, SweepsGiveNoUpper, SweepsKeepNames};
 
 /// In a world without an upper layer, a permit leaves all overlays as they were, before the sweep (`unswept`). If all
-/// are named, the sweep leaves those that are `mounted` so.
+/// are named, the sweep leaves those that are `mounted` as they were.
 ///
 /// So each that is left is as it was (`one`). Its tree and real objects are found along the paths of its layers as they
 /// were, however they are numbered (`seen`).

@@ -22,10 +22,8 @@ pub fn woven_lists_have_both()
     ensures found { PlainOnesAreFound }
 {}
 
-/// If filesystems are woven, no overlay has an upper layer and all are named, a permit leaves the plain ones that are
-/// left, woven with the mounted overlays.
-///
-/// Numbers of filesystems rise, and one that the permit makes has the greatest.
+/// Filesystems are woven with rising numbers, a new one with the greatest, no overlay has an upper layer, and all are
+/// named. A permit leaves the plain ones that are left, woven with the mounted overlays.
 pub fn worlds_that_are_left_are_woven()
     ensures { LeftWorldsAreWoven }
 {}

@@ -4,8 +4,8 @@ ghost use Rattle.vt_laws_worlds.specs.Permits.Taken.{CountsGoOn, GivenCountsGoOn
 /// In an ungrouped world a permit of an existing task, given or not, takes only the first of the numbers handed in, as
 /// many as its kind takes (`numbers_taken`, `first`).
 ///
-/// Numbers of the permit are any. What it leaves keeps to the numbers of world and permit and to those taken
-/// (`numbers`), also with `counts` and a program's supply (`handed`). Of `mount overlay` this says nothing.
+/// What it leaves keeps to the numbers of world and permit and to those taken (`numbers`), also with `counts` and a
+/// program's supply (`handed`). Of `mount overlay` this says nothing.
 pub fn only_the_first_numbers_are_taken()
     ensures first { OnlyTheFirstAreTaken }
     ensures numbers { PermitsKeepToTaken }
