@@ -1,8 +1,11 @@
 //! Footholds of others after a call of a task of a sealed set.
 ghost use Rattle.vt_laws_containers.specs.PermitFootholds.{DenialsGiveNoFoothold, DetachingGivesNoFoothold, FilesGiveNoFoothold, LooksGiveNoFoothold, RemovingGivesNoFoothold, ReplacingGivesNoFoothold, TasksGiveNoFoothold};
 
-/// Each call that only looks (`looks`) or is refused (`refused`) gives others no foothold, whatever numbers are handed
-/// in. So does each granted call with one of these permits, if a fork names at most 32 supplementary groups:
+/// A call that only looks (`looks`) or is refused (`refused`) gives others no foothold. Nor does a granted one with a
+/// permit for `tasks`, `files`, `detaching`, `replacing` or `removing`, if a fork names at most 32 supplementary
+/// groups.
+///
+/// For `looks` and `refused`, numbers handed in are any. Permits are:
 ///
 /// - `tasks`: to look, to do nothing, to close, to fork, or to set a directory, root, umask or credentials.
 /// - `files`: to make, change, link, unlink or open an inode, or to write to an open file.

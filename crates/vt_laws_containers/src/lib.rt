@@ -5,12 +5,11 @@
 //!
 //! A call *gives others no foothold* (`GivesNoFoothold`) if the first three conditions of `sealed` hold of the set that
 //! it leaves: `holds_all_tasks`, `shares_no_events`, `no_outsider_on_mounts`. On a filesystem that this set uses,
-//! others must have a foothold just if the set used it before and they had one. The set need not be sealed off: an
-//! overlay that locked the filesystem may be gone.
+//! others must have a foothold just if the set used it before and they had one. The set need not be sealed off then.
 //!
 //! Laws of turns are of states of a scheduler whose world has all invariants. The *part of a state* is the part of its
-//! world, the set's calls under way, and all queues (`part_of_sched`). `HasItSealed` says that the set is sealed off
-//! and that each of its names is the name of a task.
+//! world, the set's calls under way, and all queues (`part_of_sched`). `HasItSealed`: the set is sealed off, and each
+//! of its names is the name of a task.
 //!
 //! A *turn of others* (`IsOutsidersTurn`) is of a task outside the set or of `!`. A call first in its queue enters no
 //! namespace of theirs and, if it is a fork, names at most 32 supplementary groups. Numbers handed in, if any, are

@@ -1,5 +1,4 @@
-//! Worlds are *the same* (`SameWorlds`) if they differ at most in change numbers and in the order of the numbers beside
-//! trees.
+//! Worlds are *the same* (`SameWorlds`) but for change numbers and the order of the numbers beside trees.
 
 pub mod members;
 pub mod outsiders;

@@ -1,12 +1,12 @@
-//! Which calls end an inode, and which let nothing go. The calls `unlink`, `rmdir`, `rename`, `close`, `exit`, `chdir`,
-//! `chroot`, `setns`, `unshare`, `umount`, `lazy`, `move` and `pivot_root` take a use away (`takes_uses`). *Other*
-//! calls are all the rest, granted or refused.
+//! The calls `unlink`, `rmdir`, `rename`, `close`, `exit`, `chdir`, `chroot`, `setns`, `unshare`, `umount`, `lazy`,
+//! `move` and `pivot_root` take a use away (`takes_uses`). *Other* calls are all the rest, granted or refused.
 ghost use Rattle.vt_laws_later_calls.specs.Ends.{OnlyTheseEndInodes, OtherCallsLeaveAll, TypesLeaveAllButMasters};
 ghost use Rattle.vt_laws_later_calls.specs.Whiteouts.{AllTypesLeaveAllButMasters, OnlyTheseEndOtherInodes, OnlyWhiteoutsAreTaken, OtherCallsKeepAll, OtherCallsLetWhiteoutsGo, PlainChangesKeepAll, ReplacedAreWhiteouts};
 
-/// The sweep after another call but `type`, by an existing task, is to look at one inode at most (`all`). That is what
-/// the upper layer of an overlay had at the name that the call gives there (`replaced_by`). It is freed if nothing uses
-/// it.
+/// After another call but `type` by an existing task, the sweep frees at most one inode (`all`): what an overlay's
+/// upper layer had at the name that the call gives.
+///
+/// It looks at that inode (`replaced_by`), and frees it if nothing uses it.
 ///
 /// - `whiteouts`: it is a whiteout.
 /// - `taken`: the sweep takes no mount, filesystem, master of a group or other inode.

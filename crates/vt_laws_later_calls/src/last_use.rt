@@ -3,9 +3,11 @@ ghost use Rattle.vt_laws_later_calls.specs.LastUse.{CloseTakesItsFilesystem, Clo
 
 use vt_laws_mounts::letting_go::ends::a_group_ends_with_its_last_member;
 
-/// One use is taken away. What the table names is freed if that was its last use, by the counts of the world before,
-/// and nothing else of its kind. All is in use before (`AllInUse`), but for `namespace` and `exchange`. Only for `exit`
-/// and the last four clauses the world has all invariants.
+/// If all is in use and one use of a detached `mount`, `filesystem`, `inode`, `namespace` or `group` is taken away, it
+/// is freed just if that was its last. Each clause has further conditions.
+///
+/// Uses are counted in the world before. For `namespace` and `exchange` not all need be in use (`AllInUse`). Only for
+/// `exit` and the last four clauses the world has all invariants.
 ///
 /// An inode *loses one use* (`LosesOneUse`) if it has one less, every other inode as many, and filesystems have the
 /// same inodes. An exchange of that use for none is such a loss (`exchange`).

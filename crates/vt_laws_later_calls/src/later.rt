@@ -1,16 +1,15 @@
-//! What later calls see of earlier ones, in a plain world. The call before is granted; those after it are handed any
+//! What later calls see of earlier ones in a plain world. The call before is granted; those after it are handed any
 //! numbers.
 ghost use Rattle.vt_laws_later_calls.specs.LaterNames.{RenameDirectoryThenList, RenameDirectoryThenLstat, RenameThenFound, RenameThenListed};
 ghost use Rattle.vt_laws_later_calls.specs.LaterPaths.{ChmodThenStat, ChownThenStat, ExclusiveTwice, LinkThenLstat, MkdirThenList, RenameThenLstat, RmdirThenLstat, SymlinkThenReadlink, UnlinkThenLstat, WriteThenRead};
 ghost use Rattle.vt_laws_later_calls.specs.Later.{CreateThenPread, ExclusiveThenPread, OpenOrCreateThenPread, OpenThenPread, PwriteThenPread};
 
-/// No rule refuses these `pread`s:
+/// A later `pread` gives the bytes that `pwrite` wrote there (`written_through`), or those of the file that `open` led
+/// to (`opened`) or made (`created`), and no rule refuses it.
 ///
-/// - `written_through`: `pread` by any descriptor of any task that reads the same file gives the bytes that `pwrite`
-///   wrote at that offset.
+/// - `written_through`: the descriptor is of any task, on the same file, and reads.
 /// - `opened`, `opened_or_created`: `open` of an existing file, without `creat` or with it, gives the least free number
-///   and the access asked for, on the file that the walk led to. `pread` by a descriptor that reads gives that file's
-///   bytes.
+///   and the access asked for, on the file that the walk led to. `pread` is by that descriptor, if it reads.
 /// - `created`, `created_alone`: `open` with `creat` of a missing name, and with `creat` and `excl`, gives the same on
 ///   a new empty regular file. That has the mode asked for, less the umask, and the first number handed in.
 pub fn later_calls_see_earlier_ones()
@@ -21,8 +20,11 @@ pub fn later_calls_see_earlier_ones()
     ensures created_alone { ExclusiveThenPread }
 {}
 
-/// At the same path, by the same task, or by any task with its root and working directory and CAP_DAC_OVERRIDE or
-/// CAP_DAC_READ_SEARCH; C1 and W4 refuse no such task. Mounts and symlinks may be on the way.
+/// Unless C1, W4 or W6 refuses, later calls of a task at the same path tell what its call made of it. So do those of
+/// tasks with its root and working directory that read everything (`reads_all`).
+///
+/// These hold CAP_DAC_OVERRIDE or CAP_DAC_READ_SEARCH; C1 and W4 refuse no such task. Mounts and symlinks may be on the
+/// way.
 ///
 /// | clause | after | later | unless refused by |
 /// |---|---|---|---|

@@ -3,8 +3,8 @@ ghost use Rattle.vt_laws_later_calls.specs.Tables.{UnshareGivesANamespace, Unsha
 
 use vt_laws_mounts::propagation::after_unshare_the_table_reads_the_same;
 
-/// After a granted `unshare` the list of mounts tells every task what it told it before (`told`), also if the caller
-/// was alone in its namespace. The caller's `own` namespace did not exist before.
+/// After a granted `unshare` the list of mounts tells every task what it told it before (`told`). The caller's `own`
+/// namespace did not exist before.
 pub fn an_unshare_leaves_the_list_of_mounts()
     ensures told { UnshareThenMounts }
     ensures own { UnshareGivesANamespace }

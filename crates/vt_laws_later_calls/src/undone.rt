@@ -2,12 +2,14 @@
 //! handed in.
 ghost use Rattle.vt_laws_later_calls.specs.Undone.{UnmountTakesWhatStoodBeside, UnmountTakesWhatStoodThere, UnmountUndoesBindBeneath, UnmountUndoesNewMountBeneath};
 
-/// A `new_mount`, or a `bind` of one mount, is attached at a free location of an existing mount. If each receiver with
-/// a mount at the location takes part, the unmount undoes it (`IsUndone`): each mount has its record back, copies are
-/// detached, and groups have their masters.
+/// A `new_mount`, or `bind` of one mount, stands at a free location of an existing mount. Its unmount undoes it, if
+/// receivers with a mount there take part and none of these mounts goes with the copies.
 ///
-/// For `bind`, at each of these receivers, the source does not hear the destination's group, its root is another node
-/// than the location's, or that mount may not go. It may go if nothing stands on it, or one mount that covers its root.
+/// It is undone (`IsUndone`) if each mount has its record back, copies are detached, and groups have their masters.
+///
+/// With the copies of a `new_mount` none goes. With those of a `bind` none goes if, at each of these receivers, the
+/// source does not hear the destination's group, its root is another node than the location's, or that mount may not
+/// go. It may go if nothing stands on it, or one mount that covers its root.
 ///
 /// Else the unmount detaches more. A mount at a receiver that takes no part is detached, if it may go (`beside`). So is
 /// one at a receiver that takes part, if none of the three holds of a `bind` (`taken`), as in

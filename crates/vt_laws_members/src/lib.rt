@@ -4,13 +4,12 @@
 //! names a task of the set (`IsCallOfTheirs`). *Each* call may be granted or refused, on plain filesystems or through
 //! overlays; a *granted* one is granted in the world.
 //!
-//! A call *ends alike* (`EndsAlike`) if it has the same answer in the world and in the part, and the worlds that it
-//! leaves have the same part (`EndAlike`). That part has the change numbers of tasks, namespaces and used filesystems.
-//! It is the part of the set that the call leaves: with the child that it makes, without a task that ends (`grown`).
+//! A call *ends alike* (`EndsAlike`) if it has the same answer in the world and in the part, and both leave the same
+//! part, change numbers too. That is the part of the set that the call leaves: with a new child, without a task that
+//! ends (`grown`).
 //!
-//! It ends alike whatever numbers are handed in, in either run. It does *by one supply* (`EndsAlikeByOne`) if both runs
-//! are handed the same numbers, unused in the world (`Serves`). No law here says that the set is sealed off after the
-//! call.
+//! It ends alike whatever numbers are handed in. It does *by one supply* (`EndsAlikeByOne`) if both runs are handed the
+//! same numbers, unused in the world (`Serves`). No law says that the set is sealed off after the call.
 //!
 //! Each public function is a theorem of the written policy, and does nothing.
 #![tactic(auto)]

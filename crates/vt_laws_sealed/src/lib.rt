@@ -6,12 +6,8 @@
 //! Numbers handed in are *unused* if the world uses none of them and no two are equal (`Serves`).
 //!
 //! Wrong definitions were tried by hand, on scripts with `unshare`, `pivot_root` and `lazy`. These made a law here
-//! false:
-//!
-//! - a `sealed` that always holds;
-//! - a part without detached mounts under members' directories;
-//! - a `wholly_locked` that forgets inodes without a name;
-//! - mounts that share events by masters alone.
+//! false: a `sealed` that always holds; a part without detached mounts under members' directories; a `wholly_locked`
+//! that forgets inodes without a name; mounts that share events by masters alone.
 //!
 //! With two others no law was seen false: a foothold that forgets lower layers of overlays of others, and an
 //! `is_locked` that forgets upper inodes without a name.

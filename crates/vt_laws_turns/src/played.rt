@@ -1,9 +1,11 @@
 //! Calls cut into turns are whole calls.
 ghost use Rattle.vt_laws_turns.specs.Commits.{CommitsAreFronts, FailedAllocationsAnswerS5, RepliesAreOfCommits, TextsAreOfCommits, UnansweredTurnsChangeNothing};
 
-/// The items of queues are calls, directives and refused lines. For each schedule, from any state of a scheduler,
-/// replies and world are those of the answered items, run whole in the order of their last turns (`replies`). So is the
-/// text of a script's queues, from the opening world, in whichever turns allocations fail (`texts`).
+/// From any state of a scheduler, replies and world of a schedule are those of the answered items, run whole in the
+/// order of their last turns (`replies`).
+///
+/// The items of queues are calls, directives and refused lines. So is the text of a script's queues, from the opening
+/// world, in whichever turns allocations fail (`texts`).
 ///
 /// Each queue is what was answered of it, in order, and then what is left (`fronts`). A turn without a reply changes
 /// neither world nor queues (`unanswered`). If an allocation fails, the turn answers S5 to the task's call or the

@@ -2,7 +2,7 @@
 //!
 //! *All invariants* (`IsWorld`) are those of trees, overlays, mounts, namespaces and tasks; that roots and mount points
 //! of mounts exist; and that all is in use. Worlds have them unless a law says *any* world; *under way* they lack the
-//! last. A world is *plain* without overlays. It is *fit for overlays* if filesystems are trees, no upper layer is in
+//! last. A *plain* world has no overlay. A world is *fit for overlays* if filesystems are trees, no upper layer is in
 //! an overlay, and only inodes that exist have real objects.
 //!
 //! Worlds are *the same* (`SameWorlds`) but for change numbers and the order of the numbers beside trees. A world

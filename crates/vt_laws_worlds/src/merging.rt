@@ -1,4 +1,4 @@
-//! Overlays, for code that keeps no merged tree.
+//! Overlays for code that keeps no merged tree.
 
 pub mod mounted;
 pub mod upper;

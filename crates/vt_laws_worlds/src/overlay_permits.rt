@@ -1,5 +1,4 @@
-//! Granted calls of existing tasks, by unused numbers. A permit asks for the change that it makes, also for the copy of
-//! an `open`.
+//! Granted calls of existing tasks, by unused numbers. The copy of an `open` is a change, too.
 
 pub mod asked;
 pub mod changed;

@@ -1,18 +1,21 @@
-//! Overlays without an upper layer: no permit changes one. *Writers have layers* (`WritersHaveLayers`) if no descriptor
-//! is open for writing in such an overlay.
+//! Overlays without an upper layer. *Writers have layers* (`WritersHaveLayers`) if no descriptor is open for writing in
+//! one.
 ghost use Rattle.vt_laws_worlds.specs.OverlaysRead.Writers.{ChangesHaveLayers, EveryCallKeepsWriters, OpensCopyNothing, PermitsKeepWriters, PlainOnesAreChanged, PlainWorldsHaveLayers, SameWorldsHaveLayersAlike, ScriptsChangeNone, ScriptsKeepWriters, SweepsKeepWriters};
 
 /// In any world in which writers have layers no given permit changes an overlay without an upper layer (`layers`). If
-/// no overlay has one, given permits but for `mount overlay` change `plain` trees alone, and `open` copies nothing up
-/// (`copied`).
+/// no overlay has one, permits change `plain` trees alone, and `open` copies nothing up (`copied`).
+///
+/// For `plain` and `copied`, permits are not for `mount overlay`.
 pub fn overlays_without_an_upper_layer_are_read_only()
     ensures layers { ChangesHaveLayers }
     ensures plain { PlainOnesAreChanged }
     ensures copied { OpensCopyNothing }
 {}
 
-/// Writers that have layers have them after a given permit, also for `mount overlay`, before the sweep and after it
-/// (`permits`), and after each call (`calls`). So they have after the sweep of any world (`sweeps`).
+/// Writers that have layers still have them after a given permit, before the sweep and after it (`permits`), after each
+/// call (`calls`), and after the sweep of any world (`sweeps`).
+///
+/// The permit may be for `mount overlay`.
 pub fn writers_keep_their_layers()
     ensures permits { PermitsKeepWriters }
     ensures sweeps { SweepsKeepWriters }

@@ -7,9 +7,10 @@ pub fn what_is_left_is_a_world()
     ensures { SettlingLeavesAWorld }
 {}
 
-/// Tasks end one after the other (`exits`), or the events of a `lazy` unmount do their part, in any world fit for
-/// overlays with the invariants of mounts. With a sweep before and after each, or with one at the end, they leave the
-/// same world.
+/// A sweep before and after each exit (`exits`), or event of a `lazy` unmount, leaves what one at the end leaves. The
+/// world is fit for overlays and has the invariants of mounts.
+///
+/// Else the world is any. The events of a `lazy` unmount detach its mounts.
 pub fn one_sweep_serves_for_several()
     ensures exits { ExitsAreSweptOnce }
     ensures lazy { LazyUnmountsAreSweptOnce }

@@ -1,9 +1,11 @@
 //! Every world that a script without overlays leads to.
 ghost use Rattle.vt_laws_worlds.specs.Worlds.Calls.{AllPermitsFit, CallsKeepWorlds, ScriptsLeadToWorlds};
 
-/// What a call of an existing task, but `mount overlay`, is permitted by unused numbers fits (`IsFitPermit`). Locations
-/// at which it changes something, and mounts and namespaces that it names, exist and are of the right kind; no
-/// namespace has too many mounts afterwards. Of what it only looks at this says nothing.
+/// What a call of an existing task but `mount overlay` is permitted by unused numbers fits (`IsFitPermit`): what it
+/// changes or names exists, and no namespace gets too many mounts.
+///
+/// Locations at which it changes something, and mounts and namespaces that it names, are of the right kind. Of what it
+/// only looks at this says nothing.
 pub fn what_is_permitted_is_there()
     ensures { AllPermitsFit }
 {}

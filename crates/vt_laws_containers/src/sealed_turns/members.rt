@@ -1,15 +1,15 @@
-//! Turns of the tasks of a set.
+//! The set need not be sealed off, and calls under way hold what their tasks see (`HasCallsUnderWay`).
 ghost use Rattle.vt_laws_containers.specs.SealedTurns.MembersTurns.{OutsidersOvertakeNoCallOfTheirs, TheirAnswersAreOfTheGrownPart, TheirAnswersAreOfTheirPart, TheirCallsAreOvertakenAlike, TheirExitsAreOfTheGrownPart, TheirForksAreOfTheGrownPart, TheirRefusalsAreOfTheirPart, TheirTurnsAnswerAlike, TheirWordsAreOfTheirPart};
 
-/// Calls under way hold what their tasks see (`HasCallsUnderWay`), and the set need not be sealed off. A call under way
-/// of an existing task of the set is overtaken in the world just if it is in the part (`overtaken`). A turn of a task
-/// of the set has a reply just if it has one where the state is its part (`answers`). If it has none, it leaves the
-/// same part of the state as there (`words`).
+/// A turn of a task of the set has a reply just if it has one where the state is its part (`answers`). If its call ends
+/// alike, the reply and the part left are the same (`grown`).
 ///
-/// A turn with numbers handed in answers a call that ends alike by the same numbers. It has the reply that it has where
-/// the state is its part, and leaves the same part of the state, for the set that the call leaves (`grown`), which may
-/// be the set itself (`answered`). Each `fork`, each `exit` and each refused call (`refused`) does this with the
-/// premises of `vt_laws_members` (`IsCallOfTheirs`) in place of ending alike.
+/// A call under way of an existing task of the set is overtaken in the world just if it is in the part (`overtaken`). A
+/// turn without a reply leaves the same part of the state as there (`words`).
+///
+/// For `grown`, numbers are handed in, by which the call ends alike. The part of the state is that of the set that the
+/// call leaves, which may be the set itself (`answered`). Each `fork`, each `exit` and each refused call (`refused`)
+/// does this with the premises of `vt_laws_members` (`IsCallOfTheirs`) in place of ending alike.
 ///
 /// If `HasItSealed` holds, any number of turns of others leave each call under way of an existing task of the set,
 /// overtaken or not as it was (`others`).

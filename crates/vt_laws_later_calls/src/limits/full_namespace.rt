@@ -1,8 +1,8 @@
 //! Worked examples, by induction over their lines, in each version of the language.
 ghost use Rattle.vt_laws_later_calls.specs.Limits.FullNamespaces.{FillsItsNamespace, FullNamespaceRefuses, FullReceiverRefuses, LastOfManyMountsIsRefused};
 
-/// A script makes a directory and stacks mounts on it. Each line is answered `ok` while there are at most 4,095 such
-/// mounts (`within`). Each further line is refused by M9 (`beyond`), and the `last` of 4,096 is.
+/// A script stacks mounts on a new directory: lines are answered `ok` up to 4,095 mounts (`within`), M9 refuses each
+/// further one (`beyond`), and the `last` of 4,096.
 pub fn a_namespace_is_filled_line_by_line()
     ensures within { FillsItsNamespace }
     ensures beyond { FullNamespaceRefuses }

@@ -1,11 +1,11 @@
-//! Whether namespaces have room for the mounts that a call attaches. Numbers handed in are any, and a `bind` is in any
-//! world.
+//! Room for the mounts that a call attaches. Numbers handed in are any, and a `bind` is in any world.
 ghost use Rattle.vt_laws_later_calls.specs.Limits.Room.{BindNeedsRoom, BindsAskForRoom, MoveNeedsRoom, MovesAskForRoom, NewMountNeedsRoom, NewMountsAskForRoom, OverlaysAskForRoom};
 
-/// M9 fails just if the mounts of some namespace, with those that the call adds there, are over the limit
-/// (`lacks_room`). For each part in the namespace a `new_mount`, or one of an `overlay`, adds one, a `bind` as many as
-/// it copies. A move (`moves`) of an existing mount adds its tree for each part, less those of the tree that are there
-/// already.
+/// M9 fails for a `new_mount`, `overlay` or `bind`, or a move of an existing mount (`moves`), just if some namespace is
+/// over the limit with the mounts added there (`lacks_room`).
+///
+/// For each part in the namespace a new mount adds one, a `bind` as many as it copies. A move adds its tree for each
+/// part, less those of the tree that are there already.
 pub fn full_namespaces_are_counted()
     ensures new_mount { NewMountsAskForRoom }
     ensures overlay { OverlaysAskForRoom }
@@ -13,9 +13,10 @@ pub fn full_namespaces_are_counted()
     ensures moves { MovesAskForRoom }
 {}
 
-/// If some namespace lacks room, M9 refuses a `new_mount`, `bind` and move (`moves`), and the world stays; else they
-/// are granted. The task exists and holds CAP_SYS_ADMIN, paths lead where they have to, and no other rule of the last
-/// table fails. Of `mount overlay` this says nothing.
+/// If walks succeed and no other rule fails, a `new_mount`, `bind` or move (`moves`) of an existing task with
+/// CAP_SYS_ADMIN is granted if namespaces have room, else refused by M9.
+///
+/// The other rules are those of the last table. If M9 refuses, the world stays. Of `mount overlay` this says nothing.
 pub fn a_full_namespace_refuses_attachments()
     ensures new_mount { NewMountNeedsRoom }
     ensures bind { BindNeedsRoom }

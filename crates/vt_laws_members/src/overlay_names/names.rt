@@ -18,7 +18,9 @@ pub fn calls_of_theirs_that_make_names_through_overlays_end_alike()
 {}
 
 /// Through an overlay, each granted `unlink`, `rmdir` and `rename` ends alike by one supply, whatever mounts stand on
-/// what goes. Of a `rename` of two names of one object this says nothing.
+/// what goes.
+///
+/// Of a `rename` of two names of one object this says nothing.
 pub fn calls_of_theirs_that_take_names_through_overlays_end_alike()
     ensures unlink { OverlayUnlinksEndAlike }
     ensures rmdir { OverlayRmdirsEndAlike }

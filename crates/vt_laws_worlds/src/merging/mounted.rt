@@ -1,12 +1,14 @@
-//! Overlays that are mounted. Numbers handed in are different, and no filesystem's (`AreNewNumbers`).
+//! Overlays that are mounted; numbers handed in are different, and no filesystem's (`AreNewNumbers`).
 ghost use Rattle.vt_laws_worlds.specs.Merging.MountedAnew.{LayersAreReached, MountedAnewLinksTheSame, MountedAnewShowsTheSame, MountedLayersAreReached, MountedOverTheSameLayers, MountingLeavesAWorld, MountingLeavesOverlays, MountingLeavesTrees, MountingLetsNothingGo, PolicyMountsAWorld, RaisingKeepsWorlds};
 
-/// After `mount overlay`, granted or refused, the sweep frees `nothing`, and invariants of `trees` and `overlays` hold.
-/// By unused numbers it leaves a `world` with all invariants, also after the last step of the policy (`policy`);
-/// `raised` change numbers keep them.
+/// After `mount overlay` of an existing task, granted or refused, by unused numbers, all invariants hold (`world`), and
+/// the sweep frees `nothing`.
+///
+/// `trees`, `overlays` and `nothing` need no unused numbers and no existing task. The world after the last step of the
+/// policy has all invariants, too (`policy`); `raised` change numbers keep them.
 ///
 /// Names lead from the roots of their trees to the layers that the words of `mount overlay` lead to (`reached`). So
-/// they lead to those of the new overlay, in the world that the policy leaves (`reached_later`).
+/// they do in the world that the policy leaves, if the call is granted (`reached_later`).
 pub fn mounting_an_overlay_leaves_the_invariants()
     ensures reached { LayersAreReached }
     ensures reached_later { MountedLayersAreReached }
@@ -18,9 +20,10 @@ pub fn mounting_an_overlay_leaves_the_invariants()
     ensures policy { PolicyMountsAWorld }
 {}
 
-/// The remount law. A granted `mount overlay` in one world makes an overlay, and another world has an old one. Its
-/// `layers` lead at every path to what those of the old one led to, but for numbers, or are the `same`, on unchanged
-/// trees. In the world that the policy leaves it shows the tree that the old one showed.
+/// The remount law: a granted `mount overlay` shows the tree that an overlay of another world showed, if its `layers`
+/// lead at every path to the same, but for numbers.
+///
+/// The new overlay is in the world that the policy leaves. The law holds over the `same` layers, on unchanged trees.
 ///
 /// Over the same upper layer (or none in both) and lower ones, on unchanged trees, two paths lead to one inode just if
 /// they did in the old one (`links`).

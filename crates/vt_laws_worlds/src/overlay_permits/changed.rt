@@ -1,8 +1,10 @@
 //! What granted calls make of an overlay that they change. It has an upper layer.
 ghost use Rattle.vt_laws_worlds.specs.OverlayPermits.Changed.{AskedChangesCanBeMade, GrantedCallsAreByLayers, GrantedCallsLeaveBelow, PermitsCanChange};
 
-/// A change of the overlay that is asked well (`asked`; new numbers are different, and no inode's of the upper layer's
-/// filesystem), and one that a permit asks for (`permits`), leaves both trees trees (`CanChange`).
+/// A change of the overlay that is asked well by new numbers (`asked`), or that a permit asks for (`permits`), leaves
+/// the merged and the upper layer's tree trees (`CanChange`).
+///
+/// New numbers are different, and no inode's of the upper layer's filesystem.
 pub fn permits_can_change_overlays()
     ensures asked { AskedChangesCanBeMade }
     ensures permits { PermitsCanChange }
@@ -13,8 +15,10 @@ pub fn granted_calls_change_the_upper_layer_by_layers()
     ensures { GrantedCallsAreByLayers }
 {}
 
-/// Before the sweep, what the lower layers, as before the call, show at a path, the upper layer left out, stays. At a
-/// path that goes on from a name that is removed, or from either name of a move, they show nothing.
+/// Before the sweep, a granted call leaves what lower layers show at paths that go on from no removed name and no name
+/// of a move. At other paths they show nothing.
+///
+/// The lower layers are those before the call, and the upper layer is left out at the path.
 pub fn granted_calls_leave_what_is_below()
     ensures { GrantedCallsLeaveBelow }
 {}

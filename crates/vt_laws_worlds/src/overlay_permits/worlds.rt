@@ -1,5 +1,5 @@
 //! Every world that a script leads to. A clause `scripts` is of any line after which an overlay exists and any later
-//! one, if the overlay, named by its filesystem's number, is live after each line between.
+//! one, if the overlay, of the same number, is live after each line between.
 ghost use Rattle.vt_laws_worlds.specs.OverlayPermits.HiddenOverScripts.{EveryCallUncoversNothing, HiddenOverScripts};
 ghost use Rattle.vt_laws_worlds.specs.OverlayPermits.LockedOverScripts.{EveryCallLeavesLowers, LowersStayOverScripts};
 ghost use Rattle.vt_laws_worlds.specs.OverlayPermits.MountedOverScripts.{LinksOverScripts, MountedAnewOverScripts, SameLayersOverScripts};
@@ -20,8 +20,10 @@ pub fn the_sweep_leaves_a_world()
     ensures { SettlingLeavesEveryWorld }
 {}
 
-/// An overlay that is live after each call (`calls`, `scripts`) has its layers. What lies or counts under a lower one
-/// still does, and keeps kind, owner, mode, names, bytes and mark. Every path leads from its directory where it led.
+/// An overlay that is live after each call (`calls`, `scripts`) has its layers. Paths lead from lower ones where they
+/// led, and what lies or counts under these keeps kind, owner, mode, names, bytes and mark.
+///
+/// It still lies or counts under them.
 pub fn lower_layers_are_locked_over_scripts()
     ensures calls { EveryCallLeavesLowers }
     ensures scripts { LowersStayOverScripts }

@@ -1,15 +1,17 @@
-//! What goes when an overlay changes. But for the second law, it has an upper layer, and the change can be made
-//! (`CanChange`). New numbers are different, and no inode's of the upper layer's filesystem; names are as the rules of
-//! the calls ask. The merged tree and the upper layer's are trees afterwards.
+//! But for the second law, the overlay has an upper layer, and the change can be made (`CanChange`): new numbers are
+//! different, and no inode's of the upper layer's filesystem, names are as calls ask, and both trees are trees
+//! afterwards.
 ghost use Rattle.vt_laws_worlds.specs.OverlaysLetGo.NamesGiven.{GivenNamesLetGo, OpenedNamesLetGo};
 ghost use Rattle.vt_laws_worlds.specs.OverlaysLetGo.OverlayCalls.{MadeInOverlaysLetsGo, OpenedNewInOverlaysLetsGo, RemovedFromOverlaysLetGo, RemovingKeepsTheMount, ReplacedInOverlaysLetGo, ReplacingKeepsTheMount, TakenAndOverlayChangesLetGo};
 ghost use Rattle.vt_laws_worlds.specs.OverlaysLetGo.OverlayChanges.{OverlayChangesLetGo};
 ghost use Rattle.vt_laws_worlds.specs.OverlaysLetGo.OverlayNames.{OnlyTheseLoseNames, OpenedCopiesKeepAll, OverlayChangesKeepAll, WrittenPartsInOverlaysKeepAll};
 
-/// After a `change`, also by `make`, one loser is the inode of the overlay that had the name which is given or removed,
-/// with its real object. The others are inodes that lost their last name in the upper layer's filesystem.
+/// The losers of a `change` or `make` are the overlay's inode that had the given or removed name, and those that lost
+/// their last name in the upper layer's filesystem.
 ///
-/// - `names`: these have the name there that is given, removed or left, or are named in a directory there that is
+/// With the first one goes its real object.
+///
+/// - `names`: the others have the name there that is given, removed or left, or are named in a directory there that is
 ///   removed or replaced.
 /// - `kept`: nothing goes if no name that something had is given, removed or left, in the overlay or its upper layer.
 /// - `written`: nor by `pwrite`; of no bytes this needs all invariants alone.
@@ -35,16 +37,15 @@ pub fn a_removal_keeps_the_mount_that_it_goes_through()
     ensures rename { ReplacingKeepsTheMount }
 {}
 
-/// An existing task opens a file on an existing mount. If the file is `new`, the losers are those of the change; if it
-/// is `copied_up`, nothing goes.
+/// If an existing task opens a `new` file on an existing mount, the losers are those of the change; if it opens one
+/// that is `copied_up`, nothing goes.
 pub fn what_is_opened_in_an_overlay_stays()
     ensures new { OpenedNewInOverlaysLetsGo }
     ensures copied_up { OpenedCopiesKeepAll }
 {}
 
-/// A `change` that takes no name away has one loser at most: what the upper layer had at the name that is given
-/// (`replaced_in_upper`). So has the `open` of a new file, by an existing task on an existing mount. Both are proper
-/// (`IsProper`).
+/// A proper `change` that takes no name away has one loser at most: what the upper layer had at the given name. So has
+/// the proper `open` of a new file, by an existing task on an existing mount.
 pub fn what_a_new_name_replaces_goes()
     ensures change { GivenNamesLetGo }
     ensures open { OpenedNamesLetGo }

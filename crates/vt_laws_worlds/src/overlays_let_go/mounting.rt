@@ -1,5 +1,4 @@
-//! What goes when an overlay is mounted. Layers are directories of plain trees, at least one, and new numbers are
-//! different.
+//! Layers of a new overlay are directories of plain trees, at least one, and new numbers are different.
 ghost use Rattle.vt_laws_worlds.specs.OverlaysLetGo.NewOverlays.{NewMountsOfOverlaysKeepAll, NewOverlaysAreNamed};
 
 /// Each inode of a new overlay is its root or has a name (`named`). `mount overlay` frees nothing, if the mount of the

@@ -1,10 +1,11 @@
 //! What permits and the sweep leave of overlays.
 ghost use Rattle.vt_laws_worlds.specs.OverlaysStay.Kept.{MountedOverlayStays, MountedOverlaysStay, NumbersRiseStill, PermitsLeaveOverlays, PlainWorldsHaveNoOverlays, SameWorldsHaveNoUpperAlike, SeenTreesStay, SweepsGiveNoUpper, SweepsKeepNames};
 
-/// Of a world without an upper layer a permit leaves, before the sweep, all overlays as they were, in their order
-/// (`unswept`). If all are named, the sweep leaves as they were those that are `mounted`, and so each that is left
-/// (`one`). Its tree and real objects are found along the paths of its layers as they were, however they are numbered
-/// (`seen`).
+/// In a world without an upper layer, a permit leaves all overlays as they were, before the sweep (`unswept`). If all
+/// are named, the sweep leaves those that are `mounted` as they were.
+///
+/// So each that is left is as it was (`one`). Its tree and real objects are found along the paths of its layers as they
+/// were, however they are numbered (`seen`).
 pub fn overlays_without_an_upper_layer_stay()
     ensures unswept { PermitsLeaveOverlays }
     ensures mounted { MountedOverlaysStay }
@@ -12,8 +13,10 @@ pub fn overlays_without_an_upper_layer_stay()
     ensures seen { SeenTreesStay }
 {}
 
-/// Numbers of filesystems that rise in their list, whatever overlays there are, rise after a permit, before the sweep
-/// and after it. A filesystem that the permit makes has the greatest.
+/// If numbers of filesystems rise in their list, and one that a permit makes has the greatest, they rise after the
+/// permit, before the sweep and after it.
+///
+/// Overlays may have upper layers.
 pub fn numbers_of_filesystems_rise_still()
     ensures { NumbersRiseStill }
 {}

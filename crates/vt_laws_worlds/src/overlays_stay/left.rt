@@ -1,8 +1,10 @@
 //! What a permit leaves where no overlay has an upper layer.
 ghost use Rattle.vt_laws_worlds.specs.OverlaysStay.Left.{GivenPermitsAreUnderWayWithoutUpper, GivenPermitsGiveNoUpper, GivenPermitsKeepNames, GivenPermitsLeaveLowers, SameGivesNoUpper};
 
-/// Of a world without an upper layer a permit leaves such a world with all invariants (`worlds`), and so is each that
-/// is the `same`; before the sweep it is one `under_way`. If all are `named`, they are then and after the sweep.
+/// If no overlay has an upper layer, a permit leaves such a world with all invariants (`worlds`), and so is each that
+/// is the `same`. Before the sweep it is one `under_way`.
+///
+/// If all are `named`, they are before the sweep and after it.
 pub fn given_permits_give_no_upper_layer()
     ensures worlds { GivenPermitsGiveNoUpper }
     ensures under_way { GivenPermitsAreUnderWayWithoutUpper }
@@ -10,9 +12,8 @@ pub fn given_permits_give_no_upper_layer()
     ensures same { SameGivesNoUpper }
 {}
 
-/// Each overlay that exists after a permit, with an upper layer or without, has its layers. Every path leads from the
-/// lower ones where it led, and what is there, or lies or counts under them, keeps kind, owner, mode, names, bytes and
-/// mark.
+/// Every overlay, with an upper layer or without, that exists after a permit has its layers. Paths lead from lower ones
+/// where they led, and what lies or counts under these keeps kind, owner, mode, names, bytes and mark.
 pub fn given_permits_leave_lower_layers()
     ensures { GivenPermitsLeaveLowers }
 {}

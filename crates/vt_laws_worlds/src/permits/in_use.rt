@@ -2,16 +2,18 @@
 ghost use Rattle.vt_laws_worlds.specs.Permits.InUse.{CountsServeWorlds, HandedNumbersServeWorlds, WorldsHaveNumbersInUse, WorldsKeepToNamedBefore, WorldsKeepToNumbersInUse};
 
 /// Each number that the world has anywhere is in use (`named`), and it keeps to all numbers with those in use among
-/// them (`kept`). If it keeps to even numbers and earlier counts, it keeps to these without an inode's number that is
-/// not in use (`before`).
+/// them (`kept`).
+///
+/// If it keeps to even numbers and earlier counts, it keeps to these without an inode's number that is not in use
+/// (`before`).
 pub fn worlds_have_numbers_in_use()
     ensures named { WorldsHaveNumbersInUse }
     ensures kept { WorldsKeepToNumbersInUse }
     ensures before { WorldsKeepToNamedBefore }
 {}
 
-/// Any world keeps to even numbers and earlier counts. Then counts from the next one on are unused (`counts`), also
-/// with the even number of an unused inode at one place (`inode`).
+/// In any world that keeps to even numbers and earlier counts, counts from the next one on are unused (`counts`), also
+/// with an unused even number at one place (`inode`).
 pub fn counts_serve_worlds()
     ensures counts { CountsServeWorlds }
     ensures inode { HandedNumbersServeWorlds }

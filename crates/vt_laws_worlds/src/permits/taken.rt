@@ -2,8 +2,10 @@
 ghost use Rattle.vt_laws_worlds.specs.Permits.Taken.{CountsGoOn, GivenCountsGoOn, GivenPermitsAreLeft, GivenPermitsKeepToTaken, GivenWithAnySupply, HandedCountsGoOn, JudgementsDoNotSeeSupplies, OnlyTheFirstAreTaken, PermitsKeepToTaken};
 
 /// In an ungrouped world a permit of an existing task, given or not, takes only the first of the numbers handed in, as
-/// many as its kind takes (`numbers_taken`, `first`). What it leaves keeps to the numbers of world and permit and to
-/// those taken (`numbers`), also with `counts` and a program's supply (`handed`). Of `mount overlay` this says nothing.
+/// many as its kind takes (`numbers_taken`, `first`).
+///
+/// What it leaves keeps to the numbers of world and permit and to those taken (`numbers`), also with `counts` and a
+/// program's supply (`handed`). Of `mount overlay` this says nothing.
 pub fn only_the_first_numbers_are_taken()
     ensures first { OnlyTheFirstAreTaken }
     ensures numbers { PermitsKeepToTaken }
@@ -19,7 +21,7 @@ pub fn judgements_do_not_see_supplies()
 {}
 
 /// A permit has only numbers to which the world keeps (`permits`, with overlays too). What it leaves of an ungrouped
-/// world keeps to those and to the numbers taken (`numbers`), also with a program's supply (`counts`).
+/// world keeps to those and to the `numbers` taken, also with a program's supply (`counts`).
 pub fn given_permits_keep_to_taken()
     ensures permits { GivenPermitsAreLeft }
     ensures numbers { GivenPermitsKeepToTaken }
