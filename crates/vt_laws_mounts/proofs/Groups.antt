@@ -44,11 +44,9 @@ module _ (world : World ℕ) where
       same f = λ i. record mount { propagation = f i }
 
       by : (kind : Propagation ℕ) → mount.propagation ≡ kind
-          → is_lost_group nat_eq world (source_of mount.propagation) ≡ false
-          → inheriting nat_eq world mount ≡ mount
+          → is_lost_group nat_eq world (source_of mount.propagation) ≡ false → inheriting nat_eq world mount ≡ mount
       by (Shared group) f kept = same (ap (inherited nat_eq world) f ∙ sym f)
-      by (Slave above) f kept =
-          same (ap (inherited nat_eq world) f
+      by (Slave above) f kept = same (ap (inherited nat_eq world) f
           ∙ inherited_kept above (not-false _ (sym (ap (λ k. is_lost_group nat_eq world (source_of k)) f) ∙ kept))
           ∙ sym f)
       by Private f kept = same (ap (inherited nat_eq world) f ∙ sym f)
@@ -65,8 +63,7 @@ module _ (world : World ℕ) where
       ∙ members-inherited world.mounts group
 
   pub master-regrouped : (group above : ℕ) → world.master group ≡ Some above
-      → has_members nat_eq world.mounts above ≡ true
-      → (regrouped nat_eq world).master group ≡ Some above
+      → has_members nat_eq world.mounts above ≡ true → (regrouped nat_eq world).master group ≡ Some above
   master-regrouped group above e f = grind (arith, common_steps, find-chain_start)
 
 -- a group without members and without a master has no heir

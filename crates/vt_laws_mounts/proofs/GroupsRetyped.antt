@@ -51,19 +51,14 @@ module _ (group : ℕ → ℕ) where
       ⊎ IsNewMaster named one (with_new_groups nat_eq group master named one)
   unfolding IsNewMaster
   new_or_old master [] one = inl refl
-  new_or_old master (first ∷ rest) one =
-      ⊎_elim
-      (λ kept.
-      ⊎_elim
-      (λ other. inl (kept ∙ ap (λ b. if b then master_after first.propagation else master one) other.0))
+  new_or_old master (first ∷ rest) one = ⊎_elim (λ kept.
+      ⊎_elim (λ other. inl (kept ∙ ap (λ b. if b then master_after first.propagation else master one) other.0))
       (λ same. inr (
         first,
         inl refl,
         same.1,
         kept ∙ ap (λ b. if b then master_after first.propagation else master one) same.0,
-      ))
-      (either one (group first.number)))
-      (λ t. inr (t.0, inr t.1, t.2, t.3))
+      )) (either one (group first.number))) (λ t. inr (t.0, inr t.1, t.2, t.3))
       (new_or_old (with_master nat_eq master (group first.number) (master_after first.propagation)) rest one)
     where
       either : (a b : ℕ) → ((nat_eq a b ≡ false) × Unit {0}) ⊎ ((nat_eq a b ≡ true) × (a ≡ b))
@@ -74,23 +69,17 @@ module _ (group : ℕ → ℕ) where
       → IsNewMaster named (group mount.number) (with_new_groups nat_eq group master named (group mount.number))
   unfolding IsNewMaster
   new_for_one master [] mount m = absurd m
-  new_for_one master (first ∷ rest) mount m =
-      ⊎_elim
-      (λ kept.
-      ⊎_elim
-      (λ e. (
+  new_for_one master (first ∷ rest) mount m = ⊎_elim (λ kept.
+      ⊎_elim (λ e. (
         first,
         inl refl,
         ap (λ (x : Mount ℕ). group x.number) e,
         kept ∙ ap (λ b. if b then master_after first.propagation else master (group mount.number))
             (eq-eqb (group mount.number) (group first.number) (ap (λ (x : Mount ℕ). group x.number) e)),
-      ))
-      (λ l.
+      )) (λ l.
       let t =
       new_for_one (with_master nat_eq master (group first.number) (master_after first.propagation)) rest mount l in
-      (t.0, inr t.1, t.2, t.3))
-      m)
-      (λ t. (t.0, inr t.1, t.2, t.3))
+      (t.0, inr t.1, t.2, t.3)) m) (λ t. (t.0, inr t.1, t.2, t.3))
       (new_or_old (with_master nat_eq master (group first.number) (master_after first.propagation)) rest
       (group mount.number))
 
@@ -103,8 +92,7 @@ module _ (world : World ℕ) (group : ℕ → ℕ) (word : TypeWord) (named : Li
 
   other_master : (one : ℕ) → has_members nat_eq world.mounts one ≡ true → after_all one ≡ world.master one
   unfolding IsNewMaster
-  other_master one has =
-      ⊎_elim (λ kept. kept)
+  other_master one has = ⊎_elim (λ kept. kept)
       (λ t. absurd (true≢false (sym has ∙ ap (has_members nat_eq world.mounts) t.2 ∙ none t.0.number)))
       (new_or_old group world.master named one)
 
@@ -121,26 +109,24 @@ module _ (world : World ℕ) (group : ℕ → ℕ) (word : TypeWord) (named : Li
       by : (x : Mount ℕ) → Among x named → (kind : Propagation ℕ) → x.propagation ≡ kind
           → after_all (group mount.number) ≡ master_after x.propagation → EndsUp after_all (group mount.number)
       by x l (Shared one) e is = at_top (group mount.number) (is ∙ ap master_after e)
-      by x l (Slave above) e is =
-          goes_up (group mount.number) above (is ∙ ap master_after e)
+      by x l (Slave above) e is = goes_up (group mount.number) above (is ∙ ap master_after e)
           (still_ends above (lives_in world live x (sourced x l above (ap source_of e)) above (ap source_of e)))
       by x l Private e is = at_top (group mount.number) (is ∙ ap master_after e)
       by x l Unbindable e is = at_top (group mount.number) (is ∙ ap master_after e)
 
   pub all_live : GroupsLive (next_world world group word named)
-  all_live =
-      grind (
-        arith,
-        common_steps,
-        regrouped_live,
-        among-from_map,
-        any_among,
-        eqb-true,
-        new_ends,
-        still_ends,
-        lives_in,
-        source_taken,
-      )
+  all_live = grind (
+    arith,
+    common_steps,
+    regrouped_live,
+    among-from_map,
+    any_among,
+    eqb-true,
+    new_ends,
+    still_ends,
+    lives_in,
+    source_taken,
+  )
 
 -- numbers that are not in use have no members
 pub unused_members : (world : World ℕ) (number : ℕ) → is_among nat_eq number (numbers_in_use world) ≡ false

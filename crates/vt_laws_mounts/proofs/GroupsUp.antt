@@ -42,18 +42,15 @@ module _ (master : ℕ → Option ℕ) where
         has_no_master group (and_parts (members group) true all).0 (none_from_not_some (master group) e)
     lives_by_chain (suc n) group all e = by (master group) refl (lives_by_chain n)
       where
-        by : (found : Option ℕ) → master group ≡ found
-            → ((next : ℕ) → list_all members (chain n master next) ≡ true
+        by : (found : Option ℕ) → master group ≡ found → ((next : ℕ) → list_all members (chain n master next) ≡ true
             → is_some (master (last_or next (chain n master next))) ≡ false → Lives members master next)
             → Lives members master group
-        by None f later =
-            has_no_master group (and_parts (members group) true
+        by None f later = has_no_master group (and_parts (members group) true
             (sym (ap (list_all members) (chain_ends master n group f)) ∙ all)).0 f
         by (Some next) f later =
             let parts : (members group ≡ true) × (list_all members (chain n master next) ≡ true) =
             and_parts _ _ (sym (ap (list_all members) (chain_goes_on master n group next f)) ∙ all) in
-            has_master group next parts.0 f
-            (later next parts.1
+            has_master group next parts.0 f (later next parts.1
             (sym (ap (λ g. is_some (master g)) (ap (last_or group) (chain_goes_on master n group next f)
             ∙ last_of_chain master n next group)) ∙ e))
 
@@ -79,10 +76,8 @@ module _ (master : ℕ → Option ℕ) where
     all_on_way zero group life = ap (λ b. b && true) (live_members group life)
     all_on_way (suc n) group (has_no_master it has f) =
         ap (list_all members) (chain_ends master n it f) ∙ ap (λ b. b && true) has
-    all_on_way (suc n) group (has_master it next has f later) =
-        ap (list_all members) (chain_goes_on master n it next f)
-        ∙ ap (λ b. b && list_all members (chain n master next)) has
-        ∙ all_on_way n next later
+    all_on_way (suc n) group (has_master it next has f later) = ap (list_all members) (chain_goes_on master n it next f)
+        ∙ ap (λ b. b && list_all members (chain n master next)) has ∙ all_on_way n next later
 
     -- a chain as long as the way comes to an end
     pub ends_within : (n group : ℕ) (life : Lives members master group) → length (way group life) ≤ suc n
@@ -97,8 +92,7 @@ module _ (master : ℕ → Option ℕ) where
         too_long g (has_master x y h e r) t = omega (arith, t)
     ends_within (suc n) group (has_master it next has f later) l =
         ap (λ g. is_some (master g)) (ap (last_or it) (chain_goes_on master n it next f)
-        ∙ last_of_chain master n next it)
-        ∙ ends_within n next later (omega (arith, l))
+        ∙ last_of_chain master n next it) ∙ ends_within n next later (omega (arith, l))
 
     same_length : (a : ℕ) (life : Lives members master a) (b : ℕ) (other : Lives members master b) → a ≡ b
         → length (way a life) ≡ length (way b other)
@@ -118,13 +112,10 @@ module _ (master : ℕ → Option ℕ) where
         by : (o : ℕ) → it ≡ o → (rest : Lives members master o) × (length (way o rest) ≤ 1)
         by o e = subst (λ g. (rest : Lives members master g) × (length (way g rest) ≤ 1)) e
             (has_no_master it has f, omega arith)
-    rest_of_way group (has_master it next has f later) other m =
-        ⊎_elim
+    rest_of_way group (has_master it next has f later) other m = ⊎_elim
         (λ e. subst (λ g. (rest : Lives members master g) × (length (way g rest) ≤ suc (length (way next later))))
-        (sym e)
-        (has_master it next has f later, omega arith))
-        (λ l. let t = rest_of_way next later other l in (t.0, omega (arith, t.1)))
-        m
+        (sym e) (has_master it next has f later, omega arith))
+        (λ l. let t = rest_of_way next later other l in (t.0, omega (arith, t.1))) m
 
     -- no group comes twice
     pub way_apart : (group : ℕ) (life : Lives members master group) → any_pair nat_eq (way group life) ≡ false
@@ -135,8 +126,7 @@ module _ (master : ℕ → Option ℕ) where
         let t = rest_of_way next later it (among_numbers (way next later) it h) in
         let same : length (way it t.0) ≡ suc (length (way next later)) =
         same_length it t.0 it (has_master it next has f later) refl in
-        absurd (omega (arith, t.1, same))))
-        (way_apart next later)
+        absurd (omega (arith, t.1, same)))) (way_apart next later)
 
     -- all groups on the way have members
     pub way_members : (group : ℕ) (life : Lives members master group) → list_all members (way group life) ≡ true
@@ -197,10 +187,8 @@ lives_in world live mount m source e =
 
 pub groups_live_by : (world : World ℕ)
     → ((mount : Mount ℕ) → Among mount world.mounts → (source : ℕ) → source_of mount.propagation ≡ Some source
-    → LivesIn world source)
-    → GroupsLive world
-groups_live_by world lives =
-    list_all_from_among (has_living_groups nat_eq world) world.mounts
+    → LivesIn world source) → GroupsLive world
+groups_live_by world lives = list_all_from_among (has_living_groups nat_eq world) world.mounts
     (λ mount m. by mount m (source_of mount.propagation) refl)
   where
     one : (source : ℕ) → LivesIn world source
@@ -216,12 +204,9 @@ groups_live_by world lives =
 
     by : (mount : Mount ℕ) → Among mount world.mounts → (found : Option ℕ) → source_of mount.propagation ≡ found
         → has_living_groups nat_eq world mount ≡ true
-    by mount m None e =
-        ap (λ s. list_all
+    by mount m None e = ap (λ s. list_all
         (λ group. list_all (has_members nat_eq world.mounts) (groups_up world group) && masters_end nat_eq world group)
         (option_to_list s)) e
-    by mount m (Some source) e =
-        ap (λ s. list_all
+    by mount m (Some source) e = ap (λ s. list_all
         (λ group. list_all (has_members nat_eq world.mounts) (groups_up world group) && masters_end nat_eq world group)
-        (option_to_list s)) e
-        ∙ ap (λ b. b && true) (one source (lives mount m source e))
+        (option_to_list s)) e ∙ ap (λ b. b && true) (one source (lives mount m source e))

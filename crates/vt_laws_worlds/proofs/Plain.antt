@@ -14,18 +14,15 @@ use Rattle.vt_spec.proofs.Options.{none_from_not_some}
 
 module _ (world : World ℕ) (plain : IsPlain world) where
   pub no_overlay : (filesystem : Filesystem ℕ) → Among filesystem world.filesystems → filesystem.overlay ≡ None
-  no_overlay filesystem m =
-      none_from_not_some filesystem.overlay
+  no_overlay filesystem m = none_from_not_some filesystem.overlay
       (among_from_all (λ f. is_overlay f ≡ false) world.filesystems plain filesystem m)
 
   pub plain_numbered : (number : ℕ) → (filesystem_numbered nat_eq world number).overlay ≡ None
-  plain_numbered number =
-      none_from_not_some (filesystem_numbered nat_eq world number).overlay
+  plain_numbered number = none_from_not_some (filesystem_numbered nat_eq world number).overlay
       (numbered_anyhow (λ f. is_overlay f ≡ false) number world.filesystems plain refl)
 
   pub none_is_overlay : list_any is_overlay world.filesystems ≡ false
-  none_is_overlay =
-      none_from_among is_overlay world.filesystems
+  none_is_overlay = none_from_among is_overlay world.filesystems
       (λ f m. among_from_all (λ g. is_overlay g ≡ false) world.filesystems plain f m)
 
   no_overlays : overlays world ≡ []

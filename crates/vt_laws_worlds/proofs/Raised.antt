@@ -97,8 +97,7 @@ module _ (of_filesystem : Filesystem ℕ → ℕ) (of_namespace : Namespace ℕ 
         namespace_counted world.namespaces (λ a b m n e. e) is.one_namespace;
     mounts_listed = ap (λ numbers. list_all
         (λ (mount : Mount ℕ). list_all (λ number. is_among nat_eq number numbers) (option_to_list mount.namespace))
-        world.mounts) same_listed
-        ∙ is.mounts_listed;
+        world.mounts) same_listed ∙ is.mounts_listed;
     tasks_listed = ap (λ numbers. list_all
         (λ (task : Task ℕ). is_among nat_eq task.namespace numbers) counted.tasks) same_listed
         ∙ all-map (λ (task : Task ℕ). is_listed nat_eq world task.namespace) task_counted
@@ -108,8 +107,7 @@ module _ (of_filesystem : Filesystem ℕ → ℕ) (of_namespace : Namespace ℕ 
     namespaces_live = all-map (λ namespace. list_any
         (λ (task : Task ℕ). nat_eq namespace.number task.namespace) counted.tasks) namespace_counted
         (λ namespace e. any-map (λ (task : Task ℕ). nat_eq namespace.number task.namespace) task_counted world.tasks
-        (λ task. refl) ∙ e)
-        world.namespaces is.namespaces_live;
+        (λ task. refl) ∙ e) world.namespaces is.namespaces_live;
     few_mounts = any-map (λ (namespace : Namespace ℕ). nat_lt most_mounts
         (length (mounts_of nat_eq world namespace.number))) namespace_counted world.namespaces (λ namespace. refl)
         ∙ is.few_mounts;
@@ -124,8 +122,7 @@ module _ (of_filesystem : Filesystem ℕ → ℕ) (of_namespace : Namespace ℕ 
       is_among nat_eq location.mount (map (λ mount. mount.number) world.mounts) && is_some (node_by files location)
 
   abbrev is_seen_by : FilesBy → ℕ → Location ℕ → Bool
-  is_seen_by files namespace location =
-      is_directory_node (node_by files location)
+  is_seen_by files namespace location = is_directory_node (node_by files location)
       && list_all (nat_eq namespace) (option_to_list (mount_at nat_eq world location).namespace)
 
   abbrev stands_by : FilesBy → Task ℕ → Bool
@@ -136,8 +133,7 @@ module _ (of_filesystem : Filesystem ℕ → ℕ) (of_namespace : Namespace ℕ 
       list_all (λ (descriptor : Descriptor ℕ). is_kind_in File (node_by files descriptor.location)) task.descriptors
 
   abbrev has_root_by : FilesBy → Mount ℕ → Bool
-  has_root_by files mount =
-      is_directory_node ((files mount.filesystem).tree.node mount.root)
+  has_root_by files mount = is_directory_node ((files mount.filesystem).tree.node mount.root)
       && list_all (λ place. is_directory_node (node_by files place)) (option_to_list mount.mount_point)
 
   forks_counted : ForksAreCounted world → ForksAreCounted counted

@@ -62,8 +62,7 @@ module _ (of_filesystem : Filesystem ℕ → ℕ) (of_namespace : Namespace ℕ 
       (λ task. refl)
 
   abbrev located_by : List (Location ℕ) → ℕ → List ℕ
-  located_by locations filesystem =
-      map (λ location. location.node)
+  located_by locations filesystem = map (λ location. location.node)
       (filter (λ location. nat_eq filesystem (mount_at nat_eq world location).filesystem)
       (locations ++ map root_of world.mounts ++ filter_map (λ mount. mount.mount_point) world.mounts))
 
@@ -81,15 +80,13 @@ module _ (of_filesystem : Filesystem ℕ → ℕ) (of_namespace : Namespace ℕ 
 
   lives_later : (filesystem : Filesystem ℕ) → filesystem_lives nat_eq later (filesystem_later filesystem)
       ≡ filesystem_lives nat_eq world filesystem
-  lives_later filesystem =
-      ap (λ b. is_mounted nat_eq world filesystem.number || b)
+  lives_later filesystem = ap (λ b. is_mounted nat_eq world filesystem.number || b)
       (any-map (λ merged. has_layer_on nat_eq filesystem.number merged && is_mounted nat_eq world merged.number)
       filesystem_later world.filesystems (λ f. refl))
 
   pub in_use_later : AllInUse world → AllInUse later
   in_use_later is = record {
-    mounts = ap (λ locations. list_all
-        (λ (mount : Mount ℕ). is_some mount.namespace
+    mounts = ap (λ locations. list_all (λ (mount : Mount ℕ). is_some mount.namespace
         || list_any (λ (l : Location ℕ). nat_eq mount.number l.mount) locations) world.mounts) locations_later
         ∙ is.mounts;
     filesystems = all-map (filesystem_lives nat_eq later) filesystem_later
@@ -144,6 +141,5 @@ module _ (before : World ℕ) (name : TaskName) (changed : List ℕ) (world : Wo
   pub raising_numbers_keeps_world : IsWorld nat_eq world → IsPlain world
       → IsWorld nat_eq (numbers_raised nat_eq before name changed world)
       × IsPlain (numbers_raised nat_eq before name changed world)
-  raising_numbers_keeps_world is plain =
-      subst (λ w. IsWorld nat_eq w × IsPlain w) (sym numbers_raised_are)
+  raising_numbers_keeps_world is plain = subst (λ w. IsWorld nat_eq w × IsPlain w) (sym numbers_raised_are)
       (world_counted (number_if changed world) namespace_if task_if (raised world.change) world is plain)

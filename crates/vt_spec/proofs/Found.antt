@@ -77,8 +77,7 @@ among_targets name (entry ∷ entries) number e =
     by : (b : Bool) → (entry_named name entries ≡ Some number → is_among nat_eq number (map (λ e. e.1) entries) ≡ true)
         → cond b (Some entry.1) (entry_named name entries) ≡ Some number
         → (nat_eq number entry.1 || is_among nat_eq number (map (λ e. e.1) entries)) ≡ true
-    by true rest is =
-        ap (λ b. b || is_among nat_eq number (map (λ e. e.1) entries))
+    by true rest is = ap (λ b. b || is_among nat_eq number (map (λ e. e.1) entries))
         (eq-eqb number entry.1 (sym (same_Some entry.1 number is)))
     by false rest is = or_right (nat_eq number entry.1) _ (rest is)
 
@@ -92,6 +91,5 @@ filter_all p (y ∷ ys) all =
 pub filter_alike : {A : Type 0} (p q : A → Bool) (xs : List A) → ((x : A) → Among x xs → p x ≡ q x)
     → filter p xs ≡ filter q xs
 filter_alike p q [] same = refl
-filter_alike p q (y ∷ ys) same =
-    ap (λ b. cond b (y ∷ filter p ys) (filter p ys)) (same y (inl refl))
+filter_alike p q (y ∷ ys) same = ap (λ b. cond b (y ∷ filter p ys) (filter p ys)) (same y (inl refl))
     ∙ ap (λ l. cond (q y) (y ∷ l) l) (filter_alike p q ys (λ x m. same x (inr m)))

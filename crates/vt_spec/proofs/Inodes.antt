@@ -10,8 +10,7 @@ node_in-none (Some inode) e = cc
 
 -- a directory has an inode
 pub directory_inode_is_there : (o : Option (Rattle.vt_spec.specs.Inodes.Inode ℕ))
-    → is_directory_node (Rattle.vt_spec.specs.Inodes.node_in o) ≡ true
-    → is_some o ≡ true
+    → is_directory_node (Rattle.vt_spec.specs.Inodes.node_in o) ≡ true → is_some o ≡ true
 directory_inode_is_there None e = cc
 directory_inode_is_there (Some inode) e = refl
 

@@ -40,8 +40,7 @@ module _ (world : World ℕ) (new : Copies ℕ) (place : Location ℕ) (moves : 
       m).1 in
       let elsewhere = not (nat_eq place.mount part.number) in
       let alike = nat_eq (mount_at nat_eq world place).filesystem part.filesystem in
-      (and_parts elsewhere (is_some part.namespace)
-      (and_parts (elsewhere && is_some part.namespace) alike
+      (and_parts elsewhere (is_some part.namespace) (and_parts (elsewhere && is_some part.namespace) alike
       (and_parts (elsewhere && is_some part.namespace && alike) (reaches nat_eq world place.node part) takes).0).0).1
 
   -- what is pushed up stood at a place
@@ -60,14 +59,11 @@ module _ (world : World ℕ) (new : Copies ℕ) (place : Location ℕ) (moves : 
           let at : Mount ℕ → Location ℕ = λ part. record { mount = part.number; node = place.node } in
           let stood = (found_in (λ other. stands_at nat_eq (at other) mount) (rest_of part_list) part f).1 in
           sym (ap (λ b. is_some mount.namespace || (not b && is_private mount.propagation))
-          (is_there (same_location nat_eq (at part)) mount.mount_point stood))
-          ∙ e
+          (is_there (same_location nat_eq (at part)) mount.mount_point stood)) ∙ e
 
   moved_fits : (b : Bool) (mount : Mount ℕ)
       → Among mount (with_moved_mounts nat_eq b world.mounts (arriving world new place moves mounts)) → IsFit mount
-  moved_fits true mount m =
-      ⊎_elim
-      (λ old. among_from_list_all is_nowhere_or_attached world.mounts nowhere mount old)
+  moved_fits true mount m = ⊎_elim (λ old. among_from_list_all is_nowhere_or_attached world.mounts nowhere mount old)
       (copy_fits (mount_at nat_eq world place) mount attached)
       (among-folded_mounts world.mounts (arriving world new place moves mounts) mount m)
   moved_fits false mount m = among_from_list_all is_nowhere_or_attached world.mounts nowhere mount m
@@ -83,19 +79,14 @@ module _ (world : World ℕ) (new : Copies ℕ) (place : Location ℕ) (moves : 
       let added = added_mounts moves (arriving world new place moves mounts) in
       let rest = flat_map copies (rest_of part_list) in
       list_all_from_among is_nowhere_or_attached ((old ++ added) ++ rest) (λ mount m.
-      ⊎_elim
-      (λ front.
-      ⊎_elim
-      (λ pushed.
+      ⊎_elim (λ front.
+      ⊎_elim (λ pushed.
       let from =
       among-from_map (push world new place moves mounts) (moved_ones world new place moves mounts) mount pushed in
-      ap is_nowhere_or_attached from.2 ∙ push_fits from.0 (moved_fits moves from.0 from.1))
-      (added_fits moves mount)
-      (among-append old added mount front))
-      (λ later.
+      ap is_nowhere_or_attached from.2 ∙ push_fits from.0 (moved_fits moves from.0 from.1)) (added_fits moves mount)
+      (among-append old added mount front)) (λ later.
       let from = among-from_flat_map copies (rest_of part_list) mount later in
-      copy_fits from.0 mount (taker_attached from.0 from.1) from.2)
-      (among-append (old ++ added) rest mount m))
+      copy_fits from.0 mount (taker_attached from.0 from.1) from.2) (among-append (old ++ added) rest mount m))
 
 pub binds_keep_nowhere : BindsKeepNowhere
 binds_keep_nowhere world fresh source place recursive nowhere attached =

@@ -85,17 +85,14 @@ objects_one k n one other same =
     by one.overlay ∙ ap (λ o. times_in n (overlay_or [] (objects other.files.numbers) o)) same.overlay
   where
     objects : List ℕ → Overlay ℕ → List ℕ
-    objects numbers overlay =
-        cond (holds_of (λ layer. nat_eq k layer.filesystem) overlay.upper)
+    objects numbers overlay = cond (holds_of (λ layer. nat_eq k layer.filesystem) overlay.upper)
         (filter_map (λ number. upper_object (overlay.real number)) numbers) []
 
     permuted : (object : ℕ → Option ℕ)
         → times_in n (filter_map object one.files.numbers) ≡ times_in n (filter_map object other.files.numbers)
-    permuted object =
-        objects_sum n object one.files.numbers
+    permuted object = objects_sum n object one.files.numbers
         ∙ sym (sum_by-IsPermutation (λ d. times_in n (option_to_list (object d))) one.files.numbers other.files.numbers
-        same.files.numbers)
-        ∙ sym (objects_sum n object other.files.numbers)
+        same.files.numbers) ∙ sym (objects_sum n object other.files.numbers)
 
     each : (overlay : Overlay ℕ) (b : Bool)
         → times_in n (cond b (filter_map (λ number. upper_object (overlay.real number)) one.files.numbers) [])
@@ -127,16 +124,14 @@ module _ (one other : World ℕ) (same : SameWorlds one other) where
       ∙ flat_map-map (λ (task : Task ℕ). record task { change = 0 }) locations_of other.tasks (λ task. refl)
 
   same_located : (k n : ℕ) → times_in n (located_in nat_eq one k) ≡ times_in n (located_in nat_eq other k)
-  same_located k n =
-      (λ i. count_in (same.mounts i) k n (same_locations i ++ map root_of (same.mounts i)
+  same_located k n = (λ i. count_in (same.mounts i) k n (same_locations i ++ map root_of (same.mounts i)
       ++ filter_map (λ mount. mount.mount_point) (same.mounts i)))
 
 pub any_same_worlds_count_alike : AnySameWorldsCountAlike
 any_same_worlds_count_alike one other k inodes same counted = record {
   root = counted.root ∙ ap (λ t. t.root) alike.files.tree;
   node = λ n. counted.node n ∙ ap (λ t. t.node n) alike.files.tree;
-  uses = λ n.
-      counted.uses n ∙ uses_are one f n
+  uses = λ n. counted.uses n ∙ uses_are one f n
       ∙ (λ i. (one_if n (alike.files.tree i).root + ((times_in n (located_in nat_eq one (alike.number i))
       + times_in n (layers_in nat_eq one (alike.number i)))
       + times_in n (flat_map (objects_of_overlay nat_eq (alike.number i)) one.filesystems)))
@@ -162,15 +157,12 @@ any_same_worlds_count_alike one other k inodes same counted = record {
 
     named_alike : (n : ℕ) → times_in n (named_by g.files.tree.node f.files.numbers)
         ≡ times_in n (named_by g.files.tree.node g.files.numbers)
-    named_alike n =
-        named_sum n g.files.tree.node f.files.numbers
-        ∙ sym (sum_by-IsPermutation (λ d. times_in n
+    named_alike n = named_sum n g.files.tree.node f.files.numbers ∙ sym (sum_by-IsPermutation (λ d. times_in n
         (targets_in (g.files.tree.node d))) f.files.numbers g.files.numbers alike.files.numbers)
         ∙ sym (named_sum n g.files.tree.node g.files.numbers)
 
     times_alike : (n : ℕ) → times_in n f.files.numbers ≡ times_in n g.files.numbers
-    times_alike n =
-        times_sum n f.files.numbers ∙ sym
+    times_alike n = times_sum n f.files.numbers ∙ sym
         (sum_by-IsPermutation (one_if n) f.files.numbers g.files.numbers alike.files.numbers)
         ∙ sym (times_sum n g.files.numbers)
 

@@ -24,10 +24,8 @@ use Rattle.vt_spec.proofs.Worlds.{number-mount_in, stands_alike}
 
 -- nothing stands on a mount without children
 pub none_stands : (world : World ℕ) (one : ℕ) → has_child nat_eq world one ≡ false → (x : Mount ℕ) (place : Location ℕ)
-    → Among x world.mounts
-    → x.mount_point ≡ Some place → place.mount ≡ one → ⊥
-none_stands world one childless x place m e same =
-    true≢false
+    → Among x world.mounts → x.mount_point ≡ Some place → place.mount ≡ one → ⊥
+none_stands world one childless x place m e same = true≢false
     (sym (ap (holds_of (λ p. nat_eq one p.mount)) e ∙ eq-eqb one place.mount (sym same))
     ∙ none_among (stands_on nat_eq one) world.mounts childless x m)
 
@@ -63,8 +61,7 @@ unmount_keeps_mounts world one kept childless =
     taken_keeps world gone kept (unmount_leaves_one_mount_a_place world one (apart_in world kept) childless).by_place
     (taken_stand world gone kept.one_number kept.standing
     (lands_by_places world gone kept.one_number kept.standing (λ x place m e goes.
-    ⊎_elim
-    (λ itself. absurd (none_stands world one childless x place m e (itself ∙ number-mount_in world.mounts one)))
+    ⊎_elim (λ itself. absurd (none_stands world one childless x place m e (itself ∙ number-mount_in world.mounts one)))
     (λ t. ap (λ n. is_some (mount_numbered nat_eq world n).mount_point) t.3
     ∙ ap (λ z. is_some z.mount_point) (found_itself world.mounts kept.one_number t.0 t.1) ∙ t.4)
     (goes_or_may world mount place.mount goes))))

@@ -35,8 +35,7 @@ module _ (world : World ℕ) (ends : ChainsEnd world) where
   no_more : (mount : Mount ℕ) → is_some mount.mount_point ≡ false → under mount ≡ None
   no_more mount e = grind (arith, common_steps, true≢false)
 
-  parts : (mount : Mount ℕ) → Among mount world.mounts
-      → (is_some (last_parent nat_eq world mount).mount_point ≡ false)
+  parts : (mount : Mount ℕ) → Among mount world.mounts → (is_some (last_parent nat_eq world mount).mount_point ≡ false)
       × (mount.namespace ≡ (last_parent nat_eq world mount).namespace)
   parts mount m =
       let both : (not (is_some (last_parent nat_eq world mount).mount_point) ≡ true)
@@ -46,8 +45,7 @@ module _ (world : World ℕ) (ends : ChainsEnd world) where
 
   -- a mount is in the namespace of the one that it stands on
   pub same_namespace : (x : Mount ℕ) (place : Location ℕ) → Among x world.mounts → x.mount_point ≡ Some place
-      → Among (mount_at nat_eq world place) world.mounts
-      → x.namespace ≡ (mount_at nat_eq world place).namespace
+      → Among (mount_at nat_eq world place) world.mounts → x.namespace ≡ (mount_at nat_eq world place).namespace
   same_namespace x place m e n =
       let on = mount_at nat_eq world place in
       let size = length_from_among world.mounts x m in
@@ -60,8 +58,7 @@ module _ (world : World ℕ) (ends : ChainsEnd world) where
       let same : last_parent nat_eq world on ≡ last_parent nat_eq world x =
       ap (λ k. last_or on (chain k under on)) size.1
       ∙ last_longer under size.0 on (no_more (last_or on (chain size.0 under on))
-      (ap (λ l. is_some l.mount_point) (sym shorter) ∙ first.0))
-      ∙ sym shorter in
+      (ap (λ l. is_some l.mount_point) (sym shorter) ∙ first.0)) ∙ sym shorter in
       first.1 ∙ sym (other.1 ∙ ap (λ l. l.namespace) same)
 
 -- the mounts of namespaces that end
@@ -81,9 +78,7 @@ ended_closed world ends one x place m e goes =
     same_namespace world ends x place m e there ∙ ap (λ z. z.namespace) it in
     is_among_numbers (in_ended world) x.number
     (among-map (λ (mount : Mount ℕ). mount.number) (filter (is_in_ended nat_eq world) world.mounts) x
-    (among-filter (is_in_ended nat_eq world) world.mounts x m
-    (ap (holds_of
-    (λ number. not
+    (among-filter (is_in_ended nat_eq world) world.mounts x m (ap (holds_of (λ number. not
     (list_any (λ (listed : Namespace ℕ). nat_eq number listed.number
     && has_tasks nat_eq world listed) world.namespaces))) namespace ∙ end.1)))
 

@@ -42,8 +42,7 @@ module _ {A : Type 0} (next other : A → Option A) (key : A → ℕ) (there : L
   rest_of : (a : A) (way : WayFrom a) (number : ℕ) → Among number (keys a way)
       → (c : A) × (road : WayFrom c) × (number ≡ key c) × (length (keys c road) ≤ length (keys a way))
   rest_of a (ends it e f) number m = absurd m
-  rest_of a (goes_on it b e f n rest) number m =
-      ⊎_elim (λ same. (it, goes_on it b e f n rest, same, omega arith))
+  rest_of a (goes_on it b e f n rest) number m = ⊎_elim (λ same. (it, goes_on it b e f n rest, same, omega arith))
       (λ later. let t = rest_of b rest number later in (t.0, t.1, t.2, omega (arith, t.3))) m
 
   -- no key comes twice
@@ -53,8 +52,7 @@ module _ {A : Type 0} (next other : A → Option A) (key : A → ℕ) (there : L
   apart a (goes_on it b e f m rest) = (
     differs (key it) (keys b rest) (λ number n. false_from_ne_true (nat_eq (key it) number) (λ h.
         let t = rest_of b rest number n in
-        let same : length (keys t.0 t.1) ≡ suc (length (keys b rest)) =
-        same_length t.0 t.1 it (goes_on it b e f m rest)
+        let same : length (keys t.0 t.1) ≡ suc (length (keys b rest)) = same_length t.0 t.1 it (goes_on it b e f m rest)
         (by_key t.0 it (sym (eqb-true (key it) number h ∙ t.2))) in
         absurd (omega (arith, t.3, same)))),
     apart b rest,
@@ -73,8 +71,7 @@ module _ {A : Type 0} (next other : A → Option A) (key : A → ℕ) (there : L
   alike (suc n) (suc m) a (ends it e f) few less = chain_ends next n it e ∙ sym (chain_ends other m it f)
   alike zero m a (goes_on it b e f t rest) few less = absurd (omega (arith, few))
   alike (suc n) zero a (goes_on it b e f t rest) few less = absurd (omega (arith, less))
-  alike (suc n) (suc m) a (goes_on it b e f t rest) few less =
-      chain_goes_on next n it b e
+  alike (suc n) (suc m) a (goes_on it b e f t rest) few less = chain_goes_on next n it b e
       ∙ ap (λ xs. it ∷ xs) (alike n m b rest (omega (arith, few)) (omega (arith, less)))
       ∙ sym (chain_goes_on other m it b f)
 

@@ -26,13 +26,10 @@ use Rattle.vt_spec.proofs.Worlds.{number-mount_in}
 places_same : (f : Mount ℕ → Mount ℕ) (mounts : List (Mount ℕ))
     → ((mount : Mount ℕ) → Among mount mounts → (f mount).mount_point ≡ mount.mount_point)
     → OneMountAMountPoint mounts → OneMountAMountPoint (map f mounts)
-places_same f mounts same one =
-    pair-map (share_a_mount_point nat_eq) (share_a_mount_point nat_eq) f mounts
+places_same f mounts same one = pair-map (share_a_mount_point nat_eq) (share_a_mount_point nat_eq) f mounts
     (λ a b m n differ.
     ap (λ p. is_some p && same_option (same_location nat_eq) p (f b).mount_point) (same a m)
-    ∙ ap (λ q. is_some a.mount_point && same_option (same_location nat_eq) a.mount_point q) (same b n)
-    ∙ differ)
-    one
+    ∙ ap (λ q. is_some a.mount_point && same_option (same_location nat_eq) a.mount_point q) (same b n) ∙ differ) one
 
 -- a mount in the place of the one with its number, at the same place
 replaced_same_place : (mounts : List (Mount ℕ)) → OneNumberAMount mounts → (new : Mount ℕ)
@@ -47,8 +44,7 @@ flags_keep_apart world here flags both =
     record {
       by_number = flags_keep_numbers world here flags both.by_number;
       by_place = places_same (replaced_if_same nat_eq new) world.mounts
-          (replaced_same_place world.mounts both.by_number new
-          (ap (λ n. (mount_in nat_eq world.mounts n).mount_point)
+          (replaced_same_place world.mounts both.by_number new (ap (λ n. (mount_in nat_eq world.mounts n).mount_point)
           (number-mount_in world.mounts here.mount))) both.by_place;
     }
 
@@ -82,8 +78,7 @@ settling_keeps_apart world both = record {
 lazy_numbers : (mounts : List (Mount ℕ)) (world : World ℕ) → OneNumberEach world
     → OneNumberEach (folded (unmounted_if_there nat_eq) world mounts)
 lazy_numbers [] world e = e
-lazy_numbers (mount ∷ mounts) world e =
-    lazy_numbers mounts (unmounted_if_there nat_eq world mount)
+lazy_numbers (mount ∷ mounts) world e = lazy_numbers mounts (unmounted_if_there nat_eq world mount)
     (by (is_some (mount_numbered nat_eq world mount.number).namespace))
   where
     by : (b : Bool) → OneNumberEach (if b then unmounted nat_eq world mount.number else world)
@@ -97,8 +92,7 @@ lazy_keeps_numbers world one e =
 lazy_nowhere : (mounts : List (Mount ℕ)) (world : World ℕ) → NowhereOrAttached world
     → NowhereOrAttached (folded (unmounted_if_there nat_eq) world mounts)
 lazy_nowhere [] world e = e
-lazy_nowhere (mount ∷ mounts) world e =
-    lazy_nowhere mounts (unmounted_if_there nat_eq world mount)
+lazy_nowhere (mount ∷ mounts) world e = lazy_nowhere mounts (unmounted_if_there nat_eq world mount)
     (by (is_some (mount_numbered nat_eq world mount.number).namespace))
   where
     by : (b : Bool) → NowhereOrAttached (if b then unmounted nat_eq world mount.number else world)

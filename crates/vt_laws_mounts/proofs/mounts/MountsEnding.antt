@@ -46,16 +46,14 @@ module _ (world after : World ℕ)
       found_itself after.mounts (one_number_by_numbers world.mounts after.mounts numbers one) mount m in
       let r : StandsAlike old mount = subst (StandsAlike old) found (alike mount.number) in
       let there : Among old world.mounts = found_there world.mounts mount.number
-      (ap (is_among nat_eq mount.number) (sym numbers)
-      ∙ is_among_numbers (numbers_of after.mounts) mount.number
+      (ap (is_among nat_eq mount.number) (sym numbers) ∙ is_among_numbers (numbers_of after.mounts) mount.number
       (among-map (λ (x : Mount ℕ). x.number) after.mounts mount m)) in
       let long : length after.mounts ≡ length world.mounts =
       sym (length-map after.mounts (λ (x : Mount ℕ). x.number)) ∙ ap length numbers
       ∙ length-map world.mounts (λ (x : Mount ℕ). x.number) in
       let last = same_last (length world.mounts) old mount r in
       ap (λ n. not (is_some (last_or mount (chain n below_after mount)).mount_point)
-      && same_option nat_eq mount.namespace
-      (last_or mount (chain n below_after mount)).namespace) long
+      && same_option nat_eq mount.namespace (last_or mount (chain n below_after mount)).namespace) long
       ∙ ap (λ p. not (is_some p) && same_option nat_eq mount.namespace
       (last_or mount (chain (length world.mounts) below_after mount)).namespace) last.mount_point
       ∙ ap (λ s. not (is_some (last_parent nat_eq world old).mount_point)
@@ -77,16 +75,12 @@ flags_keep_places_ending world here flags one ends =
     places_end_alike world (with_flags nat_eq world here.mount flags)
     (related-with_mount StandsAlike (λ mount. record { mount_point = refl; namespace = refl }) world.mounts new
     (subst (λ m. StandsAlike m new) (sym (ap (mount_in nat_eq world.mounts) (number-mount_in world.mounts here.mount)))
-    (record { mount_point = refl; namespace = refl })))
-    one (numbers-with_mount new world.mounts) ends
+    (record { mount_point = refl; namespace = refl }))) one (numbers-with_mount new world.mounts) ends
 
 pub inheritance_keeps_places_ending : InheritanceKeepsChainsEnding
-inheritance_keeps_places_ending world one ends =
-    places_end_alike world (regrouped nat_eq world)
-    (λ number.
+inheritance_keeps_places_ending world one ends = places_end_alike world (regrouped nat_eq world) (λ number.
     subst (StandsAlike (mount_numbered nat_eq world number))
     (sym (ap (λ mounts. mount_in nat_eq mounts number) (mounts-regrouped world)
     ∙ found-map (inheriting nat_eq world) (λ mount. refl) world.mounts number refl))
-    (record { mount_point = refl; namespace = refl }))
-    one (ap numbers_of (mounts-regrouped world)
+    (record { mount_point = refl; namespace = refl })) one (ap numbers_of (mounts-regrouped world)
     ∙ numbers-map (inheriting nat_eq world) (λ mount. refl) world.mounts) ends

@@ -28,27 +28,20 @@ stands_at_its_place place mount e = ap (holds_of (same_location nat_eq place)) e
 
 pub one_place_of_two : (place : Location ℕ) (a b : Mount ℕ) → a.mount_point ≡ Some place → b.mount_point ≡ Some place
     → share_a_mount_point nat_eq a b ≡ true
-one_place_of_two place a b e f =
-    ap (λ p. is_some p && same_option (same_location nat_eq) p b.mount_point) e
-    ∙ ap (same_option (same_location nat_eq) (Some place)) f
-    ∙ same_location_itself place
+one_place_of_two place a b e f = ap (λ p. is_some p && same_option (same_location nat_eq) p b.mount_point) e
+    ∙ ap (same_option (same_location nat_eq) (Some place)) f ∙ same_location_itself place
 
 -- where no two stand at one place, one that stands there is found there
 pub found_at_its_place : (mounts : List (Mount ℕ)) → OneMountAMountPoint mounts → (mount : Mount ℕ) → Among mount mounts
-    → (place : Location ℕ)
-    → mount.mount_point ≡ Some place → child_at nat_eq mounts place ≡ Some mount
+    → (place : Location ℕ) → mount.mount_point ≡ Some place → child_at nat_eq mounts place ≡ Some mount
 found_at_its_place [] one mount m place e = absurd m
 found_at_its_place (first ∷ rest) one mount m place e =
     let apart : (list_any (share_a_mount_point nat_eq first) rest ≡ false)
-    × (any_pair (share_a_mount_point nat_eq) rest ≡ false) =
-    or_parts _ _ one in
-    ⊎_elim
-    (λ same. ap (λ b. cond b (Some first) (find (stands_at nat_eq place) rest))
-    (stands_at_its_place place first (ap (λ x. x.mount_point) (sym same) ∙ e)) ∙ ap Some (sym same))
-    (λ later.
+    × (any_pair (share_a_mount_point nat_eq) rest ≡ false) = or_parts _ _ one in
+    ⊎_elim (λ same. ap (λ b. cond b (Some first) (find (stands_at nat_eq place) rest))
+    (stands_at_its_place place first (ap (λ x. x.mount_point) (sym same) ∙ e)) ∙ ap Some (sym same)) (λ later.
     by (stands_at nat_eq place first) refl (none_among (share_a_mount_point nat_eq first) rest apart.0 mount later)
-    (found_at_its_place rest apart.1 mount later place e))
-    m
+    (found_at_its_place rest apart.1 mount later place e)) m
   where
     by : (b : Bool) → stands_at nat_eq place first ≡ b → share_a_mount_point nat_eq first mount ≡ false
         → find (stands_at nat_eq place) rest ≡ Some mount → child_at nat_eq (first ∷ rest) place ≡ Some mount
@@ -57,8 +50,7 @@ found_at_its_place (first ∷ rest) one mount m place e =
     by false here differ found = ap (λ b. cond b (Some first) (find (stands_at nat_eq place) rest)) here ∙ found
 
 pub stands_alone : StandsAloneAtItsMountPoint
-stands_alone mounts one =
-    all_from_among
+stands_alone mounts one = all_from_among
     (λ mount. (place : Location ℕ) → mount.mount_point ≡ Some place → child_at nat_eq mounts place ≡ Some mount) mounts
     (λ mount m place e. found_at_its_place mounts one mount m place e)
 

@@ -50,25 +50,22 @@ none_numbered (first ∷ rest) number h =
     let parts : (nat_eq number first.number ≡ false) × (is_among nat_eq number (numbers_of rest) ≡ false) =
     or_parts (nat_eq number first.number) (is_among nat_eq number (numbers_of rest)) h in
     ap (λ b. unwrap_or (cond b (Some first) (find (λ mount. nat_eq number mount.number) rest))
-    (no_mount number)) parts.0
-    ∙ none_numbered rest number parts.1
+    (no_mount number)) parts.0 ∙ none_numbered rest number parts.1
 
 -- A mount that is changed where it stands, as it is found: what holds between the old and the new holds of what is
 -- found before and after.
 module _ (R : Mount ℕ → Mount ℕ → Type 0) (same : (mount : Mount ℕ) → R mount mount) where
   pub related-with_mount : (mounts : List (Mount ℕ)) (new : Mount ℕ) → R (mount_in nat_eq mounts new.number) new
-      → (number : ℕ)
-      → R (mount_in nat_eq mounts number) (mount_in nat_eq (with_mount nat_eq mounts new) number)
-  related-with_mount mounts new r number =
-      grind (
-        arith,
-        common_steps,
-        found-with_mount_itself,
-        none_numbered,
-        numbers-with_mount,
-        eqb-true,
-        found-with_mount_other,
-      )
+      → (number : ℕ) → R (mount_in nat_eq mounts number) (mount_in nat_eq (with_mount nat_eq mounts new) number)
+  related-with_mount mounts new r number = grind (
+    arith,
+    common_steps,
+    found-with_mount_itself,
+    none_numbered,
+    numbers-with_mount,
+    eqb-true,
+    found-with_mount_other,
+  )
 
 -- what stands first in a list is found there
 pub found-append : (mounts others : List (Mount ℕ)) (number : ℕ) → is_among nat_eq number (numbers_of mounts) ≡ true
@@ -83,16 +80,12 @@ found_itself [] one mount m = absurd m
 found_itself (first ∷ rest) one mount m =
     let parts : (list_any (λ (other : Mount ℕ). nat_eq first.number other.number) rest ≡ false)
     × OneNumberAMount rest = or_parts _ _ one in
-    ⊎_elim
-    (λ e. ap (λ b. unwrap_or (cond b (Some first) (find (λ other. nat_eq mount.number other.number) rest))
-    (no_mount mount.number)) (eq-eqb mount.number first.number (ap (λ x. x.number) e)) ∙ sym e)
-    (λ later.
+    ⊎_elim (λ e. ap (λ b. unwrap_or (cond b (Some first) (find (λ other. nat_eq mount.number other.number) rest))
+    (no_mount mount.number)) (eq-eqb mount.number first.number (ap (λ x. x.number) e)) ∙ sym e) (λ later.
     ap (λ b. unwrap_or (cond b (Some first) (find (λ other. nat_eq mount.number other.number) rest))
-    (no_mount mount.number))
-    (nat_eq_false_turned first.number mount.number
+    (no_mount mount.number)) (nat_eq_false_turned first.number mount.number
     (none_among (λ (other : Mount ℕ). nat_eq first.number other.number) rest parts.0 mount later))
-    ∙ found_itself rest parts.1 mount later)
-    m
+    ∙ found_itself rest parts.1 mount later) m
 
 any_by_numbers : (number : ℕ) (mounts : List (Mount ℕ))
     → list_any (λ (other : Mount ℕ). nat_eq number other.number) mounts ≡ list_any (nat_eq number) (numbers_of mounts)
@@ -107,7 +100,6 @@ pair_by_numbers (mount ∷ mounts) =
     ∙ ap (λ b. list_any (nat_eq mount.number) (numbers_of mounts) || b) (pair_by_numbers mounts)
 
 pub one_number_by_numbers : (before later : List (Mount ℕ)) → numbers_of later ≡ numbers_of before
-    → OneNumberAMount before
-    → OneNumberAMount later
+    → OneNumberAMount before → OneNumberAMount later
 one_number_by_numbers before later same e =
     pair_by_numbers later ∙ ap (any_pair nat_eq) same ∙ sym (pair_by_numbers before) ∙ e

@@ -66,11 +66,9 @@ module _ (world : World ℕ) (group : ℕ → ℕ) (word : TypeWord) (named : Li
       ap numbers_of (mounts-regrouped between) ∙ numbers-map (inheriting nat_eq between) (λ mount. refl) between.mounts
       ∙ numbers-map retype (λ mount. (retype_keeps mount).number) world.mounts
 
-  pub retyped_found : (number : ℕ) → is_mount world number ≡ true
-      → mount_numbered nat_eq next_world number
+  pub retyped_found : (number : ℕ) → is_mount world number ≡ true → mount_numbered nat_eq next_world number
       ≡ inheriting nat_eq between (retype (mount_numbered nat_eq world number))
-  retyped_found number there =
-      ap (λ mounts. mount_in nat_eq mounts number) (mounts-regrouped between)
+  retyped_found number there = ap (λ mounts. mount_in nat_eq mounts number) (mounts-regrouped between)
       ∙ found-map (inheriting nat_eq between) (λ mount. refl) between.mounts number refl
       ∙ ap (inheriting nat_eq between)
       (found-map_there retype (λ mount. (retype_keeps mount).number) world.mounts number there)
@@ -119,8 +117,7 @@ module _ (world : World ℕ) (group : ℕ → ℕ) (word : TypeWord) (named : Li
   type_of_named number there chosen =
       let one = mount_numbered nat_eq world number in
       ap (λ m. m.propagation) (retyped_found number there)
-      ∙ ap (λ b. inherited nat_eq between (retyped_if one b).propagation)
-      (named_by_number number ∙ chosen)
+      ∙ ap (λ b. inherited nat_eq between (retyped_if one b).propagation) (named_by_number number ∙ chosen)
       ∙ ap (λ n. inherited nat_eq between (type_after (group n) word one.propagation))
       (number-mount_in world.mounts number)
 
@@ -150,8 +147,7 @@ pub type_is_taken : TypeIsTaken
 type_is_taken world fresh number word recursive other there chosen has =
     let group = groups_by world fresh number recursive in
     let named = named_mounts nat_eq world number recursive in
-    type_of_named world group word named other there chosen
-    ∙ kept_where_master world group word named
+    type_of_named world group word named other there chosen ∙ kept_where_master world group word named
     (type_after (group other) word (mount_numbered nat_eq world other).propagation) has
 
 pub alone_is_private : AloneIsPrivate

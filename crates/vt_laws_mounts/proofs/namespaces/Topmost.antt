@@ -51,8 +51,7 @@ module _ (world : World ℕ) (mounts : MountInvariants nat_eq world) where
           let one = higher here child e in
           ap (child_at nat_eq world.mounts)
           (ap (last_or here) (chain_goes_on over n here (root_of child) (ap (option_map root_of) e))
-          ∙ last_of_chain over n (root_of child) here)
-          ∙ later (root_of child) (omega (arith, far, one))
+          ∙ last_of_chain over n (root_of child) here) ∙ later (root_of child) (omega (arith, far, one))
 
 pub topmost_is_free : TopmostIsFree
 topmost_is_free world place mounts = free_after world mounts (length world.mounts) place (omega arith)

@@ -22,17 +22,14 @@ longer next (suc n) a d h = by (next a) refl (λ b. longer next n b d)
     by : (o : Option ℕ) → next a ≡ o
         → ((b : ℕ) → is_among nat_eq d (chain n next b) ≡ true → is_among nat_eq d (chain (suc n) next b) ≡ true)
         → is_among nat_eq d (chain (suc (suc n)) next a) ≡ true
-    by None e on =
-        ap (is_among nat_eq d) (chain_ends next (suc n) a e ∙ sym (chain_ends next n a e)) ∙ h
-    by (Some b) e on =
-        ap (is_among nat_eq d) (chain_goes_on next (suc n) a b e)
+    by None e on = ap (is_among nat_eq d) (chain_ends next (suc n) a e ∙ sym (chain_ends next n a e)) ∙ h
+    by (Some b) e on = ap (is_among nat_eq d) (chain_goes_on next (suc n) a b e)
         ∙ at (nat_eq d a) refl (sym (ap (is_among nat_eq d) (chain_goes_on next n a b e)) ∙ h)
       where
         at : (c : Bool) → nat_eq d a ≡ c → (nat_eq d a || is_among nat_eq d (chain n next b)) ≡ true
             → (nat_eq d a || is_among nat_eq d (chain (suc n) next b)) ≡ true
         at true s t = ap (λ x. x || is_among nat_eq d (chain (suc n) next b)) s
-        at false s t =
-            ap (λ x. x || is_among nat_eq d (chain (suc n) next b)) s
+        at false s t = ap (λ x. x || is_among nat_eq d (chain (suc n) next b)) s
             ∙ on b (sym (ap (λ x. x || is_among nat_eq d (chain n next b)) s) ∙ t)
 
 -- what is in a chain after its start is in that from the next one
@@ -49,15 +46,14 @@ module _ (it : Attachment) where
   hears : (one : Mount ℕ) → IsPart it one → (one ≡ destination_of it → ⊥)
       → (group : ℕ) × (group_of (destination_of it).propagation ≡ Some group)
       × (receives nat_eq it.world group one ≡ true)
-  hears one is differs =
-      grind (
-        arith,
-        common_steps,
-        among-from_filter (takes_part nat_eq it.world it.mount_point) (receivers_of nat_eq
-            it.world (destination_of it)) one,
-        among_from_contains parts one is,
-        among-from_filter,
-      )
+  hears one is differs = grind (
+    arith,
+    common_steps,
+    among-from_filter (takes_part nat_eq it.world it.mount_point) (receivers_of nat_eq
+        it.world (destination_of it)) one,
+    among_from_contains parts one is,
+    among-from_filter,
+  )
 
   -- the destination is a part, so where its group is up from another there is a nearest one
   nearest_is : (group master : ℕ) → group_of (destination_of it).propagation ≡ Some group
@@ -84,7 +80,6 @@ lower_groups_have_a_group_above it one own is shared lacks =
     ∙ ap (is_member_of nat_eq own) same ∙ lacks)) in
     let above = above_in it.world.master (Rattle.std.proofs.Common.length it.world.mounts) own heard.0
     (sym (ap (λ k. holds_of (λ source. is_among nat_eq heard.0 (groups_up it.world source)) (source_of k)) shared)
-    ∙ heard.2)
-    (ne_eqb heard.0 own (λ same. true≢false (sym (eq-eqb own heard.0 (sym same))
+    ∙ heard.2) (ne_eqb heard.0 own (λ same. true≢false (sym (eq-eqb own heard.0 (sym same))
     ∙ sym (ap (holds_of (nat_eq own)) heard.1) ∙ lacks))) in
     (above.0, above.1, nearest_is it heard.0 above.0 heard.1 above.2)

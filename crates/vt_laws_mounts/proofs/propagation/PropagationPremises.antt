@@ -20,19 +20,14 @@ binds_can world fresh source place recursive serves mounts = record {
   groups = tested_live world mounts.groups;
   each_once = binds_take_each_once world source recursive mounts.one_number mounts.standing;
   moving = λ e. absurd (true≢false (sym e));
-  types = λ origin c.
-      ⊎_elim
-      (λ same.
+  types = λ origin c. ⊎_elim (λ same.
       let kind : origin.propagation ≡ (mount_at nat_eq world source).propagation =
       ap (λ (x : Mount ℕ). x.propagation) same in
-      ⊎_elim
-      (λ there. inr (
+      ⊎_elim (λ there. inr (
         mount_at nat_eq world source,
         contains_from_among world.mounts (mount_at nat_eq world source) there,
         kind,
-      ))
-      (λ none. inl (kind ∙ ap (λ (x : Mount ℕ). x.propagation) none))
-      (found_or_none world.mounts source.mount))
+      )) (λ none. inl (kind ∙ ap (λ (x : Mount ℕ). x.propagation) none)) (found_or_none world.mounts source.mount))
       (λ there. inr (origin, contains_from_among world.mounts origin there, refl))
       (bind_there_or_source world source recursive origin
       (among_from_contains (bind_tree nat_eq world source recursive) origin c));
@@ -45,22 +40,16 @@ new_mounts_can world fresh place filesystem flags serves mounts = record {
   groups = tested_live world mounts.groups;
   each_once = refl;
   moving = λ e. absurd (true≢false (sym e));
-  types = λ origin c.
-      ⊎_elim
-      (λ same. inl (ap (λ (x : Mount ℕ). x.propagation) same))
-      (λ none. absurd none)
+  types = λ origin c. ⊎_elim (λ same. inl (ap (λ (x : Mount ℕ). x.propagation) same)) (λ none. absurd none)
       (among_from_contains (new_mount filesystem.number filesystem.files.tree.root flags ∷ []) origin c);
 }
 
 pub moves_can : MovesCan
 moves_can world fresh source place serves mounts there =
     let tree = moved_tree nat_eq world source.mount in
-    let inside : (origin : Mount ℕ) → Contains tree origin → Contains world.mounts origin =
-    λ origin c.
-    contains_from_among world.mounts origin
-    (⊎_elim
-    (λ same. subst (λ x. Among x world.mounts) (sym same) (found_there world.mounts source.mount there))
-    (λ l. l)
+    let inside : (origin : Mount ℕ) → Contains tree origin → Contains world.mounts origin = λ origin c.
+    contains_from_among world.mounts origin (⊎_elim
+    (λ same. subst (λ x. Among x world.mounts) (sym same) (found_there world.mounts source.mount there)) (λ l. l)
     (tree_among (length world.mounts) world.mounts (mount_at nat_eq world source) origin
     (among_from_contains tree origin c))) in
     record {

@@ -46,40 +46,30 @@ module _ (world : World ℕ) (new : Copies ℕ) (place : Location ℕ) (moves : 
   nearest_group group = find (has_members nat_eq all_parts) (groups_up world group)
 
   part_itself : (part : Mount ℕ) → Among part all_parts → nat_eq part.number place.mount ≡ true → part ≡ there
-  part_itself part m same =
-      ⊎_elim (λ e. e)
-      (λ rest. absurd (true≢false (sym same ∙ not_there world new place moves mounts part rest)))
-      m
+  part_itself part m same = ⊎_elim (λ e. e)
+      (λ rest. absurd (true≢false (sym same ∙ not_there world new place moves mounts part rest))) m
 
   pub kind_there : (origin : Mount ℕ) → kind there origin ≡ (of_tree origin).propagation
-  kind_there origin =
-      ap
-      (λ b. if b then (of_tree origin).propagation
+  kind_there origin = ap (λ b. if b then (of_tree origin).propagation
       else copy_type nat_eq world new all_parts there (of_tree origin) there.propagation)
       (at_destination world new place moves mounts serve own)
 
   kind_away : (part origin : Mount ℕ) → nat_eq part.number place.mount ≡ false
       → kind part origin ≡ copy_type nat_eq world new all_parts there (of_tree origin) part.propagation
-  kind_away part origin e =
-      ap
-      (λ b. if b then (of_tree origin).propagation
-      else copy_type nat_eq world new all_parts there (of_tree origin) part.propagation)
-      e
+  kind_away part origin e = ap (λ b. if b then (of_tree origin).propagation
+      else copy_type nat_eq world new all_parts there (of_tree origin) part.propagation) e
 
   -- at a shared destination
   pub type_in : (origin : Mount ℕ) (group : ℕ) → group_of there.propagation ≡ Some group
       → (of_tree origin).propagation ≡ type_on_shared (new.image group origin.number) origin.propagation
   type_in origin group e = ap (λ o. type_at new o origin) e
 
-  pub image_in : (origin : Mount ℕ) (group : ℕ) → group_of there.propagation ≡ Some group
-      → image_of origin group
+  pub image_in : (origin : Mount ℕ) (group : ℕ) → group_of there.propagation ≡ Some group → image_of origin group
       ≡ unwrap_or (group_of (type_on_shared (new.image group origin.number) origin.propagation))
       (new.image group origin.number)
-  image_in origin group e =
-      ap
+  image_in origin group e = ap
       (λ b. if b then unwrap_or (group_of (of_tree origin).propagation) (new.image group origin.number)
-      else new.image group origin.number)
-      (member_by_group world new place moves mounts serve own there group e)
+      else new.image group origin.number) (member_by_group world new place moves mounts serve own there group e)
       ∙ ap (λ k. unwrap_or (group_of k) (new.image group origin.number)) (type_in origin group e)
 
   -- the copy at a member of a group is a member of the image
@@ -95,8 +85,7 @@ module _ (world : World ℕ) (new : Copies ℕ) (place : Location ℕ) (moves : 
           ap (λ x. kind x origin) same ∙ kind_there origin ∙ type_in origin group shared
           ∙ shared_there (new.image group origin.number) origin.propagation
           ∙ ap Shared (sym (image_in origin group shared))
-      by false f =
-          kind_away part origin f ∙ ap (copy_type nat_eq world new all_parts there (of_tree origin)) e
+      by false f = kind_away part origin f ∙ ap (copy_type nat_eq world new all_parts there (of_tree origin)) e
 
   -- the copy at a slave is a slave of the nearest image
   pub slave_kind : (part origin : Mount ℕ) (master group : ℕ) → nat_eq part.number place.mount ≡ false
@@ -108,10 +97,8 @@ module _ (world : World ℕ) (new : Copies ℕ) (place : Location ℕ) (moves : 
 
   -- the image of another group than the destination's is new
   pub image_new : (origin : Mount ℕ) → Among origin mounts → (group : ℕ) → has_members nat_eq all_parts group ≡ true
-      → is_member_of nat_eq group there ≡ false
-      → has_members nat_eq world.mounts (image_of origin group) ≡ false
-  image_new origin m group has lacks =
-      ap (has_members nat_eq world.mounts)
+      → is_member_of nat_eq group there ≡ false → has_members nat_eq world.mounts (image_of origin group) ≡ false
+  image_new origin m group has lacks = ap (has_members nat_eq world.mounts)
       (image_elsewhere world new place moves mounts serve own group origin lacks)
       ∙ unused_members world (new.image group origin.number)
       (serve.unused group origin.number has (is_one_of mounts origin m))
@@ -122,15 +109,13 @@ module _ (world : World ℕ) (new : Copies ℕ) (place : Location ℕ) (moves : 
       → (after world new place moves mounts serve own).master (image_of origin group) ≡ Some (image_of origin near)
   lower_master part origin m n group above near e lacks up found =
       master_elsewhere world new place moves mounts serve own part origin m n group (shared_member group part e) lacks
-      ∙ ap (nearest world new place moves mounts serve own origin) up
-      ∙ ap (option_map (image_of origin)) found
+      ∙ ap (nearest world new place moves mounts serve own origin) up ∙ ap (option_map (image_of origin)) found
 
   -- the groups that are made at a shared destination
   pub private_there : (origin : Mount ℕ) → Among origin mounts → (group : ℕ) → group_of there.propagation ≡ Some group
       → origin.propagation ≡ Private
       → (after world new place moves mounts serve own).master (new.image group origin.number) ≡ None
-  private_there origin m group e f =
-      master_there world new place moves mounts serve own origin m group e Private f refl
+  private_there origin m group e f = master_there world new place moves mounts serve own origin m group e Private f refl
 
   pub slave_there : (origin : Mount ℕ) → Among origin mounts → (group master : ℕ)
       → group_of there.propagation ≡ Some group → origin.propagation ≡ Slave master
@@ -140,7 +125,5 @@ module _ (world : World ℕ) (new : Copies ℕ) (place : Location ℕ) (moves : 
 
   pub there_new : (origin : Mount ℕ) → Among origin mounts → (group : ℕ) → group_of there.propagation ≡ Some group
       → has_members nat_eq world.mounts (new.image group origin.number) ≡ false
-  there_new origin m group e =
-      unused_members world (new.image group origin.number)
-      (serve.unused group origin.number
+  there_new origin m group e = unused_members world (new.image group origin.number) (serve.unused group origin.number
       (takes_part_in world new place moves mounts serve own there group (inl refl) e) (is_one_of mounts origin m))

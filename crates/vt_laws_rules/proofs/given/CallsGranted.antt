@@ -18,30 +18,25 @@ use Rattle.vt_spec.specs.Language.Answers.{Answer}
 pub call_holds : (P : World ℕ → Type 0) (fresh : Fresh ℕ) (world : World ℕ) (task : Task ℕ) (call : Call) → P world
     → ((permit : Permit ℕ)
     → IsGranted nat_eq (looks_of nat_eq world) (overfills nat_eq fresh world task) task call permit
-    → P (apply nat_eq fresh world task permit).world)
-    → P (call_outcome nat_eq fresh world task call).world
+    → P (apply nat_eq fresh world task permit).world) → P (call_outcome nat_eq fresh world task call).world
 call_holds P fresh world task call p h = by (judge_in nat_eq fresh world task call) refl
   where
     by : (judgement : Judgement ℕ) → judge_in nat_eq fresh world task call ≡ judgement
         → P (after world judgement (apply nat_eq fresh world task)).world
-    by (Ok permit) e =
-        h permit
+    by (Ok permit) e = h permit
         (calls_are_granted nat_eq (looks_of nat_eq world) (overfills nat_eq fresh world task) task call permit e)
     by (Err deny) e = p
 
 -- and what holds of that alone holds after a call that is granted
 pub answered_holds : (P : World ℕ → Type 0) (fresh : Fresh ℕ) (world : World ℕ) (task : Task ℕ) (call : Call)
-    (answer : Answer) → (call_outcome nat_eq fresh world task call).answer ≡ Ok answer
-    → ((permit : Permit ℕ)
+    (answer : Answer) → (call_outcome nat_eq fresh world task call).answer ≡ Ok answer → ((permit : Permit ℕ)
     → IsGranted nat_eq (looks_of nat_eq world) (overfills nat_eq fresh world task) task call permit
-    → P (apply nat_eq fresh world task permit).world)
-    → P (call_outcome nat_eq fresh world task call).world
+    → P (apply nat_eq fresh world task permit).world) → P (call_outcome nat_eq fresh world task call).world
 answered_holds P fresh world task call answer granted h = by (judge_in nat_eq fresh world task call) refl granted
   where
     by : (judgement : Judgement ℕ) → judge_in nat_eq fresh world task call ≡ judgement
         → (after world judgement (apply nat_eq fresh world task)).answer ≡ Ok answer
         → P (after world judgement (apply nat_eq fresh world task)).world
-    by (Ok permit) e granted =
-        h permit
+    by (Ok permit) e granted = h permit
         (calls_are_granted nat_eq (looks_of nat_eq world) (overfills nat_eq fresh world task) task call permit e)
     by (Err deny) e granted = absurd (true≢false (sym (ap is_ok granted)))

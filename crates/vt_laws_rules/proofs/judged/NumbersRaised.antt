@@ -59,8 +59,7 @@ filesystem_same : (changed : List ℕ) (filesystem : Filesystem ℕ)
     → bare_filesystem (raised_if_changed nat_eq changed filesystem) ≡ bare_filesystem filesystem
 filesystem_same changed filesystem = by (list_any (λ number. nat_eq number filesystem.number) changed)
   where
-    by : (b : Bool)
-        → bare_filesystem (cond b (record filesystem { change = raised filesystem.change }) filesystem)
+    by : (b : Bool) → bare_filesystem (cond b (record filesystem { change = raised filesystem.change }) filesystem)
         ≡ bare_filesystem filesystem
     by true = refl
     by false = refl
@@ -69,8 +68,7 @@ filesystem_rises : (changed : List ℕ) (filesystem : Filesystem ℕ)
     → MayRise filesystem.change (raised_if_changed nat_eq changed filesystem).change
 filesystem_rises changed filesystem = by (list_any (λ number. nat_eq number filesystem.number) changed)
   where
-    by : (b : Bool)
-        → MayRise filesystem.change
+    by : (b : Bool) → MayRise filesystem.change
         (cond b (record filesystem { change = raised filesystem.change }) filesystem).change
     by true = raised_is filesystem.change
     by false = inl refl
@@ -79,8 +77,7 @@ namespace_same : (before left : World ℕ) (namespace : Namespace ℕ)
     → bare_namespace (raised_namespace nat_eq before left namespace) ≡ bare_namespace namespace
 namespace_same before left namespace = by (same_mounts_in nat_eq before left namespace.number)
   where
-    by : (b : Bool)
-        → bare_namespace (cond b namespace (record namespace { change = raised namespace.change }))
+    by : (b : Bool) → bare_namespace (cond b namespace (record namespace { change = raised namespace.change }))
         ≡ bare_namespace namespace
     by true = refl
     by false = refl
@@ -89,8 +86,7 @@ namespace_rises : (before left : World ℕ) (namespace : Namespace ℕ)
     → MayRise namespace.change (raised_namespace nat_eq before left namespace).change
 namespace_rises before left namespace = by (same_mounts_in nat_eq before left namespace.number)
   where
-    by : (b : Bool)
-        → MayRise namespace.change
+    by : (b : Bool) → MayRise namespace.change
         (cond b namespace (record namespace { change = raised namespace.change })).change
     by true = inl refl
     by false = raised_is namespace.change
@@ -113,29 +109,23 @@ module _ (before : World ℕ) (name : TaskName) (changed : List ℕ) where
   world_same : (left : World ℕ)
       → without_changes (numbers_raised nat_eq before name changed left) ≡ without_changes left
   world_same left = λ i. record (without_changes left) {
-    filesystems =
-        all_same (λ filesystem. filesystem.change) bare_filesystem (raised_if_changed nat_eq changed)
+    filesystems = all_same (λ filesystem. filesystem.change) bare_filesystem (raised_if_changed nat_eq changed)
         (filesystem_same changed) (filesystem_rises changed) left.filesystems i;
-    namespaces =
-        all_same (λ namespace. namespace.change) bare_namespace (raised_namespace nat_eq before left)
+    namespaces = all_same (λ namespace. namespace.change) bare_namespace (raised_namespace nat_eq before left)
         (namespace_same before left) (namespace_rises before left) left.namespaces i;
-    tasks =
-        all_same (λ task. task.change) bare_task (raised_task name) (task_same name) (task_rises name)
-        left.tasks i;
+    tasks = all_same (λ task. task.change) bare_task (raised_task name) (task_same name) (task_rises name) left.tasks i;
   }
 
   world_rises : (left : World ℕ)
       → AreRaised (change_numbers left) (change_numbers (numbers_raised nat_eq before name changed left))
   world_rises left = (
     raised_is left.change,
-    rise_on _ _ _ _
-        (rise_on _ _ _ _
+    rise_on _ _ _ _ (rise_on _ _ _ _
         (all_rise (λ filesystem. filesystem.change) bare_filesystem (raised_if_changed nat_eq changed)
         (filesystem_same changed) (filesystem_rises changed) left.filesystems)
         (all_rise (λ namespace. namespace.change) bare_namespace (raised_namespace nat_eq before left)
         (namespace_same before left) (namespace_rises before left) left.namespaces))
-        (all_rise (λ task. task.change) bare_task (raised_task name) (task_same name) (task_rises name)
-        left.tasks),
+        (all_rise (λ task. task.change) bare_task (raised_task name) (task_same name) (task_rises name) left.tasks),
   )
 
   abbrev IsLastStep : Outcome ℕ → World ℕ → Outcome ℕ → Type 0
@@ -147,15 +137,12 @@ module _ (before : World ℕ) (name : TaskName) (changed : List ℕ) where
       → IsLastStep under (cond keeps under.world (settled nat_eq under.world))
       (finished_by nat_eq keeps before name changed under)
   finished_last true under = (refl, refl, none_rise (change_numbers under.world))
-  finished_last false under =
-      (refl, world_same (settled nat_eq under.world), world_rises (settled nat_eq under.world))
+  finished_last false under = (refl, world_same (settled nat_eq under.world), world_rises (settled nat_eq under.world))
 
 pub last_step_raises_numbers_alone : LastStepRaisesNumbersAlone
 last_step_raises_numbers_alone fresh world name task call there =
-    subst (λ found. IsLastStep world name [] under (left_by call under)
-    (after world (ok_or found (denial S2)) (λ one.
-    finished nat_eq world name call
-    (filesystems_changed_by nat_eq world (judge_in nat_eq fresh world one call))
+    subst (λ found. IsLastStep world name [] under (left_by call under) (after world (ok_or found (denial S2)) (λ one.
+    finished nat_eq world name call (filesystems_changed_by nat_eq world (judge_in nat_eq fresh world one call))
     (call_outcome nat_eq fresh world one call)))) (sym there)
     (finished_last world name _ (only_looks call || not (is_ok under.answer)) under)
   where

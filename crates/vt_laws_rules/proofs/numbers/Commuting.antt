@@ -59,36 +59,27 @@ module _ (S T : Type 0 → Type 0) (given : Named S) (made : Named T)
       → ((number : N) → e.0 (back number) ≡ number) → (s : S M)
       → make N eq (given.rename M N e.0 back s) ≡ made.rename M N e.0 back (make M (λ a b. eq (e.0 a) (e.0 b)) s)
   unfolding id_equiv
-  commutes {M} {N} e eq =
-      equiv_j
+  commutes {M} {N} e eq = equiv_j
       (λ (A : Type 0) (e : A ≃ N). (back : N → A) → ((number : N) → e.0 (back number) ≡ number) → (s : S A)
       → make N eq (given.rename A N e.0 back s) ≡ made.rename A N e.0 back (make A (λ a b. eq (e.0 a) (e.0 b)) s))
       (λ back there_back s.
       subst (λ (b : N → N). make N eq (given.rename N N (λ n. n) b s) ≡ made.rename N N (λ n. n) b (make N eq s))
-      (λ i number. sym (there_back number) i)
-      (ap (make N eq) (given.itself N s) ∙ sym (made.itself N (make N eq s))))
-      e
+      (λ i number. sym (there_back number) i) (ap (make N eq) (given.itself N s) ∙ sym (made.itself N (make N eq s)))) e
 
 -- two numbers have two numbers
 pub stay_apart : {N M : Type 0} (renaming : Renaming N M) (a b : N) → renaming.there a ≡ renaming.there b → a ≡ b
 stay_apart renaming a b e = sym (renaming.back_there a) ∙ ap renaming.back e ∙ renaming.back_there b
 
 same_test : (renaming : Renaming ℕ ℕ) (a b : ℕ) → nat_eq (renaming.there a) (renaming.there b) ≡ nat_eq a b
-same_test renaming a b =
-    ⊎_elim
-    (λ t. eq-eqb (renaming.there a) (renaming.there b) (ap renaming.there t.1) ∙ sym t.0)
-    (λ t. ne_eqb (renaming.there a) (renaming.there b) (λ e. t.1 (stay_apart renaming a b e)) ∙ sym t.0)
-    (eqb_tells a b)
+same_test renaming a b = ⊎_elim (λ t. eq-eqb (renaming.there a) (renaming.there b) (ap renaming.there t.1) ∙ sym t.0)
+    (λ t. ne_eqb (renaming.there a) (renaming.there b) (λ e. t.1 (stay_apart renaming a b e)) ∙ sym t.0) (eqb_tells a b)
 
 -- So does what is made for the numbers that the definitions are run with.
 pub commutes_nat : (S T : Type 0 → Type 0) (given : Named S) (made : Named T)
-    (make : (A : Type 0) → (A → A → Bool) → S A → T A)
-    → (renaming : Renaming ℕ ℕ) (s : S ℕ)
+    (make : (A : Type 0) → (A → A → Bool) → S A → T A) → (renaming : Renaming ℕ ℕ) (s : S ℕ)
     → make ℕ nat_eq (given.rename ℕ ℕ renaming.there renaming.back s)
     ≡ made.rename ℕ ℕ renaming.there renaming.back (make ℕ nat_eq s)
-commutes_nat S T given made make renaming s =
-    commutes S T given made make
-    (iso_to_equiv
+commutes_nat S T given made make renaming s = commutes S T given made make (iso_to_equiv
     (record { fun = renaming.there; inv = renaming.back; rinv = renaming.there_back; linv = renaming.back_there }))
     nat_eq renaming.back renaming.there_back s
     ∙ ap (λ (eq : ℕ → ℕ → Bool). made.rename ℕ ℕ renaming.there renaming.back (make ℕ eq s))

@@ -53,8 +53,7 @@ module _ (named : ℕ → Bool) (renaming : Renaming ℕ ℕ) (leaves : Leaves r
           absurd (true≢false (sym e ∙ ap named (sym (leaves (back number) e) ∙ renaming.there_back number) ∙ out))
 
   found_left : {A : Type 0} (f : A → A) (test : A → Bool) → ((a : A) → test a ≡ true → f a ≡ a) → (find : ℕ → Option A)
-      → IsFoundAmong named test find
-      → (number : ℕ) → option_map f (find (back number)) ≡ find number
+      → IsFoundAmong named test find → (number : ℕ) → option_map f (find (back number)) ≡ find number
   found_left f test same find found number = by (named number) refl
     where
       by : (b : Bool) → named number ≡ b → option_map f (find (back number)) ≡ find number
@@ -156,13 +155,12 @@ module _ (named : ℕ → Bool) (renaming : Renaming ℕ ℕ) (leaves : Leaves r
 
   descriptor_left : (descriptor : Descriptor ℕ) → descriptor_named named descriptor ≡ true
       → renamed_descriptor there back descriptor ≡ descriptor
-  descriptor_left descriptor e =
-      λ i. record {
-        number = descriptor.number;
-        location = location_left descriptor.location e i;
-        reads = descriptor.reads;
-        writes = descriptor.writes;
-      }
+  descriptor_left descriptor e = λ i. record {
+    number = descriptor.number;
+    location = location_left descriptor.location e i;
+    reads = descriptor.reads;
+    writes = descriptor.writes;
+  }
 
   task_left : (task : Task ℕ) → task_named named task ≡ true → renamed_task there back task ≡ task
   task_left task e =

@@ -106,11 +106,9 @@ module _ {N : Type 0} where
   supply_itself = option_itself (renamed_supply (λ n. n) (λ n. n)) (λ fresh. refl)
 
   progress_itself : (progress : Progress N) → renamed_progress (λ n. n) (λ n. n) progress ≡ progress
-  progress_itself progress =
-      λ i. record progress {
-        filesystems = map_itself (renamed_held (λ n. n) (λ n. n))
-            (λ held. refl) progress.filesystems i;
-      }
+  progress_itself progress = λ i. record progress {
+    filesystems = map_itself (renamed_held (λ n. n) (λ n. n)) (λ held. refl) progress.filesystems i;
+  }
 
   pub sched_itself : (sched : Sched N) → renamed_sched (λ n. n) (λ n. n) sched ≡ sched
   sched_itself sched = λ i. record {
@@ -125,29 +123,25 @@ module _ {N : Type 0} where
 abbrev pub named_world : Named World
 named_world = record {
   rename = λ A B there back world. renamed there back world;
-  itself = λ A world.
-      renamed_itself world;
+  itself = λ A world. renamed_itself world;
 }
 
 abbrev pub named_outcome : Named Outcome
 named_outcome = record {
   rename = λ A B there back outcome. renamed_outcome there back outcome;
-  itself = λ A outcome.
-      outcome_itself outcome;
+  itself = λ A outcome. outcome_itself outcome;
 }
 
 abbrev pub named_step : Named Step
 named_step = record {
   rename = λ A B there back step. renamed_step there back step;
-  itself = λ A step.
-      step_itself step;
+  itself = λ A step. step_itself step;
 }
 
 abbrev pub named_turned : Named Turned
 named_turned = record {
   rename = λ A B there back turned. renamed_turned there back turned;
-  itself = λ A turned.
-      turned_itself turned;
+  itself = λ A turned. turned_itself turned;
 }
 
 -- a supply of new numbers beside a world, or beside calls under way
@@ -181,13 +175,11 @@ named_turn = record {
 
 -- calls and lines
 pub calls_renamed : CallsDoNotSeeNumbers
-calls_renamed renaming fresh world name call =
-    commutes_nat Handed Outcome named_handed named_outcome
+calls_renamed renaming fresh world name call = commutes_nat Handed Outcome named_handed named_outcome
     (λ A eq handed. policy eq handed.0 handed.1 name call) renaming (fresh, world)
 
 pub lines_renamed : LinesDoNotSeeNumbers
-lines_renamed renaming grammar fresh world line =
-    commutes_nat HandedLine Step named_line named_step
+lines_renamed renaming grammar fresh world line = commutes_nat HandedLine Step named_line named_step
     (λ A eq handed. line_step eq grammar handed.1 line handed.0) renaming (fresh, world)
 
 -- worlds that are the same but for their numbers
@@ -196,8 +188,7 @@ same_worlds_answer_alike world other same fresh name call =
     let renaming : Renaming ℕ ℕ =
     record { there = same.there; back = same.back; there_back = same.there_back; back_there = same.back_there } in
     let alike : policy nat_eq (renamed_supply same.there same.back fresh) other name call
-    ≡ renamed_outcome same.there same.back
-    (policy nat_eq fresh world name call) =
+    ≡ renamed_outcome same.there same.back (policy nat_eq fresh world name call) =
     ap (λ w. policy nat_eq (renamed_supply same.there same.back fresh) w name call) (sym same.same)
     ∙ calls_renamed renaming fresh world name call in (
       ap (λ outcome. outcome.answer) alike,

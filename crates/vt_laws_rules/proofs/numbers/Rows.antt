@@ -59,8 +59,7 @@ row_above number a b e =
 
 col_above : (number a b : ℕ) → number ≡ 4 + number_in_row a b → col number ≡ place_in a b
 unfolding col col_by
-col_above number a b e =
-    ap (λ t. col_by t number) (le-ltb number 4 (omega arith))
+col_above number a b e = ap (λ t. col_by t number) (le-ltb number 4 (omega arith))
     ∙ ap (λ (c : ℕ × ℕ). place_in c.0 c.1) (cell_above number a b e)
 
 spread_later : (place : ℕ) → 4 ≤ place → spread 0 place ≡ 4 + number_in_row 0 (place - 4)

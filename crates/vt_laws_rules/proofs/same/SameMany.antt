@@ -86,17 +86,14 @@ module _ (world : World ℕ) (others : List (Filesystem ℕ)) (namespaces : List
       → SameFilesystem (filesystem_numbered nat_eq world number) (filesystem_numbered nat_eq other number)
   found number = found_same number world.filesystems others same
 
-  takes_same : (place : Location ℕ) (mount : Mount ℕ)
-      → takes_part nat_eq world place mount
+  takes_same : (place : Location ℕ) (mount : Mount ℕ) → takes_part nat_eq world place mount
       ≡ takes_part nat_eq other place mount
-  takes_same place mount =
-      ap (λ b. not (nat_eq place.mount mount.number) && is_some mount.namespace
+  takes_same place mount = ap (λ b. not (nat_eq place.mount mount.number) && is_some mount.namespace
       && nat_eq (mount_at nat_eq world place).filesystem mount.filesystem && b)
       (directory_under_same _ _ (found mount.filesystem).files mount.root place.node)
 
   parts_same : (place : Location ℕ) → parts_of nat_eq world place ≡ parts_of nat_eq other place
-  parts_same place = λ i.
-      mount_at nat_eq world place
+  parts_same place = λ i. mount_at nat_eq world place
       ∷ filter (λ mount. takes_same place mount i) (receivers_of nat_eq world (mount_at nat_eq world place))
 
   type_same : (new : Copies ℕ) (parts : List (Mount ℕ)) (destination : Mount ℕ) (twig : Twig ℕ) (kind : Propagation ℕ)
@@ -113,13 +110,11 @@ module _ (world : World ℕ) (others : List (Filesystem ℕ)) (namespaces : List
       number = copy_number nat_eq new graft part.number twig.origin.number;
       namespace = part.namespace;
       mount_point = Some (copy_mount_point nat_eq new graft part.number twig.origin);
-      propagation =
-          cond (is_destination nat_eq graft part.number) twig.propagation
+      propagation = cond (is_destination nat_eq graft part.number) twig.propagation
           (type_same new parts (mount_at nat_eq world graft.destination) twig part.propagation i);
     }
 
-    copies_same : (part : Mount ℕ)
-        → copies_at nat_eq world new graft parts part
+    copies_same : (part : Mount ℕ) → copies_at nat_eq world new graft parts part
         ≡ copies_at nat_eq other new graft parts part
     copies_same part = λ i. map (λ twig. copy_same part twig i) graft.twigs
 
@@ -130,17 +125,14 @@ module _ (world : World ℕ) (others : List (Filesystem ℕ)) (namespaces : List
         record mount { mount_point = Some (top_of_copies nat_eq (copies_same part i) graft.destination) }
 
     mounts_same : (attached_at nat_eq world new graft parts).mounts ≡ (attached_at nat_eq other new graft parts).mounts
-    mounts_same = λ i.
-        map (λ mount. pushed_same mount (receiver_stood_on nat_eq graft parts mount) i)
+    mounts_same = λ i. map (λ mount. pushed_same mount (receiver_stood_on nat_eq graft parts mount) i)
         (with_moved_mounts nat_eq graft.moves world.mounts (copies_same (mount_at nat_eq world graft.destination) i))
         ++ added_mounts graft.moves (copies_same (mount_at nat_eq world graft.destination) i)
         ++ flat_map (λ part. copies_same part i) (rest_of parts)
 
     many_there : has_too_many nat_eq (attached_at nat_eq world new graft parts)
         ≡ has_too_many nat_eq (attached_at nat_eq other new graft parts)
-    many_there =
-        any (λ number. nat_lt most_mounts
-        (length (filter (λ mount. holds_of (nat_eq number) mount.namespace)
+    many_there = any (λ number. nat_lt most_mounts (length (filter (λ mount. holds_of (nat_eq number) mount.namespace)
         (attached_at nat_eq world new graft parts).mounts)))
         ∙ (λ i. list_any (λ (namespace : Namespace ℕ). nat_lt most_mounts
         (length (filter (λ mount. holds_of (nat_eq namespace.number) mount.namespace) (mounts_same i)))) namespaces)
@@ -148,16 +140,14 @@ module _ (world : World ℕ) (others : List (Filesystem ℕ)) (namespaces : List
   attach_same : (fresh : Fresh ℕ) (place : Location ℕ) (moves : Bool) (mounts : List (Mount ℕ))
       → has_too_many nat_eq (attach nat_eq world fresh place moves mounts)
       ≡ has_too_many nat_eq (attach nat_eq other fresh place moves mounts)
-  attach_same fresh place moves mounts =
-      many_there (copies_from nat_eq fresh (parts_of nat_eq world place) mounts)
+  attach_same fresh place moves mounts = many_there (copies_from nat_eq fresh (parts_of nat_eq world place) mounts)
       (graft_of nat_eq world (copies_from nat_eq fresh (parts_of nat_eq world place) mounts) place moves mounts)
       (parts_of nat_eq world place)
       ∙ (λ i. has_too_many nat_eq (attached_at nat_eq other (copies_from nat_eq fresh (parts_same place i) mounts)
       (graft_of nat_eq world (copies_from nat_eq fresh (parts_same place i) mounts) place moves mounts)
       (parts_same place i)))
 
-  under : (source : Location ℕ) (mount : Mount ℕ)
-      → stands_under nat_eq world source mount
+  under : (source : Location ℕ) (mount : Mount ℕ) → stands_under nat_eq world source mount
       ≡ stands_under nat_eq other source mount
   under source mount = λ i.
       holds_of (λ (place : Location ℕ). directory_under_same _ _ (found (mount_at nat_eq world source).filesystem).files
@@ -169,8 +159,7 @@ module _ (world : World ℕ) (others : List (Filesystem ℕ)) (namespaces : List
   bound_same fresh source place false = attach_same fresh place false (bound nat_eq world source ∷ [])
   bound_same fresh source place true =
       attach_same fresh place false (Rattle.vt_spec.specs.Machine.Attach.bind_tree nat_eq world source true)
-      ∙ (λ i. has_too_many nat_eq (attach nat_eq other fresh place false
-      (bound nat_eq world source
+      ∙ (λ i. has_too_many nat_eq (attach nat_eq other fresh place false (bound nat_eq world source
       ∷ flat_map (bindable_tree nat_eq (length world.mounts) world.mounts)
       (filter (λ mount. under source mount i) (bindable_children nat_eq world.mounts source.mount)))))
 
@@ -179,8 +168,7 @@ module _ (world : World ℕ) (others : List (Filesystem ℕ)) (namespaces : List
 
   overlay_same : (fresh : Fresh ℕ) (overlay : Overlay ℕ)
       → overlay_filesystem nat_eq fresh world overlay ≡ overlay_filesystem nat_eq fresh other overlay
-  overlay_same fresh overlay = λ i.
-      overlay_of_inodes nat_eq (evens fresh 0) (odds fresh 0) overlay
+  overlay_same fresh overlay = λ i. overlay_of_inodes nat_eq (evens fresh 0) (odds fresh 0) overlay
       (merged_inodes nat_eq (odds fresh) (is_some overlay.upper)
       (map (λ layer. opened_same layer i) (shown_layers overlay))
       (merged_objects (map (λ layer. opened_same layer i) (shown_layers overlay))
@@ -212,8 +200,7 @@ module _ (world : World ℕ) (others : List (Filesystem ℕ)) (namespaces : List
       (overlay_same world others namespaces tasks change same any (evens fresh) overlay i) flags))
   many_same fresh task (ToBind source place recursive) =
       bound_same world others namespaces tasks change same any fresh source place recursive
-  many_same fresh task (ToMove mount place) =
-      attach_same world others namespaces tasks change same any fresh place true
+  many_same fresh task (ToMove mount place) = attach_same world others namespaces tasks change same any fresh place true
       (mount_tree nat_eq world.mounts (mount_numbered nat_eq world mount))
   many_same fresh task permit = refl
 
@@ -222,20 +209,16 @@ same_worlds_judge_alike one other same alone fresh task call =
     only_attaches (looks_of nat_eq one) (overfills nat_eq fresh one task) task call
     ∙ (λ i. judge nat_eq (looks_of nat_eq one) (λ permit. many permit i) task call)
     ∙ same_worlds_are_judged_alike one other same alone
-    (λ permit. attaches permit && overfills nat_eq fresh other task permit)
-    task call
+    (λ permit. attaches permit && overfills nat_eq fresh other task permit) task call
     ∙ sym (only_attaches (looks_of nat_eq other) (overfills nat_eq fresh other task) task call)
   where
-    any : (test : ℕ → Bool)
-        → list_any (λ (namespace : Namespace ℕ). test namespace.number) one.namespaces
+    any : (test : ℕ → Bool) → list_any (λ (namespace : Namespace ℕ). test namespace.number) one.namespaces
         ≡ list_any (λ (namespace : Namespace ℕ). test namespace.number) other.namespaces
-    any test =
-        sym (any_bare test one.namespaces)
+    any test = sym (any_bare test one.namespaces)
         ∙ ap (list_any (λ (namespace : Namespace ℕ). test namespace.number)) same.namespaces
         ∙ any_bare test other.namespaces
 
-    many : (permit : Permit ℕ)
-        → (attaches permit && overfills nat_eq fresh one task permit)
+    many : (permit : Permit ℕ) → (attaches permit && overfills nat_eq fresh one task permit)
         ≡ (attaches permit && overfills nat_eq fresh other task permit)
     many permit =
         many_same one other.filesystems other.namespaces other.tasks other.change same.filesystems any fresh task permit

@@ -31,8 +31,7 @@ module _ {A B : Type 0} (R : A → B → Type 0) where
   each_append [] [] more again each rest = rest
   each_append [] (b ∷ others) more again each rest = absurd each
   each_append (a ∷ ones) [] more again each rest = absurd each
-  each_append (a ∷ ones) (b ∷ others) more again each rest =
-      (each.0, each_append ones others more again each.1 rest)
+  each_append (a ∷ ones) (b ∷ others) more again each rest = (each.0, each_append ones others more again each.1 rest)
 
   module _ (p : A → Bool) (q : B → Bool) (alike : (a : A) (b : B) → R a b → p a ≡ q b) where
     pub each_any : (ones : List A) (others : List B) → Each ones others → list_any p ones ≡ list_any q others

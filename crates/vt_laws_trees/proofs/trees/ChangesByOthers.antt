@@ -63,8 +63,7 @@ files_stay fresh world task ToUnshare e = filesystems-taken_away (unshared nat_e
 files_stay fresh world task (ToEnterNamespace namespace) e =
     filesystems-taken_away (namespace_entered nat_eq world task namespace) _
 files_stay fresh world task (ToUnmount mount) e = filesystems-taken_away world _
-files_stay fresh world task (ToUnmountLazily mount) e =
-    lazily_filesystems
+files_stay fresh world task (ToUnmountLazily mount) e = lazily_filesystems
     (deepest_first nat_eq world (mount_tree nat_eq world.mounts (mount_numbered nat_eq world mount))) world
 files_stay fresh world task (ToSetType mount word recursive) e = typed_filesystems fresh world mount word recursive
 files_stay fresh world task permit e = refl

@@ -17,8 +17,7 @@ pub record KeepsPlace (change : Option (Node ℕ) → Option (Node ℕ)) : Type 
 
 -- what a change of one inode keeps of it is kept at every inode
 pub part_stays : {A : Type 0} (files : FileTree ℕ) (number : ℕ) (change : Option (Node ℕ) → Option (Node ℕ))
-    (part : Option (Node ℕ) → A)
-    → ((o : Option (Node ℕ)) → part (change o) ≡ part o)
+    (part : Option (Node ℕ) → A) → ((o : Option (Node ℕ)) → part (change o) ≡ part o)
     → (other : ℕ) → part ((changed_node nat_eq files number change).tree.node other) ≡ part (files.tree.node other)
 part_stays files number change part same other =
     part_kept part files.tree number (change (files.tree.node number)) (same (files.tree.node number)) other
@@ -29,8 +28,7 @@ pub changed_node_there : (files : FileTree ℕ) (number : ℕ) (change : Option 
 changed_node_there files number change = node_set files.tree number (change (files.tree.node number))
 
 pub elsewhere : (files : FileTree ℕ) (number : ℕ) (change : Option (Node ℕ) → Option (Node ℕ)) (other : ℕ)
-    → other ≢ number
-    → (changed_node nat_eq files number change).tree.node other ≡ files.tree.node other
+    → other ≢ number → (changed_node nat_eq files number change).tree.node other ≡ files.tree.node other
 elsewhere files number change other differ = node_other files.tree number (change (files.tree.node number)) other differ
 
 -- other attributes

@@ -18,8 +18,7 @@ mapped_none f (Some a) e = absurd (true≢false (ap is_some e))
 module _ (world : World ℕ) where
   -- a name that is missing, in a directory that is not removed, is free
   pub place_is_free : (place : Place ℕ) → IsFilePlace world place → is_special place.last ≡ false
-      → is_some place.object ≡ false
-      → NoneFails (new_name_rules nat_eq world place)
+      → is_some place.object ≡ false → NoneFails (new_name_rules nat_eq world place)
       → IsFileTree (files_at nat_eq world place.parent)
       → IsFree (files_at nat_eq world place.parent).tree place.parent.node (name_of place.last)
   place_is_free place is plain missing passed conditions =

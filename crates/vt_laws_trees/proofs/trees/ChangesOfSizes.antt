@@ -32,14 +32,11 @@ put_fits : (name : List ℕ) (number : ℕ) (entries : Entries ℕ) → is_fit_n
     → list_all is_fit_name (map (λ e. e.0) entries) ≡ true
     → list_all is_fit_name (map (λ e. e.0) (with_entry name number entries)) ≡ true
 put_fits name number [] h k = both (is_fit_name name) true h refl
-put_fits name number (entry ∷ entries) h k =
-    by (name_cmp name entry.0)
-    (put_fits name number entries h
+put_fits name number (entry ∷ entries) h k = by (name_cmp name entry.0) (put_fits name number entries h
     ((and_parts (is_fit_name entry.0) (list_all is_fit_name (map (λ e. e.0) entries)) k).1))
   where
     by : (o : Ordering) → list_all is_fit_name (map (λ e. e.0) (with_entry name number entries)) ≡ true
-        → list_all is_fit_name
-        (map (λ e. e.0)
+        → list_all is_fit_name (map (λ e. e.0)
         (by_order o ((name, number) ∷ entry ∷ entries) ((entry.0, number) ∷ entries)
         (entry ∷ with_entry name number entries))) ≡ true
     by Less rest = both (is_fit_name name) (list_all is_fit_name (map (λ e. e.0) (entry ∷ entries))) h k
@@ -51,14 +48,12 @@ put_fits name number (entry ∷ entries) h k =
 filter_fits : (stays : List ℕ × ℕ → Bool) (entries : Entries ℕ) → list_all is_fit_name (map (λ e. e.0) entries) ≡ true
     → list_all is_fit_name (map (λ e. e.0) (filter stays entries)) ≡ true
 filter_fits stays [] k = refl
-filter_fits stays (entry ∷ entries) k =
-    by (stays entry) (filter_fits stays entries
+filter_fits stays (entry ∷ entries) k = by (stays entry) (filter_fits stays entries
     ((and_parts (is_fit_name entry.0) (list_all is_fit_name (map (λ e. e.0) entries)) k).1))
   where
     by : (b : Bool) → list_all is_fit_name (map (λ e. e.0) (filter stays entries)) ≡ true
         → list_all is_fit_name (map (λ e. e.0) (cond b (entry ∷ filter stays entries) (filter stays entries))) ≡ true
-    by true rest =
-        both (is_fit_name entry.0) (list_all is_fit_name (map (λ e. e.0) (filter stays entries)))
+    by true rest = both (is_fit_name entry.0) (list_all is_fit_name (map (λ e. e.0) (filter stays entries)))
         ((and_parts (is_fit_name entry.0) (list_all is_fit_name (map (λ e. e.0) entries)) k).0) rest
     by false rest = rest
 
@@ -139,8 +134,7 @@ bytes_fit bytes h (Some node) k = by node.attr node.content k
 
 -- Trees
 all_alike : (test other : ℕ → Bool) → ((n : ℕ) → test n ≡ true → other n ≡ true) → (list : List ℕ)
-    → list_all test list ≡ true
-    → list_all other list ≡ true
+    → list_all test list ≡ true → list_all other list ≡ true
 all_alike test other keeps [] h = refl
 all_alike test other keeps (n ∷ list) h =
     both (other n) (list_all other list) (keeps n ((and_parts (test n) (list_all test list) h).0))
@@ -149,8 +143,7 @@ all_alike test other keeps (n ∷ list) h =
 pub changed_fits_there : (files : FileTree ℕ) (number : ℕ) (change : Option (Node ℕ) → Option (Node ℕ))
     → (fits (files.tree.node number) ≡ true → fits (change (files.tree.node number)) ≡ true)
     → is_fit_tree files ≡ true → is_fit_tree (changed_node nat_eq files number change) ≡ true
-changed_fits_there files number change keeps h =
-    all_alike (λ n. fits (files.tree.node n))
+changed_fits_there files number change keeps h = all_alike (λ n. fits (files.tree.node n))
     (λ n. fits ((changed_node nat_eq files number change).tree.node n)) one files.numbers h
   where
     one : (n : ℕ) → fits (files.tree.node n) ≡ true
@@ -174,8 +167,7 @@ unparented_fits files (Some object) h = changed_fits files object (node_with_par
 
 pub inode_fits : (files : FileTree ℕ) (number : ℕ) (node : Node ℕ) → is_fit_node node ≡ true → is_fit_tree files ≡ true
     → is_fit_tree (with_inode nat_eq files number node) ≡ true
-inode_fits files number node k h =
-    both (fits ((with_inode nat_eq files number node).tree.node number))
+inode_fits files number node k h = both (fits ((with_inode nat_eq files number node).tree.node number))
     (list_all (λ n. fits ((with_inode nat_eq files number node).tree.node n)) files.numbers)
     (ap (λ b. fits (cond b (Some node) (files.tree.node number))) (eq-eqb number number refl) ∙ k)
     (all_alike (λ n. fits (files.tree.node n))
@@ -191,8 +183,7 @@ inode_fits files number node k h =
 pub changes_keep_sizes : ChangesKeepSizes
 changes_keep_sizes files (Make directory name number node) h fit =
     changed_fits (with_inode nat_eq files number node) directory (node_with_entry name number)
-    (entry_fits name number fit.0)
-    (inode_fits files number node fit.1 h)
+    (entry_fits name number fit.0) (inode_fits files number node fit.1 h)
 changes_keep_sizes files (AddName directory name object) h fit =
     changed_fits files directory (node_with_entry name object) (entry_fits name object fit) h
 changes_keep_sizes files (Remove directory name object) h fit =
@@ -239,8 +230,7 @@ used_fits world false filesystem h = h
 
 round_fits : (chosen : Filesystem ℕ → Bool) (world : World ℕ) → list_all is_fit_filesystem world.filesystems ≡ true
     → list_all is_fit_filesystem (without_dead_in nat_eq chosen world).filesystems ≡ true
-round_fits chosen world h =
-    all_mapped is_fit_filesystem (λ f. only_used nat_eq world (chosen f) f)
+round_fits chosen world h = all_mapped is_fit_filesystem (λ f. only_used nat_eq world (chosen f) f)
     (λ f k. used_fits world (chosen f) f k) world.filesystems h
 
 pub settling_keeps_sizes : SettlingKeepsSizes

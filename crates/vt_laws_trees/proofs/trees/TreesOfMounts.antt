@@ -18,8 +18,7 @@ use Rattle.vt_spec.proofs.Truths.{or_false_left}
 none_passes : {A : Type 0} (test : A → Bool) (list : List A) → list_any test list ≡ false
     → All (λ a. test a ≡ false) list
 none_passes test [] h = All-nil (λ a. test a ≡ false)
-none_passes test (a ∷ list) h =
-    All-cons (λ x. test x ≡ false) a list (or_false_left (test a) (list_any test list) h)
+none_passes test (a ∷ list) h = All-cons (λ x. test x ≡ false) a list (or_false_left (test a) (list_any test list) h)
     (none_passes test list ((or_parts (test a) (list_any test list) h).1))
 
 -- where no two mounts have one number, each is found by its number
@@ -27,31 +26,23 @@ pub found_by_number : (mounts : List (Mount ℕ)) → any_pair (λ a b. nat_eq a
     → All (λ mount. mount_in nat_eq mounts mount.number ≡ mount) mounts
 found_by_number [] h = All-nil (λ mount. mount_in nat_eq [] mount.number ≡ mount)
 found_by_number (first ∷ mounts) h =
-    let apart =
-    none_passes (λ b. nat_eq first.number b.number) mounts
+    let apart = none_passes (λ b. nat_eq first.number b.number) mounts
     (or_false_left (list_any (λ b. nat_eq first.number b.number) mounts)
     (any_pair (λ a b. nat_eq a.number b.number) mounts) h) in
-    let rest =
-    found_by_number mounts
-    ((or_parts (list_any (λ b. nat_eq first.number b.number) mounts)
+    let rest = found_by_number mounts ((or_parts (list_any (λ b. nat_eq first.number b.number) mounts)
     (any_pair (λ a b. nat_eq a.number b.number) mounts) h).1) in
     All-cons (λ mount. mount_in nat_eq (first ∷ mounts) mount.number ≡ mount) first mounts
     (ap (λ b. unwrap_or (cond b (Some first) (find (λ m. nat_eq first.number m.number) mounts)) (no_mount first.number))
-    (eq-eqb first.number first.number refl))
-    (λ k d lt. later (slice_index_or mounts k d) (apart k d lt) (rest k d lt))
+    (eq-eqb first.number first.number refl)) (λ k d lt. later (slice_index_or mounts k d) (apart k d lt) (rest k d lt))
   where
     later : (mount : Mount ℕ) → nat_eq first.number mount.number ≡ false → mount_in nat_eq mounts mount.number ≡ mount
         → mount_in nat_eq (first ∷ mounts) mount.number ≡ mount
-    later mount apart found =
-        ap (λ b. unwrap_or (cond b (Some first) (find (λ m. nat_eq mount.number m.number) mounts))
-        (no_mount mount.number))
-        (ne_eqb mount.number first.number
-        (λ same. true≢false (sym (eq-eqb first.number mount.number (sym same)) ∙ apart)))
-        ∙ found
+    later mount apart found = ap (λ b. unwrap_or (cond b (Some first) (find (λ m. nat_eq mount.number m.number) mounts))
+        (no_mount mount.number)) (ne_eqb mount.number first.number
+        (λ same. true≢false (sym (eq-eqb first.number mount.number (sym same)) ∙ apart))) ∙ found
 
 listed_place : (test : Location ℕ → Bool) (o : Option (Location ℕ)) (place : Location ℕ)
-    → list_all test (option_to_list o) ≡ true
-    → o ≡ Some place → test place ≡ true
+    → list_all test (option_to_list o) ≡ true → o ≡ Some place → test place ≡ true
 listed_place test None place h e = none_is_not None place refl e
 listed_place test (Some l) place h e = ap test (sym (ap (λ o. unwrap_or o l) e)) ∙ (and_parts (test l) true h).0
 
@@ -65,10 +56,8 @@ worlds_are_standing world conditions =
     }
   where
     root : (mount : Mount ℕ) → has_its_root nat_eq world mount ≡ true
-        → mount_in nat_eq world.mounts mount.number ≡ mount
-        → is_directory_at nat_eq world (root_of mount) ≡ true
-    root mount has found =
-        ap (λ (m : Mount ℕ). is_directory_node
+        → mount_in nat_eq world.mounts mount.number ≡ mount → is_directory_at nat_eq world (root_of mount) ≡ true
+    root mount has found = ap (λ (m : Mount ℕ). is_directory_node
         ((filesystem_numbered nat_eq world m.filesystem).files.tree.node mount.root)) found
         ∙ (and_parts (is_directory_node
         ((filesystem_numbered nat_eq world mount.filesystem).files.tree.node mount.root))
@@ -76,7 +65,6 @@ worlds_are_standing world conditions =
 
     place : (mount : Mount ℕ) → has_its_root nat_eq world mount ≡ true → (at : Location ℕ) → mount.mount_point ≡ Some at
         → is_directory_at nat_eq world at ≡ true
-    place mount has at e =
-        listed_place (is_directory_at nat_eq world) mount.mount_point at
+    place mount has at e = listed_place (is_directory_at nat_eq world) mount.mount_point at
         ((and_parts (is_directory_node ((filesystem_numbered nat_eq world mount.filesystem).files.tree.node mount.root))
         (list_all (is_directory_at nat_eq world) (option_to_list mount.mount_point)) has).1) e

@@ -53,19 +53,11 @@ pub record IsWithin (task : Task ℕ) : Type 0 where
   pub umask : nat_lt task.umask 512 ≡ true
 
 pub limits_of : (task : Task ℕ) → IsWithin task → is_within_limits task ≡ true
-limits_of task is =
-    both _ (nat_lt task.umask 512)
-    (both _ (nat_le (length task.credentials.groups) 32)
-    (both _ (nat_le (length task.name) deepest_name)
-    (both _ (nat_le task.forks most_forks)
+limits_of task is = both _ (nat_lt task.umask 512) (both _ (nat_le (length task.credentials.groups) 32)
+    (both _ (nat_le (length task.name) deepest_name) (both _ (nat_le task.forks most_forks)
     (both _ (list_all (λ descriptor. nat_lt descriptor.number most_descriptors) task.descriptors)
     (both (nat_le (length task.descriptors) most_descriptors)
-    (are_ascending_from 0 task.descriptors) is.few is.ascending)
-    is.low)
-    is.forks)
-    is.depth)
-    is.groups)
-    is.umask
+    (are_ascending_from 0 task.descriptors) is.few is.ascending) is.low) is.forks) is.depth) is.groups) is.umask
 
 pub within : (task : Task ℕ) → is_within_limits task ≡ true → IsWithin task
 within task is =
@@ -93,8 +85,7 @@ within task is =
 
 -- lists of tasks
 pub all_mapped : {A : Type 0} (test : A → Bool) (change : A → A) → ((a : A) → test a ≡ true → test (change a) ≡ true)
-    → (list : List A)
-    → list_all test list ≡ true → list_all test (map change list) ≡ true
+    → (list : List A) → list_all test list ≡ true → list_all test (map change list) ≡ true
 all_mapped test change keeps [] h = refl
 all_mapped test change keeps (a ∷ list) h =
     both (test (change a)) (list_all test (map change list)) (keeps a ((and_parts (test a) (list_all test list) h).0))
@@ -140,8 +131,7 @@ inserted_length new (descriptor ∷ list) = by (nat_lt new.number descriptor.num
 inserted_all : (test : Descriptor ℕ → Bool) (new : Descriptor ℕ) (list : List (Descriptor ℕ)) → test new ≡ true
     → list_all test list ≡ true → list_all test (inserted new list) ≡ true
 inserted_all test new [] h k = both (test new) true h refl
-inserted_all test new (descriptor ∷ list) h k =
-    by (nat_lt new.number descriptor.number)
+inserted_all test new (descriptor ∷ list) h k = by (nat_lt new.number descriptor.number)
     (inserted_all test new list h ((and_parts (test descriptor) (list_all test list) k).1))
   where
     by : (b : Bool) → list_all test (inserted new list) ≡ true
@@ -165,8 +155,7 @@ inserted_ascending least new (descriptor ∷ list) e h =
 
     by : (b : Bool) → (descriptor.number == least) ≡ b → new.number ≡ cond b (free_from (least + 1) list) least
         → (new.number ≡ free_from (least + 1) list → are_ascending_from (least + 1) list ≡ true
-        → are_ascending_from (least + 1) (inserted new list) ≡ true)
-        → are_ascending_from least
+        → are_ascending_from (least + 1) (inserted new list) ≡ true) → are_ascending_from least
         (cond (nat_lt new.number descriptor.number) (new ∷ descriptor ∷ list) (descriptor ∷ inserted new list)) ≡ true
     by true same f later =
         let is : descriptor.number ≡ least = eqb-true descriptor.number least same in
@@ -181,8 +170,7 @@ inserted_ascending least new (descriptor ∷ list) e h =
         passed above is = le-ltb new.number descriptor.number (omega (arith, f, above, is))
     by false differ f later =
         ap (λ b. are_ascending_from least (cond b (new ∷ descriptor ∷ list) (descriptor ∷ inserted new list)))
-        (lt-ltb new.number descriptor.number below)
-        ∙ both (nat_le least new.number)
+        (lt-ltb new.number descriptor.number below) ∙ both (nat_le least new.number)
         (nat_le (new.number + 1) descriptor.number && are_ascending_from (descriptor.number + 1) list)
         (le-leb least new.number (omega (arith, f)))
         (both (nat_le (new.number + 1) descriptor.number) (are_ascending_from (descriptor.number + 1) list)
@@ -211,8 +199,7 @@ pub opened_within : (task : Task ℕ) (location : Location ℕ) (access : Access
 opened_within task location access is room =
     let limits = within task is in
     let fewer = leb-false most_descriptors (length task.descriptors) room in
-    let new : Descriptor ℕ =
-    record {
+    let new : Descriptor ℕ = record {
       number = free_number task;
       location = location;
       reads = opens_for_reading access;
@@ -240,8 +227,7 @@ closed_within task number is =
           (omega (arith, few, filtered_length (λ descriptor. not (number == descriptor.number)) task.descriptors));
       ascending = ascending-filter
           (λ descriptor. not (number == descriptor.number)) 0 task.descriptors limits.ascending;
-      low =
-          all-filter (λ descriptor. nat_lt descriptor.number most_descriptors)
+      low = all-filter (λ descriptor. nat_lt descriptor.number most_descriptors)
           (λ descriptor. not (number == descriptor.number)) task.descriptors limits.low;
       forks = limits.forks;
       depth = limits.depth;

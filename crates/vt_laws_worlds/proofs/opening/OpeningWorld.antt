@@ -91,17 +91,13 @@ module _ (fresh : Fresh ℕ) where
 
   located : (nat_eq (fresh 0) (fresh 0) || false) && is_some (node_at nat_eq first_world (first_location nat_eq fresh))
       ≡ true
-  located =
-      and_from (nat_eq (fresh 0) (fresh 0)
-      || false) (is_some (node_at nat_eq first_world (first_location nat_eq fresh)))
-      (ap (λ b. b || false) (itself 0))
+  located = and_from (nat_eq (fresh 0) (fresh 0)
+      || false) (is_some (node_at nat_eq first_world (first_location nat_eq fresh))) (ap (λ b. b || false) (itself 0))
       (directory_is_there (node_at nat_eq first_world (first_location nat_eq fresh)) root_is_directory)
 
-  seen : is_directory_at nat_eq first_world (first_location nat_eq fresh)
-      && list_all (nat_eq (fresh 1)) (option_to_list
+  seen : is_directory_at nat_eq first_world (first_location nat_eq fresh) && list_all (nat_eq (fresh 1)) (option_to_list
       (mount_at nat_eq first_world (first_location nat_eq fresh)).namespace) ≡ true
-  seen =
-      and_from (is_directory_at nat_eq first_world (first_location nat_eq fresh)) _ root_is_directory
+  seen = and_from (is_directory_at nat_eq first_world (first_location nat_eq fresh)) _ root_is_directory
       (ap (λ (m : Mount ℕ). list_all (nat_eq (fresh 1)) (option_to_list m.namespace)) found_mount
       ∙ ap (λ b. b && true) (itself 1))
 
@@ -116,9 +112,7 @@ module _ (fresh : Fresh ℕ) where
   }
 
   roots : MountsShow first_world
-  roots =
-      ap (λ b. (b && true) && true)
-      (ap (λ (m : Mount ℕ). is_directory_node
+  roots = ap (λ b. (b && true) && true) (ap (λ (m : Mount ℕ). is_directory_node
       ((filesystem_numbered nat_eq first_world m.filesystem).files.tree.node (fresh 3))) (sym found_mount)
       ∙ root_is_directory)
 
@@ -129,8 +123,7 @@ module _ (fresh : Fresh ℕ) where
         || list_any (λ merged. has_layer_on nat_eq (fresh 2) merged && is_mounted nat_eq first_world merged.number)
         first_world.filesystems) && true) (itself 2);
     inodes = All-cons (λ (f : Filesystem ℕ). list_all (is_inode_used first_world f) f.files.numbers ≡ true)
-        the_filesystem []
-        (ap (λ b. b && true) (or_first (nat_eq (fresh 3) (fresh 3)) _ (itself 3)))
+        the_filesystem [] (ap (λ b. b && true) (or_first (nat_eq (fresh 3) (fresh 3)) _ (itself 3)))
         (All-nil (λ (f : Filesystem ℕ). list_all (is_inode_used first_world f) f.files.numbers ≡ true));
     groups = λ group none. refl;
   }

@@ -58,8 +58,7 @@ module _ (world : World ℕ) (task : Task ℕ) (fresh : Fresh ℕ) where
   written : (number : ℕ) (descriptor : Descriptor ℕ) → list_all (writes_to_a_layer world) task.descriptors ≡ true
       → descriptor_numbered task number ≡ Some descriptor → descriptor.writes ≡ true
       → has_no_upper looks descriptor.location ≡ false
-  written number descriptor well found writes =
-      by (has_no_upper looks descriptor.location)
+  written number descriptor well found writes = by (has_no_upper looks descriptor.location)
       (ap (λ b. not (b && has_no_upper looks descriptor.location)) (sym writes)
       ∙ among_from_list_all (writes_to_a_layer world) task.descriptors well descriptor
       (found_among (λ (d : Descriptor ℕ). number == d.number) task.descriptors descriptor found))
@@ -78,8 +77,7 @@ module _ (world : World ℕ) (task : Task ℕ) (fresh : Fresh ℕ) where
   granted_has_layer : (call : Call) (permit : Permit ℕ) → list_all (writes_to_a_layer world) task.descriptors ≡ true
       → IsGranted nat_eq looks (overfills nat_eq fresh world task) task call permit
       → HasLayer (change_asked fresh world permit)
-  granted_has_layer call permit well (overwrites_file path bytes place file end named there passed) =
-      passed.1.1.1.1.0
+  granted_has_layer call permit well (overwrites_file path bytes place file end named there passed) = passed.1.1.1.1.0
   granted_has_layer call permit well (writes_new_file path bytes place end named missing fits passed) = passed.1.0
   granted_has_layer call permit well (makes_directory path mode place end passed) = passed.1.1.1.0
   granted_has_layer call permit well (makes_symlink text path place fits end passed) = passed.1.1.1.0
@@ -112,8 +110,7 @@ caller_has_layers world fresh task permit well given =
     (called_there world.tasks task.name task given.called)
 
 pub changes_have_layers : ChangesHaveLayers
-changes_have_layers world fresh task permit location change well given asks =
-    subst (HasLayer world task fresh) asks
+changes_have_layers world fresh task permit location change well given asks = subst (HasLayer world task fresh) asks
     (granted_has_layer world task fresh given.call permit (caller_has_layers world fresh task permit well given)
     (calls_are_granted nat_eq (looks_of nat_eq world) (overfills nat_eq fresh world task) task given.call permit
     given.judged))
@@ -132,8 +129,7 @@ to_task fresh world task permit given = record {
 -- where no overlay has an upper layer, one with an upper layer is none
 plain_there : (world : World ℕ) (location : Location ℕ) → OverlaysHaveNoUpper world
     → has_no_upper (looks_of nat_eq world) location ≡ false → is_overlay (filesystem_at nat_eq world location) ≡ false
-plain_there world location none layer =
-    by (filesystem_at nat_eq world location).overlay
+plain_there world location none layer = by (filesystem_at nat_eq world location).overlay
     (numbered_anyhow (λ (f : Filesystem ℕ). of_overlay false (λ overlay. is_some overlay.upper) f ≡ false)
     (mount_at nat_eq world location).filesystem world.filesystems none refl) layer
   where
@@ -153,8 +149,7 @@ asked_so fresh world (ToOpen file access) made e = none_is_some made e
 asked_so fresh world permit made e = e
 
 pub plain_ones_are_changed : PlainOnesAreChanged
-plain_ones_are_changed world fresh task permit location change none well given asks =
-    plain_there world location none
+plain_ones_are_changed world fresh task permit location change none well given asks = plain_there world location none
     (changes_have_layers world fresh task permit location change well (to_task fresh world task permit given)
     (asked_so fresh world permit (location, change) asks))
 
@@ -167,12 +162,9 @@ opens_copy_nothing world fresh task file access none well given = by (is_copied_
     overlaid (Some overlay) test e = refl
 
     by : (b : Bool) → is_copied_up nat_eq world file access ≡ b → b ≡ false
-    by true e =
-        absurd (true≢false
+    by true e = absurd (true≢false
         (sym (overlaid (filesystem_at nat_eq world file).overlay (λ overlay. lies_only_in_lowers overlay file.node)
-        (and_true_right (opens_for_writing access) _ e))
-        ∙ plain_there world file none
+        (and_true_right (opens_for_writing access) _ e)) ∙ plain_there world file none
         (changes_have_layers world fresh task (ToOpen file access) file (CopyUp file.node) well
-        (to_task fresh world task (ToOpen file access) given)
-        (ap (λ copied. when copied (file, CopyUp file.node)) e))))
+        (to_task fresh world task (ToOpen file access) given) (ap (λ copied. when copied (file, CopyUp file.node)) e))))
     by false e = refl

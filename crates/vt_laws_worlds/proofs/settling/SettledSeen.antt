@@ -25,15 +25,14 @@ node_kept : (stays : Filesystem ℕ → Bool) (change : Filesystem ℕ → Files
     (no_filesystem number)).files.tree.node object
     ≡ (unwrap_or (find (λ f. nat_eq number f.number) list) (no_filesystem number)).files.tree.node object
 node_kept stays change same number object [] stay keep = refl
-node_kept stays change same number object (filesystem ∷ list) stay keep =
-    grind (
-      arith,
-      common_steps,
-      stays filesystem,
-      node_kept stays change same number object list stay keep,
-      eqb-true,
-      true≢false,
-    )
+node_kept stays change same number object (filesystem ∷ list) stay keep = grind (
+  arith,
+  common_steps,
+  stays filesystem,
+  node_kept stays change same number object list stay keep,
+  eqb-true,
+  true≢false,
+)
 
 located_kept : (world : World ℕ) (chosen : Bool) (filesystem : Filesystem ℕ) (object : ℕ)
     → is_among nat_eq object (located_in nat_eq world filesystem.number) ≡ true
@@ -62,18 +61,15 @@ module _ (world : World ℕ) (unsettled : IsUnderWay world) where
   -- a mount that lives is found as it was
   pub found_still : (number : ℕ) → mount_lives nat_eq world (mount_numbered nat_eq world number) ≡ true
       → mount_numbered nat_eq settled_world number ≡ mount_numbered nat_eq world number
-  found_still number lives =
-      found_in_filter (mount_lives nat_eq world) world.mounts number
+  found_still number lives = found_in_filter (mount_lives nat_eq world) world.mounts number
       (λ mount m e. ap (mount_lives nat_eq world) (sym (itself mount m) ∙ ap (mount_numbered nat_eq world) e) ∙ lives)
 
   pub attached_lives : (mount : Mount ℕ) → is_some mount.namespace ≡ true → mount_lives nat_eq world mount ≡ true
   attached_lives mount e = or_first (is_some mount.namespace) (is_located nat_eq world mount.number) e
 
   pub located_lives : (location : Location ℕ) → Among location (all_locations world) → (mount : Mount ℕ)
-      → mount.number ≡ location.mount
-      → mount_lives nat_eq world mount ≡ true
-  located_lives location m mount e =
-      or_second (is_some mount.namespace) (is_located nat_eq world mount.number)
+      → mount.number ≡ location.mount → mount_lives nat_eq world mount ≡ true
+  located_lives location m mount e = or_second (is_some mount.namespace) (is_located nat_eq world mount.number)
       (any_passes (λ l. nat_eq mount.number l.mount) (all_locations world) location m
       (eq-eqb mount.number location.mount e))
 
@@ -84,8 +80,7 @@ module _ (world : World ℕ) (unsettled : IsUnderWay world) where
     where
       by : (b : Bool) → is_some mount.namespace ≡ b → is_some mount.namespace ≡ true
       by true e = e
-      by false e =
-          absurd (true≢false (sym placed ∙ (nowhere_parts mount
+      by false e = absurd (true≢false (sym placed ∙ (nowhere_parts mount
           (passes is_nowhere_or_attached world.mounts unsettled.mounts.nowhere mount m) e).0))
 
   -- Locations
@@ -100,18 +95,14 @@ module _ (world : World ℕ) (unsettled : IsUnderWay world) where
       ≡ (filesystem_numbered nat_eq world number).files.tree.node object
   node_stays number object shown located =
       ap (λ filesystems. (unwrap_or (find (λ f. nat_eq number f.number) filesystems)
-      (no_filesystem number)).files.tree.node object)
-      (map_twice second first living.filesystems)
+      (no_filesystem number)).files.tree.node object) (map_twice second first living.filesystems)
       ∙ node_kept (filesystem_lives nat_eq mounted) (λ f. second (first f))
       (λ f. number-only_used first_round (not (is_overlay (first f))) (first f)
-      ∙ number-only_used living (is_overlay f) f)
-      number object world.filesystems
-      (λ f e. or_first (is_mounted nat_eq mounted f.number) _ (ap (is_mounted nat_eq mounted) e ∙ shown))
-      (λ f e.
+      ∙ number-only_used living (is_overlay f) f) number object world.filesystems
+      (λ f e. or_first (is_mounted nat_eq mounted f.number) _ (ap (is_mounted nat_eq mounted) e ∙ shown)) (λ f e.
       located_kept first_round (not (is_overlay (first f))) (first f) object
       (ap (λ n. is_among nat_eq object (located_in nat_eq mounted n)) (number-only_used living (is_overlay f) f ∙ e)
-      ∙ located)
-      ∙ located_kept living (is_overlay f) f object
+      ∙ located) ∙ located_kept living (is_overlay f) f object
       (ap (λ n. is_among nat_eq object (located_in nat_eq mounted n)) e ∙ located))
     where
       first : Filesystem ℕ → Filesystem ℕ
@@ -127,12 +118,10 @@ module _ (world : World ℕ) (unsettled : IsUnderWay world) where
       → node_at nat_eq settled_world location ≡ node_at nat_eq world location
   seen_stays location used there lives =
       ap (λ (m : Mount ℕ). (filesystem_numbered nat_eq settled_world m.filesystem).files.tree.node location.node)
-      (found_still location.mount lives)
-      ∙ node_stays shown location.node is_shown
+      (found_still location.mount lives) ∙ node_stays shown location.node is_shown
       (is_among_numbers location.node (located_in nat_eq mounted shown)
       (among-map (λ l. l.node) (filter (λ l. nat_eq shown (mount_at nat_eq mounted l).filesystem) used_locations)
-      location
-      (among-filter (λ l. nat_eq shown (mount_at nat_eq mounted l).filesystem) used_locations location used
+      location (among-filter (λ l. nat_eq shown (mount_at nat_eq mounted l).filesystem) used_locations location used
       (eq-eqb shown (mount_at nat_eq mounted location).filesystem
       (ap (λ (m : Mount ℕ). m.filesystem) (sym (found_still location.mount lives)))))))
     where
@@ -140,7 +129,6 @@ module _ (world : World ℕ) (unsettled : IsUnderWay world) where
       shown = (mount_at nat_eq world location).filesystem
 
       is_shown : is_mounted nat_eq mounted shown ≡ true
-      is_shown =
-          any_passes (λ (m : Mount ℕ). nat_eq shown m.filesystem) mounted.mounts (mount_at nat_eq world location)
+      is_shown = any_passes (λ (m : Mount ℕ). nat_eq shown m.filesystem) mounted.mounts (mount_at nat_eq world location)
           (among-filter (mount_lives nat_eq world) world.mounts (mount_at nat_eq world location) there lives)
           (eq-eqb shown shown refl)

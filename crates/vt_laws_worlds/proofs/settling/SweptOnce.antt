@@ -42,13 +42,11 @@ exits_are_swept_once world names trees uppers reals kept =
     one_sweep_for_all_exits_with_overlays world names trees uppers reals (exits_keep world names kept)
 
 events_keep : (start : World ℕ) (kept : MountInvariants nat_eq start) (one : ℕ) (world : World ℕ)
-    (left : List (Mount ℕ)) → IsUnderWay start kept one world left
-    → KeepsMounts (unmounted_if_there nat_eq) world left
+    (left : List (Mount ℕ)) → IsUnderWay start kept one world left → KeepsMounts (unmounted_if_there nat_eq) world left
 events_keep start kept one world [] way = way.kept
 events_keep start kept one world (mount ∷ left) way = (
   way.kept,
-  events_keep start kept one (unmounted_if_there nat_eq world mount) left
-      (next start kept one world mount left way),
+  events_keep start kept one (unmounted_if_there nat_eq world mount) left (next start kept one world mount left way),
 )
 
 pub lazy_unmounts_are_swept_once : LazyUnmountsAreSweptOnce

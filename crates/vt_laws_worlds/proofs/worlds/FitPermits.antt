@@ -95,23 +95,20 @@ module _ (world : World ℕ) (whole : IsWorld nat_eq world) (task : Task ℕ)
   -- a descriptor that is found is one of the task's
   pub descriptor_among : (number : ℕ) (fits : Descriptor ℕ → Bool) (descriptor : Descriptor ℕ)
       → descriptor_at task number fits ≡ Ok descriptor → Among descriptor task.descriptors
-  descriptor_among number fits descriptor e =
-      grind (
-        arith,
-        common_steps,
-        found_among fits (option_to_list (descriptor_numbered task number)) descriptor
-            (ok_or_some (find fits (option_to_list (descriptor_numbered task number))) (denial S4) descriptor e),
-        found_among,
-      )
+  descriptor_among number fits descriptor e = grind (
+    arith,
+    common_steps,
+    found_among fits (option_to_list (descriptor_numbered task number)) descriptor
+        (ok_or_some (find fits (option_to_list (descriptor_numbered task number))) (denial S4) descriptor e),
+    found_among,
+  )
 
   -- the place below a mount is that of the mount, whatever inode it is seen at
   pub below_at : (new : Location ℕ) → is_on_descendant nat_eq looks task.root.mount new ≡ true → (node : ℕ)
       → is_on_descendant nat_eq looks task.root.mount (record { mount = new.mount; node = node }) ≡ true
-  below_at new h node =
-      ap (list_any (λ (place : Location ℕ). nat_eq task.root.mount place.mount))
+  below_at new h node = ap (list_any (λ (place : Location ℕ). nat_eq task.root.mount place.mount))
       (rest_same (length world.mounts) (λ (place : Location ℕ). (mount_at nat_eq world place).mount_point)
-      (record { mount = new.mount; node = node }) new refl)
-      ∙ h
+      (record { mount = new.mount; node = node }) new refl) ∙ h
 
   pub under_root : (new put : Location ℕ) → lies_under_location nat_eq looks new put ≡ true
       → is_no_root nat_eq looks new ≡ false → (node : ℕ) → node ≡ (mount_numbered nat_eq world new.mount).root
@@ -119,8 +116,7 @@ module _ (world : World ℕ) (whole : IsWorld nat_eq world) (task : Task ℕ)
   under_root new put h root node e =
       ap (λ (n : ℕ). lies_under_location nat_eq looks (record { mount = new.mount; node = n }) put)
       (e ∙ sym (eqb-true new.node (mount_numbered nat_eq world new.mount).root
-      (not_true (nat_eq new.node (mount_numbered nat_eq world new.mount).root) root)))
-      ∙ h
+      (not_true (nat_eq new.node (mount_numbered nat_eq world new.mount).root) root))) ∙ h
 
   -- setns(2)
   pub namespace_listed : (name : TaskName) (namespace : ℕ)
@@ -131,8 +127,6 @@ module _ (world : World ℕ) (whole : IsWorld nat_eq world) (task : Task ℕ)
       by : (found : Option (Task ℕ)) → task_called world name ≡ found → (namespace : ℕ)
           → option_map (λ (t : Task ℕ). t.namespace) found ≡ Some namespace → is_listed nat_eq world namespace ≡ true
       by None f namespace e = none_is_not None namespace refl e
-      by (Some target) f namespace e =
-          ap (is_listed nat_eq world) (sym (same_Some target.namespace namespace e))
+      by (Some target) f namespace e = ap (is_listed nat_eq world) (sym (same_Some target.namespace namespace e))
           ∙ among_from_list_all (λ (t : Task ℕ). is_listed nat_eq world t.namespace) world.tasks
-          whole.namespaces.tasks_listed target
-          (called_there world.tasks name target f)
+          whole.namespaces.tasks_listed target (called_there world.tasks name target f)

@@ -44,8 +44,7 @@ taken_plain world gone plain = subst (All (λ filesystem. is_overlay filesystem 
 
 -- the mounts on a directory go
 abbrev pub gone_on : World ℕ → Location ℕ → List ℕ
-gone_on world location =
-    map (λ (mount : Mount ℕ). mount.number)
+gone_on world location = map (λ (mount : Mount ℕ). mount.number)
     (flat_map (mount_tree nat_eq world.mounts) (mounts_on nat_eq world location))
 
 pub point_removed_seen : (world : World ℕ) (location : Location ℕ)
@@ -85,8 +84,7 @@ change_seen_in fresh world middle elsewhere are_new same location change =
 
 module _ (fresh : Fresh ℕ) (world : World ℕ) (elsewhere : UppersAreElsewhere world)
     (are_new : AreNewInodes fresh world) where
-  pub copy_seen : (b : Bool) (file : Location ℕ)
-      → KeepsWhatIsSeen world (with_copy nat_eq b fresh world file)
+  pub copy_seen : (b : Bool) (file : Location ℕ) → KeepsWhatIsSeen world (with_copy nat_eq b fresh world file)
   copy_seen true file = change_keeps_seen fresh world elsewhere are_new file (CopyUp file.node) tt
   copy_seen false file = same_seen world
 
@@ -124,8 +122,7 @@ module _ (world : World ℕ) (fresh : Fresh ℕ) (task : Task ℕ) (is : IsWorld
       let middle_one = without_mounts_on nat_eq world directory in
       seen_on world middle_one (after (ToRemoveDirectory parent name directory)) (point_removed_seen world directory)
       (change_seen_in fresh world middle_one elsewhere are_new
-      (filesystems-taken_away world (gone_on world directory)) parent
-      (Remove parent.node name directory.node) tt)
+      (filesystems-taken_away world (gone_on world directory)) parent (Remove parent.node name directory.node) tt)
   permits_keep_what_is_seen (ToRename from old to new object replaced) names =
       let middle_one = without_replaced nat_eq world replaced in
       seen_on world middle_one (after (ToRename from old to new object replaced)) (replaced_seen world replaced)
@@ -166,8 +163,7 @@ module _ (world : World ℕ) (fresh : Fresh ℕ) (task : Task ℕ) (is : IsWorld
   permits_keep_what_is_seen (ToMountOverlay place overlay flags) names = absurd names
   permits_keep_what_is_seen (ToBind source place recursive) names =
       attached_seen world fresh place (bind_tree nat_eq world source recursive)
-  permits_keep_what_is_seen (ToMove mount place) names =
-      moved_seen world fresh mount place is.mounts.one_number
+  permits_keep_what_is_seen (ToMove mount place) names = moved_seen world fresh mount place is.mounts.one_number
       (λ one m. among_from_all (λ (x : Mount ℕ). Stands nat_eq world x.number) world.mounts is.mounts.standing one m)
       (names.own ∙ sym names.destination.own)
   permits_keep_what_is_seen (ToUnmount mount) names =

@@ -26,13 +26,10 @@ use Rattle.vt_spec.proofs.Inodes.{is_some-node_in}
 -- a use more leaves the node
 pinned_same : (inodes : Inodes ℕ) (object n : ℕ)
     → node_in ((pinned nat_eq inodes object).inode n) ≡ node_in (inodes.inode n)
-pinned_same inodes object n =
-    ⊎_elim
+pinned_same inodes object n = ⊎_elim
     (λ t. ap (λ b. node_in (cond b (used_once_more (inodes.inode object)) (inodes.inode n))) t.0
-    ∙ by (inodes.inode object)
-    ∙ ap (λ m. node_in (inodes.inode m)) (sym t.1))
-    (λ t. ap (λ b. node_in (cond b (used_once_more (inodes.inode object)) (inodes.inode n))) t.0)
-    (eqb_tells n object)
+    ∙ by (inodes.inode object) ∙ ap (λ m. node_in (inodes.inode m)) (sym t.1))
+    (λ t. ap (λ b. node_in (cond b (used_once_more (inodes.inode object)) (inodes.inode n))) t.0) (eqb_tells n object)
   where
     by : (o : Option (Inode ℕ)) → node_in (used_once_more o) ≡ node_in o
     by None = refl
@@ -43,13 +40,11 @@ module _ (base : ℕ → ℕ) (files : FileTree ℕ) (inodes : Inodes ℕ)
     (start : IsStart base files.tree.node files.numbers inodes) where
   nodes_same : (change : Change ℕ) → Fits inodes change → TakesNoName change → (n : ℕ)
       → node_in ((changed nat_eq inodes change).inode n) ≡ (Changes.changed nat_eq files change).tree.node n
-  nodes_same (Make directory name number new) fits none n =
-      by (nat_eq n number)
+  nodes_same (Make directory name number new) fits none n = by (nat_eq n number)
       ∙ Names.either_way base files.tree.node files.numbers inodes start directory name number new
       (ap Rattle.vt_spec.specs.Tree.is_directory_node (sym (start.same directory)) ∙ fits.0)
       (ap (λ x. Rattle.vt_spec.specs.Tree.entry_named name (Rattle.vt_spec.specs.Tree.entries_in x))
-      (sym (start.same directory))
-      ∙ fits.1) fits.2 fits.3 n
+      (sym (start.same directory)) ∙ fits.1) fits.2 fits.3 n
     where
       by : (b : Bool) → node_in (cond b (Some (record { node = new; uses = 1 }))
           ((with_changed nat_eq inodes directory (node_with_entry name number)).inode n))
@@ -65,19 +60,16 @@ module _ (base : ℕ → ℕ) (files : FileTree ℕ) (inodes : Inodes ℕ)
   nodes_same (Remove directory name object) fits none n = absurd none
   nodes_same (Move from old to new object) fits none n = absurd none
   nodes_same (SetBytes file bytes) fits none n =
-      changed_same files.tree.node inodes file (node_with_bytes bytes) start.same refl
-      (λ some. (_, refl)) n
+      changed_same files.tree.node inodes file (node_with_bytes bytes) start.same refl (λ some. (_, refl)) n
   nodes_same (SetAttr object attr) fits none n =
-      changed_same files.tree.node inodes object (node_with_attr attr) start.same refl
-      (λ some. (_, refl)) n
+      changed_same files.tree.node inodes object (node_with_attr attr) start.same refl (λ some. (_, refl)) n
   nodes_same (SetMark directory opaque) fits none n = changed_same files.tree.node inodes directory
       (node_with_mark opaque) start.same refl (λ some. (_, refl)) n
   nodes_same (CopyUp object) fits none n = start.same n
 
 pub names_keep_all_beside_overlays : NamesKeepAllBesideOverlays
 names_keep_all_beside_overlays fresh world location inodes change is keeps =
-    After.after_is fresh world location inodes change is
-    ∙ ap (with_tree world number)
+    After.after_is fresh world location inodes change is ∙ ap (with_tree world number)
     (sym (Swept.all_kept world number files in_use one is.plain there tallied_once all_used))
     ∙ sym (After.raw_is fresh world location inodes change is)
   where
@@ -108,8 +100,7 @@ names_keep_all_beside_overlays fresh world location inodes change is keeps =
 
     is_used : (n : ℕ) → is_among nat_eq n (Swept.used world number files in_use one is.plain there)
         ≡ is_some ((changed nat_eq inodes change).inode n)
-    is_used =
-        Swept.used_there world number files in_use one is.plain there (changed nat_eq inodes change)
+    is_used = Swept.used_there world number files in_use one is.plain there (changed nat_eq inodes change)
         (After.root_is (base_of world
         (After.old fresh world location inodes change is)) before inodes is.counted.root begins change)
         (After.root_of_files (base_of world
@@ -121,8 +112,7 @@ names_keep_all_beside_overlays fresh world location inodes change is keeps =
     all_used = all_pass (λ n. is_among nat_eq n (Swept.used world number files in_use one is.plain there)) files.numbers
         (λ n m. is_used n ∙ sym (is_some-node_in ((changed nat_eq inodes change).inode n))
         ∙ ap is_some (nodes_same (base_of world
-        (After.old fresh world location inodes change is)) before inodes begins change is.fits
-        keeps n)
+        (After.old fresh world location inodes change is)) before inodes begins change is.fits keeps n)
         ∙ stands n (is_some (files.tree.node n)) (tallied_once n)
         (among_times n files.numbers (is_among_numbers n files.numbers m)))
       where

@@ -33,8 +33,7 @@ other_uses uses now node inodes same counted = subst (λ u. Counts.IsCounted u n
 
 -- A node that is changed where it is, if it is there
 pub changed_counts : (uses : ℕ → ℕ) (node : ℕ → Option (Node ℕ)) (inodes : Inodes ℕ) (place : ℕ)
-    (change : Option (Node ℕ)
-    → Option (Node ℕ)) → Counts.IsCounted uses node inodes
+    (change : Option (Node ℕ) → Option (Node ℕ)) → Counts.IsCounted uses node inodes
     → node_in (inodes.inode place) ≡ node place → change None ≡ None
     → ((some : Node ℕ) → (new : Node ℕ) × (change (Some some) ≡ Some new))
     → Counts.IsCounted uses (at_place node place change) (with_changed nat_eq inodes place change)
@@ -55,42 +54,31 @@ changed_counts uses node inodes place change counted same none some = by (inodes
 
         inode_kept : (n : ℕ) → inodes.inode n ≡ cond (nat_eq n place)
             (inode_with_node (change (node_in (inodes.inode place))) (inodes.inode place)) (inodes.inode n)
-        inode_kept n =
-            ⊎_elim
-            (λ t. ap inodes.inode t.1 ∙ is
+        inode_kept n = ⊎_elim (λ t. ap inodes.inode t.1 ∙ is
             ∙ sym (ap (λ o. inode_with_node (change (node_in o)) o) is ∙ still_none (change None))
             ∙ sym (ap (λ b. cond b (inode_with_node (change (node_in (inodes.inode place))) (inodes.inode place))
             (inodes.inode n)) t.0))
             (λ t. sym (ap (λ b. cond b (inode_with_node (change (node_in (inodes.inode place))) (inodes.inode place))
-            (inodes.inode n)) t.0))
-            (eqb_tells n place)
+            (inodes.inode n)) t.0)) (eqb_tells n place)
 
         node_kept : (n : ℕ) → node n ≡ at_place node place change n
-        node_kept n =
-            ⊎_elim
-            (λ t. ap node t.1 ∙ no_node ∙ sym (ap change no_node ∙ none)
+        node_kept n = ⊎_elim (λ t. ap node t.1 ∙ no_node ∙ sym (ap change no_node ∙ none)
             ∙ sym (ap (λ b. cond b (change (node place)) (node n)) t.0))
-            (λ t. sym (ap (λ b. cond b (change (node place)) (node n)) t.0))
-            (eqb_tells n place)
+            (λ t. sym (ap (λ b. cond b (change (node place)) (node n)) t.0)) (eqb_tells n place)
     by (Some inode) is = counted_changed uses node inodes counted place inode is change (some inode.node).0
         (some inode.node).1
 
 -- the nodes of inodes that are changed
 pub changed_same : (node : ℕ → Option (Node ℕ)) (inodes : Inodes ℕ) (place : ℕ)
-    (change : Option (Node ℕ) → Option (Node ℕ))
-    → ((n : ℕ) → node_in (inodes.inode n) ≡ node n)
+    (change : Option (Node ℕ) → Option (Node ℕ)) → ((n : ℕ) → node_in (inodes.inode n) ≡ node n)
     → change None ≡ None → ((some : Node ℕ) → (new : Node ℕ) × (change (Some some) ≡ Some new))
     → (n : ℕ) → node_in ((with_changed nat_eq inodes place change).inode n) ≡ at_place node place change n
-changed_same node inodes place change same none some n =
-    ⊎_elim
+changed_same node inodes place change same none some n = ⊎_elim
     (λ t. ap (λ b. node_in (cond b (inode_with_node (change (node_in (inodes.inode place))) (inodes.inode place))
-    (inodes.inode n))) t.0
-    ∙ by (inodes.inode place) (same place)
+    (inodes.inode n))) t.0 ∙ by (inodes.inode place) (same place)
     ∙ sym (ap (λ b. cond b (change (node place)) (node n)) t.0))
     (λ t. ap (λ b. node_in (cond b (inode_with_node (change (node_in (inodes.inode place))) (inodes.inode place))
-    (inodes.inode n))) t.0
-    ∙ same n ∙ sym (ap (λ b. cond b (change (node place)) (node n)) t.0))
-    (eqb_tells n place)
+    (inodes.inode n))) t.0 ∙ same n ∙ sym (ap (λ b. cond b (change (node place)) (node n)) t.0)) (eqb_tells n place)
   where
     by : (o : Option (Inode ℕ)) → node_in o ≡ node place
         → node_in (inode_with_node (change (node_in o)) o) ≡ change (node place)
@@ -128,8 +116,7 @@ module _ (uses left : ℕ → ℕ) (node : ℕ → Option (Node ℕ)) (inodes : 
 
   abbrev Left : Bool → Type 0
   Left b = Counts.IsCounted left node (record (with_inode nat_eq inodes place (cond b None one_less)) {
-    count = count_after inodes.count
-        (cond b None one_less);
+    count = count_after inodes.count (cond b None one_less);
   })
 
   last : inode.uses ≤ 1 → Left true
@@ -173,15 +160,10 @@ module _ (uses left : ℕ → ℕ) (node : ℕ → Option (Node ℕ)) (inodes : 
   }
 
   unpinned_here : Counts.IsCounted left node (unpinned nat_eq inodes place)
-  unpinned_here =
-      subst (λ o. Counts.IsCounted left node (record (with_inode nat_eq inodes place (used_once_less o)) {
-        count = cond (is_some o)
-            (count_after inodes.count (used_once_less o)) inodes.count;
-      })) (sym is)
-      (⊎_elim
-      (λ t. subst Left (sym t.0) (last t.1))
-      (λ t. subst Left (sym t.0) (stays (let h = t.1 in omega arith)))
-      (leb_tells inode.uses 1))
+  unpinned_here = subst (λ o. Counts.IsCounted left node (record (with_inode nat_eq inodes place (used_once_less o)) {
+    count = cond (is_some o) (count_after inodes.count (used_once_less o)) inodes.count;
+  })) (sym is) (⊎_elim (λ t. subst Left (sym t.0) (last t.1))
+      (λ t. subst Left (sym t.0) (stays (let h = t.1 in omega arith))) (leb_tells inode.uses 1))
 
 pub unpinned_counts : (uses left : ℕ → ℕ) (node : ℕ → Option (Node ℕ)) (inodes : Inodes ℕ) (place : ℕ)
     → Counts.IsCounted uses node inodes
@@ -210,8 +192,7 @@ module _ (base : ℕ → ℕ) (node : ℕ → Option (Node ℕ)) (numbers : List
       → IsTallied base (at_place node place change) numbers (with_changed nat_eq inodes place change)
   rewritten place change entries none some = record {
     counted = other_uses uses (uses_of base (at_place node place change) numbers) (at_place node place change)
-        (with_changed nat_eq inodes place change)
-        (λ n. ap (λ l. base n + times_in n l) (sym (names numbers)))
+        (with_changed nat_eq inodes place change) (λ n. ap (λ l. base n + times_in n l) (sym (names numbers)))
         (changed_counts uses node inodes place change counted (start.same place) none some);
     once = λ n. once n ∙ ap (λ b. cond b 1 0) (sym (part_at is_some node place change (there (node place)) n));
   }
@@ -249,8 +230,7 @@ module _ (base : ℕ → ℕ) (node : ℕ → Option (Node ℕ)) (numbers : List
 
   -- Another name
   pub linked : (directory : ℕ) (name : List ℕ) (object : ℕ) → is_directory_node (node directory) ≡ true
-      → entry_named name (entries_in (node directory)) ≡ None
-      → is_some (inodes.inode object) ≡ true
+      → entry_named name (entries_in (node directory)) ≡ None → is_some (inodes.inode object) ≡ true
       → IsTallied base (at_place node directory (node_with_entry name object)) numbers
       (with_name nat_eq inodes directory name object)
   linked directory name object is free there = record {
@@ -272,8 +252,7 @@ module _ (base : ℕ → ℕ) (node : ℕ → Option (Node ℕ)) (numbers : List
 
       counted_on : Counts.IsCounted uses node_on inodes_on
       counted_on = changed_counts uses node inodes directory (node_with_entry name object) counted
-          (start.same directory) refl
-          (λ some. (_, refl))
+          (start.same directory) refl (λ some. (_, refl))
 
       object_used : 1 ≤ uses object
       object_used = let some = counted.in_use object there in let e = counted.uses_are object in omega arith

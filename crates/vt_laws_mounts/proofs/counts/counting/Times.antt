@@ -24,8 +24,7 @@ times_among number [] e = absurd (omega arith)
 times_among number (other ∷ rest) e = by (nat_eq number other) e (times_among number rest)
   where
     by : (b : Bool) → 1 ≤ cond b 1 0 + times_in number rest
-        → (1 ≤ times_in number rest → is_among nat_eq number rest ≡ true)
-        → (b || is_among nat_eq number rest) ≡ true
+        → (1 ≤ times_in number rest → is_among nat_eq number rest ≡ true) → (b || is_among nat_eq number rest) ≡ true
     by true e later = refl
     by false e later = later (omega arith)
 
@@ -41,8 +40,7 @@ times_removed number z (other ∷ rest) e = ⊎_elim here (later (times_removed 
   where
     here : (nat_eq number other ≡ true) × (number ≡ other)
         → times_in z (number ∷ removed number (other ∷ rest)) ≡ times_in z (other ∷ rest)
-    here t =
-        ap (λ b. cond (nat_eq z number) 1 0 + times_in z (cond b rest (other ∷ removed number rest))) t.0
+    here t = ap (λ b. cond (nat_eq z number) 1 0 + times_in z (cond b rest (other ∷ removed number rest))) t.0
         ∙ ap (λ n. cond (nat_eq z n) 1 0 + times_in z rest) t.1
 
     later : (1 ≤ times_in number rest → times_in z (number ∷ removed number rest) ≡ times_in z rest)
@@ -54,8 +52,7 @@ times_removed number z (other ∷ rest) e = ⊎_elim here (later (times_removed 
         rec (omega arith) in
         ap (λ b. cond (nat_eq z number) 1 0 + times_in z (cond b rest (other ∷ removed number rest))) t.0
         ∙ (let aside : cond (nat_eq z number) 1 0 + (cond (nat_eq z other) 1 0 + times_in z (removed number rest))
-        ≡ cond
-        (nat_eq z other) 1 0 + times_in z rest = omega arith in aside)
+        ≡ cond (nat_eq z other) 1 0 + times_in z rest = omega arith in aside)
 
 pub length_removed : (number : ℕ) (list : List ℕ) → 1 ≤ times_in number list
     → suc (length (removed number list)) ≡ length list
@@ -118,11 +115,9 @@ times_filter p number [] = by (p number)
     by : (b : Bool) → ◌≡◌ {A = ℕ} 0 (cond b 0 0)
     by true = refl
     by false = refl
-times_filter p number (first ∷ rest) =
-    ⊎_elim
+times_filter p number (first ∷ rest) = ⊎_elim
     (λ t. here (p first) (p number) (ap p t.1) t.0 (times_filter p number rest))
-    (λ t. later (p first) (p number) t.0 (times_filter p number rest))
-    (eqb_tells number first)
+    (λ t. later (p first) (p number) t.0 (times_filter p number rest)) (eqb_tells number first)
   where
     here : (a b : Bool) → b ≡ a → nat_eq number first ≡ true
         → times_in number (filter p rest) ≡ cond b (times_in number rest) 0
@@ -138,10 +133,8 @@ times_filter p number (first ∷ rest) =
         → times_in number (cond a (first ∷ filter p rest) (filter p rest)) ≡ cond b
         (cond (nat_eq number first) 1 0 + times_in number rest) 0
     later true true e h = ap (λ n. cond (nat_eq number first) 1 0 + n) h
-    later true false e h =
-        ap (λ c. cond c 1 0 + times_in number (filter p rest)) e
+    later true false e h = ap (λ c. cond c 1 0 + times_in number (filter p rest)) e
         ∙ (let g : times_in number (filter p rest) ≡ 0 = h in omega arith)
-    later false true e h =
-        h ∙ (let g : times_in number rest ≡ 0 + times_in number rest = omega arith in g)
+    later false true e h = h ∙ (let g : times_in number rest ≡ 0 + times_in number rest = omega arith in g)
         ∙ ap (λ c. cond c 1 0 + times_in number rest) (sym e)
     later false false e h = h

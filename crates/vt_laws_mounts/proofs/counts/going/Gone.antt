@@ -19,14 +19,12 @@ use Rattle.vt_spec.proofs.Found.{filter_all}
 use Rattle.vt_spec.proofs.Truths.{nat_eq-swapped}
 
 pub mount_goes_at_zero : MountGoesAtZero
-mount_goes_at_zero world number one =
-    mount_is_looked_up world number one
+mount_goes_at_zero world number one = mount_is_looked_up world number one
     ∙ ap (λ b. cond (is_some (mount_numbered nat_eq world number).namespace || b) world (without_mount world number))
     (located_while_counted world number)
 
 pub filesystem_goes_at_zero : FilesystemGoesAtZero
-filesystem_goes_at_zero world number plain =
-    filesystem_is_looked_up world number
+filesystem_goes_at_zero world number plain = filesystem_is_looked_up world number
     ∙ ap (λ b. cond (is_mounted nat_eq world number || b) world (without_filesystem world number))
     (no_layers number world world.filesystems (plain_of world plain))
     ∙ ap (λ b. cond b world (without_filesystem world number))
@@ -67,8 +65,7 @@ one_taken test (first ∷ rest) number one there =
         ∙ ap (λ l. times test l + cond (test first) 1 0) (sym all)
         ∙ ap (λ b. times test (cond (not b) (first ∷ left) left) + cond (test first) 1 0)
         (sym (nat_eq-swapped number first.number true e))
-    by false e h later =
-        (let l = later h in
+    by false e h later = (let l = later h in
         let aside : cond (test first) 1 0 + times test rest ≡ (cond (test first) 1 0 + times test left) + cond
         (test (mount_in nat_eq rest number)) 1 0 = omega arith in aside)
         ∙ ap (λ b. times test (cond (not b) (first ∷ left) left) + cond (test (mount_in nat_eq rest number)) 1 0)

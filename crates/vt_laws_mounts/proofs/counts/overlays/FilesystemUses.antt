@@ -44,8 +44,7 @@ no_upper_is_in_any world number none =
 module _ (world : World ℕ) (number : ℕ)
     (apart : All (λ merged. has_layer_on nat_eq number merged ≡ false) world.filesystems) where
   pub no_layers_there : layers_in nat_eq world number ≡ []
-  no_layers_there =
-      ap (map (λ (layer : Layer ℕ). layer.directory))
+  no_layers_there = ap (map (λ (layer : Layer ℕ). layer.directory))
       (filter_none (λ (layer : Layer ℕ). nat_eq number layer.filesystem)
       (flat_map (of_overlay [] layers_of) world.filesystems)
       (none_passes (λ (layer : Layer ℕ). nat_eq number layer.filesystem)
@@ -57,10 +56,8 @@ module _ (world : World ℕ) (number : ℕ)
       layer from.2)))
 
   pub no_upper_there : HasNoUpperIn number world
-  no_upper_there =
-      all_from_among (λ merged. has_upper_in number merged ≡ false) world.filesystems (λ f m.
-      by f.overlay
-      (among_from_all (λ merged. has_layer_on nat_eq number merged ≡ false) world.filesystems apart f m))
+  no_upper_there = all_from_among (λ merged. has_upper_in number merged ≡ false) world.filesystems (λ f m.
+      by f.overlay (among_from_all (λ merged. has_layer_on nat_eq number merged ≡ false) world.filesystems apart f m))
     where
       by : (o : Option (Overlay ℕ))
           → overlay_or false (λ overlay. list_any (λ layer. nat_eq number layer.filesystem) (layers_of overlay)) o
@@ -69,8 +66,7 @@ module _ (world : World ℕ) (number : ℕ)
       by None e = refl
       by (Some overlay) e = upper overlay.upper e
         where
-          upper : (u : Option (Layer ℕ))
-              → list_any (λ layer. nat_eq number layer.filesystem)
+          upper : (u : Option (Layer ℕ)) → list_any (λ layer. nat_eq number layer.filesystem)
               (option_to_list u ++ option_to_list overlay.work ++ overlay.lowers) ≡ false
               → holds_of (λ layer. nat_eq number layer.filesystem) u ≡ false
           upper None h = refl
@@ -81,8 +77,7 @@ module _ (world : World ℕ) (number : ℕ)
 -- How often filesystems use an inode
 module _ (k n : ℕ) where
   abbrev layers_at : List (Layer ℕ) → ℕ
-  layers_at layers = times_in n (map (λ layer. layer.directory)
-      (filter (λ layer. nat_eq k layer.filesystem) layers))
+  layers_at layers = times_in n (map (λ layer. layer.directory) (filter (λ layer. nat_eq k layer.filesystem) layers))
 
   layers_append : (one other : List (Layer ℕ)) → layers_at (one ++ other) ≡ layers_at one + layers_at other
   layers_append [] other = omega arith
@@ -121,15 +116,13 @@ module _ (k n : ℕ) where
   of_object upper object = map (λ x. (upper.filesystem, x)) (option_to_list object) ++ []
 
   objects_are_uses : (upper : Layer ℕ) (real : ℕ → Option ℕ) (b : Bool) → nat_eq k upper.filesystem ≡ b
-      → (numbers : List ℕ)
-      → times (is_inode k n) (flat_map (λ number. of_object upper (real number)) numbers)
+      → (numbers : List ℕ) → times (is_inode k n) (flat_map (λ number. of_object upper (real number)) numbers)
       ≡ times_in n (cond b (filter_map real numbers) [])
   objects_are_uses upper real true e [] = refl
   objects_are_uses upper real false e [] = refl
   objects_are_uses upper real true e (first ∷ rest) = by (real first) (objects_are_uses upper real true e rest)
     where
-      by : (o : Option ℕ)
-          → times (is_inode k n) (flat_map (λ number. of_object upper (real number)) rest)
+      by : (o : Option ℕ) → times (is_inode k n) (flat_map (λ number. of_object upper (real number)) rest)
           ≡ times_in n (filter_map real rest)
           → times (is_inode k n) (of_object upper o ++ flat_map (λ number. of_object upper (real number)) rest)
           ≡ times_in n (cons_option o (filter_map real rest))
@@ -137,8 +130,7 @@ module _ (k n : ℕ) where
       by (Some object) later = λ i. cond (e i && nat_eq n object) 1 0 + later i
   objects_are_uses upper real false e (first ∷ rest) = by (real first) (objects_are_uses upper real false e rest)
     where
-      by : (o : Option ℕ)
-          → times (is_inode k n) (flat_map (λ number. of_object upper (real number)) rest) ≡ 0
+      by : (o : Option ℕ) → times (is_inode k n) (flat_map (λ number. of_object upper (real number)) rest) ≡ 0
           → times (is_inode k n) (of_object upper o ++ flat_map (λ number. of_object upper (real number)) rest) ≡ 0
       by None later = later
       by (Some object) later = λ i. cond (e i && nat_eq n object) 1 0 + later i
@@ -148,11 +140,9 @@ module _ (k n : ℕ) where
   no_uses (first ∷ rest) = no_uses rest
 
   -- those of a filesystem,
-  filesystem_uses : (g : Filesystem ℕ)
-      → times (is_inode k n) (used_by_filesystem g)
+  filesystem_uses : (g : Filesystem ℕ) → times (is_inode k n) (used_by_filesystem g)
       ≡ layers_at (of_overlay [] layers_of g) + times_in n (objects_of_overlay nat_eq k g)
-  filesystem_uses g =
-      times_append (is_inode k n)
+  filesystem_uses g = times_append (is_inode k n)
       (map (λ (layer : Layer ℕ). (layer.filesystem, layer.directory)) (of_overlay [] layers_of g))
       (flat_map (λ number. of_overlay [] (uppers_in number) g) g.files.numbers)
       ∙ (λ i. layers_are_uses (of_overlay [] layers_of g) i + by g.overlay i)
@@ -192,8 +182,7 @@ module _ (k n : ℕ) where
       (flat_map (objects_of_overlay nat_eq k) rest) in
       omega arith
 
-  taken_apart : (one other : List (Filesystem ℕ))
-      → times (is_inode k n) (flat_map used_by_filesystem (one ++ other))
+  taken_apart : (one other : List (Filesystem ℕ)) → times (is_inode k n) (flat_map used_by_filesystem (one ++ other))
       ≡ times (is_inode k n) (flat_map used_by_filesystem one)
       + times (is_inode k n) (flat_map used_by_filesystem other)
   taken_apart [] other = omega arith
@@ -205,8 +194,7 @@ module _ (k n : ℕ) where
 
 -- What overlays use is all that filesystems use.
 plain_use_none : (g : Filesystem ℕ) → is_overlay g ≡ false → used_by_filesystem g ≡ []
-plain_use_none g e =
-    (λ i. map (λ (layer : Layer ℕ). (layer.filesystem, layer.directory)) (layers g.overlay e i)
+plain_use_none g e = (λ i. map (λ (layer : Layer ℕ). (layer.filesystem, layer.directory)) (layers g.overlay e i)
     ++ flat_map (λ number. objects g.overlay e number i) g.files.numbers)
     ∙ flat_map_none (λ (number : ℕ). []) g.files.numbers (λ number m. refl)
   where
@@ -228,8 +216,7 @@ exchanged_by : (world after : World ℕ) (gained lost : List Inode) (k : ℕ)
     → ((n : ℕ) → times (is_inode k n) (flat_map used_by_filesystem (filter is_overlay world.filesystems))
     + times (is_inode k n) gained
     ≡ times (is_inode k n) (flat_map used_by_filesystem (filter is_overlay after.filesystems))
-    + times (is_inode k n) lost)
-    → filesystem_numbered nat_eq after k ≡ filesystem_numbered nat_eq world k
+    + times (is_inode k n) lost) → filesystem_numbered nat_eq after k ≡ filesystem_numbered nat_eq world k
     → Exchanges gained lost k world after
 exchanged_by world after gained lost k mounts locations exchange same = record {
   same = same;
@@ -279,29 +266,24 @@ pub overlays_are_uses : OverlaysAreUses
 overlays_are_uses world after gained lost front back k mounts locations were are same =
     exchanged_by world after (flat_map used_by_filesystem gained) (flat_map used_by_filesystem lost) k mounts locations
     (λ n.
-    let before : used n (filter is_overlay world.filesystems) ≡ used n (front ++ (lost ++ back)) =
-    ap (used n) were in
+    let before : used n (filter is_overlay world.filesystems) ≡ used n (front ++ (lost ++ back)) = ap (used n) were in
     let then : used n (filter is_overlay after.filesystems) ≡ used n (front ++ (gained ++ back)) = ap (used n) are in
     let a = taken_apart k n front (lost ++ back) in let b = taken_apart k n lost back in
     let c = taken_apart k n front (gained ++ back) in let d = taken_apart k n gained back in
-    omega arith)
-    same
+    omega arith) same
   where
     used : ℕ → List (Filesystem ℕ) → ℕ
     used n list = times (is_inode k n) (flat_map used_by_filesystem list)
 
 pub overlays_take_their_uses : OverlaysTakeTheirUses
-overlays_take_their_uses world after stays k mounts locations are same =
-    exchanged_by world after []
+overlays_take_their_uses world after stays k mounts locations are same = exchanged_by world after []
     (flat_map used_by_filesystem (filter (λ merged. not (stays merged)) (filter is_overlay world.filesystems))) k mounts
-    locations
-    (λ n.
+    locations (λ n.
     let then : used n (filter is_overlay after.filesystems)
     ≡ used n (filter stays (filter is_overlay world.filesystems)) = ap (used n) are in
     let all = both n (filter is_overlay world.filesystems) in
     let none : times (is_inode k n) [] ≡ 0 = refl in
-    omega arith)
-    same
+    omega arith) same
   where
     used : ℕ → List (Filesystem ℕ) → ℕ
     used n list = times (is_inode k n) (flat_map used_by_filesystem list)
@@ -310,12 +292,10 @@ overlays_take_their_uses world after stays k mounts locations are same =
     both : (n : ℕ) (list : List (Filesystem ℕ))
         → used n list ≡ used n (filter stays list) + used n (filter (λ merged. not (stays merged)) list)
     both n [] = refl
-    both n (first ∷ rest) =
-        times_append (is_inode k n) (used_by_filesystem first) (flat_map used_by_filesystem rest)
+    both n (first ∷ rest) = times_append (is_inode k n) (used_by_filesystem first) (flat_map used_by_filesystem rest)
         ∙ by (stays first) (both n rest)
       where
-        by : (b : Bool)
-            → used n rest ≡ used n (filter stays rest) + used n (filter (λ merged. not (stays merged)) rest)
+        by : (b : Bool) → used n rest ≡ used n (filter stays rest) + used n (filter (λ merged. not (stays merged)) rest)
             → times (is_inode k n) (used_by_filesystem first) + used n rest
             ≡ used n (cond b (first ∷ filter stays rest) (filter stays rest))
             + used n (cond (not b) (first ∷ filter (λ merged. not (stays merged)) rest)
@@ -335,8 +315,7 @@ overlays_take_their_uses world after stays k mounts locations are same =
             omega arith
 
 pub plain_ones_use_nothing : PlainOnesUseNothing
-plain_ones_use_nothing world after k mounts locations are same =
-    exchanged_by world after [] [] k mounts locations
+plain_ones_use_nothing world after k mounts locations are same = exchanged_by world after [] [] k mounts locations
     (λ n. ap (λ l. times (is_inode k n) (flat_map used_by_filesystem l) + 0) (sym are)) same
 
 pub new_tree_is_counted_beside_overlays : NewTreeIsCountedBesideOverlays

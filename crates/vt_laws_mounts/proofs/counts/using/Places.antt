@@ -94,11 +94,9 @@ module _ (world after : World ℕ) (filesystems : after.filesystems ≡ world.fi
       ≡ inode_uses after f n = ap (λ g. inode_uses after g n) same_found in
       let three = uses_split after f n in
       let here : times_in n (located_in nat_eq world f.number) ≡ located world n =
-      ap (λ m. times_in n (located_in nat_eq world m))
-      (found_number world.filesystems k) in
+      ap (λ m. times_in n (located_in nat_eq world m)) (found_number world.filesystems k) in
       let there : times_in n (located_in nat_eq after f.number) ≡ located after n =
-      ap (λ m. times_in n (located_in nat_eq after m))
-      (found_number world.filesystems k) in
+      ap (λ m. times_in n (located_in nat_eq after m)) (found_number world.filesystems k) in
       let layers : times_in n (layers_in nat_eq after f.number) ≡ times_in n (layers_in nat_eq world f.number)
       = (λ i. times_in n (map (λ layer. layer.directory)
       (filter (λ layer. nat_eq f.number layer.filesystem) (flat_map (of_overlay [] layers_of) (filesystems i))))) in
@@ -110,15 +108,13 @@ module _ (world after : World ℕ) (filesystems : after.filesystems ≡ world.fi
 pub locations_are_uses : LocationsAreUses
 locations_are_uses world after gained lost front back mounts filesystems locations now k = record {
   same = same_found world after filesystems k;
-  uses = λ n.
-      located_uses world after filesystems k n (times (is_inode k n) (map (inode_at world) gained))
+  uses = λ n. located_uses world after filesystems k n (times (is_inode k n) (map (inode_at world) gained))
       (times (is_inode k n) (map (inode_at world) lost))
       (let was : times_in n (located_in nat_eq world k) ≡ count_in world.mounts k n
       ((front ++ (lost ++ back)) ++ roots ++ points) =
       (λ i. count_in world.mounts k n (locations i ++ roots ++ points)) in
       let is : times_in n (located_in nat_eq after k)
-      ≡ count_in world.mounts k n ((front ++ (gained ++ back)) ++ roots ++ points)
-      = (λ i. count_in (mounts i) k n
+      ≡ count_in world.mounts k n ((front ++ (gained ++ back)) ++ roots ++ points) = (λ i. count_in (mounts i) k n
       (now i ++ map root_of (mounts i) ++ filter_map (λ mount. mount.mount_point) (mounts i))) in
       let first = split n lost in
       let second = split n gained in
@@ -134,8 +130,7 @@ locations_are_uses world after gained lost front back mounts filesystems locatio
     points = filter_map (λ mount. mount.mount_point) world.mounts
 
     split : (n : ℕ) (some : List (Location ℕ))
-        → count_in world.mounts k n ((front ++ (some ++ back)) ++ roots ++ points)
-        ≡ ((count_in world.mounts k n front +
+        → count_in world.mounts k n ((front ++ (some ++ back)) ++ roots ++ points) ≡ ((count_in world.mounts k n front +
         (count_in world.mounts k n some + count_in world.mounts k n back)) + count_in world.mounts
         k n roots) + count_in world.mounts k n points
     split n some =
@@ -170,24 +165,21 @@ points_append (first ∷ rest) other = by first.mount_point (points_append rest 
 found_still : (front added back : List (Mount ℕ)) (number : ℕ)
     → any_pair (λ (a b : Mount ℕ). nat_eq a.number b.number) (front ++ (added ++ back)) ≡ false
     → is_among nat_eq number (map (λ mount. mount.number) (front ++ back)) ≡ true
-    → mount_in nat_eq (front ++ (added ++ back)) number
-    ≡ mount_in nat_eq (front ++ back) number
+    → mount_in nat_eq (front ++ (added ++ back)) number ≡ mount_in nat_eq (front ++ back) number
 found_still front added back number one there =
     ap (mount_in nat_eq (front ++ (added ++ back))) (sym (number-mount_in (front ++ back) number))
     ∙ found_itself (front ++ (added ++ back)) one (mount_in nat_eq (front ++ back) number)
     (more (mount_in nat_eq (front ++ back) number) (mount_in-among (front ++ back) number there))
   where
     more : (mount : Mount ℕ) → Among mount (front ++ back) → Among mount (front ++ (added ++ back))
-    more mount m =
-        ⊎_elim (λ here. among-append_left front (added ++ back) mount here)
+    more mount m = ⊎_elim (λ here. among-append_left front (added ++ back) mount here)
         (λ there. among-append_right front (added ++ back) mount (among-append_right added back mount there))
         (Rattle.vt_laws_mounts.proofs.letting_go.Lists.among-append front back mount m)
 
 pub mounts_are_uses : MountsAreUses
 mounts_are_uses world after front added back filesystems locations were are one on k = record {
   same = same_found world after filesystems k;
-  uses = λ n.
-      located_uses world after filesystems k n (times (is_inode k n) (map (inode_at after) (places_of added))) 0
+  uses = λ n. located_uses world after filesystems k n (times (is_inode k n) (map (inode_at after) (places_of added))) 0
       (let was : times_in n (located_in nat_eq world k)
       ≡ count_in old k n ((all_locations world ++ map root_of old) ++ points old)
       = (λ i. count_in (were i) k n (all_locations world ++ map root_of (were i) ++ points (were i))) in
@@ -199,8 +191,7 @@ mounts_are_uses world after front added back filesystems locations were are one 
       let gains : times (is_inode k n) (map (inode_at after) (places_of added))
       ≡ count_in new k n (map root_of added ++ points added)
       = (λ i. times (is_inode k n) (map (λ (l : Location ℕ). ((mount_in nat_eq (are i) l.mount).filesystem, l.node))
-      (places_of added)))
-      ∙ count_places new k n (places_of added) in
+      (places_of added))) ∙ count_places new k n (places_of added) in
       let a = count_append new k n (map root_of added) (points added) in
       let b = count_append new k n (all_locations world ++ map root_of old) (points old) in
       let c = count_append new k n (all_locations world) (map root_of old) in
@@ -233,11 +224,9 @@ mounts_are_uses world after front added back filesystems locations were are one 
 
     same_counts : (n : ℕ) → count_in new k n ((all_locations world ++ map root_of old) ++ points old)
         ≡ count_in old k n ((all_locations world ++ map root_of old) ++ points old)
-    same_counts n =
-        ap (λ l. times_in n (map (λ location. location.node) l))
+    same_counts n = ap (λ l. times_in n (map (λ location. location.node) l))
         (filter_alike (shown new k n) (shown old k n) ((all_locations world ++ map root_of old) ++ points old)
-        (λ l m. ap (λ (mount : Mount ℕ). nat_eq k mount.filesystem)
-        (found_still front added back l.mount one_new
+        (λ l m. ap (λ (mount : Mount ℕ). nat_eq k mount.filesystem) (found_still front added back l.mount one_new
         (passes (is_on old) ((all_locations world ++ map root_of old) ++ points old) on_old l m))))
 
     roots : (n : ℕ) → count_in new k n (map root_of new)
@@ -248,8 +237,7 @@ mounts_are_uses world after front added back filesystems locations were are one 
         = ap (count_in new k n) (roots_append front (added ++ back)
         ∙ ap (λ l. map root_of front ++ l) (roots_append added back)) in
         let b : count_in new k n (map root_of old) ≡ count_in new k n (map root_of front ++ map root_of back) =
-        ap (count_in new k n)
-        (roots_append front back) in
+        ap (count_in new k n) (roots_append front back) in
         let c = count_append new k n (map root_of front) (map root_of added ++ map root_of back) in
         let d = count_append new k n (map root_of added) (map root_of back) in
         let e = count_append new k n (map root_of front) (map root_of back) in
@@ -270,8 +258,7 @@ mounts_are_uses world after front added back filesystems locations were are one 
 -- A mount that is placed
 
 found_placed : (front back : List (Mount ℕ)) (old new : Mount ℕ) → new.number ≡ old.number
-    → new.filesystem ≡ old.filesystem → (number : ℕ)
-    → (mount_in nat_eq (front ++ (new ∷ back)) number).filesystem
+    → new.filesystem ≡ old.filesystem → (number : ℕ) → (mount_in nat_eq (front ++ (new ∷ back)) number).filesystem
     ≡ (mount_in nat_eq (front ++ (old ∷ back)) number).filesystem
 found_placed [] back old new numbered shows number =
     (λ i. (unwrap_or (cond (nat_eq number (numbered i)) (Some new) (find (λ mount. nat_eq number mount.number) back))
@@ -297,8 +284,7 @@ found_placed (first ∷ front) back old new numbered shows number = by (nat_eq n
 pub mount_is_placed : MountIsPlaced
 mount_is_placed world after front back old new filesystems locations were are numbered shows rooted k = record {
   same = same_found world after filesystems k;
-  uses = λ n.
-      located_uses world after filesystems k n
+  uses = λ n. located_uses world after filesystems k n
       (times (is_inode k n) (map (inode_at world) (option_to_list new.mount_point)))
       (times (is_inode k n) (map (inode_at world) (option_to_list old.mount_point)))
       (let was : times_in n (located_in nat_eq world k)
@@ -329,8 +315,7 @@ mount_is_placed world after front back old new filesystems locations were are nu
     points mounts = filter_map (λ mount. mount.mount_point) mounts
 
     same_roots : map root_of news ≡ map root_of olds
-    same_roots =
-        roots_append front (new ∷ back)
+    same_roots = roots_append front (new ∷ back)
         ∙ (λ i. map root_of front ++ (record { mount = numbered i; node = rooted i } ∷ map root_of back))
         ∙ sym (roots_append front (old ∷ back))
 
@@ -343,9 +328,7 @@ mount_is_placed world after front back old new filesystems locations were are nu
     parts : (n : ℕ) (mount : Mount ℕ) → count_in olds k n (points (front ++ (mount ∷ back)))
         ≡ (count_in olds k n (points front) + count_in olds k n (option_to_list mount.mount_point)) + count_in olds k n
         (points back)
-    parts n mount =
-        ap (count_in olds k n) (points_append front (mount ∷ back))
-        ∙ by mount.mount_point
+    parts n mount = ap (count_in olds k n) (points_append front (mount ∷ back)) ∙ by mount.mount_point
       where
         by : (o : Option (Location ℕ)) → count_in olds k n (points front ++ cons_option o (points back))
             ≡ (count_in olds k n (points front) + count_in olds k n (option_to_list o)) + count_in olds k n
@@ -376,8 +359,7 @@ others_use_nothing world after k plain plain_after mounts locations same = recor
       let there : inode_uses after (filesystem_numbered nat_eq after k) n ≡ inode_uses after f n =
       ap (λ g. inode_uses after g n) same in
       let here : inode_uses after f n ≡ inode_uses world f n
-      = (λ i. times (nat_eq n) (f.files.tree.root ∷ (named_in f.files
-      ++ map (λ location. location.node)
+      = (λ i. times (nat_eq n) (f.files.tree.root ∷ (named_in f.files ++ map (λ location. location.node)
       (filter (shown (mounts i) f.number n)
       (locations i ++ map root_of (mounts i) ++ filter_map (λ mount. mount.mount_point) (mounts i)))
       ++ (no_layers_of after (plain_of after plain_after) f.number
@@ -427,13 +409,10 @@ new_tree_counts world number root no_layers no_objects one own outside = record 
   once = refl;
 }
   where
-    nodes : (n : ℕ) (b : Bool) → node_in (cond b
-        (Some (record {
-          node = record { attr = root_attr; content = new_directory root };
-          uses = 1 + mounts_showing
-              world number;
-        })) None)
-        ≡ cond b (Some (record { attr = root_attr; content = new_directory root })) None
+    nodes : (n : ℕ) (b : Bool) → node_in (cond b (Some (record {
+      node = record { attr = root_attr; content = new_directory root };
+      uses = 1 + mounts_showing world number;
+    })) None) ≡ cond b (Some (record { attr = root_attr; content = new_directory root })) None
     nodes n true = refl
     nodes n false = refl
 
@@ -446,8 +425,7 @@ new_tree_counts world number root no_layers no_objects one own outside = record 
         by : (b : Bool) → ◌≡◌ {A = ℕ} 0 (cond b 0 0)
         by true = refl
         by false = refl
-    roots n (first ∷ rest) within =
-        ap (λ (mount : Mount ℕ). times_in n (map (λ location. location.node)
+    roots n (first ∷ rest) within = ap (λ (mount : Mount ℕ). times_in n (map (λ location. location.node)
         (cond (nat_eq number mount.filesystem) (root_of first ∷ filter (shown world.mounts number n) (map root_of rest))
         (filter (shown world.mounts number n) (map root_of rest)))))
         (found_itself world.mounts one first (within first (inl refl)))
@@ -457,15 +435,12 @@ new_tree_counts world number root no_layers no_objects one own outside = record 
       where
         by : (b : Bool) → (not b || nat_eq root first.root) ≡ true
             → count_in world.mounts number n (map root_of rest) ≡ cond (nat_eq n root)
-            (times (λ mount. nat_eq number mount.filesystem) rest) 0
-            → times_in n (map (λ location. location.node)
+            (times (λ mount. nat_eq number mount.filesystem) rest) 0 → times_in n (map (λ location. location.node)
             (cond b (root_of first ∷ filter (shown world.mounts number n) (map root_of rest))
             (filter (shown world.mounts number n) (map root_of rest))))
             ≡ cond (nat_eq n root) (cond b 1 0 + times (λ mount. nat_eq number mount.filesystem) rest) 0
-        by true same later =
-            ap (λ r. one_if n r + count_in world.mounts number n (map root_of rest))
-            (sym (eqb-true root first.root same))
-            ∙ (λ i. one_if n root + later i)
+        by true same later = ap (λ r. one_if n r + count_in world.mounts number n (map root_of rest))
+            (sym (eqb-true root first.root same)) ∙ (λ i. one_if n root + later i)
             ∙ add (nat_eq n root) (times (λ mount. nat_eq number mount.filesystem) rest)
           where
             add : (b : Bool) (m : ℕ) → cond b 1 0 + cond b m 0 ≡ cond b (1 + m) 0
@@ -486,15 +461,11 @@ new_tree_counts world number root no_layers no_objects one own outside = record 
 
     uses : (n : ℕ) → uses_in ((one_counted root (1 + mounts_showing world number)).inode n)
         ≡ inode_uses world (new_plain nat_eq number root) n
-    uses n =
-        by (nat_eq n root) refl
-        ∙ sym (let split = uses_split world (new_plain nat_eq number root) n in
-        let bare : times_in n (named_in (new_plain nat_eq number root).files)
-        ≡ 0 = ap (λ b. times_in n (targets_in
+    uses n = by (nat_eq n root) refl ∙ sym (let split = uses_split world (new_plain nat_eq number root) n in
+        let bare : times_in n (named_in (new_plain nat_eq number root).files) ≡ 0 = ap (λ b. times_in n (targets_in
         (cond b (Some (record { attr = root_attr; content = new_directory root })) None) ++ []))
         (eq-eqb root root refl) in
-        let layers : times_in n (layers_in nat_eq world number) ≡ 0 =
-        ap (times_in n) no_layers in
+        let layers : times_in n (layers_in nat_eq world number) ≡ 0 = ap (times_in n) no_layers in
         let objects : times_in n (flat_map (objects_of_overlay nat_eq number) world.filesystems)
         ≡ 0 = ap (times_in n) no_objects in
         let a : times_in n (located_in nat_eq world number) ≡ count_in world.mounts number n
@@ -508,13 +479,10 @@ new_tree_counts world number root no_layers no_objects one own outside = record 
         (mounts_showing world number) 0 = omega arith in
         all)
       where
-        by : (b : Bool) → nat_eq n root ≡ b
-            → uses_in (cond b (Some (record {
-              node = record { attr = root_attr; content = new_directory root };
-              uses = 1 + mounts_showing
-                  world number;
-            })) None)
-            ≡ cond b 1 0 + cond b (mounts_showing world number) 0
+        by : (b : Bool) → nat_eq n root ≡ b → uses_in (cond b (Some (record {
+          node = record { attr = root_attr; content = new_directory root };
+          uses = 1 + mounts_showing world number;
+        })) None) ≡ cond b 1 0 + cond b (mounts_showing world number) 0
         by true e = refl
         by false e = refl
 
@@ -554,11 +522,8 @@ opening_is_counted fresh = subst (λ f. IsCounted world f (one_counted root 4)) 
     here = first_location nat_eq fresh
 
     is_shown : shown world.mounts (fresh 2) 0 here ≡ true
-    is_shown =
-        ap (λ b. nat_eq (fresh 2) (unwrap_or (cond b (Some (first_mount nat_eq fresh)) None)
-        (no_mount (fresh 0))).filesystem)
-        (eq-eqb (fresh 0) (fresh 0) refl)
-        ∙ eq-eqb (fresh 2) (fresh 2) refl
+    is_shown = ap (λ b. nat_eq (fresh 2) (unwrap_or (cond b (Some (first_mount nat_eq fresh)) None)
+        (no_mount (fresh 0))).filesystem) (eq-eqb (fresh 0) (fresh 0) refl) ∙ eq-eqb (fresh 2) (fresh 2) refl
 
     one_here : (n : ℕ) (rest : List (Location ℕ)) → count_in world.mounts (fresh 2) n (here ∷ rest)
         ≡ one_if n root + count_in world.mounts (fresh 2) n rest
@@ -567,11 +532,8 @@ opening_is_counted fresh = subst (λ f. IsCounted world f (one_counted root 4)) 
         (filter (shown world.mounts (fresh 2) n) rest)))) is_shown
 
     uses : (n : ℕ) → uses_in ((one_counted root 4).inode n) ≡ inode_uses world tree n
-    uses n =
-        by (nat_eq n root)
-        ∙ sym (let split = uses_split world tree n in
-        let bare : times_in n (named_in tree.files)
-        ≡ 0 = ap (λ b. times_in n (targets_in
+    uses n = by (nat_eq n root) ∙ sym (let split = uses_split world tree n in
+        let bare : times_in n (named_in tree.files) ≡ 0 = ap (λ b. times_in n (targets_in
         (cond b (Some (record { attr = root_attr; content = new_directory root })) None) ++ []))
         (eq-eqb root root refl) in
         let layers : times_in n (layers_in nat_eq world (fresh 2)) ≡ 0 = refl in

@@ -27,9 +27,7 @@ module _ (world : World ℕ) (number : ℕ) (alone : has_child nat_eq world numb
       keeps : (o : Option (Location ℕ)) → mount.mount_point ≡ o
           → option_map (mount_point_left nat_eq world (number ∷ [])) o ≡ o
       keeps None e = refl
-      keeps (Some place) e =
-          ap Some (stays_at place
-          (sym (ap (holds_of (λ l. nat_eq number l.mount)) e)
+      keeps (Some place) e = ap Some (stays_at place (sym (ap (holds_of (λ l. nat_eq number l.mount)) e)
           ∙ fails (stands_on nat_eq number) world.mounts alone mount m))
 
       by : (b : Bool) → cond (b || false) (detached mount)
@@ -40,8 +38,7 @@ module _ (world : World ℕ) (number : ℕ) (alone : has_child nat_eq world numb
 
   goes_alone : StandsUnshared world number
       → unmounted nat_eq world number ≡ regrouped nat_eq (without_place world number)
-  goes_alone unshared =
-      ap (taken_away nat_eq world) (by (mount_numbered nat_eq world number).mount_point unshared)
+  goes_alone unshared = ap (taken_away nat_eq world) (by (mount_numbered nat_eq world number).mount_point unshared)
       ∙ ap (λ mounts. regrouped nat_eq (with_mounts world mounts))
       (map_alike (after_going nat_eq world (number ∷ [])) (detached_if number) world.mounts one_by_one)
     where
@@ -52,15 +49,12 @@ module _ (world : World ℕ) (number : ℕ) (alone : has_child nat_eq world numb
       its_number = ap (λ n. n ∷ []) (number-mount_in world.mounts number)
 
       by : (o : Option (Location ℕ))
-          → list_all (λ place. not (is_shared (mount_at nat_eq world place).propagation)) (option_to_list o)
-          ≡ true
+          → list_all (λ place. not (is_shared (mount_at nat_eq world place).propagation)) (option_to_list o) ≡ true
           → going_at nat_eq world mount o ≡ number ∷ []
       by None e = its_number
-      by (Some place) e =
-          ap (going_from nat_eq world mount place)
+      by (Some place) e = ap (going_from nat_eq world mount place)
           (not-true (is_shared (mount_at nat_eq world place).propagation)
-          (and_parts (not (is_shared (mount_at nat_eq world place).propagation)) true e).0)
-          ∙ its_number
+          (and_parts (not (is_shared (mount_at nat_eq world place).propagation)) true e).0) ∙ its_number
 
 pub unmount_is_of_one : UnmountIsOfOne
 unmount_is_of_one world number alone unshared = goes_alone world number alone unshared
@@ -73,15 +67,12 @@ pub found-map : (change : Mount ℕ → Mount ℕ) → ((mount : Mount ℕ) → 
 found-map change same [] number mount m e f = absurd m
 found-map change same (first ∷ rest) number mount m e f =
     ap (λ n. unwrap_or (cond (nat_eq number n) (Some (change first))
-    (find (λ x. nat_eq number x.number) (map change rest)))
-    (no_mount number)) (same first)
-    ∙ by (nat_eq number first.number) refl
-    (λ g h. found-map change same rest number mount g h f) m e
+    (find (λ x. nat_eq number x.number) (map change rest))) (no_mount number)) (same first)
+    ∙ by (nat_eq number first.number) refl (λ g h. found-map change same rest number mount g h f) m e
   where
     by : (b : Bool) → nat_eq number first.number ≡ b
         → (Among mount rest → mount_in nat_eq rest number ≡ mount → mount_in nat_eq (map change rest) number
-        ≡ change (mount_in nat_eq rest number))
-        → Among mount (first ∷ rest)
+        ≡ change (mount_in nat_eq rest number)) → Among mount (first ∷ rest)
         → unwrap_or (cond (nat_eq number first.number) (Some first) (find (λ x. nat_eq number x.number) rest))
         (no_mount number) ≡ mount
         → unwrap_or (cond b (Some (change first)) (find (λ x. nat_eq number x.number) (map change rest)))
@@ -89,15 +80,12 @@ found-map change same (first ∷ rest) number mount m e f =
         ≡ change (unwrap_or (cond (nat_eq number first.number) (Some first) (find (λ x. nat_eq number x.number) rest))
         (no_mount number))
     by true g later n h = ap (λ b.
-        change (unwrap_or (cond b (Some first) (find (λ x. nat_eq number x.number) rest)) (no_mount number)))
-        (sym g)
-    by false g later n h =
-        later
+        change (unwrap_or (cond b (Some first) (find (λ x. nat_eq number x.number) rest)) (no_mount number))) (sym g)
+    by false g later n h = later
         (⊎_elim (λ is. absurd (true≢false (sym (eq-eqb number first.number (sym f ∙ ap (λ x. x.number) is)) ∙ g)))
         (λ l. l) n)
         (sym (ap (λ b. unwrap_or (cond b (Some first) (find (λ x. nat_eq number x.number) rest)) (no_mount number)) g)
-        ∙ h)
-        ∙ ap (λ b. change (unwrap_or (cond b (Some first) (find (λ x. nat_eq number x.number) rest))
+        ∙ h) ∙ ap (λ b. change (unwrap_or (cond b (Some first) (find (λ x. nat_eq number x.number) rest))
         (no_mount number))) (sym g)
 
 -- where none has the number, none has it after the change

@@ -22,14 +22,12 @@ closed_or_still task number location (inl e) = inl (inl e)
 closed_or_still task number location (inr (inl e)) = inl (inr (inl e))
 closed_or_still task number location (inr (inr m)) =
     let from = among-from_map (λ (d : Descriptor ℕ). d.location) task.descriptors location m in
-    ⊎_elim
-    (λ is. inr (subst (λ l. Among l (locations_closed task number)) (sym from.2)
+    ⊎_elim (λ is. inr (subst (λ l. Among l (locations_closed task number)) (sym from.2)
     (among-map (λ (d : Descriptor ℕ). d.location)
     (filter (λ (d : Descriptor ℕ). number == d.number) task.descriptors) from.0
     (among-filter (λ (d : Descriptor ℕ). number == d.number) task.descriptors from.0 from.1 is))))
     (λ isnt. inl (inr (inr (subst (λ l.
-    Among l (map (λ (d : Descriptor ℕ). d.location) (without_descriptor task number).descriptors))
-    (sym from.2)
+    Among l (map (λ (d : Descriptor ℕ). d.location) (without_descriptor task number).descriptors)) (sym from.2)
     (among-map (λ (d : Descriptor ℕ). d.location) (without_descriptor task number).descriptors from.0
     (among-filter (λ (d : Descriptor ℕ). not (number == d.number)) task.descriptors from.0 from.1 (ap not isnt)))))))
     (cases_Bool (number == from.0.number))
@@ -39,8 +37,7 @@ closes_let_go number fresh world task settles one there =
     leaving_overlays_lets_go world (with_task world (without_descriptor task number)).tasks
     (locations_closed task number) settles
     (replaced_leaves world task (without_descriptor task number) (locations_closed task number) one
-    (among_from_contains world.tasks task there) refl
-    (closed_or_still task number))
+    (among_from_contains world.tasks task there) refl (closed_or_still task number))
 
 pub changed_directories_let_go : ChangedDirectoriesLetGo
 changed_directories_let_go directory fresh world task settles one there =
@@ -79,8 +76,7 @@ pub new_credentials_keep_all : NewCredentialsKeepAll
 new_credentials_keep_all credentials fresh world task settles one there =
     staying_keeps_overlays world (with_task world (record task { credentials = credentials })).tasks settles
     (replaced_leaves world task (record task { credentials = credentials }) [] one
-    (among_from_contains world.tasks task there) refl
-    (λ location m. inl m))
+    (among_from_contains world.tasks task there) refl (λ location m. inl m))
 
 pub opened_files_keep_all : OpenedFilesKeepAll
 opened_files_keep_all fresh world task file access settles one there not_copied =
@@ -94,9 +90,7 @@ more_tasks : (world : World ℕ) (tasks more : List (Task ℕ)) → only_these_a
     → only_these_are_left world (tasks ++ more) [] ≡ true
 more_tasks world tasks more only =
     all_pass (λ location. is_location_among (flat_map locations_of (tasks ++ more)) location
-    || is_location_among [] location)
-    (all_locations world)
-    (λ location m. by location (passes
+    || is_location_among [] location) (all_locations world) (λ location m. by location (passes
     (λ l. is_location_among (flat_map locations_of tasks) l || is_location_among [] l)
     (all_locations world) only location m))
   where
@@ -112,9 +106,7 @@ more_tasks world tasks more only =
 
     by : (location : Location ℕ) → (is_location_among (flat_map locations_of tasks) location || false) ≡ true
         → (is_location_among (flat_map locations_of (tasks ++ more)) location || false) ≡ true
-    by location e =
-        ap (λ b. b || false)
-        (ap (λ l. is_location_among l location) (spread tasks)
+    by location e = ap (λ b. b || false) (ap (λ l. is_location_among l location) (spread tasks)
         ∙ list_any-append (same_location nat_eq location) (flat_map locations_of tasks) (flat_map locations_of more))
         ∙ either (is_location_among (flat_map locations_of tasks) location)
         (is_location_among (flat_map locations_of more) location) e

@@ -25,9 +25,7 @@ module _ (world : World ℕ) (change : Mount ℕ → Mount ℕ) (master : ℕ �
   after = with_changed world change master
 
   same_roots : map root_of (map change world.mounts) ≡ map root_of world.mounts
-  same_roots =
-      map_twice root_of change world.mounts
-      ∙ map_alike (λ mount. root_of (change mount)) root_of world.mounts
+  same_roots = map_twice root_of change world.mounts ∙ map_alike (λ mount. root_of (change mount)) root_of world.mounts
       (λ mount m. λ i. record { mount = keeps.number mount i; node = keeps.root mount i })
 
   same_places : (mounts : List (Mount ℕ)) → filter_map (λ mount. mount.mount_point) (map change mounts)
@@ -37,12 +35,9 @@ module _ (world : World ℕ) (change : Mount ℕ → Mount ℕ) (master : ℕ �
 
   same_filesystem : (number : ℕ)
       → (mount_in nat_eq after.mounts number).filesystem ≡ (mount_in nat_eq world.mounts number).filesystem
-  same_filesystem number =
-      ⊎_elim (λ e. e)
-      (λ found. ap (λ x. x.filesystem)
+  same_filesystem number = ⊎_elim (λ e. e) (λ found. ap (λ x. x.filesystem)
       (found-map change keeps.number world.mounts number found.0 found.1 found.2 found.3)
-      ∙ keeps.filesystem (mount_in nat_eq world.mounts number))
-      (not_found-map change keeps.number world.mounts number)
+      ∙ keeps.filesystem (mount_in nat_eq world.mounts number)) (not_found-map change keeps.number world.mounts number)
 
   same_located : (number : ℕ) → located_in nat_eq after number ≡ located_in nat_eq world number
   same_located number = λ i. map (λ location. location.node)
@@ -90,19 +85,16 @@ types_keep_all world change master all keeps groups =
 
 -- Flags
 pub flags_are_of_one : FlagsAreOfOne
-flags_are_of_one world here flags one =
-    ap (with_mounts world)
+flags_are_of_one world here flags one = ap (with_mounts world)
     (map_alike (replaced_if_same nat_eq (record (mount_at nat_eq world here) { flags = flags }))
     (flags_if here.mount flags) world.mounts
     (λ mount m. ap (λ n. cond (nat_eq n mount.number) (record (mount_at nat_eq world here) { flags = flags }) mount)
-    (number-mount_in world.mounts here.mount)
-    ∙ by mount m (nat_eq here.mount mount.number) refl))
+    (number-mount_in world.mounts here.mount) ∙ by mount m (nat_eq here.mount mount.number) refl))
   where
     by : (mount : Mount ℕ) → Among mount world.mounts → (b : Bool) → nat_eq here.mount mount.number ≡ b
         → cond b (record (mount_at nat_eq world here) { flags = flags }) mount
         ≡ cond (nat_eq mount.number here.mount) (record mount { flags = flags }) mount
-    by mount m true e =
-        ap (λ (x : Mount ℕ). record x { flags = flags })
+    by mount m true e = ap (λ (x : Mount ℕ). record x { flags = flags })
         (ap (mount_in nat_eq world.mounts) (eqb-true here.mount mount.number e) ∙ found_itself world.mounts one mount m)
         ∙ ap (λ b. cond b (record mount { flags = flags }) mount)
         (sym (eq-eqb mount.number here.mount (sym (eqb-true here.mount mount.number e))))

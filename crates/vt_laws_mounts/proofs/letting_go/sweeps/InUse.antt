@@ -27,8 +27,7 @@ used_by_all world filesystem false all = refl
 
 pub inodes_stay : (chosen : Filesystem ℕ → Bool) (world : World ℕ) → InodesInUse world
     → without_dead_in nat_eq chosen world ≡ world
-inodes_stay chosen world all =
-    ap (λ filesystems. record world { filesystems = filesystems })
+inodes_stay chosen world all = ap (λ filesystems. record world { filesystems = filesystems })
     (map_same (λ filesystem. only_used nat_eq world (chosen filesystem) filesystem) world.filesystems
     (λ filesystem m. used_by_all world filesystem (chosen filesystem)
     (among_from_all (λ f. list_all (is_inode_used world f) f.files.numbers ≡ true) world.filesystems all filesystem m)))
@@ -41,8 +40,7 @@ mounts_stay world all = ap (with_mounts world) (filter_all (mount_lives nat_eq w
     (passes (mount_lives nat_eq world) world.mounts all))
 
 pub filesystems_stay : (world : World ℕ) → FilesystemsInUse world → without_dead_filesystems nat_eq world ≡ world
-filesystems_stay world all =
-    ap (λ filesystems. record world { filesystems = filesystems })
+filesystems_stay world all = ap (λ filesystems. record world { filesystems = filesystems })
     (filter_all (filesystem_lives nat_eq world) world.filesystems
     (passes (filesystem_lives nat_eq world) world.filesystems all))
 
@@ -97,8 +95,7 @@ module _ (used : List ℕ) (filesystem : Filesystem ℕ) where
   pub numbers-left : (all : Bool) → list_all (λ number. is_among nat_eq number used) filesystem.files.numbers ≡ all
       → list_all (λ number. is_among nat_eq number used) (left_by all).files.numbers ≡ true
   numbers-left true e = e
-  numbers-left false e =
-      all_pass (λ number. is_among nat_eq number used)
+  numbers-left false e = all_pass (λ number. is_among nat_eq number used)
       (filter (λ number. is_among nat_eq number used) filesystem.files.numbers)
       (λ x m. (among-from_filter (λ number. is_among nat_eq number used) filesystem.files.numbers x m).1)
 
@@ -108,35 +105,29 @@ pub unused_are_empty : (world : World ℕ) (filesystem : Filesystem ℕ) → IsL
 unused_are_empty world filesystem conditions number unused =
     let parts = or_parts (nat_eq number filesystem.files.tree.root) _ unused in
     unnamed_is_empty filesystem.files conditions number
-    (λ root. true≢false (sym (eq-eqb number filesystem.files.tree.root root) ∙ parts.0))
-    (⊎_elim
-    (λ named. absurd (true≢false
-    (sym (or_second (nat_eq number filesystem.files.tree.root) _
+    (λ root. true≢false (sym (eq-eqb number filesystem.files.tree.root root) ∙ parts.0)) (⊎_elim
+    (λ named. absurd (true≢false (sym (or_second (nat_eq number filesystem.files.tree.root) _
     (is_among_left number (named_in filesystem.files ++ located_in nat_eq world filesystem.number
     ++ layers_in nat_eq world filesystem.number)
     (flat_map (objects_of_overlay nat_eq filesystem.number) world.filesystems)
     (is_among_left number (named_in filesystem.files ++ located_in nat_eq world filesystem.number)
     (layers_in nat_eq world filesystem.number)
     (is_among_left number (named_in filesystem.files) (located_in nat_eq world filesystem.number) named)))) ∙ unused)))
-    (λ unnamed. unnamed)
-    (cases_Bool (is_among nat_eq number (named_in filesystem.files))))
+    (λ unnamed. unnamed) (cases_Bool (is_among nat_eq number (named_in filesystem.files))))
 
 -- a place that is there is in use
-pub used_at : (world : World ℕ) (filesystem : Filesystem ℕ) (location : Location ℕ)
-    → Among location
+pub used_at : (world : World ℕ) (filesystem : Filesystem ℕ) (location : Location ℕ) → Among location
     (all_locations world ++ map root_of world.mounts ++ filter_map (λ mount. mount.mount_point) world.mounts)
     → filesystem.number ≡ (mount_at nat_eq world location).filesystem
     → is_inode_used world filesystem location.node ≡ true
-used_at world filesystem location m e =
-    or_second (nat_eq location.node filesystem.files.tree.root) _
+used_at world filesystem location m e = or_second (nat_eq location.node filesystem.files.tree.root) _
     (is_among_left location.node (named_in filesystem.files ++ located_in nat_eq world filesystem.number
     ++ layers_in nat_eq world filesystem.number)
     (flat_map (objects_of_overlay nat_eq filesystem.number) world.filesystems)
     (is_among_left location.node (named_in filesystem.files ++ located_in nat_eq world filesystem.number)
     (layers_in nat_eq world filesystem.number)
     (is_among_right location.node (named_in filesystem.files) (located_in nat_eq world filesystem.number)
-    (is_among_numbers location.node (located_in nat_eq world filesystem.number)
-    (among-map (λ l. l.node) (filter
+    (is_among_numbers location.node (located_in nat_eq world filesystem.number) (among-map (λ l. l.node) (filter
     (λ l. nat_eq filesystem.number (mount_at nat_eq world l).filesystem) places) location
     (among-filter (λ l. nat_eq filesystem.number (mount_at nat_eq world l).filesystem) places location m
     (eq-eqb filesystem.number (mount_at nat_eq world location).filesystem e)))))))
@@ -164,8 +155,7 @@ layers_stay before after still filesystem number m =
     is_layer : (f : Filesystem ℕ) (layer : Layer ℕ) → Among layer (of_overlay [] layers_of f)
         → ((g : Filesystem ℕ) × Among g after.filesystems × (of_overlay [] layers_of g ≡ of_overlay [] layers_of f))
         → Among layer (flat_map (of_overlay [] layers_of) after.filesystems)
-    is_layer f layer among same =
-        among-flat_map (of_overlay [] layers_of) after.filesystems same.0 layer same.1
+    is_layer f layer among same = among-flat_map (of_overlay [] layers_of) after.filesystems same.0 layer same.1
         (subst (Among layer) (sym same.2) among)
 
     is_in : Layer ℕ → Bool
@@ -224,17 +214,14 @@ module _ (world : World ℕ) where
 
   objects_after_second : (number : ℕ) (filesystem : Filesystem ℕ)
       → objects_of_overlay nat_eq number (after_second filesystem) ≡ objects_of_overlay nat_eq number filesystem
-  objects_after_second number filesystem =
-      ⊎_elim
+  objects_after_second number filesystem = ⊎_elim
       (λ e. ap (objects_of_overlay nat_eq number) (second_leaves filesystem e))
       (λ e. no_objects number (after_second filesystem)
       (ap (λ b. is_overlay (only_used nat_eq first (not b) filesystem)) e
-      ∙ overlay-left (used_in nat_eq first filesystem) filesystem _ ∙ e)
-      ∙ sym (no_objects number filesystem e))
+      ∙ overlay-left (used_in nat_eq first filesystem) filesystem _ ∙ e) ∙ sym (no_objects number filesystem e))
       (cases_Bool (is_overlay filesystem))
 
-  same_objects : (number : ℕ)
-      → flat_map (objects_of_overlay nat_eq number) (settled nat_eq world).filesystems
+  same_objects : (number : ℕ) → flat_map (objects_of_overlay nat_eq number) (settled nat_eq world).filesystems
       ≡ flat_map (objects_of_overlay nat_eq number) first.filesystems
   same_objects number = flat_map-map after_second (objects_of_overlay nat_eq number) first.filesystems
       (objects_after_second number)
@@ -250,8 +237,7 @@ module _ (world : World ℕ) where
   overlays_used filesystem conditions e plain =
       ap (λ f. list_all (is_inode_used (settled nat_eq world) f) f.files.numbers)
       (second_leaves (after_first filesystem) (ap (λ b. is_overlay (only_used nat_eq living b filesystem)) e
-      ∙ overlay-left used filesystem _ ∙ e)
-      ∙ ap (λ b. only_used nat_eq living b filesystem) e)
+      ∙ overlay-left used filesystem _ ∙ e) ∙ ap (λ b. only_used nat_eq living b filesystem) e)
       ∙ by (list_all (λ number. is_among nat_eq number used) filesystem.files.numbers) refl
     where
       used : List ℕ
@@ -270,8 +256,7 @@ module _ (world : World ℕ) where
 
       still : (all : Bool) (number : ℕ) → is_among nat_eq number used ≡ true
           → is_among nat_eq number (used_in nat_eq (settled nat_eq world) (left_by used filesystem all)) ≡ true
-      still all number is =
-          ap (is_among nat_eq number) (same all)
+      still all number is = ap (is_among nat_eq number) (same all)
           ∙ more (filesystem.files.tree.root ∷ (named_in filesystem.files ++ located_in nat_eq living filesystem.number
           ++ layers_in nat_eq living filesystem.number))
           (flat_map (objects_of_overlay nat_eq filesystem.number) living.filesystems)
@@ -280,8 +265,7 @@ module _ (world : World ℕ) where
         where
           more : (front before after : List ℕ) → before ≡ [] → is_among nat_eq number (front ++ before) ≡ true
               → is_among nat_eq number (front ++ after) ≡ true
-          more front before after none h =
-              ⊎_elim (λ g. is_among_left number front after g)
+          more front before after none h = ⊎_elim (λ g. is_among_left number front after g)
               (λ g. absurd (true≢false (sym g ∙ ap (is_among nat_eq number) none)))
               (or_cases (is_among nat_eq number front) (is_among nat_eq number before)
               (sym (list_any-append (nat_eq number) front before) ∙ h))
@@ -289,10 +273,8 @@ module _ (world : World ℕ) where
       by : (all : Bool) → list_all (λ number. is_among nat_eq number used) filesystem.files.numbers ≡ all
           → list_all (is_inode_used (settled nat_eq world) (left_by used filesystem all))
           (left_by used filesystem all).files.numbers ≡ true
-      by all f =
-          all_pass (is_inode_used (settled nat_eq world) (left_by used filesystem all))
-          (left_by used filesystem all).files.numbers
-          (λ number m. still all number
+      by all f = all_pass (is_inode_used (settled nat_eq world) (left_by used filesystem all))
+          (left_by used filesystem all).files.numbers (λ number m. still all number
           (passes (λ n. is_among nat_eq n used) (left_by used filesystem all).files.numbers
           (numbers-left used filesystem all f) number m))
 
@@ -300,8 +282,7 @@ module _ (world : World ℕ) where
   plain_used : (filesystem : Filesystem ℕ) → IsListedTree filesystem.files → is_overlay filesystem ≡ false
       → list_all (is_inode_used (settled nat_eq world) (after_second (after_first filesystem)))
       (after_second (after_first filesystem)).files.numbers ≡ true
-  plain_used filesystem conditions e =
-      ap (λ f. list_all (is_inode_used (settled nat_eq world) f) f.files.numbers)
+  plain_used filesystem conditions e = ap (λ f. list_all (is_inode_used (settled nat_eq world) f) f.files.numbers)
       (ap after_second (ap (λ b. only_used nat_eq living b filesystem) e)
       ∙ ap (λ b. only_used nat_eq first (not b) filesystem) e)
       ∙ by (list_all (λ number. is_among nat_eq number used) filesystem.files.numbers) refl
@@ -328,16 +309,14 @@ module _ (world : World ℕ) where
   -- a filesystem that is left was there, and lived
   was_there : (last : Filesystem ℕ) → Among last (settled nat_eq world).filesystems
       → (filesystem : Filesystem ℕ) × Among filesystem world.filesystems
-      × (filesystem_lives nat_eq mounted filesystem ≡ true)
-      × (last ≡ after_second (after_first filesystem))
+      × (filesystem_lives nat_eq mounted filesystem ≡ true) × (last ≡ after_second (after_first filesystem))
   was_there last m =
       let second = among-from_map after_second first.filesystems last m in
       let one = among-from_map after_first living.filesystems second.0 second.1 in
       let was = among-from_filter (filesystem_lives nat_eq mounted) world.filesystems one.0 one.1 in
       (one.0, was.0, was.1, second.2 ∙ ap after_second one.2)
 
-  pub layers_on : (number : ℕ) (filesystem : Filesystem ℕ)
-      → has_layer_on nat_eq number filesystem
+  pub layers_on : (number : ℕ) (filesystem : Filesystem ℕ) → has_layer_on nat_eq number filesystem
       ≡ list_any (λ layer. nat_eq number layer.filesystem) (of_overlay [] layers_of filesystem)
   layers_on number filesystem = grind (arith, common_steps)
 
@@ -346,8 +325,7 @@ module _ (world : World ℕ) where
   still_lives filesystem lives =
       ap (λ n. is_mounted nat_eq mounted n || list_any (λ merged. has_layer_on nat_eq n merged
       && is_mounted nat_eq mounted merged.number) (settled nat_eq world).filesystems)
-      (number-second (after_first filesystem) ∙ number-first filesystem)
-      ∙ ⊎_elim
+      (number-second (after_first filesystem) ∙ number-first filesystem) ∙ ⊎_elim
       (λ here. or_first (is_mounted nat_eq mounted filesystem.number) _ here)
       (λ layered. or_second (is_mounted nat_eq mounted filesystem.number) _ (by_overlay layered))
       (or_cases (is_mounted nat_eq mounted filesystem.number) _ lives)
@@ -362,17 +340,14 @@ module _ (world : World ℕ) where
           let parts = and_parts (has_layer_on nat_eq filesystem.number t.0)
           (is_mounted nat_eq mounted t.0.number) t.2 in
           any_passes (λ merged. has_layer_on nat_eq filesystem.number merged && is_mounted nat_eq mounted merged.number)
-          (settled nat_eq world).filesystems
-          (after_second (after_first t.0))
-          (among-map after_second first.filesystems (after_first t.0)
-          (among-map after_first living.filesystems t.0
+          (settled nat_eq world).filesystems (after_second (after_first t.0))
+          (among-map after_second first.filesystems (after_first t.0) (among-map after_first living.filesystems t.0
           (among-filter (filesystem_lives nat_eq mounted) world.filesystems t.0 t.1
           (or_first (is_mounted nat_eq mounted t.0.number) _ parts.1))))
           (ap (λ b. b && is_mounted nat_eq mounted (after_second (after_first t.0)).number)
           (layers_on filesystem.number (after_second (after_first t.0))
           ∙ ap (list_any (λ layer. nat_eq filesystem.number layer.filesystem))
-          (layers-second (after_first t.0) ∙ layers-first t.0)
-          ∙ sym (layers_on filesystem.number t.0) ∙ parts.0)
+          (layers-second (after_first t.0) ∙ layers-first t.0) ∙ sym (layers_on filesystem.number t.0) ∙ parts.0)
           ∙ ap (is_mounted nat_eq mounted) (number-second (after_first t.0) ∙ number-first t.0) ∙ parts.1)
 
   -- an overlay that has no upper layer there has no objects there
@@ -388,20 +363,16 @@ module _ (world : World ℕ) where
         (λ last m. let was = was_there last m in ap (filesystem_lives nat_eq (settled nat_eq world)) was.3
         ∙ still_lives was.0 was.2);
     inodes = all_from_among (λ f. list_all (is_inode_used (settled nat_eq world) f) f.files.numbers ≡ true)
-        (settled nat_eq world).filesystems
-        (λ last m. let was = was_there last m in
+        (settled nat_eq world).filesystems (λ last m. let was = was_there last m in
         let tree = among_from_all (λ f. IsListedTree f.files) world.filesystems trees was.0 was.1 in
-        ap (λ f. list_all (is_inode_used (settled nat_eq world) f) f.files.numbers) was.3
-        ∙ ⊎_elim
-        (λ e. overlays_used was.0 tree e
-        (flat_map_none (objects_of_overlay nat_eq was.0.number) living.filesystems
+        ap (λ f. list_all (is_inode_used (settled nat_eq world) f) f.files.numbers) was.3 ∙ ⊎_elim
+        (λ e. overlays_used was.0 tree e (flat_map_none (objects_of_overlay nat_eq was.0.number) living.filesystems
         (λ merged n. no_upper_objects was.0.number merged
         (among_from_all (λ f. has_upper_in was.0.number f ≡ false) world.filesystems
         (among_from_all (λ f. is_overlay f ≡ true → All (λ other. has_upper_in f.number other
         ≡ false) world.filesystems) world.filesystems plain was.0 was.1 e)
         merged (among-from_filter (filesystem_lives nat_eq mounted) world.filesystems merged n).0))))
-        (λ e. plain_used was.0 tree e)
-        (cases_Bool (is_overlay was.0)));
+        (λ e. plain_used was.0 tree e) (cases_Bool (is_overlay was.0)));
     groups = λ group none. ap (λ b. cond b (world.master group) None) none;
   }
 

@@ -32,8 +32,7 @@ without_those gone filesystem = record filesystem {
   files = record {
     tree = record {
       root = filesystem.files.tree.root;
-      node = λ number.
-          cond (gone number) None (filesystem.files.tree.node number);
+      node = λ number. cond (gone number) None (filesystem.files.tree.node number);
     };
     numbers = filter (λ number. not (gone number)) filesystem.files.numbers;
   };
@@ -41,15 +40,13 @@ without_those gone filesystem = record filesystem {
 
 -- Where the test names none, the filesystem is as it was.
 without_none : (filesystem : Filesystem ℕ) → without_those (λ number. false) filesystem ≡ filesystem
-without_none filesystem =
-    ap (λ numbers. record filesystem { files = record filesystem.files { numbers = numbers } })
+without_none filesystem = ap (λ numbers. record filesystem { files = record filesystem.files { numbers = numbers } })
     (filter_all (λ number. true) filesystem.files.numbers (λ number m. refl))
 
 -- a world without overlays has no objects of overlays
 pub no_objects_of : (world : World ℕ) → IsPlain world → (number : ℕ)
     → flat_map (objects_of_overlay nat_eq number) world.filesystems ≡ []
-no_objects_of world plain number =
-    flat_map_none (objects_of_overlay nat_eq number) world.filesystems
+no_objects_of world plain number = flat_map_none (objects_of_overlay nat_eq number) world.filesystems
     (λ f m. no_objects world number f (fails is_overlay world.filesystems plain f m))
 
 -- one inode is looked at
@@ -61,8 +58,7 @@ one_step : (world : World ℕ) (inode : Inode) (filesystem : Filesystem ℕ)
     → let_go_inode_of world inode filesystem ≡ without_those (goes_here world inode filesystem) filesystem
 one_step world inode filesystem = by (nat_eq filesystem.number inode.0 && not (is_inode_used world filesystem inode.1))
   where
-    by : (b : Bool)
-        → cond b (without_those (λ number. nat_eq number inode.1) filesystem) filesystem
+    by : (b : Bool) → cond b (without_those (λ number. nat_eq number inode.1) filesystem) filesystem
         ≡ without_those (λ number. b && nat_eq number inode.1) filesystem
     by true = refl
     by false = sym (without_none filesystem)
@@ -95,16 +91,14 @@ two_steps world inode rest filesystem used same = λ i. record filesystem {
 
     here_or_later : (number : ℕ) → goes_of used (inode ∷ rest) filesystem number
         ≡ (here number || goes_of used rest filesystem number)
-    here_or_later number =
-        goes_on used inode rest filesystem number
+    here_or_later number = goes_on used inode rest filesystem number
         ∙ ap (λ u. ((nat_eq filesystem.number inode.0 && not (is_among nat_eq inode.1 u)) && nat_eq number inode.1)
         || goes_of used rest filesystem number) same
 
     node : (number : ℕ) → cond (goes_of used rest filesystem number) None
         (cond (here number) None (filesystem.files.tree.node number))
         ≡ cond (goes_of used (inode ∷ rest) filesystem number) None (filesystem.files.tree.node number)
-    node number =
-        by (here number) (goes_of used rest filesystem number)
+    node number = by (here number) (goes_of used rest filesystem number)
         ∙ ap (λ b. cond b None (filesystem.files.tree.node number)) (sym (here_or_later number))
       where
         by : (a b : Bool) → cond b None (cond a None (filesystem.files.tree.node number))
@@ -116,10 +110,8 @@ two_steps world inode rest filesystem used same = λ i. record filesystem {
     numbers : filter (λ number. not (goes_of used rest filesystem number))
         (filter (λ number. not (here number)) filesystem.files.numbers)
         ≡ filter (λ number. not (goes_of used (inode ∷ rest) filesystem number)) filesystem.files.numbers
-    numbers =
-        filter_twice (λ number. not (goes_of used rest filesystem number)) (λ number. not (here number))
-        (λ number. not (goes_of used (inode ∷ rest) filesystem number))
-        (λ number. ap not (here_or_later number)
+    numbers = filter_twice (λ number. not (goes_of used rest filesystem number)) (λ number. not (here number))
+        (λ number. not (goes_of used (inode ∷ rest) filesystem number)) (λ number. ap not (here_or_later number)
         ∙ by (here number) (goes_of used rest filesystem number)) filesystem.files.numbers
       where
         by : (a b : Bool) → not (a || b) ≡ (not a && not b)
@@ -159,19 +151,16 @@ module _ (world : World ℕ) (inode : Inode) (plain : IsPlain world) where
 
   used-step : (filesystem : Filesystem ℕ) → UnusedAreEmpty (used_in nat_eq world filesystem) filesystem
       → used_in nat_eq next (step filesystem) ≡ used_in nat_eq world filesystem
-  used-step filesystem empty =
-      grind (
-        arith,
-        common_steps,
-        named-step filesystem empty,
-        number-step filesystem,
-        layers-step (step
-            filesystem).number,
-        no_objects_of next plain-step (step filesystem).number,
-        no_objects_of world plain
-            filesystem.number,
-        one_step,
-      )
+  used-step filesystem empty = grind (
+    arith,
+    common_steps,
+    named-step filesystem empty,
+    number-step filesystem,
+    layers-step (step filesystem).number,
+    no_objects_of next plain-step (step filesystem).number,
+    no_objects_of world plain filesystem.number,
+    one_step,
+  )
 
   empty-step : (filesystem : Filesystem ℕ) → UnusedAreEmpty (used_in nat_eq world filesystem) filesystem
       → UnusedAreEmpty (used_in nat_eq next (step filesystem)) (step filesystem)
@@ -184,19 +173,16 @@ AllUnusedAreEmpty world = (filesystem : Filesystem ℕ) → Among filesystem wor
     → UnusedAreEmpty (used_in nat_eq world filesystem) filesystem
 
 inodes_folded : (world : World ℕ) (losers : List Inode) → IsPlain world → AllUnusedAreEmpty world
-    → let_go_inodes world losers
-    ≡ record world {
+    → let_go_inodes world losers ≡ record world {
       filesystems = map (λ filesystem. without_those
           (goes_of (used_in nat_eq world filesystem) losers filesystem) filesystem) world.filesystems;
     }
 unfolding AllUnusedAreEmpty
-inodes_folded world [] plain empty =
-    ap (λ filesystems. record world { filesystems = filesystems })
+inodes_folded world [] plain empty = ap (λ filesystems. record world { filesystems = filesystems })
     (sym (map_same (λ filesystem. without_those (λ number. false) filesystem) world.filesystems
     (λ filesystem m. without_none filesystem)))
 inodes_folded world (inode ∷ rest) plain empty =
-    inodes_folded (let_go_inode world inode) rest (plain-step world inode plain)
-    (λ filesystem m.
+    inodes_folded (let_go_inode world inode) rest (plain-step world inode plain) (λ filesystem m.
     let from = among-from_map (step world inode plain) world.filesystems filesystem m in
     subst (λ f. UnusedAreEmpty (used_in nat_eq (let_go_inode world inode) f) f) (sym from.2)
     (empty-step world inode plain from.0 (empty from.0 from.1)))
@@ -205,11 +191,9 @@ inodes_folded world (inode ∷ rest) plain empty =
     (step world inode plain) world.filesystems
     ∙ map_alike (λ f. without_those (goes_of (used_in nat_eq (let_go_inode world inode) (step world inode plain f)) rest
     (step world inode plain f)) (step world inode plain f))
-    (λ f. without_those (goes_of (used_in nat_eq world f) (inode ∷ rest) f) f) world.filesystems
-    (λ f m.
+    (λ f. without_those (goes_of (used_in nat_eq world f) (inode ∷ rest) f) f) world.filesystems (λ f m.
     (λ i. without_those (goes_by (used-step world inode plain f (empty f m) i) (number-step world inode plain f i) rest)
-    (one_step world inode f i))
-    ∙ two_steps world inode rest f (used_in nat_eq world f) refl))
+    (one_step world inode f i)) ∙ two_steps world inode rest f (used_in nat_eq world f) refl))
   where
     goes_by : List ℕ → ℕ → List Inode → ℕ → Bool
     goes_by used filesystem losers number = is_inode_among filesystem number losers && not (is_among nat_eq number used)
@@ -227,8 +211,7 @@ node_kept used files numbers all number =
     by (is_among nat_eq number used) refl (files.tree.node number) (numbers number)
   where
     by : (u : Bool) → is_among nat_eq number used ≡ u → (o : Option (Node ℕ))
-        → is_among nat_eq number files.numbers ≡ is_some o
-        → o ≡ cond u o None
+        → is_among nat_eq number files.numbers ≡ is_some o → o ≡ cond u o None
     by true f o there = refl
     by false f None there = refl
     by false f (Some node) there =
@@ -270,8 +253,7 @@ left_of_plain used filesystem numbers plain =
       files = record {
         tree = record {
           root = filesystem.files.tree.root;
-          node = λ number.
-              node number (is_among nat_eq number used) i;
+          node = λ number. node number (is_among nat_eq number used) i;
         };
         numbers = twice i;
       };
@@ -286,18 +268,14 @@ numbers_without gone filesystem numbers number = by (gone number) refl
     missing : (b : Bool) → is_among nat_eq number (filter (λ n. not (gone n)) filesystem.files.numbers) ≡ b
         → gone number ≡ true → b ≡ false
     missing false e f = refl
-    missing true e f =
-        absurd (true≢false
-        (sym (among-from_filter (λ n. not (gone n)) filesystem.files.numbers number
+    missing true e f = absurd (true≢false (sym (among-from_filter (λ n. not (gone n)) filesystem.files.numbers number
         (among_numbers number (filter (λ n. not (gone n)) filesystem.files.numbers) e)).1 ∙ ap not f))
 
     by : (b : Bool) → gone number ≡ b → is_among nat_eq number (filter (λ n. not (gone n)) filesystem.files.numbers)
         ≡ is_some (cond b None (filesystem.files.tree.node number))
     by true f = missing (is_among nat_eq number (filter (λ n. not (gone n)) filesystem.files.numbers)) refl f
-    by false f =
-        any-filter (nat_eq number) (λ n. not (gone n)) filesystem.files.numbers
-        (λ n m skipped. differs n (nat_eq number n) refl skipped)
-        ∙ numbers number
+    by false f = any-filter (nat_eq number) (λ n. not (gone n)) filesystem.files.numbers
+        (λ n m skipped. differs n (nat_eq number n) refl skipped) ∙ numbers number
       where
         differs : (n : ℕ) (b : Bool) → nat_eq number n ≡ b → not (gone n) ≡ false → b ≡ false
         differs n false e skipped = refl
@@ -305,13 +283,10 @@ numbers_without gone filesystem numbers number = by (gone number) refl
             (true≢false (sym (ap not f) ∙ ap (λ k. not (gone k)) (eqb-true number n e) ∙ skipped))
 
 -- the sweep of a world of plain filesystems
-pub plain_sweep : (world : World ℕ) → IsPlain world
-    → without_dead_inodes nat_eq world ≡ record world {
-      filesystems = map (λ f. only_used_of nat_eq
-          (used_in nat_eq world f) f) world.filesystems;
-    }
-plain_sweep world plain =
-    ap (without_dead_in nat_eq (λ filesystem. not (is_overlay filesystem)))
+pub plain_sweep : (world : World ℕ) → IsPlain world → without_dead_inodes nat_eq world ≡ record world {
+  filesystems = map (λ f. only_used_of nat_eq (used_in nat_eq world f) f) world.filesystems;
+}
+plain_sweep world plain = ap (without_dead_in nat_eq (λ filesystem. not (is_overlay filesystem)))
     (ap (λ filesystems. record world { filesystems = filesystems })
     (map_same (λ filesystem. only_used nat_eq world (is_overlay filesystem) filesystem) world.filesystems
     (λ filesystem m. ap (λ b. only_used nat_eq world b filesystem)
@@ -326,21 +301,17 @@ plain_sweep world plain =
 module _ (used : List ℕ) (losers : List Inode) (filesystem : Filesystem ℕ)
     (numbers : ListsNumbers nat_eq filesystem.files)
     (others : list_all (λ number. is_inode_among filesystem.number number losers
-    || is_among nat_eq number used) filesystem.files.numbers
-    ≡ true) where
+    || is_among nat_eq number used) filesystem.files.numbers ≡ true) where
   -- an inode that is not used, and none of these, is not there
   not_there : (number : ℕ) → is_among nat_eq number used ≡ false
-      → is_inode_among filesystem.number number losers ≡ false
-      → filesystem.files.tree.node number ≡ None
+      → is_inode_among filesystem.number number losers ≡ false → filesystem.files.tree.node number ≡ None
   not_there number unused other = none_from_not_some (filesystem.files.tree.node number)
       (sym (numbers number) ∙ missing (is_among nat_eq number filesystem.files.numbers) refl)
     where
       missing : (b : Bool) → is_among nat_eq number filesystem.files.numbers ≡ b
           → is_among nat_eq number filesystem.files.numbers ≡ false
       missing false e = e
-      missing true e =
-          absurd (true≢false
-          (sym (passes (λ n. is_inode_among filesystem.number n losers
+      missing true e = absurd (true≢false (sym (passes (λ n. is_inode_among filesystem.number n losers
           || is_among nat_eq n used) filesystem.files.numbers others number
           (among_numbers number filesystem.files.numbers e))
           ∙ ap (λ b. b || is_among nat_eq number used) other ∙ unused))
@@ -352,8 +323,7 @@ module _ (used : List ℕ) (losers : List Inode) (filesystem : Filesystem ℕ)
   unused_goes : (number : ℕ) → Among number filesystem.files.numbers
       → not (not (is_among nat_eq number used)) ≡ not (goes number)
   unfolding goes
-  unused_goes number m =
-      by (is_inode_among filesystem.number number losers) (is_among nat_eq number used)
+  unused_goes number m = by (is_inode_among filesystem.number number losers) (is_among nat_eq number used)
       (passes (λ n. is_inode_among filesystem.number n losers
       || is_among nat_eq n used) filesystem.files.numbers others number m)
     where
@@ -369,8 +339,7 @@ module _ (used : List ℕ) (losers : List Inode) (filesystem : Filesystem ℕ)
   node_swept number = by (is_inode_among filesystem.number number losers) refl (is_among nat_eq number used) refl
     where
       by : (a : Bool) → is_inode_among filesystem.number number losers ≡ a → (u : Bool)
-          → is_among nat_eq number used ≡ u
-          → cond (not u) None (filesystem.files.tree.node number)
+          → is_among nat_eq number used ≡ u → cond (not u) None (filesystem.files.tree.node number)
           ≡ cond (a && not u) None (filesystem.files.tree.node number)
       by true e true f = refl
       by true e false f = refl
@@ -378,32 +347,26 @@ module _ (used : List ℕ) (losers : List Inode) (filesystem : Filesystem ℕ)
       by false e false f = sym (not_there number f e)
 
   swept : is_overlay filesystem ≡ false → only_used_of nat_eq used filesystem ≡ without_those goes filesystem
-  swept plain =
-      left_of_plain used filesystem numbers plain
-      ∙ (λ i. record filesystem {
-        files = record {
-          tree = record { root = filesystem.files.tree.root; node = λ number. node_swept number i };
-          numbers = filter_alike (λ number. not (not (is_among nat_eq number used)))
-              (λ number. not (goes number)) filesystem.files.numbers unused_goes i;
-        };
-      })
+  swept plain = left_of_plain used filesystem numbers plain ∙ (λ i. record filesystem {
+    files = record {
+      tree = record { root = filesystem.files.tree.root; node = λ number. node_swept number i };
+      numbers = filter_alike (λ number. not (not (is_among nat_eq number used)))
+          (λ number. not (goes number)) filesystem.files.numbers unused_goes i;
+    };
+  })
 
 pub inodes_go_one_by_one : InodesGoOneByOne
 unfolding AllUnusedAreEmpty goes
-inodes_go_one_by_one world losers plain trees others =
-    plain_sweep world plain
+inodes_go_one_by_one world losers plain trees others = plain_sweep world plain
     ∙ ap (λ filesystems. record world { filesystems = filesystems })
     (map_alike (λ filesystem. only_used_of nat_eq (used_in nat_eq world filesystem) filesystem)
     (λ filesystem. without_those (goes_of
-    (used_in nat_eq world filesystem) losers filesystem) filesystem) world.filesystems
-    (λ filesystem m.
+    (used_in nat_eq world filesystem) losers filesystem) filesystem) world.filesystems (λ filesystem m.
     let tree = among_from_all (λ f. IsListedTree f.files) world.filesystems trees filesystem m in
     swept (used_in nat_eq world filesystem) losers filesystem tree.numbers
     (among_from_all (λ f. list_all (is_used_or_among losers world f) f.files.numbers
-    ≡ true) world.filesystems others filesystem m)
-    (fails is_overlay world.filesystems plain filesystem m)))
-    ∙ sym (inodes_folded world losers plain
-    (λ filesystem m. unused_are_empty world filesystem
+    ≡ true) world.filesystems others filesystem m) (fails is_overlay world.filesystems plain filesystem m)))
+    ∙ sym (inodes_folded world losers plain (λ filesystem m. unused_are_empty world filesystem
     (among_from_all (λ f. IsListedTree f.files) world.filesystems trees filesystem m)))
 
 -- The whole sweep
@@ -411,15 +374,13 @@ pub all_goes_one_by_one : AllGoesOneByOne
 all_goes_one_by_one world losers plain trees others =
     let mounted = without_dead_mounts nat_eq world in
     let living = without_dead_filesystems nat_eq mounted in
-    let plain_living : IsPlain living =
-    none_passes is_overlay living.filesystems (λ filesystem m.
+    let plain_living : IsPlain living = none_passes is_overlay living.filesystems (λ filesystem m.
     fails is_overlay world.filesystems plain filesystem
     (among-from_filter (filesystem_lives nat_eq mounted) world.filesystems filesystem m).0) in
     let trees_living : HasTrees living = All-filter (filesystem_lives nat_eq mounted)
     (λ filesystem. IsListedTree filesystem.files) world.filesystems trees in
     let inodes = inodes_go_one_by_one living losers.inodes plain_living trees_living others.inodes in
-    ap (without_dead_groups nat_eq) inodes
-    ∙ groups_go_one_by_one (let_go_inodes living losers.inodes) losers.groups
+    ap (without_dead_groups nat_eq) inodes ∙ groups_go_one_by_one (let_go_inodes living losers.inodes) losers.groups
     (λ group among none. let same = sym inodes in
     ap (λ w. w.master group) same ∙ others.groups group among
     (ap (λ w. has_members nat_eq w.mounts group) inodes ∙ none))

@@ -46,19 +46,16 @@ filesystem_is_looked_up world number = by (is_filesystem_used world number) refl
 pub inode_is_looked_up : InodeIsLookedUp
 inode_is_looked_up world inode one = by (is_inode_used_in world inode) refl
   where
-    its_use : (filesystem : Filesystem ℕ) → Among filesystem world.filesystems
-        → nat_eq filesystem.number inode.0 ≡ true
+    its_use : (filesystem : Filesystem ℕ) → Among filesystem world.filesystems → nat_eq filesystem.number inode.0 ≡ true
         → is_inode_used world filesystem inode.1 ≡ is_inode_used_in world inode
     its_use filesystem m e =
         let it : filesystem_numbered nat_eq world inode.0 ≡ filesystem =
         ap (filesystem_numbered nat_eq world) (sym (eqb-true filesystem.number inode.0 e))
         ∙ found_by (λ (x : Filesystem ℕ). x.number) (no_filesystem filesystem.number) world.filesystems one filesystem m
-        in
-        ap (λ f. is_inode_used world f inode.1) (sym it)
+        in ap (λ f. is_inode_used world f inode.1) (sym it)
 
     left_or : Filesystem ℕ → Bool → Filesystem ℕ
-    left_or filesystem b =
-        cond b (record filesystem { files = without_inode inode.1 filesystem.files }) filesystem
+    left_or filesystem b = cond b (record filesystem { files = without_inode inode.1 filesystem.files }) filesystem
 
     stays : (filesystem : Filesystem ℕ) → (same used : Bool) → (same ≡ true → used ≡ true)
         → left_or filesystem (same && not used) ≡ filesystem

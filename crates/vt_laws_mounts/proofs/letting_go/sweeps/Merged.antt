@@ -26,8 +26,7 @@ without_all gone filesystem = record filesystem {
   files = record {
     tree = record {
       root = filesystem.files.tree.root;
-      node = λ number.
-          cond (gone number) None (filesystem.files.tree.node number);
+      node = λ number. cond (gone number) None (filesystem.files.tree.node number);
     };
     numbers = filter (λ number. not (gone number)) filesystem.files.numbers;
   };
@@ -37,8 +36,7 @@ without_all gone filesystem = record filesystem {
 pub without_nothing : (filesystem : Filesystem ℕ) → without_all (λ number. false) filesystem ≡ filesystem
 without_nothing filesystem = λ i. record filesystem {
   files = record filesystem.files {
-    numbers = filter_all (λ number. true) filesystem.files.numbers
-        (λ number m. refl) i;
+    numbers = filter_all (λ number. true) filesystem.files.numbers (λ number m. refl) i;
   };
   overlay = by filesystem.overlay i;
 }
@@ -49,14 +47,12 @@ without_nothing filesystem = λ i. record filesystem {
 
 -- without some, and then without others
 pub without_both : (some others both : ℕ → Bool) → ((number : ℕ) → both number ≡ (some number || others number))
-    → (filesystem : Filesystem ℕ)
-    → without_all others (without_all some filesystem) ≡ without_all both filesystem
+    → (filesystem : Filesystem ℕ) → without_all others (without_all some filesystem) ≡ without_all both filesystem
 without_both some others both h filesystem = λ i. record filesystem {
   files = record {
     tree = record {
       root = filesystem.files.tree.root;
-      node = λ number.
-          twice (filesystem.files.tree.node number) number i;
+      node = λ number. twice (filesystem.files.tree.node number) number i;
     };
     numbers = filter_twice (λ number. not (others number)) (λ number. not (some number)) (λ number. not (both number))
         (λ number. ap not (h number) ∙ nots (some number) (others number)) filesystem.files.numbers i;
@@ -101,8 +97,7 @@ same_without a b filesystem numbers has h = λ i. record filesystem {
   files = record {
     tree = record {
       root = filesystem.files.tree.root;
-      node = λ number. node number
-          (cases_Bool (is_among nat_eq number filesystem.files.numbers)) i;
+      node = λ number. node number (cases_Bool (is_among nat_eq number filesystem.files.numbers)) i;
     };
     numbers = filter_alike (λ number. not (a number)) (λ number. not (b number)) filesystem.files.numbers
         (λ number m. ap not (h number (is_among_numbers number filesystem.files.numbers m))) i;
@@ -125,8 +120,7 @@ same_without a b filesystem numbers has h = λ i. record filesystem {
     both : {A : Type 0} (o : Option A) (number : ℕ)
         → (is_among nat_eq number filesystem.files.numbers ≡ false → o ≡ None)
         → (is_among nat_eq number filesystem.files.numbers ≡ true)
-        ⊎ (is_among nat_eq number filesystem.files.numbers ≡ false)
-        → cond (a number) None o ≡ cond (b number) None o
+        ⊎ (is_among nat_eq number filesystem.files.numbers ≡ false) → cond (a number) None o ≡ cond (b number) None o
     both o number absent (inl there) = ap (λ x. cond x None o) (h number there)
     both o number absent (inr gone) = nothing o (a number) (absent gone) ∙ sym (nothing o (b number) (absent gone))
 
@@ -136,8 +130,7 @@ same_without a b filesystem numbers has h = λ i. record filesystem {
         ≡ cond (b number) None (filesystem.files.tree.node number)
     node number one = both (filesystem.files.tree.node number) number (no_node number) one
 
-    reals : (o : Option (Overlay ℕ))
-        → ((number : ℕ) → filesystem.files.tree.node number ≡ None
+    reals : (o : Option (Overlay ℕ)) → ((number : ℕ) → filesystem.files.tree.node number ≡ None
         → overlay_or None (λ overlay. overlay.real number) o ≡ None)
         → option_map (reals_without a) o ≡ option_map (reals_without b) o
     reals None each = refl
@@ -156,8 +149,7 @@ left_of used filesystem numbers has =
     flipped o true = refl
     flipped o false = refl
 
-    reals : (o : Option (Overlay ℕ))
-        → option_map (real_among nat_eq used) o
+    reals : (o : Option (Overlay ℕ)) → option_map (real_among nat_eq used) o
         ≡ option_map (reals_without (λ number. not (is_among nat_eq number used))) o
     reals None = refl
     reals (Some overlay) = λ i. Some
@@ -165,8 +157,7 @@ left_of used filesystem numbers has =
 
     by : (all : Bool) → list_all (λ number. is_among nat_eq number used) filesystem.files.numbers ≡ all
         → only_used_by nat_eq all used filesystem ≡ without_all (λ number. not (is_among nat_eq number used)) filesystem
-    by true e =
-        sym (without_nothing filesystem)
+    by true e = sym (without_nothing filesystem)
         ∙ same_without (λ number. false) (λ number. not (is_among nat_eq number used)) filesystem numbers has
         (λ number there. ap not (sym (passes (λ n. is_among nat_eq n used) filesystem.files.numbers e number
         (among_it number there))))
@@ -178,8 +169,7 @@ left_of used filesystem numbers has =
       files = record {
         tree = record {
           root = filesystem.files.tree.root;
-          node = λ number. flipped (filesystem.files.tree.node number)
-              (is_among nat_eq number used) i;
+          node = λ number. flipped (filesystem.files.tree.node number) (is_among nat_eq number used) i;
         };
         numbers = filter_alike (λ number. is_among nat_eq number used)
             (λ number. not (not (is_among nat_eq number used))) filesystem.files.numbers

@@ -32,14 +32,11 @@ kept_alike false true e = refl
 kept_alike false false e = absurd (true≢false (sym e))
 
 -- Mounts
-mounts_folded : (world : World ℕ) (losers : List ℕ)
-    → let_go_mounts world losers
+mounts_folded : (world : World ℕ) (losers : List ℕ) → let_go_mounts world losers
     ≡ with_mounts world (filter (λ mount. not (is_among nat_eq mount.number losers)
     || mount_lives nat_eq world mount) world.mounts)
 mounts_folded world [] = ap (with_mounts world) (sym (filter_all (λ mount. true) world.mounts (λ mount m. refl)))
-mounts_folded world (number ∷ rest) =
-    mounts_folded (let_go_mount world number) rest
-    ∙ ap (with_mounts world)
+mounts_folded world (number ∷ rest) = mounts_folded (let_go_mount world number) rest ∙ ap (with_mounts world)
     (filter_twice (λ mount. not (is_among nat_eq mount.number rest) || mount_lives nat_eq world mount)
     (λ mount. not (nat_eq mount.number number) || mount_lives nat_eq world mount)
     (λ mount. not (is_among nat_eq mount.number (number ∷ rest)) || mount_lives nat_eq world mount)
@@ -47,8 +44,7 @@ mounts_folded world (number ∷ rest) =
     (mount_lives nat_eq world mount)) world.mounts)
 
 pub mounts_go_one_by_one : MountsGoOneByOne
-mounts_go_one_by_one world losers others =
-    ap (with_mounts world)
+mounts_go_one_by_one world losers others = ap (with_mounts world)
     (filter_alike (mount_lives nat_eq world) (λ mount. not (is_among nat_eq mount.number losers)
     || mount_lives nat_eq world mount) world.mounts
     (λ mount m. kept_alike (is_among nat_eq mount.number losers) (mount_lives nat_eq world mount)
@@ -58,8 +54,7 @@ mounts_go_one_by_one world losers others =
 -- Filesystems: one that is not mounted keeps none
 filesystem_by_others : (world : World ℕ) (number : ℕ) (filesystem : Filesystem ℕ)
     → filesystem_lives nat_eq (let_go_filesystem world number) filesystem ≡ filesystem_lives nat_eq world filesystem
-filesystem_by_others world number filesystem =
-    ap (λ b. is_mounted nat_eq world filesystem.number || b)
+filesystem_by_others world number filesystem = ap (λ b. is_mounted nat_eq world filesystem.number || b)
     (any-filter (λ merged. has_layer_on nat_eq filesystem.number merged && is_mounted nat_eq world merged.number)
     (λ other. not (nat_eq other.number number) || filesystem_lives nat_eq world other) world.filesystems
     (λ other m gone. ap (λ b. has_layer_on nat_eq filesystem.number other && b)
@@ -67,17 +62,13 @@ filesystem_by_others world number filesystem =
     (or_parts (not (nat_eq other.number number)) (filesystem_lives nat_eq world other) gone).1).0
     ∙ and-false (has_layer_on nat_eq filesystem.number other)))
 
-filesystems_folded : (world : World ℕ) (losers : List ℕ)
-    → let_go_filesystems world losers
-    ≡ record world {
-      filesystems = filter (λ filesystem. not (is_among nat_eq filesystem.number losers)
-          || filesystem_lives nat_eq world filesystem) world.filesystems;
-    }
-filesystems_folded world [] =
-    ap (λ filesystems. record world { filesystems = filesystems })
+filesystems_folded : (world : World ℕ) (losers : List ℕ) → let_go_filesystems world losers ≡ record world {
+  filesystems = filter (λ filesystem. not (is_among nat_eq filesystem.number losers)
+      || filesystem_lives nat_eq world filesystem) world.filesystems;
+}
+filesystems_folded world [] = ap (λ filesystems. record world { filesystems = filesystems })
     (sym (filter_all (λ filesystem. true) world.filesystems (λ filesystem m. refl)))
-filesystems_folded world (number ∷ rest) =
-    filesystems_folded (let_go_filesystem world number) rest
+filesystems_folded world (number ∷ rest) = filesystems_folded (let_go_filesystem world number) rest
     ∙ ap (λ filesystems. record world { filesystems = filesystems })
     (filter_alike (λ filesystem. not (is_among nat_eq filesystem.number rest)
     || filesystem_lives nat_eq (let_go_filesystem world number) filesystem)
@@ -93,22 +84,18 @@ filesystems_folded world (number ∷ rest) =
     (filesystem_lives nat_eq world filesystem)) world.filesystems)
 
 pub filesystems_go_one_by_one : FilesystemsGoOneByOne
-filesystems_go_one_by_one world losers others =
-    ap (λ filesystems. record world { filesystems = filesystems })
+filesystems_go_one_by_one world losers others = ap (λ filesystems. record world { filesystems = filesystems })
     (filter_alike (filesystem_lives nat_eq world) (λ filesystem. not (is_among nat_eq filesystem.number losers)
     || filesystem_lives nat_eq world filesystem) world.filesystems
     (λ filesystem m. kept_alike (is_among nat_eq filesystem.number losers) (filesystem_lives nat_eq world filesystem)
     (passes (λ x. is_among nat_eq x.number losers
-    || filesystem_lives nat_eq world x) world.filesystems others filesystem m)))
-    ∙ sym (filesystems_folded world losers)
+    || filesystem_lives nat_eq world x) world.filesystems others filesystem m))) ∙ sym (filesystems_folded world losers)
 
 -- Groups
-groups_folded : (world : World ℕ) (losers : List ℕ)
-    → let_go_groups world losers
-    ≡ record world {
-      master = λ other. cond (is_among nat_eq other losers && not (has_members nat_eq world.mounts other)) None
-          (world.master other);
-    }
+groups_folded : (world : World ℕ) (losers : List ℕ) → let_go_groups world losers ≡ record world {
+  master = λ other. cond (is_among nat_eq other losers && not (has_members nat_eq world.mounts other)) None
+      (world.master other);
+}
 groups_folded world [] = refl
 groups_folded world (group ∷ rest) = grind (arith, common_steps, groups_folded (let_go_group world group) rest)
 

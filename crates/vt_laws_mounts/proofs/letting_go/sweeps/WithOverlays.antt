@@ -58,8 +58,7 @@ overlays_empty world trees f m is =
 pub merged_go_one_by_one : MergedGoOneByOne
 merged_go_one_by_one world losers trees plain reals others =
     chosen_go_one_by_one is_overlay overlay_without world losers (overlays_apart world plain)
-    (overlays_empty world trees)
-    (λ f m is. (
+    (overlays_empty world trees) (λ f m is. (
       among_from_all (λ x. IsListedTree x.files) world.filesystems trees f m,
       among_from_all HasReals world.filesystems reals f m,
       among_from_all (λ x. is_overlay x ≡ true → list_all (is_used_or_among losers world x) x.files.numbers
@@ -73,8 +72,7 @@ pub object_parts : (number object : ℕ) (g : Filesystem ℕ) → Among object (
     × (k : ℕ) × Among k g.files.numbers × (upper_object (overlay.real k) ≡ Some object)
 object_parts number object g m = by g.overlay refl m
   where
-    by : (o : Option (Overlay ℕ)) → g.overlay ≡ o
-        → Among object (overlay_or [] (λ overlay.
+    by : (o : Option (Overlay ℕ)) → g.overlay ≡ o → Among object (overlay_or [] (λ overlay.
         cond (holds_of (λ layer. nat_eq number layer.filesystem) overlay.upper)
         (filter_map (λ k. upper_object (overlay.real k)) g.files.numbers) []) o)
         → (overlay : Overlay ℕ) × (g.overlay ≡ Some overlay) × (layer : Layer ℕ) × (overlay.upper ≡ Some layer)
@@ -103,18 +101,14 @@ object_parts number object g m = by g.overlay refl m
             here false c a = absurd a
 
 pub object_there : (number object : ℕ) (g : Filesystem ℕ) (overlay : Overlay ℕ) (layer : Layer ℕ)
-    → g.overlay ≡ Some overlay
-    → overlay.upper ≡ Some layer
+    → g.overlay ≡ Some overlay → overlay.upper ≡ Some layer
     → nat_eq number layer.filesystem ≡ true → (k : ℕ) → Among k g.files.numbers
-    → upper_object (overlay.real k) ≡ Some object
-    → Among object (objects_of_overlay nat_eq number g)
-object_there number object g overlay layer e d c k m r =
-    subst (λ l. Among object l) (sym here)
+    → upper_object (overlay.real k) ≡ Some object → Among object (objects_of_overlay nat_eq number g)
+object_there number object g overlay layer e d c k m r = subst (λ l. Among object l) (sym here)
     (among-filter_map (λ n. upper_object (overlay.real n)) g.files.numbers k object m r)
   where
     here : objects_of_overlay nat_eq number g ≡ filter_map (λ n. upper_object (overlay.real n)) g.files.numbers
-    here =
-        ap (overlay_or [] (λ o. cond (holds_of (λ l. nat_eq number l.filesystem) o.upper)
+    here = ap (overlay_or [] (λ o. cond (holds_of (λ l. nat_eq number l.filesystem) o.upper)
         (filter_map (λ n. upper_object (o.real n)) g.files.numbers) [])) e
         ∙ ap (λ u. cond (holds_of (λ l. nat_eq number l.filesystem) u)
         (filter_map (λ n. upper_object (overlay.real n)) g.files.numbers) []) d
@@ -131,8 +125,7 @@ upper_looked_at world losers number object k g overlay layer m e d c r among =
     let t = one_passes (λ inode. nat_eq g.number inode.0 && nat_eq k inode.1) losers among in
     let parts = and_parts (nat_eq g.number t.0.0) (nat_eq k t.0.1) t.2 in
     any_passes (λ inode. nat_eq number inode.0 && nat_eq object inode.1) (uppers_of world losers)
-    (layer.filesystem, object)
-    (among-flat_map (uppers_of_inode world) losers t.0 (layer.filesystem, object) t.1
+    (layer.filesystem, object) (among-flat_map (uppers_of_inode world) losers t.0 (layer.filesystem, object) t.1
     (among-flat_map (uppers_of_inode_in t.0) world.filesystems g (layer.filesystem, object) m
     (subst (λ l. Among (layer.filesystem, object) l) (sym (there t.0 parts.0 parts.1)) (inl refl))))
     (ap (λ b. b && nat_eq object object) c ∙ eq-eqb object object refl)
@@ -142,10 +135,8 @@ upper_looked_at world losers number object k g overlay layer m e d c r among =
 
     there : (inode : Inode) → nat_eq g.number inode.0 ≡ true → nat_eq k inode.1 ≡ true
         → uppers_of_inode_in inode g ≡ (layer.filesystem, object) ∷ []
-    there inode f n =
-        ap (λ b. cond b (of_overlay [] (uppers_in inode.1) g) []) f
-        ∙ ap (overlay_or [] (uppers_in inode.1)) e
-        ∙ ap (λ x. uppers_in x overlay) (sym (eqb-true k inode.1 n))
+    there inode f n = ap (λ b. cond b (of_overlay [] (uppers_in inode.1) g) []) f
+        ∙ ap (overlay_or [] (uppers_in inode.1)) e ∙ ap (λ x. uppers_in x overlay) (sym (eqb-true k inode.1 n))
         ∙ (λ i. listed (d i) (r i))
 
 module _ (world : World ℕ) (losers : List Inode) (trees : HasTrees world) (reals : RealsAreThere world)
@@ -185,11 +176,9 @@ module _ (world : World ℕ) (losers : List Inode) (trees : HasTrees world) (rea
       by t.0 t.1 p.0 p.1 p.2 p.3 p.4 p.5 p.6 p.7 (is_inode_used world t.0 p.5) refl
     where
       by : (g : Filesystem ℕ) → Among g world.filesystems → (overlay : Overlay ℕ) → g.overlay ≡ Some overlay
-          → (layer : Layer ℕ)
-          → overlay.upper ≡ Some layer
+          → (layer : Layer ℕ) → overlay.upper ≡ Some layer
           → nat_eq number layer.filesystem ≡ true → (k : ℕ) → Among k g.files.numbers
-          → upper_object (overlay.real k) ≡ Some object
-          → (u : Bool) → is_inode_used world g k ≡ u
+          → upper_object (overlay.real k) ≡ Some object → (u : Bool) → is_inode_used world g k ≡ u
           → Among object (flat_map (objects_of_overlay nat_eq number) after.filesystems)
           ⊎ (is_inode_among number object (uppers_of world losers) ≡ true)
       by g n overlay e layer d c k l r true used =
@@ -205,9 +194,7 @@ module _ (world : World ℕ) (losers : List Inode) (trees : HasTrees world) (rea
           gone = λ x. not (is_among nat_eq x (used_in nat_eq world g))
 
           itself : first g ≡ without_all gone g
-          itself =
-              ap (λ o. only_used nat_eq world (is_some o) g) e
-              ∙ left_of (used_in nat_eq world g) g
+          itself = ap (λ o. only_used nat_eq world (is_some o) g) e ∙ left_of (used_in nat_eq world g) g
               (among_from_all (λ x. IsListedTree x.files) world.filesystems trees g n).numbers
               (among_from_all HasReals world.filesystems reals g n)
       by g n overlay e layer d c k l r false unused =
@@ -224,20 +211,17 @@ module _ (world : World ℕ) (losers : List Inode) (trees : HasTrees world) (rea
   -- so what was used is used still, or is looked at
   still_used : (f : Filesystem ℕ) (number : ℕ) → is_used_or_among losers world f number ≡ true
       → is_used_or_among (losers ++ uppers_of world losers) after f number ≡ true
-  still_used f number h =
-      grind (
-        arith,
-        common_steps,
-        is_among_left,
-        same_layers f.number,
-        is_among_right,
-        is_among_numbers number
-            (flat_map (objects_of_overlay nat_eq f.number) after.filesystems),
-        object_left,
-        among_numbers number (flat_map
-            (objects_of_overlay nat_eq f.number) world.filesystems),
-        list_any-append,
-      )
+  still_used f number h = grind (
+    arith,
+    common_steps,
+    is_among_left,
+    same_layers f.number,
+    is_among_right,
+    is_among_numbers number (flat_map (objects_of_overlay nat_eq f.number) after.filesystems),
+    object_left,
+    among_numbers number (flat_map (objects_of_overlay nat_eq f.number) world.filesystems),
+    list_any-append,
+  )
 
   plain_empty : ChosenAreEmpty is_plain plain_without after
   unfolding ChosenAreEmpty
@@ -245,24 +229,19 @@ module _ (world : World ℕ) (losers : List Inode) (trees : HasTrees world) (rea
       (among_from_all (λ x. IsListedTree x.files) world.filesystems trees f (plain_was f m is))
 
   plain_go : without_dead_inodes nat_eq world ≡ let_go_plain after (losers ++ uppers_of world losers)
-  plain_go =
-      chosen_go_one_by_one is_plain plain_without after (losers ++ uppers_of world losers)
-      (plain_apart after) plain_empty
-      (λ f m is. let was = plain_was f m is in (
+  plain_go = chosen_go_one_by_one is_plain plain_without after (losers ++ uppers_of world losers)
+      (plain_apart after) plain_empty (λ f m is. let was = plain_was f m is in (
         among_from_all (λ x. IsListedTree x.files) world.filesystems trees f was,
         among_from_all HasReals world.filesystems reals f was,
         all_pass (is_used_or_among (losers ++ uppers_of world losers) after f) f.files.numbers
-            (λ number n. still_used f number
-            (passes (is_used_or_among losers world f) f.files.numbers
+            (λ number n. still_used f number (passes (is_used_or_among losers world f) f.files.numbers
             (among_from_all (λ x. list_all (is_used_or_among losers world x) x.files.numbers
             ≡ true) world.filesystems others f was) number n)),
       ))
 
 pub all_inodes_go_one_by_one : AllInodesGoOneByOne
-all_inodes_go_one_by_one world losers trees plain reals others =
-    plain_go world losers trees reals others
-    ∙ ap (λ w. let_go_plain w (losers ++ uppers_of world losers))
-    (merged_go_one_by_one world losers trees plain reals
+all_inodes_go_one_by_one world losers trees plain reals others = plain_go world losers trees reals others
+    ∙ ap (λ w. let_go_plain w (losers ++ uppers_of world losers)) (merged_go_one_by_one world losers trees plain reals
     (all_from_among (λ x. is_overlay x ≡ true
     → list_all (is_used_or_among losers world x) x.files.numbers ≡ true) world.filesystems
     (λ f m is. among_from_all (λ x. list_all (is_used_or_among losers world x) x.files.numbers
@@ -277,16 +256,14 @@ with_overlays_all_goes world losers trees plain reals others =
     (λ filesystem. IsListedTree filesystem.files) world.filesystems trees in
     let reals_living : RealsAreThere living =
     All-filter (filesystem_lives nat_eq mounted) HasReals world.filesystems reals in
-    let plain_living : UppersArePlain living =
-    all_from_among (λ f. is_overlay f ≡ true
+    let plain_living : UppersArePlain living = all_from_among (λ f. is_overlay f ≡ true
     → All (λ g. has_upper_in f.number g ≡ false) living.filesystems) living.filesystems
     (λ f m is. All-filter (filesystem_lives nat_eq mounted) (λ g. has_upper_in f.number g ≡ false) world.filesystems
     (among_from_all (λ x. is_overlay x ≡ true
     → All (λ g. has_upper_in x.number g ≡ false) world.filesystems) world.filesystems plain f
     (among-from_filter (filesystem_lives nat_eq mounted) world.filesystems f m).0 is)) in
     let inodes = all_inodes_go_one_by_one living losers.inodes trees_living plain_living reals_living others.inodes in
-    ap (without_dead_groups nat_eq) inodes
-    ∙ groups_go_one_by_one (let_go_all_inodes living losers.inodes) losers.groups
+    ap (without_dead_groups nat_eq) inodes ∙ groups_go_one_by_one (let_go_all_inodes living losers.inodes) losers.groups
     (λ group among none. let same = sym inodes in
     ap (λ w. w.master group) same ∙ others.groups group among
     (ap (λ w. has_members nat_eq w.mounts group) inodes ∙ none))

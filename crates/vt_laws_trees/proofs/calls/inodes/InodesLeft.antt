@@ -47,12 +47,9 @@ module _ (Q : Option (Node ℕ) → Type 0) (number inode : ℕ) where
           → Q ((found c first rest).files.tree.node inode) → (Holds rest → Holds others)
           → Holds (cond b new first ∷ others)
       by true e true f h later =
-          let same : number ≡ new.number =
-          eqb-true number first.number f ∙ sym (eqb-true new.number first.number e)
-          in
+          let same : number ≡ new.number = eqb-true number first.number f ∙ sym (eqb-true new.number first.number e) in
           subst (λ c. Q ((found c new others).files.tree.node inode)) (sym (eq-eqb number new.number same)) (here same)
-      by true e false f h later =
-          subst (λ c. Q ((found c new others).files.tree.node inode))
+      by true e false f h later = subst (λ c. Q ((found c new others).files.tree.node inode))
           (sym (ap (nat_eq number) (eqb-true new.number first.number e) ∙ f)) (later h)
       by false e true f h later = subst (λ c. Q ((found c first others).files.tree.node inode)) (sym f) h
       by false e false f h later = subst (λ c. Q ((found c first others).files.tree.node inode)) (sym f) (later h)
@@ -74,8 +71,7 @@ module _ (Q : Option (Node ℕ) → Type 0) (number inode : ℕ) where
 
   -- what a change makes of the inode, in the filesystem that it is made in
   abbrev pub ChangeHolds : World ℕ → Location ℕ → Change ℕ → Type 0
-  ChangeHolds world location change =
-      number ≡ (mount_at nat_eq world location).filesystem
+  ChangeHolds world location change = number ≡ (mount_at nat_eq world location).filesystem
       → Q ((changed nat_eq (files_at nat_eq world location) change).tree.node inode)
 
   change_left : (fresh : Fresh ℕ) (world : World ℕ) (location : Location ℕ) (change : Change ℕ) → IsPlain world
@@ -94,8 +90,7 @@ module _ (Q : Option (Node ℕ) → Type 0) (number inode : ℕ) where
 
       by : (o : Option (Overlay ℕ)) → is_some o ≡ false
           → Holds (filesystem_changed nat_eq fresh world at o change).filesystems
-      by None e =
-          replaced_holds (with_files at (changed nat_eq at.files change))
+      by None e = replaced_holds (with_files at (changed nat_eq at.files change))
           (λ same. here (same ∙ number_numbered shown world.filesystems)) world.filesystems h
       by (Some overlay) e = absurd (true≢false e)
 
@@ -106,8 +101,7 @@ module _ (Q : Option (Node ℕ) → Type 0) (number inode : ℕ) where
     MadeBy (Some made) = ChangeHolds world made.0 made.1
 
     abbrev pub LeftBy : Permit ℕ → Type 0
-    LeftBy (ToMountPlain place flags) =
-        number ≡ evens fresh 0 → inode ≡ evens fresh 1
+    LeftBy (ToMountPlain place flags) = number ≡ evens fresh 0 → inode ≡ evens fresh 1
         → Q (Some (record { attr = root_attr; content = new_directory (evens fresh 1) }))
     LeftBy (ToMountOverlay place overlay flags) = ⊥
     LeftBy permit = MadeBy (change_of fresh world permit)
@@ -118,8 +112,7 @@ module _ (Q : Option (Node ℕ) → Type 0) (number inode : ℕ) where
     -- a change, where mounts were taken away before
     replaced_left : (replaced : Option (Location ℕ)) (location : Location ℕ) (change : Change ℕ)
         → ChangeHolds world location change
-        → Holds (with_change nat_eq fresh (without_replaced nat_eq world replaced) location
-        change).filesystems
+        → Holds (with_change nat_eq fresh (without_replaced nat_eq world replaced) location change).filesystems
     replaced_left replaced location change here =
         change_left fresh (without_replaced nat_eq world replaced) location change
         (subst (All (λ filesystem. is_overlay filesystem ≡ false))
@@ -127,13 +120,10 @@ module _ (Q : Option (Node ℕ) → Type 0) (number inode : ℕ) where
         (same_list (without_replaced nat_eq world replaced).filesystems (filesystems-without_replaced world replaced))
         (λ same.
         subst (λ files. Q ((changed nat_eq files change).tree.node inode))
-        (sym (replaced_files world replaced location))
-        (here (same ∙ shown-without_replaced world replaced location)))
+        (sym (replaced_files world replaced location)) (here (same ∙ shown-without_replaced world replaced location)))
 
-    copied_left : (copies : Bool) (file : Location ℕ)
-        → Holds (with_copy nat_eq copies fresh world file).filesystems
-    copied_left true file =
-        change_left fresh world file (CopyUp file.node) plain h
+    copied_left : (copies : Bool) (file : Location ℕ) → Holds (with_copy nat_eq copies fresh world file).filesystems
+    copied_left true file = change_left fresh world file (CopyUp file.node) plain h
         (λ same. subst (λ n. Q ((numbered n world.filesystems).files.tree.node inode)) same h)
     copied_left false file = h
 
@@ -170,11 +160,8 @@ module _ (Q : Option (Node ℕ) → Type 0) (number inode : ℕ) where
             by false e = none
     inode_left task (ToMountOverlay place overlay flags) here = absurd here
     inode_left task (ToUnmount mount) here = same_list _ (filesystems-taken_away world _)
-    inode_left task (ToUnmountLazily mount) here =
-        same_list _
-        (lazily_filesystems (deepest_first nat_eq world
-        (mount_tree nat_eq world.mounts (mount_numbered nat_eq world mount)))
-        world)
+    inode_left task (ToUnmountLazily mount) here = same_list _ (lazily_filesystems (deepest_first nat_eq world
+        (mount_tree nat_eq world.mounts (mount_numbered nat_eq world mount))) world)
     inode_left task (ToSetType mount word recursive) here =
         same_list _ (typed_filesystems fresh world mount word recursive)
     inode_left task permit here = h

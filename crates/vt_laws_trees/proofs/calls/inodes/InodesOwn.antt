@@ -96,9 +96,7 @@ module _ (fresh : Fresh ℕ) (world : World ℕ) (plain : IsPlain world) (filesy
       → holds_of (λ own. nat_eq filesystem own.0 && is_among nat_eq number own.1) (own_by world made) ≡ false
       → MadeBy Kept filesystem number fresh world plain (inl refl) made
   made_elsewhere None apart = tt
-  made_elsewhere (Some made) apart =
-      λ same.
-      inl (changed_elsewhere (files_at nat_eq world made.0) made.1 number
+  made_elsewhere (Some made) apart = λ same. inl (changed_elsewhere (files_at nat_eq world made.0) made.1 number
       (sym (ap (λ b. b && is_among nat_eq number (named_by (files_at nat_eq world made.0) made.1))
       (eq-eqb filesystem (mount_at nat_eq world made.0).filesystem same)) ∙ apart)
       ∙ ap (λ n. inode_in world n number) (sym same))
@@ -111,8 +109,7 @@ module _ (fresh : Fresh ℕ) (world : World ℕ) (plain : IsPlain world) (filesy
     where
       own : filesystem ≡ evens fresh 0 → number ≡ evens fresh 1
           → (nat_eq filesystem (evens fresh 0) && (nat_eq number (evens fresh 1) || false)) ≡ true
-      own same is =
-          ap (λ b. b && (nat_eq number (evens fresh 1) || false)) (eq-eqb filesystem (evens fresh 0) same)
+      own same is = ap (λ b. b && (nat_eq number (evens fresh 1) || false)) (eq-eqb filesystem (evens fresh 0) same)
           ∙ ap (λ b. b || false) (eq-eqb number (evens fresh 1) is)
   left_elsewhere task call no_overlay (ToMountOverlay place overlay flags) for apart =
       absurd (true≢false (sym (ap mounts_overlay for.2) ∙ no_overlay))
@@ -121,13 +118,10 @@ module _ (fresh : Fresh ℕ) (world : World ℕ) (plain : IsPlain world) (filesy
 pub calls_change_their_own : CallsChangeTheirOwn
 calls_change_their_own fresh world name call task permit filesystem number plain no_overlay is judged apart =
     inode_after_call (Kept fresh world plain filesystem number) filesystem number (inr refl) fresh world name call
-    (inl refl)
-    (λ other given is_other judged_other.
-    inode_left (Kept fresh world plain filesystem number) filesystem number fresh world plain (inl refl) other
-    given
+    (inl refl) (λ other given is_other judged_other.
+    inode_left (Kept fresh world plain filesystem number) filesystem number fresh world plain (inl refl) other given
     (left_elsewhere fresh world plain filesystem number other call no_overlay given
-    (permits_are_for_their_calls fresh world other call given judged_other)
-    (let same : other ≡ task = cc in
+    (permits_are_for_their_calls fresh world other call given judged_other) (let same : other ≡ task = cc in
     let one : given ≡ permit =
     let both = sym judged_other ∙ ap (λ t. judge_in nat_eq fresh world t call) same ∙ judged in cc in
     ap (λ p. is_own fresh world p filesystem number) one ∙ apart)))

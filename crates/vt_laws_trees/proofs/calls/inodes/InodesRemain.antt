@@ -40,8 +40,7 @@ module _ (other : ℕ) where
 
       by : (b : Bool) → nat_eq other number ≡ b
           → is_some (cond (nat_eq other number) (new (files.tree.node number)) (files.tree.node other)) ≡ true
-      by true e =
-          ap (λ b. is_some (cond b (new (files.tree.node number)) (files.tree.node other))) e
+      by true e = ap (λ b. is_some (cond b (new (files.tree.node number)) (files.tree.node other))) e
           ∙ some (files.tree.node number)
           (ap (λ n. is_some (files.tree.node n)) (sym (eqb-true other number e)) ∙ there)
       by false e = ap (λ b. is_some (cond b (new (files.tree.node number)) (files.tree.node other))) e ∙ there
@@ -75,8 +74,7 @@ module _ (other : ℕ) where
       (unnamed_remains files directory name there)
   changed_remains files (Move from old to new object) there =
       at_node (with_name nat_eq unnamed to new object) object (node_with_parent to) (λ node. refl)
-      (named_remains unnamed to new object
-      (unnamed_remains alone from old (alone_remains files replaced there)))
+      (named_remains unnamed to new object (unnamed_remains alone from old (alone_remains files replaced there)))
     where
       replaced : Option ℕ
       replaced = entry_named new (entries_in (files.tree.node to))
@@ -99,9 +97,7 @@ module _ (other : ℕ) where
     made_left : (made : Option (Location ℕ × Change ℕ))
         → MadeBy (Remains Was) filesystem other fresh world plain (λ there. there) made
     made_left None = tt
-    made_left (Some made) =
-        λ same there.
-        changed_remains (files_at nat_eq world made.0) made.1
+    made_left (Some made) = λ same there. changed_remains (files_at nat_eq world made.0) made.1
         (ap (λ n. is_some (inode_in world n other)) (sym same) ∙ there)
 
     left : (task : Task ℕ) (call : Call) → mounts_overlay call ≡ false → (permit : Permit ℕ)
@@ -115,6 +111,5 @@ module _ (other : ℕ) where
 pub only_unused_inodes_end : OnlyUnusedInodesEnd
 only_unused_inodes_end fresh world call task permit filesystem number plain no_overlay judged =
     inode_left (Remains (inode_in world filesystem number)) filesystem number fresh world plain
-    (λ there. there) task permit
-    (left number fresh world plain filesystem task call no_overlay permit
+    (λ there. there) task permit (left number fresh world plain filesystem task call no_overlay permit
     (permits_are_for_their_calls fresh world task call permit judged))

@@ -37,8 +37,7 @@ module _ (Q : Inode → Type 0) (number inode : ℕ) where
       (sym (keeps first)) (by (nat_eq number first.number) h (mapped change keeps holds rest))
     where
       found : (b : Bool) → Filesystem ℕ → List (Filesystem ℕ) → Filesystem ℕ
-      found b one others =
-          unwrap_or (cond b (Some one) (find (λ filesystem. nat_eq number filesystem.number) others))
+      found b one others = unwrap_or (cond b (Some one) (find (λ filesystem. nat_eq number filesystem.number) others))
           (no_filesystem number)
 
       by : (b : Bool) → Q ((found b first rest).files.tree.node inode) → (HoldsIn rest → HoldsIn (map change rest))
@@ -49,8 +48,7 @@ module _ (Q : Inode → Type 0) (number inode : ℕ) where
   -- raising
   pub raised_holds : (changed : List ℕ) (world : World ℕ) → HoldsIn world.filesystems
       → HoldsIn (filesystems_raised nat_eq changed world).filesystems
-  raised_holds changed world h =
-      mapped (raised_if_changed nat_eq changed) keeps holds world.filesystems h
+  raised_holds changed world h = mapped (raised_if_changed nat_eq changed) keeps holds world.filesystems h
     where
       by : (filesystem : Filesystem ℕ) → Bool → Filesystem ℕ
       by filesystem b = cond b (record filesystem { change = raised filesystem.change }) filesystem
@@ -84,8 +82,7 @@ module _ (Q : Inode → Type 0) (number inode : ℕ) where
         stay = filter (λ filesystem. lives filesystem.number) rest
 
         found : (b : Bool) → Filesystem ℕ → List (Filesystem ℕ) → Filesystem ℕ
-        found b one others =
-            unwrap_or (cond b (Some one) (find (λ filesystem. nat_eq number filesystem.number) others))
+        found b one others = unwrap_or (cond b (Some one) (find (λ filesystem. nat_eq number filesystem.number) others))
             (no_filesystem number)
 
         by : (b : Bool) → lives first.number ≡ b → (c : Bool) → nat_eq number first.number ≡ c
@@ -109,10 +106,8 @@ module _ (Q : Inode → Type 0) (number inode : ℕ) where
                     (filter (λ filesystem. lives filesystem.number) others))
                 inside true e' true f' later =
                     absurd (true≢false (sym e' ∙ ap lives (sym (eqb-true number one.number f')) ∙ dead))
-                inside true e' false f' later =
-                    subst (λ c. Q ((found c one (filter
-                    (λ filesystem. lives filesystem.number) others)).files.tree.node inode))
-                    (sym f') later
+                inside true e' false f' later = subst (λ c. Q ((found c one (filter
+                    (λ filesystem. lives filesystem.number) others)).files.tree.node inode)) (sym f') later
                 inside false e' c f' later = later
 
     used_by_holds : (whole : Bool) (used : List ℕ) (filesystem : Filesystem ℕ) → Q (filesystem.files.tree.node inode)
@@ -131,8 +126,7 @@ module _ (Q : Inode → Type 0) (number inode : ℕ) where
 
     dead_in_holds : (chosen : Filesystem ℕ → Bool) (world : World ℕ) → HoldsIn world.filesystems
         → HoldsIn (without_dead_in nat_eq chosen world).filesystems
-    dead_in_holds chosen world h =
-        mapped (λ filesystem. only_used nat_eq world (chosen filesystem) filesystem)
+    dead_in_holds chosen world h = mapped (λ filesystem. only_used nat_eq world (chosen filesystem) filesystem)
         (λ filesystem. number-only_used world (chosen filesystem) filesystem)
         (λ filesystem. used_holds world (chosen filesystem) filesystem) world.filesystems h
 
@@ -170,12 +164,10 @@ module _ (Q : Inode → Type 0) (number inode : ℕ) where
               left : HoldsIn (apply nat_eq fresh world task permit).world.filesystems
               left = done task permit is judged
 
-              by_looks : (b : Bool)
-                  → HoldsIn (finished_by nat_eq b world name changed
+              by_looks : (b : Bool) → HoldsIn (finished_by nat_eq b world name changed
                   (apply nat_eq fresh world task permit)).world.filesystems
               by_looks true = left
-              by_looks false =
-                  raised_holds changed (settled nat_eq (apply nat_eq fresh world task permit).world)
+              by_looks false = raised_holds changed (settled nat_eq (apply nat_eq fresh world task permit).world)
                   (settled_holds (apply nat_eq fresh world task permit).world left)
           by_permit changed task is (Err deny) judged = by_looks (only_looks call)
             where

@@ -46,8 +46,7 @@ pub raised_is : (name : TaskName) (task : Task ℕ)
     → raised_task name task ≡ record task { change = (raised_task name task).change }
 raised_is name task = by (same_name name task.name)
   where
-    by : (b : Bool)
-        → cond b (record task { change = raised task.change }) task
+    by : (b : Bool) → cond b (record task { change = raised task.change }) task
         ≡ record task { change = (cond b (record task { change = raised task.change }) task).change }
     by true = refl
     by false = refl
@@ -56,12 +55,10 @@ pub pivoted_keeps_name : (namespace : ℕ) (root new : Mount ℕ) (task : Task �
     → (pivoted_task nat_eq namespace root new task).name ≡ task.name
 pivoted_keeps_name namespace root new task = by (nat_eq namespace task.namespace)
   where
-    by : (b : Bool)
-        → (cond b (record task {
-          root = pivoted_location nat_eq root new task.root;
-          directory = pivoted_location nat_eq root new task.directory;
-        }) task).name
-        ≡ task.name
+    by : (b : Bool) → (cond b (record task {
+      root = pivoted_location nat_eq root new task.root;
+      directory = pivoted_location nat_eq root new task.directory;
+    }) task).name ≡ task.name
     by true = refl
     by false = refl
 
@@ -101,8 +98,7 @@ others_left name other apart (first ∷ rest) =
 
 -- one more at the end is found where nobody was
 pub find_appended : (B : Found → Type 0) (name : TaskName) (new : Task ℕ) (tasks : List (Task ℕ))
-    → B (called name tasks)
-    → (called name tasks ≡ None → B (cond (same_name name new.name) (Some new) None))
+    → B (called name tasks) → (called name tasks ≡ None → B (cond (same_name name new.name) (Some new) None))
     → B (called name (tasks ++ (new ∷ [])))
 find_appended B name new [] before later = later refl
 find_appended B name new (first ∷ rest) before later =
@@ -111,7 +107,6 @@ find_appended B name new (first ∷ rest) before later =
     by : (b : Bool) → B (cond b (Some first) (called name rest))
         → (cond b (Some first) (called name rest) ≡ None → B (cond (same_name name new.name) (Some new) None))
         → (B (called name rest) → (called name rest ≡ None → B (cond (same_name name new.name) (Some new) None))
-        → B (called name (rest ++ (new ∷ []))))
-        → B (cond b (Some first) (called name (rest ++ (new ∷ []))))
+        → B (called name (rest ++ (new ∷ [])))) → B (cond b (Some first) (called name (rest ++ (new ∷ []))))
     by true before later next = before
     by false before later next = next before later

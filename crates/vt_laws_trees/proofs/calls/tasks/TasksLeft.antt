@@ -31,8 +31,7 @@ with_new world new = map (replaced_if_called new) world.tasks
 module _ (fresh : Fresh ℕ) (world : World ℕ) (task : Task ℕ) where
   -- the caller as unshare(2) and setns(2) leave it
   abbrev pub alone : Task ℕ
-  alone =
-      unshared_task nat_eq (mounts_of nat_eq world task.namespace)
+  alone = unshared_task nat_eq (mounts_of nat_eq world task.namespace)
       (numbers_by nat_eq (odds fresh) (mounts_of nat_eq world task.namespace)) (evens fresh 0) task
 
   abbrev pub entered : ℕ → Task ℕ
@@ -64,13 +63,10 @@ module _ (fresh : Fresh ℕ) (world : World ℕ) (task : Task ℕ) where
   tasks_left (ToRemoveDirectory parent name directory) =
       tasks-with_change fresh (without_mounts_on nat_eq world directory) parent _ ∙ tasks-taken_away world _
   tasks_left (ToRename from old to new object replaced) =
-      tasks-with_change fresh (without_replaced nat_eq world replaced) from _
-      ∙ tasks-without_replaced world replaced
-  tasks_left (ToOpen file access) =
-      ap (map (replaced_if_called (with_descriptor task file access)))
+      tasks-with_change fresh (without_replaced nat_eq world replaced) from _ ∙ tasks-without_replaced world replaced
+  tasks_left (ToOpen file access) = ap (map (replaced_if_called (with_descriptor task file access)))
       (tasks-with_copy fresh world (is_copied_up nat_eq world file access) file)
-  tasks_left (ToOpenNew directory name node access) =
-      ap (map (replaced_if_called
+  tasks_left (ToOpenNew directory name node access) = ap (map (replaced_if_called
       (with_descriptor task (record { mount = directory.mount; node = evens fresh 0 }) access)))
       (tasks-with_change (odds fresh) world directory _)
   tasks_left (ToWritePart file offset bytes) = tasks-pwritten fresh world file offset bytes
@@ -78,8 +74,7 @@ module _ (fresh : Fresh ℕ) (world : World ℕ) (task : Task ℕ) where
   tasks_left ToUnshare = tasks-taken_away (unshared nat_eq world fresh task) _
   tasks_left (ToEnterNamespace namespace) = tasks-taken_away (namespace_entered nat_eq world task namespace) _
   tasks_left (ToUnmount mount) = tasks-taken_away world _
-  tasks_left (ToUnmountLazily mount) =
-      lazily_tasks (deepest_first nat_eq world
+  tasks_left (ToUnmountLazily mount) = lazily_tasks (deepest_first nat_eq world
       (mount_tree nat_eq world.mounts (mount_numbered nat_eq world mount))) world
   tasks_left (ToSetType mount word recursive) = typed_tasks fresh world mount word recursive
   tasks_left permit = refl
@@ -87,8 +82,7 @@ module _ (fresh : Fresh ℕ) (world : World ℕ) (task : Task ℕ) where
 -- What holds of the tasks where nothing happens, and of those that each granted permit leaves, with the caller's change
 -- number raised or not, holds of those after the call.
 pub tasks_after_call : (P : Tasks → Type 0) (fresh : Fresh ℕ) (world : World ℕ) (name : TaskName) (call : Call)
-    → P world.tasks
-    → ((task : Task ℕ) (permit : Permit ℕ) → task_called world name ≡ Some task
+    → P world.tasks → ((task : Task ℕ) (permit : Permit ℕ) → task_called world name ≡ Some task
     → judge_in nat_eq fresh world task call ≡ Ok permit
     → P (left_tasks fresh world task permit) × P (map (raised_task name) (left_tasks fresh world task permit)))
     → P (policy nat_eq fresh world name call).world.tasks
@@ -97,8 +91,7 @@ tasks_after_call P fresh world name call same done =
     (by_task (task_called world name) refl)
   where
     by_permit : (changed : List ℕ) (task : Task ℕ) → task_called world name ≡ Some task → (judgement : Judgement ℕ)
-        → judge_in nat_eq fresh world task call ≡ judgement
-        → P (finished nat_eq world name call changed
+        → judge_in nat_eq fresh world task call ≡ judgement → P (finished nat_eq world name call changed
         (after world judgement (apply nat_eq fresh world task))).world.tasks
     by_permit changed task is (Ok permit) judged = by_looks _
       where
@@ -115,8 +108,7 @@ tasks_after_call P fresh world name call same done =
         by_looks true = same
         by_looks false = same
 
-    by_task : (o : Option (Task ℕ)) → task_called world name ≡ o
-        → P (after world (ok_or o (denial S2)) (λ task.
+    by_task : (o : Option (Task ℕ)) → task_called world name ≡ o → P (after world (ok_or o (denial S2)) (λ task.
         finished nat_eq world name call (filesystems_changed_by nat_eq world (judge_in nat_eq fresh world task call))
         (after world (judge_in nat_eq fresh world task call) (apply nat_eq fresh world task)))).world.tasks
     by_task None is = same

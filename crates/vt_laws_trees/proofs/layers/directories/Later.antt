@@ -47,8 +47,7 @@ any_found test (first ∷ list) e = grind (arith, common_steps, any_found test l
 pub any_same : {A : Type 0} (test other : A → Bool) (list : List A) → ((a : A) → Among list a → test a ≡ other a)
     → list_any test list ≡ list_any other list
 any_same test other [] same = refl
-any_same test other (first ∷ list) same =
-    ap (λ b. b || list_any test list) (same first (inl refl))
+any_same test other (first ∷ list) same = ap (λ b. b || list_any test list) (same first (inl refl))
     ∙ ap (λ b. other first || b) (any_same test other list (λ a among. same a (inr among)))
 
 absorbed : (l c n : Bool) → (n ≡ true → l ≡ true) → (l || (c || (n || false))) ≡ (l || c)
@@ -58,8 +57,7 @@ absorbed false false false h = refl
 absorbed false false true h = sym (h refl)
 
 module _ (world : World ℕ) (conditions : IsWorld nat_eq world) (overlay : Overlay ℕ)
-    (are_layers : AreLayers world overlay)
-    (fresh : Fresh ℕ) (distinct : (j k : ℕ) → fresh j ≡ fresh k → j ≡ k)
+    (are_layers : AreLayers world overlay) (fresh : Fresh ℕ) (distinct : (j k : ℕ) → fresh j ≡ fresh k → j ≡ k)
     (unused : is_among nat_eq (evens fresh 0) (map (λ filesystem. filesystem.number) world.filesystems) ≡ false) where
   abbrev pub new : Filesystem ℕ
   new = overlay_filesystem nat_eq fresh world overlay
@@ -93,8 +91,7 @@ module _ (world : World ℕ) (conditions : IsWorld nat_eq world) (overlay : Over
       by true e = none_is_some (filesystem_numbered nat_eq world layer.filesystem)
           (sym (not_found layer.filesystem world.filesystems
           (ap (λ n. list_any (nat_eq n) (map (λ f. f.number) world.filesystems))
-          (eqb-true layer.filesystem new.number e) ∙ unused))
-          ∙ plain_found layer plain)
+          (eqb-true layer.filesystem new.number e) ∙ unused)) ∙ plain_found layer plain)
 
   lies_same : (fs object : ℕ) (layer : Layer ℕ) → IsOld layer
       → lies_in_layer nat_eq later fs object layer ≡ lies_in_layer nat_eq world fs object layer
@@ -118,16 +115,14 @@ module _ (world : World ℕ) (conditions : IsWorld nat_eq world) (overlay : Over
   upper_in (Lower layer path) = None
 
   upper_led : (upper : Layer ℕ) → overlay.upper ≡ Some upper → (number object : ℕ)
-      → made.real number ≡ Some (Upper object)
-      → (path : List (List ℕ)) × (led
+      → made.real number ≡ Some (Upper object) → (path : List (List ℕ)) × (led
       (filesystem_numbered nat_eq world upper.filesystem).files.tree upper.directory path ≡ Some object)
   unfolding upper_in
   upper_led upper is number object e =
       let real = has_real (map (open_layer nat_eq world) (shown_layers overlay))
       (are_open world conditions overlay are_layers) (inode_count world)
       (bounded world conditions overlay are_layers) (odds fresh)
-      (odds-distinct fresh distinct) (is_some overlay.upper) number
-      (Upper object) e in
+      (odds-distinct fresh distinct) (is_some overlay.upper) number (Upper object) e in
       by real.object real.layer real.object.seen.layer refl
       (real.is ∙ ap (λ o. real_object (is_some o) real.object.seen.layer real.object) is)
     where
@@ -135,16 +130,14 @@ module _ (world : World ℕ) (conditions : IsWorld nat_eq world) (overlay : Over
           (are_open world conditions overlay are_layers) (inode_count world)
           (bounded world conditions overlay are_layers) (odds fresh)
           (odds-distinct fresh distinct) (is_some overlay.upper) m → (l : ℕ)
-          → m.seen.layer ≡ l → Upper object ≡ real_object true l m
-          → (path : List (List ℕ)) × (led
+          → m.seen.layer ≡ l → Upper object ≡ real_object true l m → (path : List (List ℕ)) × (led
           (filesystem_numbered nat_eq world upper.filesystem).files.tree upper.directory path ≡ Some object)
       by m found zero lm r =
           let top : slice_get (map (open_layer nat_eq world) (shown_layers overlay)) 0
           ≡ Some (open_layer nat_eq world upper) =
           ap (λ o. slice_get (map (open_layer nat_eq world) (option_to_list o ++ overlay.lowers)) 0) is in
           let same = same_Some (open_layer nat_eq world upper) found.layer
-          (sym top ∙ ap (slice_get (map (open_layer nat_eq world) (shown_layers overlay))) (sym lm)
-          ∙ found.there) in (
+          (sym top ∙ ap (slice_get (map (open_layer nat_eq world) (shown_layers overlay))) (sym lm) ∙ found.there) in (
             m.path,
             ap (λ layer. at_path layer m.path) same ∙ found.at
                 ∙ ap Some (sym (same_Some object m.seen.object (ap upper_in r))),
@@ -158,8 +151,7 @@ module _ (world : World ℕ) (conditions : IsWorld nat_eq world) (overlay : Over
       (and_true_right _ _ (and_true_right _ _ e))
     where
       up_plain : (upper : Layer ℕ) → overlay.upper ≡ Some upper → is_plain_layer nat_eq world upper ≡ true
-      up_plain upper is =
-          and_true_left (is_plain_layer nat_eq world upper) _
+      up_plain upper is = and_true_left (is_plain_layer nat_eq world upper) _
           (ap (λ o. list_all (is_plain_layer nat_eq world) (option_to_list o ++ overlay.lowers)) (sym is)
           ∙ are_layers.1)
 
@@ -199,8 +191,7 @@ module _ (world : World ℕ) (conditions : IsWorld nat_eq world) (overlay : Over
       → lies_or_counts_under nat_eq later fs object layer ≡ lies_or_counts_under nat_eq world fs object layer
   under_same fs object layer old =
       ap (λ b. b || list_any (counts_in_layer nat_eq later fs object layer) (overlays later))
-      (lies_same fs object layer old)
-      ∙ ap (λ b. lies_in_layer nat_eq world fs object layer || b)
+      (lies_same fs object layer old) ∙ ap (λ b. lies_in_layer nat_eq world fs object layer || b)
       (ap (list_any (counts_in_layer nat_eq later fs object layer)) overlays_later
       ∙ list_any-append (counts_in_layer nat_eq later fs object layer) (overlays world) (new ∷ [])
       ∙ ap (λ b. b || (counts_in_layer nat_eq later fs object layer new || false))
@@ -208,8 +199,7 @@ module _ (world : World ℕ) (conditions : IsWorld nat_eq world) (overlay : Over
       (overlays world) (λ merged among. counts_same fs object layer old merged)))
       ∙ absorbed (lies_in_layer nat_eq world fs object layer)
       (list_any (counts_in_layer nat_eq world fs object layer) (overlays world))
-      (counts_in_layer nat_eq later fs object layer new)
-      (new_counts fs object layer old)
+      (counts_in_layer nat_eq later fs object layer new) (new_counts fs object layer old)
 
   pub overlaps_same : (others : List (Layer ℕ)) (layer : Layer ℕ) → IsOld layer
       → ((other : Layer ℕ) → Among others other → IsOld other)

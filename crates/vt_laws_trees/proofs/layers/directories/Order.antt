@@ -55,8 +55,7 @@ module _ {A B : Type 0} where
   pub from_flat_map : (f : A → List B) (list : List A) (b : B) → Among (flat_map f list) b
       → (a : A) × Among list a × Among (f a) b
   from_flat_map f [] b among = absurd among
-  from_flat_map f (first ∷ list) b among =
-      ⊎_elim (λ l. (first, inl refl, l))
+  from_flat_map f (first ∷ list) b among = ⊎_elim (λ l. (first, inl refl, l))
       (λ r. let found = from_flat_map f list b r in (found.0, inr found.1, found.2))
       (from_append (f first) (flat_map f list) b among)
 
@@ -86,15 +85,13 @@ module _ {X : Type 0} where
   names_rise [] h = tt
   names_rise (entry ∷ entries) h = (
     all_below entry.0 entries (T_and_left _ _ h),
-    names_rise entries
-        (T_and_right (below_all name_cmp entry.0 entries) _ h),
+    names_rise entries (T_and_right (below_all name_cmp entry.0 entries) _ h),
   )
 
   below_each : (name : List ℕ) (entries : Entries X)
       → ((entry : List ℕ × X) → Among entries entry → NameBelow name entry.0) → T (below_all name_cmp name entries)
   below_each name [] h = tt
-  below_each name (entry ∷ entries) h =
-      T_and _ _ (h entry (inl refl)) (below_each name entries (λ e a. h e (inr a)))
+  below_each name (entry ∷ entries) h = T_and _ _ (h entry (inl refl)) (below_each name entries (λ e a. h e (inr a)))
 
   pub rising_sorted : (entries : Entries X) → Pairwise (λ a b. NameBelow a.0 b.0) entries
       → T (is_sorted name_cmp entries)
@@ -172,16 +169,13 @@ module _ (views : List (View ℕ)) where
           → (names : List (List ℕ)) → Pairwise NameBelow names
           → Pairwise PathBelow (flat_map (λ name. paths_from depth views (base ++ name ∷ [])) names)
       each rise [] p = tt
-      each rise (name ∷ names) p =
-          pairwise_append PathBelow (paths_from depth views (base ++ name ∷ []))
-          (flat_map (λ name. paths_from depth views (base ++ name ∷ [])) names)
-          (rise name) (each rise names p.1)
+      each rise (name ∷ names) p = pairwise_append PathBelow (paths_from depth views (base ++ name ∷ []))
+          (flat_map (λ name. paths_from depth views (base ++ name ∷ [])) names) (rise name) (each rise names p.1)
           (λ path other a b.
           let one = under_name depth base name path a in
           let found = from_flat_map (λ name. paths_from depth views (base ++ name ∷ [])) names other b in
           let two = under_name depth base found.0 other found.2 in
-          subst (λ q. PathBelow q other) one.1
-          (subst (PathBelow (base ++ name ∷ one.0)) two.1
+          subst (λ q. PathBelow q other) one.1 (subst (PathBelow (base ++ name ∷ one.0)) two.1
           (below_beside base name found.0 one.0 two.0 (p.0 found.0 found.1))))
 
 -- so do the entries of a merged directory
@@ -191,23 +185,17 @@ module _ (layers : List (OpenLayer ℕ)) (are_open : AreOpen layers) (longest : 
   pub entries_in_order : (path : List (List ℕ))
       → is_sorted name_cmp (filter_map (entry_in_directory nat_eq fresh has_upper (merged_objects layers longest) path)
       (merged_objects layers longest)) ≡ true
-  entries_in_order path =
-      passes _ (rising_sorted (filter_map (entry_in_directory nat_eq fresh has_upper
-      (merged_objects layers longest) path)
-      (merged_objects layers longest))
+  entries_in_order path = passes _ (rising_sorted (filter_map (entry_in_directory nat_eq fresh has_upper
+      (merged_objects layers longest) path) (merged_objects layers longest))
       (pairwise_filter_map (λ a b. PathBelow a.path b.path) (λ a b. NameBelow a.0 b.0)
-      (entry_in_directory nat_eq fresh has_upper (merged_objects layers longest) path)
-      (λ a b x y e f h.
-      last_parent path x.0 y.0
-      (subst (PathBelow (path ++ x.0 ∷ []))
+      (entry_in_directory nat_eq fresh has_upper (merged_objects layers longest) path) (λ a b x y e f h.
+      last_parent path x.0 y.0 (subst (PathBelow (path ++ x.0 ∷ []))
       (entry_is_here layers are_open longest bounded fresh distinct has_upper path y.0 b y f).0
       (subst (λ p. PathBelow p b.path)
       (entry_is_here layers are_open longest bounded fresh distinct has_upper path x.0 a x e).0 h)))
-      (merged_objects layers longest)
-      (pairwise_filter_map PathBelow (λ a b. PathBelow a.path b.path) (merged_at layers)
+      (merged_objects layers longest) (pairwise_filter_map PathBelow (λ a b. PathBelow a.path b.path) (merged_at layers)
       (λ a b x y e f h. subst (λ p. PathBelow x.path p) (path_of b y f) (subst (λ p. PathBelow p b) (path_of a x e) h))
-      (paths_from longest (map view_of layers) [])
-      (paths_rise (map view_of layers) longest []))))
+      (paths_from longest (map view_of layers) []) (paths_rise (map view_of layers) longest []))))
     where
       path_of : (path : List (List ℕ)) (object : Merged ℕ) → merged_at layers path ≡ Some object → path ≡ object.path
       path_of path object e = by (shown layers path) e

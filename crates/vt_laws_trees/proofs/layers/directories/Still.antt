@@ -32,8 +32,7 @@ find_new test [] last f e = ap (λ b. cond b (Some last) None) e
 find_new test (first ∷ list) last f e = grind (arith, common_steps, find_new test list last, none_is_some)
 
 module _ (world : World ℕ) (conditions : IsWorld nat_eq world) (overlay : Overlay ℕ)
-    (are_layers : AreLayers world overlay)
-    (fresh : Fresh ℕ) (distinct : (j k : ℕ) → fresh j ≡ fresh k → j ≡ k)
+    (are_layers : AreLayers world overlay) (fresh : Fresh ℕ) (distinct : (j k : ℕ) → fresh j ≡ fresh k → j ≡ k)
     (unused : is_among nat_eq (evens fresh 0) (map (λ filesystem. filesystem.number) world.filesystems) ≡ false) where
   abbrev after : World ℕ
   after = later world conditions overlay are_layers fresh distinct unused
@@ -42,8 +41,7 @@ module _ (world : World ℕ) (conditions : IsWorld nat_eq world) (overlay : Over
   Old layer = IsOld world conditions overlay are_layers fresh distinct unused layer
 
   open_same : (layer : Layer ℕ) → Old layer → open_layer nat_eq after layer ≡ open_layer nat_eq world layer
-  open_same layer old =
-      ap (λ f. record { tree = f.files.tree; directory = layer.directory })
+  open_same layer old = ap (λ f. record { tree = f.files.tree; directory = layer.directory })
       (same_filesystem world conditions overlay are_layers fresh distinct unused layer.filesystem old)
 
   layers_same : (list : List (Layer ℕ)) → ((layer : Layer ℕ) → Among list layer → Old layer)
@@ -61,8 +59,7 @@ module _ (world : World ℕ) (conditions : IsWorld nat_eq world) (overlay : Over
     same_layers = layers_same (shown_layers some_overlay) old
 
     old_upper : (layer : Layer ℕ) → some_overlay.upper ≡ Some layer → Old layer
-    old_upper layer e =
-        old layer (among_append_left (option_to_list some_overlay.upper) some_overlay.lowers layer
+    old_upper layer e = old layer (among_append_left (option_to_list some_overlay.upper) some_overlay.lowers layer
         (subst (λ o. Among (option_to_list o) layer) (sym e) (inl refl)))
 
     real_same : (real : Real ℕ) → real_node nat_eq after some_overlay real ≡ real_node nat_eq world some_overlay real
@@ -72,8 +69,7 @@ module _ (world : World ℕ) (conditions : IsWorld nat_eq world) (overlay : Over
             → then_some o (λ layer. (filesystem_numbered nat_eq after layer.filesystem).files.tree.node object)
             ≡ then_some o (λ layer. (filesystem_numbered nat_eq world layer.filesystem).files.tree.node object)
         by None olds = refl
-        by (Some layer) olds =
-            ap (λ f. f.files.tree.node object)
+        by (Some layer) olds = ap (λ f. f.files.tree.node object)
             (same_filesystem world conditions overlay are_layers fresh distinct unused layer.filesystem
             (olds layer refl))
     real_same (Lower k path) =
@@ -83,10 +79,8 @@ module _ (world : World ℕ) (conditions : IsWorld nat_eq world) (overlay : Over
     still_merged = record {
       shows = λ path.
           subst (λ layers. SameObject (then_some (number_at_path filesystem.files path) filesystem.files.tree.node)
-          (then_some (shown layers path) (layer_node layers)))
-          (sym same_layers) (is.shows path);
-      names = λ path number e.
-          is.names path number e
+          (then_some (shown layers path) (layer_node layers))) (sym same_layers) (is.shows path);
+      names = λ path number e. is.names path number e
           ∙ ap (λ layers. option_map (λ object. real_object (is_some some_overlay.upper) object.seen.layer object)
           (merged_at layers path)) (sym same_layers);
       real_objects = λ number.
@@ -108,15 +102,13 @@ module _ (world : World ℕ) (conditions : IsWorld nat_eq world) (overlay : Over
             → holds_of (λ layer. is_there nat_eq after layer.filesystem object) o
             ≡ holds_of (λ layer. is_there nat_eq world layer.filesystem object) o
         by_upper object None olds = refl
-        by_upper object (Some layer) olds =
-            ap (λ f. is_some (f.files.tree.node object))
+        by_upper object (Some layer) olds = ap (λ f. is_some (f.files.tree.node object))
             (same_filesystem world conditions overlay are_layers fresh distinct unused layer.filesystem
             (olds layer refl))
 
   old_layers : (some_overlay : Overlay ℕ) → AreLayers world some_overlay → (layer : Layer ℕ)
       → Among (shown_layers some_overlay) layer → Old layer
-  old_layers some_overlay are layer among =
-      plain_is_old world conditions overlay are_layers fresh distinct unused layer
+  old_layers some_overlay are layer among = plain_is_old world conditions overlay are_layers fresh distinct unused layer
       (each_passes (is_plain_layer nat_eq world) (shown_layers some_overlay) are.1 layer among)
 
   merge_after : (number : ℕ) (some_overlay : Overlay ℕ)
@@ -143,12 +135,10 @@ module _ (world : World ℕ) (conditions : IsWorld nat_eq world) (overlay : Over
           subst (λ f. IsMerged nat_eq after f some_overlay) (sym same)
           (subst (IsMerged nat_eq after (overlay_filesystem nat_eq fresh world overlay))
           (same_Some (made world conditions overlay are_layers fresh distinct) some_overlay
-          (sym (ap (λ f. f.overlay) same) ∙ e))
-          (still_merged (overlay_filesystem nat_eq fresh world overlay)
+          (sym (ap (λ f. f.overlay) same) ∙ e)) (still_merged (overlay_filesystem nat_eq fresh world overlay)
           (made world conditions overlay are_layers fresh distinct) (old_layers overlay are_layers)
           (made_merged world conditions overlay are_layers fresh distinct)))
 
 pub overlays_still_merge : OverlaysStillMerge
 overlays_still_merge fresh world overlay places conditions are_layers plain distinct unused passed number some_overlay
-    e =
-    merge_after world conditions overlay are_layers fresh distinct unused number some_overlay e
+    e = merge_after world conditions overlay are_layers fresh distinct unused number some_overlay e

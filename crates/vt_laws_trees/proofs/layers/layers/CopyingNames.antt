@@ -29,8 +29,7 @@ name_gone name (entry ∷ entries) = by (bytes_eq entry.0 name) refl (name_gone 
         → cond tied (Some entry.1) (entry_named name (without_entry name entries))
         ≡ entry_named name (without_entry name entries)
     other e false t = refl
-    other e true t =
-        absurd (true≢false (sym (texts_ties entry.0 name
+    other e true t = absurd (true≢false (sym (texts_ties entry.0 name
         ∙ ap (λ n. eq_by_cmp name_cmp n name) (sym (same_name name entry.0 t))
         ∙ ap is_eq (tied_itself nat_list_cmp_total name)) ∙ e))
 
@@ -47,8 +46,7 @@ no_name_left name (Some node) = grind (arith, common_steps, name_gone)
 -- a name that was put in is there
 pub name_put : (name : List ℕ) (number : ℕ) (inode : Option (Node ℕ)) → is_directory_node inode ≡ true
     → entry_named name (entries_in (node_with_entry name number inode)) ≡ Some number
-name_put name number inode d =
-    ap (entry_named name) (entries-node_with_entry name number inode d)
+name_put name number inode d = ap (entry_named name) (entries-node_with_entry name number inode d)
     ∙ entry_named-with_entry name name number (entries_in inode)
     ∙ ap (λ b. cond b (Some number) (entry_named name (entries_in inode)))
     (ap is_eq (tied_itself nat_list_cmp_total name))
@@ -74,8 +72,7 @@ name_stays_without name other (Some node) differ = by node.content
     by : (content : Content ℕ) → entry_named name
         (entries_of (with_entries content (without_entry other (entries_of content))))
         ≡ entry_named name (entries_of content)
-    by (Directory parent entries opaque) =
-        entry_named-without_entry name other entries
+    by (Directory parent entries opaque) = entry_named-without_entry name other entries
         ∙ ap (λ b. cond (not b) (entry_named name entries) None) (apart (bytes_eq name other) refl)
     by (Regular bytes) = refl
     by (Symlink text) = refl
@@ -96,8 +93,7 @@ pub left_where : (fresh : Fresh ℕ) (below : Option (Shown ℕ)) (stack : Stack
     (name : List ℕ) → is_directory_node (upper.tree.node directory) ≡ true → directory ≢ fresh 0
     → LeftWith (fresh 0) below stack
     (name_left_by nat_eq (is_some below) fresh stack upper directory name) directory name
-left_where fresh None stack upper directory name d differ =
-    ap (λ o. entry_named name (entries_in o))
+left_where fresh None stack upper directory name d differ = ap (λ o. entry_named name (entries_in o))
     (node_set upper.tree directory (node_without_entry name (upper.tree.node directory)))
     ∙ no_name_left name (upper.tree.node directory)
 left_where fresh (Some seen) stack upper directory name d differ =
@@ -114,8 +110,7 @@ left_where fresh (Some seen) stack upper directory name d differ =
 
 -- it stays, where the directory's entries and the whiteout do
 pub left_stays : (number : ℕ) (below : Option (Shown ℕ)) (stack : Stack ℕ) (upper later : FileTree ℕ) (directory : ℕ)
-    (name : List ℕ)
-    → entries_in (later.tree.node directory) ≡ entries_in (upper.tree.node directory)
+    (name : List ℕ) → entries_in (later.tree.node directory) ≡ entries_in (upper.tree.node directory)
     → later.tree.node number ≡ upper.tree.node number
     → LeftWith number below stack upper directory name → LeftWith number below stack later directory name
 left_stays number None stack upper later directory name e f left = ap (entry_named name) e ∙ left
@@ -123,8 +118,7 @@ left_stays number (Some seen) stack upper later directory name e f left = (ap (e
 
 -- where a name is left, every other inode is as it was
 pub left_elsewhere : (hidden : Bool) (fresh : Fresh ℕ) (stack : Stack ℕ) (upper : FileTree ℕ) (directory : ℕ)
-    (name : List ℕ) (inode : ℕ)
-    → inode ≢ directory → inode ≢ fresh 0
+    (name : List ℕ) (inode : ℕ) → inode ≢ directory → inode ≢ fresh 0
     → (name_left_by nat_eq hidden fresh stack upper directory name).tree.node inode ≡ upper.tree.node inode
 left_elsewhere true fresh stack upper directory name inode differ new =
     kept_elsewhere (with_inode nat_eq upper (fresh 0) (whiteout_of stack.mounter)) directory
@@ -138,8 +132,7 @@ pub emptied_is_empty : (upper : FileTree ℕ) (replaced : Option ℕ) (object : 
 emptied_is_empty upper replaced object e =
     subst (λ o. entries_in ((without_contents nat_eq upper o).tree.node object) ≡ []) (sym e)
     (part-changed_node entries_in (changed_node nat_eq upper object node_without_entries) object
-    (node_with_parent object)
-    (entries-node_with_parent object) object
+    (node_with_parent object) (entries-node_with_parent object) object
     ∙ ap entries_in (node_set upper.tree object (node_without_entries (upper.tree.node object)))
     ∙ entries-node_without_entries (upper.tree.node object))
 
@@ -192,8 +185,7 @@ module _ {A : Type 0} (part : Option (Node ℕ) → A)
   pub freed_part : (upper : FileTree ℕ) (object : Option ℕ) (inode : ℕ)
       → part ((without_parent nat_eq upper object).tree.node inode) ≡ part (upper.tree.node inode)
   freed_part upper None inode = refl
-  freed_part upper (Some object) inode =
-      part-changed_node part upper object (node_with_parent object)
+  freed_part upper (Some object) inode = part-changed_node part upper object (node_with_parent object)
       (keeps (node_with_parent object) (parent_keeps object)) inode
 
   pub moved_part : (upper : FileTree ℕ) (from : ℕ) (old : List ℕ) (to : ℕ) (name : List ℕ) (object inode : ℕ)

@@ -41,61 +41,47 @@ module _ (change : Entries ℕ → Entries ℕ) where
 pub entry_keeps : (name : List ℕ) (number : ℕ) → KeepsButNames (node_with_entry name number)
 entry_keeps name number = record {
   there = λ o. elim o as (λ o. is_some (node_with_entry name number o) ≡ is_some o) [ None ↦ refl | Some node ↦ refl ];
-  kind = λ o. elim o as (λ o. kind_in (node_with_entry name number o)
-      ≡ kind_in o) [
-        | None ↦ refl
-        | Some node ↦ other_kind (λ e. e) node.content
-            (with_entry name number (entries_of node.content))
-      ];
-  directory = λ o. elim o as (λ o. is_directory_node (node_with_entry name number o)
-      ≡ is_directory_node o) [
-        | None ↦ refl
-        | Some node ↦ ap is_directory
-            (other_kind (λ e. e) node.content (with_entry name number (entries_of node.content)))
-      ];
+  kind = λ o. elim o as (λ o. kind_in (node_with_entry name number o) ≡ kind_in o) [
+    | None ↦ refl
+    | Some node ↦ other_kind (λ e. e) node.content (with_entry name number (entries_of node.content))
+  ];
+  directory = λ o. elim o as (λ o. is_directory_node (node_with_entry name number o) ≡ is_directory_node o) [
+    | None ↦ refl
+    | Some node ↦ ap is_directory
+        (other_kind (λ e. e) node.content (with_entry name number (entries_of node.content)))
+  ];
   attr = λ o. elim o as (λ o. attr_in (node_with_entry name number o) ≡ attr_in o) [ None ↦ refl | Some node ↦ refl ];
-  bytes = λ o. elim o as (λ o. bytes_in (node_with_entry name number o)
-      ≡ bytes_in o) [
-        | None ↦ refl
-        | Some node ↦ other_bytes (λ e. e) node.content
-            (with_entry name number (entries_of node.content))
-      ];
-  mark = λ o. elim o as (λ o. is_opaque_in (node_with_entry name number o)
-      ≡ is_opaque_in o) [
-        | None ↦ refl
-        | Some node ↦ other_mark (λ e. e) node.content
-            (with_entry name number (entries_of node.content))
-      ];
+  bytes = λ o. elim o as (λ o. bytes_in (node_with_entry name number o) ≡ bytes_in o) [
+    | None ↦ refl
+    | Some node ↦ other_bytes (λ e. e) node.content (with_entry name number (entries_of node.content))
+  ];
+  mark = λ o. elim o as (λ o. is_opaque_in (node_with_entry name number o) ≡ is_opaque_in o) [
+    | None ↦ refl
+    | Some node ↦ other_mark (λ e. e) node.content (with_entry name number (entries_of node.content))
+  ];
 }
 
 pub without_entry_keeps : (name : List ℕ) → KeepsButNames (node_without_entry name)
 without_entry_keeps name = record {
   there = λ o. elim o as (λ o. is_some (node_without_entry name o) ≡ is_some o) [ None ↦ refl | Some node ↦ refl ];
-  kind = λ o. elim o as (λ o. kind_in (node_without_entry name o)
-      ≡ kind_in o) [
-        | None ↦ refl
-        | Some node ↦ other_kind (λ e. e) node.content
-            (without_entry name (entries_of node.content))
-      ];
-  directory = λ o. elim o as (λ o. is_directory_node (node_without_entry name o)
-      ≡ is_directory_node o) [
-        | None ↦ refl
-        | Some node ↦ ap is_directory
-            (other_kind (λ e. e) node.content (without_entry name (entries_of node.content)))
-      ];
+  kind = λ o. elim o as (λ o. kind_in (node_without_entry name o) ≡ kind_in o) [
+    | None ↦ refl
+    | Some node ↦ other_kind (λ e. e) node.content (without_entry name (entries_of node.content))
+  ];
+  directory = λ o. elim o as (λ o. is_directory_node (node_without_entry name o) ≡ is_directory_node o) [
+    | None ↦ refl
+    | Some node ↦ ap is_directory
+        (other_kind (λ e. e) node.content (without_entry name (entries_of node.content)))
+  ];
   attr = λ o. elim o as (λ o. attr_in (node_without_entry name o) ≡ attr_in o) [ None ↦ refl | Some node ↦ refl ];
-  bytes = λ o. elim o as (λ o. bytes_in (node_without_entry name o)
-      ≡ bytes_in o) [
-        | None ↦ refl
-        | Some node ↦ other_bytes (λ e. e) node.content
-            (without_entry name (entries_of node.content))
-      ];
-  mark = λ o. elim o as (λ o. is_opaque_in (node_without_entry name o)
-      ≡ is_opaque_in o) [
-        | None ↦ refl
-        | Some node ↦ other_mark (λ e. e) node.content
-            (without_entry name (entries_of node.content))
-      ];
+  bytes = λ o. elim o as (λ o. bytes_in (node_without_entry name o) ≡ bytes_in o) [
+    | None ↦ refl
+    | Some node ↦ other_bytes (λ e. e) node.content (without_entry name (entries_of node.content))
+  ];
+  mark = λ o. elim o as (λ o. is_opaque_in (node_without_entry name o) ≡ is_opaque_in o) [
+    | None ↦ refl
+    | Some node ↦ other_mark (λ e. e) node.content (without_entry name (entries_of node.content))
+  ];
 }
 
 pub without_entries_keeps : KeepsButNames node_without_entries
@@ -131,8 +117,7 @@ module _ (parent : ℕ) where
     there = λ o. elim o as (λ o. is_some (node_with_parent parent o) ≡ is_some o) [ None ↦ refl | Some node ↦ refl ];
     kind = λ o. elim o as (λ o. kind_in (node_with_parent parent o)
         ≡ kind_in o) [ None ↦ refl | Some node ↦ (kind_of-content_with_parent parent) node.content ];
-    directory = λ o. elim o as (λ o. is_directory_node (node_with_parent parent o)
-        ≡ is_directory_node o)
+    directory = λ o. elim o as (λ o. is_directory_node (node_with_parent parent o) ≡ is_directory_node o)
         [ None ↦ refl | Some node ↦ ap is_directory (kind_of-content_with_parent parent node.content) ];
     attr = λ o. elim o as (λ o. attr_in (node_with_parent parent o) ≡ attr_in o) [ None ↦ refl | Some node ↦ refl ];
     bytes = λ o. elim o as (λ o. bytes_in (node_with_parent parent o)

@@ -61,26 +61,21 @@ made_with_parent node parent = record {
 
 -- where a name is left, every other one stays
 other_name_stays : (hidden : Bool) (fresh : Fresh ℕ) (stack : Stack ℕ) (upper : FileTree ℕ) (directory other : ℕ)
-    (old name : List ℕ)
-    → (other ≡ directory → name ≢ old) → other ≢ fresh 0
+    (old name : List ℕ) → (other ≡ directory → name ≢ old) → other ≢ fresh 0
     → entry_at (name_left_by nat_eq hidden fresh stack upper directory old).tree other name
     ≡ entry_at upper.tree other name
 other_name_stays true fresh stack upper directory other old name apart new =
     let whited = with_inode nat_eq upper (fresh 0) (whiteout_of stack.mounter) in
     let same = ap (λ b. cond b (Some (whiteout_of stack.mounter)) (upper.tree.node other))
     (ne_eqb other (fresh 0) new) in
-    ⊎_elim
-    (λ t. ap (λ n. entry_at (with_name nat_eq whited directory old (fresh 0)).tree n name) t.1
+    ⊎_elim (λ t. ap (λ n. entry_at (with_name nat_eq whited directory old (fresh 0)).tree n name) t.1
     ∙ ap (λ o. entry_named name (entries_in o))
     (node_set whited.tree directory (node_with_entry old (fresh 0) (whited.tree.node directory)))
     ∙ name_stays_put name old (fresh 0) (whited.tree.node directory) (apart t.1)
-    ∙ ap (λ n. entry_at whited.tree n name) (sym t.1))
-    (λ t. ap (λ o. entry_named name (entries_in o))
-    (kept_elsewhere whited directory (node_with_entry old (fresh 0)) other t.0))
-    (eqb_tells other directory)
+    ∙ ap (λ n. entry_at whited.tree n name) (sym t.1)) (λ t. ap (λ o. entry_named name (entries_in o))
+    (kept_elsewhere whited directory (node_with_entry old (fresh 0)) other t.0)) (eqb_tells other directory)
     ∙ ap (λ o. entry_named name (entries_in o)) same
-other_name_stays false fresh stack upper directory other old name apart new =
-    ⊎_elim
+other_name_stays false fresh stack upper directory other old name apart new = ⊎_elim
     (λ t. ap (λ n. entry_at (without_name nat_eq upper directory old).tree n name) t.1
     ∙ ap (λ o. entry_named name (entries_in o))
     (node_set upper.tree directory (node_without_entry old (upper.tree.node directory)))
@@ -109,8 +104,7 @@ module _ (files : FileTree ℕ) (first : ℕ → Option (Real ℕ)) (spare : ℕ
       → IsReachedDirectory files directory → (name : List ℕ) (object : ℕ)
       → entry_at (merge_with_link nat_eq here directory name object).upper.tree (upper_of here directory) name
       ≡ Some (upper_of here object)
-  linked_named directory seen has reached name object =
-      ap (λ o. entry_named name (entries_in o))
+  linked_named directory seen has reached name object = ap (λ o. entry_named name (entries_in o))
       (node_set upper.tree (upper_of here directory)
       (node_with_entry name (upper_of here object) (upper.tree.node (upper_of here directory))))
       ∙ name_put name (upper_of here object) (upper.tree.node (upper_of here directory))
@@ -122,12 +116,10 @@ module _ (files : FileTree ℕ) (first : ℕ → Option (Real ℕ)) (fresh : Fre
   there = State files first (IsNewBy fresh) real upper
 
   is_old : (number seen : ℕ) → upper_object (real number) ≡ Some seen → upper_of there number ≢ fresh 0
-  is_old number seen has same =
-      sound.spared number seen has (
-        0,
-        sym (upper_is files first (IsNewBy fresh) real upper sound number seen has)
-            ∙ same,
-      )
+  is_old number seen has same = sound.spared number seen has (
+    0,
+    sym (upper_is files first (IsNewBy fresh) real upper sound number seen has) ∙ same,
+  )
 
   module _ (directory : ℕ) (name : List ℕ) (number : ℕ) (node : Node ℕ) (seen : ℕ)
       (has : upper_object (real directory) ≡ Some seen) (reached : IsReachedDirectory files directory) where
@@ -148,8 +140,7 @@ module _ (files : FileTree ℕ) (first : ℕ → Option (Real ℕ)) (fresh : Fre
         (upper_of there directory) name ≡ Some (fresh 0)
     made_named =
         ap (entry_named name) (marked_entries (hides_directory nat_eq stack there directory name) named (fresh 0)
-        (upper_of there directory))
-        ∙ ap (λ o. entry_named name (entries_in o))
+        (upper_of there directory)) ∙ ap (λ o. entry_named name (entries_in o))
         (node_set added.tree (upper_of there directory)
         (node_with_entry name (fresh 0) (added.tree.node (upper_of there directory))))
         ∙ name_put name (fresh 0) (added.tree.node (upper_of there directory))
@@ -159,13 +150,11 @@ module _ (files : FileTree ℕ) (first : ℕ → Option (Real ℕ)) (fresh : Fre
 
     pub made_as : IsMadeAs node ((merge_with_new nat_eq fresh stack there directory name number node).upper.tree.node
         (fresh 0))
-    made_as =
-        marked_made (hides_directory nat_eq stack there directory name) named (fresh 0) node
+    made_as = marked_made (hides_directory nat_eq stack there directory name) named (fresh 0) node
         (subst (IsMadeAs node)
         (sym (kept_elsewhere added (upper_of there directory) (node_with_entry name (fresh 0)) (fresh 0)
         (ne_eqb (fresh 0) (upper_of there directory) (λ same. is_old directory seen has (sym same)))
-        ∙ node_set upper.tree (fresh 0) (Some object)))
-        (made_with_parent node (upper_of there directory)))
+        ∙ node_set upper.tree (fresh 0) (Some object))) (made_with_parent node (upper_of there directory)))
 
   module _ (from : ℕ) (old : List ℕ) (to : ℕ) (name : List ℕ) (object : ℕ) (seen_from seen_to : ℕ)
       (e : entry_at files.tree from old ≡ Some object)
@@ -184,22 +173,17 @@ module _ (files : FileTree ℕ) (first : ℕ → Option (Real ℕ)) (fresh : Fre
     away = with_moved nat_eq freed (upper_of there from) old (upper_of there to) name (upper_of there object)
 
     base_directory : is_directory_node (base.tree.node (upper_of there to)) ≡ true
-    base_directory =
-        part-changed_node is_directory_node (without_parent nat_eq freed replaced) (upper_of there from)
+    base_directory = part-changed_node is_directory_node (without_parent nat_eq freed replaced) (upper_of there from)
         (node_without_entry old) (without_entry_keeps old).directory (upper_of there to)
         ∙ freed_part is_directory_node (λ change keeps. keeps.directory) freed replaced (upper_of there to)
         ∙ emptied_part is_directory_node (λ change keeps. keeps.directory) upper (upper_directory_named there to name)
-        (upper_of there to)
-        ∙ directory_there files first (IsNewBy fresh) real upper sound to seen_to has_to reached
+        (upper_of there to) ∙ directory_there files first (IsNewBy fresh) real upper sound to seen_to has_to reached
 
     away_named : entry_at away.tree (upper_of there to) name ≡ Some (upper_of there object)
-    away_named =
-        ap (entry_named name)
+    away_named = ap (entry_named name)
         (part-changed_node entries_in (with_name nat_eq base (upper_of there to) name (upper_of there object))
         (upper_of there object) (node_with_parent (upper_of there to)) (entries-node_with_parent (upper_of there to))
-        (upper_of there to))
-        ∙ ap (λ o. entry_named name (entries_in o))
-        (node_set base.tree (upper_of there to)
+        (upper_of there to)) ∙ ap (λ o. entry_named name (entries_in o)) (node_set base.tree (upper_of there to)
         (node_with_entry name (upper_of there object) (base.tree.node (upper_of there to))))
         ∙ name_put name (upper_of there object) (base.tree.node (upper_of there to)) base_directory
 
@@ -214,12 +198,8 @@ module _ (files : FileTree ℕ) (first : ℕ → Option (Real ℕ)) (fresh : Fre
 
     pub moved_named : entry_at (merge_with_moved nat_eq fresh stack there from old to name object).upper.tree
         (upper_of there to) name ≡ Some (upper_of there object)
-    moved_named =
-        ap (entry_named name)
-        (marked_entries (hides_directory nat_eq stack there to name)
+    moved_named = ap (entry_named name) (marked_entries (hides_directory nat_eq stack there to name)
         (name_left_by nat_eq (is_some (shown_in_lowers_at nat_eq stack there from old)) fresh stack away
         (upper_of there from) old) (upper_of there object) (upper_of there to))
         ∙ other_name_stays (is_some (shown_in_lowers_at nat_eq stack there from old)) fresh stack away
-        (upper_of there from)
-        (upper_of there to) old name apart (is_old to seen_to has_to)
-        ∙ away_named
+        (upper_of there from) (upper_of there to) old name apart (is_old to seen_to has_to) ∙ away_named

@@ -16,13 +16,11 @@ use Rattle.vt_spec.specs.Machine.World.{Filesystem, Layer, Overlay, World, files
 pub number_of_found : (number : ℕ) (list : List (Filesystem ℕ))
     → (unwrap_or (find (λ filesystem. nat_eq number filesystem.number) list) (no_filesystem number)).number ≡ number
 number_of_found number [] = refl
-number_of_found number (filesystem ∷ list) =
-    ⊎_elim
+number_of_found number (filesystem ∷ list) = ⊎_elim
     (λ t. ap (λ b. (unwrap_or (cond b (Some filesystem) (find (λ f. nat_eq number f.number) list))
     (no_filesystem number)).number) t.0 ∙ sym t.1)
     (λ t. ap (λ b. (unwrap_or (cond b (Some filesystem) (find (λ f. nat_eq number f.number) list))
-    (no_filesystem number)).number) t.0 ∙ number_of_found number list)
-    (eqb_tells number filesystem.number)
+    (no_filesystem number)).number) t.0 ∙ number_of_found number list) (eqb_tells number filesystem.number)
 
 pub number_of_filesystem : (world : World ℕ) (number : ℕ) → (filesystem_numbered nat_eq world number).number ≡ number
 number_of_filesystem world number = number_of_found number world.filesystems
@@ -32,12 +30,10 @@ found_elsewhere : (new : Filesystem ℕ) (number : ℕ) → number ≢ new.numbe
     → find (λ filesystem. nat_eq number filesystem.number) (map (replaced_if_numbered nat_eq new) list)
     ≡ find (λ filesystem. nat_eq number filesystem.number) list
 found_elsewhere new number differ [] = refl
-found_elsewhere new number differ (old ∷ list) =
-    ⊎_elim
+found_elsewhere new number differ (old ∷ list) = ⊎_elim
     (λ t. ap (λ b. find (λ f. nat_eq number f.number) (cond b new old ∷ map (replaced_if_numbered nat_eq new) list)) t.0
     ∙ ap (λ b. cond b (Some new) (find (λ f. nat_eq number f.number) (map (replaced_if_numbered nat_eq new) list)))
-    (ne_eqb number new.number differ)
-    ∙ found_elsewhere new number differ list
+    (ne_eqb number new.number differ) ∙ found_elsewhere new number differ list
     ∙ sym (ap (λ b. cond b (Some old) (find (λ f. nat_eq number f.number) list))
     (ne_eqb number old.number (λ e. differ (e ∙ sym t.1)))))
     (λ t. ap (λ b. find (λ f. nat_eq number f.number) (cond b new old ∷ map (replaced_if_numbered nat_eq new) list)) t.0
@@ -82,12 +78,10 @@ filesystem_there P world new number same is none =
 
     by : (o : Option (Filesystem ℕ)) → find (λ filesystem. nat_eq new.number filesystem.number) world.filesystems ≡ o
         → P (filesystem_numbered nat_eq (with_filesystem nat_eq world new) number)
-    by None e =
-        subst P (sym (ap (λ o. unwrap_or o (no_filesystem number))
+    by None e = subst P (sym (ap (λ o. unwrap_or o (no_filesystem number))
         (searched_new ∙ found_nowhere new world.filesystems e)))
         (none (ap (λ o. unwrap_or o (no_filesystem number)) (searched ∙ e)))
-    by (Some old) e =
-        subst P (sym (ap (λ o. unwrap_or o (no_filesystem number))
+    by (Some old) e = subst P (sym (ap (λ o. unwrap_or o (no_filesystem number))
         (searched_new ∙ found_there new world.filesystems old e))) is
 
 -- A change through a mount
@@ -104,13 +98,11 @@ changed_elsewhere fresh world filesystem change number differ upper = by filesys
     merged : (overlay : Overlay ℕ) (upper : Layer ℕ) (merge : Merge ℕ) → number ≢ upper.filesystem
         → filesystem_numbered nat_eq (with_merge nat_eq world filesystem overlay upper merge) number
         ≡ filesystem_numbered nat_eq world number
-    merged overlay upper merge away =
-        filesystem_elsewhere (with_filesystem nat_eq world (record filesystem {
-          files = merge.files;
-          overlay = Some (record overlay { real = merge.real });
-        })) (with_files (filesystem_numbered nat_eq world upper.filesystem) merge.upper) number
-        (λ e. away (e ∙ number_of_filesystem world upper.filesystem))
-        ∙ filesystem_elsewhere world (record filesystem {
+    merged overlay upper merge away = filesystem_elsewhere (with_filesystem nat_eq world (record filesystem {
+      files = merge.files;
+      overlay = Some (record overlay { real = merge.real });
+    })) (with_files (filesystem_numbered nat_eq world upper.filesystem) merge.upper) number
+        (λ e. away (e ∙ number_of_filesystem world upper.filesystem)) ∙ filesystem_elsewhere world (record filesystem {
           files = merge.files;
           overlay = Some (record overlay { real = merge.real });
         }) number differ

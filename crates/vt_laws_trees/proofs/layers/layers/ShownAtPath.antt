@@ -56,19 +56,17 @@ module _ (layer : OpenLayer ℕ) (lower : List (OpenLayer ℕ)) (path : List (Li
   lower_uncut depth e uncut cut = by cut.higher cut.is_higher cut.stands
     where
       by : (higher : ℕ) → higher < suc depth → HasInodeAt (layer ∷ lower) higher cut.prefix cut.inode → ⊥
-      by zero h stands =
-          true≢false (sym (cuts_by layer path cut.prefix cut.inode cut.is_prefix
+      by zero h stands = true≢false (sym (cuts_by layer path cut.prefix cut.inode cut.is_prefix
           (ap (λ l. node_at_path l cut.prefix) (same_Some layer stands.0 stands.1) ∙ stands.2) cut.hides) ∙ e)
-      by (suc higher) h stands =
-          uncut (record {
-            higher = higher;
-            is_higher = omega arith;
-            prefix = cut.prefix;
-            is_prefix = cut.is_prefix;
-            inode = cut.inode;
-            stands = stands;
-            hides = cut.hides;
-          })
+      by (suc higher) h stands = uncut (record {
+        higher = higher;
+        is_higher = omega arith;
+        prefix = cut.prefix;
+        is_prefix = cut.is_prefix;
+        inode = cut.inode;
+        stands = stands;
+        hides = cut.hides;
+      })
 
   -- shown in the top layer is what it has there, unless that is a whiteout
   shown_on_top : (object : ℕ) → at_path layer path ≡ Some object → is_kind_in White (layer.tree.node object) ≡ false
@@ -76,11 +74,9 @@ module _ (layer : OpenLayer ℕ) (lower : List (OpenLayer ℕ)) (path : List (Li
   shown_on_top object e white = record {
     has_uncut = ((layer, refl, e), top_uncut);
     highest = λ higher other h. absurd (omega arith);
-    no_whiteout = λ inode has is.
-        true≢false (sym (ap (is_kind_in White)
+    no_whiteout = λ inode has is. true≢false (sym (ap (is_kind_in White)
         (ap (λ o. then_some o layer.tree.node) (sym e) ∙ ap (λ l. node_at_path l path) (same_Some layer has.0 has.1)
-        ∙ has.2)
-        ∙ ap (λ c. is_kind White (kind_of c)) is) ∙ white);
+        ∙ has.2) ∙ ap (λ c. is_kind White (kind_of c)) is) ∙ white);
   }
 
   -- shown below is what the lower layers show, where the top one has nothing and does not cut
@@ -170,8 +166,7 @@ computed_is_shown depth (layer ∷ lower) path seen e =
           record { layer = suc under.0.layer; object = under.0.object },
           shown_under layer lower path under.0 a c under.1,
           (λ i. record {
-            layer = (let h : depth + suc under.0.layer
-                ≡ (depth + 1) + under.0.layer = omega arith in h) i;
+            layer = (let h : depth + suc under.0.layer ≡ (depth + 1) + under.0.layer = omega arith in h) i;
             object = under.0.object;
           }) ∙ under.2,
         )

@@ -112,8 +112,7 @@ shown_in_directory (layer ∷ lower) are_open depth path name seen e =
       there = below.there;
       is = ap (λ o. shown_over layer depth o (cuts layer path) (shown_from (depth + 1) lower path)) p
           ∙ ap (λ b. shown_over layer depth None b (shown_from (depth + 1) lower path))
-          (cuts_not_before layer path name c)
-          ∙ below.is
+          (cuts_not_before layer path name c) ∙ below.is
           ∙ ap (λ l. Some (record { layer = l; object = below.object })) (omega arith);
       at = below.at;
       directory = below.directory;
@@ -123,11 +122,9 @@ shown_in_directory (layer ∷ lower) are_open depth path name seen e =
         is_open : (path : List (List ℕ)) (object : ℕ) → at_path layer path ≡ Some object
             → cuts layer (path ++ name ∷ []) ≡ false → IsDirectory layer.tree object
         is_open [] object p c = subst (IsDirectory layer.tree) (same_Some layer.directory object p) open_layer.1
-        is_open (first ∷ rest) object p c =
-            open_directory (layer.tree.node object)
+        is_open (first ∷ rest) object p c = open_directory (layer.tree.node object)
             (led_is_there layer open_layer.0 open_layer.1 (first ∷ rest) object p)
-            (ap (λ o. hides (then_some o layer.tree.node)) (sym p)
-            ∙ hides_not_at layer (first ∷ rest) name
+            (ap (λ o. hides (then_some o layer.tree.node)) (sym p) ∙ hides_not_at layer (first ∷ rest) name
             (λ h. true≢false (ap (λ l. elim l as (λ _. Bool) [ [] ↦ false | a ∷ b ↦ true ]) h)) c)
 
     by : (o : Option ℕ) → at_path layer (path ++ name ∷ []) ≡ o → (cut : Bool) → cuts layer (path ++ name ∷ []) ≡ cut

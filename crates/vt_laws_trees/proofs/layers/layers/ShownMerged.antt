@@ -52,8 +52,7 @@ module _ (layers : List (OpenLayer ℕ)) (are_open : AreOpen layers) (longest : 
       are_open object.seen.layer has.0 has.1 in grind (
         arith,
         common_steps,
-        led_is_there has.0 open_layer.0
-            open_layer.1 object.path object.seen.object has.2,
+        led_is_there has.0 open_layer.0 open_layer.1 object.path object.seen.object has.2,
         true≢false,
       )
 
@@ -87,12 +86,10 @@ module _ (layers : List (OpenLayer ℕ)) (are_open : AreOpen layers) (longest : 
     pub one : IsOne has_upper object other
     pub node : Node ℕ
     pub seen : layer_node layers object.seen ≡ Some node
-    pub is : node_of (number object)
-        ≡ Some (record {
-          attr = node.attr;
-          content = merged_content nat_eq fresh has_upper objects other.path
-              node.content;
-        })
+    pub is : node_of (number object) ≡ Some (record {
+      attr = node.attr;
+      content = merged_content nat_eq fresh has_upper objects other.path node.content;
+    })
     pub real : real_of nat_eq inodes (number object) ≡ Some (real_object has_upper other.seen.layer other)
 
   inode_made : Merged ℕ → Node ℕ → MergedInode ℕ
@@ -109,8 +106,7 @@ module _ (layers : List (OpenLayer ℕ)) (are_open : AreOpen layers) (longest : 
       let own = in_layer object (is_shown object among) in
       let own_node = layer_node_of object own in
       let made = among_filter_map (merged_inode nat_eq fresh has_upper layers objects) objects object
-      (inode_made object own.node) among
-      (ap (option_map (inode_made object)) own_node) in
+      (inode_made object own.node) among (ap (option_map (inode_made object)) own_node) in
       let found = found_among (λ inode. nat_eq (number object) inode.number) inodes (inode_made object own.node) made
       (eq-eqb (number object) (number object) refl) in
       let from = from_filter_map
@@ -136,11 +132,9 @@ module _ (layers : List (OpenLayer ℕ)) (are_open : AreOpen layers) (longest : 
             node = own.node;
             seen = own_node;
             is = ap (λ o. option_map (λ inode. inode.node) o) found.is ∙ ap (λ inode. Some inode.node) (sym element)
-                ∙ ap (λ n. Some
-                (record {
+                ∙ ap (λ n. Some (record {
                   attr = n.attr;
-                  content = merged_content nat_eq fresh has_upper objects other.path
-                      n.content;
+                  content = merged_content nat_eq fresh has_upper objects other.path n.content;
                 })) same_node;
             real = ap (λ o. option_map (λ inode. inode.real) o) found.is ∙ ap (λ inode. Some inode.real) (sym element);
           }
@@ -157,8 +151,7 @@ module _ (layers : List (OpenLayer ℕ)) (are_open : AreOpen layers) (longest : 
       let node = same_Some here.node inode.node (sym (layer_node_of object here) ∙ inode.seen) in
       one_path here.layer.tree open_here.0 here.layer.directory inode.other.path object.path object.seen.object
       (ap (λ l. at_path l inode.other.path) (sym same_layer) ∙ there.at
-      ∙ ap (λ seen. Some seen.object) (sym inode.one.seen))
-      here.at
+      ∙ ap (λ seen. Some seen.object) (sym inode.one.seen)) here.at
       (ap is_directory_node here.is ∙ ap (λ n. is_directory (kind_of n.content)) node ∙ d)
 
   -- The entries of a merged directory lead to what is shown under their names.
@@ -167,16 +160,15 @@ module _ (layers : List (OpenLayer ℕ)) (are_open : AreOpen layers) (longest : 
     entry object = entry_in_directory nat_eq fresh has_upper objects path object
 
     entry_here : (object : Merged ℕ) → object.path ≡ path ++ name ∷ [] → entry object ≡ Some (name, number object)
-    entry_here object e =
-        grind (
-          arith,
-          common_steps,
-          number object,
-          last_of_longer path name [],
-          root_of_longer,
-          without_last_of_longer,
-          path_itself,
-        )
+    entry_here object e = grind (
+      arith,
+      common_steps,
+      number object,
+      last_of_longer path name [],
+      root_of_longer,
+      without_last_of_longer,
+      path_itself,
+    )
 
     pub entry_is_here : (object : Merged ℕ) (found : List ℕ × ℕ) → entry object ≡ Some found
         → (object.path ≡ path ++ found.0 ∷ []) × (found.1 ≡ number object)
@@ -189,10 +181,8 @@ module _ (layers : List (OpenLayer ℕ)) (are_open : AreOpen layers) (longest : 
         parted (first ∷ rest) e =
             let last = last_of (first ∷ rest) (not_empty first rest) in
             let front = path_same path (without_last (first ∷ rest)) e in
-            sym last.2
-            ∙ ap (λ l. l ++ last.1 ∷ []) (sym (without_last_of_longer last.0 last.1) ∙ ap without_last last.2
-            ∙ sym front)
-            ∙ ap (λ n. path ++ n ∷ []) (sym (last_of_longer last.0 last.1 []) ∙ ap (last_or []) last.2)
+            sym last.2 ∙ ap (λ l. l ++ last.1 ∷ []) (sym (without_last_of_longer last.0 last.1) ∙ ap without_last last.2
+            ∙ sym front) ∙ ap (λ n. path ++ n ∷ []) (sym (last_of_longer last.0 last.1 []) ∙ ap (last_or []) last.2)
 
         by : (p : List (List ℕ)) → object.path ≡ p → (b : Bool)
             → (not (is_root_path object.path) && same_path path (without_last object.path)) ≡ b
@@ -250,8 +240,7 @@ module _ (layers : List (OpenLayer ℕ)) (are_open : AreOpen layers) (longest : 
         choose : (found : List ℕ × ℕ) → entry first ≡ Some found → (b : Bool) → is_name name found.0 ≡ b
             → entry_named name (filter_map entry list) ≡ None
             → cond b (Some found.1) (entry_named name (filter_map entry list)) ≡ None
-        choose found f true t rest =
-            absurd (none first (inl refl) ((entry_is_here first found f).0
+        choose found f true t rest = absurd (none first (inl refl) ((entry_is_here first found f).0
             ∙ ap (λ n. path ++ n ∷ []) (sym (same_name name found.0 t))))
         choose found f false t rest = rest
 

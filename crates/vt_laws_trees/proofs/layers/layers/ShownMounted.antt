@@ -72,8 +72,7 @@ module _ (world : World ℕ) (conditions : IsWorld nat_eq world) (overlay : Over
           (λ filesystem. nat_eq plain.filesystem filesystem.number) world.filesystems ≡ o
           → find (λ filesystem. nat_eq plain.filesystem filesystem.number) world.filesystems
           ≡ Some (filesystem_numbered nat_eq world plain.filesystem)
-      there plain d None f = absurd (true≢false
-          (sym (sym (ap (λ o. is_directory_node
+      there plain d None f = absurd (true≢false (sym (sym (ap (λ o. is_directory_node
           ((unwrap_or o (no_filesystem plain.filesystem)).files.tree.node plain.directory)) f) ∙ d)))
       there plain d (Some filesystem) f = f ∙ ap Some (sym (ap (λ o. unwrap_or o (no_filesystem plain.filesystem)) f))
 
@@ -96,8 +95,7 @@ module _ (world : World ℕ) (conditions : IsWorld nat_eq world) (overlay : Over
   pub are_open : AreOpen layers
   are_open depth layer e =
       let open_one = is_open depth layer e in (
-        subst IsTree (sym open_one.is)
-            (all_found (λ filesystem.
+        subst IsTree (sym open_one.is) (all_found (λ filesystem.
             IsTree filesystem.files.tree) open_one.test world.filesystems conditions.files.trees open_one.filesystem
             open_one.found),
         open_one.directory,
@@ -161,8 +159,7 @@ module _ (world : World ℕ) (conditions : IsWorld nat_eq world) (overlay : Over
           let directory = and_true_right (not (is_overlay (filesystem_numbered nat_eq world layer.filesystem))) _
           (and_true_left (is_plain_layer nat_eq world layer) _ all) in (
             record { layer = 0; object = layer.directory },
-            ap (λ b. when (not b) (record { layer = 0; object = layer.directory }))
-                (directory_no_whiteout
+            ap (λ b. when (not b) (record { layer = 0; object = layer.directory })) (directory_no_whiteout
                 ((filesystem_numbered nat_eq world layer.filesystem).files.tree.node layer.directory) directory),
           )
 
@@ -180,8 +177,7 @@ module _ (world : World ℕ) (conditions : IsWorld nat_eq world) (overlay : Over
   module _ (fresh : Fresh ℕ) (distinct : (j k : ℕ) → fresh j ≡ fresh k → j ≡ k) where
     abbrev pub made : Overlay ℕ
     made = record overlay {
-      real = real_of nat_eq
-          (merged_inodes nat_eq (odds fresh) (is_some overlay.upper) layers
+      real = real_of nat_eq (merged_inodes nat_eq (odds fresh) (is_some overlay.upper) layers
           (merged_objects layers (inode_count world)));
     }
 
@@ -199,8 +195,7 @@ module _ (world : World ℕ) (conditions : IsWorld nat_eq world) (overlay : Over
       real_there = λ number none. merged_real_there layers are_open (inode_count world) bounded
           (odds fresh) (odds-distinct fresh distinct) (is_some overlay.upper) number none;
       no_whiteout = merged_no_whiteout layers are_open (inode_count world) bounded (odds fresh)
-          (odds-distinct fresh distinct)
-          (is_some overlay.upper);
+          (odds-distinct fresh distinct) (is_some overlay.upper);
       no_mark = merged_no_mark layers are_open (inode_count world) bounded (odds fresh) (odds-distinct fresh distinct)
           (is_some overlay.upper);
       upper_there = λ number object e.
@@ -208,8 +203,7 @@ module _ (world : World ℕ) (conditions : IsWorld nat_eq world) (overlay : Over
           (is_some overlay.upper) number object e in
           by object overlay.upper up.0 (λ layer f. up.1 layer f);
       one_to_one = merged_one_to_one layers are_open (inode_count world) bounded (odds fresh)
-          (odds-distinct fresh distinct)
-          (is_some overlay.upper);
+          (odds-distinct fresh distinct) (is_some overlay.upper);
     }
       where
         by : (object : ℕ) (o : Option (Layer ℕ)) → is_some o ≡ true

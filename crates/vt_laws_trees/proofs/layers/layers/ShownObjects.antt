@@ -55,9 +55,7 @@ module _ {A B : Type 0} where
   pub from_filter_map : (f : A → Option B) (list : List A) (b : B) → Among (filter_map f list) b
       → (a : A) × Among list a × (f a ≡ Some b)
   from_filter_map f [] b among = absurd among
-  from_filter_map f (first ∷ list) b among =
-      ⊎_elim
-      (λ e. (first, inl refl, e))
+  from_filter_map f (first ∷ list) b among = ⊎_elim (λ e. (first, inl refl, e))
       (λ later. let found = from_filter_map f list b later in (found.0, inr found.1, found.2))
       (from_cons_option (f first) (filter_map f list) b among)
 
@@ -161,15 +159,13 @@ module _ (layers : List (OpenLayer ℕ)) (are_open : AreOpen layers) where
   pub shown_before : (path rest : List (List ℕ)) (seen : Shown ℕ) → shown layers (path ++ rest) ≡ Some seen
       → is_some (shown layers path) ≡ true
   shown_before path [] seen e = ap is_some (ap (shown layers) (sym (append-nil path)) ∙ e)
-  shown_before path (name ∷ rest) seen e =
-      grind (
-        arith,
-        common_steps,
-        shown_before (path ++ name ∷ []) rest seen (ap (shown layers) (append_assoc path
-            (name ∷ []) rest) ∙ e),
-        true≢false,
-        shown_in_directory,
-      )
+  shown_before path (name ∷ rest) seen e = grind (
+    arith,
+    common_steps,
+    shown_before (path ++ name ∷ []) rest seen (ap (shown layers) (append_assoc path (name ∷ []) rest) ∙ e),
+    true≢false,
+    shown_in_directory,
+  )
 
   -- each such path is gone through
   pub paths_complete : (depth : ℕ) (base rest : List (List ℕ)) (seen : Shown ℕ) → length rest ≤ depth
@@ -179,8 +175,7 @@ module _ (layers : List (OpenLayer ℕ)) (are_open : AreOpen layers) where
   paths_complete zero base (name ∷ rest) seen h e = let no : ⊥ = omega arith in absurd no
   paths_complete (suc depth) base (name ∷ rest) seen h e =
       inr (among_flat_map (λ n. paths_from depth layers (base ++ n ∷ [])) (names_shown layers base) name
-      (base ++ name ∷ rest)
-      (by (shown layers (base ++ name ∷ [])) refl
+      (base ++ name ∷ rest) (by (shown layers (base ++ name ∷ [])) refl
       (shown_before (base ++ name ∷ []) rest seen (ap (shown layers) (append_assoc base (name ∷ []) rest) ∙ e)))
       (subst (Among (paths_from depth layers (base ++ name ∷ []))) (append_assoc base (name ∷ []) rest)
       (paths_complete depth (base ++ name ∷ []) rest seen (omega arith)

@@ -79,49 +79,40 @@ module _ (files : FileTree ℕ) (tree : IsTree files.tree) where
   one_depth zero zero directory r s = refl
   one_depth zero (suc other) directory r s = absurd (tree.root_unnamed s.0 s.1 (s.3 ∙ ap Some r))
   one_depth (suc steps) zero directory r s = absurd (tree.root_unnamed r.0 r.1 (r.3 ∙ ap Some s))
-  one_depth (suc steps) (suc other) directory r s =
-      ap (λ n. suc n) (one_depth steps other r.0 r.2
+  one_depth (suc steps) (suc other) directory r s = ap (λ n. suc n) (one_depth steps other r.0 r.2
       (subst (ReachedIn files.tree other)
       (sym (tree.one_parent s.0 s.1 directory s.3 s.4) ∙ tree.one_parent r.0 r.1 directory r.3 r.4) s.2))
 
   -- its parent is the step before
   pub parent_of_reached : (steps directory : ℕ) (r : ReachedIn files.tree (suc steps) directory)
       → named_parent nat_eq files.tree directory ≡ Some r.0
-  parent_of_reached steps directory r =
-      ap (λ b. cond b None (when (has_entry_to nat_eq files.tree
-      (parent_in directory (files.tree.node directory)) directory)
-      (parent_in directory (files.tree.node directory))))
+  parent_of_reached steps directory r = ap (λ b. cond b None (when (has_entry_to nat_eq files.tree
+      (parent_in directory (files.tree.node directory)) directory) (parent_in directory (files.tree.node directory))))
       (ne_eqb directory files.tree.root (λ e. tree.root_unnamed r.0 r.1 (r.3 ∙ ap Some e)))
       ∙ ap (λ p. when (has_entry_to nat_eq files.tree p directory) p) (tree.one_parent r.0 r.1 directory r.3 r.4)
       ∙ ap (λ b. when b r.0) (entry_to files.tree r.0 r.1 directory r.3)
 
   root_has_no_parent : (directory : ℕ) → directory ≡ files.tree.root → named_parent nat_eq files.tree directory ≡ None
-  root_has_no_parent directory e =
-      ap (λ b. cond b None (when (has_entry_to nat_eq files.tree
-      (parent_in directory (files.tree.node directory)) directory)
-      (parent_in directory (files.tree.node directory))))
+  root_has_no_parent directory e = ap (λ b. cond b None (when (has_entry_to nat_eq files.tree
+      (parent_in directory (files.tree.node directory)) directory) (parent_in directory (files.tree.node directory))))
       (eq-eqb directory files.tree.root e)
 
   -- Up to the root, what is above is reached in fewer steps, and all differ.
   pub up_at_root : (most directory : ℕ) → directory ≡ files.tree.root
       → chain most (named_parent nat_eq files.tree) directory ≡ directory ∷ []
   up_at_root zero directory e = refl
-  up_at_root (suc most) directory e =
-      ap (λ o. elim o as (λ _. List ℕ) [
-        | None ↦ directory ∷ []
-        | Some b ↦ directory
-            ∷ chain most (named_parent nat_eq files.tree) b
-      ]) (root_has_no_parent directory e)
+  up_at_root (suc most) directory e = ap (λ o. elim o as (λ _. List ℕ) [
+    | None ↦ directory ∷ []
+    | Some b ↦ directory ∷ chain most (named_parent nat_eq files.tree) b
+  ]) (root_has_no_parent directory e)
 
   pub up_from : (most steps directory : ℕ) (r : ReachedIn files.tree (suc steps) directory)
       → chain (suc most) (named_parent nat_eq files.tree) directory
       ≡ directory ∷ chain most (named_parent nat_eq files.tree) r.0
-  up_from most steps directory r =
-      ap (λ o. elim o as (λ _. List ℕ) [
-        | None ↦ directory ∷ []
-        | Some b ↦ directory
-            ∷ chain most (named_parent nat_eq files.tree) b
-      ]) (parent_of_reached steps directory r)
+  up_from most steps directory r = ap (λ o. elim o as (λ _. List ℕ) [
+    | None ↦ directory ∷ []
+    | Some b ↦ directory ∷ chain most (named_parent nat_eq files.tree) b
+  ]) (parent_of_reached steps directory r)
 
   abbrev pub IsAbove : ℕ → ℕ → Type 0
   IsAbove steps q = (fewer : ℕ) × (fewer ≤ steps) × ReachedIn files.tree fewer q
@@ -143,20 +134,17 @@ module _ (files : FileTree ℕ) (tree : IsTree files.tree) where
       by true t e later = (
         suc steps,
         omega arith,
-        subst (ReachedIn files.tree (suc steps))
-            (sym (eqb-true q directory t)) r,
+        subst (ReachedIn files.tree (suc steps)) (sym (eqb-true q directory t)) r,
       )
       by false t e later = more (later e)
 
   distinct_up : (steps directory : ℕ) → ReachedIn files.tree steps directory
       → Distinct (chain steps (named_parent nat_eq files.tree) directory)
   distinct_up zero directory r = (refl, tt)
-  distinct_up (suc steps) directory r =
-      subst Distinct (sym (up_from steps steps directory r)) (
-        not_above (list_any (nat_eq directory)
-            (chain steps (named_parent nat_eq files.tree) r.0)) refl,
-        distinct_up steps r.0 r.2,
-      )
+  distinct_up (suc steps) directory r = subst Distinct (sym (up_from steps steps directory r)) (
+    not_above (list_any (nat_eq directory) (chain steps (named_parent nat_eq files.tree) r.0)) refl,
+    distinct_up steps r.0 r.2,
+  )
     where
       not_above : (b : Bool) → list_any (nat_eq directory) (chain steps (named_parent nat_eq files.tree) r.0) ≡ b
           → list_any (nat_eq directory) (chain steps (named_parent nat_eq files.tree) r.0) ≡ false
@@ -182,8 +170,7 @@ module _ (files : FileTree ℕ) (tree : IsTree files.tree) where
   depth_below numbers steps directory r =
       let counted = length_up steps directory r in
       let bounded = no_longer (chain steps (named_parent nat_eq files.tree) directory) files.numbers
-      (distinct_up steps directory r)
-      (λ q e. is_listed q (all_above steps directory r q e)) in
+      (distinct_up steps directory r) (λ q e. is_listed q (all_above steps directory r q e)) in
       omega arith
     where
       is_listed : (q : ℕ) → IsAbove steps q → list_any (nat_eq q) files.numbers ≡ true

@@ -32,8 +32,7 @@ module _ (inode : ℕ) where
       → (name_left_by nat_eq hidden fresh stack upper directory name).tree.node inode ≡ upper.tree.node inode
   left_elsewhere true fresh stack upper directory name new e =
       kept_elsewhere (with_inode nat_eq upper (fresh 0) (whiteout_of stack.mounter)) directory
-      (node_with_entry name (fresh 0)) inode e
-      ∙ inode_elsewhere upper (fresh 0) (whiteout_of stack.mounter) new
+      (node_with_entry name (fresh 0)) inode e ∙ inode_elsewhere upper (fresh 0) (whiteout_of stack.mounter) new
   left_elsewhere false fresh stack upper directory name new e =
       kept_elsewhere upper directory (node_without_entry name) inode e
 
@@ -43,13 +42,11 @@ module _ (inode : ℕ) where
   emptied_elsewhere upper None e = refl
   emptied_elsewhere upper (Some object) e =
       kept_elsewhere (changed_node nat_eq upper object node_without_entries) object (node_with_parent object) inode
-      (e object refl)
-      ∙ kept_elsewhere upper object node_without_entries inode (e object refl)
+      (e object refl) ∙ kept_elsewhere upper object node_without_entries inode (e object refl)
 
   -- a move of another object between other directories, not over the inode
   moved_elsewhere : (files : FileTree ℕ) (from : ℕ) (old : List ℕ) (to : ℕ) (name : List ℕ) (object : ℕ)
-      → nat_eq inode from ≡ false
-      → nat_eq inode to ≡ false → nat_eq inode object ≡ false
+      → nat_eq inode from ≡ false → nat_eq inode to ≡ false → nat_eq inode object ≡ false
       → entry_named name (entries_in (files.tree.node to)) ≢ Some inode
       → (with_moved nat_eq files from old to name object).tree.node inode ≡ files.tree.node inode
   moved_elsewhere files from old to name object f t o spared =
@@ -57,8 +54,7 @@ module _ (inode : ℕ) where
       without_name nat_eq freed from old in grind (
         arith,
         common_steps,
-        kept_elsewhere (with_name nat_eq left to name
-            object) object (node_with_parent to) inode o,
+        kept_elsewhere (with_name nat_eq left to name object) object (node_with_parent to) inode o,
         kept_elsewhere left to (node_with_entry name object) inode t,
         kept_elsewhere freed from (node_without_entry old) inode f,
         kept_elsewhere,
@@ -89,16 +85,13 @@ module _ (files : FileTree ℕ) (tree : IsTree files.tree) (numbers : ListsNumbe
         ∙ kept_elsewhere (with_inode nat_eq upper (fresh 0) _) (upper_of (With real upper) directory)
         (node_with_entry name (fresh 0)) inode
         (upper_differs files tree numbers inode node real upper fine directory has)
-        ∙ inode_elsewhere inode upper (fresh 0) _ (ne_eqb inode (fresh 0) (new 0))
-        ∙ fine.here
+        ∙ inode_elsewhere inode upper (fresh 0) _ (ne_eqb inode (fresh 0) (new 0)) ∙ fine.here
 
     linked_keeps : (directory : ℕ) (name : List ℕ) (object : ℕ) → HasUpper real directory
         → (merge_with_link nat_eq (With real upper) directory name object).upper.tree.node inode ≡ node
-    linked_keeps directory name object has =
-        kept_elsewhere upper (upper_of (With real upper) directory)
+    linked_keeps directory name object has = kept_elsewhere upper (upper_of (With real upper) directory)
         (node_with_entry name (upper_of (With real upper) object)) inode
-        (upper_differs files tree numbers inode node real upper fine directory has)
-        ∙ fine.here
+        (upper_differs files tree numbers inode node real upper fine directory has) ∙ fine.here
 
     removed_keeps : (directory : ℕ) (name : List ℕ) (object : ℕ) → HasUpper real directory
         → (merge_without_name nat_eq fresh stack (With real upper) directory name object).upper.tree.node inode ≡ node
@@ -106,8 +99,7 @@ module _ (files : FileTree ℕ) (tree : IsTree files.tree) (numbers : ListsNumbe
         emptied_elsewhere inode _ (upper_directory_named (With real upper) directory name)
         (replaced_differs real upper fine directory name)
         ∙ left_elsewhere inode (is_some (shown_in_lowers_at nat_eq stack
-        (With real upper) directory name)) fresh stack upper
-        (upper_of (With real upper) directory) name
+        (With real upper) directory name)) fresh stack upper (upper_of (With real upper) directory) name
         (ne_eqb inode (fresh 0) (new 0)) (upper_differs files tree numbers inode node real upper fine directory has)
         ∙ fine.here
 
@@ -119,8 +111,7 @@ module _ (files : FileTree ℕ) (tree : IsTree files.tree) (numbers : ListsNumbe
         let from_differs = upper_differs files tree numbers inode node real upper fine from f in
         let away = with_moved nat_eq freed (upper_of (With real upper) from) old (upper_of (With real upper) to) name
         (upper_of (With real upper) object) in
-        kept_both node (freed.tree.node inode) _
-        (kept_same node (freed.tree.node inode)
+        kept_both node (freed.tree.node inode) _ (kept_same node (freed.tree.node inode)
         (emptied_elsewhere inode upper (upper_directory_named (With real upper) to name)
         (replaced_differs real upper fine to name) ∙ fine.here))
         (kept_both (freed.tree.node inode) (away.tree.node inode) _
@@ -129,16 +120,13 @@ module _ (files : FileTree ℕ) (tree : IsTree files.tree) (numbers : ListsNumbe
         from_differs (upper_differs files tree numbers inode node real upper fine to t))
         (kept_same (away.tree.node inode) _
         (marked_elsewhere inode (hides_directory nat_eq stack (With real upper) to name) _
-        (upper_of (With real upper) object)
-        (upper_differs files tree numbers inode node real upper fine object o)
+        (upper_of (With real upper) object) (upper_differs files tree numbers inode node real upper fine object o)
         ∙ left_elsewhere inode (is_some (shown_in_lowers_at nat_eq stack (With real upper) from old)) fresh stack away
-        (upper_of (With real upper) from) old
-        (ne_eqb inode (fresh 0) (new 0)) from_differs)))
+        (upper_of (With real upper) from) old (ne_eqb inode (fresh 0) (new 0)) from_differs)))
 
     -- nothing of it changes, its parent neither, where it is not what the new name had
     pub moved_leaves : (from : ℕ) (old : List ℕ) (to : ℕ) (name : List ℕ) (object : ℕ) → HasUpper real from
-        → HasUpper real to → HasUpper real object
-        → entry_named name (entries_in
+        → HasUpper real to → HasUpper real object → entry_named name (entries_in
         ((without_contents nat_eq upper (upper_directory_named (With real upper) to name)).tree.node
         (upper_of (With real upper) to))) ≢ Some inode
         → (merge_with_moved nat_eq fresh stack (With real upper) from old to name object).upper.tree.node inode ≡ node
@@ -151,19 +139,16 @@ module _ (files : FileTree ℕ) (tree : IsTree files.tree) (numbers : ListsNumbe
         marked_elsewhere inode (hides_directory nat_eq stack (With real upper) to name) _
         (upper_of (With real upper) object) object_differs
         ∙ left_elsewhere inode (is_some (shown_in_lowers_at nat_eq stack (With real upper) from old)) fresh stack away
-        (upper_of (With real upper) from) old
-        (ne_eqb inode (fresh 0) (new 0)) from_differs
+        (upper_of (With real upper) from) old (ne_eqb inode (fresh 0) (new 0)) from_differs
         ∙ moved_elsewhere inode freed (upper_of (With real upper) from) old (upper_of (With real upper) to) name
         (upper_of (With real upper) object)
         from_differs (upper_differs files tree numbers inode node real upper fine to t) object_differs spared
         ∙ emptied_elsewhere inode upper (upper_directory_named (With real upper) to name)
-        (replaced_differs real upper fine to name)
-        ∙ fine.here
+        (replaced_differs real upper fine to name) ∙ fine.here
 
     changed_both_keeps : (object : ℕ) (change : Option (Node ℕ) → Option (Node ℕ)) → HasUpper real object
         → (changed_both nat_eq (With real upper) object change).upper.tree.node inode ≡ node
-    changed_both_keeps object change has =
-        kept_elsewhere upper (upper_of (With real upper) object) change inode
+    changed_both_keeps object change has = kept_elsewhere upper (upper_of (With real upper) object) change inode
         (upper_differs files tree numbers inode node real upper fine object has) ∙ fine.here
 
   -- each change, after what it asks to be copied was copied
@@ -171,8 +156,7 @@ module _ (files : FileTree ℕ) (tree : IsTree files.tree) (numbers : ListsNumbe
       (upper : FileTree ℕ) (fine : Apart real upper)
       (Kept : Option (Node ℕ) → Type 0) (same : (o : Option (Node ℕ)) → o ≡ node → Kept o) (change_made : Change ℕ)
       (moves : (from : ℕ) (old : List ℕ) (to : ℕ) (name : List ℕ) (object : ℕ)
-      → Move from old to name object ≡ change_made
-      → (moved_real : ℕ → Option (Real ℕ)) (moved_upper : FileTree ℕ)
+      → Move from old to name object ≡ change_made → (moved_real : ℕ → Option (Real ℕ)) (moved_upper : FileTree ℕ)
       → copied_up nat_eq (evens (odds fresh)) (copied_up nat_eq (evens fresh) (With real upper) object) to
       ≡ With moved_real moved_upper
       → Apart moved_real moved_upper → HasUpper moved_real from → HasUpper moved_real to → HasUpper moved_real object
@@ -206,8 +190,7 @@ module _ (files : FileTree ℕ) (tree : IsTree files.tree) (numbers : ListsNumbe
         let copied = (up_arrives files tree numbers inode node (odds fresh)
         (λ k. new (2 * k + 1)) first.real first.upper first.fine directory there.0).arrives in
         subst (λ m. After (merge_with_link nat_eq (copied_up nat_eq (odds fresh) m directory) directory name object))
-        (sym first.is)
-        (subst (λ m. After (merge_with_link nat_eq m directory name object)) (sym copied.is)
+        (sym first.is) (subst (λ m. After (merge_with_link nat_eq m directory name object)) (sym copied.is)
         (same _ (linked_keeps fresh new stack copied.real copied.upper copied.fine directory name object
         copied.copied)))
     each_keeps (Remove directory name object) is there from_too =
@@ -225,8 +208,7 @@ module _ (files : FileTree ℕ) (tree : IsTree files.tree) (numbers : ListsNumbe
         subst (λ m. After (merge_with_moved nat_eq (odds (odds fresh)) stack
         (copied_up nat_eq (evens (odds fresh)) m to) from old to name object)) (sym first.is)
         (subst (λ m. After (merge_with_moved nat_eq (odds (odds fresh)) stack m from old to name object))
-        (sym copied.is)
-        (moves from old to name object is copied.real copied.upper
+        (sym copied.is) (moves from old to name object is copied.real copied.upper
         (ap (λ m. copied_up nat_eq (evens (odds fresh)) m to) first.is ∙ copied.is) copied.fine
         (copied.grows from (from_too from old object there.0 first.real first.grows first.copied both.parent))
         copied.copied (copied.grows object first.copied)))

@@ -41,8 +41,7 @@ without_last_of_longer (first ∷ second ∷ path) name = ap (λ p. first ∷ p)
 -- an object with an entry that leads to it has a name
 pub has_a_name : (files : FileTree ℕ) → ListsNumbers nat_eq files → (directory : ℕ) (name : List ℕ) (object : ℕ)
     → entry_at files.tree directory name ≡ Some object → is_some (a_name nat_eq files object) ≡ true
-has_a_name files numbers directory name object e =
-    searched files.numbers (numbers directory
+has_a_name files numbers directory name object e = searched files.numbers (numbers directory
     ∙ directory_used files.tree directory (has_entries files.tree directory name object e))
   where
     found : (entries : Entries ℕ) → list_any (nat_eq object) (map (λ entry. entry.1) entries) ≡ true
@@ -99,11 +98,9 @@ module _ (top : OpenLayer ℕ) (lower : List (OpenLayer ℕ)) where
   -- a directory of the upper layer is shown
   pub upper_is_real : (path : List (List ℕ)) (directory : ℕ) → at_path top path ≡ Some directory
       → IsDirectory top.tree directory → real_at path ≡ Some (Upper directory)
-  upper_is_real path directory e d =
-      ap (λ o. option_map (λ object. real_object true object.seen.layer object)
+  upper_is_real path directory e d = ap (λ o. option_map (λ object. real_object true object.seen.layer object)
       (option_map (λ seen. record { path = path; seen = seen }) o))
-      (ap (λ o. Rattle.vt_spec.proofs.Layers.shown_over top 0 o
-      (Rattle.vt_spec.proofs.Layers.cuts top path)
+      (ap (λ o. Rattle.vt_spec.proofs.Layers.shown_over top 0 o (Rattle.vt_spec.proofs.Layers.cuts top path)
       (Rattle.vt_spec.proofs.Layers.shown_from 1 lower path)) e
       ∙ ap (λ b. Rattle.vt_spec.specs.Lists.when (not b) (record { layer = 0; object = directory }))
       (directory_no_whiteout (top.tree.node directory) d))
@@ -117,17 +114,14 @@ module _ (top : OpenLayer ℕ) (lower : List (OpenLayer ℕ)) where
           → option_and_then (λ directory. entry_at top.tree directory name) o ≡ Some object
           → is_some (upper_object (real_at path)) ≡ true
       in_upper None e object has = none_is_some object has
-      in_upper (Some directory) e object has =
-          ap (λ o. is_some (upper_object o))
+      in_upper (Some directory) e object has = ap (λ o. is_some (upper_object o))
           (upper_is_real path directory e (has_entries top.tree directory name object has))
 
       seen_by : (layer object : ℕ) → IsShown (top ∷ lower) (path ++ name ∷ [])
-          (record { layer = layer; object = object })
-          → is_some (upper_object (Some (real_object true layer
+          (record { layer = layer; object = object }) → is_some (upper_object (Some (real_object true layer
           (record { path = path ++ name ∷ []; seen = record { layer = layer; object = object } })))) ≡ true
           → is_some (upper_object (real_at path)) ≡ true
-      seen_by zero object is h =
-          in_upper (at_path top path) refl object
+      seen_by zero object is h = in_upper (at_path top path) refl object
           (sym (last_name top.tree top.directory path name)
           ∙ ap (λ l. at_path l (path ++ name ∷ [])) (same_Some top is.has_uncut.0.0 is.has_uncut.0.1)
           ∙ is.has_uncut.0.2)

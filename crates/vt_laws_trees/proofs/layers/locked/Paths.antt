@@ -36,18 +36,15 @@ module _ (world : World ℕ) (conditions : IsWorld nat_eq world) (layer : Layer 
   found = grind (arith, common_steps, true≢false)
 
   pub layer_tree : IsTree filesystem.files.tree
-  layer_tree =
-      all_found (λ f. IsTree f.files.tree)
+  layer_tree = all_found (λ f. IsTree f.files.tree)
       (λ f. nat_eq layer.filesystem f.number) world.filesystems conditions.files.trees filesystem found
 
   layer_numbers : ListsNumbers nat_eq filesystem.files
-  layer_numbers =
-      all_found (λ f. ListsNumbers nat_eq f.files)
+  layer_numbers = all_found (λ f. ListsNumbers nat_eq f.files)
       (λ f. nat_eq layer.filesystem f.number) world.filesystems conditions.files.numbers filesystem found
 
   top_under : is_directory_under nat_eq filesystem.files layer.directory layer.directory ≡ true
-  top_under =
-      sym (ap (λ b. cond b (is_directory_under nat_eq filesystem.files layer.directory layer.directory)
+  top_under = sym (ap (λ b. cond b (is_directory_under nat_eq filesystem.files layer.directory layer.directory)
       (is_file_under nat_eq filesystem.files layer.directory layer.directory)) top_directory)
       ∙ under_itself filesystem.files layer.directory top_directory
 
@@ -85,8 +82,7 @@ lower_paths_are_locked fresh world task call number overlay lower conditions cal
     let in_layers : Among lower (layers_of overlay) =
     among-append_right (upper_and_work overlay) overlay.lowers lower m in
     leads_as_before world conditions lower (layer_plain world conditions number overlay is lower in_layers)
-    (call_outcome nat_eq fresh world task call).world
-    (λ inode lies there.
+    (call_outcome nat_eq fresh world task call).world (λ inode lies there.
     lower_layers_stay_locked fresh world task call number overlay lower inode conditions called c is contains lies
     (no_new fresh world lower.filesystem inode none there))
 
@@ -96,7 +92,6 @@ other_paths_stay fresh world task call through number overlay layer conditions g
     let in_layers : Among layer (layers_of overlay) =
     among-append_left (upper_and_work overlay) overlay.lowers layer m in
     leads_as_before world conditions layer (layer_plain world conditions number overlay is layer in_layers)
-    (call_outcome nat_eq fresh world task call).world
-    (λ inode lies there.
+    (call_outcome nat_eq fresh world task call).world (λ inode lies there.
     goes.others number overlay layer inode differ is contains lies
     (no_new fresh world layer.filesystem inode none there))

@@ -45,23 +45,19 @@ module _ (world : World ℕ) (task : Task ℕ) where
 
   source_ends : (path : List ℕ) → Ends (λ here. is_directory_at nat_eq world here.location ≡ true)
       (source_walk nat_eq world task path)
-  source_ends path =
-      ends_then (λ here. is_directory_at nat_eq world here.location ≡ true)
-      (λ here. is_directory_at nat_eq world here.location ≡ true)
-      (directory_walk nat_eq world task path) _
+  source_ends path = ends_then (λ here. is_directory_at nat_eq world here.location ≡ true)
+      (λ here. is_directory_at nat_eq world here.location ≡ true) (directory_walk nat_eq world task path) _
       (ends_next (λ here. is_directory_at nat_eq world here.location ≡ true) (path_walked nat_eq world task path) _
       (λ here.
       ends_unless (λ there. is_directory_at nat_eq world there.location ≡ true) here.steps
       ((not (is_directory_at nat_eq world here.location), W3) ∷ []) here
-      (λ passed. not_true (is_directory_at nat_eq world here.location) passed.0)))
-      (λ here is.
+      (λ passed. not_true (is_directory_at nat_eq world here.location) passed.0))) (λ here is.
       ends_unless (λ there. is_directory_at nat_eq world there.location ≡ true) here.steps
       ((is_removed_at nat_eq world here.location, W8) ∷ []) here (λ passed. is))
 
   each_ends : (paths : List (List ℕ)) → Gives AreDirectories (each_walked nat_eq world task paths)
   each_ends [] = refl
-  each_ends (path ∷ paths) =
-      gives_then (λ here. is_directory_at nat_eq world here.location ≡ true) AreDirectories
+  each_ends (path ∷ paths) = gives_then (λ here. is_directory_at nat_eq world here.location ≡ true) AreDirectories
       (walk_end (source_walk nat_eq world task path)) _
       (gives_end _ (source_walk nat_eq world task path) (source_ends path)) (λ here is.
       gives_then AreDirectories AreDirectories (each_walked nat_eq world task paths) _ (each_ends paths) (λ rest are.
@@ -71,8 +67,7 @@ module _ (world : World ℕ) (task : Task ℕ) where
       → Gives (λ place. AreDirectories (option_to_list place) × (is_some place ≡ is_some path))
       (walked_if_given nat_eq world task path)
   given_ends None = (refl, refl)
-  given_ends (Some path) =
-      gives_then (λ here. is_directory_at nat_eq world here.location ≡ true)
+  given_ends (Some path) = gives_then (λ here. is_directory_at nat_eq world here.location ≡ true)
       (λ place. AreDirectories (option_to_list place) × (is_some place ≡ true))
       (walk_end (source_walk nat_eq world task path)) _
       (gives_end _ (source_walk nat_eq world task path) (source_ends path)) (λ here is. (ap (λ b. b && true) is, refl))
@@ -99,8 +94,7 @@ module _ (world : World ℕ) (task : Task ℕ) where
       record { lowers = low; upper = up.0; work = at.0; beside = λ e. at.1 ∙ no_work words (sym up.1 ∙ e) })))
 
   pub are_walked : (words : OverlayWords) (places : LayerLocations ℕ) → layers_walked nat_eq world task words
-      ≡ Ok places
-      → AreWalked places
+      ≡ Ok places → AreWalked places
   are_walked words places e = given AreWalked (layers_walked nat_eq world task words) places (layers_end words) e
 
   module _ (places : LayerLocations ℕ) (walked : AreWalked places)
@@ -142,21 +136,17 @@ module _ (world : World ℕ) (task : Task ℕ) where
     all_three : (one two three : List (Layer ℕ)) → list_all (is_plain_layer nat_eq world) one ≡ true
         → list_all (is_plain_layer nat_eq world) two ≡ true → list_all (is_plain_layer nat_eq world) three ≡ true
         → list_all (is_plain_layer nat_eq world) (one ++ two ++ three) ≡ true
-    all_three one two three a b c =
-        list_all-append (is_plain_layer nat_eq world) (one ++ two) three
+    all_three one two three a b c = list_all-append (is_plain_layer nat_eq world) (one ++ two) three
         ∙ ap (λ x. x && list_all (is_plain_layer nat_eq world) three)
         (list_all-append (is_plain_layer nat_eq world) one two
-        ∙ ap (λ x. x && list_all (is_plain_layer nat_eq world) two) a ∙ b)
-        ∙ c
+        ∙ ap (λ x. x && list_all (is_plain_layer nat_eq world) two) a ∙ b) ∙ c
 
     pub plain_lowers : list_all (is_plain_layer nat_eq world) overlay.lowers ≡ true
-    plain_lowers = plain_places places.lowers
-        (split_left places.lowers _ (split_left
+    plain_lowers = plain_places places.lowers (split_left places.lowers _ (split_left
         (places.lowers ++ option_to_list places.upper) _ none_in_overlay)) walked.lowers
 
     pub plain_upper : list_all (is_plain_layer nat_eq world) (option_to_list overlay.upper) ≡ true
-    plain_upper = plain_option places.upper
-        (split_right places.lowers _ (split_left
+    plain_upper = plain_option places.upper (split_right places.lowers _ (split_left
         (places.lowers ++ option_to_list places.upper) _ none_in_overlay)) walked.upper
 
     pub plain_work : list_all (is_plain_layer nat_eq world) (option_to_list overlay.work) ≡ true
@@ -168,8 +158,7 @@ module _ (world : World ℕ) (task : Task ℕ) where
         (option_to_list overlay.work) overlay.lowers plain_upper plain_work plain_lowers
 
     pub shown_plain : list_all (is_plain_layer nat_eq world) (option_to_list overlay.upper ++ overlay.lowers) ≡ true
-    shown_plain =
-        list_all-append (is_plain_layer nat_eq world) (option_to_list overlay.upper) overlay.lowers
+    shown_plain = list_all-append (is_plain_layer nat_eq world) (option_to_list overlay.upper) overlay.lowers
         ∙ ap (λ x. x && list_all (is_plain_layer nat_eq world) overlay.lowers) plain_upper ∙ plain_lowers
 
     no_fewer : (n m : ℕ) → nat_lt n m ≡ false → nat_le m n ≡ true
@@ -188,8 +177,7 @@ module _ (world : World ℕ) (task : Task ℕ) where
     beside_each_other (Some upper) (Some work) e f = refl
 
     pub fit_layers : has_fit_layers overlay ≡ true
-    fit_layers =
-        ap (λ b. b && nat_le (length overlay.lowers) most_lowers
+    fit_layers = ap (λ b. b && nat_le (length overlay.lowers) most_lowers
         && same_bool (is_some overlay.upper) (is_some overlay.work)) (not_empty places.lowers passed.0)
         ∙ ap (λ b. b && same_bool (is_some overlay.upper) (is_some overlay.work))
         (ap (λ n. nat_le n most_lowers) (length-map places.lowers layer)

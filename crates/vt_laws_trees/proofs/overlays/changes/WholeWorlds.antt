@@ -30,8 +30,7 @@ module _ (world : World ℕ) (filesystem : Filesystem ℕ) (overlay : Overlay �
       → then_some o (real_node nat_eq world with_upper) ≡ then_some o (inode_behind stack merge)
   behind_same None = refl
   behind_same (Some (Upper object)) = refl
-  behind_same (Some (Lower layer path)) =
-      by (slice_get overlay.lowers layer)
+  behind_same (Some (Lower layer path)) = by (slice_get overlay.lowers layer)
       ∙ sym (ap (λ o. then_some o (λ lower. node_at_path lower path))
       (slice_get-map (open_layer nat_eq world) overlay.lowers layer))
     where
@@ -78,8 +77,7 @@ pub overlays_are_whole : OverlaysAreWhole
 overlays_are_whole world number overlay upper conditions is has = record {
   tree = overlay_tree world conditions number overlay is;
   numbers = overlay_numbers world conditions number overlay is;
-  layers =
-      subst (λ o. AreOpen (map (open_layer nat_eq world) (option_to_list o ++ overlay.lowers))) has
+  layers = subst (λ o. AreOpen (map (open_layer nat_eq world) (option_to_list o ++ overlay.lowers))) has
       (are_open world conditions overlay (overlay_layers world conditions number overlay is));
   reached = conditions.overlays.uppers_reached number overlay upper is has;
   shown = to_shown world (filesystem_numbered nat_eq world number) overlay upper

@@ -125,26 +125,22 @@ module _ (stack : Stack ℕ) (merge : Merge ℕ) (whole : IsWhole stack merge) (
   object_same number = by (merge.real number) refl (nat_eq number file) refl (is_fine.objects number)
     where
       at_upper : (u : ℕ) → merge.real number ≡ Some (Upper u) → (b : Bool) → nat_eq number file ≡ b → (c : Bool)
-          → nat_eq u (upper_of merge file) ≡ c
-          → SameObject (merge.files.tree.node number) (merge.upper.tree.node u)
+          → nat_eq u (upper_of merge file) ≡ c → SameObject (merge.files.tree.node number) (merge.upper.tree.node u)
           → SameObject (cond b (change (merge.files.tree.node file)) (merge.files.tree.node number))
           (cond c (change (merge.upper.tree.node (upper_of merge file))) (merge.upper.tree.node u))
       at_upper u r true n true v same =
           shape.same _ _ (subst (λ k. SameObject (merge.files.tree.node file) (merge.upper.tree.node k))
           (eqb-true u (upper_of merge file) v)
           (subst (λ k. SameObject (merge.files.tree.node k) (merge.upper.tree.node u)) (eqb-true number file n) same))
-      at_upper u r true n false v same =
-          absurd (true≢false (sym (ap (λ k. nat_eq k (upper_of merge file))
+      at_upper u r true n false v same = absurd (true≢false (sym (ap (λ k. nat_eq k (upper_of merge file))
           (upper_one u (upper_of merge file) (sym r ∙ ap merge.real (eqb-true number file n) ∙ real))
           ∙ eq-eqb (upper_of merge file) (upper_of merge file) refl) ∙ v))
         where
           upper_one : (a b : ℕ) → Some (Upper a) ≡ Some (Upper b) → a ≡ b
           upper_one a b e = same_Some a b (ap upper_object e)
-      at_upper u r false n true v same =
-          absurd (true≢false (sym (ap (λ k. nat_eq k file)
+      at_upper u r false n true v same = absurd (true≢false (sym (ap (λ k. nat_eq k file)
           (is_fine.one number file (ap is_some r)
-          (r ∙ ap (λ k. Some (Upper k)) (eqb-true u (upper_of merge file) v) ∙ sym real)) ∙ eq-eqb file file refl)
-          ∙ n))
+          (r ∙ ap (λ k. Some (Upper k)) (eqb-true u (upper_of merge file) v) ∙ sym real)) ∙ eq-eqb file file refl) ∙ n))
       at_upper u r false n false v same = same
 
       by : (o : Option (Real ℕ)) → merge.real number ≡ o → (b : Bool) → nat_eq number file ≡ b
@@ -155,8 +151,7 @@ module _ (stack : Stack ℕ) (merge : Merge ℕ) (whole : IsWhole stack merge) (
           (sym r ∙ ap merge.real (eqb-true number file n) ∙ real)
       by None r false n same = same
       by (Some (Upper u)) r b n same = at_upper u r b n (nat_eq u (upper_of merge file)) refl same
-      by (Some (Lower layer path)) r true n same =
-          absurd (true≢false (sym (ap (λ o. is_some (upper_object o)) real)
+      by (Some (Lower layer path)) r true n same = absurd (true≢false (sym (ap (λ o. is_some (upper_object o)) real)
           ∙ ap (λ o. is_some (upper_object o)) (sym (ap merge.real (eqb-true number file n)) ∙ r)))
       by (Some (Lower layer path)) r false n same = same
 
@@ -168,8 +163,7 @@ module _ (stack : Stack ℕ) (merge : Merge ℕ) (whole : IsWhole stack merge) (
   fine_later = record {
     paths = λ path. ap (λ o. then_some o merge.real) (one_path path) ∙ is_fine.paths path ∙ sym (one_seen path);
     objects = object_same;
-    there = λ number none. is_fine.there number
-        (not_there (later.files.tree.node number) (merge.files.tree.node number)
+    there = λ number none. is_fine.there number (not_there (later.files.tree.node number) (merge.files.tree.node number)
         (part-changed_node is_some merge.files file change shape.there number) none);
     whiteout = λ number. part-changed_node (is_kind_in White) merge.files file change shape.white number
         ∙ is_fine.whiteout number;
@@ -212,8 +206,7 @@ attr_keeps_whole stack merge object attr whole stands =
     (changes_keep_numbers merge.files (SetAttr object attr) whole.numbers)
     (changes_keep_trees merge.upper (SetAttr (upper_of merge object) attr) top.0 tt)
     (part-changed_node Rattle.vt_spec.specs.Tree.is_directory_node merge.upper (upper_of merge object)
-    (node_with_attr attr)
-    (λ o. elim o as (λ o. Rattle.vt_spec.specs.Tree.is_directory_node (node_with_attr attr o)
+    (node_with_attr attr) (λ o. elim o as (λ o. Rattle.vt_spec.specs.Tree.is_directory_node (node_with_attr attr o)
     ≡ Rattle.vt_spec.specs.Tree.is_directory_node o) [ None ↦ refl | Some node ↦ refl ]) stack.directory ∙ top.1) (
       whole.reached.0,
       (attr_changes_one_inode merge.upper merge.upper.tree.root
@@ -231,8 +224,7 @@ bytes_keep_whole stack merge file bytes whole stands =
     (changes_keep_numbers merge.files (SetBytes file bytes) whole.numbers)
     (changes_keep_trees merge.upper (SetBytes (upper_of merge file) bytes) top.0 tt)
     (part-changed_node Rattle.vt_spec.specs.Tree.is_directory_node merge.upper (upper_of merge file)
-    (node_with_bytes bytes)
-    (Rattle.vt_spec.proofs.Nodes.is_directory-node_with_bytes bytes) stack.directory ∙ top.1) (
+    (node_with_bytes bytes) (Rattle.vt_spec.proofs.Nodes.is_directory-node_with_bytes bytes) stack.directory ∙ top.1) (
       whole.reached.0,
       (bytes_change_one_inode merge.upper merge.upper.tree.root
           (upper_of merge file) bytes).0 whole.reached.0 ∙ whole.reached.1,

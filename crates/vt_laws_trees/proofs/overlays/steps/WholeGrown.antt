@@ -88,8 +88,7 @@ module _ (stack : Stack ℕ) (merge : Merge ℕ) (is_fine : IsFine stack merge) 
   not_new n u r same = true≢false
       (sym (is_fine.upper n u r) ∙ ap (λ k. is_some (merge.upper.tree.node k)) same ∙ ap is_some vacant)
 
-  object_same : (n : ℕ) (b : Bool) → nat_eq n number ≡ b
-      → SameObject (files.tree.node n)
+  object_same : (n : ℕ) (b : Bool) → nat_eq n number ≡ b → SameObject (files.tree.node n)
       (then_some (cond b (Some (Upper copy)) (merge.real n)) (inode_behind stack grown))
   object_same n true e = subst (λ k. SameObject (files.tree.node k) (upper.tree.node copy))
       (sym (eqb-true n number e)) new
@@ -100,8 +99,7 @@ module _ (stack : Stack ℕ) (merge : Merge ℕ) (is_fine : IsFine stack merge) 
           → SameObject (files.tree.node n) (then_some o (inode_behind stack grown))
       by None r same = alike_objects (merge.files.tree.node n) None (files.tree.node n) None same
           (others n (differs n e)) (make_seen None)
-      by (Some (Upper u)) r same =
-          alike_objects (merge.files.tree.node n) (merge.upper.tree.node u) (files.tree.node n)
+      by (Some (Upper u)) r same = alike_objects (merge.files.tree.node n) (merge.upper.tree.node u) (files.tree.node n)
           (upper.tree.node u) same (others n (differs n e)) (above u (not_new n u r))
       by (Some (Lower layer path)) r same =
           alike_objects (merge.files.tree.node n) (inode_behind stack merge (Lower layer path)) (files.tree.node n)
@@ -139,16 +137,11 @@ module _ (stack : Stack ℕ) (merge : Merge ℕ) (is_fine : IsFine stack merge) 
     paths = paths;
     objects = λ n. object_same n (nat_eq n number) refl;
     there = λ n none. real_there n (nat_eq n number) refl none;
-    whiteout = λ n.
-        ⊎_elim
-        (λ t. ap (λ k. is_kind_in White (files.tree.node k)) t.1 ∙ white)
+    whiteout = λ n. ⊎_elim (λ t. ap (λ k. is_kind_in White (files.tree.node k)) t.1 ∙ white)
         (λ t. white_alike (merge.files.tree.node n) (files.tree.node n) (others n t.1) ∙ is_fine.whiteout n)
         (eqb_tells n number);
-    mark = λ n.
-        ⊎_elim
-        (λ t. ap (λ k. is_opaque_in (files.tree.node k)) t.1 ∙ mark)
-        (λ t. (others n t.1).mark ∙ is_fine.mark n)
-        (eqb_tells n number);
+    mark = λ n. ⊎_elim (λ t. ap (λ k. is_opaque_in (files.tree.node k)) t.1 ∙ mark)
+        (λ t. (others n t.1).mark ∙ is_fine.mark n) (eqb_tells n number);
     upper = λ n object. upper_there n object (nat_eq n number);
     one = λ a b. one_to_one a b (nat_eq a number) (nat_eq b number) refl refl;
   }

@@ -36,14 +36,12 @@ use Rattle.vt_spec.proofs.NodeChanges.{directory_no_whiteout}
 use Rattle.vt_spec.proofs.Options.{none_is_some}
 
 -- a path that does not go through the one entry that changes
-module _ (before after : Tree ℕ) (to : ℕ) (new : List ℕ) (value : Option ℕ)
-    (told : (other : ℕ) (word : List ℕ)
+module _ (before after : Tree ℕ) (to : ℕ) (new : List ℕ) (value : Option ℕ) (told : (other : ℕ) (word : List ℕ)
     → entry_at after other word ≡ cond (is_entry to new other word) value (entry_at before other word)) where
   pub beside_led : (path : List (List ℕ)) (start : ℕ) → passes before to new start path ≡ false
       → led after start path ≡ led before start path
   beside_led [] start e = refl
-  beside_led (word ∷ rest) start e =
-      ap (option_and_then (λ next. led after next rest)) (told start word)
+  beside_led (word ∷ rest) start e = ap (option_and_then (λ next. led after next rest)) (told start word)
       ∙ by (is_entry to new start word) (entry_at before start word) e (beside_led rest)
     where
       by : (is_new : Bool) (o : Option ℕ) → (is_new || holds_of (λ inner. passes before to new inner rest) o) ≡ false
@@ -66,8 +64,7 @@ emptied_alike files (Some k) u =
 -- and all others have their names
 pub emptied_entries : (files : FileTree ℕ) (k other : ℕ) (word : List ℕ) → nat_eq other k ≡ false
     → entry_at (without_contents nat_eq files (Some k)).tree other word ≡ entry_at files.tree other word
-emptied_entries files k other word differ =
-    ap (λ n. entry_named word (entries_in n))
+emptied_entries files k other word differ = ap (λ n. entry_named word (entries_in n))
     (kept_elsewhere (changed_node nat_eq files k node_without_entries) k (node_with_parent k) other differ
     ∙ kept_elsewhere files k node_without_entries other differ)
 
@@ -83,22 +80,19 @@ lowers_have (first ∷ lowers) depth place object layer path there is at d =
   where
     here : slice_get (first ∷ lowers) 0 ≡ Some layer
         → Views.lowers_have_directory (map view_of (first ∷ lowers)) path ≡ true
-    here f =
-        or_left (is_directory_node (node_led (view_of first) path)) _
+    here f = or_left (is_directory_node (node_led (view_of first) path)) _
         (ap (λ o. is_directory_node (then_some o first.tree.node))
         (ap (λ l. at_path l path) (same_Some first layer f) ∙ at)
         ∙ ap (λ l. is_directory_node (l.tree.node object)) (same_Some first layer f) ∙ d)
 
     below : (cut : Bool) → cuts (view_of first) path ≡ cut → (k : ℕ) → slice_get lowers k ≡ Some layer
         → shown_over (view_of first) depth None cut (shown_from (depth + 1) lowers path)
-        ≡ Some (record { layer = depth + suc k; object = object })
-        → ((k : ℕ) → slice_get lowers k ≡ Some layer
+        ≡ Some (record { layer = depth + suc k; object = object }) → ((k : ℕ) → slice_get lowers k ≡ Some layer
         → shown_from (depth + 1) lowers path ≡ Some (record { layer = depth + 1 + k; object = object })
         → Views.lowers_have_directory (map view_of lowers) path ≡ true)
         → Views.lowers_have_directory (map view_of (first ∷ lowers)) path ≡ true
     below true c k f e rest = none_is_some _ e
-    below false c k f e rest =
-        or_right (is_directory_node (node_led (view_of first) path)) _
+    below false c k f e rest = or_right (is_directory_node (node_led (view_of first) path)) _
         (ap (λ b. not b && Views.lowers_have_directory (map view_of lowers) path) c
         ∙ rest k f (e ∙ ap (λ n. Some (record { layer = n; object = object }))
         (let h : depth + suc k ≡ depth + 1 + k = omega arith in h)))
@@ -113,8 +107,7 @@ lowers_have (first ∷ lowers) depth place object layer path there is at d =
 
     by : (place : ℕ) → slice_get (first ∷ lowers) place ≡ Some layer
         → shown_from depth (first ∷ lowers) path ≡ Some (record { layer = depth + place; object = object })
-        → (o : Option ℕ) → at_path first path ≡ o
-        → ((k : ℕ) → slice_get lowers k ≡ Some layer
+        → (o : Option ℕ) → at_path first path ≡ o → ((k : ℕ) → slice_get lowers k ≡ Some layer
         → shown_from (depth + 1) lowers path ≡ Some (record { layer = depth + 1 + k; object = object })
         → Views.lowers_have_directory (map view_of lowers) path ≡ true)
         → Views.lowers_have_directory (map view_of (first ∷ lowers)) path ≡ true
@@ -124,8 +117,7 @@ lowers_have (first ∷ lowers) depth place object layer path there is at d =
         (shown_from (depth + 1) lowers path)) a) ∙ e) in
         here (ap (slice_get (first ∷ lowers)) (sym none) ∙ f)
     by zero f e None a rest = here f
-    by (suc k) f e None a rest =
-        below (cuts (view_of first) path) refl k f
+    by (suc k) f e None a rest = below (cuts (view_of first) path) refl k f
         (sym (ap (λ o. shown_over (view_of first) depth o (cuts (view_of first) path)
         (shown_from (depth + 1) lowers path)) a) ∙ e) rest
 
@@ -141,8 +133,7 @@ module _ (stack : Stack ℕ) (merge : Merge ℕ) (whole : IsWhole stack merge) (
   up_way = named_above stack merge whole way.0 d ud way.1 real_d
 
   pub named_in_upper : entry_at merge.upper.tree ud w ≡ Some uo
-  named_in_upper =
-      sym (last_name merge.upper.tree stack.directory way.0 w
+  named_in_upper = sym (last_name merge.upper.tree stack.directory way.0 w
       ∙ ap (option_and_then (λ n. entry_at merge.upper.tree n w)) up_way)
       ∙ named_above stack merge whole (way.0 ++ w ∷ []) object uo
       (led-append merge.files.tree merge.files.tree.root way.0 w d object way.1 named) real_o
@@ -205,8 +196,7 @@ own_upper merge d w uo e = by (entry_at merge.files.tree d w) refl e
 
     by : (o : Option ℕ) → entry_at merge.files.tree d w ≡ o
         → then_some o (λ k. cond (is_directory_node (merge.files.tree.node k)) (upper_object (merge.real k)) None)
-        ≡ Some uo
-        → (object : ℕ) × (entry_at merge.files.tree d w ≡ Some object) × (merge.real object ≡ Some (Upper uo))
+        ≡ Some uo → (object : ℕ) × (entry_at merge.files.tree d w ≡ Some object) × (merge.real object ≡ Some (Upper uo))
         × IsDirectory merge.files.tree object
     by None f e = none_is_some uo e
     by (Some object) f e = at object f (is_directory_node (merge.files.tree.node object)) refl e

@@ -108,8 +108,7 @@ module _ (stack : Stack ℕ) (merge : Merge ℕ) (whole : IsWhole stack merge) (
   way = may.name_is_free.reached.0
 
   nothing_here : number_at_path merge.files (way ++ w ∷ []) ≡ None
-  nothing_here =
-      last_name merge.files.tree merge.files.tree.root way w
+  nothing_here = last_name merge.files.tree merge.files.tree.root way w
       ∙ ap (option_and_then (λ x. entry_at merge.files.tree x w)) may.name_is_free.reached.1 ∙ may.name_is_free.free
 
   whiteout_there : (r : ℕ) → entry_at merge.upper.tree ud w ≡ Some r → is_kind_in White (merge.upper.tree.node r) ≡ true
@@ -118,54 +117,44 @@ module _ (stack : Stack ℕ) (merge : Merge ℕ) (whole : IsWhole stack merge) (
       by : (b : Bool) → is_kind_in White (merge.upper.tree.node r) ≡ b
           → is_kind_in White (merge.upper.tree.node r) ≡ true
       by true k = k
-      by false k =
-          none_is_some (Upper r) (sym (ap (λ o. then_some o merge.real) nothing_here)
-          ∙ fine_before.paths (way ++ w ∷ [])
-          ∙ ap (real_by (way ++ w ∷ []))
-          (on_top before lowers (way ++ w ∷ []) r false
-          (led-append merge.upper.tree stack.directory way w ud r
+      by false k = none_is_some (Upper r) (sym (ap (λ o. then_some o merge.real) nothing_here)
+          ∙ fine_before.paths (way ++ w ∷ []) ∙ ap (real_by (way ++ w ∷ []))
+          (on_top before lowers (way ++ w ∷ []) r false (led-append merge.upper.tree stack.directory way w ud r
           (named_above stack merge whole way d ud may.name_is_free.reached.1 real_d) e) k))
 
   takes : TakesName merge.upper.tree ud w
   takes = record {
     in_directory = ud_directory;
-    bare = λ r e.
-        white_bare (merge.upper.tree.node r) (whiteout_there r e);
+    bare = λ r e. white_bare (merge.upper.tree.node r) (whiteout_there r e);
   }
 
   takes_here : TakesName merge.files.tree d w
   takes_here = record {
     in_directory = may.name_is_free.in_directory;
-    bare = λ r e.
-        none_is_some r (sym may.name_is_free.free ∙ e);
+    bare = λ r e. none_is_some r (sym may.name_is_free.free ∙ e);
   }
 
   leads_none : (path : List (List ℕ)) → goes_through before ud w path ≡ true → names_entry before ud w path ≡ false
       → led upper.tree stack.directory path ≡ None
-  leads_none path through other =
-      add_name_adds_path merge.upper stack.directory ud uo w takes uo_file path
+  leads_none path through other = add_name_adds_path merge.upper stack.directory ud uo w takes uo_file path
       ∙ ap (λ b. cond b (Some uo) (led merge.upper.tree stack.directory path)) other
       ∙ by (entry_at merge.upper.tree ud w) refl
     where
       by : (o : Option ℕ) → entry_at merge.upper.tree ud w ≡ o → led merge.upper.tree stack.directory path ≡ None
       by None e = through_free merge.upper stack.directory ud w e path through
-      by (Some r) e =
-          through_bare merge.upper stack.directory ud r w e
-          (no_entries merge.upper.tree r
+      by (Some r) e = through_bare merge.upper stack.directory ud r w e (no_entries merge.upper.tree r
           (white_bare (merge.upper.tree.node r) (whiteout_there r e))) path through other
 
   hides_here : (front : List (List ℕ)) → names_entry before ud w front ≡ true → hides (node_led after front) ≡ true
   hides_here front e =
       let alike = subst (λ x. IsAlike (cond x (merge.upper.tree.node uo) (node_led before front))
-      (node_led after front)) e
-      (add_name_is_seen merge.upper stack.directory ud uo w takes uo_file front) in
+      (node_led after front)) e (add_name_is_seen merge.upper stack.directory ud uo w takes uo_file front) in
       hiding_alike (merge.upper.tree.node uo) (node_led after front)
       (hides_so (merge.upper.tree.node uo) (node_led after front) alike)
       ∙ file_hides (merge.upper.tree.node uo) (fine_before.upper object uo real_object) uo_file
 
   number_none : (path : List (List ℕ)) → goes_through before ud w path ≡ true → number_at_path merge.files path ≡ None
-  number_none path through =
-      through_free merge.files merge.files.tree.root d w may.name_is_free.free path
+  number_none path through = through_free merge.files merge.files.tree.root d w may.name_is_free.free path
       (same_through stack merge whole d ud real_d ud_directory w path ∙ through)
 
   shown_same : (path : List (List ℕ)) → names_entry before ud w path ≡ false
@@ -178,8 +167,7 @@ module _ (stack : Stack ℕ) (merge : Merge ℕ) (whole : IsWhole stack merge) (
           let found = prefix_found (names_entry before ud w) path through in
           cut_shows_none after lowers path (leads_none path through other)
           (prefix_passes (λ front. hides (node_led after front)) path found.0 found.1.0 found.1.1 found.1.2
-          (hides_here found.0 found.2))
-          ∙ sym (real_by_none path (shown (layers_under stack merge) path)
+          (hides_here found.0 found.2)) ∙ sym (real_by_none path (shown (layers_under stack merge) path)
           (sym (fine_before.paths path) ∙ ap (λ o. then_some o merge.real) (number_none path through)))
       by false elsewhere = shown_elsewhere_stays merge.upper
           (AddName ud w uo) stack.directory lowers top_tree top_directory (takes, uo_file) path elsewhere
@@ -189,25 +177,20 @@ module _ (stack : Stack ℕ) (merge : Merge ℕ) (whole : IsWhole stack merge) (
     where
       goes : (b : Bool) → names_entry before ud w path ≡ b
           → number_at_path files path ≡ cond b (Some object) (number_at_path merge.files path)
-      goes b e =
-          add_name_adds_path merge.files merge.files.tree.root d object w takes_here may.no_directory path
+      goes b e = add_name_adds_path merge.files merge.files.tree.root d object w takes_here may.no_directory path
           ∙ ap (λ x. cond x (Some object) (number_at_path merge.files path))
           (same_entry stack merge whole d ud real_d ud_directory w path ∙ e)
 
       by : (b : Bool) → names_entry before ud w path ≡ b
           → then_some (number_at_path files path) merge.real ≡ real_seen stack later path
-      by true e =
-          ap (λ o. then_some o merge.real) (goes true e) ∙ real_object
-          ∙ sym (ap (real_by path)
+      by true e = ap (λ o. then_some o merge.real) (goes true e) ∙ real_object ∙ sym (ap (real_by path)
           (link_is_shown merge.upper stack.directory ud uo w lowers takes uo_file path e
           ∙ ap (λ b. when (not b) (record { layer = 0; object = uo })) uo_not_white))
-      by false e =
-          ap (λ o. then_some o merge.real) (goes false e) ∙ fine_before.paths path
+      by false e = ap (λ o. then_some o merge.real) (goes false e) ∙ fine_before.paths path
           ∙ sym (ap (real_by path) (shown_same path e))
 
   pub later_is_fine : IsFine stack later
-  later_is_fine =
-      rearranged_is_fine stack merge fine_before files upper
+  later_is_fine = rearranged_is_fine stack merge fine_before files upper
       (λ n. names_leave_inodes merge.files (AddName d w object) merge.files.tree.root n refl)
       (λ n u r. names_leave_inodes merge.upper (AddName ud w uo) stack.directory u refl) paths_later
 

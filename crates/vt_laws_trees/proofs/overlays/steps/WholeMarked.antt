@@ -37,8 +37,7 @@ mark_there : (opaque : Bool) (o : Option (Node ℕ)) → is_some (node_with_mark
 mark_there opaque None = refl
 mark_there opaque (Some node) = refl
 
-mark_white : (opaque : Bool) (o : Option (Node ℕ))
-    → is_kind_in White (node_with_mark opaque o) ≡ is_kind_in White o
+mark_white : (opaque : Bool) (o : Option (Node ℕ)) → is_kind_in White (node_with_mark opaque o) ≡ is_kind_in White o
 mark_white opaque None = refl
 mark_white opaque (Some node) = by node.content
   where
@@ -69,8 +68,7 @@ mark_same opaque None (Some real) same = absurd same
 mark_same opaque (Some merged) None same = absurd same
 mark_same opaque (Some merged) (Some real) same = by merged.content real.content same
   where
-    by : (c d : Content ℕ)
-        → SameObject (Some (record { attr = merged.attr; content = c }))
+    by : (c d : Content ℕ) → SameObject (Some (record { attr = merged.attr; content = c }))
         (Some (record { attr = real.attr; content = d }))
         → SameObject (Some (record { attr = merged.attr; content = c }))
         (node_with_mark opaque (Some (record { attr = real.attr; content = d })))
@@ -122,16 +120,14 @@ module _ (stack : Stack ℕ) (merge : Merge ℕ) (whole : IsWhole stack merge) (
   -- what the upper layer has is shown as before
   on_top_same : (path : List (List ℕ)) (object : ℕ) → before.leads path ≡ Some object
       → shown_from 0 (after ∷ lowers) path ≡ shown_from 0 (before ∷ lowers) path
-  on_top_same path object e =
-      on_top after lowers path object (is_kind_in White (before.node object)) (leads path ∙ e)
+  on_top_same path object e = on_top after lowers path object (is_kind_in White (before.node object)) (leads path ∙ e)
       (part-changed_node (is_kind_in White) merge.upper above (node_with_mark opaque) (mark_white opaque) object)
       ∙ sym (on_top before lowers path object (is_kind_in White (before.node object)) e refl)
 
   -- and where neither it nor lower layers show anything, nothing is
   nothing : (view : View ℕ) (path : List (List ℕ)) → view.leads path ≡ None → shown_from 1 lowers path ≡ None
       → shown_from 0 (view ∷ lowers) path ≡ None
-  nothing view path e none =
-      ap (λ o. shown_over view 0 o (cuts view path) (shown_from 1 lowers path)) e
+  nothing view path e none = ap (λ o. shown_over view 0 o (cuts view path) (shown_from 1 lowers path)) e
       ∙ ap (shown_over view 0 None (cuts view path)) none ∙ by (cuts view path)
     where
       by : (b : Bool) → shown_over view 0 None b None ≡ None
@@ -180,12 +176,10 @@ module _ (stack : Stack ℕ) (merge : Merge ℕ) (whole : IsWhole stack merge) (
       (then_some (merge.real number) (inode_behind stack later))
   objects_same number = by (merge.real number) (fine.objects number)
     where
-      at : (u : ℕ) (b : Bool) → nat_eq u above ≡ b
-          → SameObject (merge.files.tree.node number) (merge.upper.tree.node u)
+      at : (u : ℕ) (b : Bool) → nat_eq u above ≡ b → SameObject (merge.files.tree.node number) (merge.upper.tree.node u)
           → SameObject (merge.files.tree.node number)
           (cond b (node_with_mark opaque (merge.upper.tree.node above)) (merge.upper.tree.node u))
-      at u true e same =
-          mark_same opaque (merge.files.tree.node number) (merge.upper.tree.node above)
+      at u true e same = mark_same opaque (merge.files.tree.node number) (merge.upper.tree.node above)
           (subst (λ k. SameObject (merge.files.tree.node number) (merge.upper.tree.node k)) (eqb-true u above e) same)
       at u false e same = same
 
@@ -214,12 +208,10 @@ module _ (stack : Stack ℕ) (merge : Merge ℕ) (whole : IsWhole stack merge) (
       whole_again stack merge later whole whole.tree whole.numbers
       (changes_keep_trees merge.upper (SetMark above opaque) top.0 tt)
       (part-changed_node is_directory_node merge.upper above (node_with_mark opaque) (mark_directory opaque)
-      stack.directory
-      ∙ top.1) (
+      stack.directory ∙ top.1) (
         whole.reached.0,
         (mark_changes_one_inode merge.upper merge.upper.tree.root above opaque).0 whole.reached.0 ∙ whole.reached.1,
-      )
-      fine_later
+      ) fine_later
 
 pub mark_keeps_whole : MarkKeepsWhole
 mark_keeps_whole stack merge directory opaque whole stands bare =
@@ -229,5 +221,4 @@ pub mark_of_the_tree_is_not_shown : MarkOfTheTreeIsNotShown
 mark_of_the_tree_is_not_shown stack merge directory d is =
     true≢false (sym (ap (λ b. is_opaque_in (cond b (node_with_mark true (merge.files.tree.node directory))
     (merge.files.tree.node directory))) (eq-eqb directory directory refl)
-    ∙ directory_marked (merge.files.tree.node directory) d)
-    ∙ is.no_mark directory)
+    ∙ directory_marked (merge.files.tree.node directory) d) ∙ is.no_mark directory)

@@ -42,8 +42,7 @@ same_holds o n e = ap (λ p. same_option nat_eq p (Some n)) e ∙ eq-eqb n n ref
 
 -- the path of an entry names it
 pub entry_named_so : (files : FileTree ℕ) (top directory : ℕ) (name : List ℕ) (way : List (List ℕ))
-    → led files.tree top way ≡ Some directory
-    → names_entry (view_in files top) directory name (way ++ name ∷ []) ≡ true
+    → led files.tree top way ≡ Some directory → names_entry (view_in files top) directory name (way ++ name ∷ []) ≡ true
 entry_named_so files top directory name way e =
     ap (λ b. not b && (same_option nat_eq (led files.tree top (without_last (way ++ name ∷ []))) (Some directory)
     && bytes_eq (last_or [] (way ++ name ∷ [])) name)) (longer way)
@@ -79,8 +78,7 @@ pub through_bare : (files : FileTree ℕ) (top directory object : ℕ) (name : L
     → entry_at files.tree directory name ≡ Some object
     → ((word : List ℕ) → entry_at files.tree object word ≡ None) → (path : List (List ℕ))
     → goes_through (view_in files top) directory name path ≡ true
-    → names_entry (view_in files top) directory name path ≡ false
-    → led files.tree top path ≡ None
+    → names_entry (view_in files top) directory name path ≡ false → led files.tree top path ≡ None
 through_bare files top directory object name e bare path through other =
     let parts = through_is_split files top directory name path through in
     ap (led files.tree top) (sym parts.2) ∙ led_parts files.tree parts.0 (name ∷ parts.1) top directory parts.3
@@ -88,8 +86,7 @@ through_bare files top directory object name e bare path through other =
   where
     by : (way rest : List (List ℕ)) → way ++ name ∷ rest ≡ path → led files.tree top way ≡ Some directory
         → led files.tree object rest ≡ None
-    by way [] is l =
-        absurd (true≢false (sym (entry_named_so files top directory name way l)
+    by way [] is l = absurd (true≢false (sym (entry_named_so files top directory name way l)
         ∙ ap (names_entry (view_in files top) directory name) is ∙ other))
     by way (word ∷ rest) is l = ap (option_and_then (λ next. led files.tree next rest)) (bare word)
 
@@ -132,8 +129,7 @@ module _ (stack : Stack ℕ) (merge : Merge ℕ) (whole : IsWhole stack merge) w
 
   -- what names lead to in the overlay they lead to in the upper layer, if it stands there
   pub named_above : (path : List (List ℕ)) (number u : ℕ) → number_at_path merge.files path ≡ Some number
-      → merge.real number ≡ Some (Upper u)
-      → led merge.upper.tree stack.directory path ≡ Some u
+      → merge.real number ≡ Some (Upper u) → led merge.upper.tree stack.directory path ≡ Some u
   named_above path number u e r =
       by (shown layers path) refl (sym r ∙ sym (ap (λ o. then_some o merge.real) e) ∙ is_fine.paths path)
     where
@@ -155,9 +151,7 @@ module _ (stack : Stack ℕ) (merge : Merge ℕ) (whole : IsWhole stack merge) w
   pub above_named : (path : List (List ℕ)) (u : ℕ) → led merge.upper.tree stack.directory path ≡ Some u
       → is_kind_in White (merge.upper.tree.node u) ≡ false
       → (number : ℕ) × (number_at_path merge.files path ≡ Some number) × (merge.real number ≡ Some (Upper u))
-  above_named path u e white =
-      by (number_at_path merge.files path) refl
-      (is_fine.paths path ∙ ap (real_by path)
+  above_named path u e white = by (number_at_path merge.files path) refl (is_fine.paths path ∙ ap (real_by path)
       (on_top (view_in merge.upper stack.directory) (map view_of stack.lowers) path u false e white))
     where
       by : (o : Option ℕ) → number_at_path merge.files path ≡ o → then_some o merge.real ≡ Some (Upper u)
@@ -178,11 +172,9 @@ module _ (stack : Stack ℕ) (merge : Merge ℕ) (whole : IsWhole stack merge) w
 
   module _ (d ud : ℕ) (r : merge.real d ≡ Some (Upper ud))
       (is_directory : is_directory_node (merge.upper.tree.node ud) ≡ true) where
-    pub same_place : (path : List (List ℕ))
-        → same_option nat_eq (number_at_path merge.files path) (Some d)
+    pub same_place : (path : List (List ℕ)) → same_option nat_eq (number_at_path merge.files path) (Some d)
         ≡ same_option nat_eq (led merge.upper.tree stack.directory path) (Some ud)
-    same_place path =
-        by (same_option nat_eq (number_at_path merge.files path) (Some d)) refl
+    same_place path = by (same_option nat_eq (number_at_path merge.files path) (Some d)) refl
         (same_option nat_eq (led merge.upper.tree stack.directory path) (Some ud)) refl
       where
         back : led merge.upper.tree stack.directory path ≡ Some ud → number_at_path merge.files path ≡ Some d
@@ -206,17 +198,13 @@ module _ (stack : Stack ℕ) (merge : Merge ℕ) (whole : IsWhole stack merge) w
     pub same_through : (name : List ℕ) (path : List (List ℕ))
         → goes_through (view_in merge.files merge.files.tree.root) d name path
         ≡ goes_through (view_in merge.upper stack.directory) ud name path
-    same_through name path =
-        prefixes_agree (names_entry (view_in merge.upper stack.directory) ud name)
-        (names_entry (view_in merge.files merge.files.tree.root) d name) path
-        (λ front is. same_entry name front)
+    same_through name path = prefixes_agree (names_entry (view_in merge.upper stack.directory) ud name)
+        (names_entry (view_in merge.files merge.files.tree.root) d name) path (λ front is. same_entry name front)
 
 -- an overlay that is fine is whole, where its trees are
 pub whole_again : (stack : Stack ℕ) (merge later : Merge ℕ) → IsWhole stack merge → IsTree later.files.tree
-    → ListsNumbers nat_eq later.files
-    → IsTree later.upper.tree → IsDirectory later.upper.tree stack.directory
-    → IsReached later.upper.tree stack.directory
-    → IsFine stack later → IsWhole stack later
+    → ListsNumbers nat_eq later.files → IsTree later.upper.tree → IsDirectory later.upper.tree stack.directory
+    → IsReached later.upper.tree stack.directory → IsFine stack later → IsWhole stack later
 whole_again stack merge later whole tree numbers upper directory reached is = record {
   tree = tree;
   numbers = numbers;

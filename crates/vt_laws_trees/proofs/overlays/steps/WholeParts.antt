@@ -33,8 +33,7 @@ object_is_not_none (Some node) t same = same
 
 -- what is shown is there
 pub shown_is_there : (layers : List (OpenLayer ℕ)) → AreOpen layers → (path : List (List ℕ)) (seen : Shown ℕ)
-    → shown layers path ≡ Some seen
-    → is_some (layer_node layers seen) ≡ true
+    → shown layers path ≡ Some seen → is_some (layer_node layers seen) ≡ true
 shown_is_there layers are_open path seen e =
     let is = (computed layers path seen).0 e in
     let open_one = are_open seen.layer is.has_uncut.0.0 is.has_uncut.0.1 in
@@ -91,8 +90,7 @@ module _ (stack : Stack ℕ) (merge : Merge ℕ) where
           (record { path = path; seen = record { layer = layer; object = object } }))
           ≡ layer_node layers (record { layer = layer; object = object })
       by zero object is = refl
-      by (suc layer) object is =
-          ap (λ o. then_some o (λ lower. node_at_path lower path)) is.has_uncut.0.1
+      by (suc layer) object is = ap (λ o. then_some o (λ lower. node_at_path lower path)) is.has_uncut.0.1
           ∙ ap (λ o. then_some o is.has_uncut.0.0.tree.node) is.has_uncut.0.2
           ∙ sym (ap (λ o. then_some o (λ lower. lower.tree.node object)) is.has_uncut.0.1)
 
@@ -114,8 +112,7 @@ module _ (stack : Stack ℕ) (merge : Merge ℕ) where
       at path number None e real = subst
           (λ r. SameObject (merge.files.tree.node number) (then_some r (inode_behind stack merge))) real
           (is.objects number)
-      at path number (Some seen) e real =
-          subst (SameObject (merge.files.tree.node number)) (behind_shown path seen e)
+      at path number (Some seen) e real = subst (SameObject (merge.files.tree.node number)) (behind_shown path seen e)
           (subst (λ r. SameObject (merge.files.tree.node number) (then_some r (inode_behind stack merge))) real
           (is.objects number))
 

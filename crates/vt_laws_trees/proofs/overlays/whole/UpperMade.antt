@@ -83,10 +83,8 @@ pub make_over : (top : ℕ) (files : FileTree ℕ) (d : ℕ) (w : List ℕ) (c :
     → ((r : ℕ) → entry_at files.tree d w ≡ Some r → is_directory_node (files.tree.node r) ≡ false)
     → files.tree.node c ≡ None → IsNewIn d node → Goes top files (changed nat_eq files (Make d w c node))
 make_over top files d w c node good is reached plain vacant fits =
-    subst (Goes top files) (freed_made files d w (good.tree.in_order d) c node differ)
-    (goes_both top files free _ first
-    (goes_by top free (Make d w c node) first.good
-    (record {
+    subst (Goes top files) (freed_made files d w (good.tree.in_order d) c node differ) (goes_both top files free _ first
+    (goes_by top free (Make d w c node) first.good (record {
       name_is_free = record {
         in_directory = freed_kind top files good d w plain d ∙ is;
         reached = freed_reached top files good d w plain d is reached;
@@ -145,8 +143,7 @@ linked_goes stack merge d w object whole stands own may =
     let free = freed stack.directory merge.upper good ud w plain in
     let first = freed_goes stack.directory merge.upper good ud w plain in
     subst (Goes stack.directory merge.upper) (freed_named merge.upper ud w (good.tree.in_order ud) uo)
-    (goes_both stack.directory merge.upper free _ first
-    (goes_by stack.directory free (AddName ud w uo) first.good
+    (goes_both stack.directory merge.upper free _ first (goes_by stack.directory free (AddName ud w uo) first.good
     (record {
       name_is_free = record {
         in_directory = freed_kind stack.directory merge.upper good ud w plain ud ∙ is;

@@ -24,8 +24,7 @@ sorted_without w es h = is_sorted-where_key name_cmp (λ x. not (bytes_eq x w)) 
 -- an entry in the place of another
 pub with_over_without : (w : List ℕ) (k : ℕ) (es : Entries ℕ) → is_sorted name_cmp es ≡ true
     → with_entry w k (without_entry w es) ≡ with_entry w k es
-with_over_without w k es h =
-    same_entries name_cmp nat_list_cmp_total same_name-Equal _ _
+with_over_without w k es h = same_entries name_cmp nat_list_cmp_total same_name-Equal _ _
     (is_sorted-put name_cmp nat_list_cmp_total w k (without_entry w es) (sorted_without w es h))
     (is_sorted-put name_cmp nat_list_cmp_total w k es (T_from_true _ h))
     (λ q. entry_named-with_entry q w k (without_entry w es) ∙ by q (eq_by_cmp name_cmp q w) refl
@@ -34,13 +33,11 @@ with_over_without w k es h =
     by : (q : List ℕ) (b : Bool) → eq_by_cmp name_cmp q w ≡ b
         → cond b (Some k) (entry_named q (without_entry w es)) ≡ cond b (Some k) (entry_named q es)
     by q true e = refl
-    by q false e =
-        entry_named-without_entry q w es
+    by q false e = entry_named-without_entry q w es
         ∙ ap (λ b. cond (not b) (entry_named q es) None) (other (bytes_eq q w) refl)
       where
         other : (b : Bool) → bytes_eq q w ≡ b → bytes_eq q w ≡ false
-        other true f =
-            absurd (true≢false (sym (ap (λ x. eq_by_cmp name_cmp x w) ((bytes_decides q w).0 f)
+        other true f = absurd (true≢false (sym (ap (λ x. eq_by_cmp name_cmp x w) ((bytes_decides q w).0 f)
             ∙ ap is_eq (tied_itself nat_list_cmp_total w)) ∙ e))
         other false f = f
 
@@ -71,8 +68,7 @@ node_with_over_without w k (Some node) h = ap (λ c. Some (record { attr = node.
     by Whiteout h = refl
 
 pub node_without_none : (w : List ℕ) (o : Option (Node ℕ)) → is_sorted name_cmp (entries_in o) ≡ true
-    → entry_named w (entries_in o) ≡ None
-    → node_without_entry w o ≡ o
+    → entry_named w (entries_in o) ≡ None → node_without_entry w o ≡ o
 node_without_none w None h none = refl
 node_without_none w (Some node) h none =
     ap (λ c. Some (record { attr = node.attr; content = c })) (by node.content h none)
@@ -92,14 +88,10 @@ same_tree one other root numbers nodes =
 
 -- a change that leaves an inode as it is changes nothing
 pub unchanged_node : (files : FileTree ℕ) (number : ℕ) (change : Option (Node ℕ) → Option (Node ℕ))
-    → change (files.tree.node number) ≡ files.tree.node number
-    → changed_node nat_eq files number change ≡ files
-unchanged_node files number change same =
-    same_tree (changed_node nat_eq files number change) files refl refl
-    (λ k. ⊎_elim
-    (λ t. ap (λ b. cond b (change (files.tree.node number)) (files.tree.node k)) t.0 ∙ same
-    ∙ ap files.tree.node (sym t.1))
-    (λ t. ap (λ b. cond b (change (files.tree.node number)) (files.tree.node k)) t.0)
+    → change (files.tree.node number) ≡ files.tree.node number → changed_node nat_eq files number change ≡ files
+unchanged_node files number change same = same_tree (changed_node nat_eq files number change) files refl refl
+    (λ k. ⊎_elim (λ t. ap (λ b. cond b (change (files.tree.node number)) (files.tree.node k)) t.0 ∙ same
+    ∙ ap files.tree.node (sym t.1)) (λ t. ap (λ b. cond b (change (files.tree.node number)) (files.tree.node k)) t.0)
     (eqb_tells k number))
 
 -- A name given is the name given in exchange
@@ -115,22 +107,17 @@ module _ (files : FileTree ℕ) (d : ℕ) (w : List ℕ)
   elsewhere k differ = Rattle.vt_laws_trees.proofs.trees.ChangesNodes.elsewhere files d (node_without_entry w) k differ
 
   pub freed_named : (k : ℕ) → with_name nat_eq free d w k ≡ with_name nat_eq files d w k
-  freed_named k =
-      same_tree (with_name nat_eq free d w k) (with_name nat_eq files d w k) refl refl
-      (λ j. ⊎_elim
+  freed_named k = same_tree (with_name nat_eq free d w k) (with_name nat_eq files d w k) refl refl (λ j. ⊎_elim
       (λ t. ap (λ b. cond b (node_with_entry w k (free.tree.node d)) (free.tree.node j)) t.0
       ∙ ap (node_with_entry w k) there ∙ node_with_over_without w k (files.tree.node d) in_order
       ∙ sym (ap (λ b. cond b (node_with_entry w k (files.tree.node d)) (files.tree.node j)) t.0))
-      (λ t. ap (λ b. cond b (node_with_entry w k (free.tree.node d)) (free.tree.node j)) t.0
-      ∙ elsewhere j t.1
-      ∙ sym (ap (λ b. cond b (node_with_entry w k (files.tree.node d)) (files.tree.node j)) t.0))
-      (eqb_tells j d))
+      (λ t. ap (λ b. cond b (node_with_entry w k (free.tree.node d)) (free.tree.node j)) t.0 ∙ elsewhere j t.1
+      ∙ sym (ap (λ b. cond b (node_with_entry w k (files.tree.node d)) (files.tree.node j)) t.0)) (eqb_tells j d))
 
   -- so it is with a new inode
   pub freed_made : (c : ℕ) (node : Node ℕ) → d ≢ c
       → with_name nat_eq (with_inode nat_eq free c node) d w c ≡ with_name nat_eq (with_inode nat_eq files c node) d w c
-  freed_made c node differ =
-      same_tree (with_name nat_eq (with_inode nat_eq free c node) d w c)
+  freed_made c node differ = same_tree (with_name nat_eq (with_inode nat_eq free c node) d w c)
       (with_name nat_eq (with_inode nat_eq files c node) d w c) refl refl
       (λ j. by j (nat_eq j d) refl (nat_eq j c) refl)
     where
@@ -142,8 +129,7 @@ module _ (files : FileTree ℕ) (d : ℕ) (w : List ℕ)
           (cond b (Some node) (free.tree.node j))
           ≡ cond a (node_with_entry w c (cond (nat_eq d c) (Some node) (files.tree.node d)))
           (cond b (Some node) (files.tree.node j))
-      by j true e b f =
-          ap (node_with_entry w c) (at_d (free.tree.node d) ∙ there)
+      by j true e b f = ap (node_with_entry w c) (at_d (free.tree.node d) ∙ there)
           ∙ node_with_over_without w c (files.tree.node d) in_order
           ∙ sym (ap (node_with_entry w c) (at_d (files.tree.node d)))
       by j false e true f = refl
@@ -152,8 +138,7 @@ module _ (files : FileTree ℕ) (d : ℕ) (w : List ℕ)
 -- a name that is taken away is free
 pub without_name_free : (files : FileTree ℕ) (d : ℕ) (w : List ℕ)
     → entry_at (without_name nat_eq files d w).tree d w ≡ None
-without_name_free files d w =
-    ap (entry_named w)
+without_name_free files d w = ap (entry_named w)
     (ap entries_in (Rattle.vt_laws_trees.proofs.trees.ChangesNodes.changed_node_there files d (node_without_entry w))
     ∙ Rattle.vt_spec.proofs.NodeChanges.entries-node_without_entry w (files.tree.node d))
     ∙ entry_named-without_entry w w (entries_in (files.tree.node d))
@@ -162,10 +147,8 @@ without_name_free files d w =
 -- changes of two inodes in one order and in the other
 pub two_changed : (files : FileTree ℕ) (a b : ℕ) (f g : Option (Node ℕ) → Option (Node ℕ)) → a ≢ b
     → changed_node nat_eq (changed_node nat_eq files a f) b g ≡ changed_node nat_eq (changed_node nat_eq files b g) a f
-two_changed files a b f g differ =
-    same_tree (changed_node nat_eq (changed_node nat_eq files a f) b g)
-    (changed_node nat_eq (changed_node nat_eq files b g) a f) refl refl
-    (λ j. by j (nat_eq j a) refl (nat_eq j b) refl)
+two_changed files a b f g differ = same_tree (changed_node nat_eq (changed_node nat_eq files a f) b g)
+    (changed_node nat_eq (changed_node nat_eq files b g) a f) refl refl (λ j. by j (nat_eq j a) refl (nat_eq j b) refl)
   where
     by : (j : ℕ) (p : Bool) → nat_eq j a ≡ p → (q : Bool) → nat_eq j b ≡ q
         → cond q (g (cond (nat_eq b a) (f (files.tree.node a)) (files.tree.node b)))
@@ -182,10 +165,8 @@ two_changed files a b f g differ =
 pub inode_changed : (files : FileTree ℕ) (c : ℕ) (node : Node ℕ) (b : ℕ) (g : Option (Node ℕ) → Option (Node ℕ)) → c ≢ b
     → changed_node nat_eq (with_inode nat_eq files c node) b g
     ≡ with_inode nat_eq (changed_node nat_eq files b g) c node
-inode_changed files c node b g differ =
-    same_tree (changed_node nat_eq (with_inode nat_eq files c node) b g)
-    (with_inode nat_eq (changed_node nat_eq files b g) c node) refl refl
-    (λ j. by j (nat_eq j c) refl (nat_eq j b) refl)
+inode_changed files c node b g differ = same_tree (changed_node nat_eq (with_inode nat_eq files c node) b g)
+    (with_inode nat_eq (changed_node nat_eq files b g) c node) refl refl (λ j. by j (nat_eq j c) refl (nat_eq j b) refl)
   where
     by : (j : ℕ) (p : Bool) → nat_eq j c ≡ p → (q : Bool) → nat_eq j b ≡ q
         → cond q (g (cond (nat_eq b c) (Some node) (files.tree.node b))) (cond p (Some node) (files.tree.node j))
@@ -210,8 +191,7 @@ module _ (top : ℕ) (files : FileTree ℕ) (good : IsGood top files) (d : ℕ) 
       (Rattle.vt_spec.proofs.NodeChanges.is_directory-node_without_entry w) k
 
   pub freed_used : (k : ℕ) → is_some (freed.tree.node k) ≡ is_some (files.tree.node k)
-  freed_used k =
-      Rattle.vt_laws_trees.proofs.trees.ChangesNodes.part_stays files d (node_without_entry w) is_some
+  freed_used k = Rattle.vt_laws_trees.proofs.trees.ChangesNodes.part_stays files d (node_without_entry w) is_some
       (Rattle.vt_spec.proofs.NodeChanges.is_some-node_without_entry w) k
 
   -- it is a removal, or nothing
@@ -228,9 +208,7 @@ module _ (top : ℕ) (files : FileTree ℕ) (good : IsGood top files) (d : ℕ) 
     where
       by : (o : Option ℕ) → entry_at files.tree d w ≡ o → Goes top files freed
       by None e = subst (Goes top files) (sym (as_before e)) (goes_none top files good)
-      by (Some r) e =
-          subst (Goes top files) (as_removed r e)
-          (goes_by top files (Remove d w r) good
+      by (Some r) e = subst (Goes top files) (as_removed r e) (goes_by top files (Remove d w r) good
           (record { named = e; empty = entries_in-no_directory (files.tree.node r) (plain r e) })
           (λ same. true≢false (sym good.directory ∙ ap (λ n. is_directory_node (files.tree.node n)) same ∙ plain r e)))
 
@@ -241,8 +219,7 @@ module _ (top : ℕ) (files : FileTree ℕ) (good : IsGood top files) (d : ℕ) 
     where
       by : (o : Option ℕ) → entry_at files.tree d w ≡ o → IsReached freed.tree number
       by None e = subst (λ f. IsReached f.tree number) (sym (as_before e)) reached
-      by (Some r) e =
-          subst (λ f. IsReached f.tree number) (as_removed r e)
+      by (Some r) e = subst (λ f. IsReached f.tree number) (as_removed r e)
           ((change_reaches files (Remove d w r) good.tree
           (record { named = e; empty = entries_in-no_directory (files.tree.node r) (plain r e) }) number
           (λ same. true≢false (sym is ∙ ap (λ n. is_directory_node (files.tree.node n)) same

@@ -52,10 +52,8 @@ module _ (stack : Stack ℕ) (merge : Merge ℕ) (whole : IsWhole stack merge) (
       let found = named_below stack merge whole d ud real_d way there w k e
       (directory_no_whiteout (merge.upper.tree.node k) is) in
       ap (λ o. then_some o (λ n. cond (is_directory_node (merge.files.tree.node n))
-      (upper_object (merge.real n)) None)) found.1
-      ∙ ap (λ b. cond b (upper_object (merge.real found.0)) None)
-      (sym (directory_above stack merge whole found.0 k found.2) ∙ is)
-      ∙ ap upper_object found.2
+      (upper_object (merge.real n)) None)) found.1 ∙ ap (λ b. cond b (upper_object (merge.real found.0)) None)
+      (sym (directory_above stack merge whole found.0 k found.2) ∙ is) ∙ ap upper_object found.2
 
   -- where there is none, what has it is no directory
   pub none_named : upper_directory_named merge d w ≡ None
@@ -98,8 +96,7 @@ module _ (stack : Stack ℕ) (merge : Merge ℕ) (whole : IsWhole stack merge) (
 
 -- A directory loses its whiteouts and then its name
 module _ (top : ℕ) (files : FileTree ℕ) (good : IsGood top files) (d : ℕ) (w : List ℕ) (r : ℕ)
-    (named : entry_at files.tree d w ≡ Some r)
-    (leaves : (word : List ℕ) (k : ℕ) → entry_at files.tree r word ≡ Some k
+    (named : entry_at files.tree d w ≡ Some r) (leaves : (word : List ℕ) (k : ℕ) → entry_at files.tree r word ≡ Some k
     → is_directory_node (files.tree.node k) ≡ false)
     (apart : d ≢ r) (no_top : top ≢ r) (reached : IsReached files.tree d) where
   is : IsDirectory files.tree d
@@ -112,12 +109,10 @@ module _ (top : ℕ) (files : FileTree ℕ) (good : IsGood top files) (d : ℕ) 
   first = bare_goes files r good.tree leaves top good
 
   may : MayRemove emptied_first.tree d w r
-  may =
-      record {
-        named = bare_kept files r good.tree leaves d w r apart named;
-        empty = bare_there files r good.tree
-            leaves;
-      }
+  may = record {
+    named = bare_kept files r good.tree leaves d w r apart named;
+    empty = bare_there files r good.tree leaves;
+  }
 
   abbrev gone : FileTree ℕ
   gone = changed nat_eq emptied_first (Remove d w r)
@@ -148,47 +143,38 @@ module _ (top : ℕ) (files : FileTree ℕ) (good : IsGood top files) (d : ℕ) 
         ∙ ap is_some vacant)
 
     d_gone : IsDirectory gone.tree d × IsReached gone.tree d
-    d_gone =
-        change_reaches emptied_first (Remove d w r) first.good.tree may d apart
-        (bare_kind files r good.tree leaves d ∙ is)
-        (bare_reached files r good.tree leaves d is reached)
+    d_gone = change_reaches emptied_first (Remove d w r) first.good.tree may d apart
+        (bare_kind files r good.tree leaves d ∙ is) (bare_reached files r good.tree leaves d is reached)
 
     gone_vacant : gone.tree.node c ≡ None
-    gone_vacant =
-        none_from_not_some (gone.tree.node c)
+    gone_vacant = none_from_not_some (gone.tree.node c)
         (Rattle.vt_laws_trees.proofs.trees.ChangesNodes.part_stays (without_name nat_eq emptied_first d w) r
-        (node_with_parent r) is_some
-        (Rattle.vt_spec.proofs.NodeChanges.is_some-node_with_parent r) c
+        (node_with_parent r) is_some (Rattle.vt_spec.proofs.NodeChanges.is_some-node_with_parent r) c
         ∙ Rattle.vt_laws_trees.proofs.trees.ChangesNodes.part_stays emptied_first d (node_without_entry w) is_some
         (Rattle.vt_spec.proofs.NodeChanges.is_some-node_without_entry w) c
         ∙ bare_used files r good.tree leaves c ∙ ap is_some vacant)
 
     gone_free : (k : ℕ) → entry_at gone.tree d w ≡ Some k → is_directory_node (gone.tree.node k) ≡ false
-    gone_free k e =
-        none_is_some k (sym (ap (entry_named w)
+    gone_free k e = none_is_some k (sym (ap (entry_named w)
         (Rattle.vt_laws_trees.proofs.trees.ChangesNodes.part_stays (without_name nat_eq emptied_first d w) r
-        (node_with_parent r) entries_in
-        (Rattle.vt_spec.proofs.NodeChanges.entries-node_with_parent r) d)
+        (node_with_parent r) entries_in (Rattle.vt_spec.proofs.NodeChanges.entries-node_with_parent r) d)
         ∙ Rattle.vt_laws_trees.proofs.overlays.whole.UpperNames.without_name_free emptied_first d w) ∙ e)
 
     abbrev whited : FileTree ℕ → FileTree ℕ
     whited f = changed nat_eq f (Make d w c white)
 
     both_goes : Goes top files (whited gone)
-    both_goes =
-        goes_both top files gone (whited gone) gone_goes
+    both_goes = goes_both top files gone (whited gone) gone_goes
         (make_over top gone d w c white gone_goes.good d_gone.0 d_gone.1 gone_free gone_vacant fits)
 
     -- what is emptied beside it
     aside : (f : FileTree ℕ) (g : Option (Node ℕ) → Option (Node ℕ))
         → whited (changed_node nat_eq f r g) ≡ changed_node nat_eq (whited f) r g
-    aside f g =
-        ap (λ x. with_name nat_eq x d w c) (sym (inode_changed f c white r g r_differs))
+    aside f g = ap (λ x. with_name nat_eq x d w c) (sym (inode_changed f c white r g r_differs))
         ∙ two_changed (with_inode nat_eq f c white) r d g (node_with_entry w c) (λ same. apart (sym same))
 
     whited_is : whited gone ≡ without (whited files)
-    whited_is =
-        ap whited gone_is
+    whited_is = ap whited gone_is
         ∙ aside (changed_node nat_eq (without_name nat_eq files d w) r node_without_entries) (node_with_parent r)
         ∙ ap (λ f. changed_node nat_eq f r (node_with_parent r))
         (aside (without_name nat_eq files d w) node_without_entries)
@@ -227,22 +213,19 @@ removed_goes fresh stack merge d w object whole stands vacant may =
     empty : (n : ℕ) → entry_at merge.files.tree d w ≡ Some n → entries_in (merge.files.tree.node n) ≡ []
     empty n e = ap (λ k. entries_in (merge.files.tree.node k)) (same_Some n object (sym e ∙ may.named)) ∙ may.empty
 
-    by : (o : Option ℕ) → upper_directory_named merge d w ≡ o → (b : Bool)
-        → Goes stack.directory merge.upper
+    by : (o : Option ℕ) → upper_directory_named merge d w ≡ o → (b : Bool) → Goes stack.directory merge.upper
         (without_contents nat_eq (name_left_by nat_eq b fresh stack merge.upper (upper_of merge d) w) o)
     by None e false = freed_goes stack.directory merge.upper good (upper_of merge d) w
         (none_named stack merge whole d (upper_of merge d) real_d way.0 way.1 w e)
     by None e true =
         make_over stack.directory merge.upper (upper_of merge d) w (fresh 0) (whiteout_of stack.mounter) good is reached
         (none_named stack merge whole d (upper_of merge d) real_d way.0 way.1 w e) vacant (inr refl)
-    by (Some r) e false =
-        left_bare stack.directory merge.upper good (upper_of merge d) w r
+    by (Some r) e false = left_bare stack.directory merge.upper good (upper_of merge d) w r
         (own_entry stack merge whole d (upper_of merge d) real_d way.0 way.1 w r e empty)
         (own_leaves stack merge whole d (upper_of merge d) real_d way.0 way.1 w r e empty)
         (own_apart stack merge whole d (upper_of merge d) real_d way.0 way.1 w r e empty)
         (own_no_top stack merge whole d (upper_of merge d) real_d way.0 way.1 w r e empty) reached
-    by (Some r) e true =
-        left_white stack.directory merge.upper good (upper_of merge d) w r
+    by (Some r) e true = left_white stack.directory merge.upper good (upper_of merge d) w r
         (own_entry stack merge whole d (upper_of merge d) real_d way.0 way.1 w r e empty)
         (own_leaves stack merge whole d (upper_of merge d) real_d way.0 way.1 w r e empty)
         (own_apart stack merge whole d (upper_of merge d) real_d way.0 way.1 w r e empty)

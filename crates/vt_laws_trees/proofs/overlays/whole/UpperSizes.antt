@@ -22,18 +22,14 @@ use Rattle.vt_spec.proofs.Truths.{and_true_left, and_true_right}
 
 -- one that is there
 pub fits_here : (files : FileTree ℕ) → ListsNumbers nat_eq files → is_fit_tree files ≡ true → (n : ℕ)
-    → is_some (files.tree.node n) ≡ true
-    → fits (files.tree.node n) ≡ true
-fits_here files numbers h n there =
-    among_from_list_all (λ m. fits (files.tree.node m)) files.numbers h n
+    → is_some (files.tree.node n) ≡ true → fits (files.tree.node n) ≡ true
+fits_here files numbers h n there = among_from_list_all (λ m. fits (files.tree.node m)) files.numbers h n
     (among_numbers files.numbers n (numbers n ∙ there))
 
 -- each name of a directory
 pub name_fits : (files : FileTree ℕ) → ListsNumbers nat_eq files → is_fit_tree files ≡ true
-    → (d : ℕ) (w : List ℕ) (object : ℕ)
-    → entry_at files.tree d w ≡ Some object → is_fit_name w ≡ true
-name_fits files numbers h d w object e =
-    by (entries_in (files.tree.node d))
+    → (d : ℕ) (w : List ℕ) (object : ℕ) → entry_at files.tree d w ≡ Some object → is_fit_name w ≡ true
+name_fits files numbers h d w object e = by (entries_in (files.tree.node d))
     (of_node (files.tree.node d) (fits_here files numbers h d
     (directory_used files.tree d (has_entries files.tree d w object e)))) e
   where
@@ -93,8 +89,7 @@ emptied_sized files (Some r) h =
     (changed_fits_there files r node_without_entries (bare_fits (files.tree.node r)) h)
 
 pub left_sized : (fresh : Fresh ℕ) (stack : Stack ℕ) (files : FileTree ℕ) (d : ℕ) (w : List ℕ) (b : Bool)
-    → is_fit_name w ≡ true → is_fit_tree files ≡ true
-    → is_fit_tree (name_left_by nat_eq b fresh stack files d w) ≡ true
+    → is_fit_name w ≡ true → is_fit_tree files ≡ true → is_fit_tree (name_left_by nat_eq b fresh stack files d w) ≡ true
 left_sized fresh stack files d w true fit h =
     let white = with_inode nat_eq files (fresh 0) (whiteout_of stack.mounter) in
     name_sized white d w (fresh 0) fit (inode_fits files (fresh 0) (whiteout_of stack.mounter) refl h)

@@ -50,8 +50,7 @@ told_name P files d w k p x n y e = by (is_directory_node (files.tree.node d)) r
     by false is = ⊎_elim here other (eqb_tells x d)
       where
         here : (nat_eq x d ≡ true) × (x ≡ d) → (entry_at files.tree x n ≡ Some y) ⊎ P y
-        here t =
-            none_is_some y (sym (ap (λ m. entry_at (with_name nat_eq files d w k).tree m n) t.1
+        here t = none_is_some y (sym (ap (λ m. entry_at (with_name nat_eq files d w k).tree m n) t.1
             ∙ ap (entry_named n) (entries_in-no_directory ((with_name nat_eq files d w k).tree.node d)
             (ap is_directory_node (changed_node_there files d (node_with_entry w k))
             ∙ is_directory-node_with_entry w k (files.tree.node d) ∙ is))) ∙ e)
@@ -70,8 +69,7 @@ pub told_inode : (P : ℕ → Type 0) (files : FileTree ℕ) (c : ℕ) (node : N
 told_inode P files c node bare x n y e = ⊎_elim here other (eqb_tells x c)
   where
     here : (nat_eq x c ≡ true) × (x ≡ c) → (entry_at files.tree x n ≡ Some y) ⊎ P y
-    here t =
-        none_is_some y (sym (ap (λ m. entry_at (with_inode nat_eq files c node).tree m n) t.1
+    here t = none_is_some y (sym (ap (λ m. entry_at (with_inode nat_eq files c node).tree m n) t.1
         ∙ ap (λ o. entry_named n (entries_in o)) (node_set files.tree c (Some node)) ∙ ap (entry_named n) bare) ∙ e)
 
     other : (nat_eq x c ≡ false) × (x ≢ c) → (entry_at files.tree x n ≡ Some y) ⊎ P y
@@ -83,8 +81,7 @@ pub told_bare : (P : ℕ → Type 0) (files : FileTree ℕ) (r : ℕ)
 told_bare P files r x n y e = ⊎_elim here other (eqb_tells x r)
   where
     here : (nat_eq x r ≡ true) × (x ≡ r) → (entry_at files.tree x n ≡ Some y) ⊎ P y
-    here t =
-        none_is_some y (sym (ap (λ m. entry_at (changed_node nat_eq files r node_without_entries).tree m n) t.1
+    here t = none_is_some y (sym (ap (λ m. entry_at (changed_node nat_eq files r node_without_entries).tree m n) t.1
         ∙ ap (λ o. entry_named n (entries_in o)) (changed_node_there files r node_without_entries)
         ∙ ap (entry_named n) (entries-node_without_entries (files.tree.node r))) ∙ e)
 
@@ -110,19 +107,16 @@ told_marked P files false object = told_none P files
 
 -- a name that is left, with a whiteout or without one
 pub told_left : (P : ℕ → Type 0) (fresh : Fresh ℕ) (stack : Stack ℕ) (files : FileTree ℕ) (d : ℕ) (w : List ℕ)
-    (b : Bool) → P (fresh 0)
-    → Told P files (name_left_by nat_eq b fresh stack files d w)
+    (b : Bool) → P (fresh 0) → Told P files (name_left_by nat_eq b fresh stack files d w)
 told_left P fresh stack files d w true p =
     told_both P files (with_inode nat_eq files (fresh 0) (whiteout_of stack.mounter))
-    (name_left_by nat_eq true fresh stack files d w)
-    (told_inode P files (fresh 0) (whiteout_of stack.mounter) refl)
+    (name_left_by nat_eq true fresh stack files d w) (told_inode P files (fresh 0) (whiteout_of stack.mounter) refl)
     (told_name P (with_inode nat_eq files (fresh 0) (whiteout_of stack.mounter)) d w (fresh 0) p)
 told_left P fresh stack files d w false p = told_without P files d w
 
 -- a move
 pub told_moved : (P : ℕ → Type 0) (files : FileTree ℕ) (from : ℕ) (old : List ℕ) (to : ℕ) (new : List ℕ) (object : ℕ)
-    → P object
-    → Told P files (with_moved nat_eq files from old to new object)
+    → P object → Told P files (with_moved nat_eq files from old to new object)
 told_moved P files from old to new object p =
     let first = without_parent nat_eq files (entry_named new (entries_in (files.tree.node to))) in
     let second = without_name nat_eq first from old in

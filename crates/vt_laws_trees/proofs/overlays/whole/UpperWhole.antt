@@ -149,8 +149,7 @@ module _ (fresh : Fresh ℕ) (stack : Stack ℕ) (merge : Merge ℕ) (whole : Is
   -- the overlay's own tree
   pub files_changed : (change : Change ℕ) → IsAskedWell stack merge change
       → changed nat_eq merge.files change ≡ (merge_changed nat_eq fresh stack merge change).files
-  files_changed (Make d w number node) asked =
-      ap (λ files. changed nat_eq files (Make d w number node))
+  files_changed (Make d w number node) asked = ap (λ files. changed nat_eq files (Make d w number node))
       (sym (is_copied fresh stack merge whole distinct unused d
       (directory_used merge.files.tree d asked.0.name_is_free.in_directory)).files)
   files_changed (AddName d w object) may =
@@ -161,18 +160,14 @@ module _ (fresh : Fresh ℕ) (stack : Stack ℕ) (merge : Merge ℕ) (whole : Is
       let second = object_copied stack (odds fresh) (odds-distinct fresh distinct) one d first.whole
       (still_unused fresh stack merge whole distinct unused object may.is_there) there in
       ap (λ files. changed nat_eq files (AddName d w object)) (sym (second.copied.files ∙ first.files))
-  files_changed (Remove d w object) may =
-      ap (λ files. changed nat_eq files (Remove d w object))
+  files_changed (Remove d w object) may = ap (λ files. changed nat_eq files (Remove d w object))
       (sym (is_copied fresh stack merge whole distinct unused d
       (directory_used merge.files.tree d (has_entries merge.files.tree d w object may.named))).files)
-  files_changed (Move f old t new o) asked =
-      ap (λ files. changed nat_eq files (Move f old t new o))
+  files_changed (Move f old t new o) asked = ap (λ files. changed nat_eq files (Move f old t new o))
       (sym (twice fresh stack merge whole distinct unused f old t new o asked.0).files)
-  files_changed (SetBytes file bytes) there =
-      ap (λ files. changed nat_eq files (SetBytes file bytes))
+  files_changed (SetBytes file bytes) there = ap (λ files. changed nat_eq files (SetBytes file bytes))
       (sym (object_copied stack fresh distinct merge file whole unused there).copied.files)
-  files_changed (SetAttr object attr) there =
-      ap (λ files. changed nat_eq files (SetAttr object attr))
+  files_changed (SetAttr object attr) there = ap (λ files. changed nat_eq files (SetAttr object attr))
       (sym (object_copied stack fresh distinct merge object whole unused there).copied.files)
   files_changed (SetMark d opaque) asked = absurd asked
   files_changed (CopyUp object) there =
@@ -198,8 +193,7 @@ upper_trees_stay fresh stack merge change whole new asked is =
 
 pub merged_trees_stay : MergedTreesStay
 merged_trees_stay fresh stack merge change whole new asked is =
-    subst IsFileTree (files_changed fresh stack merge whole new change asked)
-    (record {
+    subst IsFileTree (files_changed fresh stack merge whole new change asked) (record {
       tree = changes_keep_trees merge.files change is.tree (proper stack merge change asked);
       numbers = changes_keep_numbers merge.files change is.numbers;
       own_parents = changes_keep_own_parents merge.files change is.tree is.own_parents

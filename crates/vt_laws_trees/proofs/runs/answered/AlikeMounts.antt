@@ -29,10 +29,8 @@ abbrev pub Keeps : (World ℕ → World ℕ) → Type 0
 Keeps step = (one other : World ℕ) → Alike one other → Alike (step one) (step other)
 
 -- it is enough to show it where the mounts are the very ones
-pub of_one : (step : World ℕ → World ℕ)
-    → ((one other : World ℕ) → Alike one (with_mounts_of one other)
-    → Alike (step one) (step (with_mounts_of one other)))
-    → Keeps step
+pub of_one : (step : World ℕ → World ℕ) → ((one other : World ℕ) → Alike one (with_mounts_of one other)
+    → Alike (step one) (step (with_mounts_of one other))) → Keeps step
 of_one step keeps one other same =
     mounts_of_one (λ world. Alike one world → Alike (step one) (step world)) one other same (keeps one other) same
 
@@ -58,8 +56,7 @@ taken_alike one other same gone again alike =
     (of_one (λ world. taken_away nat_eq world gone) (λ first second same.
     regrouped_alike _ _
     (with_mounts_alike first (with_mounts_of first second) same (map (after_going nat_eq first gone) first.mounts)
-    (map (after_going nat_eq first gone) first.mounts) refl))
-    one other same)
+    (map (after_going nat_eq first gone) first.mounts) refl)) one other same)
 
 pub unmounted_alike : (number : ℕ) (one other : World ℕ) → Alike one other
     → Alike (unmounted nat_eq one number) (unmounted nat_eq other number)
@@ -94,8 +91,7 @@ retyped_first fresh word named world = record world {
 }
 
 retyped_alike : (fresh : Fresh ℕ) (word : TypeWord) (named : List (Mount ℕ)) (one other : World ℕ)
-    → Alike one (with_mounts_of one other)
-    → Alike (regrouped nat_eq (retyped_first fresh word named one))
+    → Alike one (with_mounts_of one other) → Alike (regrouped nat_eq (retyped_first fresh word named one))
     (regrouped nat_eq (retyped_first fresh word named (with_mounts_of one other)))
 retyped_alike fresh word named one other same =
     regrouped_alike (retyped_first fresh word named one) (retyped_first fresh word named (with_mounts_of one other))
@@ -114,12 +110,10 @@ type_alike fresh number word recursive =
     of_one (λ world. with_type nat_eq fresh world number word recursive) (λ one other same.
     retyped_alike fresh word (named_mounts nat_eq one number recursive) one other same)
 
-pub flags_alike : (number : ℕ) (flags : MountFlags) (one other : World ℕ) → Alike one other
-    → Alike
+pub flags_alike : (number : ℕ) (flags : MountFlags) (one other : World ℕ) → Alike one other → Alike
     (with_mounts one (with_mount nat_eq one.mounts (record (mount_numbered nat_eq one number) { flags = flags })))
     (with_mounts other (with_mount nat_eq other.mounts (record (mount_numbered nat_eq other number) { flags = flags })))
-flags_alike number flags = of_one
-    (λ world. with_mounts world
+flags_alike number flags = of_one (λ world. with_mounts world
     (with_mount nat_eq world.mounts (record (mount_numbered nat_eq world number) { flags = flags })))
     (λ one other same. with_mounts_alike one (with_mounts_of one other) same _ _ refl)
 
@@ -130,8 +124,7 @@ points_same location one other same =
     let here = here_alike one other same location in
     (λ i. ((filesystem_at nat_eq one location).number, location.node)
     ∷ overlay_or [] (λ overlay. upper_points one (filesystem_at nat_eq one location)
-    overlay location.node) (here.plain i))
-    ∙ (λ i. (here.number i, location.node) ∷ [])
+    overlay location.node) (here.plain i)) ∙ (λ i. (here.number i, location.node) ∷ [])
     ∙ sym (λ i. ((filesystem_at nat_eq other location).number, location.node)
     ∷ overlay_or [] (λ overlay. upper_points other
     (filesystem_at nat_eq other location) overlay location.node) (here.plain_too i))

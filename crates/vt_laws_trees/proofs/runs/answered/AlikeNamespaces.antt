@@ -16,15 +16,13 @@ use Rattle.vt_spec.specs.Machine.World.{Namespace, Task, World, mounts_of, witho
 -- Tasks
 pub without_task_alike : (name : TaskName) (one other : World ℕ) → Alike one other
     → Alike (without_task one name) (without_task other name)
-without_task_alike name one other same =
-    with_tasks_alike one other same _ _
+without_task_alike name one other same = with_tasks_alike one other same _ _
     (each_filter SameTask (λ task. not (same_name name task.name)) (λ task. not (same_name name task.name))
     (λ a b alike. ap (λ task. not (same_name name task.name)) alike) one.tasks other.tasks same.tasks)
 
 pub with_child_alike : (one other : World ℕ) → Alike one other → (task again child : Task ℕ) (newborn : Task ℕ)
     → SameTask task again → SameTask child newborn → Alike (with_child one task child) (with_child other again newborn)
-with_child_alike one other same task again child newborn alike born =
-    with_tasks_alike one other same _ _
+with_child_alike one other same task again child newborn alike born = with_tasks_alike one other same _ _
     (each_append SameTask _ _ (child ∷ []) (newborn ∷ [])
     (replaced_alike one.tasks other.tasks same.tasks _ _ (λ i. record (alike i) { forks = (alike i).forks + 1 }))
     (born, tt))
@@ -60,28 +58,24 @@ ended_alike = of_one (namespaces_ended nat_eq) (λ one other same.
       mounts = taken.mounts;
       master = taken.master;
       filesystems = taken.filesystems;
-      namespaces =
-          each_filter SameNamespace (has_tasks nat_eq one) (has_tasks nat_eq (with_mounts_of one other))
+      namespaces = each_filter SameNamespace (has_tasks nat_eq one) (has_tasks nat_eq (with_mounts_of one other))
           (has_tasks_same one (with_mounts_of one other) same) one.namespaces other.namespaces same.namespaces;
       tasks = taken.tasks;
     })
 
 pub unshared_alike : (fresh : Fresh ℕ) (task again : Task ℕ) → SameTask task again → (one other : World ℕ)
     → Alike one other → Alike (unshared nat_eq one fresh task) (unshared nat_eq other fresh again)
-unshared_alike fresh task again alike one other same =
-    mounts_of_one
+unshared_alike fresh task again alike one other same = mounts_of_one
     (λ world. Alike one world → Alike (unshared nat_eq one fresh task) (unshared nat_eq world fresh again)) one other
     same (λ same. record {
       mounts = λ i. one.mounts
           ++ map (copied_mount (numbers_by nat_eq (odds fresh) (copied i)) (evens fresh 0)) (copied i);
       master = refl;
       filesystems = same.filesystems;
-      namespaces =
-          each_append SameNamespace one.namespaces other.namespaces
+      namespaces = each_append SameNamespace one.namespaces other.namespaces
           (record { number = evens fresh 0; change = 0 } ∷ []) (record { number = evens fresh 0; change = 0 } ∷ [])
           same.namespaces (refl, tt);
-      tasks =
-          replaced_alike one.tasks other.tasks same.tasks _ _
+      tasks = replaced_alike one.tasks other.tasks same.tasks _ _
           (λ i. unshared_task nat_eq (copied i) (numbers_by nat_eq (odds fresh) (copied i)) (evens fresh 0) (alike i));
     }) same
   where
@@ -91,9 +85,7 @@ unshared_alike fresh task again alike one other same =
 pub entered_alike : (namespace : ℕ) (task again : Task ℕ) → SameTask task again → (one other : World ℕ)
     → Alike one other
     → Alike (namespace_entered nat_eq one task namespace) (namespace_entered nat_eq other again namespace)
-entered_alike namespace task again alike one other same =
-    mounts_of_one
-    (λ world. Alike one world
+entered_alike namespace task again alike one other same = mounts_of_one (λ world. Alike one world
     → Alike (namespace_entered nat_eq one task namespace) (namespace_entered nat_eq world again namespace)) one other
     same (λ same.
     with_task_alike one (with_mounts_of one other) same _ _
@@ -114,11 +106,8 @@ pivoted_alike namespace root new put = of_one (λ world. pivoted nat_eq world na
   where
     moved : (task again : Task ℕ) → SameTask task again
         → SameTask (pivoted_task nat_eq namespace root new task) (pivoted_task nat_eq namespace root new again)
-    moved task again alike =
-        chosen SameTask (nat_eq namespace task.namespace) (nat_eq namespace again.namespace)
-        (λ i. nat_eq namespace (alike i).namespace) _ task _ again
-        (λ i. record (alike i) {
+    moved task again alike = chosen SameTask (nat_eq namespace task.namespace) (nat_eq namespace again.namespace)
+        (λ i. nat_eq namespace (alike i).namespace) _ task _ again (λ i. record (alike i) {
           root = pivoted_location nat_eq root new (alike i).root;
           directory = pivoted_location nat_eq root new (alike i).directory;
-        })
-        alike
+        }) alike

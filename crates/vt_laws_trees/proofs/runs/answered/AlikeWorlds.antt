@@ -124,12 +124,7 @@ plain_alike [] (other ∷ others) same plain = absurd same
 plain_alike (one ∷ ones) [] same plain = absurd same
 plain_alike (one ∷ ones) (other ∷ others) same plain =
     let none : one.overlay ≡ None = none_from_not_some one.overlay (All-head Plain one ones plain) in (
-      record {
-        number = same.0.number;
-        files = same.0.files;
-        plain = none;
-        plain_too = sym same.0.overlay ∙ none;
-      },
+      record { number = same.0.number; files = same.0.files; plain = none; plain_too = sym same.0.overlay ∙ none },
       plain_alike ones others same.1 (All-tail Plain one ones plain),
     )
 
@@ -163,8 +158,7 @@ same_from_alike one other same = record {
   mounts = same.mounts;
   master = same.master;
   filesystems = alike_same one.filesystems other.filesystems same.filesystems;
-  namespaces =
-      each_to_one SameNamespace bare_namespace bare_namespace (λ a b e. e) one.namespaces other.namespaces
+  namespaces = each_to_one SameNamespace bare_namespace bare_namespace (λ a b e. e) one.namespaces other.namespaces
       same.namespaces;
   tasks = each_to_one SameTask bare_task bare_task (λ a b e. e) one.tasks other.tasks same.tasks;
 }
@@ -193,18 +187,15 @@ pub alike_onward : (one other last : World ℕ) → Alike one other → Alike ot
 alike_onward one other last same next = record {
   mounts = same.mounts ∙ next.mounts;
   master = same.master ∙ next.master;
-  filesystems =
-      each_onward AlikeFilesystem (λ a b c first second. record {
-        number = first.number ∙ second.number;
-        files = files_onward a.files b.files c.files first.files second.files;
-        plain = first.plain;
-        plain_too = second.plain_too;
-      }) one.filesystems other.filesystems last.filesystems same.filesystems next.filesystems;
-  namespaces =
-      each_onward SameNamespace (λ a b c first second. first ∙ second) one.namespaces other.namespaces
+  filesystems = each_onward AlikeFilesystem (λ a b c first second. record {
+    number = first.number ∙ second.number;
+    files = files_onward a.files b.files c.files first.files second.files;
+    plain = first.plain;
+    plain_too = second.plain_too;
+  }) one.filesystems other.filesystems last.filesystems same.filesystems next.filesystems;
+  namespaces = each_onward SameNamespace (λ a b c first second. first ∙ second) one.namespaces other.namespaces
       last.namespaces same.namespaces next.namespaces;
-  tasks =
-      each_onward SameTask (λ a b c first second. first ∙ second) one.tasks other.tasks last.tasks same.tasks
+  tasks = each_onward SameTask (λ a b c first second. first ∙ second) one.tasks other.tasks last.tasks same.tasks
       next.tasks;
 }
 

@@ -115,8 +115,7 @@ module _ (next : ℕ) where
       by true e = absurd (before (counted number e).0 (counted number e).1)
 
   pub counts_keep : (number : ℕ) → is_counted_before next number ≡ true → is_kept counts number ≡ true
-  counts_keep number named =
-      ⊎_elim
+  counts_keep number named = ⊎_elim
       (λ half. ap is_kept_lot (lot_at number false false (ne_eqb (number % 4) 3 (λ e. absurd (omega arith)))
       (not_counted number (λ rest low. absurd (omega arith)))))
       (λ t. let rest : number % 4 ≡ 1 = t.0 in let below : number / 4 < next = t.1 in
@@ -141,8 +140,7 @@ counts_serve next world keeps = (
 )
 
 pub counts_serve_named : CountsServeNamed
-counts_serve_named next world named =
-    counts_serve next world (named_is_kept (is_counted_before next) world named)
+counts_serve_named next world named = counts_serve next world (named_is_kept (is_counted_before next) world named)
 
 -- endless numbers are never given out
 endless : LeavesEndless may_be_given

@@ -23,8 +23,7 @@ module _ (allotment : Allotment) (place number : ℕ) (kept : allotment.lot numb
 
   apart_lots : (a b : ℕ) (first second : Lot) → allotment.lot a ≡ first → allotment.lot b ≡ second
       → (first ≡ second → ⊥) → (a == b) ≡ false
-  apart_lots a b first second one other apart =
-      ne_eqb a b (λ e. apart (sym one ∙ ap allotment.lot e ∙ other))
+  apart_lots a b first second one other apart = ne_eqb a b (λ e. apart (sym one ∙ ap allotment.lot e ∙ other))
 
   new_is_kept : (k : ℕ) → New k ≡ Kept → ⊥
   new_is_kept k e = cc
@@ -39,24 +38,19 @@ module _ (allotment : Allotment) (place number : ℕ) (kept : allotment.lot numb
   new_lot_with k = by (k == place) refl
     where
       by : (here : Bool) → (k == place) ≡ here → lot_with (cond here number (allotment.new k)) ≡ New k
-      by true is =
-          ap (λ b. choose b (number == allotment.new place) (allotment.lot number)) (eq-eqb number number refl)
+      by true is = ap (λ b. choose b (number == allotment.new place) (allotment.lot number)) (eq-eqb number number refl)
           ∙ ap New (sym (eqb-true k place is))
-      by false is =
-          (λ i. choose
+      by false is = (λ i. choose
           (apart_lots (allotment.new k) number (New k) Kept (allotment.new_lot k) kept (new_is_kept k) i)
           (apart_lots (allotment.new k) (allotment.new place) (New k) (New place) (allotment.new_lot k)
           (allotment.new_lot place) (λ e. eqb-false k place is (same_new k place e)) i)
-          (allotment.lot (allotment.new k)))
-          ∙ allotment.new_lot k
+          (allotment.lot (allotment.new k))) ∙ allotment.new_lot k
 
   pub left_lot_with : (k : ℕ) → lot_with (allotment.left_over k) ≡ LeftOver k
-  left_lot_with k =
-      (λ i. choose
+  left_lot_with k = (λ i. choose
       (apart_lots (allotment.left_over k) number (LeftOver k) Kept (allotment.left_over_lot k) kept (left_is_kept k) i)
       (apart_lots (allotment.left_over k) (allotment.new place) (LeftOver k) (New place) (allotment.left_over_lot k)
-      (allotment.new_lot place) (left_is_new k place) i)
-      (allotment.lot (allotment.left_over k)))
+      (allotment.new_lot place) (left_is_new k place) i) (allotment.lot (allotment.left_over k)))
       ∙ allotment.left_over_lot k
 
   pub lot_new_with : (other k : ℕ) → lot_with other ≡ New k → new_with k ≡ other
@@ -68,11 +62,9 @@ module _ (allotment : Allotment) (place number : ℕ) (kept : allotment.lot numb
           ap (λ b. cond b number (allotment.new k)) (eq-eqb k place (sym (same_new place k e)))
           ∙ sym (eqb-true other number first)
       by false true first second e = absurd (new_is_kept k (sym e))
-      by false false first second e =
-          ap (λ b. cond b number (allotment.new k))
+      by false false first second e = ap (λ b. cond b number (allotment.new k))
           (ne_eqb k place (λ at. eqb-false other (allotment.new place) second
-          (sym (allotment.lot_new other k e) ∙ ap allotment.new at)))
-          ∙ allotment.lot_new other k e
+          (sym (allotment.lot_new other k e) ∙ ap allotment.new at))) ∙ allotment.lot_new other k e
 
   pub lot_left_with : (other k : ℕ) → lot_with other ≡ LeftOver k → allotment.left_over k ≡ other
   lot_left_with other k = by (other == number) (other == allotment.new place)
@@ -156,11 +148,8 @@ module _ (next place inode : ℕ) (even : inode % 2 ≡ 0) where
           ap not (ne_eqb ((4 * (next + k) + 1) % 4) 3 (λ e. absurd (omega arith)))
 
   apart : (j k : ℕ) → handed_from next place inode j ≡ handed_from next place inode k → j ≡ k
-  apart j k e =
-      same_new j k
-      (sym (new_lot_with (counts next) place inode inode_kept j)
-      ∙ ap (lot_from next place inode) e
-      ∙ new_lot_with (counts next) place inode inode_kept k)
+  apart j k e = same_new j k (sym (new_lot_with (counts next) place inode inode_kept j)
+      ∙ ap (lot_from next place inode) e ∙ new_lot_with (counts next) place inode inode_kept k)
 
 pub numbers_are_allotted : NumbersAreAllotted
 numbers_are_allotted next place inode even = (allotted next place inode even, refl, refl, refl)

@@ -16,8 +16,7 @@ read_plain known (MountOverlay path options flags) = refl
 read_plain known call = refl
 
 module _ (grammar : Grammar) (out : (call : Call) → grammar.has call ≡ true → mounts_overlay call ≡ false) where
-  call_plain : (task : TaskName) (words : Option Call)
-      → asks_for_overlay (option_map (Calling task) (then_some words
+  call_plain : (task : TaskName) (words : Option Call) → asks_for_overlay (option_map (Calling task) (then_some words
       (λ call. when (grammar.has call) (call_read grammar.options call)))) ≡ false
   call_plain task None = refl
   call_plain task (Some call) = by (grammar.has call) refl
@@ -31,8 +30,7 @@ module _ (grammar : Grammar) (out : (call : Call) → grammar.has call ≡ true 
   calls_plain task [] = refl
   calls_plain task (name ∷ words) = by (grammar.knows name)
     where
-      by : (known : Bool)
-          → asks_for_overlay (cond known (option_map (Calling task)
+      by : (known : Bool) → asks_for_overlay (cond known (option_map (Calling task)
           (then_some (call_words grammar.version name words)
           (λ call. when (grammar.has call) (call_read grammar.options call)))) None) ≡ false
       by true = call_plain task (call_words grammar.version name words)

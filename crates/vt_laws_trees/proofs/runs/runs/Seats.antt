@@ -112,8 +112,7 @@ module _ (in_hand : ℕ → Bool) (leaves : LeavesEndless in_hand) where
           let rest : k % 2 ≡ 0 = eqb-true (k % 2) 0 is in
           let same : 2 * (k / 2) ≡ k = omega arith in
           ap (λ b. without_last b (leaves.left_over (k / 2))) (leaves.out (k / 2))
-          ∙ ap (λ n. leaves.left_over (2 * n)) (leaves.place_left (k / 2))
-          ∙ ap leaves.left_over same
+          ∙ ap (λ n. leaves.left_over (2 * n)) (leaves.place_left (k / 2)) ∙ ap leaves.left_over same
       whole k false is =
           let rest : k % 2 ≢ 0 = eqb-false (k % 2) 0 is in
           let same : 2 * (k / 2) + 1 ≡ k = omega arith in
@@ -121,13 +120,11 @@ module _ (in_hand : ℕ → Bool) (leaves : LeavesEndless in_hand) where
 
       by : (b : Bool) → in_hand number ≡ b → number_on (given_seat b number) ≡ number
       by true is = ap (λ b. without_last b number) is
-      by false is =
-          whole (leaves.place number) (leaves.place number % 2 == 0) refl ∙ leaves.left_place number is
+      by false is = whole (leaves.place number) (leaves.place number % 2 == 0) refl ∙ leaves.left_place number is
 
   left_is_seated : (k : ℕ) → seat_of (leaves.left_over k) ≡ left_seat (k % 2 == 0) k
   unfolding seat_of given_seat
-  left_is_seated k =
-      ap (λ b. given_seat b (leaves.left_over k)) (leaves.out k)
+  left_is_seated k = ap (λ b. given_seat b (leaves.left_over k)) (leaves.out k)
       ∙ ap (λ n. left_seat (n % 2 == 0) n) (leaves.place_left k)
 
   seat_on : (s : Seat) → seat_of (number_on s) ≡ s
@@ -146,10 +143,8 @@ module _ (in_hand : ℕ → Bool) (leaves : LeavesEndless in_hand) where
   seat_on (Elsewhere number) =
       let half : (2 * number + 1) / 2 ≡ number = omega arith in
       let rest : (2 * number + 1) % 2 ≡ 1 = omega arith in
-      left_is_seated (2 * number + 1)
-      ∙ ap (λ b. left_seat b (2 * number + 1))
-      (ne_eqb ((2 * number + 1) % 2) 0 (λ e. absurd (omega arith)))
-      ∙ ap Elsewhere half
+      left_is_seated (2 * number + 1) ∙ ap (λ b. left_seat b (2 * number + 1))
+      (ne_eqb ((2 * number + 1) % 2) 0 (λ e. absurd (omega arith))) ∙ ap Elsewhere half
 
   -- the renaming, and where it leads what is in hand
   seated : Renaming ℕ ℕ
@@ -198,9 +193,7 @@ module _ (in_hand : ℕ → Bool) (leaves : LeavesEndless in_hand) where
       a = start.renaming.there (fresh k)
 
       earlier : (j : ℕ) → j < k → swapped a k (start.renaming.there (fresh j)) ≡ j
-      earlier j less =
-          ap (swapped a k) (start.fixed j less)
-          ∙ swapped_other a k j
+      earlier j less = ap (swapped a k) (start.fixed j less) ∙ swapped_other a k j
           (λ e. let same : j ≡ k = opens.apart j k (omega arith) low
           (stay_apart start.renaming (fresh j) (fresh k) (start.fixed j less ∙ e)) in absurd (omega arith))
           (λ e. absurd (omega arith))
@@ -218,9 +211,6 @@ module _ (in_hand : ℕ → Bool) (leaves : LeavesEndless in_hand) where
               earlier j below
 
   pub started : (fresh : Fresh ℕ) → OpensInHand in_hand fresh → Start fresh 4
-  started fresh opens =
-      fixed_more fresh opens 3 (omega arith)
-      (fixed_more fresh opens 2 (omega arith)
-      (fixed_more fresh opens 1 (omega arith)
-      (fixed_more fresh opens 0 (omega arith)
+  started fresh opens = fixed_more fresh opens 3 (omega arith) (fixed_more fresh opens 2 (omega arith)
+      (fixed_more fresh opens 1 (omega arith) (fixed_more fresh opens 0 (omega arith)
       (record { renaming = seated; early = seated_first; fixed = λ j less. absurd (omega arith) }))))

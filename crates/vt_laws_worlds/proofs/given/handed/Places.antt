@@ -32,8 +32,7 @@ module _ (next : ℕ) (placed : Placed) (rest : List Placed) (before : Supply ne
   counted = ap (λ b. b || (placed.1 % 4 == 1 && nat_lt (placed.1 / 4) next)) (eq-eqb (placed.1 % 2) 0 even)
 
   kept : before.allotment.lot placed.1 ≡ Kept
-  kept = kept_lot (before.allotment.lot placed.1)
-      (before.keep placed.1 (beside next rest placed.1 counted apart))
+  kept = kept_lot (before.allotment.lot placed.1) (before.keep placed.1 (beside next rest placed.1 counted apart))
 
   abbrev with_one : Allotment
   with_one = with_number before.allotment placed.0 placed.1 kept

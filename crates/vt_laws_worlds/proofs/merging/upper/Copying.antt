@@ -43,8 +43,7 @@ module _ (files : FileTree ℕ) (tree : IsTree files.tree) (numbers : ListsNumbe
       → chain most (named_parent nat_eq files.tree) directory ≡ chain steps (named_parent nat_eq files.tree) directory
   chain_is zero most directory r h = up_at_root files tree most directory r ∙ sym (up_at_root files tree 0 directory r)
   chain_is (suc steps) zero directory r h = absurd (let no : ⊥ = omega arith in no)
-  chain_is (suc steps) (suc most) directory r h =
-      up_from files tree most steps directory r
+  chain_is (suc steps) (suc most) directory r h = up_from files tree most steps directory r
       ∙ ap (λ l. directory ∷ l) (chain_is steps most r.0 r.2 (omega arith))
       ∙ sym (up_from files tree steps steps directory r)
 
@@ -61,8 +60,7 @@ module _ (files : FileTree ℕ) (tree : IsTree files.tree) (numbers : ListsNumbe
 
   pub directories_count : (steps directory : ℕ) → ReachedIn files.tree steps directory
       → length (directories_to nat_eq files directory) ≡ suc steps
-  directories_count steps directory r =
-      ap length (directories_are steps directory r)
+  directories_count steps directory r = ap length (directories_are steps directory r)
       ∙ length-reverse (chain steps (named_parent nat_eq files.tree) directory) ∙ chain_length steps directory r
 
   -- the line to a directory is that of the directories down to it
@@ -105,8 +103,7 @@ module _ (files : FileTree ℕ) (tree : IsTree files.tree) (numbers : ListsNumbe
       by : (front : List (List ℕ)) (name : List ℕ) → length front ≡ steps → (o : Option ℕ)
           → led files.tree files.tree.root front ≡ o
           → option_and_then (λ parent. entry_at files.tree parent name) o ≡ Some directory
-          → ((path : List (List ℕ)) (above : ℕ) → length path ≡ steps
-          → led files.tree files.tree.root path ≡ Some above
+          → ((path : List (List ℕ)) (above : ℕ) → length path ≡ steps → led files.tree files.tree.root path ≡ Some above
           → IsDirectory files.tree above → ReachedIn files.tree steps above)
           → ReachedIn files.tree (suc steps) directory
       by front name n None l f before = none_is_some directory f
@@ -126,8 +123,7 @@ module _ (fresh : Fresh ℕ) (stack : Stack ℕ) (merge : Merge ℕ) (whole : Is
 
   -- an object with a name is copied after the directory of that
   pub copied_after : (object : ℕ) (name : ℕ × List ℕ) → a_name nat_eq merge.files object ≡ Some name
-      → copied_up nat_eq fresh merge object
-      ≡ copy_of nat_eq (copied_up nat_eq fresh merge name.0) object
+      → copied_up nat_eq fresh merge object ≡ copy_of nat_eq (copied_up nat_eq fresh merge name.0) object
       (fresh (length (directories_to nat_eq merge.files name.0)))
       ((copied_up nat_eq fresh merge name.0).files.tree.node object)
       (is_in_upper (copied_up nat_eq fresh merge name.0) object)
@@ -147,18 +143,15 @@ module _ (fresh : Fresh ℕ) (stack : Stack ℕ) (merge : Merge ℕ) (whole : Is
 
   directory_stays : (steps directory : ℕ) → ReachedIn merge.files.tree steps directory → StandsInUpper merge directory
       → copied_up nat_eq fresh merge directory ≡ merge
-  directory_stays zero directory r stands =
-      ap (copied_each nat_eq fresh 0 merge)
+  directory_stays zero directory r stands = ap (copied_each nat_eq fresh 0 merge)
       (line_is merge.files whole.tree whole.numbers 0 directory r
       ∙ ap (λ l. reverse l) (up_at_root merge.files whole.tree (length merge.files.numbers) directory r))
       ∙ one_stays merge directory (fresh 0) (merge.files.tree.node directory) (is_in_upper merge directory) stands
-  directory_stays (suc steps) directory r stands =
-      by (a_name nat_eq merge.files directory) refl
+  directory_stays (suc steps) directory r stands = by (a_name nat_eq merge.files directory) refl
       (directory_stays steps r.0 r.2 (stands_above stack merge whole r.0 r.1 directory r.3 stands))
     where
       by : (o : Option (ℕ × List ℕ)) → a_name nat_eq merge.files directory ≡ o
-          → copied_up nat_eq fresh merge r.0 ≡ merge
-          → copied_up nat_eq fresh merge directory ≡ merge
+          → copied_up nat_eq fresh merge r.0 ≡ merge → copied_up nat_eq fresh merge directory ≡ merge
       by None e above = absurd (true≢false
           (sym (has_a_name merge.files whole.numbers r.0 r.1 directory r.3) ∙ ap is_some e))
       by (Some name) e above =
@@ -175,16 +168,14 @@ module _ (fresh : Fresh ℕ) (stack : Stack ℕ) (merge : Merge ℕ) (whole : Is
     where
       by : (o : Option (ℕ × List ℕ)) → a_name nat_eq merge.files object ≡ o
           → copied_up nat_eq fresh merge object ≡ merge
-      by None e =
-          ap (λ o. copied_each nat_eq fresh 0 merge (line_by nat_eq merge.files object o)) e
+      by None e = ap (λ o. copied_each nat_eq fresh 0 merge (line_by nat_eq merge.files object o)) e
           ∙ one_stays merge object (fresh 0) (merge.files.tree.node object) (is_in_upper merge object) stands
       by (Some name) e =
           let entry = named_so merge.files whole.tree object name e in
           let reached = is_reached_in merge.files whole.tree name.0 name.1 object entry in
           copied_after object name e
           ∙ ap (λ m. copy_of nat_eq m object (fresh (length (directories_to nat_eq merge.files name.0)))
-          (m.files.tree.node object) (is_in_upper m object))
-          (directory_stays reached.0 name.0 reached.1
+          (m.files.tree.node object) (is_in_upper m object)) (directory_stays reached.0 name.0 reached.1
           (stands_above stack merge whole name.0 name.1 object entry stands))
           ∙ one_stays merge object _ (merge.files.tree.node object) (is_in_upper merge object) stands
 
@@ -211,8 +202,7 @@ module _ (fresh : Fresh ℕ) (stack : Stack ℕ) (merge : Merge ℕ) (whole : Is
 
       at : (u : ℕ) (white : Bool) → is_kind_in White (merge.upper.tree.node u) ≡ white
           → led_above stack merge.upper path ≡ Some u → ⊥
-      at u true e l =
-          no_real (merge.real object) refl
+      at u true e l = no_real (merge.real object) refl
           (real_here ∙ ap (real_by path) (on_top (view_in merge.upper stack.directory)
           (map view_of stack.lowers) path u true l e))
       at u false e l =
@@ -250,8 +240,7 @@ same_copied parent Whiteout Whiteout s = absurd (true≢false (sym s))
 
 -- an object is copied under its name in a directory that stands in the upper layer
 module _ (fresh : Fresh ℕ) (stack : Stack ℕ) (m : Merge ℕ) (whole : IsWhole stack m) (front : List (List ℕ))
-    (name : List ℕ) (parent object : ℕ)
-    (above : number_at_path m.files front ≡ Some parent)
+    (name : List ℕ) (parent object : ℕ) (above : number_at_path m.files front ≡ Some parent)
     (leads : number_at_path m.files (front ++ name ∷ []) ≡ Some object)
     (there : is_some (m.files.tree.node object) ≡ true) (stands : StandsInUpper m parent)
     (is : is_in_upper m object ≡ false → a_name nat_eq m.files object ≡ Some (parent, name)) where
@@ -259,23 +248,19 @@ module _ (fresh : Fresh ℕ) (stack : Stack ℕ) (m : Merge ℕ) (whole : IsWhol
   path = front ++ name ∷ []
 
   parent_is : object_above stack m.upper (without_last path) ≡ upper_of m parent
-  parent_is =
-      ap (object_above stack m.upper) (without_last_of_longer front name)
+  parent_is = ap (object_above stack m.upper) (without_last_of_longer front name)
       ∙ ap (λ o. unwrap_or o 0) (named_above stack m whole front parent (upper_of m parent) above
       (upper_real m parent stands))
 
   pub one_is_copied : (copy_of nat_eq m object (fresh (length path)) (m.files.tree.node object)
-      (is_in_upper m object)).upper
-      ≡ copied_at fresh stack m.upper path
+      (is_in_upper m object)).upper ≡ copied_at fresh stack m.upper path
   one_is_copied = by (m.files.tree.node object) refl (is_in_upper m object) refl
     where
       copy : ℕ
       copy = fresh (length path)
 
       named : Node ℕ → Option (ℕ × List ℕ) → FileTree ℕ
-      named node o =
-          copy_named nat_eq m copy o
-          (with_inode nat_eq m.upper copy
+      named node o = copy_named nat_eq m copy o (with_inode nat_eq m.upper copy
           (record { attr = node.attr; content = copied_content (copy_parent m copy o) node.content }))
 
       put : ℕ → List ℕ → Node ℕ → FileTree ℕ
@@ -284,24 +269,17 @@ module _ (fresh : Fresh ℕ) (stack : Stack ℕ) (m : Merge ℕ) (whole : IsWhol
       seen : (node : Node ℕ) → is_in_upper m object ≡ false → (o : Option (Node ℕ)) → SameObject (Some node) o
           → (copy_of_node nat_eq m object copy node).upper ≡ copy_over fresh stack m.upper path None o
       seen node low None same = absurd same
-      seen node low (Some other) same =
-          ap (named node) (is low)
-          ∙ (λ i. put (upper_of m parent) name
-          (record {
-            attr = same.0 i;
-            content = same_copied
-                (upper_of m parent) node.content other.content same.1 i;
-          }))
-          ∙ (λ i. put (sym parent_is i) (sym (last_of_longer front name []) i) (copy_node (sym parent_is i) other))
+      seen node low (Some other) same = ap (named node) (is low) ∙ (λ i. put (upper_of m parent) name (record {
+        attr = same.0 i;
+        content = same_copied (upper_of m parent) node.content other.content same.1 i;
+      })) ∙ (λ i. put (sym parent_is i) (sym (last_of_longer front name []) i) (copy_node (sym parent_is i) other))
 
       by : (o : Option (Node ℕ)) → m.files.tree.node object ≡ o → (b : Bool) → is_in_upper m object ≡ b
           → (copy_of nat_eq m object (fresh (length path)) o b).upper ≡ copied_at fresh stack m.upper path
       by None e b low = absurd (true≢false (sym there ∙ ap is_some e))
-      by (Some node) e true low =
-          sym (ap (λ o. copy_over fresh stack m.upper path o (node_seen stack m.upper path))
+      by (Some node) e true low = sym (ap (λ o. copy_over fresh stack m.upper path o (node_seen stack m.upper path))
           (led_stands fresh stack m whole object there path leads low))
-      by (Some node) e false low =
-          seen node low (node_seen stack m.upper path)
+      by (Some node) e false low = seen node low (node_seen stack m.upper path)
           (subst (λ o. SameObject o (node_seen stack m.upper path)) e
           (same_seen fresh stack m whole object there path leads))
           ∙ sym (ap (λ o. copy_over fresh stack m.upper path o (node_seen stack m.upper path))
@@ -318,14 +296,12 @@ prefixes_longer (first ∷ path) name =
 pub copied_longer : (fresh : Fresh ℕ) (stack : Stack ℕ) (upper : FileTree ℕ) (path : List (List ℕ)) (name : List ℕ)
     → copied_to fresh stack upper (path ++ name ∷ []) ≡ copied_at fresh stack (copied_to fresh stack upper path)
     (path ++ name ∷ [])
-copied_longer fresh stack upper path name =
-    ap (folded (copied_at fresh stack) upper) (prefixes_longer path name)
+copied_longer fresh stack upper path name = ap (folded (copied_at fresh stack) upper) (prefixes_longer path name)
     ∙ folded-snoc (copied_at fresh stack) upper (prefixes path) (path ++ name ∷ [])
 
 -- where the upper layer has the object of a path, nothing is copied
 led_before : (tree : Tree ℕ) (from : ℕ) (path : List (List ℕ)) (name : List ℕ)
-    → is_some (led tree from (path ++ name ∷ [])) ≡ true
-    → is_some (led tree from path) ≡ true
+    → is_some (led tree from (path ++ name ∷ [])) ≡ true → is_some (led tree from path) ≡ true
 led_before tree from path name e = by (led tree from path) (sym (ap is_some (last_name tree from path name)) ∙ e)
   where
     by : (o : Option ℕ) → is_some (option_and_then (λ d. entry_at tree d name) o) ≡ true → is_some o ≡ true
@@ -333,8 +309,7 @@ led_before tree from path name e = by (led tree from path) (sym (ap is_some (las
     by (Some d) e = refl
 
 pub none_copied : (fresh : Fresh ℕ) (stack : Stack ℕ) (upper : FileTree ℕ) (steps : ℕ) (path : List (List ℕ))
-    → length path ≡ steps
-    → is_some (led_above stack upper path) ≡ true → copied_to fresh stack upper path ≡ upper
+    → length path ≡ steps → is_some (led_above stack upper path) ≡ true → copied_to fresh stack upper path ≡ upper
 none_copied fresh stack upper steps [] n e = refl
 none_copied fresh stack upper zero (word ∷ path) n e = absurd (let no : ⊥ = omega (arith, n) in no)
 none_copied fresh stack upper (suc steps) (word ∷ path) n e =

@@ -30,8 +30,7 @@ use Rattle.std.proofs.lemmas.Option.{same_Some}
 use Rattle.vt_spec.proofs.Options.{none_is_some}
 
 module _ (fresh : Fresh ℕ) (stack : Stack ℕ) (merge : Merge ℕ) (whole : IsWhole stack merge)
-    (new : AreNew fresh merge.upper) (object : ℕ)
-    (there : is_some (merge.files.tree.node object) ≡ true) where
+    (new : AreNew fresh merge.upper) (object : ℕ) (there : is_some (merge.files.tree.node object) ≡ true) where
   abbrev later : Merge ℕ
   later = copied_up nat_eq fresh merge object
 
@@ -47,8 +46,7 @@ module _ (fresh : Fresh ℕ) (stack : Stack ℕ) (merge : Merge ℕ) (whole : Is
       let real = upper_real later object
       (stands_copied stack fresh new.distinct merge object whole new.unused there) in (
         copied.is,
-        ap upper_object real
-            ∙ sym (named_above stack later line.copied.whole path object (upper_of later object)
+        ap upper_object real ∙ sym (named_above stack later line.copied.whole path object (upper_of later object)
             (ap (λ files. number_at_path files path) line.copied.files ∙ leads) real)
             ∙ copied.copies.on path [] (append-nil path),
       )
@@ -80,8 +78,7 @@ module _ (fresh : Fresh ℕ) (stack : Stack ℕ) (merge : Merge ℕ) (whole : Is
 
       alone : (o : Option (Node ℕ)) → merge.files.tree.node object ≡ o
           → later ≡ copy_of nat_eq merge object (fresh 0) o false
-      alone o e =
-          ap (λ n. copied_each nat_eq fresh 0 merge (line_by nat_eq merge.files object n)) (no_name is.1)
+      alone o e = ap (λ n. copied_each nat_eq fresh 0 merge (line_by nat_eq merge.files object n)) (no_name is.1)
           ∙ (λ i. copy_of nat_eq merge object (fresh 0) (e i) (low i))
 
       by : (o : Option (Node ℕ)) → merge.files.tree.node object ≡ o → (s : Option (Node ℕ))
@@ -96,15 +93,11 @@ module _ (fresh : Fresh ℕ) (stack : Stack ℕ) (merge : Merge ℕ) (whole : Is
       by (Some node) e (Some other) f same =
           let both : SameObject (Some node) (Some other) = subst (λ o. SameObject o (Some other)) e
           (subst (SameObject (merge.files.tree.node object)) f same) in (
-            ap (λ m. m.upper) (alone (Some node) e)
-                ∙ ap (λ o. copy_named nat_eq merge (fresh 0) o
-                (with_inode nat_eq merge.upper (fresh 0)
-                (record {
+            ap (λ m. m.upper) (alone (Some node) e) ∙ ap (λ o. copy_named nat_eq merge (fresh 0) o
+                (with_inode nat_eq merge.upper (fresh 0) (record {
                   attr = node.attr;
-                  content = copied_content
-                      (copy_parent merge (fresh 0) o) node.content;
-                }))) (no_name is.1)
-                ∙ (λ i. with_inode nat_eq merge.upper (fresh 0)
+                  content = copied_content (copy_parent merge (fresh 0) o) node.content;
+                }))) (no_name is.1) ∙ (λ i. with_inode nat_eq merge.upper (fresh 0)
                 (record { attr = both.0 i; content = same_copied (fresh 0) node.content other.content both.1 i }))
                 ∙ sym (ap (held_over fresh merge.upper) f),
             ap (λ m. upper_object (m.real object)) (alone (Some node) e)
@@ -122,8 +115,7 @@ copies_are_of_prefixes fresh stack merge object place whole new there is =
 
 -- what a path of an overlay leads to is there
 pub path_there : (stack : Stack ℕ) (merge : Merge ℕ) → IsWhole stack merge → (path : List (List ℕ)) (object : ℕ)
-    → number_at_path merge.files path ≡ Some object
-    → is_some (merge.files.tree.node object) ≡ true
+    → number_at_path merge.files path ≡ Some object → is_some (merge.files.tree.node object) ≡ true
 path_there stack merge whole path object leads =
     led_is_there (record { tree = merge.files.tree; directory = merge.files.tree.root }) whole.tree
     whole.tree.root_directory path object leads
@@ -148,8 +140,7 @@ prefixes_lead_to_copies fresh stack merge whole new path some = by (number_at_pa
 lower_place : (views : List (View ℕ)) (k : ℕ) (path : List (List ℕ)) (seen : Shown ℕ)
     → shown_from (k + 1) views path ≡ Some seen → (n : ℕ) × (seen.layer ≡ suc n)
 lower_place [] k path seen e = none_is_some seen e
-lower_place (view ∷ views) k path seen e = by (view.leads path) (cuts view path) e
-    (lower_place views (k + 1) path seen)
+lower_place (view ∷ views) k path seen e = by (view.leads path) (cuts view path) e (lower_place views (k + 1) path seen)
   where
     by : (o : Option ℕ) (b : Bool) → shown_over view (k + 1) o b (shown_from ((k + 1) + 1) views path) ≡ Some seen
         → (shown_from ((k + 1) + 1) views path ≡ Some seen → (n : ℕ) × (seen.layer ≡ suc n))
@@ -191,14 +182,12 @@ module _ (stack : Stack ℕ) (one other : FileTree ℕ) (way : List (List ℕ)) 
   lower_seen = shown_from 1 (map view_of stack.lowers) (way ++ name ∷ [])
 
   pub seen_same : seen_below stack other (way ++ name ∷ []) ≡ seen_below stack one (way ++ name ∷ [])
-  seen_same =
-      ap (λ p. cond (cuts (view_in other stack.directory) p) None lower_seen) (without_last_of_longer way name)
+  seen_same = ap (λ p. cond (cuts (view_in other stack.directory) p) None lower_seen) (without_last_of_longer way name)
       ∙ ap (λ b. cond b None lower_seen) cut
       ∙ ap (λ p. cond (cuts (view_in one stack.directory) p) None lower_seen) (sym (without_last_of_longer way name))
 
   pub directory_same : directory_below stack other (way ++ name ∷ []) ≡ directory_below stack one (way ++ name ∷ [])
-  directory_same =
-      ap (is_directory_shown (layers_with stack other)) seen_same
+  directory_same = ap (is_directory_shown (layers_with stack other)) seen_same
       ∙ directory_below_any (record { tree = other.tree; directory = stack.directory })
       (record { tree = one.tree; directory = stack.directory })
       stack.lowers (way ++ name ∷ []) (cuts (view_in one stack.directory) (without_last (way ++ name ∷ [])))
@@ -221,8 +210,7 @@ copies_hide_nothing fresh stack merge whole new path way directory name some lea
         ∙ cuts_stay fresh new.distinct stack merge whole new.unused path object there e way directory leads.0 leads.1
         in (
           seen_same stack merge.upper (copied_to fresh stack merge.upper path) way name cut,
-          directory_same stack
-              merge.upper (copied_to fresh stack merge.upper path) way name cut,
+          directory_same stack merge.upper (copied_to fresh stack merge.upper path) way name cut,
         )
 
 -- what a path leads to in the upper layer is the real object of what is there
@@ -235,9 +223,7 @@ led_real stack merge whole path number u leads led = by (is_in_upper merge numbe
     there = path_there stack merge whole path number leads
 
     by : (b : Bool) → is_in_upper merge number ≡ b → merge.real number ≡ Some (Upper u)
-    by true stands =
-        upper_real merge number stands
-        ∙ ap (λ o. Some (Upper o)) (same_Some (upper_of merge number) u
+    by true stands = upper_real merge number stands ∙ ap (λ o. Some (Upper o)) (same_Some (upper_of merge number) u
         (sym (named_above stack merge whole path number (upper_of merge number) leads
         (upper_real merge number stands)) ∙ led))
     by false low = none_is_some u (sym (led_none (λ k. k) stack merge whole number there path leads low) ∙ led)

@@ -44,8 +44,7 @@ same_from_alike one other same = record {
   mounts = same.mounts;
   master = same.master;
   filesystems = all_filesystems one.filesystems other.filesystems same.filesystems;
-  namespaces =
-      each_to_one SameNamespace bare_namespace bare_namespace (λ a b e. e) one.namespaces other.namespaces
+  namespaces = each_to_one SameNamespace bare_namespace bare_namespace (λ a b e. e) one.namespaces other.namespaces
       same.namespaces;
   tasks = each_to_one SameTask bare_task bare_task (λ a b e. e) one.tasks other.tasks same.tasks;
 }
@@ -70,16 +69,13 @@ pub alike_onward : (one other last : World ℕ) → Alike one other → Alike ot
 alike_onward one other last same next = record {
   mounts = same.mounts ∙ next.mounts;
   master = same.master ∙ next.master;
-  filesystems =
-      each_onward SameFilesystem (λ a b c first second. record {
-        number = first.number ∙ second.number;
-        files = files_onward a.files b.files c.files first.files second.files;
-        overlay = first.overlay ∙ second.overlay;
-      }) one.filesystems other.filesystems last.filesystems same.filesystems next.filesystems;
-  namespaces =
-      each_onward SameNamespace (λ a b c first second. first ∙ second) one.namespaces other.namespaces
+  filesystems = each_onward SameFilesystem (λ a b c first second. record {
+    number = first.number ∙ second.number;
+    files = files_onward a.files b.files c.files first.files second.files;
+    overlay = first.overlay ∙ second.overlay;
+  }) one.filesystems other.filesystems last.filesystems same.filesystems next.filesystems;
+  namespaces = each_onward SameNamespace (λ a b c first second. first ∙ second) one.namespaces other.namespaces
       last.namespaces same.namespaces next.namespaces;
-  tasks =
-      each_onward SameTask (λ a b c first second. first ∙ second) one.tasks other.tasks last.tasks same.tasks
+  tasks = each_onward SameTask (λ a b c first second. first ∙ second) one.tasks other.tasks last.tasks same.tasks
       next.tasks;
 }

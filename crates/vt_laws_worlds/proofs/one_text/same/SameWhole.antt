@@ -47,8 +47,6 @@ any_same_worlds_are_worlds one other same is =
       namespaces = kept.0.namespaces;
       tasks = kept.0.tasks;
       roots = kept.0.roots;
-      nothing_unused =
-          nothing_goes other
-          (mounts_of_one (λ world. Alike one world → AllInUse world) one other alike
+      nothing_unused = nothing_goes other (mounts_of_one (λ world. Alike one world → AllInUse world) one other alike
           (λ whole. in_use one other whole (all_in_use one is)) alike);
     }

@@ -57,8 +57,7 @@ use Rattle.vt_laws_worlds.proofs.worlds.ReachedWalks.{Found, link_walk_found, ob
 use Rattle.vt_laws_trees.proofs.trees.PlacesReached.{NewPlace, file_is, new_is, new_leaf_is, old_is, old_leaf_is, rename_new_is}
 
 module _ (world : World ℕ) (whole : IsWorld nat_eq world) (task : Task ℕ)
-    (called : task_called world task.name ≡ Some task)
-    (fresh : Fresh ℕ) (serves : Serves nat_eq world fresh) where
+    (called : task_called world task.name ≡ Some task) (fresh : Fresh ℕ) (serves : Serves nat_eq world fresh) where
   abbrev looks : Looks ℕ
   looks = looks_of nat_eq world
 
@@ -71,8 +70,7 @@ module _ (world : World ℕ) (whole : IsWorld nat_eq world) (task : Task ℕ)
       → is_special place.last ≡ false → is_some place.object ≡ false → IsNewIn place.parent.node node
       → MayMake (files_at nat_eq world place.parent).tree place.parent.node (name_of place.last) (evens fresh 0) node
   may_be_made place node is passed named missing fits = record {
-    name_is_free =
-        place_is_free world place is named missing passed
+    name_is_free = place_is_free world place is named missing passed
         (tree_here world whole place.parent (file_named world place.parent place.last place.object named is).0);
     number_is_new = new_at fresh world place.parent (new_numbers world fresh whole serves) (2 * 0);
     fits = fits;
@@ -106,8 +104,7 @@ module _ (world : World ℕ) (whole : IsWorld nat_eq world) (task : Task ℕ)
       → Asks (ToOpen file access)
   opened_asked file access = by (is_copied_up nat_eq world file access)
     where
-      by : (b : Bool) → is_some (node_at nat_eq world file) ≡ true
-          → AsksWellIf world (when b (file, CopyUp file.node))
+      by : (b : Bool) → is_some (node_at nat_eq world file) ≡ true → AsksWellIf world (when b (file, CopyUp file.node))
       by true there = (there, tt)
       by false there = tt
 
@@ -115,8 +112,7 @@ module _ (world : World ℕ) (whole : IsWorld nat_eq world) (task : Task ℕ)
   seen_in : (place : Place ℕ) (plain : is_special place.last ≡ false) (is : IsOldPlace world task place)
       → node_at nat_eq world (object_there place)
       ≡ (files_at nat_eq world place.parent).tree.node (object_there place).node
-  seen_in place plain is =
-      ap (λ m. node_at nat_eq world (record { mount = m; node = (object_there place).node }))
+  seen_in place plain is = ap (λ m. node_at nat_eq world (record { mount = m; node = (object_there place).node }))
       (old_mount world task place plain is)
 
   -- an open file is a regular one
@@ -144,11 +140,9 @@ module _ (world : World ℕ) (whole : IsWorld nat_eq world) (task : Task ℕ)
       by attr Whiteout f g = absurd (true≢false (sym f))
 
   file_fits : (file : Location ℕ) → is_some (node_at nat_eq world file) ≡ true → fits (node_at nat_eq world file) ≡ true
-  file_fits file there =
-      fits_here (files_at nat_eq world file)
+  file_fits file there = fits_here (files_at nat_eq world file)
       (numbered_anyhow (λ (f : Filesystem ℕ). ListsNumbers nat_eq f.files)
-      (mount_at nat_eq world file).filesystem world.filesystems
-      whole.files.numbers (λ k. refl))
+      (mount_at nat_eq world file).filesystem world.filesystems whole.files.numbers (λ k. refl))
       (numbered_anyhow (λ (f : Filesystem ℕ). is_fit_filesystem f ≡ true)
       (mount_at nat_eq world file).filesystem world.filesystems
       (all_from_among (λ (f : Filesystem ℕ). is_fit_filesystem f ≡ true) world.filesystems
@@ -166,17 +160,16 @@ module _ (world : World ℕ) (whole : IsWorld nat_eq world) (task : Task ℕ)
       (bytes_small (node_at nat_eq world file) kind (file_fits file there)) in
       let room = ltb-false largest_file (offset + length (byte ∷ bytes)) short in (
         there,
-        le-leb (length (overwritten offset (byte ∷ bytes) old)) largest_file
-            (omega (
-              arith,
-              length-append (take offset (padded offset old) ++ (byte ∷ bytes))
-                  (drop (offset + length (byte ∷ bytes)) old),
-              length-append (take offset (padded offset old)) (byte ∷ bytes),
-              length-drop (offset + length (byte ∷ bytes)) old,
-              length-take offset (padded offset old),
-              room,
-              small,
-            )),
+        le-leb (length (overwritten offset (byte ∷ bytes) old)) largest_file (omega (
+          arith,
+          length-append (take offset (padded offset old) ++ (byte ∷ bytes))
+              (drop (offset + length (byte ∷ bytes)) old),
+          length-append (take offset (padded offset old)) (byte ∷ bytes),
+          length-drop (offset + length (byte ∷ bytes)) old,
+          length-take offset (padded offset old),
+          room,
+          small,
+        )),
       )
 
   pub granted_asks : (call : Call) (permit : Permit ℕ)
@@ -209,8 +202,7 @@ module _ (world : World ℕ) (whole : IsWorld nat_eq world) (task : Task ℕ)
       at_end (λ (here : Here ℕ). Found world whole task called here.location) (symlink_walk nat_eq looks task old)
       from (link_walk_found world whole task called old) from_end in
       let is = new_leaf_is world task new place end in (
-        may_link world task from.location place found.1 is.0 named.0 passed
-            (tree_here world whole place.parent
+        may_link world task from.location place found.1 is.0 named.0 passed (tree_here world whole place.parent
             (place_named world place.parent place.last place.object named.0 is.0.0).0),
         fit_name_of place.last named.0 is.1,
       )

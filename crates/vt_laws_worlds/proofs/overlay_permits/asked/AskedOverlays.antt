@@ -38,27 +38,22 @@ module _ (world : World ℕ) (location : Location ℕ) (overlay : Overlay ℕ) (
 
   -- O1, in the words of a change of an overlay
   below_by : (o : Option (Overlay ℕ)) (u : Option (Layer ℕ)) (path : List (List ℕ)) → (overlay.upper ≡ u)
-      → (o ≡ Some overlay)
-      → u ≡ Some upper
-      → overlay_or false (λ (v : Overlay ℕ). has_lower_directory
+      → (o ≡ Some overlay) → u ≡ Some upper → overlay_or false (λ (v : Overlay ℕ). has_lower_directory
       (map (open_layer nat_eq world) (option_to_list v.upper)) (map (open_layer nat_eq world) v.lowers) path) o
       ≡ has_lower_directory (open_layer nat_eq world upper ∷ []) (map (open_layer nat_eq world) overlay.lowers) path
-  below_by o u path e f g =
-      ap (overlay_or false (λ (v : Overlay ℕ). has_lower_directory
+  below_by o u path e f g = ap (overlay_or false (λ (v : Overlay ℕ). has_lower_directory
       (map (open_layer nat_eq world) (option_to_list v.upper)) (map (open_layer nat_eq world) v.lowers) path)) f
       ∙ ap (λ x. has_lower_directory (map (open_layer nat_eq world) (option_to_list x))
       (map (open_layer nat_eq world) overlay.lowers) path) (e ∙ g)
 
-  asked_well : (change : Change ℕ) → AsksWell world location change
-      → IsAskedWell (stack_of nat_eq world overlay upper)
+  asked_well : (change : Change ℕ) → AsksWell world location change → IsAskedWell (stack_of nat_eq world overlay upper)
       (merge_of nat_eq world (filesystem_at nat_eq world location) overlay upper) change
   asked_well (Make d w number node) asked = (asked.0, asked.1 an_overlay)
   asked_well (AddName d w object) asked = asked
   asked_well (Remove d w object) asked = asked
   asked_well (Move from old to new object) asked = (
     asked.0,
-    λ directory.
-        sym (below_by (filesystem_at nat_eq world location).overlay overlay.upper
+    λ directory. sym (below_by (filesystem_at nat_eq world location).overlay overlay.upper
         (path_of_name nat_eq world (record { mount = location.mount; node = from }) old) refl is has)
         ∙ asked.1 directory,
   )
@@ -69,6 +64,5 @@ module _ (world : World ℕ) (location : Location ℕ) (overlay : Overlay ℕ) (
 
 pub permits_ask_overlays_well : PermitsAskOverlaysWell
 permits_ask_overlays_well world fresh task call permit location change overlay upper whole serves called judged asks is
-    has =
-    asked_well world location overlay upper is has change
+    has = asked_well world location overlay upper is has change
     (subst (AsksWellIf world) asks (permits_ask_well world fresh task call permit whole serves called judged)).0

@@ -65,8 +65,7 @@ module _ (world : World ℕ) (task : Task ℕ) (fresh : Fresh ℕ) where
   -- The object of an old place is in the filesystem of its directory
   in_it : (place : Place ℕ) → is_special place.last ≡ false → IsOldPlace world task place
       → (mount_at nat_eq world (object_there place)).filesystem ≡ (mount_at nat_eq world place.parent).filesystem
-  in_it place plain is =
-      ap (λ m. (mount_at nat_eq world (record { mount = m; node = 0 })).filesystem)
+  in_it place plain is = ap (λ m. (mount_at nat_eq world (record { mount = m; node = 0 })).filesystem)
       (old_mount world task place plain is)
 
   -- unlink(2) and rmdir(2)
@@ -89,8 +88,7 @@ module _ (world : World ℕ) (task : Task ℕ) (fresh : Fresh ℕ) where
       → list_any (is_locked_at nat_eq world) (option_to_list to.object) ≡ false
       → (inode : ℕ) → is_locked nat_eq world (mount_at nat_eq world to.parent).filesystem inode ≡ true
       → entry_at (files_at nat_eq world to.parent).tree to.parent.node (name_of to.last) ≢ Some inode
-  not_replaced to named is unlocked inode locked e =
-      true≢false (sym locked ∙ or_false_left
+  not_replaced to named is unlocked inode locked e = true≢false (sym locked ∙ or_false_left
       (is_locked_at nat_eq world (record { mount = to.parent.mount; node = inode })) false
       (ap (λ o. list_any (is_locked_at nat_eq world) (option_to_list o))
       (sym ((place_named world to.parent to.last to.object named is.0).1
@@ -99,12 +97,10 @@ module _ (world : World ℕ) (task : Task ℕ) (fresh : Fresh ℕ) where
   written_spared : (file : Location ℕ) (offset : ℕ) (bytes : List ℕ) → is_locked_at nat_eq world file ≡ false
       → SparesLockedIf world (written_if_some world file offset bytes)
   written_spared file offset [] unlocked = tt
-  written_spared file offset (byte ∷ bytes) unlocked =
-      record {
-        spares = λ inode locked. differs file unlocked _ refl inode
-            locked;
-        layer = tt;
-      }
+  written_spared file offset (byte ∷ bytes) unlocked = record {
+    spares = λ inode locked. differs file unlocked _ refl inode locked;
+    layer = tt;
+  }
 
   granted_spares : (call : Call) (permit : Permit ℕ)
       → IsGranted nat_eq looks (overfills nat_eq fresh world task) task call permit → Spares permit
@@ -119,8 +115,7 @@ module _ (world : World ℕ) (task : Task ℕ) (fresh : Fresh ℕ) where
   granted_spares call permit (makes_whiteout path place end passed) =
       made_spared place (whiteout_made task) passed.1.1.1.1.0 passed.1.1.1.0
   granted_spares call permit (makes_hard_link old new from place from_end end named passed) = record {
-    spares = λ inode locked.
-        differs place.parent (or_false_right (is_locked_at nat_eq world from.location)
+    spares = λ inode locked. differs place.parent (or_false_right (is_locked_at nat_eq world from.location)
         (is_locked_at nat_eq world place.parent) passed.1.1.1.1.0) _ refl inode locked;
     layer = tt;
   }

@@ -94,8 +94,7 @@ module _ (world : World ℕ) (fresh : Fresh ℕ) (conditions : IsWorld nat_eq wo
   every_second : AreLeft (odds fresh)
   every_second = (
     λ j k e. let same = served-distinct world fresh serves _ _ e in omega (arith, same),
-    λ filesystem k. unused filesystem
-        (2 * k + 1),
+    λ filesystem k. unused filesystem (2 * k + 1),
   )
 
   pub are_left : (permit : Permit ℕ) → AreLeft (numbers_left fresh permit)

@@ -24,8 +24,7 @@ use Rattle.vt_laws_worlds.proofs.overlay_permits.changed.ChangedOverlays.{are_le
 -- A change of filesystems depends on filesystems alone
 module _ (fresh : Fresh ℕ) (change : Change ℕ) where
   after_in : World ℕ → ℕ → List (Filesystem ℕ)
-  after_in w n =
-      (filesystem_changed nat_eq fresh w (filesystem_numbered nat_eq w n)
+  after_in w n = (filesystem_changed nat_eq fresh w (filesystem_numbered nat_eq w n)
       (filesystem_numbered nat_eq w n).overlay change).filesystems
 
   -- worlds that differ elsewhere
@@ -35,8 +34,7 @@ module _ (fresh : Fresh ℕ) (change : Change ℕ) where
   by_overlay a b f None = refl
   by_overlay a b f (Some v) = by v.upper
     where
-      by : (u : Option (Layer ℕ))
-          → (Rattle.vt_spec.specs.Machine.Filesystems.overlay_changed nat_eq fresh
+      by : (u : Option (Layer ℕ)) → (Rattle.vt_spec.specs.Machine.Filesystems.overlay_changed nat_eq fresh
           (record a { filesystems = b.filesystems }) f v u change).filesystems
           ≡ (Rattle.vt_spec.specs.Machine.Filesystems.overlay_changed nat_eq fresh b f v u change).filesystems
       by None = refl
@@ -44,8 +42,7 @@ module _ (fresh : Fresh ℕ) (change : Change ℕ) where
 
   after_same : (a b : World ℕ) → a.filesystems ≡ b.filesystems → (n : ℕ) → after_in a n ≡ after_in b n
   unfolding after_in
-  after_same a b same n =
-      ap (λ fs. (filesystem_changed nat_eq fresh (record a { filesystems = fs })
+  after_same a b same n = ap (λ fs. (filesystem_changed nat_eq fresh (record a { filesystems = fs })
       (filesystem_numbered nat_eq (record a { filesystems = fs }) n)
       (filesystem_numbered nat_eq (record a { filesystems = fs }) n).overlay change).filesystems) same
       ∙ by_overlay a b (filesystem_numbered nat_eq b n) (filesystem_numbered nat_eq b n).overlay
@@ -61,8 +58,7 @@ module _ (fresh : Fresh ℕ) (change : Change ℕ) where
 -- the filesystems after a permit
 abbrev Makes : World ℕ → Fresh ℕ → Task ℕ → Permit ℕ → Option (Location ℕ × Change ℕ) → Type 0
 Makes world fresh task permit None = ⊤
-Makes world fresh task permit (Some made) =
-    (apply nat_eq fresh world task permit).world.filesystems
+Makes world fresh task permit (Some made) = (apply nat_eq fresh world task permit).world.filesystems
     ≡ (with_change nat_eq (numbers_left fresh permit) world made.0 made.1).filesystems
 
 -- open(2), with a copy or without one
@@ -120,27 +116,23 @@ merged_in a b f o is = record {
 
 pub overlays_in : (a b : World ℕ) → a.filesystems ≡ b.filesystems → OverlayInvariants nat_eq b
     → OverlayInvariants nat_eq a
-overlays_in a b same is =
-    subst (λ fs. OverlayInvariants nat_eq (record a { filesystems = fs })) (sym same)
-    (record {
-      overlays_merge = λ n o e. merged_in a b (filesystem_numbered nat_eq b n) o (is.overlays_merge n o e);
-      fit_layers = is.fit_layers;
-      plain_layers = is.plain_layers;
-      changed_apart = is.changed_apart;
-      lowers_apart = is.lowers_apart;
-      uppers_reached = is.uppers_reached;
-    })
+overlays_in a b same is = subst (λ fs. OverlayInvariants nat_eq (record a { filesystems = fs })) (sym same) (record {
+  overlays_merge = λ n o e. merged_in a b (filesystem_numbered nat_eq b n) o (is.overlays_merge n o e);
+  fit_layers = is.fit_layers;
+  plain_layers = is.plain_layers;
+  changed_apart = is.changed_apart;
+  lowers_apart = is.lowers_apart;
+  uppers_reached = is.uppers_reached;
+})
 
 pub trees_in : (a b : World ℕ) → a.filesystems ≡ b.filesystems → TreeInvariants nat_eq b → TreeInvariants nat_eq a
-trees_in a b same is =
-    subst (λ fs. TreeInvariants nat_eq (record a { filesystems = fs })) (sym same)
-    (record {
-      trees = is.trees;
-      own_parents = is.own_parents;
-      numbers = is.numbers;
-      one_filesystem = is.one_filesystem;
-      fit_filesystems = is.fit_filesystems;
-    })
+trees_in a b same is = subst (λ fs. TreeInvariants nat_eq (record a { filesystems = fs })) (sym same) (record {
+  trees = is.trees;
+  own_parents = is.own_parents;
+  numbers = is.numbers;
+  one_filesystem = is.one_filesystem;
+  fit_filesystems = is.fit_filesystems;
+})
 
 pub permits_keep_overlay_invariants : PermitsKeepOverlayInvariants
 permits_keep_overlay_invariants world fresh task call permit location change overlay upper conditions serves called

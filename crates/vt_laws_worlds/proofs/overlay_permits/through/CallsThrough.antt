@@ -43,8 +43,7 @@ use Rattle.vt_spec.proofs.Options.{none_is_some}
 
 -- A change of a filesystem goes through it
 goes_by_change : (fresh : Fresh ℕ) (world later : World ℕ) → IsWorld nat_eq world
-    → (change : IsChanged world fresh later.filesystems)
-    → GoesThrough fresh world later change.mounted
+    → (change : IsChanged world fresh later.filesystems) → GoesThrough fresh world later change.mounted
 goes_by_change fresh world later conditions change = record {
   elsewhere = λ number differ upper.
       same_filesystem (changed_in change.supply world change.mounted change.change) later number change.so
@@ -58,8 +57,7 @@ goes_by_change fresh world later conditions change = record {
       (any_from_among (lies_or_counts_under nat_eq world layer.filesystem inode) (live_layers world) layer
       (layer_among world layers_of number overlay is layer in_layers) lies)
       new (no_overlay_in world conditions layer (layer_plain world conditions number overlay is layer in_layers))
-      later change
-      (λ other upper i has at object.
+      later change (λ other upper i has at object.
       no_other world conditions change.mounted other i upper has inode object number differ overlay is layer m
       (subst (λ n. lies_or_counts_under nat_eq world n inode layer ≡ true) at lies));
 }
@@ -155,8 +153,7 @@ module _ (world : World ℕ) (fresh : Fresh ℕ) (task : Task ℕ) (call : Call)
 
 -- What spares what is locked changes no inode that is
 unlocked : (fresh : Fresh ℕ) (files : FileTree ℕ) (change : Change ℕ) (inode : ℕ) → SparesInode files change inode
-    → MakesNew fresh change
-    → ((k : ℕ) → inode ≢ fresh k) → is_among nat_eq inode (inodes_changed change) ≡ false
+    → MakesNew fresh change → ((k : ℕ) → inode ≢ fresh k) → is_among nat_eq inode (inodes_changed change) ≡ false
 unlocked fresh files (Make directory name number node) inode spares made new =
     or_from (nat_eq inode number) _ (ne_eqb inode number (λ e. new 0 (e ∙ made)))
     (or_from (nat_eq inode directory) false (ne_eqb inode directory spares) refl)
@@ -195,18 +192,15 @@ speaks world location (CopyUp object) over asked = asked
 
 -- A granted call leaves the filesystems that its permit leaves
 pub as_permitted : (world : World ℕ) (fresh : Fresh ℕ) (task : Task ℕ) (call : Call) (permit : Permit ℕ)
-    → judge_in nat_eq fresh world task call ≡ Ok permit
-    → (call_outcome nat_eq fresh world task call).world.filesystems
+    → judge_in nat_eq fresh world task call ≡ Ok permit → (call_outcome nat_eq fresh world task call).world.filesystems
     ≡ (apply nat_eq fresh world task permit).world.filesystems
-as_permitted world fresh task call permit granted =
-    ap (λ (o : Outcome ℕ). o.world.filesystems)
+as_permitted world fresh task call permit granted = ap (λ (o : Outcome ℕ). o.world.filesystems)
     (call_is_judged_then_applied fresh world task call
     ∙ ap (λ j. after world j (apply nat_eq fresh world task)) granted)
 
 pub calls_go_through_their_location : CallsGoThroughTheirLocation
 calls_go_through_their_location world fresh task call permit location change is serves called granted asks =
-    goes_by_change fresh world (call_outcome nat_eq fresh world task call).world is
-    (record {
+    goes_by_change fresh world (call_outcome nat_eq fresh world task call).world is (record {
       supply = numbers_left fresh permit;
       mounted = (mount_at nat_eq world location).filesystem;
       change = change;
@@ -235,6 +229,5 @@ calls_go_through_their_location world fresh task call permit location change is 
 
 pub other_calls_leave_filesystems : OtherCallsLeaveFilesystems
 other_calls_leave_filesystems world fresh task call permit granted asks files =
-    as_permitted world fresh task call permit granted
-    ∙ leaves_them world fresh task call permit
+    as_permitted world fresh task call permit granted ∙ leaves_them world fresh task call permit
     (permits_are_for_their_calls fresh world task call permit granted) files asks

@@ -20,8 +20,7 @@ use Rattle.vt_laws_worlds.proofs.overlay_permits.through.LayersLater.{every_call
 use Rattle.vt_laws_worlds.proofs.overlay_permits.worlds.LowersGoOn.{leads_both, leads_by_files}
 
 layers_there : (world : World ℕ) (number : ℕ) (overlay : Overlay ℕ)
-    → (filesystem_numbered nat_eq world number).overlay ≡ Some overlay
-    → LayersStay world world number overlay
+    → (filesystem_numbered nat_eq world number).overlay ≡ Some overlay → LayersStay world world number overlay
 layers_there world number overlay was = record {
   after = overlay;
   is = was;
@@ -44,8 +43,7 @@ layers_both a b c number overlay first second = record {
 }
   where
     again : (layer : Layer ℕ) → Contains (layers_of overlay) layer → Contains (layers_of first.after) layer
-    again layer contains =
-        subst (λ (list : List (Layer ℕ)). Contains list layer)
+    again layer contains = subst (λ (list : List (Layer ℕ)). Contains list layer)
         (λ i. option_to_list (sym first.upper i) ++ option_to_list (sym first.work i) ++ sym first.lowers i) contains
 
 -- A line that changes nothing through the overlay, and leaves it live
@@ -91,13 +89,11 @@ lines_leave grammar number world (line ∷ lines) (false ∷ refused) left overl
     let first : LayersStay world next number overlay =
     line_leaves world is number overlay was leads.0 leads.1 (nat_lt longest_line (length line))
     (is_silent line) grammar line leads.2 leads.3 in
-    layers_both world next left number overlay first
-    (lines_leave grammar number next lines refused left first.after
+    layers_both world next left number overlay first (lines_leave grammar number next lines refused left first.after
     (line_keeps (nat_lt longest_line (length line))
     (is_silent line) grammar world line leads.0 is leads.1) first.is leads.4)
 
 pub layers_stay_over_scripts : LayersStayOverScripts
 layers_stay_over_scripts grammar first next refused refused_next fresh mounted left number overlay apart leads was
-    alone =
-    lines_leave grammar number mounted next refused_next left overlay
+    alone = lines_leave grammar number mounted next refused_next left overlay
     (lines_keep grammar (opening nat_eq fresh) first refused mounted (opening_is_a_world fresh apart).0 leads) was alone

@@ -45,16 +45,14 @@ leads_both a b c layer first second path =
 -- paths are seen on trees alone
 pub leads_by_files : (world later : World ℕ) (layer : Layer ℕ)
     → (filesystem_numbered nat_eq later layer.filesystem).files
-    ≡ (filesystem_numbered nat_eq world layer.filesystem).files
-    → LeadsAsBefore world later layer
+    ≡ (filesystem_numbered nat_eq world layer.filesystem).files → LeadsAsBefore world later layer
 leads_by_files world later layer same path = (
   ap (λ files. led files.tree layer.directory path) same,
   kept_same _ _ (ap (λ files. then_some (led files.tree layer.directory path) files.tree.node) same),
 )
 
 pub stays_itself : (world : World ℕ) (number : ℕ) (overlay : Overlay ℕ)
-    → (filesystem_numbered nat_eq world number).overlay ≡ Some overlay
-    → OverlayStays world world number overlay
+    → (filesystem_numbered nat_eq world number).overlay ≡ Some overlay → OverlayStays world world number overlay
 stays_itself world number overlay is = record {
   after = overlay;
   is = is;
@@ -72,8 +70,7 @@ stays_both a b c number overlay first second = record {
   upper = second.upper ∙ first.upper;
   work = second.work ∙ first.work;
   lowers = second.lowers ∙ first.lowers;
-  leads = λ lower m.
-      leads_both a b c lower (first.leads lower m)
+  leads = λ lower m. leads_both a b c lower (first.leads lower m)
       (second.leads lower (subst (Among lower) (sym first.lowers) m));
 }
 
@@ -95,8 +92,7 @@ stays_over world later number overlay is same leads =
     by (filesystem_numbered nat_eq later number).overlay refl (same ∙ ap (option_map layers) is)
   where
     by : (o : Option (Overlay ℕ)) → (filesystem_numbered nat_eq later number).overlay ≡ o
-        → option_map layers o ≡ Some (layers overlay)
-        → OverlayStays world later number overlay
+        → option_map layers o ≡ Some (layers overlay) → OverlayStays world later number overlay
     by None e f = absurd (true≢false (sym (ap is_some f)))
     by (Some after) e f =
         let parts = same_Some (layers after) (layers overlay) f in
@@ -112,11 +108,9 @@ stays_over world later number overlay is same leads =
 -- A change of a filesystem leaves the layers of each overlay
 replaced_layers : (world : World ℕ) (new : Filesystem ℕ) → option_map layers new.overlay ≡ layers_at world new.number
     → (number : ℕ) → layers_at (with_filesystem nat_eq world new) number ≡ layers_at world number
-replaced_layers world new same number =
-    ⊎_elim
+replaced_layers world new same number = ⊎_elim
     (λ t. filesystem_there (λ f. option_map layers f.overlay ≡ layers_at world number) world new number t.1
-    (same ∙ ap (layers_at world) (sym t.1))
-    (λ none. ap (λ (f : Filesystem ℕ). option_map layers f.overlay) (sym none)))
+    (same ∙ ap (layers_at world) (sym t.1)) (λ none. ap (λ (f : Filesystem ℕ). option_map layers f.overlay) (sym none)))
     (λ t. ap (λ (f : Filesystem ℕ). option_map layers f.overlay) (filesystem_elsewhere world new number t.1))
     (eqb_tells number new.number)
 
@@ -126,42 +120,32 @@ changed_layers fresh world location change number = by (filesystem_at nat_eq wor
   where
     own_layers : option_map layers (filesystem_at nat_eq world location).overlay
         ≡ layers_at world (filesystem_at nat_eq world location).number
-    own_layers =
-        ap (λ (f : Filesystem ℕ). option_map layers f.overlay)
-        (sym (ap (filesystem_numbered nat_eq world)
+    own_layers = ap (λ (f : Filesystem ℕ). option_map layers f.overlay) (sym (ap (filesystem_numbered nat_eq world)
         (number_of_filesystem world (mount_at nat_eq world location).filesystem)))
 
     over : (overlay : Overlay ℕ) → (filesystem_at nat_eq world location).overlay ≡ Some overlay
-        → (upper : Option (Layer ℕ))
-        → layers_at (overlay_changed nat_eq fresh world
-        (filesystem_at nat_eq world location) overlay upper change) number
-        ≡ layers_at world number
+        → (upper : Option (Layer ℕ)) → layers_at (overlay_changed nat_eq fresh world
+        (filesystem_at nat_eq world location) overlay upper change) number ≡ layers_at world number
     over overlay e None = refl
     over overlay e (Some upper) =
-        let merge : Merge ℕ =
-        merge_changed nat_eq fresh (stack_of nat_eq world overlay upper)
+        let merge : Merge ℕ = merge_changed nat_eq fresh (stack_of nat_eq world overlay upper)
         (merge_of nat_eq world (filesystem_at nat_eq world location) overlay upper) change in
-        let first : Filesystem ℕ =
-        record (filesystem_at nat_eq world location) {
+        let first : Filesystem ℕ = record (filesystem_at nat_eq world location) {
           files = merge.files;
-          overlay = Some
-              (record overlay { real = merge.real });
+          overlay = Some (record overlay { real = merge.real });
         } in
         let first_layers : option_map layers first.overlay ≡ layers_at world first.number =
         ap (option_map layers) (sym e) ∙ own_layers in
         let under : Filesystem ℕ = filesystem_numbered nat_eq world upper.filesystem in
         replaced_layers (with_filesystem nat_eq world first) (with_files under merge.upper)
         (ap (layers_at world) (sym (number_of_filesystem world upper.filesystem))
-        ∙ sym (replaced_layers world first first_layers under.number))
-        number
+        ∙ sym (replaced_layers world first first_layers under.number)) number
         ∙ replaced_layers world first first_layers number
 
     by : (o : Option (Overlay ℕ)) → (filesystem_at nat_eq world location).overlay ≡ o
         → layers_at (filesystem_changed nat_eq fresh world (filesystem_at nat_eq world location) o change) number
         ≡ layers_at world number
-    by None e =
-        replaced_layers world
-        (with_files (filesystem_at nat_eq world location)
+    by None e = replaced_layers world (with_files (filesystem_at nat_eq world location)
         (changed nat_eq (filesystem_at nat_eq world location).files change)) own_layers number
     by (Some overlay) e = over overlay e overlay.upper
 
@@ -190,12 +174,10 @@ raised_layers changed number (first ∷ rest) = by (list_any (λ n. nat_eq n fir
         (no_filesystem number)).overlay
         ≡ (unwrap_or (find (λ (f : Filesystem ℕ). nat_eq number f.number) (first ∷ rest))
         (no_filesystem number)).overlay
-    by true on =
-        pick (record first { change = raised first.change }) refl (nat_eq number first.number)
+    by true on = pick (record first { change = raised first.change }) refl (nat_eq number first.number)
         (find (λ (f : Filesystem ℕ). nat_eq number f.number) (map (raised_if_changed nat_eq changed) rest))
         (find (λ (f : Filesystem ℕ). nat_eq number f.number) rest) on
-    by false on =
-        pick first refl (nat_eq number first.number)
+    by false on = pick first refl (nat_eq number first.number)
         (find (λ (f : Filesystem ℕ). nat_eq number f.number) (map (raised_if_changed nat_eq changed) rest))
         (find (λ (f : Filesystem ℕ). nat_eq number f.number) rest) on
 
@@ -206,8 +188,7 @@ module _ (before : World ℕ) (name : TaskName) (changed : List ℕ) (world : Wo
 
   pub raised_stays : (overlay : Overlay ℕ) → (filesystem_numbered nat_eq world number).overlay ≡ Some overlay
       → OverlayStays world (numbers_raised nat_eq before name changed world) number overlay
-  raised_stays overlay is =
-      stays_over world (numbers_raised nat_eq before name changed world) number overlay is
+  raised_stays overlay is = stays_over world (numbers_raised nat_eq before name changed world) number overlay is
       (ap (option_map layers) raised_overlay)
       (λ lower m. leads_by_files world (numbers_raised nat_eq before name changed world) lower
       (files_raised changed lower.filesystem world.filesystems))
@@ -223,8 +204,7 @@ module _ (world : World ℕ) (under : IsUnderWay world) (are : OverlayInvariants
   first = without_dead_in nat_eq is_overlay living
 
   from_mounted : (after : Overlay ℕ) (on : GoesOn mounted living number after)
-      → (filesystem_numbered nat_eq living number).overlay ≡ Some after
-      → OverlayStays world living number on.before
+      → (filesystem_numbered nat_eq living number).overlay ≡ Some after → OverlayStays world living number on.before
   from_mounted after on is = record {
     after = after;
     is = is;
@@ -235,8 +215,7 @@ module _ (world : World ℕ) (under : IsUnderWay world) (are : OverlayInvariants
   }
 
   from_living : (after : Overlay ℕ) (on : GoesOn living first number after)
-      → (filesystem_numbered nat_eq first number).overlay ≡ Some after
-      → OverlayStays living first number on.before
+      → (filesystem_numbered nat_eq first number).overlay ≡ Some after → OverlayStays living first number on.before
   from_living after on is = record {
     after = after;
     is = is;

@@ -47,8 +47,7 @@ stay_both a b c number overlay first second = record {
 module _ (world : World ℕ) (is : IsWorld nat_eq world) (number : ℕ) (overlay : Overlay ℕ)
     (was : (filesystem_numbered nat_eq world number).overlay ≡ Some overlay) where
   request_stays : (fresh : Fresh ℕ) → Serves nat_eq world fresh → (request : Option Request)
-      → request_names_few request ≡ true
-      → is_live (requested nat_eq world request fresh).world number ≡ true
+      → request_names_few request ≡ true → is_live (requested nat_eq world request fresh).world number ≡ true
       → LowersStay world (requested nat_eq world request fresh).world number overlay
   request_stays fresh serves None few live = stay_there world is number overlay was
   request_stays fresh serves (Some (Calling name call)) few live =
@@ -83,13 +82,11 @@ lines_stay grammar number world (line ∷ lines) (false ∷ refused) left overla
     let first : LowersStay world next number overlay =
     line_stays world is number overlay was (nat_lt longest_line (length line))
     (is_silent line) grammar line leads.0 leads.1 leads.2 in
-    stay_both world next left number overlay first
-    (lines_stay grammar number next lines refused left first.after
+    stay_both world next left number overlay first (lines_stay grammar number next lines refused left first.after
     (line_keeps (nat_lt longest_line (length line))
     (is_silent line) grammar world line leads.0 is leads.1) first.is leads.3)
 
 pub lowers_stay_over_scripts : LowersStayOverScripts
 lowers_stay_over_scripts grammar first next refused refused_next fresh mounted left number overlay apart leads was
-    live =
-    lines_stay grammar number mounted next refused_next left overlay
+    live = lines_stay grammar number mounted next refused_next left overlay
     (lines_keep grammar (opening nat_eq fresh) first refused mounted (opening_is_a_world fresh apart).0 leads) was live

@@ -39,11 +39,9 @@ grows_twice first second third one two = record {
   root = two.root ∙ one.root;
   grows = λ number object e. two.grows number object (one.grows number object e);
   there = λ number h. ⊎_elim (one.there number) (λ is. inr (back number is)) (two.there number h);
-  numbers = λ inode m.
-      ⊎_elim
+  numbers = λ inode m. ⊎_elim
       (λ was. ⊎_elim inl (λ new. inr (new.0, new.1, two.grows new.0 inode new.2)) (one.numbers inode was))
-      (λ new. inr (new.0, back new.0 new.1, new.2))
-      (two.numbers inode m);
+      (λ new. inr (new.0, back new.0 new.1, new.2)) (two.numbers inode m);
 }
   where
     back : (number : ℕ) → is_some (second.files.tree.node number) ≡ true → is_some (first.files.tree.node number) ≡ true
@@ -53,12 +51,10 @@ grows_twice first second third one two = record {
 module _ (merge : Merge ℕ) (object copy : ℕ) (node : Node ℕ) (is_node : merge.files.tree.node object ≡ Some node)
     (below : is_in_upper merge object ≡ false) where
   abbrev with_copy : FileTree ℕ
-  with_copy = with_inode nat_eq merge.upper copy
-      (record {
-        attr = node.attr;
-        content = copied_content
-            (copy_parent merge copy (a_name nat_eq merge.files object)) node.content;
-      })
+  with_copy = with_inode nat_eq merge.upper copy (record {
+    attr = node.attr;
+    content = copied_content (copy_parent merge copy (a_name nat_eq merge.files object)) node.content;
+  })
 
   abbrev later_real : ℕ → Option (Real ℕ)
   later_real = with_real nat_eq merge.real object (Upper copy)
@@ -80,21 +76,14 @@ module _ (merge : Merge ℕ) (object copy : ℕ) (node : Node ℕ) (is_node : me
   grows_by_one = record {
     files = refl;
     root = root_named (a_name nat_eq merge.files object);
-    grows = λ number seen e.
-        ⊎_elim
+    grows = λ number seen e. ⊎_elim
         (λ same. absurd (true≢false (sym (ap (λ n. is_some (upper_object (merge.real n))) (sym same.1) ∙ ap is_some e)
-        ∙ below)))
-        (λ other. ap (λ b. upper_object (cond b (Some (Upper copy)) (merge.real number))) other.0 ∙ e)
+        ∙ below))) (λ other. ap (λ b. upper_object (cond b (Some (Upper copy)) (merge.real number))) other.0 ∙ e)
         (eqb_tells number object);
-    there = λ number h.
-        ⊎_elim
-        (λ same. inr (ap (λ n. is_some (merge.files.tree.node n)) same.1 ∙ ap is_some is_node))
+    there = λ number h. ⊎_elim (λ same. inr (ap (λ n. is_some (merge.files.tree.node n)) same.1 ∙ ap is_some is_node))
         (λ other. inl (ap (λ b. is_some (cond b (Some (Upper copy)) (merge.real number))) (sym other.0) ∙ h))
         (eqb_tells number object);
-    numbers = λ inode m.
-        ⊎_elim
-        (λ same. inr (object, ap is_some is_node, real_copy ∙ ap Some (sym same)))
-        inl
+    numbers = λ inode m. ⊎_elim (λ same. inr (object, ap is_some is_node, real_copy ∙ ap Some (sym same))) inl
         (subst (Among inode) (numbers_named (a_name nat_eq merge.files object)) m);
   }
 
@@ -104,8 +93,7 @@ grows_each : (fresh : Fresh ℕ) (k : ℕ) (merge : Merge ℕ) (objects : List �
 grows_each fresh k merge [] = grows_not merge
 grows_each fresh k merge (object ∷ rest) =
     grows_twice merge (copy_of nat_eq merge object (fresh k) (merge.files.tree.node object)
-    (is_in_upper merge object)) _
-    (by (merge.files.tree.node object) refl (is_in_upper merge object) refl)
+    (is_in_upper merge object)) _ (by (merge.files.tree.node object) refl (is_in_upper merge object) refl)
     (grows_each fresh (k + 1) (copy_of nat_eq merge object (fresh k) (merge.files.tree.node object)
     (is_in_upper merge object)) rest)
   where

@@ -60,8 +60,7 @@ module _ (world : World ℕ) (whole : IsWorld nat_eq world) where
       let tree = among-from_flat_map (mount_tree nat_eq world.mounts) tops gone.0 gone.1 in
       let top = among-from_filter (λ (mount : Mount ℕ). list_any (λ point. is_point nat_eq world point.0 point.1 mount)
       (points_of nat_eq world directory)) world.mounts tree.0 tree.1 in
-      let there : Among gone.0 world.mounts =
-      ⊎_elim (λ e. subst (λ m. Among m world.mounts) (sym e) top.0) (λ m. m)
+      let there : Among gone.0 world.mounts = ⊎_elim (λ e. subst (λ m. Among m world.mounts) (sym e) top.0) (λ m. m)
       (tree_among (length world.mounts) world.mounts tree.0 gone.0 tree.2) in
       let same : (mount_numbered nat_eq world number).namespace ≡ tree.0.namespace =
       ap (λ n. (mount_numbered nat_eq world n).namespace) gone.2
@@ -78,13 +77,10 @@ module _ (world : World ℕ) (whole : IsWorld nat_eq world) where
       by : (mount : Mount ℕ) → Among mount world.mounts → is_some mount.mount_point ≡ true → (o : Option ℕ)
           → mount.namespace ≡ o → holds_of (nat_eq task.namespace) mount.namespace ≡ false
           → list_all (nat_eq task.namespace) (option_to_list mount.namespace) ≡ false
-      by mount m placed None e free =
-          absurd (true≢false
-          (sym placed
+      by mount m placed None e free = absurd (true≢false (sym placed
           ∙ (nowhere_parts mount (among_from_list_all is_nowhere_or_attached world.mounts whole.mounts.nowhere mount m)
           (ap is_some e)).0))
-      by mount m placed (Some own) e free =
-          ap (λ o. list_all (nat_eq task.namespace) (option_to_list o)) e
+      by mount m placed (Some own) e free = ap (λ o. list_all (nat_eq task.namespace) (option_to_list o)) e
           ∙ ap (λ b. b && true) (sym (ap (holds_of (nat_eq task.namespace)) e) ∙ free)
 
   -- what a task reaches is on none of these
@@ -115,8 +111,7 @@ module _ (fresh : Fresh ℕ) (world : World ℕ) (whole : IsWorld nat_eq world) 
       by to.object ((or_parts (is_mount_point_anywhere looks (object_there from)) _ passed.1.1.1.1.1.1.1.0).1)
     where
       is : IsOldPlace world whole task called from
-      is =
-          at_end _ (old_leaf_walk nat_eq looks task old) from (old_leaf_walk_found world whole task called old)
+      is = at_end _ (old_leaf_walk nat_eq looks task old) from (old_leaf_walk_found world whole task called old)
           names.from_end
 
       by : (o : Option (Location ℕ)) → holds_of (is_mount_point_in nat_eq looks task.namespace) o ≡ false
@@ -127,8 +122,7 @@ module _ (fresh : Fresh ℕ) (world : World ℕ) (whole : IsWorld nat_eq world) 
 
   pub removal_reached : (call : Call) (permit : Permit ℕ) → judge_in nat_eq fresh world task call ≡ Ok permit
       → Removes permit
-  removal_reached call permit e =
-      granted_removes call permit
+  removal_reached call permit e = granted_removes call permit
       (calls_are_granted nat_eq looks (overfills nat_eq fresh world task) task call permit e)
 
 -- so the mount that it goes through stays

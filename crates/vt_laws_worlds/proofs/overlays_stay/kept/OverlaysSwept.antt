@@ -73,16 +73,14 @@ named_of_plain f e is = absurd (true≢false (sym is ∙ e))
 pub sweeps_keep_names : SweepsKeepNames
 sweeps_keep_names world named =
     by_overlays IsNamed named_of_plain (in_use_of world).filesystems (settled nat_eq world).filesystems
-    (named_overlays_stay world named)
-    (all_from_among IsNamed (in_use_of world).filesystems (λ f m.
+    (named_overlays_stay world named) (all_from_among IsNamed (in_use_of world).filesystems (λ f m.
     among_from_all IsNamed world.filesystems named f
     (among-from_filter (filesystem_lives nat_eq (without_dead_mounts nat_eq world)) world.filesystems f m).0))
 
 -- A permit, and the sweep after it
 
 filters_turned : (p q r : Filesystem ℕ → Bool) (list : List (Filesystem ℕ))
-    → ((f : Filesystem ℕ) → Among f list → p f ≡ true → q f ≡ r f)
-    → filter p (filter q list) ≡ filter r (filter p list)
+    → ((f : Filesystem ℕ) → Among f list → p f ≡ true → q f ≡ r f) → filter p (filter q list) ≡ filter r (filter p list)
 filters_turned p q r [] same = refl
 filters_turned p q r (first ∷ rest) same =
     by (p first) (q first) (r first) refl refl refl (filters_turned p q r rest (λ f m. same f (inr m)))
@@ -90,8 +88,7 @@ filters_turned p q r (first ∷ rest) same =
     by : (a b c : Bool) → p first ≡ a → q first ≡ b → r first ≡ c → filter p (filter q rest) ≡ filter r (filter p rest)
         → filter p (cond b (first ∷ filter q rest) (filter q rest))
         ≡ filter r (cond a (first ∷ filter p rest) (filter p rest))
-    by true true true e f g later =
-        ap (λ x. cond x (first ∷ filter p (filter q rest)) (filter p (filter q rest))) e
+    by true true true e f g later = ap (λ x. cond x (first ∷ filter p (filter q rest)) (filter p (filter q rest))) e
         ∙ ap (λ l. first ∷ l) later
         ∙ sym (ap (λ x. cond x (first ∷ filter r (filter p rest)) (filter r (filter p rest))) g)
     by true true false e f g later = absurd (true≢false (sym f ∙ same first (inl refl) e ∙ g))
@@ -122,12 +119,10 @@ module _ (world : World ℕ) (fresh : Fresh ℕ) (task : Task ℕ) (permit : Per
 
   -- no overlay is a layer of another
   apart : (f : Filesystem ℕ) → Among f applied.filesystems → is_overlay f ≡ true → HasNoLayerIn f.number mounted
-  apart f m e =
-      by_overlays (λ merged. has_layer_on nat_eq f.number merged ≡ false) no_layer world.filesystems
+  apart f m e = by_overlays (λ merged. has_layer_on nat_eq f.number merged ≡ false) no_layer world.filesystems
       applied.filesystems left_same
       (among_from_all (λ g. is_overlay g ≡ true → HasNoLayerIn g.number world) world.filesystems
-      (overlays_are_no_layers world is) f
-      (among-from_filter is_overlay world.filesystems f
+      (overlays_are_no_layers world is) f (among-from_filter is_overlay world.filesystems f
       (subst (Among f) left_same (among-filter is_overlay applied.filesystems f m e))).0 e)
     where
       no_layer : (merged : Filesystem ℕ) → is_overlay merged ≡ false → has_layer_on nat_eq f.number merged ≡ false
@@ -139,12 +134,10 @@ module _ (world : World ℕ) (fresh : Fresh ℕ) (task : Task ℕ) (permit : Per
           by None k = refl
           by (Some overlay) k = absurd (true≢false k)
 
-  pub mounted_stay : OverlaysAreNamed world
-      → overlays_in (left_by fresh world task permit).filesystems
+  pub mounted_stay : OverlaysAreNamed world → overlays_in (left_by fresh world task permit).filesystems
       ≡ filter (λ merged. is_mounted nat_eq (left_by fresh world task permit) merged.number)
       (overlays_in world.filesystems)
-  mounted_stay named =
-      named_overlays_stay applied (named_applied named)
+  mounted_stay named = named_overlays_stay applied (named_applied named)
       ∙ filters_turned is_overlay (filesystem_lives nat_eq mounted) (λ merged. is_mounted nat_eq mounted merged.number)
       applied.filesystems
       (λ f m e. lives_while_mounted mounted f (apart f m e) ∙ sym (mounted_while_counted mounted f.number))
@@ -173,9 +166,6 @@ uppers_alike (one ∷ ones) (other ∷ others) same =
     λ i. overlay_or false (λ overlay. is_some overlay.upper) (same.0.overlay i) || uppers_alike ones others same.1 i
 
 pub same_worlds_have_no_upper_alike : SameWorldsHaveNoUpperAlike
-same_worlds_have_no_upper_alike one other same none =
-    all_from_among (λ f. has_upper f ≡ false) other.filesystems
-    (none_among has_upper other.filesystems
-    (sym (uppers_alike one.filesystems other.filesystems same.filesystems)
-    ∙ none_from_among has_upper one.filesystems
-    (among_from_all (λ f. has_upper f ≡ false) one.filesystems none)))
+same_worlds_have_no_upper_alike one other same none = all_from_among (λ f. has_upper f ≡ false) other.filesystems
+    (none_among has_upper other.filesystems (sym (uppers_alike one.filesystems other.filesystems same.filesystems)
+    ∙ none_from_among has_upper one.filesystems (among_from_all (λ f. has_upper f ≡ false) one.filesystems none)))

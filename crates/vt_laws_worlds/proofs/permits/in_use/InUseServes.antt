@@ -33,8 +33,7 @@ not_before next k =
     let odd : (4 * (next + k) + 1) % 2 ≡ 1 = omega arith in
     let rest : (4 * (next + k) + 1) % 4 ≡ 1 = omega arith in
     let quarter : (4 * (next + k) + 1) / 4 ≡ next + k = omega arith in
-    λ i.
-    ne_eqb ((4 * (next + k) + 1) % 2) 0 (λ e. absurd (omega arith)) i
+    λ i. ne_eqb ((4 * (next + k) + 1) % 2) 0 (λ e. absurd (omega arith)) i
     || (eq-eqb ((4 * (next + k) + 1) % 4) 1 rest i && le-ltb ((4 * (next + k) + 1) / 4) next (omega arith) i)
 
 unused_count : (next : ℕ) (world : World ℕ) → KeepsTo (is_counted_before next) world → (k : ℕ)
@@ -42,8 +41,7 @@ unused_count : (next : ℕ) (world : World ℕ) → KeepsTo (is_counted_before n
 unused_count next world keeps k = by (is_in_use world (counts_from next k)) refl
   where
     by : (used : Bool) → is_in_use world (counts_from next k) ≡ used → used ≡ false
-    by true e =
-        absurd (true≢false (sym (used_before next world keeps (counts_from next k) e) ∙ not_before next k))
+    by true e = absurd (true≢false (sym (used_before next world keeps (counts_from next k) e) ∙ not_before next k))
     by false e = refl
 
 counts_apart : (next j k : ℕ) → counts_from next j ≡ counts_from next k → j ≡ k
@@ -58,8 +56,7 @@ counts_serve_worlds next world keeps = record {
 pub handed_numbers_serve_worlds : HandedNumbersServeWorlds
 handed_numbers_serve_worlds next place inode world keeps even out = record {
   unused = λ k. unused k (k == place);
-  apart = λ j k e.
-      apart j k (j == place) (k == place) refl refl
+  apart = λ j k e. apart j k (j == place) (k == place) refl refl
       (eqb-true (handed_from next place inode j) (handed_from next place inode k) e);
 }
   where
@@ -84,7 +81,5 @@ worlds_keep_to_named_before next inode world whole plain keeps out =
   where
     by : (number : ℕ) → is_in_use world number ≡ true → (same : Bool) → (number == inode) ≡ same
         → (is_counted_before next number && not (number == inode)) ≡ true
-    by number used true e =
-        absurd (true≢false (sym used ∙ ap (is_in_use world) (eqb-true number inode e) ∙ out))
-    by number used false e =
-        (λ i. used_before next world keeps number used i && not (e i))
+    by number used true e = absurd (true≢false (sym used ∙ ap (is_in_use world) (eqb-true number inode e) ∙ out))
+    by number used false e = (λ i. used_before next world keeps number used i && not (e i))

@@ -20,20 +20,17 @@ module _ {N : Type 0} where
   pub permit_itself : (permit : Permit N) → renamed_permit (λ n. n) (λ n. n) permit ≡ permit
   permit_itself (ToChange location change) = ap (ToChange location) (change_itself change)
   permit_itself (ToMake directory name node) = ap (ToMake directory name) (node_itself node)
-  permit_itself (ToRename from old to new object replaced) =
-      ap (ToRename from old to new object)
+  permit_itself (ToRename from old to new object replaced) = ap (ToRename from old to new object)
       (option_itself (renamed_location (λ n. n) (λ n. n)) (λ location. refl) replaced)
   permit_itself (ToOpenNew directory name node access) = λ i. ToOpenNew directory name (node_itself node i) access
   permit_itself (ToMountOverlay place overlay flags) = λ i. ToMountOverlay place (overlay_itself overlay i) flags
   permit_itself permit = refl
 
 abbrev pub named_permit : Named Permit
-named_permit =
-    record {
-      rename = λ A B there back permit. renamed_permit there back permit;
-      itself = λ A permit.
-          permit_itself permit;
-    }
+named_permit = record {
+  rename = λ A B there back permit. renamed_permit there back permit;
+  itself = λ A permit. permit_itself permit;
+}
 
 module _ (named : ℕ → Bool) (renaming : Renaming ℕ ℕ) (leaves : Leaves renaming named) where
   abbrev there : ℕ → ℕ
@@ -44,8 +41,7 @@ module _ (named : ℕ → Bool) (renaming : Renaming ℕ ℕ) (leaves : Leaves r
 
   places_left : (location : Option (Location ℕ)) → none_or (location_named named) location ≡ true
       → option_map (renamed_location there back) location ≡ location
-  places_left =
-      option_left (renamed_location there back) (location_named named) (location_left named renaming leaves)
+  places_left = option_left (renamed_location there back) (location_named named) (location_left named renaming leaves)
 
   change_left : (change : Change ℕ) → change_named named change ≡ true → renamed_change there back change ≡ change
   change_left (Make directory name number node) e =
@@ -86,8 +82,7 @@ module _ (named : ℕ → Bool) (renaming : Renaming ℕ ℕ) (leaves : Leaves r
       λ i. ToRemoveDirectory (location_left named renaming leaves parent parts.0 i) name
       (location_left named renaming leaves directory parts.1 i)
   permit_left (ToRename from old to new object replaced) e =
-      let last =
-      and_parts (location_named named from && location_named named to && location_named named object)
+      let last = and_parts (location_named named from && location_named named to && location_named named object)
       (none_or (location_named named) replaced) e in
       let next = and_parts (location_named named from && location_named named to)
       (location_named named object) last.0 in

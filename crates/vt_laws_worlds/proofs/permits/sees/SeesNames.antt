@@ -25,11 +25,8 @@ use Rattle.vt_laws_trees.proofs.trees.PlacesReached.{NewFilePlace, NewPlace}
 
 -- where a directory is, there is a tree
 pub tree_here : (world : World ℕ) → IsWorld nat_eq world → (location : Location ℕ)
-    → is_directory_at nat_eq world location ≡ true
-    → IsFileTree (files_at nat_eq world location)
-tree_here world whole location is =
-    ⊎_elim
-    (λ tree. ⊎_elim
+    → is_directory_at nat_eq world location ≡ true → IsFileTree (files_at nat_eq world location)
+tree_here world whole location is = ⊎_elim (λ tree. ⊎_elim
     (λ own. ⊎_elim (λ numbers. record { tree = tree; numbers = numbers; own_parents = own }) missing
     (numbered_all (λ (f : Filesystem ℕ). ListsNumbers nat_eq f.files)
     (mount_at nat_eq world location).filesystem world.filesystems whole.files.numbers))
@@ -41,8 +38,7 @@ tree_here world whole location is =
     missing : (filesystem_at nat_eq world location
         ≡ Rattle.vt_spec.specs.Machine.World.no_filesystem (mount_at nat_eq world location).filesystem)
         × All (λ (f : Filesystem ℕ). nat_eq (mount_at nat_eq world location).filesystem f.number
-        ≡ false) world.filesystems
-        → IsFileTree (files_at nat_eq world location)
+        ≡ false) world.filesystems → IsFileTree (files_at nat_eq world location)
     missing none = absurd (true≢false
         (sym is ∙ ap (λ (f : Filesystem ℕ). is_directory_node (f.files.tree.node location.node)) none.0))
 
@@ -78,8 +74,7 @@ module _ (world : World ℕ) (whole : IsWorld nat_eq world) (task : Task ℕ) wh
       → IsNewIn place.parent.node node → is_fit_node node ≡ true
       → MayBeMade world place.parent (name_of place.last) node
   may_be_made place node is passed last named missing fits small = record {
-    name_is_free =
-        place_is_free world place is named missing passed
+    name_is_free = place_is_free world place is named missing passed
         (tree_here world whole place.parent (file_named world place.parent place.last place.object named is).0);
     fit_name = fit_name_of place.last named last;
     fits = fits;

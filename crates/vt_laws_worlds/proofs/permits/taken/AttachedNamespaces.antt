@@ -35,8 +35,7 @@ put_key (mount ∷ rest) new = λ i. by (nat_eq new.number mount.number) i ∷ p
 put_keys : (mounts copies : List (Mount ℕ))
     → keys_of (folded (with_mount nat_eq) mounts copies) ≡ folded with_key (keys_of mounts) (keys_of copies)
 put_keys mounts [] = refl
-put_keys mounts (copy ∷ copies) =
-    put_keys (with_mount nat_eq mounts copy) copies
+put_keys mounts (copy ∷ copies) = put_keys (with_mount nat_eq mounts copy) copies
     ∙ ap (λ keys. folded with_key keys (keys_of copies)) (put_key mounts copy)
 
 namespaces_of_keys : (mounts : List (Mount ℕ)) → namespaces_in mounts ≡ map (λ key. key.1) (keys_of mounts)
@@ -81,27 +80,22 @@ module _ (world : World ℕ) (place : Location ℕ) (moves : Bool) (tree : List 
     all_copied [] = refl
     all_copied (part ∷ rest) =
         map-append (λ (mount : Mount ℕ). mount.namespace) (copies_at nat_eq world new graft parts part)
-        (flat_map (copies_at nat_eq world new graft parts) rest)
-        ∙ (λ i. copied part i ++ all_copied rest i)
+        (flat_map (copies_at nat_eq world new graft parts) rest) ∙ (λ i. copied part i ++ all_copied rest i)
 
   -- mounts that move keep their numbers
   module _ (moving : moves ≡ true) (new : Copies ℕ) where
     keys_there : keys_of (copies_at nat_eq world new (graft new) parts destination)
         ≡ map (λ (mount : Mount ℕ). (mount.number, destination.namespace)) tree
-    keys_there =
-        map_twice key_of (copy_at nat_eq world new (graft new) parts destination) (graft new).twigs
+    keys_there = map_twice key_of (copy_at nat_eq world new (graft new) parts destination) (graft new).twigs
         ∙ map_twice (λ twig. key_of (copy_at nat_eq world new (graft new) parts destination twig))
-        (twig_of new (group_of destination.propagation)) tree
-        ∙ each tree
+        (twig_of new (group_of destination.propagation)) tree ∙ each tree
       where
         own : (number : ℕ) → cond (moves && nat_eq destination.number place.mount) number
             (new.copy destination.number number) ≡ number
-        own number =
-            (λ i. cond (moving i && eq-eqb destination.number place.mount
+        own number = (λ i. cond (moving i && eq-eqb destination.number place.mount
             (number-mount_in world.mounts place.mount) i) number (new.copy destination.number number))
 
-        each : (list : List (Mount ℕ))
-            → map (λ (mount : Mount ℕ). key_of
+        each : (list : List (Mount ℕ)) → map (λ (mount : Mount ℕ). key_of
             (copy_at nat_eq world new (graft new) parts destination
             (twig_of new (group_of destination.propagation) mount))) list
             ≡ map (λ (mount : Mount ℕ). (mount.number, destination.namespace)) list
@@ -110,8 +104,7 @@ module _ (world : World ℕ) (place : Location ℕ) (moves : Bool) (tree : List 
 
 -- the namespaces that mounts have after an attachment
 abbrev pub namespaces_after : Bool → List (Mount ℕ) → Mount ℕ → List (Mount ℕ) → List (Mount ℕ) → List (Option ℕ)
-namespaces_after true mounts destination rest tree =
-    (map (λ key. key.1) (folded with_key (keys_of mounts)
+namespaces_after true mounts destination rest tree = (map (λ key. key.1) (folded with_key (keys_of mounts)
     (map (λ (mount : Mount ℕ). (mount.number, destination.namespace)) tree)) ++ [])
     ++ flat_map (λ (part : Mount ℕ). map (λ (mount : Mount ℕ). part.namespace) tree) rest
 namespaces_after false mounts destination rest tree =
@@ -131,10 +124,8 @@ attached_namespaces world place true tree new =
     let moved = folded (with_mount nat_eq) world.mounts copies in
     let pushed = map (pushed_up nat_eq world new (graft world place true tree new)
     (parts world place true tree)) moved in
-    namespaces-append (pushed ++ []) _
-    ∙ (λ i. (namespaces-append pushed []
-    ∙ ap (λ list. list ++ []) (all_pushed world place true tree new moved
-    ∙ namespaces_of_keys moved
+    namespaces-append (pushed ++ []) _ ∙ (λ i. (namespaces-append pushed []
+    ∙ ap (λ list. list ++ []) (all_pushed world place true tree new moved ∙ namespaces_of_keys moved
     ∙ ap (map (λ (key : ℕ × Option ℕ). key.1)) (put_keys world.mounts copies
     ∙ ap (folded with_key (keys_of world.mounts)) (keys_there world place true tree refl new)))) i
     ++ all_copied world place true tree new (rest_of (parts_of nat_eq world place)) i)
@@ -143,8 +134,7 @@ attached_namespaces world place false tree new =
     (destination world place false tree) in
     let pushed = map (pushed_up nat_eq world new (graft world place false tree new)
     (parts world place false tree)) world.mounts in
-    namespaces-append (pushed ++ copies) _
-    ∙ (λ i. (namespaces-append pushed copies
+    namespaces-append (pushed ++ copies) _ ∙ (λ i. (namespaces-append pushed copies
     ∙ (λ j. all_pushed world place false tree new world.mounts j
     ++ copied world place false tree new (destination world place false tree) j)) i
     ++ all_copied world place false tree new (rest_of (parts_of nat_eq world place)) i)

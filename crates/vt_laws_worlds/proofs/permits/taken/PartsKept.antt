@@ -32,20 +32,16 @@ module _ (world : World ℕ) (whole : IsWorld nat_eq world) (added : Filesystem 
       by : (o : Option (Filesystem ℕ)) → find test world.filesystems ≡ o
           → unwrap_or (find test (world.filesystems ++ added ∷ [])) (no_filesystem mount.filesystem)
           ≡ unwrap_or (find test world.filesystems) (no_filesystem mount.filesystem)
-      by None e =
-          absurd (true≢false (sym shows
+      by None e = absurd (true≢false (sym shows
           ∙ ap (λ o. is_directory_node ((unwrap_or o (no_filesystem mount.filesystem)).files.tree.node mount.root)) e))
-      by (Some filesystem) e =
-          ap (λ o. unwrap_or o (no_filesystem mount.filesystem))
+      by (Some filesystem) e = ap (λ o. unwrap_or o (no_filesystem mount.filesystem))
           (find-append test world.filesystems (added ∷ []) ∙ ap (λ o. option_or o (find test (added ∷ []))) e ∙ sym e)
 
   pub same_parts : (place : Location ℕ)
       → parts_of nat_eq (with_new_filesystem world added) place ≡ parts_of nat_eq world place
-  same_parts place =
-      ap (λ rest. mount_at nat_eq world place ∷ rest)
+  same_parts place = ap (λ rest. mount_at nat_eq world place ∷ rest)
       (filter_alike (takes_part nat_eq larger place) (takes_part nat_eq world place)
-      (receivers_of nat_eq world (mount_at nat_eq world place))
-      (λ mount m.
+      (receivers_of nat_eq world (mount_at nat_eq world place)) (λ mount m.
       ap (λ (filesystem : Filesystem ℕ). not (nat_eq place.mount mount.number) && is_some mount.namespace
       && nat_eq (mount_at nat_eq world place).filesystem mount.filesystem
       && is_directory_under nat_eq filesystem.files mount.root place.node)

@@ -58,8 +58,7 @@ module _ (world : World ℕ) (place : Location ℕ) (mounts : List (Mount ℕ)) 
       origin.mount_point) place
 
   abbrev pub type_by : Bool → Copies ℕ → Twig ℕ → Propagation ℕ
-  type_by there new twig =
-      if there then twig.propagation
+  type_by there new twig = if there then twig.propagation
       else copy_type nat_eq world new (destination ∷ []) destination twig destination.propagation
 
   abbrev pub copy_by : Bool → Bool → Copies ℕ → Twig ℕ → Mount ℕ
@@ -71,9 +70,7 @@ module _ (world : World ℕ) (place : Location ℕ) (mounts : List (Mount ℕ)) 
   }
 
   abbrev pub group_by : Bool → Copies ℕ → Twig ℕ → Option (ℕ × Option ℕ)
-  group_by there new twig =
-      if there then twig_master twig
-      else then_some (group_of destination.propagation) (λ group.
+  group_by there new twig = if there then twig_master twig else then_some (group_of destination.propagation) (λ group.
       when (not (is_member_of nat_eq group destination)) (
         image nat_eq new destination twig group,
         nearest_image nat_eq world new (destination ∷ []) destination twig (world.master group),
@@ -92,23 +89,18 @@ module _ (world : World ℕ) (place : Location ℕ) (mounts : List (Mount ℕ)) 
     parts_by group =
         destination ∷ filter (takes_part nat_eq world place) (unwrap_or (option_map (receivers nat_eq world) group) [])
 
-    at_one_part : (fresh : Fresh ℕ)
-        → attach nat_eq world fresh place moves mounts
+    at_one_part : (fresh : Fresh ℕ) → attach nat_eq world fresh place moves mounts
         ≡ attached_alone (nat_eq destination.number place.mount) moves
         (copies_from nat_eq fresh (destination ∷ []) mounts)
-    at_one_part fresh = λ i.
-        attached_at nat_eq world (copies_from nat_eq fresh (parts_by (alone i)) mounts)
-        (record {
-          destination = place;
-          twigs = map (twig_of (copies_from nat_eq fresh (parts_by (alone i)) mounts) (alone i)) mounts;
-          moves = moves;
-        }) (parts_by (alone i))
+    at_one_part fresh = λ i. attached_at nat_eq world (copies_from nat_eq fresh (parts_by (alone i)) mounts) (record {
+      destination = place;
+      twigs = map (twig_of (copies_from nat_eq fresh (parts_by (alone i)) mounts) (alone i)) mounts;
+      moves = moves;
+    }) (parts_by (alone i))
 
-    pub at_destination : (fresh : Fresh ℕ)
-        → attach nat_eq world fresh place moves mounts
+    pub at_destination : (fresh : Fresh ℕ) → attach nat_eq world fresh place moves mounts
         ≡ attached_alone true moves (copies_from nat_eq fresh (destination ∷ []) mounts)
-    at_destination fresh =
-        at_one_part fresh
+    at_destination fresh = at_one_part fresh
         ∙ ap (λ b. attached_alone b moves (copies_from nat_eq fresh (destination ∷ []) mounts))
         (eq-eqb destination.number place.mount (number-mount_in world.mounts place.mount))
 
@@ -119,8 +111,7 @@ module _ (world : World ℕ) (place : Location ℕ) (mounts : List (Mount ℕ)) 
 
     -- what is copied takes one for each
     module _ (some : 0 < length mounts) (same : (k : ℕ) → k < length mounts → fresh (2 * k) ≡ again (2 * k)) where
-      copy_same : (part origin : ℕ)
-          → (copies_from nat_eq fresh (destination ∷ []) mounts).copy part origin
+      copy_same : (part origin : ℕ) → (copies_from nat_eq fresh (destination ∷ []) mounts).copy part origin
           ≡ (copies_from nat_eq again (destination ∷ []) mounts).copy part origin
       copy_same part origin =
           same (index_in_rows (length mounts) (index_of nat_eq (destination ∷ []) part) (index_of nat_eq mounts origin))
@@ -128,10 +119,7 @@ module _ (world : World ℕ) (place : Location ℕ) (mounts : List (Mount ℕ)) 
           (sym (first_index destination part)) (let low = index_bound mounts origin some in omega arith))
 
       pub copied_same : attach nat_eq world fresh place false mounts ≡ attach nat_eq world again place false mounts
-      copied_same =
-          at_destination alone false fresh
-          ∙ (λ i. attached_alone true false (record {
-            copy = λ part origin. copy_same part origin i;
-            image = (copies_from nat_eq fresh (destination ∷ []) mounts).image;
-          }))
-          ∙ sym (at_destination alone false again)
+      copied_same = at_destination alone false fresh ∙ (λ i. attached_alone true false (record {
+        copy = λ part origin. copy_same part origin i;
+        image = (copies_from nat_eq fresh (destination ∷ []) mounts).image;
+      })) ∙ sym (at_destination alone false again)

@@ -15,13 +15,11 @@ counted_here next taken k low =
     let odd : (4 * (next + k) + 1) % 2 ≡ 1 = omega arith in
     let rest : (4 * (next + k) + 1) % 4 ≡ 1 = omega arith in
     let quarter : (4 * (next + k) + 1) / 4 ≡ next + k = omega arith in
-    or_right ((4 * (next + k) + 1) % 2 == 0) _
-    (λ i. eq-eqb ((4 * (next + k) + 1) % 4) 1 rest i
+    or_right ((4 * (next + k) + 1) % 2 == 0) _ (λ i. eq-eqb ((4 * (next + k) + 1) % 4) 1 rest i
     && lt-ltb ((4 * (next + k) + 1) / 4) (next + taken) (omega arith) i)
 
 even_counted : (next inode : ℕ) → inode % 2 ≡ 0 → is_counted_before next inode ≡ true
-even_counted next inode even =
-    λ i. eq-eqb (inode % 2) 0 even i || (inode % 4 == 1 && nat_lt (inode / 4) next)
+even_counted next inode even = λ i. eq-eqb (inode % 2) 0 even i || (inode % 4 == 1 && nat_lt (inode / 4) next)
 
 lower : (k : ℕ) → k < 3 → (k ≡ 2 → ⊥) → k < 2
 lower zero low other = omega arith
@@ -31,8 +29,7 @@ lower (suc (suc (suc k))) low other = absurd (omega arith)
 
 module _ (next inode : ℕ) (even : inode % 2 ≡ 0) (world : World ℕ) (task : Task ℕ) where
   abbrev pub Taken : Permit ℕ → Type 0
-  Taken permit =
-      (k : ℕ) → k < numbers_taken world task permit
+  Taken permit = (k : ℕ) → k < numbers_taken world task permit
       → is_counted_before (next + counts_taken world task permit) (handed_to next inode permit k) ≡ true
 
   first_taken : (k : ℕ) → k < 1 → is_counted_before (next + 0) (cond (k == 0) inode (counts_from next k)) ≡ true
@@ -47,8 +44,7 @@ module _ (next inode : ℕ) (even : inode % 2 ≡ 0) (world : World ℕ) (task :
     where
       by : (b : Bool) → (k == 2) ≡ b → is_counted_before (next + 2) (cond b inode (counts_from next k)) ≡ true
       by true e = even_counted (next + 2) inode even
-      by false e =
-          counted_here next 2 k (lower k low (λ same. true≢false (sym (eq-eqb k 2 same) ∙ e)))
+      by false e = counted_here next 2 k (lower k low (λ same. true≢false (sym (eq-eqb k 2 same) ∙ e)))
 
   pub taken : (permit : Permit ℕ) → Taken permit
   taken Allowed k low = counted_here next (numbers_taken world task Allowed) k low

@@ -8,13 +8,11 @@ use Rattle.vt_laws_trees.specs.Runs.Handed.{is_counted_before}
 
 pub permits_keep_to_taken : PermitsKeepToTaken
 permits_keep_to_taken before later world task permit fresh more whole plain ungrouped called keeps is taken renaming
-    leaves =
-    left_renamed renaming fresh world task permit called
+    leaves = left_renamed renaming fresh world task permit called
     (keeps renaming (λ number named. leaves number (more number named)))
     (permit_left before renaming (λ number named. leaves number (more number named)) permit is)
     ∙ only_the_first_are_taken before world task permit
-    (λ k. renaming.there (fresh k)) fresh whole plain ungrouped called
-    is (λ k low. leaves (fresh k) (taken k low))
+    (λ k. renaming.there (fresh k)) fresh whole plain ungrouped called is (λ k low. leaves (fresh k) (taken k low))
 
 -- what is counted before a count is counted before a later one
 pub counted_later : (next later number : ℕ) → next ≤ later → is_counted_before next number ≡ true

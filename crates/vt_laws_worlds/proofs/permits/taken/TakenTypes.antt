@@ -64,14 +64,11 @@ module _ (mounts : List (Mount ℕ)) (all : (mount : Mount ℕ) → Among mount 
       → Among mount (tree_from nat_eq depth mounts top) → Ungrouped mount
   tree_is zero top is mount among =
       ⊎_elim (λ same. ap (λ (m : Mount ℕ). is_ungrouped m.propagation) same ∙ is) (λ none. absurd none) among
-  tree_is (suc depth) top is mount among =
-      ⊎_elim (λ same. ap (λ (m : Mount ℕ). is_ungrouped m.propagation) same ∙ is)
+  tree_is (suc depth) top is mount among = ⊎_elim (λ same. ap (λ (m : Mount ℕ). is_ungrouped m.propagation) same ∙ is)
       (λ below.
-      let found =
-      among-from_flat_map (tree_from nat_eq depth mounts) (children nat_eq mounts top.number) mount below in
+      let found = among-from_flat_map (tree_from nat_eq depth mounts) (children nat_eq mounts top.number) mount below in
       tree_is depth found.0
-      (all found.0 (among-from_filter (stands_on nat_eq top.number) mounts found.0 found.1).0) mount found.2)
-      among
+      (all found.0 (among-from_filter (stands_on nat_eq top.number) mounts found.0 found.1).0) mount found.2) among
 
 module _ (world : World ℕ) (whole : IsWorld nat_eq world) (ungrouped : IsUngrouped world) where
   each_is : (mount : Mount ℕ) → Among mount world.mounts → Ungrouped mount
@@ -82,15 +79,13 @@ module _ (world : World ℕ) (whole : IsWorld nat_eq world) (ungrouped : IsUngro
   named_is number true mount among =
       tree_is world.mounts each_is (length world.mounts) (mount_numbered nat_eq world number)
       (found_is world.mounts each_is number) mount among
-  named_is number false mount among =
-      ⊎_elim
+  named_is number false mount among = ⊎_elim
       (λ same. ap (λ (m : Mount ℕ). is_ungrouped m.propagation) same ∙ found_is world.mounts each_is number)
       (λ none. absurd none) among
 
   -- no group has a master
   no_masters : (group : ℕ) → world.master group ≡ None
-  no_masters group =
-      (all_in_use world whole).groups group
+  no_masters group = (all_in_use world whole).groups group
       (none_passes (is_member_of nat_eq group) world.mounts (λ mount among.
       no_member group mount.propagation (each_is mount among)))
 
@@ -98,8 +93,7 @@ module _ (world : World ℕ) (whole : IsWorld nat_eq world) (ungrouped : IsUngro
       → (master : ℕ → Option ℕ) → ((number : ℕ) → master number ≡ None)
       → (number : ℕ) → with_new_groups nat_eq group master named number ≡ None
   none_left group [] all master none number = none number
-  none_left group (mount ∷ rest) all master none number =
-      none_left group rest (λ other among. all other (inr among))
+  none_left group (mount ∷ rest) all master none number = none_left group rest (λ other among. all other (inr among))
       (with_master nat_eq master (group mount.number) (master_after mount.propagation))
       (λ other. by other (nat_eq other (group mount.number))) number
     where
@@ -110,11 +104,10 @@ module _ (world : World ℕ) (whole : IsWorld nat_eq world) (ungrouped : IsUngro
   pub retyped_same : (word : TypeWord) → makes_groups word ≡ false → (number : ℕ) (recursive : Bool) (one other : ℕ → ℕ)
       → retyped nat_eq world one word (named_mounts nat_eq world number recursive)
       ≡ retyped nat_eq world other word (named_mounts nat_eq world number recursive)
-  retyped_same word makes number recursive one other = λ i.
-      regrouped nat_eq (record world {
-        mounts = map (λ mount. mount_same mount i) world.mounts;
-        master = λ group. (left one group ∙ sym (left other group)) i;
-      })
+  retyped_same word makes number recursive one other = λ i. regrouped nat_eq (record world {
+    mounts = map (λ mount. mount_same mount i) world.mounts;
+    master = λ group. (left one group ∙ sym (left other group)) i;
+  })
     where
       named : List (Mount ℕ)
       named = named_mounts nat_eq world number recursive
@@ -129,9 +122,7 @@ module _ (world : World ℕ) (whole : IsWorld nat_eq world) (ungrouped : IsUngro
           by : (b : Bool)
               → cond b (record mount { propagation = type_after (one mount.number) word mount.propagation }) mount
               ≡ cond b (record mount { propagation = type_after (other mount.number) word mount.propagation }) mount
-          by true = λ i.
-              record mount {
-                propagation = type_same (one mount.number)
-                    (other mount.number) word makes mount.propagation i;
-              }
+          by true = λ i. record mount {
+            propagation = type_same (one mount.number) (other mount.number) word makes mount.propagation i;
+          }
           by false = refl

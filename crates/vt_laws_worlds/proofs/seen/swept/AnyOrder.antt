@@ -25,15 +25,13 @@ use Rattle.vt_laws_worlds.proofs.seen.swept.Stages.{less, overlay_less, reals_le
 use Rattle.vt_laws_worlds.proofs.seen.swept.Wholes.{filesystems_may_go_before, groups_may_go_before}
 
 -- A tree without inodes that are not its root and have no name is a tree.
-module _ (gone : ℕ → Bool) (f : Filesystem ℕ) (tree : IsFileTree f.files)
-    (root : gone f.files.tree.root ≡ false)
+module _ (gone : ℕ → Bool) (f : Filesystem ℕ) (tree : IsFileTree f.files) (root : gone f.files.tree.root ≡ false)
     (named : (number : ℕ) → HasName f.files.tree number → gone number ≡ false) where
   abbrev stays : List ℕ
   stays = filter (λ k. not (gone k)) f.files.numbers
 
   among_stays : (k : ℕ) → is_among nat_eq k stays ≡ (not (gone k) && is_some (f.files.tree.node k))
-  among_stays k =
-      any-filter_same (nat_eq k) (λ m. not (gone m)) (not (gone k))
+  among_stays k = any-filter_same (nat_eq k) (λ m. not (gone m)) (not (gone k))
       (λ m same. ap (λ n. not (gone n)) (sym (eqb-true k m same))) f.files.numbers
       ∙ ap (λ b. not (gone k) && b) (tree.numbers k)
 
@@ -66,16 +64,14 @@ module _ (gone : ℕ → Bool) (f : Filesystem ℕ) (tree : IsFileTree f.files)
   file_tree_less = subst IsFileTree (λ i. record {
     tree = record { root = f.files.tree.root; node = λ k. same_node k i };
     numbers = same_numbers i;
-  })
-      (kept_file_tree stays f.files holds tree)
+  }) (kept_file_tree stays f.files holds tree)
 
 locations_stay : (world : World ℕ) → MountsInUse world → LocationsStay world
 locations_stay world all filesystem number is =
     subst (λ w. is_among nat_eq number (located_in nat_eq w filesystem) ≡ true) (mounts_stay world all) is
 
 listed : (world : World ℕ) → HasFileTrees world → HasTrees world
-listed world trees =
-    all_from_among (λ (f : Filesystem ℕ). IsListedTree f.files) world.filesystems (λ f m.
+listed world trees = all_from_among (λ (f : Filesystem ℕ). IsListedTree f.files) world.filesystems (λ f m.
     let tree = among_from_all (λ (g : Filesystem ℕ). IsFileTree g.files) world.filesystems trees f m in
     record { tree = tree.tree; numbers = tree.numbers })
 
@@ -117,8 +113,7 @@ module _ (chosen : Filesystem ℕ → Bool) (world : World ℕ) (inode : Inode) 
       (λ k has. used_stays f k (used.named k has))
 
   upper_kept : (f : Filesystem ℕ) → UpperApart world f → UpperApart (with_less goes world) (less goes f)
-  upper_kept f apart is =
-      All-map (λ g. has_upper_in f.number g ≡ false) (less goes) world.filesystems
+  upper_kept f apart is = All-map (λ g. has_upper_in f.number g ≡ false) (less goes) world.filesystems
       (all_from_among (λ g. has_upper_in f.number (less goes g) ≡ false) world.filesystems (λ g m.
       upper_less f.number (goes g) g ∙ among_from_all (λ x. has_upper_in f.number x ≡ false) world.filesystems
       (apart (sym (overlay_less (goes f) f) ∙ is)) g m))

@@ -18,8 +18,7 @@ skipped a b e = (or_parts a b e).1
 pub mounts_may_go_before : MountsMayGoBefore
 mounts_may_go_before world number =
     ap (λ mounts. without_dead_groups nat_eq (without_dead_inodes nat_eq (without_dead_filesystems nat_eq
-    (with_mounts world mounts))))
-    (filter_less (mount_lives nat_eq world)
+    (with_mounts world mounts)))) (filter_less (mount_lives nat_eq world)
     (λ mount. not (nat_eq mount.number number) || mount_lives nat_eq world mount) world.mounts
     (λ mount m e. skipped (not (nat_eq mount.number number)) (mount_lives nat_eq world mount) e))
 
@@ -49,12 +48,10 @@ module _ (world : World ℕ) (number : ℕ) where
 
   not_mounted : (filesystem : Filesystem ℕ) → stays filesystem ≡ false
       → is_mounted nat_eq mounted filesystem.number ≡ false
-  not_mounted filesystem e = mounted_before filesystem.number
-      (or_parts (is_mounted nat_eq world filesystem.number) _
+  not_mounted filesystem e = mounted_before filesystem.number (or_parts (is_mounted nat_eq world filesystem.number) _
       (skipped (not (nat_eq filesystem.number number)) (filesystem_lives nat_eq world filesystem) e)).0
 
-  not_layering : (on : ℕ) (filesystem : Filesystem ℕ) → stays filesystem ≡ false
-      → layered mounted on filesystem ≡ false
+  not_layering : (on : ℕ) (filesystem : Filesystem ℕ) → stays filesystem ≡ false → layered mounted on filesystem ≡ false
   not_layering on filesystem e = by (has_layer_on nat_eq on filesystem)
     where
       by : (b : Bool) → (b && is_mounted nat_eq mounted filesystem.number) ≡ false
@@ -66,8 +63,7 @@ module _ (world : World ℕ) (number : ℕ) where
 
   same_lives : (filesystem : Filesystem ℕ) → filesystem_lives nat_eq left filesystem
       ≡ filesystem_lives nat_eq mounted filesystem
-  same_lives filesystem =
-      ap (λ b. is_mounted nat_eq mounted filesystem.number || b)
+  same_lives filesystem = ap (λ b. is_mounted nat_eq mounted filesystem.number || b)
       (any-filter (layered mounted filesystem.number) stays world.filesystems
       (λ g m e. not_layering filesystem.number g e))
 
@@ -78,8 +74,7 @@ module _ (world : World ℕ) (number : ℕ) where
       (list_any (layered world filesystem.number) world.filesystems)
       (skipped (not (nat_eq filesystem.number number)) (filesystem_lives nat_eq world filesystem) e) in
       ap (λ b. b || list_any (layered mounted filesystem.number) world.filesystems)
-      (mounted_before filesystem.number parts.0)
-      ∙ none_passes (layered mounted filesystem.number) world.filesystems
+      (mounted_before filesystem.number parts.0) ∙ none_passes (layered mounted filesystem.number) world.filesystems
       (λ g m. less filesystem.number g (fails (layered world filesystem.number) world.filesystems parts.1 g m))
 
 pub filesystems_may_go_before : FilesystemsMayGoBefore
@@ -97,16 +92,14 @@ groups_may_go_before world group = λ i. record (settled nat_eq world) { master 
     last : List (Mount ℕ)
     last = filter (mount_lives nat_eq world) world.mounts
 
-    by : (other : ℕ)
-        → cond (has_members nat_eq last other)
+    by : (other : ℕ) → cond (has_members nat_eq last other)
         (cond (nat_eq other group && not (has_members nat_eq world.mounts other)) None (world.master other)) None
         ≡ cond (has_members nat_eq last other) (world.master other) None
     by other = at (has_members nat_eq world.mounts other) refl (nat_eq other group)
       where
         at : (b : Bool) → has_members nat_eq world.mounts other ≡ b → (c : Bool)
             → cond (has_members nat_eq last other) (cond (c && not (has_members nat_eq world.mounts other)) None
-            (world.master other)) None
-            ≡ cond (has_members nat_eq last other) (world.master other) None
+            (world.master other)) None ≡ cond (has_members nat_eq last other) (world.master other) None
         at b e false = refl
         at true e true = ap (λ x. cond (has_members nat_eq last other) (cond (not x) None (world.master other)) None) e
         at false e true =

@@ -42,8 +42,7 @@ module _ (world : World ℕ) (task : Task ℕ) (here : Location ℕ) where
 pub step_rules_in_order : StepRulesInOrder
 step_rules_in_order world task here word deny e =
     error_is (λ d. IsInOrder (search_rules nat_eq world task here ++ ((true, d.rule) ∷ [])))
-    (stepped nat_eq world task here word) deny e
-    (steps world task here word)
+    (stepped nat_eq world task here word) deny e (steps world task here word)
 
 -- a place that a rule stops at goes no further
 stops : (fails : Bool) (rule : Rule) (place : Place ℕ) (next : Place ℕ → Result (Place ℕ) (Stop ℕ)) → fails ≡ true
@@ -53,11 +52,9 @@ stops false rule place next e = cc
 
 -- a walk to that place is refused so, whatever is asked behind it
 stops_there : (walk : Result (Place ℕ) (Stop ℕ)) (place : Place ℕ) (fails : Place ℕ → Bool) (rule : Rule)
-    (more : Place ℕ → Rules)
-    → walk ≡ Ok place → fails place ≡ true
+    (more : Place ℕ → Rules) → walk ≡ Ok place → fails place ≡ true
     → walk_end (then_walk (then_walk walk (λ p. walk_unless p.steps ((fails p, rule) ∷ []) p))
-    (λ p. walk_unless p.steps (more p) p)) ≡ Err
-    (denial rule)
+    (λ p. walk_unless p.steps (more p) p)) ≡ Err (denial rule)
 stops_there (Ok found) place fails rule more leads e =
     let same : place ≡ found = cc in
     stops (fails found) rule found (λ p. walk_unless p.steps (more p) p) (subst (λ p. fails p ≡ true) same e)
@@ -68,8 +65,7 @@ missing None e = refl
 missing (Some object) e = cc
 
 pub removed_before_slash : RemovedBeforeSlash
-removed_before_slash world task path place leads none removed =
-    stops_there (place_walk nat_eq world task path) place
+removed_before_slash world task path place leads none removed = stops_there (place_walk nat_eq world task path) place
     (λ p. not (is_some p.object) && is_removed_at nat_eq world p.parent) W8
     (λ p. (p.slash && not (is_some p.object), W6) ∷ []) leads
     (and_from (not (is_some place.object)) (is_removed_at nat_eq world place.parent)

@@ -46,26 +46,20 @@ module _ (tree : Tree ℕ) (is : IsTree tree) (own : HasOwnParents tree) (top : 
   -- a directory without a name is its own parent
   parent_is_own : (d : ℕ) → has_entry_to nat_eq tree (parent_in d (tree.node d)) d ≡ false
       → parent_in d (tree.node d) ≡ d
-  parent_is_own d unnamed =
-      ⊎_elim
-      (λ directory. own d directory (λ name.
+  parent_is_own d unnamed = ⊎_elim (λ directory. own d directory (λ name.
       true≢false (sym (among_targets name.1 (entries_in (tree.node name.0)) d name.2)
       ∙ ap (λ p. has_entry_to nat_eq tree p d) (sym (is.one_parent name.0 name.1 d name.2 directory)) ∙ unnamed)))
-      (λ none. own_parent d (tree.node d) none)
-      (cases_Bool (is_directory_node (tree.node d)))
+      (λ none. own_parent d (tree.node d) none) (cases_Bool (is_directory_node (tree.node d)))
 
   repeats : (d : ℕ) → above d ≡ Some d → (most : ℕ) → among (chain most above d) ≡ nat_eq top d
   repeats d self zero = or-false (nat_eq top d)
-  repeats d self (suc most) =
-      ap (λ o. among (next_of (chain most above) d o)) self
+  repeats d self (suc most) = ap (λ o. among (next_of (chain most above) d o)) self
       ∙ ap (λ b. nat_eq top d || b) (repeats d self most) ∙ twice (nat_eq top d)
 
   alike : (most d : ℕ) → among (chain most above d) ≡ among (chain most named d)
   alike zero d = refl
-  alike (suc most) d =
-      at (nat_eq d tree.root) refl (has_entry_to nat_eq tree (parent_in d (tree.node d)) d) refl
-      (alike most (parent_in d (tree.node d)))
-      (λ self. repeats d self most)
+  alike (suc most) d = at (nat_eq d tree.root) refl (has_entry_to nat_eq tree (parent_in d (tree.node d)) d) refl
+      (alike most (parent_in d (tree.node d))) (λ self. repeats d self most)
     where
       at : (r : Bool) → nat_eq d tree.root ≡ r → (e : Bool) → has_entry_to nat_eq tree (parent_in d (tree.node d)) d ≡ e
           → among (chain most above (parent_in d (tree.node d))) ≡ among (chain most named (parent_in d (tree.node d)))
@@ -76,8 +70,7 @@ module _ (tree : Tree ℕ) (is : IsTree tree) (own : HasOwnParents tree) (top : 
       at false root true entry later self = ap (λ b. nat_eq top d || b) later
       at false root false entry later self =
           let same : parent_in d (tree.node d) ≡ d = parent_is_own d entry in
-          ap (λ p. nat_eq top d || among (chain most above p)) same
-          ∙ ap (λ b. nat_eq top d || b) (self
+          ap (λ p. nat_eq top d || among (chain most above p)) same ∙ ap (λ b. nat_eq top d || b) (self
           (ap (λ b. cond b None (Some (parent_in d (tree.node d)))) root ∙ ap Some same))
           ∙ twice (nat_eq top d) ∙ sym (or-false (nat_eq top d))
 

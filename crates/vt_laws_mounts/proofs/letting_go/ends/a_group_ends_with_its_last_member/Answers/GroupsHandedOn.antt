@@ -15,8 +15,7 @@ use Rattle.vt_spec.proofs.Found.{find-chain_start}
 use Rattle.vt_spec.proofs.Lists.{map_alike}
 
 find_after_start : (p : ℕ → Bool) (next : ℕ → Option ℕ) (n a : ℕ) → p a ≡ false
-    → list_all p (option_to_list (next a)) ≡ true
-    → find p (chain (suc n) next a) ≡ next a
+    → list_all p (option_to_list (next a)) ≡ true → find p (chain (suc n) next a) ≡ next a
 find_after_start p next n a e above = grind (arith, common_steps, find-chain_start, and_parts)
 
 module _ (world : World ℕ) (group : ℕ) (live : GroupsLiveBut group world)
@@ -75,19 +74,14 @@ module _ (world : World ℕ) (group : ℕ) (live : GroupsLiveBut group world)
       has below true e =
           let t = one_passes (is_member_of nat_eq other) world.mounts e in
           let source = member_source t.0 t.2 in
-          true≢false
-          (sym (or_second (is_lost_group nat_eq world (source_of t.0.propagation))
+          true≢false (sym (or_second (is_lost_group nat_eq world (source_of t.0.propagation))
           (is_lost_group nat_eq world (then_some (source_of t.0.propagation) world.master))
           (ap (λ o. is_lost_group nat_eq world (then_some o world.master)) source
           ∙ ap (is_lost_group nat_eq world) below ∙ ap not empty))
           ∙ fails (lost_a_group nat_eq world) world.mounts none t.0 t.1)
-      has below false e =
-          ⊎_elim
-          (λ same. true≢false
-          (sym (and_parts (lives group) true
+      has below false e = ⊎_elim (λ same. true≢false (sym (and_parts (lives group) true
           (sym (ap (λ o. list_all lives (option_to_list o)) (ap world.master (sym (eqb-true other group same)) ∙ below))
-          ∙ live.its_master)).0 ∙ empty))
-          (λ differ. true≢false
+          ∙ live.its_master)).0 ∙ empty)) (λ differ. true≢false
           (sym (ap is_some below) ∙ ap is_some (live.in_use other (ap (λ b. b || false) differ) e)))
           (cases_Bool (nat_eq other group))
 
@@ -103,16 +97,14 @@ module _ (world : World ℕ) (group : ℕ) (live : GroupsLiveBut group world)
           → regrouped_by nat_eq b world ≡ hand_on world group
       by true e = λ i. record world {
         mounts = map_alike (inheriting nat_eq world) (mount_handed_on group (world.master group)) world.mounts
-            (λ mount m. ap (λ kind. record mount { propagation = kind })
-            (inherited_handed_on mount.propagation
+            (λ mount m. ap (λ kind. record mount { propagation = kind }) (inherited_handed_on mount.propagation
             (passes (λ x. list_all (is_group_or_lives world group)
             (option_to_list (source_of x.propagation))) world.mounts live.of_mounts mount m))) i;
         master = λ other. heir_handed_on (world.master other) (live.of_groups other) i;
       }
       by false e = λ i. record world {
         mounts = sym (map_same (mount_handed_on group (world.master group)) world.mounts
-            (λ mount m. ap (λ kind. record mount { propagation = kind })
-            (no_slave mount.propagation
+            (λ mount m. ap (λ kind. record mount { propagation = kind }) (no_slave mount.propagation
             (or_parts (is_lost_group nat_eq world (source_of mount.propagation)) _
             (fails (lost_a_group nat_eq world) world.mounts e mount m)).0))) i;
         master = λ other. sym (no_lower e other) i;

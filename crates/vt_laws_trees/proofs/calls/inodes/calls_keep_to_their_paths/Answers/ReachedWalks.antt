@@ -81,8 +81,7 @@ module _ (fresh : Fresh ℕ) (world : World ℕ) (task : Task ℕ) (filesystem n
   spared_in : (shown : ℕ) (locations : List (Location ℕ)) → AllIn shown locations → Apart locations
       → (nat_eq filesystem shown && is_among nat_eq number (map (λ location. location.node) locations)) ≡ false
   spared_in shown [] are apart = and-false (nat_eq filesystem shown)
-  spared_in shown (location ∷ locations) are apart =
-      spread (nat_eq filesystem shown) (nat_eq number location.node) _
+  spared_in shown (location ∷ locations) are apart = spread (nat_eq filesystem shown) (nat_eq number location.node) _
       (ap (λ f. nat_eq filesystem f && nat_eq number location.node) (sym are.0) ∙ or_false_left _ _ apart)
       (spared_in shown locations are.1 ((or_parts _ _ apart).1))
 
@@ -94,17 +93,14 @@ module _ (fresh : Fresh ℕ) (world : World ℕ) (task : Task ℕ) (filesystem n
 
   object_beside : (place : Place ℕ) → IsPlace world place → is_special place.last ≡ false
       → AllIn (In place.parent) (option_to_list place.object)
-  object_beside place is plain =
-      subst (λ o. AllIn (In place.parent) (option_to_list o))
+  object_beside place is plain = subst (λ o. AllIn (In place.parent) (option_to_list o))
       (sym (place_named world place.parent place.last place.object plain is).1)
       (beside place.parent (entry_named (name_of place.last) (entries_in (node_at nat_eq world place.parent))))
 
   spared_removed : (place : Place ℕ) → IsOldPlace world task place → is_special place.last ≡ false
-      → Apart (place.parent ∷ option_to_list place.object)
-      → (nat_eq filesystem (In place.parent)
+      → Apart (place.parent ∷ option_to_list place.object) → (nat_eq filesystem (In place.parent)
       && is_among nat_eq number (place.parent.node ∷ (object_there place).node ∷ [])) ≡ false
-  spared_removed place is plain apart =
-      spared_in (In place.parent) (place.parent ∷ object_there place ∷ [])
+  spared_removed place is plain apart = spared_in (In place.parent) (place.parent ∷ object_there place ∷ [])
       (refl, subst (AllIn (In place.parent)) listed (object_beside place is.0 plain))
       (subst (λ list. Apart (place.parent ∷ list)) listed apart)
     where
@@ -152,8 +148,7 @@ module _ (fresh : Fresh ℕ) (world : World ℕ) (task : Task ℕ) (filesystem n
       entry : Option ℕ
       entry = entry_named (name_of to.last) (entries_in (node_at nat_eq world to.parent))
 
-      nodes : (o : Option ℕ)
-          → map (λ (location : Location ℕ). location.node)
+      nodes : (o : Option ℕ) → map (λ (location : Location ℕ). location.node)
           (option_to_list (option_map (λ object. record { mount = to.parent.mount; node = object }) o))
           ≡ option_to_list o
       nodes None = refl
@@ -162,10 +157,8 @@ module _ (fresh : Fresh ℕ) (world : World ℕ) (task : Task ℕ) (filesystem n
       named : map (λ (location : Location ℕ). location.node) (option_to_list to.object)
           ≡ option_to_list (entry_named (name_of to.last)
           (entries_in ((files_at nat_eq world from.parent).tree.node to.parent.node)))
-      named =
-          ap (λ o. map (λ (location : Location ℕ). location.node) (option_to_list o))
-          (place_named world to.parent to.last to.object word_to is_to).1
-          ∙ nodes entry
+      named = ap (λ o. map (λ (location : Location ℕ). location.node) (option_to_list o))
+          (place_named world to.parent to.last to.object word_to is_to).1 ∙ nodes entry
           ∙ ap (λ mount. option_to_list (entry_named (name_of to.last)
           (entries_in (node_at nat_eq world (record { mount = mount; node = to.parent.node }))))) (sym mounts)
 
@@ -195,14 +188,11 @@ module _ (fresh : Fresh ℕ) (world : World ℕ) (task : Task ℕ) (filesystem n
   granted_spares call permit (writes_new_file path bytes place end named missing fits passed) apart root =
       spared_new place.parent (subst (λ o. Apart (file_or_new fresh place.parent o)) missing
       (apart_at (file_walk nat_eq world task path) place (file_or_new_at fresh) end apart))
-  granted_spares call permit (makes_directory path mode place end passed) apart root =
-      spared_new place.parent
+  granted_spares call permit (makes_directory path mode place end passed) apart root = spared_new place.parent
       (apart_at (new_walk nat_eq world task path) place (directory_and_new_at fresh) end apart)
-  granted_spares call permit (makes_symlink text path place fits end passed) apart root =
-      spared_new place.parent
+  granted_spares call permit (makes_symlink text path place fits end passed) apart root = spared_new place.parent
       (apart_at (new_leaf_walk nat_eq world task path) place (directory_and_new_at fresh) end apart)
-  granted_spares call permit (makes_whiteout path place end passed) apart root =
-      spared_new place.parent
+  granted_spares call permit (makes_whiteout path place end passed) apart root = spared_new place.parent
       (apart_at (new_leaf_walk nat_eq world task path) place (directory_and_new_at fresh) end apart)
   granted_spares call permit (makes_hard_link old new from place from_end end named passed) apart root =
       spared_in (In place.parent) (place.parent ∷ from.location ∷ []) (
@@ -212,17 +202,13 @@ module _ (fresh : Fresh ℕ) (world : World ℕ) (task : Task ℕ) (filesystem n
               (eqb-true from.location.mount place.parent.mount (not_true _ passed.1.1.1.1.1.0)),
           tt,
         ),
-      )
-      (apart_at (symlink_walk nat_eq world task old) from (λ walk. place.parent ∷ object_at walk) from_end
+      ) (apart_at (symlink_walk nat_eq world task old) from (λ walk. place.parent ∷ object_at walk) from_end
       (apart_at (new_leaf_walk nat_eq world task new) place
       (λ walk. directory_at walk ++ object_at (symlink_walk nat_eq world task old)) end apart))
-  granted_spares call permit (unlinks path place end named passed) apart root =
-      spared_removed place
+  granted_spares call permit (unlinks path place end named passed) apart root = spared_removed place
       (at_end (IsOldPlace world task) (old_leaf_walk nat_eq world task path) place (ends_old_leaf_walk world task path)
-      end)
-      named.0 (apart_at (old_leaf_walk nat_eq world task path) place directory_and_object_at end apart)
-  granted_spares call permit (removes_directory path place end word passed) apart root =
-      spared_removed place
+      end) named.0 (apart_at (old_leaf_walk nat_eq world task path) place directory_and_object_at end apart)
+  granted_spares call permit (removes_directory path place end word passed) apart root = spared_removed place
       (at_end (IsOldPlace world task) (old_walk nat_eq world task path) place (ends_old_walk world task path) end)
       (special_word place.last word.0 word.1.0 word.1.1.0)
       (apart_at (old_walk nat_eq world task path) place directory_and_object_at end apart)
@@ -230,11 +216,9 @@ module _ (fresh : Fresh ℕ) (world : World ℕ) (task : Task ℕ) (filesystem n
       let to_end = renamed_walk world task new (is_directory_there nat_eq world from) to names.to_end in
       moved_spares from to
       (at_end (IsOldPlace world task) (old_leaf_walk nat_eq world task old) from (ends_old_leaf_walk world task old)
-      names.from_end)
-      names.from_named.0
+      names.from_end) names.from_named.0
       (at_end (IsNewPlace world task) (new_walk nat_eq world task new) to (ends_new_walk world task new) to_end).0
-      names.to_named.0
-      (eqb-true from.parent.mount to.parent.mount (not_true _ passed.1.1.1.1.1.1.1.1.0))
+      names.to_named.0 (eqb-true from.parent.mount to.parent.mount (not_true _ passed.1.1.1.1.1.1.1.1.0))
       (apart_at (new_walk nat_eq world task new) to
       (λ walk. (from.parent ∷ option_to_list from.object) ++ directory_and_object_at walk) to_end
       (apart_at (old_leaf_walk nat_eq world task old) from
@@ -250,8 +234,7 @@ module _ (fresh : Fresh ℕ) (world : World ℕ) (task : Task ℕ) (filesystem n
       spared_new place.parent (subst (λ o. Apart (nothing_or_new fresh place.parent o)) missing
       (apart_at (file_walk nat_eq world task path) place (nothing_or_new_at fresh) end apart))
   granted_spares call permit (creates_exclusively path access mode place room end named passed) apart root =
-      spared_new place.parent
-      (apart_at (new_walk nat_eq world task path) place (directory_and_new_at fresh) end apart)
+      spared_new place.parent (apart_at (new_walk nat_eq world task path) place (directory_and_new_at fresh) end apart)
   granted_spares call permit (writes_part which offset bytes descriptor found passed) apart root =
       pwritten_spares descriptor.location offset bytes
       (subst (λ o. Apart (option_to_list (option_map (λ (d : Descriptor ℕ). d.location) o)))

@@ -65,8 +65,7 @@ copy_roots merge object copy (Some node) false = (refl, by (a_name nat_eq merge.
 copied_roots : (fresh : Fresh ℕ) (k : ℕ) (merge : Merge ℕ) (list : List ℕ)
     → SameRoots merge (copied_each nat_eq fresh k merge list)
 copied_roots fresh k merge [] = (refl, refl)
-copied_roots fresh k merge (object ∷ rest) =
-    and_roots merge copied (copied_each nat_eq fresh (k + 1) copied rest)
+copied_roots fresh k merge (object ∷ rest) = and_roots merge copied (copied_each nat_eq fresh (k + 1) copied rest)
     (copy_roots merge object (fresh k) (merge.files.tree.node object) (is_in_upper merge object))
     (copied_roots fresh (k + 1) copied rest)
   where
@@ -116,8 +115,7 @@ merged_roots fresh stack merge (Remove directory name object) =
       root-emptied (name_left nat_eq (odds fresh) stack copied copied.upper directory name)
           (upper_directory_named copied directory name)
           ∙ root-name_left_by (is_some (shown_in_lowers_at nat_eq stack copied directory name))
-          (odds fresh) stack copied.upper
-          (upper_of copied directory) name,
+          (odds fresh) stack copied.upper (upper_of copied directory) name,
     )
   where
     copied : Merge ℕ
@@ -150,9 +148,7 @@ module _ (number : ℕ) where
 
   -- each filesystem keeps its number and its root
   abbrev Keeps : (Filesystem ℕ → Filesystem ℕ) → Type 0
-  Keeps change =
-      (filesystem : Filesystem ℕ)
-      → ((change filesystem).number ≡ filesystem.number)
+  Keeps change = (filesystem : Filesystem ℕ) → ((change filesystem).number ≡ filesystem.number)
       × ((change filesystem).files.tree.root ≡ filesystem.files.tree.root)
 
   mapped : (change : Filesystem ℕ → Filesystem ℕ) → Keeps change → (list : List (Filesystem ℕ))
@@ -182,13 +178,10 @@ module _ (number : ℕ) where
         others = map (replaced_if_numbered nat_eq new) rest
 
         by : (b : Bool) → nat_eq new.number first.number ≡ b → (c : Bool) → nat_eq number first.number ≡ c
-            → root_at (found c first rest) ≡ Some root → (Is rest → Is others)
-            → Is (cond b new first ∷ others)
+            → root_at (found c first rest) ≡ Some root → (Is rest → Is others) → Is (cond b new first ∷ others)
         by true e true f h later =
-            let same : number ≡ new.number =
-            eqb-true number first.number f ∙ sym (eqb-true new.number first.number e)
-            in
-            ap (λ c. root_at (found c new others)) (eq-eqb number new.number same) ∙ ap Some (here same)
+            let same : number ≡ new.number = eqb-true number first.number f ∙ sym (eqb-true new.number first.number e)
+            in ap (λ c. root_at (found c new others)) (eq-eqb number new.number same) ∙ ap Some (here same)
         by true e false f h later =
             ap (λ n. root_at (found (nat_eq number n) new others)) (eqb-true new.number first.number e)
             ∙ ap (λ c. root_at (found c new others)) f ∙ later h
@@ -218,10 +211,8 @@ module _ (number : ℕ) where
     -- a filesystem that is found by a number has it, if the number is this one
     its_root : (world : World ℕ) (shown : ℕ) → Is world.filesystems
         → number ≡ (numbered shown world.filesystems).number → (numbered shown world.filesystems).files.tree.root ≡ root
-    its_root world shown h same =
-        ap (λ n. (numbered n world.filesystems).files.tree.root)
-        (sym (same ∙ number_numbered shown world.filesystems))
-        ∙ root_found world.filesystems h
+    its_root world shown h same = ap (λ n. (numbered n world.filesystems).files.tree.root)
+        (sym (same ∙ number_numbered shown world.filesystems)) ∙ root_found world.filesystems h
 
     change_root : (fresh : Fresh ℕ) (world : World ℕ) (location : Location ℕ) (change : Change ℕ)
         → Is world.filesystems → Is (with_change nat_eq fresh world location change).filesystems
@@ -236,8 +227,7 @@ module _ (number : ℕ) where
         merged_in : (overlay : Overlay ℕ) (upper : Option (Layer ℕ))
             → Is (overlay_changed nat_eq fresh world at overlay upper change).filesystems
         merged_in overlay None = h
-        merged_in overlay (Some upper) =
-            replaced_root (with_files below merge.upper)
+        merged_in overlay (Some upper) = replaced_root (with_files below merge.upper)
             (λ same. roots.1 ∙ its_root world upper.filesystem h same)
             (map (replaced_if_numbered nat_eq new) world.filesystems)
             (replaced_root new (λ same. roots.0 ∙ its_root world shown h same) world.filesystems h)
@@ -258,8 +248,7 @@ module _ (number : ℕ) where
             roots = merged_roots fresh (stack_of nat_eq world overlay upper) was change
 
         by : (o : Option (Overlay ℕ)) → Is (filesystem_changed nat_eq fresh world at o change).filesystems
-        by None =
-            replaced_root (with_files at (changed nat_eq at.files change))
+        by None = replaced_root (with_files at (changed nat_eq at.files change))
             (λ same. changed_root at.files change ∙ its_root world shown h same) world.filesystems h
         by (Some overlay) = merged_in overlay overlay.upper
 
@@ -297,9 +286,7 @@ module _ (number : ℕ) where
       root_left task (ToMountPlain place flags) = added_root (plain_filesystem nat_eq fresh) world.filesystems h
       root_left task (ToMountOverlay place overlay flags) = added_root _ world.filesystems h
       root_left task (ToUnmount mount) = same_list _ (filesystems-taken_away world _)
-      root_left task (ToUnmountLazily mount) =
-          same_list _
-          (lazily_filesystems
+      root_left task (ToUnmountLazily mount) = same_list _ (lazily_filesystems
           (deepest_first nat_eq world (mount_tree nat_eq world.mounts (mount_numbered nat_eq world mount))) world)
       root_left task (ToSetType mount word recursive) = same_list _ (typed_filesystems fresh world mount word recursive)
       root_left task permit = h
@@ -320,8 +307,7 @@ module _ (number : ℕ) where
       → Keeps (λ filesystem. only_used nat_eq world (chosen filesystem) filesystem)
   only_used_keeps world chosen filesystem = by (chosen filesystem)
     where
-      whole : (b : Bool) (used : List ℕ)
-          → ((only_used_by nat_eq b used filesystem).number ≡ filesystem.number)
+      whole : (b : Bool) (used : List ℕ) → ((only_used_by nat_eq b used filesystem).number ≡ filesystem.number)
           × ((only_used_by nat_eq b used filesystem).files.tree.root ≡ filesystem.files.tree.root)
       whole true used = (refl, refl)
       whole false used = (refl, refl)
@@ -342,16 +328,14 @@ module _ (number : ℕ) where
 
       stays : lives number ≡ true → (list : List (Filesystem ℕ)) → root_of (filter passing list) ≡ root_of list
       stays alive [] = refl
-      stays alive (first ∷ rest) =
-          by (lives first.number) refl (nat_eq number first.number) refl (stays alive rest)
+      stays alive (first ∷ rest) = by (lives first.number) refl (nat_eq number first.number) refl (stays alive rest)
         where
           by : (b : Bool) → lives first.number ≡ b → (c : Bool) → nat_eq number first.number ≡ c
               → root_of (filter passing rest) ≡ root_of rest
               → root_of (cond b (first ∷ filter passing rest) (filter passing rest)) ≡ root_at (found c first rest)
           by true e true f later = ap (λ c. root_at (found c first (filter passing rest))) f
           by true e false f later = ap (λ c. root_at (found c first (filter passing rest))) f ∙ later
-          by false e true f later =
-              absurd (true≢false (sym alive ∙ ap lives (eqb-true number first.number f) ∙ e))
+          by false e true f later = absurd (true≢false (sym alive ∙ ap lives (eqb-true number first.number f) ∙ e))
           by false e false f later = later
 
       goes : lives number ≡ false → (list : List (Filesystem ℕ)) → root_of (filter passing list) ≡ None
@@ -361,8 +345,7 @@ module _ (number : ℕ) where
           by : (b : Bool) → lives first.number ≡ b → (c : Bool) → nat_eq number first.number ≡ c
               → root_of (filter passing rest) ≡ None
               → root_of (cond b (first ∷ filter passing rest) (filter passing rest)) ≡ None
-          by true e true f later =
-              absurd (true≢false (sym e ∙ ap lives (sym (eqb-true number first.number f)) ∙ dead))
+          by true e true f later = absurd (true≢false (sym e ∙ ap lives (sym (eqb-true number first.number f)) ∙ dead))
           by true e false f later = ap (λ c. root_at (found c first (filter passing rest))) f ∙ later
           by false e c f later = later
 
@@ -371,11 +354,9 @@ module _ (number : ℕ) where
       by_number true e = inl (stays e list)
       by_number false e = inr (goes e list)
 
-  settled_root : (world : World ℕ)
-      → (root_of (settled nat_eq world).filesystems ≡ root_of world.filesystems)
+  settled_root : (world : World ℕ) → (root_of (settled nat_eq world).filesystems ≡ root_of world.filesystems)
       ⊎ (root_of (settled nat_eq world).filesystems ≡ None)
-  settled_root world =
-      subst (λ o. (o ≡ root_of world.filesystems) ⊎ (o ≡ None)) (sym used)
+  settled_root world = subst (λ o. (o ≡ root_of world.filesystems) ⊎ (o ≡ None)) (sym used)
       (filtered (λ n. filesystem_lives nat_eq mounted (no_filesystem n)) world.filesystems)
     where
       mounted : World ℕ
@@ -388,8 +369,7 @@ module _ (number : ℕ) where
       merged = without_dead_in nat_eq is_overlay living
 
       used : root_of (settled nat_eq world).filesystems ≡ root_of living.filesystems
-      used =
-          mapped _ (only_used_keeps merged (λ filesystem. not (is_overlay filesystem))) merged.filesystems
+      used = mapped _ (only_used_keeps merged (λ filesystem. not (is_overlay filesystem))) merged.filesystems
           ∙ mapped _ (only_used_keeps living is_overlay) living.filesystems
 
 pub roots_stay : RootsStay
@@ -419,17 +399,13 @@ roots_stay fresh world name call filesystem root is =
 
     by_permit : (changes : List ℕ) (task : Task ℕ) (judgement : Judgement ℕ)
         → Stays (finished nat_eq world name call changes (after world judgement (apply nat_eq fresh world task))).world
-    by_permit changes task (Ok permit) =
-        finished_stays _ changes (apply nat_eq fresh world task permit)
+    by_permit changes task (Ok permit) = finished_stays _ changes (apply nat_eq fresh world task permit)
         (root_left filesystem root fresh world is task permit)
     by_permit changes task (Err deny) = finished_stays (only_looks call || true) changes (denied world deny) is
 
-    by_task : (o : Option (Task ℕ))
-        → Stays (after world (ok_or o (denial S2)) (λ task.
-        finished nat_eq world name call
-        (filesystems_changed_by nat_eq world (judge_in nat_eq fresh world task call))
+    by_task : (o : Option (Task ℕ)) → Stays (after world (ok_or o (denial S2)) (λ task.
+        finished nat_eq world name call (filesystems_changed_by nat_eq world (judge_in nat_eq fresh world task call))
         (after world (judge_in nat_eq fresh world task call) (apply nat_eq fresh world task)))).world
     by_task None = inl is
-    by_task (Some task) =
-        by_permit (filesystems_changed_by nat_eq world (judge_in nat_eq fresh world task call)) task
+    by_task (Some task) = by_permit (filesystems_changed_by nat_eq world (judge_in nat_eq fresh world task call)) task
         (judge_in nat_eq fresh world task call)
