@@ -1,7 +1,6 @@
 -- How many mounts namespaces have once a tree is attached.
 use Rattle.std.proofs.lemmas.Grind.{common_steps}
-use Rattle.std.proofs.Common.{◌≡◌, ℕ, Bool, true, false, cond, ◌+◌, ◌*◌, ◌≤◌, ◌++◌, ◌||◌, List, [], ◌∷◌, map, filter, length, nat_eq, Option, None, Some, flat_map, suc, refl, sym, ap, ◌∙◌, arith, true≢false, inl, inr, append_assoc, eq-eqb}
-use Rattle.std.proofs.Common.{find as seek}
+use Rattle.std.proofs.Common.{◌≡◌, ℕ, Bool, true, false, cond, ◌+◌, ◌*◌, ◌≤◌, ◌++◌, ◌||◌, List, [], ◌∷◌, map, filter, length, nat_eq, Option, None, Some, flat_map, suc, refl, sym, ap, ◌∙◌, arith, true≢false, inl, inr, append_assoc, eq-eqb, find as seek}
 use Rattle.std.specs.Prelude.{unwrap_or}
 use Rattle.std.specs.List.{list_any}
 use Rattle.std.proofs.lemmas.Bool.{eqb-true, or_parts}

@@ -1,7 +1,6 @@
 -- Groups live on through changes of mounts.
-use Rattle.std.proofs.Common.{arith}
+use Rattle.std.proofs.Common.{arith, ◌≡◌, refl, sym, ap, subst, ◌∙◌, true, false, Bool, List, None, Option, Some, [], eq-eqb, eqb-true, filter, find, is_some, length, map, not, true≢false, ℕ, ⊎_elim, ◌&&◌, ◌++◌, ◌||◌, ◌∷◌, nat_eq}
 use Rattle.std.proofs.lemmas.Grind.{common_steps}
-use Rattle.std.proofs.Common.{◌≡◌, refl, sym, ap, subst, ◌∙◌, true, false, Bool, List, None, Option, Some, [], eq-eqb, eqb-true, filter, find, is_some, length, map, not, true≢false, ℕ, ⊎_elim, ◌&&◌, ◌++◌, ◌||◌, ◌∷◌, nat_eq}
 use Rattle.std.proofs.Math.Bool.{and-false}
 use Rattle.std.specs.List.{list_any}
 use Rattle.vt_spec.specs.Machine.Mounts.Propagation.{Private, Shared, Slave, Unbindable}

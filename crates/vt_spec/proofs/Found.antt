@@ -1,19 +1,16 @@
 -- What is found in a list, and numbers among numbers.
-use Rattle.std.proofs.Common.{Bool, List, None, Option, Some, [], ap, cond, eq-eqb, false, inl, inr, length, map, nat_eq, refl, suc, sym, true, true≢false, zero, ℕ, ◌++◌, ◌||◌, ◌∙◌, ◌∷◌, ◌≡◌}
+use Rattle.std.proofs.Common.{Bool, List, None, Option, Some, [], ap, cond, eq-eqb, false, inl, inr, length, map, nat_eq, refl, suc, sym, true, true≢false, zero, ℕ, ◌++◌, ◌||◌, ◌∙◌, ◌∷◌, ◌≡◌, filter}
 use Rattle.std.proofs.lemmas.Bool.{or_right}
 use Rattle.std.proofs.lemmas.List.Folds.{list_any-append}
 use Rattle.std.proofs.lemmas.Option.{same_Some}
 use Rattle.std.specs.List.{find, list_any}
 use Rattle.std.specs.Ordering.{eq_by_cmp}
-use Rattle.vt_spec.proofs.Lists.{Among, chain_ends, chain_goes_on}
+use Rattle.vt_spec.proofs.Lists.{Among, chain_ends, chain_goes_on, filter_here}
 use Rattle.vt_spec.proofs.Nodes.{none_is_not}
 use Rattle.vt_spec.proofs.Options.{none_is_some}
 use Rattle.vt_spec.specs.Lists.{chain, is_among}
 use Rattle.vt_spec.specs.Machine.Mounts.{Mount}
 use Rattle.vt_spec.specs.Tree.{Entries, entry_named, name_cmp}
-use Rattle.std.proofs.Common.{filter}
-use Rattle.vt_spec.proofs.Lists.{filter_here}
-use Rattle.std.proofs.lemmas.Bool.{or_right}
 
 -- a number among the first is among all
 pub is_among_left : (x : ℕ) (xs ys : List ℕ) → is_among nat_eq x xs ≡ true → is_among nat_eq x (xs ++ ys) ≡ true

@@ -1,6 +1,6 @@
 -- What a node has, after each change of it.
 use Rattle.std.proofs.Common.{Bool, List, None, Option, Some, [], ap, cond, eq-eqb, eqb-true, false, is_some, map, nat_eq, not, refl, subst, sym, true, true≢false, ℕ, ⊎_elim, ◌||◌, ◌∙◌, ◌∷◌, ◌≡◌}
-use Rattle.std.proofs.lemmas.Bool.{and_parts}
+use Rattle.std.proofs.lemmas.Bool.{and_parts, or_right}
 use Rattle.std.proofs.lemmas.Bool.Decides.{eqb_tells}
 use Rattle.std.proofs.lemmas.Option.{same_Some}
 use Rattle.std.specs.Cmp.{tied_itself}
@@ -24,7 +24,6 @@ use Rattle.vt_spec.specs.Tree.Content.{Directory, Regular, Symlink, Whiteout}
 use Rattle.vt_spec.specs.TreeInvariant.{IsTree, entry_at}
 use Rattle.vt_spec.specs.declared.attributes.Attr.{Attr}
 use Rattle.vt_spec.specs.declared.attributes.Kind.TheVariants.{File, White}
-use Rattle.std.proofs.lemmas.Bool.{or_right}
 pub use Rattle.vt_spec.proofs.Nodes.{directory_is_there}
 
 -- entries above a name lead it nowhere
@@ -180,13 +179,6 @@ entries-node_without_entries (Some node) = by node.content
     by (Regular bytes) = refl
     by (Symlink text) = refl
     by Whiteout = refl
-
--- contents without entries have none
-pub entries_of-no_entries : (content : Content ℕ) → entries_of (with_entries content []) ≡ []
-entries_of-no_entries (Directory parent entries opaque) = refl
-entries_of-no_entries (Regular bytes) = refl
-entries_of-no_entries (Symlink text) = refl
-entries_of-no_entries Whiteout = refl
 
 -- a copy has no entry
 pub entries_of-copied_content : (parent : ℕ) (content : Content ℕ) → entries_of (copied_content parent content) ≡ []

@@ -15,10 +15,6 @@ use Rattle.vt_spec.specs.TreeInvariant.{IsDirectory}
 pub same_name : (a b : List ℕ) → eq_by_cmp name_cmp a b ≡ true → a ≡ b
 same_name a b tie = (bytes_decides a b).0 (texts_ties a b ∙ tie)
 
--- what is there is not nothing
-pub some_is : {A : Type 0} (o : Option A) (a : A) → o ≡ Some a → is_some o ≡ true
-some_is o a e = ap is_some e
-
 -- nothing is not something
 pub none_is_not : {A P : Type 0} (o : Option A) (a : A) → o ≡ None → o ≡ Some a → P
 none_is_not o a none some = absurd (true≢false (sym (ap is_some some) ∙ ap is_some none))

@@ -10,13 +10,12 @@ use Rattle.vt_spec.specs.Language.Calls.{MountFlags, TaskName, same_name}
 use Rattle.vt_spec.specs.Language.Calls.Call.{MountPlain}
 use Rattle.vt_spec.specs.Language.Limits.{most_mounts}
 use Rattle.vt_spec.specs.Lists.{Fresh}
-use Rattle.vt_spec.specs.Machine.Filesystems.{raised_if_changed}
+use Rattle.vt_spec.specs.Machine.Filesystems.{raised_if_changed, raised}
 use Rattle.vt_spec.specs.Machine.Invariants.{IsWorld}
 use Rattle.vt_spec.specs.Machine.Mounts.{Mount, child_at, root_of, stands_at, topmost}
 use Rattle.vt_spec.specs.Machine.Outcomes.{denied, granted}
 use Rattle.vt_spec.specs.Machine.Permits.Permit.{ToMountPlain}
 use Rattle.vt_spec.specs.Machine.Policy.{numbers_raised, policy, raised_namespace, raised_task, same_mounts_in}
-use Rattle.vt_spec.specs.Machine.Filesystems.{raised}
 use Rattle.vt_spec.specs.Machine.Rightful.{node_allows}
 use Rattle.vt_spec.specs.Machine.Run.{Serves}
 use Rattle.vt_spec.specs.Machine.Settled.{settled}

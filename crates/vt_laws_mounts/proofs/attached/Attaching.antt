@@ -1,7 +1,6 @@
 -- A tree of mounts that is attached stands where it is attached, and what it pushes up stands on it.
-use Rattle.std.proofs.Common.{arith}
+use Rattle.std.proofs.Common.{arith, ◌≡◌, refl, sym, ap, subst, ◌∙◌, true, false, nat_eq, ℕ, Bool, List, None, Option, Some, [], eq-eqb, flat_map, inl, inr, length, map, option_map, suc, true≢false, zero, ⊎_elim, ◌++◌, ◌∷◌, ◌||◌}
 use Rattle.std.proofs.lemmas.Grind.{common_steps}
-use Rattle.std.proofs.Common.{◌≡◌, refl, sym, ap, subst, ◌∙◌, true, false, nat_eq, ℕ, Bool, List, None, Option, Some, [], eq-eqb, flat_map, inl, inr, length, map, option_map, suc, true≢false, zero, ⊎_elim, ◌++◌, ◌∷◌, ◌||◌}
 use Rattle.std.specs.List.{list_any}
 use Rattle.std.specs.Prelude.{if◌then◌else◌, unwrap_or}
 use Rattle.std.proofs.lemmas.Option.{same_Some}

@@ -1,9 +1,8 @@
 -- What is attached leaves the mounts that were there.
-use Rattle.std.proofs.Common.{arith}
+use Rattle.std.proofs.Common.{arith, ◌≡◌, refl, sym, ap, ◌∙◌, Bool, List, None, Some, [], ℕ, ◌∷◌, nat_eq, append_assoc, cond, eq-eqb, find, flat_map, inl, inr, map, subst, ◌++◌, false, true, length, ◌⊎◌}
 use Rattle.std.proofs.lemmas.Grind.{common_steps}
 use Rattle.std.specs.List.{list_any}
 use Rattle.std.proofs.lemmas.List.{map-append}
-use Rattle.std.proofs.Common.{◌≡◌, refl, sym, ap, ◌∙◌, Bool, List, None, Some, [], ℕ, ◌∷◌, nat_eq, append_assoc, cond, eq-eqb, find, flat_map, inl, inr, map, subst, ◌++◌, false, true, length, ◌⊎◌}
 use Rattle.vt_spec.specs.Machine.Attach.{Copies, Graft, added_mounts, attached_by, copies_at, copies_from, copy_at, copy_number, graft_of, moved_tree, parts_of, pushed_onto, pushed_up, twig_of, with_moved_mounts}
 use Rattle.vt_laws_mounts.specs.Mounts.Attaching.{KeepsAllButMountPoint, AttachKeepsMounts, AttachLeavesMounts, KeepsWhatItShows, MoveKeepsMounts, MoveLeavesMounts, NewMountsFollow, is_mount, numbers_of, stands_at_a_receiver, MovedMountsShow}
 use Rattle.vt_spec.specs.Machine.Mounts.{Mount, group_of, no_mount, stands_at, Location, mount_in, with_mount}

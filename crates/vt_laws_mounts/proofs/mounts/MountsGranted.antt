@@ -1,7 +1,6 @@
 -- What a granted call leaves.
-use Rattle.std.proofs.Common.{arith}
+use Rattle.std.proofs.Common.{arith, ◌≡◌, refl, sym, ap, ◌∙◌, ℕ, nat_eq, Bool, true, false, not, ◌||◌, List, [], ◌∷◌, Some, is_ok, ok_or, Ok, Result, flat_map, inl, inr, is_some, map, subst, ◌++◌, ◌⊎◌}
 use Rattle.std.proofs.lemmas.Grind.{common_steps}
-use Rattle.std.proofs.Common.{◌≡◌, refl, sym, ap, ◌∙◌, ℕ, nat_eq, Bool, true, false, not, ◌||◌, List, [], ◌∷◌, Some, is_ok, ok_or, Ok, Result, flat_map, inl, inr, is_some, map, subst, ◌++◌, ◌⊎◌}
 use Rattle.vt_spec.specs.declared.errors.Rule.TheVariants.{S2}
 use Rattle.vt_spec.specs.Errors.{denial}
 use Rattle.vt_spec.specs.Language.Calls.{Call, TaskName}

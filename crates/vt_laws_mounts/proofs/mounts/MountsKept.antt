@@ -1,9 +1,8 @@
 -- Conditions of a world that changes of mounts keep.
-use Rattle.std.proofs.Common.{arith}
+use Rattle.std.proofs.Common.{arith, ◌≡◌, refl, ap, ◌∙◌, true, List, filter, map, true≢false, ℕ, nat_eq}
 use Rattle.std.proofs.lemmas.Grind.{common_steps}
 use Rattle.vt_spec.specs.Machine.World.{World, mount_at, mount_numbered, with_flags}
 use Rattle.vt_laws_mounts.proofs.mounts.MountsReplaced.{one_number_by_numbers, numbers-with_mount}
-use Rattle.std.proofs.Common.{◌≡◌, refl, ap, ◌∙◌, true, List, filter, map, true≢false, ℕ, nat_eq}
 use Rattle.std.specs.List.{list_all}
 use Rattle.vt_laws_mounts.specs.Mounts.Invariants.{KeptByEndedNamespaces, KeptByFlags, KeptByInheritance, KeptByPivot, KeptBySettling, KeptByTakingAway, KeptByType, KeptByUnmount, NowhereOrAttached, OneNumberEach}
 use Rattle.vt_spec.specs.Machine.Mounts.{Mount}

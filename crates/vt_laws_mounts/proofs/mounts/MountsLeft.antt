@@ -1,7 +1,6 @@
 -- Calls that are of no mount leave the mounts as they were.
-use Rattle.std.proofs.Common.{arith}
+use Rattle.std.proofs.Common.{arith, ◌≡◌, refl, sym, ℕ, nat_eq, Bool, true, false, true≢false, List, [], ◌∷◌}
 use Rattle.std.proofs.lemmas.Grind.{common_steps}
-use Rattle.std.proofs.Common.{◌≡◌, refl, sym, ℕ, nat_eq, Bool, true, false, true≢false, List, [], ◌∷◌}
 use Rattle.vt_spec.specs.Language.Calls.{Call}
 use Rattle.vt_spec.specs.Language.Calls.Call.{Bind, Exit, Lazy, MountOverlay, MountPlain, MoveMount, PivotRoot, Remount, Rename, Rmdir, SetType, Setns, Umount, Unshare}
 use Rattle.vt_spec.specs.Language.Changes.{Change}

@@ -1,7 +1,6 @@
 -- Where mounts stand.
-use Rattle.std.proofs.Common.{arith}
+use Rattle.std.proofs.Common.{arith, ◌≡◌, refl, sym, ap, ◌∙◌, ⊎_elim, ℕ, nat_eq, eq-eqb, Bool, true, false, true≢false, cond, ◌&&◌, List, [], ◌∷◌, Some, is_some, find}
 use Rattle.std.proofs.lemmas.Grind.{common_steps}
-use Rattle.std.proofs.Common.{◌≡◌, refl, sym, ap, ◌∙◌, ⊎_elim, ℕ, nat_eq, eq-eqb, Bool, true, false, true≢false, cond, ◌&&◌, List, [], ◌∷◌, Some, is_some, find}
 use Rattle.std.specs.List.{list_any}
 use Rattle.std.proofs.lemmas.Bool.{and_from, or_parts}
 use Rattle.std.proofs.lemmas.Option.{same_Some}

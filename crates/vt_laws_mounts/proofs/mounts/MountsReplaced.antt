@@ -1,7 +1,6 @@
 -- A mount in the place of the one with its number.
-use Rattle.std.proofs.Common.{arith}
+use Rattle.std.proofs.Common.{arith, ◌≡◌, refl, sym, ap, ◌∙◌, List, Some, [], cond, eq-eqb, eqb-true, find, nat_eq, true≢false, unwrap_or, ℕ, ⊎_elim, ◌++◌, ◌||◌, ◌∷◌, false, true}
 use Rattle.std.proofs.lemmas.Grind.{common_steps}
-use Rattle.std.proofs.Common.{◌≡◌, refl, sym, ap, ◌∙◌, List, Some, [], cond, eq-eqb, eqb-true, find, nat_eq, true≢false, unwrap_or, ℕ, ⊎_elim, ◌++◌, ◌||◌, ◌∷◌, false, true}
 use Rattle.vt_spec.specs.Machine.Mounts.{Mount, mount_in, no_mount, replaced_if_same, with_mount}
 use Rattle.vt_laws_mounts.proofs.mounts.MountsFound.{found-map, numbers-map}
 use Rattle.std.specs.Prelude.{if◌then◌else◌}

@@ -1,7 +1,6 @@
 -- A change of flags or of type is of the mounts that it names.
-use Rattle.std.proofs.Common.{arith}
+use Rattle.std.proofs.Common.{arith, ◌≡◌, refl, sym, ap, ◌∙◌, true, false, Bool, ℕ, nat_eq, List, None, [], inl, map, ◌∷◌, ◌||◌}
 use Rattle.std.proofs.lemmas.Grind.{common_steps}
-use Rattle.std.proofs.Common.{◌≡◌, refl, sym, ap, ◌∙◌, true, false, Bool, ℕ, nat_eq, List, None, [], inl, map, ◌∷◌, ◌||◌}
 use Rattle.std.specs.List.{list_any}
 use Rattle.vt_spec.specs.Machine.Mounts.Propagation.{Private, Shared, Slave, Unbindable}
 use Rattle.vt_spec.specs.Language.Calls.TypeWord.{ToSlave}

@@ -1,7 +1,6 @@
 -- What the policy takes for the receivers of a group is what receives from it.
-use Rattle.std.proofs.Common.{arith}
+use Rattle.std.proofs.Common.{arith, ◌≡◌, refl, sym, ap, subst, ◌∙◌, inl, ⊎_elim, ℕ, zero, suc, nat_eq, Bool, true, false, true≢false, ◌&&◌, [], ◌∷◌, length, Option, Some, None, is_some}
 use Rattle.std.proofs.lemmas.Grind.{common_steps}
-use Rattle.std.proofs.Common.{◌≡◌, refl, sym, ap, subst, ◌∙◌, inl, ⊎_elim, ℕ, zero, suc, nat_eq, Bool, true, false, true≢false, ◌&&◌, [], ◌∷◌, length, Option, Some, None, is_some}
 use Rattle.std.specs.Prelude.{◌↔◌, option_to_list}
 use Rattle.std.specs.List.{list_all}
 use Rattle.std.proofs.lemmas.Bool.{and_parts, not-true}

@@ -1,7 +1,6 @@
 -- An unshare: the mounts of each namespace.
-use Rattle.std.proofs.Common.{arith}
+use Rattle.std.proofs.Common.{arith, ◌≡◌, refl, sym, ap, subst, ◌∙◌, true, false, nat_eq, ℕ, None, Option, Some, eq-eqb, eqb-true, filter, flat_map, map, option_to_list, true≢false, ◌++◌}
 use Rattle.std.proofs.lemmas.Grind.{common_steps}
-use Rattle.std.proofs.Common.{◌≡◌, refl, sym, ap, subst, ◌∙◌, true, false, nat_eq, ℕ, None, Option, Some, eq-eqb, eqb-true, filter, flat_map, map, option_to_list, true≢false, ◌++◌}
 use Rattle.std.specs.List.{list_all}
 use Rattle.std.proofs.lemmas.Bool.{and_parts, false_from_ne_true}
 use Rattle.std.proofs.lemmas.List.{append-nil, length-map}

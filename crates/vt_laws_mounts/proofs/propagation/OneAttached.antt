@@ -13,8 +13,7 @@ use Rattle.vt_laws_mounts.specs.Mounts.Propagation.{Attachment, IsPart, world_af
 use Rattle.vt_laws_mounts.proofs.attached.Attaching.{taker_there}
 use Rattle.vt_laws_mounts.proofs.mounts.MountsAttached.{new_mounts_follow}
 use Rattle.vt_laws_mounts.proofs.mounts.MountsFound.{found_there}
-use Rattle.vt_laws_mounts.proofs.mounts.Receivers.{receives_from_source}
-use Rattle.vt_laws_mounts.proofs.mounts.Receivers.{receiver_receives}
+use Rattle.vt_laws_mounts.proofs.mounts.Receivers.{receives_from_source, receiver_receives}
 
 -- the attachment of one mount, of which no copy goes onto another mount
 abbrev pub one_of : World ℕ → Fresh ℕ → Location ℕ → Mount ℕ → Attachment

@@ -1,8 +1,7 @@
 -- Receivers that take part, but for members of the destination's group, have a group above them of which a part is a
 -- member: the destination's, or a nearer one.
-use Rattle.std.proofs.Common.{arith}
+use Rattle.std.proofs.Common.{arith, ◌≡◌, refl, sym, ap, ◌∙◌, true, false, nat_eq, eq-eqb, ne_eqb, ℕ, zero, suc, Bool, List, None, Option, Some, inl, true≢false, ◌||◌}
 use Rattle.std.proofs.lemmas.Grind.{common_steps}
-use Rattle.std.proofs.Common.{◌≡◌, refl, sym, ap, ◌∙◌, true, false, nat_eq, eq-eqb, ne_eqb, ℕ, zero, suc, Bool, List, None, Option, Some, inl, true≢false, ◌||◌}
 use Rattle.vt_spec.proofs.Lists.{among-from_filter, among_from_contains, any_among, any_from_among, chain_ends, chain_goes_on, contains_from_among}
 use Rattle.vt_spec.specs.Lists.{chain, holds_of, is_among}
 use Rattle.vt_spec.specs.Machine.Attach.{parts_of, receivers_of, takes_part}

@@ -1,7 +1,6 @@
 -- The copy of a mount at a part, as it is found after a tree was attached.
-use Rattle.std.proofs.Common.{arith}
+use Rattle.std.proofs.Common.{arith, ◌≡◌, refl, sym, ap, subst, ◌∙◌, true, false, nat_eq, ℕ, Bool, List, Some, [], eq-eqb, eqb-true, flat_map, map, option_map, unwrap_or, ⊎_elim, ◌&&◌, ◌++◌, ◌∷◌}
 use Rattle.std.proofs.lemmas.Grind.{common_steps}
-use Rattle.std.proofs.Common.{◌≡◌, refl, sym, ap, subst, ◌∙◌, true, false, nat_eq, ℕ, Bool, List, Some, [], eq-eqb, eqb-true, flat_map, map, option_map, unwrap_or, ⊎_elim, ◌&&◌, ◌++◌, ◌∷◌}
 use Rattle.std.specs.Prelude.{if◌then◌else◌}
 use Rattle.std.specs.List.{list_any}
 use Rattle.vt_spec.proofs.Lists.{Among, among-append_left, among-append_right, among-flat_map, among-from_filter, among-map, none_from_among, pair-map}

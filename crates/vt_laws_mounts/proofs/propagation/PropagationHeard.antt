@@ -1,7 +1,6 @@
 -- What the copies of a tree that is attached hear of.
-use Rattle.std.proofs.Common.{arith}
+use Rattle.std.proofs.Common.{arith, ◌≡◌, refl, sym, ap, subst, ◌∙◌, true, false, nat_eq, ℕ, Bool, List, None, Option, Some, [], is_some, option_map, true≢false, unwrap_or, ⊎_elim}
 use Rattle.std.proofs.lemmas.Grind.{common_steps}
-use Rattle.std.proofs.Common.{◌≡◌, refl, sym, ap, subst, ◌∙◌, true, false, nat_eq, ℕ, Bool, List, None, Option, Some, [], is_some, option_map, true≢false, unwrap_or, ⊎_elim}
 use Rattle.vt_spec.proofs.Lists.{Among, among_from_contains, among-from_filter, any_from_among, contains_from_among}
 use Rattle.vt_spec.specs.Machine.Attach.{Copies, attached_by, parts_of, receivers_of, takes_part, type_at}
 use Rattle.vt_spec.specs.Lists.{holds_of, is_among}

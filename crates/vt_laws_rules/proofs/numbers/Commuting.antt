@@ -1,16 +1,15 @@
 -- Whatever is generic in the numbers' type commutes with renamings.
-use Rattle.std.proofs.Common.{◌≡◌, refl, sym, ap, subst, ◌∙◌, ℕ, nat_eq, eq-eqb, ne_eqb, Bool, List, [], ◌∷◌, ⊎_elim, Option, Some, None}
+use Rattle.std.proofs.Common.{arith, ◌≡◌, refl, sym, ap, subst, ◌∙◌, ℕ, nat_eq, eq-eqb, ne_eqb, Bool, List, [], ◌∷◌, ⊎_elim, Option, Some, None}
+use Rattle.std.proofs.lemmas.Grind.{common_steps}
 use Rattle.std.proofs.lemmas.Bool.Decides.{eqb_tells}
 use Rattle.std.specs.Prelude.{map, option_map}
 use std.Equiv.{◌≃◌, id_equiv, iso_to_equiv}
 use std.Univalence.{equiv_j}
-use Rattle.vt_spec.specs.Machine.Renaming.{renamed_content, renamed_entry, renamed_node}
+use Rattle.vt_spec.specs.Machine.Renaming.{renamed_content, renamed_node}
 use Rattle.vt_spec.specs.Tree.{Content, Node}
 use Rattle.vt_spec.specs.Inodes.{Inode, renamed_inode}
-use Rattle.vt_spec.specs.Tree.Content.{Directory, Regular, Symlink, Whiteout}
 use Rattle.vt_laws_rules.specs.Renaming.{Renaming, renamed_change}
 use Rattle.vt_spec.specs.Language.Changes.{Change}
-use Rattle.vt_spec.specs.Language.Changes.Change.{AddName, CopyUp, Make, Move, Remove, SetAttr, SetBytes, SetMark}
 
 pub map_itself : {A : Type 0} (f : A → A) → ((a : A) → f a ≡ a) → (list : List A) → map f list ≡ list
 map_itself f same [] = refl
@@ -23,11 +22,7 @@ option_itself f same (Some a) = λ i. Some (same a i)
 -- With each number for itself nothing is renamed.
 module _ {N : Type 0} where
   content_itself : (content : Content N) → renamed_content (λ n. n) (λ n. n) content ≡ content
-  content_itself (Directory parent entries opaque) =
-      λ i. Directory parent (map_itself (renamed_entry (λ n. n) (λ n. n)) (λ entry. refl) entries i) opaque
-  content_itself (Regular bytes) = refl
-  content_itself (Symlink text) = refl
-  content_itself Whiteout = refl
+  content_itself content = grind (arith, common_steps, map_itself)
 
   pub node_itself : (node : Node N) → renamed_node (λ n. n) (λ n. n) node ≡ node
   node_itself node = λ i. record { attr = node.attr; content = content_itself node.content i }
@@ -37,14 +32,7 @@ module _ {N : Type 0} where
   inode_itself (Some inode) = λ i. Some (record { node = node_itself inode.node i; uses = inode.uses })
 
   pub change_itself : (change : Change N) → renamed_change (λ n. n) (λ n. n) change ≡ change
-  change_itself (Make directory name number node) = λ i. Make directory name number (node_itself node i)
-  change_itself (AddName directory name object) = refl
-  change_itself (Remove directory name object) = refl
-  change_itself (Move from old to new object) = refl
-  change_itself (SetBytes file bytes) = refl
-  change_itself (SetAttr object attr) = refl
-  change_itself (SetMark directory opaque) = refl
-  change_itself (CopyUp object) = refl
+  change_itself change = grind (arith, common_steps, node_itself)
 
 -- What has numbers in it, and how they are renamed: with each number for itself, not at all
 pub record Named (T : Type 0 → Type 0) : Type 1 where

@@ -1,5 +1,6 @@
 -- Two numbers exchanged.
-use Rattle.std.proofs.Common.{◌≡◌, ◌≢◌, sym, ap, ◌∙◌, true≢false, refl, ℕ, nat_eq, eq-eqb, ne_eqb, Bool, false, cond, ⊎_elim}
+use Rattle.std.proofs.Common.{arith, ◌≡◌, ◌≢◌, sym, ap, ◌∙◌, true≢false, refl, ℕ, nat_eq, eq-eqb, ne_eqb, Bool, false, cond, ⊎_elim}
+use Rattle.std.proofs.lemmas.Grind.{common_steps}
 use Rattle.std.proofs.lemmas.Bool.Decides.{eqb_tells}
 use Rattle.vt_laws_rules.specs.Renaming.{Leaves, Renaming}
 
@@ -18,12 +19,7 @@ swapped_other a b k first second =
     ap (λ t. cond t b (cond (nat_eq k b) a k)) (ne_eqb k a first) ∙ ap (λ t. cond t a k) (ne_eqb k b second)
 
 pub swapped_twice : (a b k : ℕ) → swapped a b (swapped a b k) ≡ k
-swapped_twice a b k = ⊎_elim
-    (λ t. ap (λ n. swapped a b (swapped a b n)) t.1 ∙ ap (swapped a b) (swapped_first a b) ∙ swapped_second a b
-    ∙ sym t.1) (λ t. ⊎_elim
-    (λ s. ap (λ n. swapped a b (swapped a b n)) s.1 ∙ ap (swapped a b) (swapped_second a b) ∙ swapped_first a b
-    ∙ sym s.1) (λ s. ap (swapped a b) (swapped_other a b k t.1 s.1) ∙ swapped_other a b k t.1 s.1) (eqb_tells k b))
-    (eqb_tells k a)
+swapped_twice a b k = grind (arith, common_steps, swapped_first, swapped_second, swapped_other, eqb_tells)
 
 abbrev pub exchange : ℕ → ℕ → Renaming ℕ ℕ
 exchange a b =

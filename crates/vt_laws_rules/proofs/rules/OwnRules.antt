@@ -1,9 +1,10 @@
 -- Each call is refused by its own rules, with the error of the rule, and leaves the world then.
-use Rattle.std.proofs.Common.{◌≡◌, refl, ℕ, nat_eq, Bool, true, false, List, [], ◌∷◌, ◌++◌, ◌&&◌, ◌||◌, Option, Some, None, ok_or, Result, Ok, Err, IfErr, if◌then◌else◌, length, nat_lt, unwrap_or}
+use Rattle.std.proofs.Common.{arith, ◌≡◌, refl, ℕ, nat_eq, Bool, true, false, List, [], ◌∷◌, ◌++◌, ◌&&◌, ◌||◌, Option, Some, None, ok_or, Result, Ok, Err, IfErr, if◌then◌else◌, length, nat_lt, unwrap_or}
+use Rattle.std.proofs.lemmas.Grind.{common_steps}
 use Rattle.vt_laws_rules.proofs.rules.Outcomes.{DeniesOwn, IsOwn, RefusesOwn, after_own, among_more, are_own, error_is, finished_own, and_then_own, unless_own}
 use Rattle.vt_laws_rules.proofs.rules.WalkRules.{RefusesAsWalk, StopsAsWalk, destination_walks, directory_walks, file_walks, layer_walks, leaf_walks, new_leaf_walks, new_walks, object_walks, old_leaf_walks, old_walks, rename_new_walks, source_walks}
 use Rattle.vt_laws_rules.specs.Denials.{DenialChangesNothing}
-use Rattle.vt_laws_rules.specs.RuleOrder.{DenialHasErrorOfRule, DenialIsOwn, has_path, own_rules, rules_of, walk_rules}
+use Rattle.vt_laws_rules.specs.RuleOrder.{DenialHasErrorOfRule, DenialIsOwn, has_path, rules_of, walk_rules}
 use Rattle.vt_laws_rules.specs.RuleRanks.{is_among}
 use Rattle.vt_spec.specs.declared.errors.Deny.{Deny}
 use Rattle.vt_spec.specs.declared.errors.Rule.{Rule}
@@ -15,10 +16,9 @@ use Rattle.vt_spec.specs.Language.Calls.Call.{Bind, Chdir, Chmod, Chown, Chroot,
 use Rattle.vt_spec.specs.Language.Calls.Creation.{Exclusive, NoCreation, OrCreate}
 use Rattle.vt_spec.specs.Language.Changes.{Change}
 use Rattle.vt_spec.specs.Language.Changes.Change.{CopyUp, SetAttr, SetBytes}
-use Rattle.vt_spec.specs.Machine.Filesystems.{mounter_rules, overlay_rules}
+use Rattle.vt_spec.specs.Machine.Filesystems.{mounter_rules}
 use Rattle.vt_spec.specs.Lists.{Fresh, evens, odds}
 use Rattle.vt_spec.proofs.Tables.{exec_rules, list_rules, read_rules, readlink_rules, attr_at, attr_rules, opaque_rules, copy_rules, open_rules, pwrite_rules, hard_link_rules, make_rules, new_rules, rewrite_rules, whiteout_rules, overlay_at, overlay_mounted, bind_rules, layer_rules, layers_walked, lazy_rules, move_rules, new_mount_rules, pivot_rules, remount_rules, source_walk, destination_walk, type_rules, umount_rules, is_one_object, rename_new_walk, rename_rules, rmdir_rules, same_object_rules, unlink_rules, enter_rules}
-use Rattle.vt_spec.specs.Machine.Locked.{overlay_or}
 use Rattle.vt_spec.specs.Machine.Mounts.{Location}
 use Rattle.vt_spec.specs.Machine.Attributes.{attr_with_mode, attr_with_owner, may_chown}
 use Rattle.vt_spec.specs.Machine.Rules.Descriptors.{descriptor_at, descriptor_rules, exclusive_word_rules}
@@ -38,7 +38,7 @@ use Rattle.vt_spec.specs.Tree.{new_directory}
 use Rattle.vt_spec.specs.Tree.Content.{Symlink}
 use Rattle.vt_spec.specs.Machine.Walking.{Place, Stop, is_special, walk_end}
 use Rattle.vt_spec.proofs.Walk.{directory_walk, file_walk, is_directory_there, symlink_walk, new_leaf_walk, new_walk, object_walk, old_leaf_walk, old_walk}
-use Rattle.vt_spec.specs.Machine.World.{Overlay, Task, World, filesystem_at, task_called}
+use Rattle.vt_spec.specs.Machine.World.{Overlay, Task, World, task_called}
 use Rattle.vt_spec.specs.Machine.Apply.{apply, overfills}
 use Rattle.vt_spec.specs.Machine.Judge.{Judgement, bind_permit, chdir_permit, chmod_permit, chown_permit, chroot_permit, close_permit, exec_permit, fork_permit, hard_link_permit, judge_in, lazy_permit, list_permit, lstat_permit, mkdir_permit, mount_overlay_permit, mount_plain_permit, move_permit, opaque_permit, open_permit, opened_or_created_permit, overlay_permit_by, pivot_permit, pread_permit, pwrite_permit, read_permit, readlink_permit, remount_permit, rename_permit, renamed_permit, rmdir_permit, setns_permit, stat_permit, symlink_permit, type_permit, umount_permit, unlink_permit, unshare_permit, whiteout_permit, write_permit, written_permit}
 use Rattle.vt_spec.specs.Machine.Looks.{looks_of}
@@ -51,18 +51,7 @@ module _ (rules : List Rule) where
   mounter_own : is_among B1 rules ≡ true → is_among B2 rules ≡ true
       → {N : Type 0} (eq : N → N → Bool) (world : World N) (location : Location N) (change : Change N)
       → are_own rules (mounter_rules eq world location change) ≡ true
-  mounter_own b1 b2 {N = N} eq world location change = by_layers (filesystem_at eq world location).overlay
-    where
-      all : (among_b1 among_b2 first second third : Bool) → among_b1 ≡ true → among_b2 ≡ true
-          → ((among_b1 || first) && ((among_b1 || second) && ((among_b2 || third) && true))) ≡ true
-      all true true first second third e f = refl
-      all true false first second third e f = cc
-      all false among_b2 first second third e f = cc
-
-      by_layers : (overlay : Option (Overlay N))
-          → are_own rules (overlay_or [] (overlay_rules eq (filesystem_at eq world location) change) overlay) ≡ true
-      by_layers None = refl
-      by_layers (Some overlay) = all (is_among B1 rules) (is_among B2 rules) _ _ _ b1 b2
+  mounter_own b1 b2 eq world location change = grind (arith, common_steps, are_own)
 
   -- a walk of a call whose rules have those of walks
   walk_own : {N A : Type 0} → ((rule : Rule) → is_among rule walk_rules ≡ true → is_among rule rules ≡ true)
@@ -85,12 +74,7 @@ module _ (rules : List Rule) where
 -- the rules of walks are among those of a call with a path
 walks_of : (call : Call) → has_path call ≡ true → (rule : Rule) → is_among rule walk_rules ≡ true
     → is_among rule (rules_of call) ≡ true
-walks_of call path rule among = given (has_path call) path
-  where
-    given : (path : Bool) → path ≡ true
-        → is_among rule ((S2 ∷ own_rules call) ++ (if path then walk_rules else [])) ≡ true
-    given true e = among_more (S2 ∷ own_rules call) rule walk_rules among
-    given false e = cc
+walks_of call path rule among = grind (arith, common_steps, among_more)
 
 found_own : {A : Type 0} (rules : List Rule) (rule : Rule) (object : Option A) → is_among rule rules ≡ true
     → RefusesOwn rules (ok_or object (denial rule))

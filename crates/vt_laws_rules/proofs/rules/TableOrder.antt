@@ -1,5 +1,6 @@
 -- Each table of rules is in the policy's order, and walks are refused by the rules of walks.
-use Rattle.std.proofs.Common.{◌≡◌, refl, ℕ, nat_eq, Bool, true, false, ◌&&◌, nat_le, List, [], ◌∷◌, ◌++◌, Option, Some, None, ok_or, Result, Ok, Err, IfOk, unwrap_or}
+use Rattle.std.proofs.Common.{arith, ◌≡◌, refl, ℕ, nat_eq, Bool, true, false, ◌&&◌, nat_le, List, [], ◌∷◌, ◌++◌, Option, Some, None, ok_or, Result, Ok, Err, IfOk, unwrap_or}
+use Rattle.std.proofs.lemmas.Grind.{common_steps}
 use Rattle.std.specs.Prelude.{is_err}
 use Rattle.vt_laws_rules.proofs.rules.Outcomes.{IsOwn, RefusesOwn, among_front, error_is, unless_own}
 use Rattle.vt_laws_rules.proofs.rules.WalkRules.{RefusesAsWalk, StopsAsWalk, destination_walks, directory_walks, file_walks, layer_walks, leaf_walks, new_leaf_walks, new_walks, object_walks, old_leaf_walks, old_walks, rename_new_walks, source_walks}
@@ -11,22 +12,21 @@ use Rattle.vt_spec.specs.declared.errors.Rule.{Rule}
 use Rattle.vt_spec.specs.declared.errors.Rule.TheVariants.{B1, C2, S4}
 use Rattle.vt_spec.specs.Errors.{and_then, denial, unless, Rules}
 use Rattle.vt_spec.specs.Language.Changes.{Change}
-use Rattle.vt_spec.specs.Language.Changes.Change.{CopyUp, SetAttr, SetBytes}
-use Rattle.vt_spec.specs.Machine.Filesystems.{mounter_rules, overlay_rules}
-use Rattle.vt_spec.specs.Machine.Locked.{overlay_or}
+use Rattle.vt_spec.specs.Language.Changes.Change.{CopyUp, SetAttr}
+use Rattle.vt_spec.specs.Machine.Filesystems.{mounter_rules}
 use Rattle.vt_spec.proofs.Tables.{copy_rules, is_one_object, rename_new_walk, attr_at, destination_walk, layers_walked, source_walk}
 use Rattle.vt_spec.specs.Machine.Rules.Descriptors.{descriptor_at}
 use Rattle.vt_spec.specs.Machine.Descriptors.{is_copied_up}
 use Rattle.vt_spec.specs.Machine.Rules.Removing.{moving, object_there, old_word_rules, removing, rmdir_word_rules}
-use Rattle.vt_spec.specs.Machine.World.{Overlay, Task, World, filesystem_at}
+use Rattle.vt_spec.specs.Machine.World.{Overlay, Task, World}
 use Rattle.vt_spec.specs.declared.errors.Deny.{Deny}
 use Rattle.vt_spec.specs.Language.Calls.{Access, Call, MountFlags, OverlayWords}
-use Rattle.vt_spec.specs.Language.Calls.Call.{Bind, Chdir, Chmod, Chown, Chroot, Close, Exec, Fork, Lazy, LinkTo, Ls, Lstat, MakeWhiteout, Mkdir, MountOverlay, MountPlain, MoveMount, Opaque, OpenFile, PivotRoot, Pread, Pwrite, Read, Readlink, Remount, Rename, Rmdir, SetType, Setns, Stat, SymlinkAt, Umount, Unlink, Unshare, Write}
+use Rattle.vt_spec.specs.Language.Calls.Call.{Bind, Chdir, Chmod, Chown, Chroot, Exec, Lazy, LinkTo, Ls, Lstat, MakeWhiteout, Mkdir, MountOverlay, MountPlain, MoveMount, Opaque, OpenFile, PivotRoot, Pwrite, Read, Readlink, Remount, Rename, Rmdir, SetType, Stat, SymlinkAt, Umount, Unlink, Write}
 use Rattle.vt_spec.specs.Language.Calls.Creation.{Exclusive, NoCreation, OrCreate}
 use Rattle.vt_spec.specs.Lists.{Fresh, evens}
 use Rattle.vt_spec.specs.Machine.Mounts.{Location}
 use Rattle.vt_spec.specs.Machine.Attributes.{attr_with_mode, attr_with_owner}
-use Rattle.vt_spec.specs.Machine.Rows.{directory_mode, exact_attr, file_mode, linking, making, new_attr, new_file, symlink_mode}
+use Rattle.vt_spec.specs.Machine.Rows.{directory_mode, exact_attr, linking, making, new_attr, new_file, symlink_mode}
 use Rattle.vt_spec.specs.Machine.Rules.Making.{symlink_text_rules}
 use Rattle.vt_spec.specs.Machine.Walking.{Place, Stop}
 use Rattle.vt_spec.proofs.Walk.{directory_walk, file_walk, is_directory_there, symlink_walk, new_leaf_walk, new_walk, object_walk, old_leaf_walk, old_walk}
@@ -56,16 +56,7 @@ ok_words ((false, rule) ∷ rows) last h = ok_words rows last h
 mounter_in_order : (least : ℕ) → nat_le least (rank B1) ≡ true
     → (world : World ℕ) (location : Location ℕ) (change : Change ℕ)
     → is_in_order_from least (mounter_rules nat_eq world location change) ≡ true
-mounter_in_order least e world location change = by_layers (filesystem_at nat_eq world location).overlay
-  where
-    both : (b : Bool) → b ≡ true → (b && true) ≡ true
-    both true f = refl
-    both false f = f
-
-    by_layers : (overlay : Option (Overlay ℕ)) → is_in_order_from least (overlay_or []
-        (overlay_rules nat_eq (filesystem_at nat_eq world location) change) overlay) ≡ true
-    by_layers None = refl
-    by_layers (Some overlay) = both (nat_le least (rank B1)) e
+mounter_in_order least e world location change = grind (arith, common_steps)
 
 copy_in_order : (copied : Bool) (world : World ℕ) (file : Location ℕ)
     → is_in_order_from (rank B1) (copy_rules nat_eq copied world file) ≡ true
@@ -75,18 +66,12 @@ copy_in_order false world file = refl
 write_in_order : (fresh : Fresh ℕ) (world : World ℕ) (task : Task ℕ) (place : Place ℕ) (bytes : List ℕ)
     (object : Option (Location ℕ))
     → IsInOrderAfterWalk (asked_of_write fresh (looks_of nat_eq world) task place bytes object)
-write_in_order fresh world task place bytes (Some file) =
-    mounter_in_order (rank B1) refl world file (SetBytes file.node bytes)
-write_in_order fresh world task place bytes None =
-    mounter_in_order (rank B1) refl world place.parent (making place (evens fresh 0) (new_file task file_mode bytes))
+write_in_order fresh world task place bytes object = grind (arith, common_steps, mounter_in_order)
 
 open_in_order : (fresh : Fresh ℕ) (world : World ℕ) (task : Task ℕ) (place : Place ℕ) (access : Access) (mode : ℕ)
     (object : Option (Location ℕ))
     → IsInOrderAfterWalk (asked_of_open fresh (looks_of nat_eq world) task place access mode object)
-open_in_order fresh world task place access mode (Some file) =
-    copy_in_order (is_copied_up nat_eq world file access) world file
-open_in_order fresh world task place access mode None =
-    mounter_in_order (rank B1) refl world place.parent (making place (evens fresh 0) (new_file task mode []))
+open_in_order fresh world task place access mode object = grind (arith, common_steps, copy_in_order, mounter_in_order)
 
 rename_in_order : (world : World ℕ) (task : Task ℕ) (from to : Place ℕ) (object : Location ℕ) (one : Bool)
     → IsInOrderAfterWalk (asked_of_rename (looks_of nat_eq world) task from to object one)
@@ -166,25 +151,7 @@ last_in_order fresh world task (PivotRoot new put) = ok_walk (source_walk nat_eq
 last_in_order fresh world task call = refl
 
 pub first_in_order : FirstTablesInOrder
-first_in_order world task (Opaque path mark) = refl
-first_in_order world task (OpenFile path access how) = refl
-first_in_order world task (Pread number offset size) = refl
-first_in_order world task (Pwrite number offset bytes) = refl
-first_in_order world task (Close number) = refl
-first_in_order world task (Chroot path) = refl
-first_in_order world task (Fork words) = refl
-first_in_order world task (Unshare) = refl
-first_in_order world task (Setns name) = refl
-first_in_order world task (MountPlain path flags) = refl
-first_in_order world task (MountOverlay path options flags) = refl
-first_in_order world task (Bind source path recursive) = refl
-first_in_order world task (MoveMount source path) = refl
-first_in_order world task (Umount path) = refl
-first_in_order world task (Lazy path) = refl
-first_in_order world task (Remount path flags) = refl
-first_in_order world task (SetType path word recursive) = refl
-first_in_order world task (PivotRoot new put) = refl
-first_in_order world task call = refl
+first_in_order world task call = grind (arith, common_steps)
 
 -- a walk of a call is refused by the rules of walks
 walk_refuses : {A : Type 0} (words : List Rule) (walk : Result A (Stop ℕ)) (next : A → Result Rules Deny)

@@ -1,5 +1,6 @@
 -- Walks are refused by the rules of walks alone.
-use Rattle.std.proofs.Common.{refl, ℕ, zero, suc, Bool, true, false, List, [], ◌∷◌, ◌+◌, ◌||◌, reverse, Option, Some, None, option_map, ok_or, Result, Ok}
+use Rattle.std.proofs.Common.{arith, refl, ℕ, zero, suc, Bool, false, List, [], ◌∷◌, ◌+◌, ◌||◌, reverse, Option, Some, None, ok_or, Result, Ok}
+use Rattle.std.proofs.lemmas.Grind.{common_steps}
 use Rattle.vt_laws_rules.specs.RuleOrder.{walk_rules}
 use Rattle.vt_laws_rules.proofs.rules.Outcomes.{RefusesOwn, StopsOwn, and_then_own, if_own, stopped_own, then_walk_own, unless_own, walk_end_own, walk_unless_own}
 use Rattle.vt_spec.specs.declared.errors.Deny.{Deny}
@@ -7,8 +8,7 @@ use Rattle.vt_spec.specs.declared.errors.Rule.TheVariants.{W6}
 use Rattle.vt_spec.specs.Errors.{and_then, denial, unless}
 use Rattle.vt_spec.specs.PathText.{ends_in_slash, path_rules, words}
 use Rattle.vt_spec.specs.Language.Calls.{OverlayWords}
-use Rattle.vt_spec.specs.Lists.{last_or}
-use Rattle.vt_spec.specs.Machine.Mounts.{Location, topmost}
+use Rattle.vt_spec.specs.Machine.Mounts.{Location}
 use Rattle.vt_spec.proofs.Tables.{destination_walk, each_walked, layers_walked, source_walk, walked_if_given, rename_new_walk}
 use Rattle.vt_spec.specs.Machine.Rules.Mounting.{work_walked}
 use Rattle.vt_spec.specs.Machine.Walking.{Follow, Here, LastWord, Place, Stop, stopped_by, final_word, if_symlink, last_word, symlink_of, path_text, walk_start}
@@ -37,10 +37,7 @@ module _ {N : Type 0} (eq : N → N → Bool) (world : World N) (task : Task N) 
       (unless_own walk_rules (_ ∷ []) (Ok _) refl tt)
 
   steps : (here : Location N) (word : LastWord) → RefusesAsWalk (stepped eq world task here word)
-  steps here NoWord = tt
-  steps here Dot = tt
-  steps here DotDot = up_steps (last_or here (hops eq world task here))
-  steps here (Named name) = found (option_map (topmost eq world.mounts) (entry_location eq world here name))
+  steps here word = grind (arith, common_steps, up_steps, hops, found, entry_location)
 
   word_walks : (here : Here N) (word : LastWord) → StopsAsWalk (word_walked eq world task here word)
   word_walks here word = stopped_own walk_rules _ _ (and_then_own walk_rules _ _
@@ -103,10 +100,8 @@ module _ {N : Type 0} (eq : N → N → Bool) (world : World N) (task : Task N) 
   last_walks here (Named name) = word_walks here (Named name)
 
   link_walks_by : (slash : Bool) (path : List ℕ) → StopsAsWalk (symlink_walk_by eq slash world task path)
-  link_walks_by true path = object_walks path
-  link_walks_by false path = then_walk_own walk_rules (path_text path) _ (text_walks path) (λ text.
-      then_walk_own walk_rules _ _ (prefix_walks (walk_start task text) (reverse (words text))) (λ here.
-      last_walks here (final_word (reverse (words text)))))
+  link_walks_by slash path =
+      grind (arith, common_steps, object_walks, then_walk_own, text_walks, prefix_walks, last_walks)
 
   pub leaf_walks : (path : List ℕ) → StopsAsWalk (symlink_walk eq world task path)
   leaf_walks path = link_walks_by (ends_in_slash path) path

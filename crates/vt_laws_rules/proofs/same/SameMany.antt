@@ -1,28 +1,26 @@
 -- Whether what is attached leaves a namespace with too many mounts, in worlds that are the same but for change numbers
 -- and the order of numbers beside trees.
-use Rattle.std.proofs.Common.{◌≡◌, refl, sym, ap, ◌∙◌, ℕ, nat_eq, nat_lt, Bool, true, false, cond, not, ◌&&◌, ◌||◌, List, [], ◌∷◌, ◌++◌, length, map, filter, flat_map, Option, Some, None, is_some}
-use Rattle.std.specs.List.{list_any, sum}
-use Rattle.std.proofs.lemmas.List.Sorted.{IsPermutation-refl}
+use Rattle.std.proofs.Common.{arith, ◌≡◌, refl, sym, ap, ◌∙◌, ℕ, nat_eq, nat_lt, Bool, true, false, not, ◌&&◌, ◌||◌, List, [], ◌∷◌, ◌++◌, length, map, filter, flat_map, Option, Some, None, is_some}
+use Rattle.std.proofs.lemmas.Grind.{common_steps}
+use Rattle.std.specs.List.{list_any}
 use Rattle.vt_laws_rules.proofs.same.SameFiles.{as_many, directory_under_same}
 use Rattle.vt_laws_rules.proofs.same.SameJudged.{same_worlds_are_judged_alike}
 use Rattle.vt_laws_rules.proofs.same.SameLooks.{found_same}
 use Rattle.vt_laws_rules.specs.Same.{SameWorldsJudgeAlike}
 use Rattle.vt_spec.specs.Machine.Apply.{overfills}
-use Rattle.vt_spec.specs.Machine.Attach.{Copies, Graft, Twig, added_mounts, attach, attached_at, bindable_children, bindable_tree, bound, bound_at, copies_at, copies_from, copy_at, copy_mount_point, copy_number, copy_type, graft_of, has_too_many, is_destination, parts_of, pushed_onto, receiver_stood_on, receivers_of, stands_under, takes_part, top_of_copies, with_moved_mounts}
+use Rattle.vt_spec.specs.Machine.Attach.{Copies, Graft, Twig, attach, attached_at, bindable_children, bindable_tree, bound, bound_at, copies_at, copies_from, copy_at, copy_type, graft_of, has_too_many, parts_of, pushed_onto, receivers_of, stands_under, takes_part, top_of_copies}
 use Rattle.vt_spec.specs.Language.Limits.{most_mounts}
 use Rattle.vt_spec.specs.Language.Calls.{Call, MountFlags}
-use Rattle.vt_spec.specs.Language.Calls.Call.{Bind, MountOverlay, MountPlain, MoveMount}
+use Rattle.vt_spec.specs.Language.Calls.Call.{Bind, MountOverlay, MountPlain}
 use Rattle.vt_spec.specs.Machine.Judge.{bind_permit, judge, mount_overlay_permit, mount_plain_permit, move_permit}
-use Rattle.vt_spec.specs.Lists.{Fresh, evens, holds_of, odds, rest_of}
+use Rattle.vt_spec.specs.Lists.{Fresh, evens, holds_of, odds}
 use Rattle.vt_spec.specs.Machine.Looks.{Looks, looks_of}
-use Rattle.vt_spec.specs.Machine.Merging.{merged_inodes, merged_objects}
 use Rattle.vt_spec.specs.Machine.Mounts.{Location, Mount, Propagation, mount_tree}
-use Rattle.vt_spec.specs.Machine.Mounts.Propagation.{Private, Shared, Slave, Unbindable}
-use Rattle.vt_spec.specs.Machine.NewMounts.{mounted, new_mount, overlay_filesystem, overlay_of_inodes, plain_filesystem, with_new_filesystem}
+use Rattle.vt_spec.specs.Machine.NewMounts.{mounted, new_mount, overlay_filesystem, plain_filesystem, with_new_filesystem}
 use Rattle.vt_spec.specs.Machine.Permits.{Permit}
 use Rattle.vt_spec.specs.Machine.Permits.Permit.{ToBind, ToMountOverlay, ToMountPlain, ToMove}
 use Rattle.vt_spec.specs.Machine.SameWorlds.{SameFilesystem, SameFilesystems}
-use Rattle.vt_spec.specs.Machine.World.{Filesystem, Layer, Namespace, Overlay, Task, World, filesystem_numbered, mount_at, mount_numbered, open_layer, shown_layers}
+use Rattle.vt_spec.specs.Machine.World.{Filesystem, Layer, Namespace, Overlay, Task, World, filesystem_numbered, mount_at, mount_numbered, open_layer}
 
 -- the permits that attach mounts: those for which M9 is judged, and which raise no filesystem's change number
 abbrev pub attaches : Permit ℕ → Bool
@@ -36,12 +34,7 @@ attaches permit = false
 only_attaches : (looks : Looks ℕ) (many : Permit ℕ → Bool) (task : Task ℕ) (call : Call)
     → judge nat_eq looks many task call ≡ judge nat_eq looks (λ permit. attaches permit && many permit) task call
 unfolding mount_plain_permit mount_overlay_permit bind_permit move_permit
-only_attaches looks many task (MountPlain path flags) = refl
-only_attaches looks many task (MountOverlay path None flags) = refl
-only_attaches looks many task (MountOverlay path (Some words) flags) = refl
-only_attaches looks many task (Bind source path recursive) = refl
-only_attaches looks many task (MoveMount source path) = refl
-only_attaches looks many task call = refl
+only_attaches looks many task call = grind (arith, common_steps, many)
 
 any_bare : (test : ℕ → Bool) (namespaces : List (Namespace ℕ))
     → list_any (λ (namespace : Namespace ℕ). test namespace.number)
@@ -52,11 +45,7 @@ any_bare test (namespace ∷ rest) = ap (λ b. test namespace.number || b) (any_
 
 -- a filesystem is the same as itself
 pub same_filesystem_itself : (filesystem : Filesystem ℕ) → SameFilesystem filesystem filesystem
-same_filesystem_itself filesystem = record {
-  number = refl;
-  files = record { tree = refl; numbers = IsPermutation-refl filesystem.files.numbers };
-  overlay = refl;
-}
+same_filesystem_itself filesystem = grind (arith, common_steps)
 
 more_same : (ones others : List (Filesystem ℕ)) (new : Filesystem ℕ) → SameFilesystems ones others
     → SameFilesystems (ones ++ (new ∷ [])) (others ++ (new ∷ []))
@@ -98,21 +87,12 @@ module _ (world : World ℕ) (others : List (Filesystem ℕ)) (namespaces : List
 
   type_same : (new : Copies ℕ) (parts : List (Mount ℕ)) (destination : Mount ℕ) (twig : Twig ℕ) (kind : Propagation ℕ)
       → copy_type nat_eq world new parts destination twig kind ≡ copy_type nat_eq other new parts destination twig kind
-  type_same new parts destination twig (Shared group) = refl
-  type_same new parts destination twig (Slave master) = refl
-  type_same new parts destination twig Private = refl
-  type_same new parts destination twig Unbindable = refl
+  type_same new parts destination twig kind = cc
 
   module _ (new : Copies ℕ) (graft : Graft ℕ) (parts : List (Mount ℕ)) where
     copy_same : (part : Mount ℕ) (twig : Twig ℕ)
         → copy_at nat_eq world new graft parts part twig ≡ copy_at nat_eq other new graft parts part twig
-    copy_same part twig = λ i. record twig.origin {
-      number = copy_number nat_eq new graft part.number twig.origin.number;
-      namespace = part.namespace;
-      mount_point = Some (copy_mount_point nat_eq new graft part.number twig.origin);
-      propagation = cond (is_destination nat_eq graft part.number) twig.propagation
-          (type_same new parts (mount_at nat_eq world graft.destination) twig part.propagation i);
-    }
+    copy_same part twig = cc
 
     copies_same : (part : Mount ℕ) → copies_at nat_eq world new graft parts part
         ≡ copies_at nat_eq other new graft parts part
@@ -125,10 +105,7 @@ module _ (world : World ℕ) (others : List (Filesystem ℕ)) (namespaces : List
         record mount { mount_point = Some (top_of_copies nat_eq (copies_same part i) graft.destination) }
 
     mounts_same : (attached_at nat_eq world new graft parts).mounts ≡ (attached_at nat_eq other new graft parts).mounts
-    mounts_same = λ i. map (λ mount. pushed_same mount (receiver_stood_on nat_eq graft parts mount) i)
-        (with_moved_mounts nat_eq graft.moves world.mounts (copies_same (mount_at nat_eq world graft.destination) i))
-        ++ added_mounts graft.moves (copies_same (mount_at nat_eq world graft.destination) i)
-        ++ flat_map (λ part. copies_same part i) (rest_of parts)
+    mounts_same = cc
 
     many_there : has_too_many nat_eq (attached_at nat_eq world new graft parts)
         ≡ has_too_many nat_eq (attached_at nat_eq other new graft parts)
@@ -168,11 +145,7 @@ module _ (world : World ℕ) (others : List (Filesystem ℕ)) (namespaces : List
 
   overlay_same : (fresh : Fresh ℕ) (overlay : Overlay ℕ)
       → overlay_filesystem nat_eq fresh world overlay ≡ overlay_filesystem nat_eq fresh other overlay
-  overlay_same fresh overlay = λ i. overlay_of_inodes nat_eq (evens fresh 0) (odds fresh 0) overlay
-      (merged_inodes nat_eq (odds fresh) (is_some overlay.upper)
-      (map (λ layer. opened_same layer i) (shown_layers overlay))
-      (merged_objects (map (λ layer. opened_same layer i) (shown_layers overlay))
-      (sum (counts_same world.filesystems others same i))))
+  overlay_same fresh overlay = grind (arith, common_steps, opened_same, counts_same)
 
 module _ (world : World ℕ) (others : List (Filesystem ℕ)) (namespaces : List (Namespace ℕ)) (tasks : List (Task ℕ))
     (change : ℕ) (same : SameFilesystems world.filesystems others)

@@ -5,7 +5,7 @@ use Rattle.std.specs.Prelude.{unwrap_or}
 use Rattle.std.specs.List.{list_all, list_any}
 use Rattle.vt_spec.specs.Language.Calls.{TaskName}
 use Rattle.vt_spec.specs.Lists.{any_pair, is_among, when}
-use Rattle.vt_spec.specs.Machine.Sealed.{own_lowers, used_directly, used_filesystems}
+use Rattle.vt_spec.specs.Machine.Sealed.{own_lowers, used_directly, used_filesystems, no_outsider_on, used_alone}
 use Rattle.vt_spec.specs.Machine.Settled.{has_layer_on}
 use Rattle.vt_spec.specs.Machine.World.{Filesystem, Layer, World, filesystem_numbered, is_overlay, no_filesystem}
 use Rattle.vt_spec.proofs.Lists.{Among, pair-map, among-map, among_from_contains}
@@ -16,7 +16,6 @@ use Rattle.vt_laws_sealed.proofs.part.part.PartOfPart.{used_directly_used}
 use Rattle.vt_laws_sealed.proofs.outsiders.SeenLater.{lowered_by}
 use Rattle.vt_laws_mounts.proofs.letting_go.Lists.{filter-map}
 use Rattle.vt_spec.specs.Machine.Locked.{overlays}
-use Rattle.vt_spec.specs.Machine.Sealed.{no_outsider_on, used_alone}
 use Rattle.vt_laws_sealed.proofs.outsiders.Raising.{all-map_same}
 
 module _ (world before : World ℕ) (names : List TaskName) (sees : SeesTheSame world before names)

@@ -1,7 +1,6 @@
 -- Worlds with the same mounts and masters, as changes of files and of tasks leave them.
-use Rattle.std.proofs.Common.{arith}
+use Rattle.std.proofs.Common.{arith, ◌≡◌, refl, ap, ◌∙◌, sym, true, false, nat_eq, ℕ, Bool, List, [], ◌∷◌}
 use Rattle.std.proofs.lemmas.Grind.{common_steps}
-use Rattle.std.proofs.Common.{◌≡◌, refl, ap, ◌∙◌, sym, true, false, nat_eq, ℕ, Bool, List, [], ◌∷◌}
 use Rattle.vt_spec.specs.Language.Changes.{Change}
 use Rattle.vt_spec.specs.Language.Changes.Change.{CopyUp, SetBytes}
 use Rattle.vt_spec.specs.Machine.Filesystems.{with_change}

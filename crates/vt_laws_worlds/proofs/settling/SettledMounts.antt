@@ -1,7 +1,6 @@
 -- Mounts and namespaces where what nothing uses goes.
-use Rattle.std.proofs.Common.{arith}
+use Rattle.std.proofs.Common.{arith, ◌≡◌, sym, ap, ◌∙◌, ℕ, nat_eq, true, List, Some, filter, is_some}
 use Rattle.std.proofs.lemmas.Grind.{common_steps}
-use Rattle.std.proofs.Common.{◌≡◌, sym, ap, ◌∙◌, ℕ, nat_eq, true, List, Some, filter, is_some}
 use Rattle.std.specs.Prelude.{length, nat_lt, option_to_list, ◌==◌}
 use Rattle.std.specs.List.{list_all, list_any}
 use Rattle.vt_spec.specs.Language.Limits.{most_mounts}

@@ -1,7 +1,6 @@
 -- What the walks and the rules of a call say of what its permit names.
-use Rattle.std.proofs.Common.{arith}
+use Rattle.std.proofs.Common.{arith, Bool, Ok, Option, ap, eqb-true, length, ok_or, option_map, refl, suc, sym, true≢false, zero, ◌||◌, ◌∙◌}
 use Rattle.std.proofs.lemmas.Grind.{common_steps}
-use Rattle.std.proofs.Common.{Bool, Ok, Option, ap, eqb-true, length, ok_or, option_map, refl, suc, sym, true≢false, zero, ◌||◌, ◌∙◌}
 use Rattle.std.proofs.Math.Bool.{or-false}
 use Rattle.std.proofs.lemmas.Option.{same_Some}
 use Rattle.std.specs.List.{find, list_any}

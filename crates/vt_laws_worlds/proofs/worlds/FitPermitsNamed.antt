@@ -1,7 +1,6 @@
 -- Whatever is permitted in a world that has the invariants fits it.
-use Rattle.std.proofs.Common.{arith}
+use Rattle.std.proofs.Common.{arith, Bool, Ok, not, option_map, refl, sym, true≢false, ◌∙◌}
 use Rattle.std.proofs.lemmas.Grind.{common_steps}
-use Rattle.std.proofs.Common.{Bool, Ok, not, option_map, refl, sym, true≢false, ◌∙◌}
 use Rattle.std.proofs.lemmas.Bool.{or_parts}
 use Rattle.std.specs.Prelude.{List, Some, false, is_some, nat_eq, true, ℕ, ◌≡◌}
 use Rattle.vt_laws_rules.proofs.given.Inversion.{calls_are_granted}

@@ -1,7 +1,6 @@
 -- Where one step of a walk leads: to what is there, on a mount of the task's namespace or on one that is in none.
-use Rattle.std.proofs.Common.{arith}
+use Rattle.std.proofs.Common.{arith, ◌≡◌, refl, sym, ap, subst, ◌∙◌, true≢false, ⊎_elim, ℕ, nat_eq, Bool, true, false, not, cond, List, [], ◌∷◌, ◌&&◌, ◌||◌, length, Option, Some, None, is_some, option_map, ok_or, Ok, Err}
 use Rattle.std.proofs.lemmas.Grind.{common_steps}
-use Rattle.std.proofs.Common.{◌≡◌, refl, sym, ap, subst, ◌∙◌, true≢false, ⊎_elim, ℕ, nat_eq, Bool, true, false, not, cond, List, [], ◌∷◌, ◌&&◌, ◌||◌, length, Option, Some, None, is_some, option_map, ok_or, Ok, Err}
 use Rattle.std.specs.Prelude.{option_to_list}
 use Rattle.std.specs.List.{list_all}
 use Rattle.std.proofs.lemmas.Bool.{and_from}

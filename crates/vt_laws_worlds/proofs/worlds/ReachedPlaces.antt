@@ -1,7 +1,6 @@
 -- Where walks to a name end: at a directory that is there, and at what has the name in it; and those of mount calls.
-use Rattle.std.proofs.Common.{arith}
+use Rattle.std.proofs.Common.{arith, ◌≡◌, refl, sym, ap, subst, ◌∙◌, true≢false, ℕ, zero, suc, nat_eq, Bool, true, false, not, List, [], ◌∷◌, ◌&&◌, ◌||◌, ◌+◌, reverse, Option, Some, None, is_some, Ok, Err, Result}
 use Rattle.std.proofs.lemmas.Grind.{common_steps}
-use Rattle.std.proofs.Common.{◌≡◌, refl, sym, ap, subst, ◌∙◌, true≢false, ℕ, zero, suc, nat_eq, Bool, true, false, not, List, [], ◌∷◌, ◌&&◌, ◌||◌, ◌+◌, reverse, Option, Some, None, is_some, Ok, Err, Result}
 use Rattle.std.proofs.lemmas.Option.{same_Some}
 use Rattle.vt_spec.specs.declared.errors.Deny.{Deny}
 use Rattle.vt_spec.specs.declared.errors.Rule.TheVariants.{W3, W6, W8}

@@ -1,8 +1,7 @@
 -- A change of a tree keeps each inode that is there, and its kind; so do changes of filesystems in a world without
 -- overlays.
-use Rattle.std.proofs.Common.{arith}
+use Rattle.std.proofs.Common.{arith, ◌≡◌, refl, sym, ap, ◌∙◌, ◌⊎◌, inr, ℕ, nat_eq, eqb-true, eq-eqb, Bool, true, false, cond, true≢false, flat_map, List, [], ◌∷◌, ◌++◌, Option, Some, None, map}
 use Rattle.std.proofs.lemmas.Grind.{common_steps}
-use Rattle.std.proofs.Common.{◌≡◌, refl, sym, ap, ◌∙◌, ◌⊎◌, inr, ℕ, nat_eq, eqb-true, eq-eqb, Bool, true, false, cond, true≢false, flat_map, List, [], ◌∷◌, ◌++◌, Option, Some, None, map}
 use Rattle.std.specs.Prelude.{All, ⊤}
 use Rattle.vt_spec.specs.declared.attributes.Attr.{Attr}
 use Rattle.vt_spec.specs.Language.Changes.{Change, changed, node_with_attr, node_with_mark, node_with_parent, node_without_entry, with_inode, with_name, without_entry, without_name, without_parent}

@@ -12,7 +12,7 @@ use Rattle.vt_spec.specs.Machine.Looks.{looks_of}
 use Rattle.vt_spec.specs.Machine.Sealed.{is_member_task, members, used_filesystems}
 use Rattle.vt_spec.specs.Machine.Turns.{Item, Progress, Queued, Route, Sched, Turned, call_turn, call_turn_of, entry_rules, first_progress, first_turn, first_turn_by, further, hold_one, is_failing, is_overtaken, item_turn, later_turn, next_word, one_further, queue_of, queue_turn, restarted, routes, turn, turn_under_way, went_on, without_progress, word_walked_by, words_of}
 use Rattle.vt_spec.specs.Machine.Turns.Item.{Asks, Calls, Refused}
-use Rattle.vt_spec.specs.Machine.World.{Task, World, task_called}
+use Rattle.vt_spec.specs.Machine.World.{Task, World, task_called, Filesystem}
 use Rattle.vt_spec.proofs.Found.{found_among, found_passes}
 use Rattle.vt_spec.proofs.Lists.{Among, among-filter, contains_from_among}
 use Rattle.vt_spec.proofs.Worlds.{same_task_name}
@@ -22,7 +22,6 @@ use Rattle.vt_laws_members.proofs.judging.Grounds.{theirs_from, theirs_test}
 use Rattle.vt_laws_members.proofs.judging.SeenInPart.{directory_theirs, filesystem_alike, members_see_alike}
 use Rattle.vt_laws_sealed.proofs.part.walks.WalksAgree.{Alike, each_from}
 use Rattle.vt_spec.specs.FileTree.{is_removed}
-use Rattle.vt_spec.specs.Machine.World.{Filesystem}
 use Rattle.vt_laws_turns.proofs.holds.Holding.{nth_among, word_seen}
 use Rattle.vt_laws_worlds.proofs.worlds.CallsKept.{name_found}
 use Rattle.vt_laws_containers.specs.SealedTurns.MembersTurns.{HasCallsUnderWay, TheirTurnsAnswerAlike, TheirWordsAreOfTheirPart, part_of_sched}

@@ -9,8 +9,7 @@ use Rattle.vt_laws_mounts.proofs.counts.counting.Counts as Counts
 use Rattle.vt_laws_mounts.proofs.counts.counting.Counts.{at_or, counted_changed, counted_pinned, counted_some, one_if-itself, other_if, some_inode}
 use Rattle.vt_laws_mounts.proofs.counts.counting.Entries.{at_place, named_by, named_changed, one_if, one_if_some, part_at, targets, times_put}
 use Rattle.vt_laws_mounts.proofs.counts.counting.Times.{length_removed, removed, times_in, times_removed}
-use Rattle.vt_spec.proofs.Nodes.{directory_is_there}
-use Rattle.vt_spec.proofs.Nodes.{entries-node_with_entry, is_some-node_with_entry}
+use Rattle.vt_spec.proofs.Nodes.{directory_is_there, entries-node_with_entry, is_some-node_with_entry}
 
 abbrev pub uses_of : (ℕ → ℕ) → (ℕ → Option (Node ℕ)) → List ℕ → ℕ → ℕ
 uses_of base node numbers n = base n + times_in n (named_by node numbers)

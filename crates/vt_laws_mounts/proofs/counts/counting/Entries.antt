@@ -4,19 +4,17 @@ use Rattle.std.proofs.lemmas.Bool.Decides.{eqb_tells}
 use Rattle.std.proofs.lemmas.Bool.{and_parts}
 use Rattle.std.proofs.lemmas.Float.{T_from_true}
 use Rattle.std.specs.Cmp.Lexicographic.{nat_list_cmp_total, texts_ties, bytes_decides}
-use Rattle.std.specs.FinMap.Entries.{below_all, by_order, is_sorted, is_sorted-where_key}
+use Rattle.std.specs.FinMap.Entries.{below_all, by_order, is_sorted, is_sorted-where_key, find-where_key}
 use Rattle.std.specs.Ordering.{is_eq, is_lt}
 use Rattle.std.specs.Str.{bytes_eq}
 use Rattle.std.specs.declared.cmp.Ordering.{Ordering}
 use Rattle.std.specs.declared.cmp.Ordering.TheVariants.{Less, Equal, Greater}
 use Rattle.vt_spec.specs.Language.Changes.{without_entry}
 use Rattle.vt_spec.specs.FileTree.{targets_in}
-use Rattle.vt_spec.specs.Tree.{Entries, Node, entries_in, entry_named, name_cmp, with_entry}
+use Rattle.vt_spec.specs.Tree.{Entries, Node, entries_in, entry_named, name_cmp, with_entry, Content, entries_of, kind_of, new_directory}
 use Rattle.vt_spec.proofs.Nodes.{passes}
 use Rattle.vt_spec.proofs.NodeChanges.{entry_named-below}
-use Rattle.std.specs.FinMap.Entries.{find-where_key}
 use Rattle.vt_spec.specs.Rights.{is_directory}
-use Rattle.vt_spec.specs.Tree.{Content, entries_of, kind_of, new_directory}
 use Rattle.vt_spec.specs.Tree.Content.{Directory, Regular, Symlink, Whiteout}
 use Rattle.vt_laws_mounts.proofs.counts.counting.Times.{times_append, times_in}
 

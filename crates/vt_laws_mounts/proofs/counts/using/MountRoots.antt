@@ -14,8 +14,7 @@ use Rattle.vt_laws_mounts.specs.LettingGo.OneByOne.{is_mount_used, without_mount
 use Rattle.vt_laws_mounts.proofs.letting_go.Lists.{Among, all_pass, among-append, among-append_right, among-from_filter_map, among-from_map, among-map, among_numbers, fails, is_among_numbers, passes}
 use Rattle.vt_laws_mounts.proofs.letting_go.leaving.PlacesLeft.{found_itself, nowhere_parts, place_attached}
 pub use Rattle.vt_laws_mounts.proofs.letting_go.sweeps.OfWorlds.{locations_of_worlds_stand}
-use Rattle.vt_laws_mounts.specs.Counts.Using.{MountsLeaveTheirRoots, PlacesStand, is_on, places_of}
-use Rattle.vt_laws_mounts.specs.Counts.Using.{Exchanges}
+use Rattle.vt_laws_mounts.specs.Counts.Using.{MountsLeaveTheirRoots, PlacesStand, is_on, places_of, Exchanges}
 use Rattle.vt_laws_mounts.proofs.counts.using.Exchanged.{exchanges_turn}
 use Rattle.vt_laws_mounts.proofs.counts.using.Places.{mounts_are_uses}
 use Rattle.vt_spec.proofs.Found.{filter_all}

@@ -2,7 +2,7 @@
 use Rattle.std.proofs.lemmas.Grind.{common_steps}
 use Rattle.std.proofs.Common.{◌≡◌, refl, sym, ap, subst, ◌∙◌, inl, inr, ⊎_elim, ℕ, nat_eq, Bool, true, false, true≢false, cond, List, [], ◌∷◌, filter, find, length, map, Option, Some, None, is_some, unwrap_or, arith}
 use Rattle.std.specs.Prelude.{filter_map}
-use Rattle.std.proofs.lemmas.Bool.{cases_Bool}
+use Rattle.std.proofs.lemmas.Bool.{cases_Bool, or_parts}
 use Rattle.std.proofs.lemmas.List.{length-map}
 use Rattle.vt_spec.specs.Lists.{holds_of, is_among}
 use Rattle.vt_spec.specs.Machine.Attach.{receivers_of}
@@ -25,7 +25,6 @@ use Rattle.vt_laws_mounts.proofs.letting_go.leaving.PlacesLeft.{found_is_there, 
 use Rattle.vt_laws_mounts.proofs.letting_go.mounting.MountsSwept.{IsAttached, LivesIn, first_mounts, groups_there, mounts_stand, of_world, same_found, shorter, unused_private, way_up}
 use Rattle.vt_laws_mounts.proofs.letting_go.mounting.TakenInTurn.{one_sweep_for_mounts_with_overlays, one_sweep_in_turn}
 use Rattle.vt_laws_mounts.proofs.letting_go.sweeps.InUse.{one_sweep_is_enough}
-use Rattle.std.proofs.lemmas.Bool.{or_parts}
 
 -- A search that passes over what another test skips finds the same.
 module _ {A : Type 0} (p q : A → Bool) where

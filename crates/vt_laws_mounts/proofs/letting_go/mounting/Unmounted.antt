@@ -1,9 +1,8 @@
 -- What goes after unmounts, one or several after one another.
-use Rattle.std.proofs.Common.{arith}
+use Rattle.std.proofs.Common.{arith, ◌≡◌, refl, sym, ap, subst, ◌∙◌, ◌⊎◌, inl, inr, ⊎_elim, ℕ, nat_eq, Bool, true, false, cond, not, ◌&&◌, List, [], ◌∷◌, filter, map, true≢false, Option, Some, None, is_some, option_map}
 use Rattle.std.proofs.lemmas.Grind.{common_steps}
-use Rattle.std.proofs.Common.{◌≡◌, refl, sym, ap, subst, ◌∙◌, ◌⊎◌, inl, inr, ⊎_elim, ℕ, nat_eq, Bool, true, false, cond, not, ◌&&◌, List, [], ◌∷◌, filter, map, true≢false, Option, Some, None, is_some, option_map}
 use Rattle.std.specs.List.{list_any}
-use Rattle.std.proofs.lemmas.Bool.{false_from_ne_true, or_cases, cases_Bool}
+use Rattle.std.proofs.lemmas.Bool.{false_from_ne_true, or_cases, cases_Bool, or_parts}
 use Rattle.vt_spec.specs.Lists.{folded, holds_of, is_among}
 use Rattle.vt_spec.specs.Machine.Detach.{deepest_first, going, is_going, lazily_unmounted, mount_point_left, mounts_on, taken_away, unmounted, unmounted_if_there}
 use Rattle.vt_spec.specs.Machine.Mounts.{Location, Mount, detached, group_of, mount_in, mount_tree, root_of}
@@ -22,7 +21,6 @@ use Rattle.vt_laws_mounts.proofs.letting_go.mounting.MountingLosers.{Loses, Stil
 use Rattle.vt_laws_mounts.proofs.letting_go.mounting.MountingTaken.{is_changed, nowhere_after, same_filesystem, same_namespace, same_namespaces, same_number, same_place, same_root, stays, taking_away_lets_go}
 use Rattle.vt_laws_mounts.proofs.letting_go.mounting.MountingTaken
 use Rattle.vt_laws_mounts.proofs.letting_go.leaving.PlacesLeft.{found_is_there, found_itself, nowhere_parts, placed_is_attached, private_is_no_member, place_attached}
-use Rattle.std.proofs.lemmas.Bool.{or_parts}
 use Rattle.vt_spec.proofs.Worlds.{number-mount_in}
 use Rattle.vt_spec.proofs.Lists.{map_twice}
 

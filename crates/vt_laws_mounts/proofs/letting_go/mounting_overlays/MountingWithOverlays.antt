@@ -1,7 +1,6 @@
 -- What goes after each change of mounts in worlds with overlays.
-use Rattle.std.proofs.Common.{arith}
+use Rattle.std.proofs.Common.{arith, ◌≡◌, sym, ap, subst, ◌∙◌, ℕ, nat_eq, Bool, true, List, [], ◌∷◌, filter, flat_map, length, map, suc, zero, option_to_list}
 use Rattle.std.proofs.lemmas.Grind.{common_steps}
-use Rattle.std.proofs.Common.{◌≡◌, sym, ap, subst, ◌∙◌, ℕ, nat_eq, Bool, true, List, [], ◌∷◌, filter, flat_map, length, map, suc, zero, option_to_list}
 use Rattle.std.proofs.lemmas.List.{append-nil}
 use Rattle.std.specs.List.{list_any}
 use Rattle.vt_spec.specs.Machine.Attach.{Copies, attach, copies_from, parts_of}

@@ -1,7 +1,6 @@
 -- A mount, a filesystem, an inode or a group that is looked at is looked up by its number.
-use Rattle.std.proofs.Common.{arith}
+use Rattle.std.proofs.Common.{arith, ◌≡◌, refl, sym, ap, ◌∙◌, ℕ, nat_eq, eqb-true, Bool, true, false, cond, not, ◌&&◌, ◌||◌}
 use Rattle.std.proofs.lemmas.Grind.{common_steps}
-use Rattle.std.proofs.Common.{◌≡◌, refl, sym, ap, ◌∙◌, ℕ, nat_eq, eqb-true, Bool, true, false, cond, not, ◌&&◌, ◌||◌}
 use Rattle.vt_spec.specs.Machine.Settled.{filesystem_lives}
 use Rattle.vt_spec.specs.Machine.World.{Filesystem, filesystem_numbered, no_filesystem}
 use Rattle.vt_laws_mounts.specs.LettingGo.InUse.{is_inode_used}

@@ -1,7 +1,6 @@
 -- Each overlay is what its layers show when another one is mounted.
-use Rattle.std.proofs.Common.{arith}
+use Rattle.std.proofs.Common.{arith, ◌≡◌, ◌∙◌, refl, sym, ap, subst, inl, inr, ℕ, zero, suc, nat_eq, eqb-true, Bool, true, false, cond, List, [], ◌∷◌, ◌++◌, map, Option, Some, None, is_some, slice_get, unwrap_or}
 use Rattle.std.proofs.lemmas.Grind.{common_steps}
-use Rattle.std.proofs.Common.{◌≡◌, ◌∙◌, refl, sym, ap, subst, inl, inr, ℕ, zero, suc, nat_eq, eqb-true, Bool, true, false, cond, List, [], ◌∷◌, ◌++◌, map, Option, Some, None, is_some, slice_get, unwrap_or}
 use Rattle.std.specs.List.{find, list_any}
 use Rattle.std.specs.Prelude.{option_map, option_to_list}
 use Rattle.vt_spec.specs.Machine.Layers.{shown}

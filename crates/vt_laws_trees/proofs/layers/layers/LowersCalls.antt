@@ -1,7 +1,6 @@
 -- Calls leave what is locked as it was, in a filesystem that no overlay writes to.
-use Rattle.std.proofs.Common.{arith}
+use Rattle.std.proofs.Common.{arith, ◌≡◌, ◌≢◌, sym, ap, subst, ◌∙◌, true≢false, eqb-true, ℕ, nat_eq, true, false, ⊎_elim, None, unwrap_or}
 use Rattle.std.proofs.lemmas.Grind.{common_steps}
-use Rattle.std.proofs.Common.{◌≡◌, ◌≢◌, sym, ap, subst, ◌∙◌, true≢false, eqb-true, ℕ, nat_eq, true, false, ⊎_elim, None, unwrap_or}
 use Rattle.std.proofs.lemmas.Bool.Decides.{eqb_tells}
 use Rattle.std.specs.List.{find}
 use Rattle.vt_spec.specs.Language.Changes.{Change, changed}

@@ -1,7 +1,6 @@
 -- Which filesystems a change of the world leaves as they were.
-use Rattle.std.proofs.Common.{arith}
+use Rattle.std.proofs.Common.{arith, ◌≡◌, ◌≢◌, refl, sym, ap, subst, ◌∙◌, true≢false, ℕ, nat_eq, ne_eqb, true, false, cond, List, [], ◌∷◌, map, ⊎_elim, Option, Some, None, unwrap_or}
 use Rattle.std.proofs.lemmas.Grind.{common_steps}
-use Rattle.std.proofs.Common.{◌≡◌, ◌≢◌, refl, sym, ap, subst, ◌∙◌, true≢false, ℕ, nat_eq, ne_eqb, true, false, cond, List, [], ◌∷◌, map, ⊎_elim, Option, Some, None, unwrap_or}
 use Rattle.std.specs.List.{find}
 use Rattle.std.proofs.lemmas.Bool.Decides.{eqb_tells}
 use Rattle.vt_spec.proofs.Truths.{nat_eq_itself}

@@ -1,7 +1,6 @@
 -- Objects of an upper layer lie under no other layer of a live overlay.
-use Rattle.std.proofs.Common.{arith}
+use Rattle.std.proofs.Common.{arith, ◌≡◌, ◌≢◌, refl, sym, ap, subst, ◌∙◌, true≢false, ℕ, nat_eq, eq-eqb, eqb-true, Bool, true, false, not, ◌&&◌, List, [], ◌∷◌, ◌++◌, Option, Some, None, is_some, unwrap_or, inl, inr, ◌⊎◌, ⊎_elim}
 use Rattle.std.proofs.lemmas.Grind.{common_steps}
-use Rattle.std.proofs.Common.{◌≡◌, ◌≢◌, refl, sym, ap, subst, ◌∙◌, true≢false, ℕ, nat_eq, eq-eqb, eqb-true, Bool, true, false, not, ◌&&◌, List, [], ◌∷◌, ◌++◌, Option, Some, None, is_some, unwrap_or, inl, inr, ◌⊎◌, ⊎_elim}
 use Rattle.std.specs.List.{find, list_any, list_all}
 use Rattle.std.specs.Prelude.{flat_map, option_to_list}
 use Rattle.vt_spec.specs.FileTree.{FileTree, is_under}

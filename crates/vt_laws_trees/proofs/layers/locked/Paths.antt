@@ -1,7 +1,6 @@
 -- Where what lies under a layer stays as it was, paths lead from the layer's directory where they led.
-use Rattle.std.proofs.Common.{arith}
+use Rattle.std.proofs.Common.{arith, ◌≡◌, ◌≢◌, refl, sym, ap, ◌∙◌, true≢false, eq-eqb, ℕ, nat_eq, true, cond, not, ◌&&◌, ◌||◌, List, Some, is_some}
 use Rattle.std.proofs.lemmas.Grind.{common_steps}
-use Rattle.std.proofs.Common.{◌≡◌, ◌≢◌, refl, sym, ap, ◌∙◌, true≢false, eq-eqb, ℕ, nat_eq, true, cond, not, ◌&&◌, ◌||◌, List, Some, is_some}
 use Rattle.std.specs.List.{find, list_any}
 use Rattle.vt_spec.specs.FileTree.{is_directory_under, is_file_under, is_under}
 use Rattle.vt_spec.specs.Lists.{Fresh}

@@ -1,7 +1,6 @@
 -- The entries of a tree after a change of one inode.
-use Rattle.std.proofs.Common.{arith}
+use Rattle.std.proofs.Common.{arith, ◌≡◌, sym, ap, ◌∙◌, true≢false, ℕ, nat_eq, Bool, true, cond, ◌&&◌, List, ⊎_elim, Option, Some, None}
 use Rattle.std.proofs.lemmas.Grind.{common_steps}
-use Rattle.std.proofs.Common.{◌≡◌, sym, ap, ◌∙◌, true≢false, ℕ, nat_eq, Bool, true, cond, ◌&&◌, List, ⊎_elim, Option, Some, None}
 use Rattle.std.proofs.lemmas.Bool.Decides.{eqb_tells}
 use Rattle.std.specs.Cmp.Lexicographic.{bytes_decides, texts_ties}
 use Rattle.std.specs.Str.{bytes_eq}

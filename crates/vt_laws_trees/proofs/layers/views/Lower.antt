@@ -1,7 +1,6 @@
 -- What is shown where a name of the upper layer was.
-use Rattle.std.proofs.Common.{arith}
+use Rattle.std.proofs.Common.{arith, ◌≡◌, ◌≢◌, refl, sym, ap, subst, ◌∙◌, true≢false, ℕ, Bool, true, false, cond, ◌||◌, List, [], ◌∷◌, ◌++◌, map, Option, Some, None, option_and_then}
 use Rattle.std.proofs.lemmas.Grind.{common_steps}
-use Rattle.std.proofs.Common.{◌≡◌, ◌≢◌, refl, sym, ap, subst, ◌∙◌, true≢false, ℕ, Bool, true, false, cond, ◌||◌, List, [], ◌∷◌, ◌++◌, map, Option, Some, None, option_and_then}
 use Rattle.std.proofs.lemmas.List.{append-nil}
 use Rattle.std.specs.List.{list_any}
 use Rattle.vt_spec.specs.Language.Changes.Change.{Move, Remove}

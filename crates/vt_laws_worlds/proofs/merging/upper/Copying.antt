@@ -1,7 +1,7 @@
 -- Copies of what a path leads to, front by front.
 use Rattle.std.proofs.Common.{arith, ◌≡◌, ◌≤◌, refl, sym, ap, subst, ◌∙◌, true≢false, ℕ, zero, suc, ◌+◌, nat_eq, Bool, true, false, List, [], ◌∷◌, ◌++◌, length, map, reverse, Option, Some, None, is_some, option_and_then, unwrap_or}
 use mathlib.Core.List.{reverse-cons}
-use Rattle.vt_spec.specs.FileTree.{FileTree, a_name, named_parent}
+use Rattle.vt_spec.specs.FileTree.{FileTree, a_name, named_parent, is_kind_in}
 use Rattle.vt_spec.specs.Lists.{Fresh, chain, folded, without_last, prefixes, then_some}
 use Rattle.vt_spec.specs.Machine.CopyUp.{Merge, Stack, copied_content, copied_each, copied_up, copy_named, copy_of, copy_of_node, copy_parent, directories_to, is_in_upper, line_by, line_to, upper_of}
 use Rattle.vt_spec.specs.Machine.Invariants.{ListsNumbers, SameObject, number_at_path, same_content}
@@ -19,7 +19,6 @@ use Rattle.vt_laws_trees.proofs.overlays.steps.WholeNames.{above_named, named_ab
 use Rattle.vt_laws_trees.proofs.overlays.steps.WholeParts.{real_by}
 use Rattle.vt_laws_worlds.specs.Merging.UpperChanges.{copied_at, copied_to, copy_node, copy_over, led_above, node_seen, object_above}
 use Rattle.vt_spec.specs.declared.attributes.Kind.TheVariants.{White}
-use Rattle.vt_spec.specs.FileTree.{is_kind_in}
 use Rattle.vt_spec.specs.Machine.Layers.{view_of}
 use Rattle.vt_spec.specs.Machine.World.{Real, upper_object}
 use Rattle.vt_spec.specs.Language.Changes.{changed, with_inode}

@@ -1,7 +1,6 @@
 -- Inodes that nothing uses may go before the sweep of inodes.
-use Rattle.std.proofs.Common.{arith}
+use Rattle.std.proofs.Common.{arith, ◌≡◌, refl, sym, ap, subst, ◌∙◌, ⊎_elim, true≢false, ℕ, nat_eq, Bool, true, false, cond, not, ◌||◌, ◌&&◌, List, [], map, filter, flat_map, ◌++◌, ◌∷◌, Option, Some, None, option_map}
 use Rattle.std.proofs.lemmas.Grind.{common_steps}
-use Rattle.std.proofs.Common.{◌≡◌, refl, sym, ap, subst, ◌∙◌, ⊎_elim, true≢false, ℕ, nat_eq, Bool, true, false, cond, not, ◌||◌, ◌&&◌, List, [], map, filter, flat_map, ◌++◌, ◌∷◌, Option, Some, None, option_map}
 use Rattle.std.specs.Prelude.{All, filter_map}
 use Rattle.std.proofs.lemmas.Bool.{cases_Bool, not-true}
 use Rattle.vt_spec.specs.Lists.{holds_of, is_among}

@@ -1,7 +1,6 @@
 -- The list of mounts after an unshare.
-use Rattle.std.proofs.Common.{arith}
+use Rattle.std.proofs.Common.{arith, ◌≡◌, refl, sym, ap, ◌∙◌, List, [], None, eq-eqb, eqb-true, true≢false, Option, Some, cond, flat_map, map, nat_eq, option_map, unwrap_or, ℕ, ◌+◌, ◌∷◌, inl, inr}
 use Rattle.std.proofs.lemmas.Grind.{common_steps}
-use Rattle.std.proofs.Common.{◌≡◌, refl, sym, ap, ◌∙◌, List, [], None, eq-eqb, eqb-true, true≢false, Option, Some, cond, flat_map, map, nat_eq, option_map, unwrap_or, ℕ, ◌+◌, ◌∷◌, inl, inr}
 use Rattle.std.proofs.lemmas.List.Folds.{flat_map-map}
 use Rattle.vt_spec.proofs.Lists.{Among, among-filter, among-from_filter}
 use Rattle.vt_spec.specs.FileTree.{path_down}

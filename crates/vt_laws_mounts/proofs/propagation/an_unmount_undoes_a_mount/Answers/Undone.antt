@@ -32,11 +32,10 @@ use Rattle.vt_laws_mounts.proofs.propagation.PropagationCopies.{copies, push}
 use Rattle.vt_laws_mounts.proofs.propagation.PropagationHeard.{groups_after, only_part}
 use Rattle.vt_laws_mounts.proofs.propagation.PropagationHearing.{old_up, old_up_after}
 use Rattle.vt_laws_mounts.proofs.propagation.PropagationUp.{heard, hears, lives_up}
-use Rattle.vt_laws_mounts.proofs.mounts.Receivers.{receives_completely, receives_soundly}
+use Rattle.vt_laws_mounts.proofs.mounts.Receivers.{receives_completely, receives_soundly, receiver_receives}
 use Rattle.vt_laws_mounts.proofs.ends.Unmounting.{root_mounts_stay, unmount_keeps_the_order, what_goes_is_detached, what_stays_keeps, what_stays_keeps_its_place, what_stays_keeps_its_type, groups_keep_their_masters, middle}
 use Rattle.vt_laws_mounts.proofs.ends.UnmountingGoes.{what_goes_is_named}
 use Rattle.vt_spec.proofs.Worlds.{master-regrouped_by, number-mount_in}
-use Rattle.vt_laws_mounts.proofs.mounts.Receivers.{receiver_receives}
 use Rattle.vt_laws_mounts.proofs.propagation.OneAttached.{one_of, later_number, part_old, hears_group}
 
 -- No mount stands at the node of the place on a mount that receives from the destination's group

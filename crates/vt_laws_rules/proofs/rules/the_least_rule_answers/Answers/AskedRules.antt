@@ -1,5 +1,6 @@
 -- Each call is answered by what it asks: its first rules, its walks, and its last table.
-use Rattle.std.proofs.Common.{◌≡◌, refl, subst, sym, ℕ, nat_eq, Bool, true, false, not, List, [], ◌∷◌, ◌++◌, ◌||◌, Option, Some, None, ok_or, Result, Ok, Err, is_ok, length, nat_lt, unwrap_or, is_some, option_map}
+use Rattle.std.proofs.Common.{arith, ◌≡◌, refl, subst, sym, ℕ, nat_eq, Bool, true, false, not, List, [], ◌∷◌, ◌++◌, ◌||◌, Option, Some, None, ok_or, Result, Ok, Err, is_ok, length, nat_lt, unwrap_or, is_some, option_map}
+use Rattle.std.proofs.lemmas.Grind.{common_steps}
 use Rattle.std.specs.Prelude.{is_err, is_none}
 use Rattle.std.specs.Result.{result_err}
 use Rattle.vt_spec.specs.Machine.Looks.{looks_of}
@@ -69,10 +70,7 @@ exclusive_asked : (special slash there : Bool) (judgement : Judgement ℕ) (more
     → IsAnsweredAs judgement (unless more (Ok true))
     → IsAnsweredAs (unless ((special, E1) ∷ (slash, E2) ∷ (there, E1) ∷ []) judgement)
     (decided (unless ((special, E1) ∷ (slash, E2) ∷ []) (Ok ((there, E1) ∷ more))))
-exclusive_asked true slash there judgement more e = refl
-exclusive_asked false true there judgement more e = refl
-exclusive_asked false false true judgement more e = refl
-exclusive_asked false false false judgement more e = e
+exclusive_asked special slash there judgement more e = grind (arith, common_steps)
 
 walk_asked : {A : Type 0} (first : Result A Deny) (next : A → Judgement ℕ) (last : A → Result Rules Deny)
     → ((a : A) → IsAnsweredAs (next a) (decided (last a)))

@@ -1,4 +1,5 @@
 -- In a table that is in the policy's order, the first rule that fails is the least of those that fail.
+use Rattle.std.proofs.lemmas.Grind.{common_steps}
 use Rattle.std.proofs.Common.{◌≡◌, ◌≢◌, refl, subst, ap, ℕ, ◌+◌, ◌*◌, ◌≤◌, Bool, true, false, ◌||◌, nat_le, List, [], ◌∷◌, ◌++◌, drop, Result, Ok, Err, arith}
 use Rattle.std.specs.Prelude.{IsErrAnd, slice_index}
 use Rattle.std.specs.Result.{result_err}
@@ -82,13 +83,7 @@ front_in_order least ((fails, rule) ∷ rows) more order =
 module _ {A B : Type 0} where
   pub least_as : (answer : Result A Deny) (other : Result B Deny) (rules : List Rule)
       → result_err answer ≡ result_err other → IsAnsweredByLeast other rules → IsAnsweredByLeast answer rules
-  least_as (Ok a) (Ok b) [] e h = refl
-  least_as (Ok a) (Ok b) (rule ∷ rules) e h = h
-  least_as (Ok a) (Err deny) rules e h = cc
-  least_as (Err deny) (Ok b) rules e h = cc
-  least_as (Err deny) (Err other) [] e h = h
-  least_as (Err deny) (Err other) (rule ∷ rules) e h = let same : other ≡ deny = cc in
-      subst (λ d. IsLeastOf d.rule (rule ∷ rules)) same h
+  least_as answer other rules e h = grind (arith, common_steps)
 
   pub refused_as : (P : Deny → Type 0) (answer : Result A Deny) (other : Result B Deny)
       → result_err answer ≡ result_err other → IsErrAnd other P → IsErrAnd answer P

@@ -1,7 +1,6 @@
 -- A group that loses its last member hands its slaves on.
-use Rattle.std.proofs.Common.{arith}
+use Rattle.std.proofs.Common.{arith, ◌≡◌, refl, sym, ap, ◌∙◌, ⊎_elim, ℕ, suc, nat_eq, eqb-true, eq-eqb, Bool, true, false, cond, not, ◌||◌, find, length, true≢false, Option, Some, None, is_some, option_to_list}
 use Rattle.std.proofs.lemmas.Grind.{common_steps}
-use Rattle.std.proofs.Common.{◌≡◌, refl, sym, ap, ◌∙◌, ⊎_elim, ℕ, suc, nat_eq, eqb-true, eq-eqb, Bool, true, false, cond, not, ◌||◌, find, length, true≢false, Option, Some, None, is_some, option_to_list}
 use Rattle.std.specs.List.{list_all, list_any}
 use Rattle.std.proofs.lemmas.Bool.{and_parts, or_parts, cases_Bool}
 use Rattle.vt_spec.specs.Lists.{chain, holds_of, then_some}
