@@ -174,12 +174,7 @@ module _ (mounts tree : List (Mount ℕ)) (own : OneNumberAMount mounts) (apart 
       changed_numbers (mount ∷ list) = λ i. keeps mount i ∷ changed_numbers list i
 
       listed : (copy : Mount ℕ) → Among copy (map change tree) → is_among nat_eq copy.number (numbers_of mounts) ≡ true
-      listed copy m =
-          let from = among-from_map change tree copy m in
-          ap (λ (one : Mount ℕ). is_among nat_eq one.number (numbers_of mounts)) from.2
-          ∙ ap (λ n. is_among nat_eq n (numbers_of mounts)) (keeps from.0)
-          ∙ is_among_numbers (numbers_of mounts) from.0.number
-          (among-map (λ (one : Mount ℕ). one.number) mounts from.0 (there from.0 from.1))
+      listed copy m = grind (arith, common_steps, among-from_map, is_among_numbers, among-map)
 
       originals : (list : List (Mount ℕ)) → ((mount : Mount ℕ) → Among mount list → Among mount mounts)
           → map (λ (copy : Mount ℕ). mount_in nat_eq mounts copy.number) (map change list) ≡ list

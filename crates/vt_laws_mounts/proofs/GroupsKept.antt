@@ -20,8 +20,8 @@ use Rattle.vt_laws_mounts.proofs.mounts.MountsReplaced.{found_itself, replaced_e
 use Rattle.vt_laws_mounts.proofs.ends.Unmounting.{going_is_detached, middle, staying_is_placed}
 use Rattle.vt_spec.specs.Machine.Receives.{groups_up, has_members, heir, inherited, inheriting, is_lost_group, is_member_of, lost_a_group, regrouped, regrouped_by, slave_of_heir}
 use Rattle.std.specs.Prelude.{if◌then◌else◌}
-use Rattle.vt_spec.specs.Machine.Settled.{is_located, mount_lives, settled}
-use Rattle.vt_spec.specs.Machine.Invariants.{Lives, is_nowhere_or_attached, is_private}
+use Rattle.vt_spec.specs.Machine.Settled.{mount_lives, settled}
+use Rattle.vt_spec.specs.Machine.Invariants.{Lives, is_nowhere_or_attached}
 use Rattle.vt_laws_mounts.proofs.Groups.{members-inherited}
 use Rattle.std.proofs.lemmas.Bool.{not-false, or_parts}
 use Rattle.std.proofs.lemmas.Option.{same_Some}
@@ -207,13 +207,7 @@ pivot_keeps_groups world namespace root new put live =
     (lives_in world live from.0 from.1 source (sym (ap source_of (ap (λ x. x.propagation) from.2 ∙ kept from.0)) ∙ e)))
   where
     kept : (mount : Mount ℕ) → (pivoted_mount nat_eq root new put mount).propagation ≡ mount.propagation
-    kept mount = by (nat_eq mount.number new.number) (nat_eq mount.number root.number)
-      where
-        by : (a b : Bool) → (if a then (record mount { mount_point = root.mount_point }) else if b then
-            (record mount { mount_point = Some put }) else mount).propagation ≡ mount.propagation
-        by true b = refl
-        by false true = refl
-        by false false = refl
+    kept mount = grind (arith, common_steps)
 
 pub unshare_keeps_groups : KeptByUnshare GroupsLive
 unshare_keeps_groups world fresh task live =
@@ -256,13 +250,7 @@ settling_keeps_groups world nowhere live = groups_live_by (settled nat_eq world)
   where
     attached : (mount : Mount ℕ) → is_nowhere_or_attached mount ≡ true → (group : ℕ) → mount.propagation ≡ Shared group
         → mount_lives nat_eq world mount ≡ true
-    attached mount fit group shared = by (is_some mount.namespace)
-        (sym (ap (λ k. is_some mount.namespace || (not (is_some mount.mount_point) && is_private k)) shared) ∙ fit)
-      where
-        by : (b : Bool) → (b || (not (is_some mount.mount_point) && false)) ≡ true
-            → (b || is_located nat_eq world mount.number) ≡ true
-        by true e = refl
-        by false e = absurd (true≢false (sym e ∙ and-false (not (is_some mount.mount_point))))
+    attached mount fit group shared = grind (arith, common_steps, true≢false, and-false)
 
 -- A mount that takes other flags keeps its type.
 pub flags_keep_groups : FlagsKeepGroups
@@ -286,10 +274,5 @@ flags_keep_groups world at flags one_each live =
         → nat_eq (mount_at nat_eq world at).number old.number ≡ b
         → (replaced_if_same nat_eq (record (mount_at nat_eq world at) { flags = flags }) old).propagation
         ≡ old.propagation
-    same_type old m true e =
-        ap (λ x. x.propagation) (replaced_there (record (mount_at nat_eq world at) { flags = flags }) old e)
-        ∙ ap (λ x. x.propagation)
-        (ap (mount_in nat_eq world.mounts) (sym (number-mount_in world.mounts at.mount) ∙ eqb-true _ _ e)
-        ∙ found_itself world.mounts one_each old m)
-    same_type old m false e = ap (λ x. x.propagation)
-        (replaced_elsewhere (record (mount_at nat_eq world at) { flags = flags }) old e)
+    same_type old m b e =
+        grind (arith, common_steps, replaced_there, number-mount_in, eqb-true, found_itself, replaced_elsewhere)

@@ -1,9 +1,8 @@
 -- Groups live on through a change of type.
-use Rattle.std.proofs.Common.{arith, ◌≡◌, refl, sym, ap, subst, ◌∙◌, true, false, nat_eq, Bool, List, Option, Some, [], eq-eqb, eqb-true, inl, inr, is_some, true≢false, ⊎_elim, ◌∷◌, ◌⊎◌, ℕ}
+use Rattle.std.proofs.Common.{arith, ◌≡◌, refl, sym, ap, subst, ◌∙◌, true, false, nat_eq, Bool, List, Option, Some, [], eq-eqb, eqb-true, inl, inr, true≢false, ⊎_elim, ◌∷◌, ◌⊎◌, ℕ}
 use Rattle.std.proofs.lemmas.Grind.{common_steps}
 use Rattle.vt_spec.specs.Machine.Mounts.{Mount, Propagation, index_of, source_of}
 use Rattle.vt_spec.specs.Machine.Mounts.Propagation.{Private, Shared, Slave, Unbindable}
-use Rattle.vt_spec.specs.Language.Calls.TypeWord.{ToPrivate, ToShared, ToSlave, ToUnbindable}
 use Rattle.vt_laws_mounts.proofs.GroupsUp.{EndsUp, LivesIn, lives_in}
 use Rattle.vt_laws_mounts.proofs.GroupsUp.EndsUp.{at_top, goes_up}
 use Rattle.vt_spec.specs.Machine.Invariants.Lives.{has_master, has_no_master}
@@ -28,16 +27,7 @@ use Rattle.vt_spec.proofs.Worlds.{found_or_none, tree_among}
 -- what a type that is taken has as its source
 source_taken : (new : ℕ) (word : TypeWord) (kind : Propagation ℕ) (source : ℕ)
     → source_of (type_after new word kind) ≡ Some source → (source ≡ new) ⊎ (source_of kind ≡ Some source)
-source_taken new ToShared (Shared group) source e = inr e
-source_taken new ToShared (Slave above) source e = inl (sym (same_Some new source e))
-source_taken new ToShared Private source e = inl (sym (same_Some new source e))
-source_taken new ToShared Unbindable source e = inl (sym (same_Some new source e))
-source_taken new ToSlave (Shared group) source e = inr e
-source_taken new ToSlave (Slave above) source e = inr e
-source_taken new ToSlave Private source e = inr e
-source_taken new ToSlave Unbindable source e = inr e
-source_taken new ToPrivate kind source e = absurd (true≢false (sym (ap is_some e)))
-source_taken new ToUnbindable kind source e = absurd (true≢false (sym (ap is_some e)))
+source_taken new word kind source e = grind (arith, common_steps, same_Some, true≢false)
 
 -- the master of a group after new groups were made: as it was, or that of the mount for which the group is new
 module _ (group : ℕ → ℕ) where

@@ -1,18 +1,18 @@
 -- Groups that have members, and so up their masters to an end.
+use Rattle.std.proofs.lemmas.Grind.{common_steps}
 use Rattle.std.proofs.lemmas.List.Filters.{length-filter_both}
 use Rattle.std.proofs.Common.{◌≡◌, refl, sym, ap, subst, ◌∙◌, true, false, zero, suc, Bool, List, None, Option, Some, [], arith, is_some, length, nat_eq, true≢false, ℕ, ◌&&◌, ◌∷◌, ◌≤◌, eqb-true, filter, not, ⊎_elim}
 use Rattle.std.specs.List.{list_any, list_all}
 use Rattle.vt_laws_mounts.proofs.mounts.Receivers.{along_chain, groups_live_at}
 use Rattle.std.proofs.lemmas.Bool.{and_parts, and_from, false_from_ne_true, not-true, or_from, or_parts}
-use Rattle.vt_spec.specs.Lists.{chain, is_among, last_or, any_pair, holds_of}
+use Rattle.vt_spec.specs.Lists.{chain, is_among, last_or, any_pair}
 use Rattle.vt_spec.proofs.Lists.{chain_ends, chain_goes_on, last_of_chain, Among, among-filter, among_from_list_all, among_numbers, any_among, any_from_among, list_all_from_among, none_among}
 use Rattle.vt_laws_mounts.specs.Mounts.Receivers.{GroupsLive}
-use Rattle.vt_spec.specs.Machine.Mounts.{Mount, group_of, source_of}
+use Rattle.vt_spec.specs.Machine.Mounts.{Mount, source_of}
 use Rattle.vt_spec.specs.Machine.World.{World}
 use Rattle.vt_spec.specs.Machine.Receives.{groups_up, has_members, is_member_of}
 use Rattle.vt_spec.specs.Machine.Invariants.{Lives, has_living_groups, masters_end}
 use Rattle.vt_spec.specs.Machine.Invariants.Lives.{has_master, has_no_master}
-use Rattle.std.specs.Prelude.{option_to_list}
 use Rattle.std.proofs.lemmas.Option.{same_Some}
 use Rattle.vt_spec.proofs.Options.{none_from_not_some}
 
@@ -165,14 +165,7 @@ fewer_groups (group ∷ groups) mounts distinct all =
     still : (one other : ℕ) (list : List (Mount ℕ)) → nat_eq one other ≡ false → has_members nat_eq list other ≡ true
         → has_members nat_eq (filter (λ mount. not (is_member_of nat_eq one mount)) list) other ≡ true
     still one other list differ h =
-        let member = any_among (is_member_of nat_eq other) list h in
-        any_from_among (is_member_of nat_eq other) (filter (λ mount. not (is_member_of nat_eq one mount)) list) member.0
-        (among-filter (λ mount. not (is_member_of nat_eq one mount)) list member.0 member.1
-        (no_member (group_of member.0.propagation) member.2)) member.2
-      where
-        no_member : (found : Option ℕ) → holds_of (nat_eq other) found ≡ true → not (holds_of (nat_eq one) found) ≡ true
-        no_member None e = absurd (true≢false (sym e))
-        no_member (Some k) e = ap not (ap (nat_eq one) (sym (eqb-true other k e)) ∙ differ)
+        grind (arith, common_steps, one, any_among, any_from_among, among-filter, true≢false, eqb-true)
 
 -- A world whose groups live, told by the groups themselves
 -- as in the invariants of mounts
@@ -204,9 +197,4 @@ groups_live_by world lives = list_all_from_among (has_living_groups nat_eq world
 
     by : (mount : Mount ℕ) → Among mount world.mounts → (found : Option ℕ) → source_of mount.propagation ≡ found
         → has_living_groups nat_eq world mount ≡ true
-    by mount m None e = ap (λ s. list_all
-        (λ group. list_all (has_members nat_eq world.mounts) (groups_up world group) && masters_end nat_eq world group)
-        (option_to_list s)) e
-    by mount m (Some source) e = ap (λ s. list_all
-        (λ group. list_all (has_members nat_eq world.mounts) (groups_up world group) && masters_end nat_eq world group)
-        (option_to_list s)) e ∙ ap (λ b. b && true) (one source (lives mount m source e))
+    by mount m found e = grind (arith, common_steps, one)

@@ -1,5 +1,6 @@
 -- Groups live on through a bind, a new mount and a move.
-use Rattle.std.proofs.Common.{◌≡◌, sym, ap, subst, ◌∙◌, refl, true, false, nat_eq, ℕ, Bool, Some, [], is_some, length, true≢false, ⊎_elim, ◌∷◌}
+use Rattle.std.proofs.Common.{arith, ◌≡◌, sym, ap, subst, ◌∙◌, refl, true, false, nat_eq, ℕ, Bool, Some, [], is_some, length, true≢false, ⊎_elim, ◌∷◌}
+use Rattle.std.proofs.lemmas.Grind.{common_steps}
 use Rattle.vt_spec.proofs.Lists.{Among}
 use Rattle.vt_spec.specs.Machine.Attach.{bind_tree, moved_tree, parts_of}
 use Rattle.vt_spec.specs.Machine.Mounts.{Location, Mount, source_of}
@@ -20,13 +21,8 @@ use Rattle.vt_spec.proofs.Worlds.{found_or_none, tree_among}
 bind_sourced : (world : World ℕ) (source : Location ℕ) (recursive : Bool) → GroupsLive world → (origin : Mount ℕ)
     → Among origin (bind_tree nat_eq world source recursive)
     → (group : ℕ) → source_of origin.propagation ≡ Some group → LivesIn world group
-bind_sourced world source recursive live origin m group e = ⊎_elim (λ same.
-    let type_is : source_of (mount_at nat_eq world source).propagation ≡ Some group =
-    ap (λ (x : Mount ℕ). source_of x.propagation) (sym same) ∙ e in
-    ⊎_elim (λ there. lives_in world live (mount_at nat_eq world source) there group type_is)
-    (λ none. absurd (true≢false (sym (ap is_some type_is)
-    ∙ ap (λ (x : Mount ℕ). is_some (source_of x.propagation)) none))) (found_or_none world.mounts source.mount))
-    (λ there. lives_in world live origin there group e) (bind_there_or_source world source recursive origin m)
+bind_sourced world source recursive live origin m group e =
+    grind (arith, common_steps, lives_in, true≢false, found_or_none, bind_there_or_source)
 
 pub binds_keep_groups : BindsKeepGroups
 binds_keep_groups world fresh source place recursive serves one all live =

@@ -1,8 +1,9 @@
 -- A mount outside every namespace stays nowhere where a tree of mounts is attached in one.
-use Rattle.std.proofs.Common.{◌≡◌, refl, sym, ap, ◌∙◌, true, false, nat_eq, ℕ, Bool, List, None, Option, Some, [], flat_map, is_some, map, not, true≢false, ⊎_elim, ◌&&◌, ◌++◌, ◌∷◌, ◌||◌}
+use Rattle.std.proofs.Common.{arith, ◌≡◌, refl, sym, ap, ◌∙◌, true, false, nat_eq, ℕ, Bool, List, None, Option, Some, [], flat_map, is_some, map, not, true≢false, ⊎_elim, ◌&&◌, ◌++◌, ◌∷◌, ◌||◌}
+use Rattle.std.proofs.lemmas.Grind.{common_steps}
 use Rattle.std.proofs.lemmas.Bool.{and_parts}
 use Rattle.vt_spec.proofs.Lists.{Among, among-append, among-from_filter, among-from_flat_map, among-from_map, among_from_list_all, list_all_from_among}
-use Rattle.vt_spec.specs.Machine.Attach.{Copies, added_mounts, attached_by, bind_tree, copies_at, copy_at, moved_tree, pushed_onto, reaches, receiver_stood_on, receivers_of, takes_part, with_moved_mounts}
+use Rattle.vt_spec.specs.Machine.Attach.{Copies, added_mounts, attached_by, bind_tree, copies_at, copy_at, moved_tree, pushed_onto, receiver_stood_on, with_moved_mounts}
 use Rattle.vt_spec.specs.Lists.{holds_of, rest_of}
 use Rattle.vt_spec.specs.Machine.Mounts.{Location, Mount, same_location, stands_at}
 use Rattle.vt_spec.specs.Machine.NewMounts.{new_mount, with_new_filesystem}
@@ -34,14 +35,7 @@ module _ (world : World ℕ) (new : Copies ℕ) (place : Location ℕ) (moves : 
       ∙ ap (λ b. b || (not true && is_private (copy_at nat_eq world new tree part_list part from.0).propagation)) e
 
   taker_attached : (part : Mount ℕ) → Among part (rest_of part_list) → is_some part.namespace ≡ true
-  taker_attached part m =
-      let takes =
-      (among-from_filter (takes_part nat_eq world place) (receivers_of nat_eq world (mount_at nat_eq world place)) part
-      m).1 in
-      let elsewhere = not (nat_eq place.mount part.number) in
-      let alike = nat_eq (mount_at nat_eq world place).filesystem part.filesystem in
-      (and_parts elsewhere (is_some part.namespace) (and_parts (elsewhere && is_some part.namespace) alike
-      (and_parts (elsewhere && is_some part.namespace && alike) (reaches nat_eq world place.node part) takes).0).0).1
+  taker_attached part m = grind (arith, common_steps, among-from_filter, and_parts)
 
   -- what is pushed up stood at a place
   push_fits : (mount : Mount ℕ) → IsFit mount → IsFit (push world new place moves mounts mount)

@@ -1,9 +1,10 @@
 -- The types of mounts where a tree of mounts is attached: each mount that was there keeps its type, or moves and takes
 -- that of the tree, and each mount of the tree has a copy at each part.
-use Rattle.std.proofs.Common.{◌≡◌, refl, sym, ap, subst, ◌∙◌, true, false, nat_eq, ℕ, Bool, List, None, Option, Some, [], eq-eqb, eqb-true, flat_map, inl, inr, map, ⊎_elim, ◌++◌, ◌∷◌, ◌⊎◌}
+use Rattle.std.proofs.Common.{arith, ◌≡◌, refl, sym, ap, subst, ◌∙◌, true, false, nat_eq, ℕ, Bool, List, None, Option, Some, [], eq-eqb, eqb-true, flat_map, inl, inr, map, ⊎_elim, ◌++◌, ◌∷◌, ◌⊎◌}
+use Rattle.std.proofs.lemmas.Grind.{common_steps}
 use Rattle.std.specs.Prelude.{if◌then◌else◌}
 use Rattle.vt_spec.proofs.Lists.{Among, among-append, among-append_left, among-append_right, among-flat_map, among-from_flat_map, among-from_map, among-map, among_numbers, any_among, any_from_among}
-use Rattle.vt_spec.specs.Machine.Attach.{Copies, Graft, Twig, added_mounts, attached_by, copies_at, copy_at, copy_number, copy_type, graft_of, parts_of, pushed_up, twig_of, type_at, type_at_part, type_on_shared, with_moved_mounts}
+use Rattle.vt_spec.specs.Machine.Attach.{Copies, Graft, Twig, added_mounts, attached_by, copies_at, copy_at, copy_number, graft_of, parts_of, pushed_up, twig_of, type_at, type_at_part, type_on_shared, with_moved_mounts}
 use Rattle.vt_spec.specs.Lists.{folded, is_among, rest_of}
 use Rattle.vt_spec.specs.Machine.Mounts.{Location, Mount, Propagation, group_of, mount_in, replaced_if_same, with_mount}
 use Rattle.vt_spec.specs.Machine.Mounts.Propagation.{Shared}
@@ -235,13 +236,7 @@ module _ (world : World ℕ) (new : Copies ℕ) (place : Location ℕ) (mounts :
       (from.0, from.1, from.2, from.3 ∙ keeps_number world new place mounts from.0.number)
 
   kind_shared : (origin : Mount ℕ) (group : ℕ) → origin.propagation ≡ Shared group → kind origin ≡ Shared group
-  kind_shared origin group e =
-      let destination = mount_at nat_eq world place in
-      let taken = twig_of new (group_of destination.propagation) origin in
-      ap (λ b. if b then taken.propagation
-      else copy_type nat_eq world new (parts_of nat_eq world place) destination taken destination.propagation)
-      (eq-eqb destination.number place.mount (number-mount_in world.mounts place.mount))
-      ∙ keeps_shared new (group_of destination.propagation) origin group e
+  kind_shared origin group e = grind (arith, common_steps, eq-eqb, number-mount_in, keeps_shared)
 
   pub members_move : MembersStay world new place true mounts
   members_move group has =

@@ -1,8 +1,8 @@
 -- Binds, new mounts and moves: each mount goes on standing, with a number of its own.
-use Rattle.std.proofs.Common.{◌≡◌, refl, sym, ap, subst, ◌∙◌, true, false, nat_eq, ℕ, Bool, List, None, Option, Some, [], eq-eqb, eqb-true, filter, flat_map, inl, inr, length, suc, true≢false, zero, ⊎_elim, ◌∷◌, ◌⊎◌}
+use Rattle.std.proofs.Common.{arith, ◌≡◌, refl, sym, ap, subst, ◌∙◌, true, false, nat_eq, ℕ, Bool, List, [], eq-eqb, eqb-true, filter, flat_map, inl, inr, length, suc, true≢false, zero, ⊎_elim, ◌∷◌, ◌⊎◌}
+use Rattle.std.proofs.lemmas.Grind.{common_steps}
 use Rattle.vt_spec.proofs.Lists.{Among, all_from_among, among-flat_map, among-from_filter, among-from_flat_map, among_from_all}
 use Rattle.vt_spec.specs.Machine.Attach.{bind_tree, bindable_children, bindable_tree, bound, moved_tree, parts_of, stands_under}
-use Rattle.vt_spec.specs.Lists.{holds_of}
 use Rattle.vt_spec.specs.Machine.Mounts.{Location, Mount, children, stands_on}
 use Rattle.vt_spec.specs.Machine.NewMounts.{new_mount, with_new_filesystem}
 use Rattle.vt_spec.specs.Machine.World.{Filesystem, World}
@@ -22,15 +22,8 @@ module _ (world : World ℕ) (whole : List (Mount ℕ)) where
   -- a child of what hangs
   pub child_hangs : (number : ℕ) (child : Mount ℕ) → Among child (children nat_eq world.mounts number)
       → Among child whole → Hangs whole number → Hangs whole child.number
-  child_hangs number child m there hung = by child.mount_point refl
-    where
-      on : stands_on nat_eq number child ≡ true
-      on = (among-from_filter (stands_on nat_eq number) world.mounts child m).1
-
-      by : (place : Option (Location ℕ)) → child.mount_point ≡ place → Hangs whole child.number
-      by None e = absurd (true≢false (sym on ∙ ap (holds_of (λ p. nat_eq number p.mount)) e))
-      by (Some place) e = from_parent child place there e (subst (Hangs whole)
-          (eqb-true number place.mount (sym (ap (holds_of (λ p. nat_eq number p.mount)) e) ∙ on)) hung)
+  child_hangs number child m there hung =
+      grind (arith, common_steps, among-from_filter, true≢false, from_parent, eqb-true)
 
   first_of_tree : (fuel : ℕ) (mount : Mount ℕ) → Among mount (bindable_tree nat_eq fuel world.mounts mount)
   first_of_tree zero mount = inl refl

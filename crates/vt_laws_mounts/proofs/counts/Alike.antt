@@ -1,4 +1,5 @@
 -- Worlds that differ in change numbers and in the order of numbers have the same counts.
+use Rattle.std.proofs.lemmas.Grind.{common_steps}
 use Rattle.std.proofs.Common.{◌≡◌, refl, sym, ap, subst, ◌∙◌, ℕ, ◌+◌, nat_eq, Bool, true, false, cond, List, [], ◌∷◌, ◌++◌, filter, map, find, flat_map, None, Option, Some, unwrap_or, arith}
 use Rattle.std.specs.Prelude.{filter_map, option_to_list, sum_by}
 use Rattle.std.specs.List.{cons_option}
@@ -7,10 +8,9 @@ use Rattle.std.proofs.lemmas.List.Sums.{sum_by-cons}
 use Rattle.vt_spec.specs.FileTree.{targets_in}
 use Rattle.vt_spec.specs.Machine.Mounts.{root_of}
 use Rattle.vt_spec.specs.Machine.SameWorlds.{SameFilesystem, SameFilesystems, SameWorlds}
-use Rattle.vt_spec.specs.Lists.{holds_of}
 use Rattle.vt_spec.specs.Machine.Locked.{of_overlay, overlay_or}
 use Rattle.vt_spec.specs.Machine.Settled.{layers_in, located_in, objects_of_overlay}
-use Rattle.vt_spec.specs.Machine.World.{Filesystem, Overlay, Task, World, all_locations, filesystem_numbered, layers_of, locations_of, no_filesystem, upper_object}
+use Rattle.vt_spec.specs.Machine.World.{Filesystem, Task, World, all_locations, filesystem_numbered, layers_of, locations_of, no_filesystem}
 use Rattle.vt_spec.specs.Tree.{Node}
 use Rattle.vt_laws_mounts.proofs.letting_go.Lists.{flat_map-map}
 use Rattle.vt_laws_mounts.proofs.counts.counting.Entries.{named_by, one_if}
@@ -81,29 +81,7 @@ objects_sum n object (first ∷ rest) =
 
 objects_one : (k n : ℕ) (one other : Filesystem ℕ) → SameFilesystem one other
     → times_in n (objects_of_overlay nat_eq k one) ≡ times_in n (objects_of_overlay nat_eq k other)
-objects_one k n one other same =
-    by one.overlay ∙ ap (λ o. times_in n (overlay_or [] (objects other.files.numbers) o)) same.overlay
-  where
-    objects : List ℕ → Overlay ℕ → List ℕ
-    objects numbers overlay = cond (holds_of (λ layer. nat_eq k layer.filesystem) overlay.upper)
-        (filter_map (λ number. upper_object (overlay.real number)) numbers) []
-
-    permuted : (object : ℕ → Option ℕ)
-        → times_in n (filter_map object one.files.numbers) ≡ times_in n (filter_map object other.files.numbers)
-    permuted object = objects_sum n object one.files.numbers
-        ∙ sym (sum_by-IsPermutation (λ d. times_in n (option_to_list (object d))) one.files.numbers other.files.numbers
-        same.files.numbers) ∙ sym (objects_sum n object other.files.numbers)
-
-    each : (overlay : Overlay ℕ) (b : Bool)
-        → times_in n (cond b (filter_map (λ number. upper_object (overlay.real number)) one.files.numbers) [])
-        ≡ times_in n (cond b (filter_map (λ number. upper_object (overlay.real number)) other.files.numbers) [])
-    each overlay true = permuted (λ number. upper_object (overlay.real number))
-    each overlay false = refl
-
-    by : (o : Option (Overlay ℕ)) → times_in n (overlay_or [] (objects one.files.numbers) o)
-        ≡ times_in n (overlay_or [] (objects other.files.numbers) o)
-    by None = refl
-    by (Some overlay) = each overlay (holds_of (λ layer. nat_eq k layer.filesystem) overlay.upper)
+objects_one k n one other same = grind (arith, common_steps, times_in, objects_sum, sum_by-IsPermutation)
 
 objects_same : (k n : ℕ) (ones others : List (Filesystem ℕ)) → SameFilesystems ones others
     → times_in n (flat_map (objects_of_overlay nat_eq k) ones)

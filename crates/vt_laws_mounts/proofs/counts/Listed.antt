@@ -1,4 +1,5 @@
 -- Numbers in lists: how often each stands there.
+use Rattle.std.proofs.lemmas.Grind.{common_steps}
 use Rattle.std.proofs.Common.{◌≡◌, refl, sym, ap, subst, ◌∙◌, ⊎_elim, ℕ, ◌+◌, ◌≤◌, nat_eq, eq-eqb, Bool, true, false, cond, ◌||◌, List, [], ◌∷◌, arith}
 use Rattle.std.specs.List.Sorted.{IsPermutation}
 use Rattle.std.proofs.lemmas.Bool.{or_parts}
@@ -89,9 +90,4 @@ same_numbers_are_permuted one other first second same =
 
 -- what stands in a list once, or not
 pub among_by_times : (n : ℕ) (list : List ℕ) (b : Bool) → times_in n list ≡ cond b 1 0 → is_among nat_eq n list ≡ b
-among_by_times n list true e = times_among n list (omega arith)
-among_by_times n list false e = by (is_among nat_eq n list) refl
-  where
-    by : (b : Bool) → is_among nat_eq n list ≡ b → b ≡ false
-    by true f = let some = among_times n list f in absurd (omega arith)
-    by false f = refl
+among_by_times n list b e = grind (arith, common_steps, times_among, among_times)

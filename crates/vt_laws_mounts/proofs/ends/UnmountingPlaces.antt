@@ -44,12 +44,7 @@ module _ (world : World ℕ) (gone : List ℕ) where
           → ((next : Location ℕ) → Falls world gone a next
           → Falls world gone a (last_or next (chain n (mount_point_of_parent nat_eq world gone) next)))
           → Falls world gone a (last_or place (chain (suc n) (mount_point_of_parent nat_eq world gone) place))
-      by None e later = subst (λ ps. Falls world gone a (last_or place ps))
-          (sym (chain_ends (mount_point_of_parent nat_eq world gone) n place e)) fall
-      by (Some next) e later = subst (Falls world gone a)
-          (sym (ap (last_or place) (chain_goes_on (mount_point_of_parent nat_eq world gone) n place next e)
-          ∙ last_of_chain (mount_point_of_parent nat_eq world gone) n next place))
-          (later next (step next (is_going nat_eq gone place.mount) refl e))
+      by found e later = grind (arith, common_steps, chain_ends, chain_goes_on, last_of_chain, step)
 
   -- where a mount stands after the event
   pub stood : (a : Mount ℕ) (rest : Location ℕ) → (after_going nat_eq world gone a).mount_point ≡ Some rest

@@ -1,6 +1,6 @@
 -- Mounts that go with all that stands on them leave at most one mount at a place.
 use Rattle.std.proofs.lemmas.Grind.{common_steps}
-use Rattle.std.proofs.Common.{◌≡◌, refl, sym, ap, subst, ◌∙◌, true, zero, suc, nat_eq, ℕ, List, None, Option, Some, arith, eq-eqb, eqb-true, flat_map, inl, inr, is_some, length, map, option_map, true≢false, ⊎_elim, ◌⊎◌}
+use Rattle.std.proofs.Common.{◌≡◌, refl, sym, ap, subst, ◌∙◌, true, zero, suc, nat_eq, ℕ, List, Option, Some, arith, eq-eqb, eqb-true, flat_map, inl, inr, is_some, length, map, option_map, true≢false, ⊎_elim, ◌⊎◌}
 use Rattle.vt_spec.specs.Machine.Mounts.{Location, Mount, children, mount_tree, stands_on, tree_from}
 use Rattle.vt_spec.proofs.Lists.{Among, among-filter, among-flat_map, among-from_filter, among-from_flat_map, among-from_map, among-map, among_from_list_all, among_numbers, chain_goes_on, is_among_numbers, last_of_chain, pair-map}
 use Rattle.vt_laws_mounts.specs.Mounts.Invariants.{AreApart, OneNumberEach, TreesLeaveOneMountAMountPoint}
@@ -106,16 +106,7 @@ module _ (world : World ℕ) where
 
         deeper : (d : ℕ) (z child : Mount ℕ) → Among child world.mounts → stands_on nat_eq top.number child ≡ true
             → Reaches (suc d) z child → Reaches (suc (suc d)) z (mount_numbered nat_eq world top.number)
-        deeper d z child c on r = by child.mount_point refl
-          where
-            by : (found : Option (Location ℕ)) → child.mount_point ≡ found
-                → Reaches (suc (suc d)) z (mount_numbered nat_eq world top.number)
-            by None f = absurd (true≢false (sym on ∙ ap (holds_of (λ p. nat_eq top.number p.mount)) f))
-            by (Some p) f =
-                let number : top.number ≡ p.mount =
-                eqb-true top.number p.mount (sym (ap (holds_of (λ q. nat_eq top.number q.mount)) f) ∙ on) in
-                subst (λ k. Reaches (suc (suc d)) z (mount_numbered nat_eq world k)) (sym number)
-                (one_more (suc d) z child p r f)
+        deeper d z child c on r = grind (arith, common_steps, true≢false, eqb-true, one_more)
 
     pub trees_closed : (tops : List (Mount ℕ))
         → AreClosed world (map (λ (mount : Mount ℕ). mount.number) (flat_map (mount_tree nat_eq world.mounts) tops))

@@ -171,12 +171,7 @@ module _ (world : World ℕ) (once_mounts again_mounts : List (Mount ℕ)) (once
     where
       none : (g : Filesystem ℕ) (b : Bool) → layered_by number g ≡ b → lives_first g ≡ false
           → layered_by number g ≡ false
-      none g false e dead = e
-      none g true e dead =
-          let parts = and_parts (has_layer_on nat_eq number g)
-          (is_mounted nat_eq (without_dead_mounts nat_eq once) g.number) e in
-          absurd (true≢false (sym (or_first (is_mounted nat_eq (without_dead_mounts nat_eq world) g.number) _
-          (last_mounted_was g.number parts.1)) ∙ dead))
+      none g b e dead = grind (arith, common_steps, and_parts, true≢false, or_first, last_mounted_was)
 
   same_lives : (f : Filesystem ℕ) → filesystem_lives nat_eq (without_dead_mounts nat_eq again) (swept f) ≡ lives_last f
   same_lives f = ap (λ n. is_mounted nat_eq (without_dead_mounts nat_eq again) n
@@ -249,15 +244,7 @@ module _ (world : World ℕ) (once_mounts again_mounts : List (Mount ℕ)) (once
       goes number = not (is_among nat_eq number later)
 
       reals_left : HasReals (without_all went f)
-      reals_left number none = over f.overlay (has number) (went number) refl none
-        where
-          over : (o : Option (Overlay ℕ))
-              → (f.files.tree.node number ≡ None → overlay_or None (λ overlay. overlay.real number) o ≡ None)
-              → (b : Bool) → went number ≡ b → cond b None (f.files.tree.node number) ≡ None
-              → overlay_or None (λ overlay. overlay.real number) (option_map (reals_without went) o) ≡ None
-          over None h b e n = refl
-          over (Some overlay) h true e n = ap (λ b. cond b None (overlay.real number)) e
-          over (Some overlay) h false e n = ap (λ b. cond b None (overlay.real number)) e ∙ h n
+      reals_left number none = grind (arith, common_steps, none, has, reals_without)
 
       by : (number : ℕ) (b : Bool) → is_among nat_eq number later ≡ b → (c : Bool) → is_among nat_eq number used ≡ c
           → not (is_among nat_eq number later)

@@ -3,9 +3,9 @@ use Rattle.std.proofs.Common.{arith, ◌≡◌, refl, sym, ap, ◌∙◌, Bool, 
 use Rattle.std.proofs.lemmas.Grind.{common_steps}
 use Rattle.std.specs.List.{list_any}
 use Rattle.std.proofs.lemmas.List.{map-append}
-use Rattle.vt_spec.specs.Machine.Attach.{Copies, Graft, added_mounts, attached_by, copies_at, copies_from, copy_at, copy_number, graft_of, moved_tree, parts_of, pushed_onto, pushed_up, twig_of, with_moved_mounts}
+use Rattle.vt_spec.specs.Machine.Attach.{Copies, Graft, added_mounts, attached_by, copies_at, copies_from, copy_number, graft_of, moved_tree, parts_of, pushed_onto, pushed_up, with_moved_mounts}
 use Rattle.vt_laws_mounts.specs.Mounts.Attaching.{KeepsAllButMountPoint, AttachKeepsMounts, AttachLeavesMounts, KeepsWhatItShows, MoveKeepsMounts, MoveLeavesMounts, NewMountsFollow, is_mount, numbers_of, stands_at_a_receiver, MovedMountsShow}
-use Rattle.vt_spec.specs.Machine.Mounts.{Mount, group_of, no_mount, stands_at, Location, mount_in, with_mount}
+use Rattle.vt_spec.specs.Machine.Mounts.{Mount, no_mount, stands_at, Location, mount_in, with_mount}
 use Rattle.vt_spec.specs.Machine.World.{World, mount_at, mount_numbered}
 use Rattle.vt_spec.specs.Lists.{folded, rest_of, Fresh, is_among}
 use Rattle.std.specs.Prelude.{if◌then◌else◌}
@@ -149,22 +149,7 @@ module _ (world : World ℕ) (new : Copies ℕ) (place : Location ℕ) (mounts :
   -- each mount that arrives is one that moves, with all that it shows
   pub arrives : (copy : Mount ℕ) → Among copy (arriving world new place true mounts)
       → (origin : Mount ℕ) × Among origin mounts × KeepsWhatItShows origin copy
-  arrives copy m =
-      let from =
-      among-from_map (copy_at nat_eq world new move (parts_of nat_eq world place) (mount_at nat_eq world place))
-      move.twigs copy m in
-      let twig =
-      among-from_map (twig_of new (group_of (mount_at nat_eq world place).propagation)) mounts from.0 from.1 in
-      let origin : from.0.origin ≡ twig.0 = ap (λ t. t.origin) twig.2 in (
-        twig.0,
-        twig.1,
-        record {
-          number = ap (λ c. c.number) from.2 ∙ keeps_number from.0.origin.number ∙ ap (λ o. o.number) origin;
-          filesystem = ap (λ c. c.filesystem) from.2 ∙ ap (λ o. o.filesystem) origin;
-          root = ap (λ c. c.root) from.2 ∙ ap (λ o. o.root) origin;
-          flags = ap (λ c. c.flags) from.2 ∙ ap (λ o. o.flags) origin;
-        },
-      )
+  arrives copy m = grind (arith, common_steps, among-from_map, keeps_number)
 
   pub stays_put : (number : ℕ) → is_among nat_eq number (numbers_of mounts) ≡ false
       → mount_in nat_eq (moved_ones world new place true mounts) number ≡ mount_numbered nat_eq world number
@@ -195,12 +180,7 @@ shows_itself : (mount : Mount ℕ) → KeepsWhatItShows mount mount
 shows_itself mount = record { number = refl; filesystem = refl; root = refl; flags = refl }
 
 shows_on : (a b c : Mount ℕ) → KeepsWhatItShows a b → KeepsWhatItShows b c → KeepsWhatItShows a c
-shows_on a b c r s = record {
-  number = s.number ∙ r.number;
-  filesystem = s.filesystem ∙ r.filesystem;
-  root = s.root ∙ r.root;
-  flags = s.flags ∙ r.flags;
-}
+shows_on a b c r s = grind (arith, common_steps)
 
 shows_back : (a b : Mount ℕ) → KeepsWhatItShows a b → KeepsWhatItShows b a
 shows_back a b r =

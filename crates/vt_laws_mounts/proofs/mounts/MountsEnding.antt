@@ -9,7 +9,7 @@ use Rattle.vt_spec.specs.Machine.World.{World, mount_at, mount_numbered, with_fl
 use Rattle.vt_spec.specs.Lists.{chain, is_among, last_or, same_option}
 use Rattle.vt_laws_mounts.proofs.mounts.MountsFound.{found-map, found_there, numbers-map}
 use Rattle.vt_laws_mounts.proofs.mounts.MountsReplaced.{found_itself, numbers-with_mount, one_number_by_numbers, related-with_mount}
-use Rattle.vt_spec.specs.Machine.Receives.{inheriting, regrouped}
+use Rattle.vt_spec.specs.Machine.Receives.{regrouped}
 use Rattle.vt_spec.specs.Machine.Invariants.{last_parent, stands_in_its_namespace}
 use Rattle.std.proofs.lemmas.List.{length-map}
 use Rattle.vt_laws_mounts.proofs.Groups.{mounts-regrouped}
@@ -77,9 +77,5 @@ flags_keep_places_ending world here flags one ends =
     (record { mount_point = refl; namespace = refl }))) one (numbers-with_mount new world.mounts) ends
 
 pub inheritance_keeps_places_ending : InheritanceKeepsChainsEnding
-inheritance_keeps_places_ending world one ends = places_end_alike world (regrouped nat_eq world) (λ number.
-    subst (StandsAlike (mount_numbered nat_eq world number))
-    (sym (ap (λ mounts. mount_in nat_eq mounts number) (mounts-regrouped world)
-    ∙ found-map (inheriting nat_eq world) (λ mount. refl) world.mounts number refl))
-    (record { mount_point = refl; namespace = refl })) one (ap numbers_of (mounts-regrouped world)
-    ∙ numbers-map (inheriting nat_eq world) (λ mount. refl) world.mounts) ends
+inheritance_keeps_places_ending world one ends =
+    grind (arith, common_steps, places_end_alike, mounts-regrouped, found-map, numbers-map)

@@ -1,11 +1,12 @@
 -- New mounts have numbers of their own.
-use Rattle.std.proofs.Common.{◌≡◌, refl, sym, ap, subst, ◌∙◌, true, false, suc, nat_eq, ℕ, Bool, List, [], arith, eqb-true, flat_map, inl, inr, is_some, length, map, not, option_map, true≢false, unwrap_or, ⊎_elim, ◌&&◌, ◌++◌, ◌+◌, ◌<◌, ◌∷◌, Some, None, Option, eq-eqb, filter, ◌/◌}
+use Rattle.std.proofs.lemmas.Grind.{common_steps}
+use Rattle.std.proofs.Common.{◌≡◌, refl, sym, ap, subst, ◌∙◌, true, false, suc, nat_eq, ℕ, Bool, List, [], arith, eqb-true, flat_map, inl, inr, length, map, not, option_map, true≢false, unwrap_or, ⊎_elim, ◌&&◌, ◌++◌, ◌+◌, ◌<◌, ◌∷◌, Some, None, Option, eq-eqb, filter, ◌/◌}
 use Rattle.std.specs.List.{list_any}
 use Rattle.vt_spec.specs.Machine.Mounts.{Mount, Location, group_of, numbers_by, index_of}
 use Rattle.vt_spec.proofs.Lists.{Among, among-append, among-append_left, among-flat_map, among-from_filter, among-from_flat_map, among-from_map, any_among, is_among_numbers, none_among, none_from_among, among-map, pair-filter, pair-map}
 use Rattle.vt_laws_mounts.proofs.GroupsKept.{member_shared}
 use Rattle.vt_spec.specs.Lists.{Fresh, any_pair, evens, holds_of, odds, index_from}
-use Rattle.vt_spec.specs.Machine.Attach.{Copies, Graft, Twig, attached_by, copies_at, copies_from, copy_at, graft_of, index_of_group, is_destination, index_in_rows, parts_of, reaches, receivers_of, takes_part, twig_of}
+use Rattle.vt_spec.specs.Machine.Attach.{Copies, Graft, Twig, attached_by, copies_at, copies_from, copy_at, graft_of, index_of_group, is_destination, index_in_rows, parts_of, receivers_of, takes_part, twig_of}
 use Rattle.vt_spec.specs.Machine.Receives.{has_members, is_member_of, receivers, receives}
 use Rattle.vt_spec.specs.Machine.Run.{Serves, numbers_in_use, used_by_filesystem, used_by_mount}
 use Rattle.vt_spec.specs.Machine.World.{World, Namespace, mount_at, mounts_of}
@@ -217,12 +218,7 @@ module _ (world : World ℕ) (place : Location ℕ) where
   -- a receiver that takes part is not the destination
   pub taker_elsewhere : (mount : Mount ℕ) → takes_part nat_eq world place mount ≡ true
       → nat_eq place.mount mount.number ≡ false
-  taker_elsewhere mount h =
-      let elsewhere = not (nat_eq place.mount mount.number) in
-      let attached = is_some mount.namespace in
-      let alike = nat_eq (mount_at nat_eq world place).filesystem mount.filesystem in
-      not-true (nat_eq place.mount mount.number) (and_parts elsewhere attached (and_parts (elsewhere && attached) alike
-      (and_parts (elsewhere && attached && alike) (reaches nat_eq world place.node mount) h).0).0).0
+  taker_elsewhere mount h = grind (arith, common_steps, not-true, and_parts)
 
   pub parts_apart : OneNumberAMount world.mounts → any_pair same_number (parts_of nat_eq world place) ≡ false
   parts_apart one =
@@ -257,15 +253,7 @@ module _ (world : World ℕ) (new : Copies ℕ) (place : Location ℕ) (moves : 
 
   copied_from : (part : Mount ℕ) → IsCopied part → (copy : Mount ℕ) → Among copy (copies part)
       → (origin : Mount ℕ) × Among origin mounts × (copy.number ≡ new.copy part.number origin.number)
-  copied_from part copied copy m =
-      let from = among-from_map (made part) tree.twigs copy m in
-      let origin = among-from_map twig mounts from.0 from.1 in (
-        origin.0,
-        origin.1,
-        ap (λ c. c.number) from.2
-            ∙ ap (λ b. if b then from.0.origin.number else new.copy part.number from.0.origin.number) copied
-            ∙ ap (λ (t : Twig ℕ). new.copy part.number t.origin.number) origin.2,
-      )
+  copied_from part copied copy m = grind (arith, common_steps, among-from_map)
 
   -- copies of two mounts, or at two parts, have two numbers
   two_copies : (x y a b : Mount ℕ) → Among x parts → Among y parts → IsCopied x → IsCopied y

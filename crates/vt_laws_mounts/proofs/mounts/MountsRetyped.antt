@@ -113,12 +113,7 @@ module _ (world : World ℕ) (group : ℕ → ℕ) (word : TypeWord) (named : Li
   pub type_of_named : (number : ℕ) → is_mount world number ≡ true → is_among nat_eq number (numbers_of named) ≡ true
       → (mount_numbered nat_eq next_world number).propagation
       ≡ inherited nat_eq between (type_after (group number) word (mount_numbered nat_eq world number).propagation)
-  type_of_named number there chosen =
-      let one = mount_numbered nat_eq world number in
-      ap (λ m. m.propagation) (retyped_found number there)
-      ∙ ap (λ b. inherited nat_eq between (retyped_if one b).propagation) (named_by_number number ∙ chosen)
-      ∙ ap (λ n. inherited nat_eq between (type_after (group n) word one.propagation))
-      (number-mount_in world.mounts number)
+  type_of_named number there chosen = grind (arith, common_steps, retyped_found, named_by_number, number-mount_in)
 
   pub retyping_is_of_mounts : KeepsAllButMounts world next_world
   retyping_is_of_mounts = grind (arith, common_steps)

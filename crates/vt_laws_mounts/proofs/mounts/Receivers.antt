@@ -142,17 +142,15 @@ receives_is_computed world group live =
     (λ mount m. (receives_soundly world group mount, receives_completely world live group mount m))
 
 pub receivers_receive : ReceiversReceive
-receivers_receive world group mount live = (
-  λ c.
-      let found : Among mount world.mounts × (receives nat_eq world group mount ≡ true) =
-      among-from_filter (receives nat_eq world group) world.mounts mount
-      (among_from_contains (receivers nat_eq world group) mount c) in
-      (contains_from_among world.mounts mount found.0, receives_soundly world group mount found.1),
-  λ t.
-      let m : Among mount world.mounts = among_from_contains world.mounts mount t.0 in
-      contains_from_among (receivers nat_eq world group) mount
-      (among-filter (receives nat_eq world group) world.mounts mount m
-      (receives_completely world live group mount m t.1)),
+receivers_receive world group mount live = grind (
+  arith,
+  common_steps,
+  among-from_filter,
+  among_from_contains,
+  contains_from_among,
+  receives_soundly,
+  among-filter,
+  receives_completely,
 )
 
 pub receivers_are_closed : ReceiversAreClosed

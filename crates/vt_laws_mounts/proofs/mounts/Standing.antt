@@ -306,14 +306,7 @@ module _ (world : World ℕ) (one : OneNumberEach world) (all : AllStand world) 
   child_lies : (mount child : Mount ℕ) → Among child (children nat_eq world.mounts mount.number)
       → (place : Location ℕ) × ((mount_numbered nat_eq world child.number).mount_point ≡ Some place)
       × (place.mount ≡ mount.number)
-  child_lies mount child m =
-      let from = among-from_filter (stands_on nat_eq mount.number) world.mounts child m in grind (
-        arith,
-        common_steps,
-        found_itself world.mounts one child from.0,
-        true≢false,
-        eqb-true,
-      )
+  child_lies mount child m = grind (arith, common_steps, among-from_filter, found_itself, true≢false, eqb-true)
 
   pub lies_in_tree : (fuel : ℕ) (mount x : Mount ℕ) → Among x (tree_from nat_eq fuel world.mounts mount)
       → LiesIn world mount.number x.number

@@ -203,12 +203,7 @@ count_folded namespace mounts (copy ∷ copies) placed had =
     by : (old : Mount ℕ) → Among old mounts → (x : Mount ℕ) → x ≡ replaced_if_same nat_eq copy old
         → (c : Mount ℕ) → Among c copies → nat_eq c.number x.number ≡ true
         → (b : Bool) → nat_eq copy.number old.number ≡ b → is_some x.mount_point ≡ true
-    by old l x e c n same true f =
-        ap (λ (y : Mount ℕ). is_some y.mount_point) (e ∙ replaced_there copy old f) ∙ placed copy (inl refl)
-    by old l x e c n same false f =
-        let kept : x ≡ old = e ∙ replaced_elsewhere copy old f in
-        ap (λ (y : Mount ℕ). is_some y.mount_point) kept
-        ∙ had old c l (inr n) (ap (λ (y : Mount ℕ). nat_eq c.number y.number) (sym kept) ∙ same)
+    by old l x e c n same b f = grind (arith, common_steps, replaced_there, replaced_elsewhere)
 
     alike : (x : Mount ℕ) → Among x mounts → (b : Bool) → nat_eq copy.number x.number ≡ b
         → is_root_in namespace (replaced_if_same nat_eq copy x) ≡ is_root_in namespace x

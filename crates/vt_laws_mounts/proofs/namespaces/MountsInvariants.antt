@@ -1,5 +1,5 @@
 -- Changes of types and flags keep the invariants of mounts.
-use Rattle.std.proofs.Common.{arith, ◌≡◌, refl, sym, ap, ◌∙◌, true, false, nat_eq, ℕ, Bool, List, None, Option, Some, eqb-true, is_some, map, not, ⊎_elim, ◌&&◌, ◌||◌}
+use Rattle.std.proofs.Common.{arith, ◌≡◌, refl, sym, ap, ◌∙◌, true, false, nat_eq, ℕ, Bool, List, None, Option, Some, eqb-true, is_some, map, not, ◌&&◌, ◌||◌}
 use Rattle.std.proofs.lemmas.Grind.{common_steps}
 use Rattle.std.specs.List.{list_any}
 use Rattle.vt_spec.proofs.Lists.{Among, among-from_map, among_from_list_all, any_among, list_all_from_among}
@@ -44,14 +44,7 @@ module _ (world : World ℕ) (mounts : MountInvariants nat_eq world) where
   named_inside : (number : ℕ) (recursive : Bool) → is_some (mount_numbered nat_eq world number).namespace ≡ true
       → (other : Mount ℕ) → Among other (named_mounts nat_eq world number recursive)
       → is_some (mount_numbered nat_eq world other.number).namespace ≡ true
-  named_inside number false h other m = ⊎_elim (λ same.
-      ap (λ (x : Mount ℕ). is_some (mount_numbered nat_eq world x.number).namespace) same
-      ∙ ap (λ n. is_some (mount_numbered nat_eq world n).namespace) (number-mount_in world.mounts number) ∙ h)
-      (λ none. absurd none) m
-  named_inside number true h other m =
-      let top = mount_numbered nat_eq world number in
-      inside top.number other.number (lies_in_tree world mounts.one_number mounts.standing _ top other m)
-      (ap (λ n. is_some (mount_numbered nat_eq world n).namespace) (number-mount_in world.mounts number) ∙ h)
+  named_inside number recursive h other m = grind (arith, common_steps, number-mount_in, inside, lies_in_tree)
 
   type_keeps_nowhere : (fresh : Fresh ℕ) (number : ℕ) (word : _) (recursive : Bool)
       → is_some (mount_numbered nat_eq world number).namespace ≡ true

@@ -199,15 +199,7 @@ module _ (world : World ℕ) (namespace : ℕ) (root new : Mount ℕ) (put : Loc
     where
       other : (mount : Mount ℕ) → level mount.number < level root.number
           → (nat_eq mount.number new.number ≡ false) × (nat_eq mount.number root.number ≡ false)
-      other mount low = (
-        false_from_ne_true (nat_eq mount.number new.number) (λ e.
-            let equal : level mount.number ≡ level new.number = ap level (eqb-true mount.number new.number e) in
-            let more = new_higher in
-            absurd (omega (arith, equal, more, low))),
-        false_from_ne_true (nat_eq mount.number root.number) (λ e.
-            let equal : level mount.number ≡ level root.number = ap level (eqb-true mount.number root.number e) in
-            absurd (omega (arith, equal, low))),
-      )
+      other mount low = grind (arith, common_steps, false_from_ne_true, eqb-true, new_higher)
 
       by : (number : ℕ) → Stands nat_eq world number → (mount : Mount ℕ) → Among mount world.mounts
           → mount.number ≡ number → level number < level root.number → Stands nat_eq after mount.number

@@ -1,6 +1,6 @@
 -- Receivers that take part, but for members of the destination's group, have a group above them of which a part is a
 -- member: the destination's, or a nearer one.
-use Rattle.std.proofs.Common.{arith, ◌≡◌, refl, sym, ap, ◌∙◌, true, false, nat_eq, eq-eqb, ne_eqb, ℕ, zero, suc, Bool, List, None, Option, Some, inl, true≢false, ◌||◌}
+use Rattle.std.proofs.Common.{arith, ◌≡◌, refl, sym, ap, ◌∙◌, true, false, nat_eq, eq-eqb, ne_eqb, ℕ, zero, suc, List, Option, Some, inl, true≢false, ◌||◌}
 use Rattle.std.proofs.lemmas.Grind.{common_steps}
 use Rattle.vt_spec.proofs.Lists.{among-from_filter, among_from_contains, any_among, any_from_among, chain_ends, chain_goes_on, contains_from_among}
 use Rattle.vt_spec.specs.Lists.{chain, holds_of, is_among}
@@ -21,15 +21,7 @@ longer next (suc n) a d h = by (next a) refl (λ b. longer next n b d)
     by : (o : Option ℕ) → next a ≡ o
         → ((b : ℕ) → is_among nat_eq d (chain n next b) ≡ true → is_among nat_eq d (chain (suc n) next b) ≡ true)
         → is_among nat_eq d (chain (suc (suc n)) next a) ≡ true
-    by None e on = ap (is_among nat_eq d) (chain_ends next (suc n) a e ∙ sym (chain_ends next n a e)) ∙ h
-    by (Some b) e on = ap (is_among nat_eq d) (chain_goes_on next (suc n) a b e)
-        ∙ at (nat_eq d a) refl (sym (ap (is_among nat_eq d) (chain_goes_on next n a b e)) ∙ h)
-      where
-        at : (c : Bool) → nat_eq d a ≡ c → (nat_eq d a || is_among nat_eq d (chain n next b)) ≡ true
-            → (nat_eq d a || is_among nat_eq d (chain (suc n) next b)) ≡ true
-        at true s t = ap (λ x. x || is_among nat_eq d (chain (suc n) next b)) s
-        at false s t = ap (λ x. x || is_among nat_eq d (chain (suc n) next b)) s
-            ∙ on b (sym (ap (λ x. x || is_among nat_eq d (chain n next b)) s) ∙ t)
+    by o e on = grind (arith, common_steps, chain_ends, chain_goes_on)
 
 -- what is in a chain after its start is in that from the next one
 above_in : (next : ℕ → Option ℕ) (n a d : ℕ) → is_among nat_eq d (chain n next a) ≡ true → nat_eq d a ≡ false

@@ -4,7 +4,7 @@ use Rattle.std.proofs.lemmas.Grind.{common_steps}
 use Rattle.std.specs.Prelude.{if◌then◌else◌}
 use Rattle.std.specs.List.{list_any}
 use Rattle.vt_spec.proofs.Lists.{Among, among-append_left, among-append_right, among-flat_map, among-from_filter, among-map, none_from_among, pair-map}
-use Rattle.vt_spec.specs.Machine.Attach.{Copies, Graft, Twig, attached_by, copies_at, copy_at, copy_number, graft_of, parts_of, mount_point_on_copy, pushed_up, receivers_of, takes_part, twig_of}
+use Rattle.vt_spec.specs.Machine.Attach.{Copies, Graft, Twig, attached_by, copies_at, copy_at, graft_of, parts_of, mount_point_on_copy, pushed_up, receivers_of, takes_part, twig_of}
 use Rattle.vt_spec.specs.Lists.{first_of_list, holds_of, is_among, rest_of}
 use Rattle.vt_spec.specs.Machine.Mounts.{Location, Mount, group_of, mount_in, same_location}
 use Rattle.vt_spec.specs.Machine.World.{World, mount_at, mount_numbered}
@@ -81,13 +81,7 @@ module _ (world : World ℕ) (new : Copies ℕ) (place : Location ℕ) (moves : 
       → mounts ≡ first ∷ rest → nat_eq origin.number first.number ≡ false → origin.mount_point ≡ Some at
       → at.mount ≡ below.number
       → (made part origin).mount_point ≡ Some (record { mount = number part below; node = at.node })
-  other_place part first origin below rest at e differ stood on = ap (λ b. Some (
-      if b then record { mount = part.number; node = place.node }
-      else unwrap_or (option_map (mount_point_on_copy nat_eq new tree part.number) origin.mount_point) place))
-      (ap (λ ms. holds_of (λ (t : Twig ℕ). nat_eq origin.number t.origin.number) (first_of_list (map twig ms))) e
-      ∙ differ)
-      ∙ ap (λ p. Some (unwrap_or (option_map (mount_point_on_copy nat_eq new tree part.number) p) place)) stood
-      ∙ ap (λ n. Some (record { mount = copy_number nat_eq new tree part.number n; node = at.node })) on
+  other_place part first origin below rest at e differ stood on = grind (arith, common_steps)
 
   -- what stands at no receiver's place stays where it is
   pub not_pushed : (part origin : Mount ℕ)
@@ -125,12 +119,7 @@ module _ (world : World ℕ) (new : Copies ℕ) (place : Location ℕ) (moves : 
 
       by : (b : Bool) → nat_eq part.number place.mount ≡ b → (moves && nat_eq part.number place.mount
           && list_any (is_pushed_by world new tree parts (made part first)) (rest_of parts)) ≡ false
-      by true there =
-          ap (λ b. moves && b && list_any (is_pushed_by world new tree parts (made part first)) (rest_of parts)) there
-          ∙ ap (λ b. moves && true && b) (none there) ∙ two moves
-      by false there =
-          ap (λ b. moves && b && list_any (is_pushed_by world new tree parts (made part first)) (rest_of parts)) there
-          ∙ one moves (list_any (is_pushed_by world new tree parts (made part first)) (rest_of parts))
+      by b there = grind (arith, common_steps, is_pushed_by, none, two, one)
 
 -- Where nothing moves
 module _ (world : World ℕ) (new : Copies ℕ) (place : Location ℕ) (mounts : List (Mount ℕ))

@@ -1,12 +1,13 @@
 -- Copies at a shared destination and its receivers hear one another as the parts do.
-use Rattle.std.proofs.Common.{◌≡◌, refl, sym, ap, subst, ◌∙◌, true, false, nat_eq, ℕ, Bool, List, None, Option, Some, [], inl, inr, is_some, length, option_map, true≢false, unwrap_or, ⊎_elim, ◌⊎◌}
+use Rattle.std.proofs.Common.{arith, ◌≡◌, refl, sym, ap, subst, ◌∙◌, true, false, nat_eq, ℕ, Bool, List, None, Option, Some, inl, inr, is_some, length, true≢false, unwrap_or, ⊎_elim, ◌⊎◌}
+use Rattle.std.proofs.lemmas.Grind.{common_steps}
 use Rattle.std.proofs.lemmas.Option.{same_Some}
 use Rattle.vt_spec.proofs.Lists.{Among, any_among, any_from_among, among-from_filter}
-use Rattle.vt_spec.specs.Machine.Attach.{Copies, attached_by, parts_of, receivers_of, takes_part, type_on_shared}
+use Rattle.vt_spec.specs.Machine.Attach.{Copies, attached_by, parts_of, type_on_shared}
 use Rattle.vt_spec.specs.Lists.{holds_of, is_among}
 use Rattle.vt_spec.specs.Machine.Mounts.{Location, Mount, Propagation, group_of, source_of}
 use Rattle.vt_spec.specs.Machine.Mounts.Propagation.{Private, Shared, Slave, Unbindable}
-use Rattle.vt_spec.specs.Machine.Receives.{groups_up, has_members, is_member_of, receivers, receives}
+use Rattle.vt_spec.specs.Machine.Receives.{groups_up, has_members, is_member_of, receives}
 use Rattle.vt_spec.specs.Machine.World.{World, mount_at}
 use Rattle.vt_laws_mounts.specs.Mounts.Attaching.{OneNumberAMount}
 use Rattle.vt_laws_mounts.specs.Mounts.Copies.{ServeAsImages}
@@ -83,12 +84,7 @@ module _ (world : World ℕ) (new : Copies ℕ) (place : Location ℕ) (moves : 
       (λ rest. taker_there world place part rest) m
 
   pub hears_there : (part : Mount ℕ) → Among part parts → receives nat_eq world group part ≡ true
-  hears_there part m = ⊎_elim (λ same.
-      subst (λ x. receives nat_eq world group x ≡ true) (sym same)
-      (receives_from_source world group there (ap source_of there_shared))) (λ rest.
-      (among-from_filter (receives nat_eq world group) world.mounts part
-      (subst (λ o. Among part (unwrap_or (option_map (receivers nat_eq world) o) [])) shared
-      (among-from_filter (takes_part nat_eq world place) (receivers_of nat_eq world there) part rest).0)).1) m
+  hears_there part m = grind (arith, common_steps, receives_from_source, there_shared, among-from_filter)
 
   way_there : (part : Mount ℕ) → Among part parts → (source : ℕ) → source_of part.propagation ≡ Some source
       → Up world.master source group
@@ -200,8 +196,7 @@ module _ (world : World ℕ) (new : Copies ℕ) (place : Location ℕ) (moves : 
         master,
         ap source_of e,
         old_up world new place moves mounts serve own master one (sourced master (ap source_of e)) further_up,
-      ))
-          (one_further master (slave_there world new place moves mounts serve own origin of_tree group master shared e)
+      )) (one_further master (slave_there world new place moves mounts serve own origin of_tree group master shared e)
           (image group) one way (image_by (Slave master) e))
       by Private e = inl (no_further
           (master_there world new place moves mounts serve own origin of_tree group shared Private e refl)

@@ -1,5 +1,6 @@
 -- The types of copies, by those of the parts that they are at.
-use Rattle.std.proofs.Common.{◌≡◌, refl, sym, ap, ◌∙◌, true, false, nat_eq, ℕ, Bool, None, Option, Some, List, find, inl, option_map, true≢false, unwrap_or, ⊎_elim}
+use Rattle.std.proofs.Common.{arith, ◌≡◌, refl, sym, ap, ◌∙◌, true, false, nat_eq, ℕ, Bool, None, Option, Some, List, find, inl, option_map, true≢false, unwrap_or, ⊎_elim}
+use Rattle.std.proofs.lemmas.Grind.{common_steps}
 use Rattle.std.specs.Prelude.{if◌then◌else◌}
 use Rattle.vt_spec.proofs.Lists.{Among}
 use Rattle.vt_spec.specs.Machine.Attach.{Copies, Twig, copy_type, image, parts_of, type_at, type_on_shared}
@@ -75,17 +76,8 @@ module _ (world : World ℕ) (new : Copies ℕ) (place : Location ℕ) (moves : 
   -- the copy at a member of a group is a member of the image
   pub shared_kind : (part origin : Mount ℕ) → Among part all_parts → (group : ℕ) → part.propagation ≡ Shared group
       → kind part origin ≡ Shared (image_of origin group)
-  shared_kind part origin m group e = by (nat_eq part.number place.mount) refl
-    where
-      by : (b : Bool) → nat_eq part.number place.mount ≡ b → kind part origin ≡ Shared (image_of origin group)
-      by true f =
-          let same = part_itself part m f in
-          let shared : group_of there.propagation ≡ Some group =
-          ap (λ (x : Mount ℕ). group_of x.propagation) (sym same) ∙ ap group_of e in
-          ap (λ x. kind x origin) same ∙ kind_there origin ∙ type_in origin group shared
-          ∙ shared_there (new.image group origin.number) origin.propagation
-          ∙ ap Shared (sym (image_in origin group shared))
-      by false f = kind_away part origin f ∙ ap (copy_type nat_eq world new all_parts there (of_tree origin)) e
+  shared_kind part origin m group e =
+      grind (arith, common_steps, part_itself, kind_there, type_in, shared_there, image_in, kind_away)
 
   -- the copy at a slave is a slave of the nearest image
   pub slave_kind : (part origin : Mount ℕ) (master group : ℕ) → nat_eq part.number place.mount ≡ false

@@ -4,10 +4,10 @@ use Rattle.std.proofs.lemmas.Grind.{common_steps}
 use Rattle.std.proofs.lemmas.Bool.{or_cases}
 use Rattle.std.proofs.lemmas.Option.{same_Some}
 use Rattle.vt_spec.proofs.Lists.{Among, any_among, chain_ends, chain_goes_on}
-use Rattle.vt_spec.specs.Lists.{chain, holds_of, is_among}
+use Rattle.vt_spec.specs.Lists.{chain, is_among}
 use Rattle.vt_spec.specs.Machine.Mounts.{Mount, Propagation, source_of}
 use Rattle.vt_spec.specs.Machine.Mounts.Propagation.{Private, Shared, Slave, Unbindable}
-use Rattle.vt_spec.specs.Machine.Receives.{Receives, groups_up, has_members, is_member_of, receives}
+use Rattle.vt_spec.specs.Machine.Receives.{Receives, groups_up, receives}
 use Rattle.vt_spec.specs.Machine.Receives.Receives.{further_down, member, slave}
 use Rattle.vt_spec.specs.Machine.World.{World}
 use Rattle.vt_laws_mounts.specs.Mounts.Receivers.{GroupsLive}
@@ -128,9 +128,4 @@ heard world mount group h = grind (arith, common_steps, true≢false, way_up)
 -- where groups live, each group up from one is on its list
 pub up_among : (world : World ℕ) → GroupsLive world → (source group : ℕ) → LivesIn world source
     → Up world.master source group → is_among nat_eq group (groups_up world source) ≡ true
-up_among world live source group life way =
-    let has = live_members world.master (has_members nat_eq world.mounts) source life in
-    let one = any_among (is_member_of nat_eq source) world.mounts has in
-    let e : source_of one.0.propagation ≡ Some source = ap source_of (member_shared source one.0 one.2) in
-    sym (ap (holds_of (λ s. is_among nat_eq group (groups_up world s))) e)
-    ∙ hears world live one.0 one.1 source group e way
+up_among world live source group life way = grind (arith, common_steps, live_members, any_among, member_shared, hears)

@@ -1,4 +1,5 @@
 -- Each change that fits, with the sweep after it.
+use Rattle.std.proofs.lemmas.Grind.{common_steps}
 use Rattle.std.proofs.Common.{◌≡◌, ◌≢◌, refl, sym, ap, subst, ◌∙◌, ⊎_elim, ℕ, nat_eq, true, false, cond, List, [], map, Option, Some, None, is_some, arith}
 use Rattle.std.proofs.lemmas.Bool.Decides.{eqb_tells}
 use Rattle.std.specs.List.{list_all}
@@ -7,7 +8,7 @@ use Rattle.vt_spec.specs.Language.Changes as Changes
 use Rattle.vt_spec.specs.Language.Changes.{Change, node_with_attr, node_with_mark, node_with_parent}
 use Rattle.vt_spec.specs.Language.Changes.Change.{AddName, CopyUp, Make, Move, Remove, SetAttr, SetBytes, SetMark}
 use Rattle.vt_spec.specs.Lists.{Fresh, any_pair, is_among}
-use Rattle.vt_spec.specs.Machine.Filesystems.{filesystem_changed, with_change, with_files}
+use Rattle.vt_spec.specs.Machine.Filesystems.{with_change, with_files}
 use Rattle.vt_spec.specs.Machine.Mounts.{Location}
 use Rattle.vt_spec.specs.Machine.Settled.{settled}
 use Rattle.vt_spec.specs.Machine.World.{Filesystem, Overlay, World, filesystem_at, filesystem_numbered, is_overlay}
@@ -112,20 +113,7 @@ module _ (base : ℕ → ℕ) (files : FileTree ℕ) (inodes : Inodes ℕ) (root
   root_of_files (CopyUp object) = refl
 
   root_of_inodes : (change : Change ℕ) → (changed nat_eq inodes change).root ≡ inodes.root
-  root_of_inodes (Make directory name number new) = refl
-  root_of_inodes (AddName directory name object) = refl
-  root_of_inodes (Remove directory name object) = refl
-  root_of_inodes (Move from old to new object) = by (entry_named new (entries_in (node_in (inodes.inode to))))
-    where
-      by : (o : Option ℕ) → (without_replaced nat_eq (with_changed nat_eq (with_changed nat_eq
-          (with_changed nat_eq inodes from (Changes.node_without_entry old)) to
-          (node_with_entry new object)) object (node_with_parent to)) o).root ≡ inodes.root
-      by None = refl
-      by (Some gone) = refl
-  root_of_inodes (SetBytes file bytes) = refl
-  root_of_inodes (SetAttr object attr) = refl
-  root_of_inodes (SetMark directory opaque) = refl
-  root_of_inodes (CopyUp object) = refl
+  root_of_inodes change = grind (arith, common_steps)
 
   pub root_is : (change : Change ℕ)
       → (changed nat_eq inodes change).root ≡ (Changes.changed nat_eq files change).tree.root
@@ -175,12 +163,7 @@ module _ (fresh : Fresh ℕ) (world : World ℕ) (location : Location ℕ) (inod
 
   -- before the sweep
   pub raw_is : with_change nat_eq fresh world location change ≡ with_tree world number files
-  raw_is = by old.overlay is.plain
-    where
-      by : (o : Option (Overlay ℕ)) → is_some o ≡ false
-          → filesystem_changed nat_eq fresh world old o change ≡ with_tree world number files
-      by None e = refl
-      by (Some overlay) e = cc
+  raw_is = grind (arith, common_steps)
 
   pub after_is : after_change fresh world location change ≡ done
   after_is = ap (settled nat_eq) raw_is

@@ -1,4 +1,5 @@
 -- The counts of a tree's inodes where names come, go and move, before anything is swept.
+use Rattle.std.proofs.lemmas.Grind.{common_steps}
 use Rattle.std.proofs.Common.{◌≡◌, ◌≢◌, refl, sym, ap, subst, ◌∙◌, ⊎_elim, ◌⊎◌, ℕ, ◌+◌, ◌≤◌, nat_eq, eq-eqb, ne_eqb, Bool, true, false, true≢false, cond, List, [], ◌∷◌, ◌++◌, Option, Some, None, is_some, arith}
 use Rattle.std.specs.Cmp.Lexicographic.{bytes_decides}
 use Rattle.std.specs.FinMap.Entries.{is_sorted}
@@ -47,14 +48,7 @@ module _ (base : ℕ → ℕ) (node : ℕ → Option (Node ℕ)) (numbers : List
       ∙ ap (λ n. is_some (node n)) (sym e) ∙ ap is_some no_node)
 
   pub either_way : (n : ℕ) → node_made n ≡ node_made_there n
-  either_way n =
-      sym (ap (λ b. cond (nat_eq n directory) (node_with_entry name number (cond b (Some new) (node directory)))
-      (cond (nat_eq n number) (Some new) (node n))) (ne_eqb directory number (λ e. apart (sym e))) ∙ ⊎_elim
-      (λ t. ap (λ b. cond (nat_eq n directory) (node_with_entry name number (node directory))
-      (cond b (Some new) (node n))) t.0 ∙ ap (λ b. cond b (node_with_entry name number (node directory)) (Some new))
-      (ne_eqb n directory (λ e. apart (sym t.1 ∙ e))) ∙ sym (ap (λ b. cond b (Some new) (node_on n)) t.0))
-      (λ t. ap (λ b. cond (nat_eq n directory) (node_with_entry name number (node directory))
-      (cond b (Some new) (node n))) t.0 ∙ sym (ap (λ b. cond b (Some new) (node_on n)) t.0)) (eqb_tells n number))
+  either_way n = grind (arith, common_steps, ne_eqb, apart, eqb_tells)
 
   made_new : node_made number ≡ Some new
   made_new = ap (λ b. cond b (Some new) (node_on number)) (eq-eqb number number refl)
@@ -85,15 +79,7 @@ module _ (base : ℕ → ℕ) (node : ℕ → Option (Node ℕ)) (numbers : List
       omega arith
 
   made_once : (n : ℕ) → one_if n number + times_in n numbers ≡ cond (is_some (node_made n)) 1 0
-  made_once n = ⊎_elim (λ t. (let one : one_if n number ≡ 1 = ap (λ b. cond b 1 0) t.0 in let none : times_in n numbers
-      ≡ 0 = ap (λ m. times_in m numbers) t.1 ∙ no_number in
-      let all : one_if n number + times_in n numbers ≡ 1 = omega arith in all)
-      ∙ sym (ap (λ b. cond (is_some (cond b (Some new) (node_on n))) 1 0) t.0))
-      (λ t. (let one : one_if n number ≡ 0 = ap (λ b. cond b 1 0) t.0 in let all : one_if n number + times_in n numbers
-      ≡ times_in n numbers = omega arith in all) ∙ start.tallied.once n
-      ∙ ap (λ b. cond b 1 0) (sym (part_at is_some node directory (node_with_entry name number)
-      (is_some-node_with_entry name number (node directory)) n))
-      ∙ sym (ap (λ b. cond (is_some (cond b (Some new) (node_on n))) 1 0) t.0)) (eqb_tells n number)
+  made_once n = grind (arith, common_steps, one_if, times_in, no_number, part_at, is_some-node_with_entry, eqb_tells)
 
   pub made : IsTallied base node_made_there (number ∷ numbers) (with_new nat_eq inodes directory name number new)
   made = subst (λ f. IsTallied base f (number ∷ numbers) (with_new nat_eq inodes directory name number new))
@@ -347,12 +333,7 @@ module _ (base : ℕ → ℕ) (node : ℕ → Option (Node ℕ)) (numbers : List
   from_stays = full_stays from object object_target
 
   gone_target : (n : ℕ) → one_if_some n replaced ≤ times_in n (targets_in (node to))
-  gone_target n =
-      let found : one_if_some n (entry_named new (entries_in (node to))) ≤ times_in n
-      (targets (entries_in (node to))) = found_target n new (entries_in (node to)) in
-      let it : one_if_some n (entry_named new (entries_in (node to))) ≡ one_if_some n replaced =
-      ap (one_if_some n) finds in
-      omega arith
+  gone_target n = grind (arith, common_steps, one_if_some, times_in, targets, found_target)
 
   to_stays : one_if_some to replaced ≡ 0
   to_stays = ⊎_elim (λ none. none) (λ gone. full_stays to to (let t = gone_target to in omega arith)) (none_or_one to)

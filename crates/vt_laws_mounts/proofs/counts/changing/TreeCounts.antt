@@ -1,4 +1,5 @@
 -- The counts of a tree's inodes after each change of the tree, before anything is swept.
+use Rattle.std.proofs.lemmas.Grind.{common_steps}
 use Rattle.std.proofs.Common.{◌≡◌, ◌≢◌, refl, sym, ap, subst, ◌∙◌, ⊎_elim, ℕ, suc, ◌+◌, ◌-◌, ◌≤◌, nat_eq, Bool, true, false, cond, List, [], ◌∷◌, ◌++◌, length, Option, Some, None, is_some, arith}
 use Rattle.std.specs.FinMap.Entries.{is_sorted}
 use Rattle.std.proofs.lemmas.Bool.Decides.{eqb_tells, leb_tells}
@@ -53,12 +54,7 @@ changed_counts uses node inodes place change counted same none some = by (inodes
 
         inode_kept : (n : ℕ) → inodes.inode n ≡ cond (nat_eq n place)
             (inode_with_node (change (node_in (inodes.inode place))) (inodes.inode place)) (inodes.inode n)
-        inode_kept n = ⊎_elim (λ t. ap inodes.inode t.1 ∙ is
-            ∙ sym (ap (λ o. inode_with_node (change (node_in o)) o) is ∙ still_none (change None))
-            ∙ sym (ap (λ b. cond b (inode_with_node (change (node_in (inodes.inode place))) (inodes.inode place))
-            (inodes.inode n)) t.0))
-            (λ t. sym (ap (λ b. cond b (inode_with_node (change (node_in (inodes.inode place))) (inodes.inode place))
-            (inodes.inode n)) t.0)) (eqb_tells n place)
+        inode_kept n = grind (arith, common_steps, still_none, eqb_tells)
 
         node_kept : (n : ℕ) → node n ≡ at_place node place change n
         node_kept n = ⊎_elim (λ t. ap node t.1 ∙ no_node ∙ sym (ap change no_node ∙ none)
@@ -143,20 +139,7 @@ module _ (uses left : ℕ → ℕ) (node : ℕ → Option (Node ℕ)) (inodes : 
   }
 
   stays : 2 ≤ inode.uses → Left false
-  stays high = record {
-    uses_are = at_or (λ n o. uses_in o ≡ left n) inodes.inode place one_less
-        (let h = left_here in omega arith) left_there;
-    in_use = at_or (λ n o. is_some o ≡ true → 1 ≤ uses_in o) inodes.inode place one_less (λ e. omega arith)
-        (λ n apart. counted.in_use n);
-    kept = at_or (λ n o. is_some o ≡ true → node n ≡ node_in o) inodes.inode place one_less (λ e. here_node)
-        (λ n apart. counted.kept n);
-    emptied = at_or (λ n o. is_some o ≡ false → targets_in (node n) ≡ []) inodes.inode place one_less (λ e. cc)
-        (λ n apart. counted.emptied n);
-    list = counted.list;
-    listed = at_or (λ n o. times_in n counted.list ≡ cond (is_some o) 1 0) inodes.inode place one_less here_listed
-        (λ n apart. counted.listed n);
-    as_many = counted.as_many;
-  }
+  stays high = grind (arith, common_steps, at_or, left_here, left_there, counted, here_node, times_in, here_listed)
 
   unpinned_here : Counts.IsCounted left node (unpinned nat_eq inodes place)
   unpinned_here = subst (λ o. Counts.IsCounted left node (record (with_inode nat_eq inodes place (used_once_less o)) {

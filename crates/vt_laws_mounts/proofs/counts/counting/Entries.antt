@@ -1,4 +1,5 @@
 -- How often the entries of directories lead to an inode, after each change of entries.
+use Rattle.std.proofs.lemmas.Grind.{common_steps}
 use Rattle.std.proofs.Common.{◌≡◌, ◌≢◌, refl, sym, ap, subst, ◌∙◌, ⊎_elim, inl, inr, ◌⊎◌, ℕ, ◌+◌, ◌≤◌, nat_eq, eq-eqb, ne_eqb, Bool, true, false, true≢false, cond, not, ◌&&◌, List, [], ◌∷◌, ◌++◌, map, flat_map, Option, Some, None, arith}
 use Rattle.std.proofs.lemmas.Bool.Decides.{eqb_tells}
 use Rattle.std.proofs.lemmas.Bool.{and_parts}
@@ -60,15 +61,7 @@ times_put number name object (entry ∷ rest) sorted =
         (entry ∷ with_entry name object rest))) + one_if_some number
         (cond (is_eq o) (Some entry.1) (entry_named name rest))
         ≡ times_in number (targets (entry ∷ rest)) + one_if number object
-    by Less e later =
-        let none : entry_named name rest ≡ None = entry_named-below name rest
-        (below_less name entry.0 rest e parts.0) in
-        ap (λ o. (one_if number object +
-        (one_if number entry.1 + times_in number (targets rest))) + one_if_some number o) none
-        ∙ (let aside : (one_if number object + (one_if number entry.1 + times_in number (targets rest))) + 0 ≡
-        (one_if number entry.1 + times_in number (targets rest)) + one_if number object = omega arith in aside)
-    by Equal e later = omega arith
-    by Greater e later = omega arith
+    by o e later = grind (arith, common_steps, later, entry_named-below, below_less, parts, times_in)
 
 -- an entry less
 pub times_without : (number : ℕ) (name : List ℕ) (entries : Entries ℕ) → is_sorted name_cmp entries ≡ true
@@ -156,16 +149,7 @@ named_changed number node place new (first ∷ rest) one = ⊎_elim (λ t. here 
     here : nat_eq place first ≡ true → place ≡ first
         → times_in number (named_by (changed_at node place new) (first ∷ rest)) + times_in number
         (targets_in (node place)) ≡ times_in number (named_by node (first ∷ rest)) + times_in number (targets_in new)
-    here t same =
-        let none : times_in place rest ≡ 0 = (let h : one_if place first ≡ 1 = ap (λ b. cond b 1 0) t in omega arith) in
-        let rest_same : times_in number (named_by (changed_at node place new) rest)
-        ≡ times_in number (named_by node rest) = ap (times_in number) (named_apart node place new rest none) in
-        let new_first : times_in number (targets_in (changed_at node place new first))
-        ≡ times_in number (targets_in new) =
-        ap (λ b. times_in number (targets_in (cond b new (node first)))) (eq-eqb first place (sym same)) in
-        let old_first : times_in number (targets_in (node place)) ≡ times_in number (targets_in (node first)) =
-        ap (λ n. times_in number (targets_in (node n))) same in
-        let a = whole in let b = now in omega arith
+    here t same = grind (arith, common_steps, times_in, named_apart, eq-eqb, whole, now)
 
     later : nat_eq place first ≡ false → place ≢ first
         → times_in number (named_by (changed_at node place new) rest) + times_in number
@@ -214,12 +198,7 @@ new_entries directory Whiteout e = refl
 -- changes at two places may change places
 pub commute : (node : ℕ → Option (Node ℕ)) (a b : ℕ) (f g : Option (Node ℕ) → Option (Node ℕ)) → a ≢ b → (n : ℕ)
     → at_place (at_place node a f) b g n ≡ at_place (at_place node b g) a f n
-commute node a b f g apart n = ⊎_elim (λ t. ap (λ c. cond c (g (at_place node a f b)) (at_place node a f n)) t.0
-    ∙ ap g (at_other node a f b (λ e. apart (sym e)))
-    ∙ sym (at_other (at_place node b g) a f n (λ e. apart (sym e ∙ t.1)) ∙ ap (λ c. cond c (g (node b)) (node n)) t.0))
-    (λ t. ap (λ c. cond c (g (at_place node a f b)) (at_place node a f n)) t.0
-    ∙ (λ i. cond (nat_eq n a) (f (sym (at_other node b g a apart) i)) (sym (at_other node b g n t.1) i)))
-    (eqb_tells n b)
+commute node a b f g apart n = grind (arith, common_steps, at_other, eqb_tells)
 
 -- entries of another name stay
 pub find_without : (name other : List ℕ) (entries : Entries ℕ) → (bytes_eq other name ≡ false)

@@ -1,5 +1,6 @@
 -- How often a number stands in a list.
-use Rattle.std.proofs.Common.{◌≡◌, ◌≢◌, refl, sym, ap, subst, ◌∙◌, ⊎_elim, ℕ, suc, ◌+◌, ◌≤◌, nat_eq, eq-eqb, Bool, true, false, cond, ◌&&◌, ◌||◌, List, [], ◌∷◌, ◌++◌, length, filter, arith}
+use Rattle.std.proofs.lemmas.Grind.{common_steps}
+use Rattle.std.proofs.Common.{◌≡◌, ◌≢◌, refl, ap, subst, ◌∙◌, ⊎_elim, ℕ, suc, ◌+◌, ◌≤◌, nat_eq, eq-eqb, Bool, true, false, cond, ◌&&◌, ◌||◌, List, [], ◌∷◌, ◌++◌, length, filter, arith}
 use Rattle.std.specs.List.{list_all}
 use Rattle.std.proofs.lemmas.Bool.Decides.{eqb_tells}
 use Rattle.vt_spec.specs.Lists.{is_among}
@@ -46,13 +47,7 @@ times_removed number z (other ∷ rest) e = ⊎_elim here (later (times_removed 
     later : (1 ≤ times_in number rest → times_in z (number ∷ removed number rest) ≡ times_in z rest)
         → (nat_eq number other ≡ false) × (number ≢ other)
         → times_in z (number ∷ removed number (other ∷ rest)) ≡ times_in z (other ∷ rest)
-    later rec t =
-        let more : 1 ≤ 0 + times_in number rest = subst (λ b. 1 ≤ cond b 1 0 + times_in number rest) t.0 e in
-        let same : cond (nat_eq z number) 1 0 + times_in z (removed number rest) ≡ times_in z rest =
-        rec (omega arith) in
-        ap (λ b. cond (nat_eq z number) 1 0 + times_in z (cond b rest (other ∷ removed number rest))) t.0
-        ∙ (let aside : cond (nat_eq z number) 1 0 + (cond (nat_eq z other) 1 0 + times_in z (removed number rest))
-        ≡ cond (nat_eq z other) 1 0 + times_in z rest = omega arith in aside)
+    later rec t = grind (arith, common_steps)
 
 pub length_removed : (number : ℕ) (list : List ℕ) → 1 ≤ times_in number list
     → suc (length (removed number list)) ≡ length list
@@ -132,9 +127,4 @@ times_filter p number (first ∷ rest) = ⊎_elim
         → times_in number (filter p rest) ≡ cond b (times_in number rest) 0
         → times_in number (cond a (first ∷ filter p rest) (filter p rest)) ≡ cond b
         (cond (nat_eq number first) 1 0 + times_in number rest) 0
-    later true true e h = ap (λ n. cond (nat_eq number first) 1 0 + n) h
-    later true false e h = ap (λ c. cond c 1 0 + times_in number (filter p rest)) e
-        ∙ (let g : times_in number (filter p rest) ≡ 0 = h in omega arith)
-    later false true e h = h ∙ (let g : times_in number rest ≡ 0 + times_in number rest = omega arith in g)
-        ∙ ap (λ c. cond c 1 0 + times_in number rest) (sym e)
-    later false false e h = h
+    later a b e h = grind (arith, common_steps)

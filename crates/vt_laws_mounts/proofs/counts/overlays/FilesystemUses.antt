@@ -1,7 +1,8 @@
 -- What filesystems use: directories of layers, and upper objects.
-use Rattle.std.proofs.Common.{◌≡◌, refl, sym, ap, ◌∙◌, ℕ, ◌+◌, nat_eq, Bool, true, false, true≢false, cond, not, ◌&&◌, List, [], ◌∷◌, ◌++◌, map, filter, flat_map, Option, Some, None, is_some, arith}
+use Rattle.std.proofs.lemmas.Grind.{common_steps}
+use Rattle.std.proofs.Common.{◌≡◌, refl, sym, ap, ◌∙◌, ℕ, ◌+◌, nat_eq, Bool, true, false, true≢false, cond, not, ◌&&◌, List, [], ◌∷◌, ◌++◌, map, filter, flat_map, Option, Some, None, arith}
 use Rattle.std.specs.Prelude.{All, filter_map, option_to_list}
-use Rattle.std.specs.List.{cons_option, list_any}
+use Rattle.std.specs.List.{cons_option}
 use Rattle.std.proofs.lemmas.Bool.{or_parts}
 use Rattle.vt_spec.specs.Lists.{holds_of}
 use Rattle.vt_spec.specs.Machine.Locked.{of_overlay, overlay_or}
@@ -10,7 +11,6 @@ use Rattle.vt_spec.specs.Machine.Settled.{has_layer_on, layers_in, located_in, n
 use Rattle.vt_spec.specs.Machine.World.{Filesystem, Layer, Overlay, World, all_locations, filesystem_numbered, is_overlay, layers_of, upper_object}
 use Rattle.vt_spec.proofs.Lists.{filter_none}
 use Rattle.vt_laws_mounts.specs.LettingGo.Counts.{inode_uses, times}
-use Rattle.vt_laws_mounts.specs.LettingGo.InUse.{has_upper_in}
 use Rattle.vt_laws_mounts.specs.LettingGo.OneByOne.{Inode}
 use Rattle.vt_laws_mounts.specs.LettingGo.Overlays.{uppers_in, used_by_filesystem}
 use Rattle.vt_laws_mounts.proofs.letting_go.Lists.{all_from_among, among-from_flat_map, among_from_all, fails, flat_map-filter, flat_map_none, none_passes}
@@ -25,20 +25,7 @@ use Rattle.vt_laws_mounts.proofs.counts.using.Swept.{found_number, no_objects_in
 
 -- without an upper layer an overlay has none in any filesystem
 pub no_upper_is_in_any : NoUpperIsInAny
-no_upper_is_in_any world number none =
-    all_from_among (λ merged. has_upper_in number merged ≡ false) world.filesystems (λ f m.
-    by f.overlay (among_from_all (λ filesystem. of_overlay false (λ overlay. is_some overlay.upper) filesystem ≡ false)
-    world.filesystems none f m))
-  where
-    by : (o : Option (Overlay ℕ)) → overlay_or false (λ overlay. is_some overlay.upper) o ≡ false
-        → overlay_or false (λ overlay. holds_of (λ layer. nat_eq number layer.filesystem) overlay.upper) o ≡ false
-    by None e = refl
-    by (Some overlay) e = upper overlay.upper e
-      where
-        upper : (u : Option (Layer ℕ)) → is_some u ≡ false
-            → holds_of (λ layer. nat_eq number layer.filesystem) u ≡ false
-        upper None h = refl
-        upper (Some layer) h = absurd (true≢false h)
+no_upper_is_in_any world number none = grind (arith, common_steps, all_from_among, among_from_all, true≢false)
 
 -- Where no overlay has a layer in a filesystem
 module _ (world : World ℕ) (number : ℕ)
@@ -56,23 +43,7 @@ module _ (world : World ℕ) (number : ℕ)
       layer from.2)))
 
   pub no_upper_there : HasNoUpperIn number world
-  no_upper_there = all_from_among (λ merged. has_upper_in number merged ≡ false) world.filesystems (λ f m.
-      by f.overlay (among_from_all (λ merged. has_layer_on nat_eq number merged ≡ false) world.filesystems apart f m))
-    where
-      by : (o : Option (Overlay ℕ))
-          → overlay_or false (λ overlay. list_any (λ layer. nat_eq number layer.filesystem) (layers_of overlay)) o
-          ≡ false
-          → overlay_or false (λ overlay. holds_of (λ layer. nat_eq number layer.filesystem) overlay.upper) o ≡ false
-      by None e = refl
-      by (Some overlay) e = upper overlay.upper e
-        where
-          upper : (u : Option (Layer ℕ)) → list_any (λ layer. nat_eq number layer.filesystem)
-              (option_to_list u ++ option_to_list overlay.work ++ overlay.lowers) ≡ false
-              → holds_of (λ layer. nat_eq number layer.filesystem) u ≡ false
-          upper None h = refl
-          upper (Some layer) h = (or_parts (nat_eq number layer.filesystem)
-              (list_any (λ (other : Layer ℕ). nat_eq number other.filesystem)
-              (option_to_list overlay.work ++ overlay.lowers)) h).0
+  no_upper_there = grind (arith, common_steps, all_from_among, among_from_all, or_parts)
 
 -- How often filesystems use an inode
 module _ (k n : ℕ) where
@@ -194,17 +165,7 @@ module _ (k n : ℕ) where
 
 -- What overlays use is all that filesystems use.
 plain_use_none : (g : Filesystem ℕ) → is_overlay g ≡ false → used_by_filesystem g ≡ []
-plain_use_none g e = (λ i. map (λ (layer : Layer ℕ). (layer.filesystem, layer.directory)) (layers g.overlay e i)
-    ++ flat_map (λ number. objects g.overlay e number i) g.files.numbers)
-    ∙ flat_map_none (λ (number : ℕ). []) g.files.numbers (λ number m. refl)
-  where
-    layers : (o : Option (Overlay ℕ)) → is_some o ≡ false → overlay_or [] layers_of o ≡ []
-    layers None h = refl
-    layers (Some overlay) h = absurd (true≢false h)
-
-    objects : (o : Option (Overlay ℕ)) → is_some o ≡ false → (number : ℕ) → overlay_or [] (uppers_in number) o ≡ []
-    objects None h number = refl
-    objects (Some overlay) h number = absurd (true≢false h)
+plain_use_none g e = grind (arith, common_steps, flat_map_none, true≢false)
 
 used_by_overlays : (list : List (Filesystem ℕ))
     → flat_map used_by_filesystem (filter is_overlay list) ≡ flat_map used_by_filesystem list
@@ -300,19 +261,7 @@ overlays_take_their_uses world after stays k mounts locations are same = exchang
             ≡ used n (cond b (first ∷ filter stays rest) (filter stays rest))
             + used n (cond (not b) (first ∷ filter (λ merged. not (stays merged)) rest)
             (filter (λ merged. not (stays merged)) rest))
-        by true later =
-            let e = later in
-            let here : used n (first ∷ filter stays rest)
-            ≡ times (is_inode k n) (used_by_filesystem first) + used n (filter stays rest) =
-            times_append (is_inode k n) (used_by_filesystem first) (flat_map used_by_filesystem (filter stays rest)) in
-            omega arith
-        by false later =
-            let e = later in
-            let here : used n (first ∷ filter (λ merged. not (stays merged)) rest)
-            ≡ times (is_inode k n) (used_by_filesystem first) + used n (filter (λ merged. not (stays merged)) rest) =
-            times_append (is_inode k n) (used_by_filesystem first)
-            (flat_map used_by_filesystem (filter (λ merged. not (stays merged)) rest)) in
-            omega arith
+        by b later = grind (arith, common_steps, times_append)
 
 pub plain_ones_use_nothing : PlainOnesUseNothing
 plain_ones_use_nothing world after k mounts locations are same = exchanged_by world after [] [] k mounts locations

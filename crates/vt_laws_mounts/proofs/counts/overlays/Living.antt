@@ -1,4 +1,5 @@
 -- Which filesystems live, overlays among them.
+use Rattle.std.proofs.lemmas.Grind.{common_steps}
 use Rattle.std.proofs.Common.{◌≡◌, refl, sym, ap, ◌∙◌, ⊎_elim, inl, inr, ℕ, ◌+◌, nat_eq, nat_lt, eqb-true, Bool, true, false, true≢false, cond, not, ◌&&◌, ◌||◌, List, [], ◌∷◌, ◌++◌, filter, flat_map, Option, Some, None, is_some, arith}
 use Rattle.std.specs.List.{list_all, list_any}
 use Rattle.std.proofs.lemmas.Bool.{and_parts, not-true, or_cases}
@@ -42,16 +43,7 @@ module _ (world : World ℕ) (number : ℕ) where
           ≡ list_any is_there (flat_map (of_overlay [] layers_of)
           (cond b (first ∷ filter (λ merged. is_mounted nat_eq world merged.number) rest)
           (filter (λ merged. is_mounted nat_eq world merged.number) rest)))
-      by true later = (λ i. (both (has_layer_on nat_eq number first) ∙ layers_on world number first) i || later i)
-          ∙ sym (list_any-append is_there (of_overlay [] layers_of first)
-          (flat_map (of_overlay [] layers_of) (filter (λ merged. is_mounted nat_eq world merged.number) rest)))
-        where
-          both : (b : Bool) → (b && true) ≡ b
-          both true = refl
-          both false = refl
-      by false later = ap (λ b. b || list_any (λ (merged : Filesystem ℕ).
-          has_layer_on nat_eq number merged && is_mounted nat_eq world merged.number) rest)
-          (none (has_layer_on nat_eq number first)) ∙ later
+      by b later = grind (arith, common_steps, layers_on, list_any-append, none)
 
   counted_layers : list_any (λ merged. has_layer_on nat_eq number merged && is_mounted nat_eq world merged.number)
       world.filesystems ≡ nat_lt 0 (mounted_layer_count world number)
@@ -195,12 +187,4 @@ layers_left_are_mounted world after number are = sym (of_overlays number after.f
             → filter mounted (filter is_overlay rest) ≡ filter is_overlay (filter mounted rest)
             → filter mounted (cond a (first ∷ filter is_overlay rest) (filter is_overlay rest))
             ≡ filter is_overlay (cond b (first ∷ filter mounted rest) (filter mounted rest))
-        by true true e f later = ap (λ x. cond x (first ∷ filter mounted (filter is_overlay rest))
-            (filter mounted (filter is_overlay rest))) f ∙ ap (λ l. first ∷ l) later
-            ∙ sym (ap (λ x. cond x (first ∷ filter is_overlay (filter mounted rest))
-            (filter is_overlay (filter mounted rest))) e)
-        by true false e f later = ap (λ x. cond x (first ∷ filter mounted (filter is_overlay rest))
-            (filter mounted (filter is_overlay rest))) f ∙ later
-        by false true e f later = later ∙ sym (ap (λ x. cond x (first ∷ filter is_overlay (filter mounted rest))
-            (filter is_overlay (filter mounted rest))) e)
-        by false false e f later = later
+        by a b e f later = grind (arith, common_steps)

@@ -1,9 +1,10 @@
 -- The sweep leaves overlays whose inodes have names.
-use Rattle.std.proofs.Common.{◌≡◌, refl, sym, ap, ◌∙◌, ⊎_elim, inl, inr, ℕ, nat_eq, Bool, true, false, true≢false, cond, ◌||◌, List, [], ◌∷◌, ◌++◌, map, filter, flat_map}
+use Rattle.std.proofs.Common.{arith, ◌≡◌, refl, sym, ap, ◌∙◌, ⊎_elim, inl, inr, ℕ, nat_eq, Bool, true, false, true≢false, cond, ◌||◌, List, [], ◌∷◌, ◌++◌, map, filter, flat_map}
+use Rattle.std.proofs.lemmas.Grind.{common_steps}
 use Rattle.std.specs.List.{list_all}
 use Rattle.std.proofs.lemmas.Bool.{or_cases}
 use Rattle.vt_spec.specs.Lists.{is_among}
-use Rattle.vt_spec.specs.Machine.Settled.{filesystem_lives, layers_in, located_in, named_in, objects_of_overlay, only_used, only_used_by, used_in, without_dead_in, without_dead_mounts, settled}
+use Rattle.vt_spec.specs.Machine.Settled.{filesystem_lives, layers_in, located_in, named_in, objects_of_overlay, only_used, only_used_by, used_in, without_dead_mounts, settled}
 use Rattle.vt_spec.specs.Machine.World.{Filesystem, World, filesystem_numbered, is_overlay}
 use Rattle.vt_spec.proofs.Found.{is_among_left}
 use Rattle.vt_spec.proofs.Lists.{map_twice}
@@ -59,13 +60,7 @@ module _ (world : World ℕ) (named : OverlaysAreNamed world) where
       ∙ second_leaves world f e
 
   same_kind : (f : Filesystem ℕ) → is_overlay (swept f) ≡ is_overlay f
-  same_kind f = one (without_dead_in nat_eq is_overlay lives) (after_first world f) _ ∙ one lives f (is_overlay f)
-    where
-      one : (some : World ℕ) (g : Filesystem ℕ) (chosen : Bool)
-          → is_overlay (only_used nat_eq some chosen g) ≡ is_overlay g
-      one some g true = overlay-left (used_in nat_eq some g) g
-          (list_all (λ n. is_among nat_eq n (used_in nat_eq some g)) g.files.numbers)
-      one some g false = refl
+  same_kind f = grind (arith, common_steps, after_first, overlay-left)
 
   all_stay : filter is_overlay (settled nat_eq world).filesystems ≡ filter is_overlay lives.filesystems
   all_stay = ap (filter is_overlay) (map_twice (after_second world) (after_first world) lives.filesystems)

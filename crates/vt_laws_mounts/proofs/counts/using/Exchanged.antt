@@ -1,4 +1,5 @@
 -- Inodes that get some uses and lose some.
+use Rattle.std.proofs.lemmas.Grind.{common_steps}
 use Rattle.std.proofs.Common.{◌≡◌, refl, sym, ap, subst, ◌∙◌, ⊎_elim, inl, inr, ℕ, ◌+◌, ◌≤◌, nat_eq, eqb-true, Bool, true, false, true≢false, cond, not, ◌&&◌, ◌||◌, List, [], ◌∷◌, ◌++◌, map, filter, find, flat_map, Option, Some, None, is_some, unwrap_or, arith}
 use Rattle.std.specs.List.{list_all}
 use Rattle.std.proofs.lemmas.Bool.{and_parts}
@@ -7,7 +8,7 @@ use Rattle.vt_spec.specs.FileTree.{targets_in}
 use Rattle.vt_spec.specs.Lists.{folded, holds_of, is_among}
 use Rattle.vt_spec.specs.Machine.Locked.{of_overlay, overlay_or}
 use Rattle.vt_spec.specs.Machine.Settled.{layers_in, located_in, named_in, objects_of_overlay, used_in}
-use Rattle.vt_spec.specs.Machine.World.{Filesystem, Overlay, World, filesystem_numbered, is_overlay, layers_of, no_filesystem}
+use Rattle.vt_spec.specs.Machine.World.{Filesystem, Overlay, World, filesystem_numbered, layers_of, no_filesystem}
 use Rattle.vt_spec.specs.Inodes.{Inodes, node_in}
 use Rattle.vt_spec.specs.Inodes as Trees
 use Rattle.vt_spec.specs.Tree.{Node}
@@ -226,19 +227,7 @@ module _ (world : World ℕ) (inode : Inode) where
     }
       where
         not_gone : (n : ℕ) → inode_uses world f n ≡ 0 → (nat_eq k inode.0 && nat_eq n inode.1) ≡ true → ⊥
-        not_gone n zero_uses both =
-            let parts = and_parts (nat_eq k inode.0) (nat_eq n inode.1) both in
-            let here : nat_eq f.number inode.0 ≡ true = ap (λ m. nat_eq m inode.0) is ∙ parts.0 in
-            let it : n ≡ inode.1 = eqb-true n inode.1 parts.1 in
-            stays (is_inode_used world f inode.1) refl here it
-          where
-            stays : (u : Bool) → is_inode_used world f inode.1 ≡ u → nat_eq f.number inode.0 ≡ true → n ≡ inode.1 → ⊥
-            stays true u here it =
-                let some = among_times inode.1 (used_in nat_eq world f) u in
-                let none : times (nat_eq inode.1) (used_in nat_eq world f)
-                ≡ 0 = ap (λ m. times (nat_eq m) (used_in nat_eq world f)) (sym it) ∙ zero_uses in
-                absurd (omega arith)
-            stays false u here it = true≢false ((λ i. sym here i && not (sym u i)) ∙ e)
+        not_gone n zero_uses both = grind (arith, common_steps, and_parts, eqb-true, among_times, true≢false)
 
     -- it goes
     left_without : nat_eq k inode.0 ≡ true → inode_uses world f inode.1 ≡ 0 → IsLeft k world f (inode ∷ []) next gone_f
@@ -279,25 +268,7 @@ module _ (world : World ℕ) (inode : Inode) where
             (λ d h. skipped d (nat_eq d inode.1) refl h)
 
     one_left : IsLeft k world f (inode ∷ []) next (step f)
-    one_left = by (nat_eq f.number inode.0) refl (is_inode_used world f inode.1) refl
-      where
-        by : (a : Bool) → nat_eq f.number inode.0 ≡ a → (u : Bool) → is_inode_used world f inode.1 ≡ u
-            → IsLeft k world f (inode ∷ []) next
-            (cond (nat_eq f.number inode.0 && not (is_inode_used world f inode.1)) gone_f f)
-        by true e true u =
-            let not_so : (nat_eq f.number inode.0 && not (is_inode_used world f inode.1))
-            ≡ false = (λ i. e i && not (u i)) in
-            subst (λ b. IsLeft k world f (inode ∷ []) next (cond b gone_f f)) (sym not_so) (left_same not_so)
-        by true e false u =
-            let so : (nat_eq f.number inode.0 && not (is_inode_used world f inode.1))
-            ≡ true = (λ i. e i && not (u i)) in
-            subst (λ b. IsLeft k world f (inode ∷ []) next (cond b gone_f f)) (sym so)
-            (left_without (ap (λ m. nat_eq m inode.0) (sym is) ∙ e)
-            (used_or_zero world f inode.1 (is_inode_used world f inode.1) refl u))
-        by false e u h =
-            let not_so : (nat_eq f.number inode.0 && not (is_inode_used world f inode.1))
-            ≡ false = ap (λ b. b && not (is_inode_used world f inode.1)) e in
-            subst (λ b. IsLeft k world f (inode ∷ []) next (cond b gone_f f)) (sym not_so) (left_same not_so)
+    one_left = grind (arith, common_steps, left_same, left_without, used_or_zero)
 
 all_left : (k : ℕ) (world : World ℕ) (lost : List Inode) → HasNoUpperIn k world
     → is_among nat_eq k (map (λ f. f.number) world.filesystems) ≡ true
@@ -477,13 +448,7 @@ uses_are_exchanged_beside_overlays world after gained lost filesystem inodes tre
 
 -- A world of plain filesystems has no upper layers.
 pub plain_apart : (number : ℕ) (world : World ℕ) → IsPlain world → HasNoUpperIn number world
-plain_apart number world plain = all_from_among (λ merged. has_upper_in number merged ≡ false) world.filesystems (λ f m.
-    by f.overlay (among_from_all (λ g. is_overlay g ≡ false) world.filesystems plain f m))
-  where
-    by : (o : Option (Overlay ℕ)) → is_some o ≡ false
-        → overlay_or false (λ overlay. holds_of (λ layer. nat_eq number layer.filesystem) overlay.upper) o ≡ false
-    by None e = refl
-    by (Some overlay) e = cc
+plain_apart number world plain = grind (arith, common_steps, all_from_among, among_from_all)
 
 pub uses_are_exchanged : UsesAreExchanged
 uses_are_exchanged world after gained lost filesystem inodes trees in_use plain exchange counted gains =

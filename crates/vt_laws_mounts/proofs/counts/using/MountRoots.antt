@@ -1,5 +1,6 @@
 -- Mounts and the locations on them.
-use Rattle.std.proofs.Common.{◌≡◌, refl, sym, ap, subst, ◌∙◌, ⊎_elim, inl, ℕ, nat_eq, eqb-true, Bool, true, false, true≢false, cond, not, ◌||◌, List, [], ◌∷◌, ◌++◌, map, filter, find, Option, Some, None, is_some, unwrap_or}
+use Rattle.std.proofs.Common.{arith, ◌≡◌, refl, sym, ap, subst, ◌∙◌, ⊎_elim, inl, ℕ, nat_eq, eqb-true, Bool, true, false, true≢false, cond, not, ◌||◌, List, [], ◌∷◌, ◌++◌, map, filter, find, Option, Some, None, is_some, unwrap_or}
+use Rattle.std.proofs.lemmas.Grind.{common_steps}
 use Rattle.std.specs.Prelude.{filter_map}
 use Rattle.std.specs.List.{cons_option, list_all, list_any}
 use Rattle.std.proofs.lemmas.Bool.{or_parts}
@@ -152,12 +153,7 @@ module _ (world : World ℕ) (number : ℕ) (stand : MountsStand world)
     where
       other_mount : (location : Location ℕ) → is_some (mount_at nat_eq world location).namespace ≡ true
           → nat_eq number location.mount ≡ false
-      other_mount location attached = by (nat_eq number location.mount) refl
-        where
-          by : (b : Bool) → nat_eq number location.mount ≡ b → b ≡ false
-          by false e = refl
-          by true e = absurd (true≢false (sym attached ∙ ap (λ n. is_some (mount_numbered nat_eq world n).namespace)
-              (sym (eqb-true number location.mount e)) ∙ not_attached))
+      other_mount location attached = grind (arith, common_steps, true≢false, eqb-true, not_attached)
 
   root_left : (k : ℕ) → Exchanges [] (root_inode world number ∷ []) k world left
   root_left k = exchanges_turn left world (root_inode world number ∷ []) [] k

@@ -1,4 +1,5 @@
 -- Locations and mounts as uses of inodes.
+use Rattle.std.proofs.lemmas.Grind.{common_steps}
 use Rattle.std.proofs.Common.{◌≡◌, refl, sym, ap, subst, ◌∙◌, ⊎_elim, inl, inr, ℕ, ◌+◌, nat_eq, eqb-true, eq-eqb, Bool, true, false, true≢false, cond, not, ◌&&◌, ◌||◌, List, [], ◌∷◌, ◌++◌, map, filter, find, flat_map, Option, Some, None, unwrap_or, arith}
 use Rattle.std.specs.Prelude.{filter_map, option_to_list}
 use Rattle.std.specs.List.{cons_option, list_all}
@@ -231,17 +232,7 @@ mounts_are_uses world after front added back filesystems locations were are one 
 
     roots : (n : ℕ) → count_in new k n (map root_of new)
         ≡ count_in new k n (map root_of old) + count_in new k n (map root_of added)
-    roots n =
-        let a : count_in new k n (map root_of new)
-        ≡ count_in new k n (map root_of front ++ (map root_of added ++ map root_of back))
-        = ap (count_in new k n) (roots_append front (added ++ back)
-        ∙ ap (λ l. map root_of front ++ l) (roots_append added back)) in
-        let b : count_in new k n (map root_of old) ≡ count_in new k n (map root_of front ++ map root_of back) =
-        ap (count_in new k n) (roots_append front back) in
-        let c = count_append new k n (map root_of front) (map root_of added ++ map root_of back) in
-        let d = count_append new k n (map root_of added) (map root_of back) in
-        let e = count_append new k n (map root_of front) (map root_of back) in
-        omega arith
+    roots n = grind (arith, common_steps, roots_append, count_append)
 
     parts : (n : ℕ) → count_in new k n (points new) ≡ count_in new k n (points old) + count_in new k n (points added)
     parts n =
@@ -328,18 +319,7 @@ mount_is_placed world after front back old new filesystems locations were are nu
     parts : (n : ℕ) (mount : Mount ℕ) → count_in olds k n (points (front ++ (mount ∷ back)))
         ≡ (count_in olds k n (points front) + count_in olds k n (option_to_list mount.mount_point)) + count_in olds k n
         (points back)
-    parts n mount = ap (count_in olds k n) (points_append front (mount ∷ back)) ∙ by mount.mount_point
-      where
-        by : (o : Option (Location ℕ)) → count_in olds k n (points front ++ cons_option o (points back))
-            ≡ (count_in olds k n (points front) + count_in olds k n (option_to_list o)) + count_in olds k n
-            (points back)
-        by None = let a = count_append olds k n (points front) (points back) in let none : count_in olds k n [] ≡ 0 =
-            refl in omega arith
-        by (Some place) =
-            let a = count_append olds k n (points front) (place ∷ points back) in
-            let b : count_in olds k n (place ∷ points back) ≡ count_in olds k n (place ∷ []) + count_in olds k n
-            (points back) = count_append olds k n (place ∷ []) (points back) in
-            omega arith
+    parts n mount = grind (arith, common_steps, points_append, count_append)
 
 -- Exchanges
 
@@ -378,20 +358,10 @@ exchanged_times test front one other back =
     let c = times_append test front (other ++ back) in let d = times_append test other back in omega arith
 
 pub locations_use_mounts : LocationsUseMounts
-locations_use_mounts world after gained lost front back was is number =
-    (λ i. times (λ (location : Location ℕ). nat_eq number location.mount) (was i) + times
-    (λ (location : Location ℕ). nat_eq number location.mount) gained)
-    ∙ exchanged_times (λ (location : Location ℕ). nat_eq number location.mount) front lost gained back
-    ∙ (λ i. times (λ (location : Location ℕ). nat_eq number location.mount) (sym is i) + times
-    (λ (location : Location ℕ). nat_eq number location.mount) lost)
+locations_use_mounts world after gained lost front back was is number = grind (arith, common_steps, exchanged_times)
 
 pub mounts_use_filesystems : MountsUseFilesystems
-mounts_use_filesystems world after gained lost front back was is number =
-    (λ i. times (λ (mount : Mount ℕ). nat_eq number mount.filesystem) (was i) + times
-    (λ (mount : Mount ℕ). nat_eq number mount.filesystem) gained)
-    ∙ exchanged_times (λ (mount : Mount ℕ). nat_eq number mount.filesystem) front lost gained back
-    ∙ (λ i. times (λ (mount : Mount ℕ). nat_eq number mount.filesystem) (sym is i) + times
-    (λ (mount : Mount ℕ). nat_eq number mount.filesystem) lost)
+mounts_use_filesystems world after gained lost front back was is number = grind (arith, common_steps, exchanged_times)
 
 -- A new tree, where no overlay has a layer in it
 pub new_tree_counts : (world : World ℕ) (number root : ℕ) → layers_in nat_eq world number ≡ []
@@ -439,16 +409,7 @@ new_tree_counts world number root no_layers no_objects one own outside = record 
             (cond b (root_of first ∷ filter (shown world.mounts number n) (map root_of rest))
             (filter (shown world.mounts number n) (map root_of rest))))
             ≡ cond (nat_eq n root) (cond b 1 0 + times (λ mount. nat_eq number mount.filesystem) rest) 0
-        by true same later = ap (λ r. one_if n r + count_in world.mounts number n (map root_of rest))
-            (sym (eqb-true root first.root same)) ∙ (λ i. one_if n root + later i)
-            ∙ add (nat_eq n root) (times (λ mount. nat_eq number mount.filesystem) rest)
-          where
-            add : (b : Bool) (m : ℕ) → cond b 1 0 + cond b m 0 ≡ cond b (1 + m) 0
-            add true m = refl
-            add false m = refl
-        by false same later = later ∙ ap (λ m. cond (nat_eq n root) m 0)
-            (let e : times (λ (mount : Mount ℕ). nat_eq number mount.filesystem) rest
-            ≡ 0 + times (λ (mount : Mount ℕ). nat_eq number mount.filesystem) rest = omega arith in e)
+        by b same later = grind (arith, common_steps, one_if, eqb-true)
 
     locs : List (Location ℕ)
     locs = all_locations world

@@ -1,13 +1,14 @@
 -- The sweep after a change of one plain tree, where inodes count their uses.
-use Rattle.std.proofs.Common.{◌≡◌, ◌≢◌, refl, sym, ap, subst, ◌∙◌, ⊎_elim, inl, inr, ℕ, ◌+◌, ◌≤◌, nat_eq, eqb-true, eq-eqb, ne_eqb, Bool, true, false, true≢false, cond, not, ◌||◌, List, [], ◌∷◌, ◌++◌, map, filter, find, flat_map, Option, Some, None, is_some, option_map, unwrap_or, arith}
+use Rattle.std.proofs.lemmas.Grind.{common_steps}
+use Rattle.std.proofs.Common.{◌≡◌, ◌≢◌, refl, sym, ap, subst, ◌∙◌, ⊎_elim, inl, inr, ℕ, ◌+◌, ◌≤◌, nat_eq, eqb-true, eq-eqb, ne_eqb, Bool, true, false, true≢false, cond, not, ◌||◌, List, [], ◌∷◌, ◌++◌, map, filter, find, flat_map, Option, Some, None, is_some, unwrap_or, arith}
 use Rattle.std.specs.List.{list_all}
 use Rattle.std.proofs.lemmas.Bool.{or_cases}
 use Rattle.vt_spec.specs.FileTree.{FileTree, targets_in}
 use Rattle.vt_spec.specs.Lists.{any_pair, is_among}
 use Rattle.vt_spec.specs.Machine.Filesystems.{with_files}
 use Rattle.vt_spec.specs.Machine.Locked.{of_overlay, overlay_or}
-use Rattle.vt_spec.specs.Machine.Settled.{filesystem_lives, layers_in, located_in, named_in, objects_of_overlay, only_among, only_used, only_used_by, real_among, settled, used_in, without_dead_filesystems, without_dead_groups, without_dead_in, without_dead_inodes, without_dead_mounts}
-use Rattle.vt_spec.specs.Machine.World.{Filesystem, Overlay, World, filesystem_numbered, is_overlay, layers_of, no_filesystem, replaced_if_numbered}
+use Rattle.vt_spec.specs.Machine.Settled.{filesystem_lives, layers_in, located_in, named_in, objects_of_overlay, only_among, only_used, only_used_by, settled, used_in, without_dead_filesystems, without_dead_groups, without_dead_in, without_dead_inodes, without_dead_mounts}
+use Rattle.vt_spec.specs.Machine.World.{Filesystem, World, filesystem_numbered, is_overlay, layers_of, no_filesystem, replaced_if_numbered}
 use Rattle.vt_spec.specs.Inodes.{Inode, Inodes, node_in, uses_in}
 use Rattle.vt_spec.specs.Tree.{Node}
 use Rattle.vt_laws_mounts.specs.LettingGo.Counts.{inode_uses, times}
@@ -39,27 +40,7 @@ pub uses_split : (world : World ℕ) (f : Filesystem ℕ) (n : ℕ) → inode_us
     (((times_in n (named_in f.files) + times_in n (located_in nat_eq world f.number))
     + times_in n (layers_in nat_eq world f.number)) + times_in n
     (flat_map (objects_of_overlay nat_eq f.number) world.filesystems))
-uses_split world f n =
-    let one : times_in n (((named ++ located) ++ layers) ++ objects) ≡ times_in n
-    ((named ++ located) ++ layers) + times_in n objects = times_append n ((named ++ located) ++ layers) objects in
-    let two : times_in n ((named ++ located) ++ layers) ≡ times_in n (named ++ located) + times_in n layers =
-    times_append n (named ++ located) layers in
-    let three : times_in n (named ++ located) ≡ times_in n named + times_in n located = times_append n named located in
-    let split : times_in n (used_in nat_eq world f) ≡ one_if n f.files.tree.root + times_in n
-    (((named ++ located) ++ layers) ++ objects) = refl in
-    omega arith
-  where
-    named : List ℕ
-    named = named_in f.files
-
-    located : List ℕ
-    located = located_in nat_eq world f.number
-
-    layers : List ℕ
-    layers = layers_in nat_eq world f.number
-
-    objects : List ℕ
-    objects = flat_map (objects_of_overlay nat_eq f.number) world.filesystems
+uses_split world f n = grind (arith, common_steps, times_in, times_append, one_if)
 
 -- Names aside: the root, locations, layers, and objects of overlays.
 
@@ -301,15 +282,7 @@ module _ (world : World ℕ) (number : ℕ) (files : FileTree ℕ) (in_use : All
   objects_kept : (some : FileTree ℕ) (k : ℕ)
       → flat_map (objects_of_overlay nat_eq k) (with_tree world number some).filesystems
       ≡ flat_map (objects_of_overlay nat_eq k) world.filesystems
-  objects_kept some k =
-      flat_map-step (replaced_if_numbered nat_eq (with_files old some)) (objects_of_overlay nat_eq k) world.filesystems
-      (λ f m. by f m (nat_eq old.number f.number) refl)
-    where
-      by : (f : Filesystem ℕ) → Among f world.filesystems → (b : Bool) → nat_eq old.number f.number ≡ b
-          → objects_of_overlay nat_eq k (cond b (with_files old some) f) ≡ objects_of_overlay nat_eq k f
-      by f m true e = no_objects world k (with_files old some) plain
-          ∙ sym (no_objects world k f (ap is_overlay (is_old f m e) ∙ plain))
-      by f m false e = refl
+  objects_kept some k = grind (arith, common_steps, flat_map-step, no_objects, is_old)
 
   -- so no mount and no filesystem goes
   same_living : without_dead_filesystems nat_eq (without_dead_mounts nat_eq raw) ≡ raw
@@ -390,20 +363,7 @@ module _ (world : World ℕ) (number : ℕ) (files : FileTree ℕ) (in_use : All
             (passes (λ n. is_among nat_eq n used) files.numbers all))
 
     step_new : step new ≡ with_files old swept
-    step_new = ap (λ b. only_used nat_eq raw (not b) new) plain
-        ∙ by (list_all (λ n. is_among nat_eq n used) files.numbers) refl
-      where
-        no_real : (o : Option (Overlay ℕ)) → is_some o ≡ false → option_map (real_among nat_eq used) o ≡ o
-        no_real None e = refl
-        no_real (Some overlay) e = cc
-
-        by : (b : Bool) → list_all (λ n. is_among nat_eq n used) files.numbers ≡ b
-            → only_used_by nat_eq b used new ≡ with_files old swept
-        by true e = ap (with_files old) (all_kept e)
-        by false e = λ i. record old {
-          files = swept;
-          overlay = no_real old.overlay plain i;
-        }
+    step_new = grind (arith, common_steps, all_kept)
 
     inodes_swept : without_dead_in nat_eq (λ f. not (is_overlay f)) raw ≡ done
     inodes_swept = ap (λ filesystems. record world { filesystems = filesystems })

@@ -17,7 +17,7 @@ use Rattle.vt_laws_mounts.specs.LettingGo.EndingTasks.{EntersLetGo, EntersWithOv
 use Rattle.vt_laws_mounts.specs.LettingGo.InUse.{AllInUse, GroupsInUse}
 use Rattle.vt_laws_mounts.specs.LettingGo.Keeping.{LocationsStand}
 use Rattle.vt_laws_mounts.specs.LettingGo.Unmounting.{groups_of_mounts}
-use Rattle.vt_laws_mounts.specs.LettingGo.Leaving.{IsSettledPlain, MountsStand, is_location_among, only_these_are_left}
+use Rattle.vt_laws_mounts.specs.LettingGo.Leaving.{IsSettledPlain, MountsStand, only_these_are_left}
 use Rattle.vt_laws_mounts.specs.LettingGo.LeavingOverlays.{IsSettled}
 use Rattle.vt_laws_mounts.specs.LettingGo.Mounting.{ended_mounts, loses_its_place, places_lost}
 use Rattle.vt_laws_mounts.specs.LettingGo.OneByOne.{GroupsInUseBut, let_go}
@@ -119,12 +119,7 @@ module _ (world : World ℕ) (all : List (Mount ℕ)) (tasks : List (Task ℕ)) 
       → is_going nat_eq ended number ≡ false
       → (other : Mount ℕ) → Among other last.mounts → other.number ≡ number → is_some other.namespace ≡ true
   on_attached number in_one isnt other m e =
-      let from = among-from_map change all other m in
-      let same : from.0.number ≡ number = sym (number_kept from.0) ∙ ap (λ (x : Mount ℕ). x.number) (sym from.2) ∙ e in
-      ap (λ (x : Mount ℕ). is_some x.namespace) from.2 ∙ attached_still from.0 (ap (is_going nat_eq ended) same ∙ isnt)
-      (⊎_elim
-      (λ was. ap (λ (x : Mount ℕ). is_some x.namespace) (sym (found_itself world.mounts stand.one_number from.0 was)
-      ∙ ap (mount_in nat_eq world.mounts) same) ∙ in_one) (λ is. is) (new from.0 from.1))
+      grind (arith, common_steps, among-from_map, number_kept, attached_still, found_itself)
 
   place_still : (mount : Mount ℕ) → Among mount world.mounts → (at : Location ℕ) → mount.mount_point ≡ Some at
       → StillAPlace last.mounts gone at ⊎ Among at (places_lost world ended ++ left)
@@ -230,12 +225,7 @@ module _ (world : World ℕ) (all : List (Mount ℕ)) (tasks : List (Task ℕ)) 
 left_or_still : (world : World ℕ) (tasks : List (Task ℕ)) (left : List (Location ℕ))
     → only_these_are_left world tasks left ≡ true → (location : Location ℕ) → Among location (all_locations world)
     → Among location (flat_map locations_of tasks) ⊎ Among location left
-left_or_still world tasks left only location m =
-    ⊎_elim (λ there. inl (is_it (flat_map locations_of tasks) location there))
-    (λ gone_from. inr (is_it left location gone_from))
-    (or_cases (is_location_among (flat_map locations_of tasks) location) (is_location_among left location)
-    (passes (λ l. is_location_among (flat_map locations_of tasks) l || is_location_among left l)
-    (all_locations world) only location m))
+left_or_still world tasks left only location m = grind (arith, common_steps, is_it, or_cases, passes)
 
 pub leaving_namespaces_lets_go : LeavingNamespacesLetsGo
 leaving_namespaces_lets_go world tasks left settles only =

@@ -1,11 +1,10 @@
 -- What goes when a mount leaves its place.
-use Rattle.std.proofs.Common.{arith, ◌≡◌, refl, sym, ap, ◌∙◌, ◌⊎◌, inl, ⊎_elim, ℕ, nat_eq, eqb-true, eq-eqb, Bool, true, false, cond, not, ◌||◌, List, [], ◌∷◌, find, map, true≢false, Option, Some, None, option_map, option_to_list, unwrap_or}
+use Rattle.std.proofs.Common.{arith, ◌≡◌, refl, ap, ◌∙◌, ◌⊎◌, inl, ℕ, nat_eq, eqb-true, eq-eqb, Bool, true, false, cond, not, ◌||◌, List, [], ◌∷◌, find, map, true≢false, Option, Some, None, option_to_list, unwrap_or}
 use Rattle.std.proofs.lemmas.Grind.{common_steps}
 use Rattle.std.specs.List.{list_all}
 use Rattle.std.proofs.lemmas.Bool.{and_parts, not-true}
 use Rattle.vt_spec.specs.Machine.Detach.{after_going, going_at, going_from, has_child, mount_point_left, taken_away, unmounted}
-use Rattle.vt_spec.specs.Lists.{holds_of}
-use Rattle.vt_spec.specs.Machine.Mounts.{Location, Mount, detached, is_shared, mount_in, no_mount, stands_on}
+use Rattle.vt_spec.specs.Machine.Mounts.{Location, Mount, detached, is_shared, mount_in, no_mount}
 use Rattle.vt_spec.specs.Machine.Receives.{regrouped}
 use Rattle.vt_spec.specs.Machine.World.{World, mount_at, mount_numbered, with_mounts}
 use Rattle.vt_laws_mounts.specs.LettingGo.Detaching.{StandsUnshared, UnmountIsOfOne, detached_if, without_place}
@@ -21,19 +20,7 @@ module _ (world : World ℕ) (number : ℕ) (alone : has_child nat_eq world numb
 
   one_by_one : (mount : Mount ℕ) → Among mount world.mounts
       → after_going nat_eq world (number ∷ []) mount ≡ detached_if number mount
-  one_by_one mount m = by (nat_eq mount.number number)
-    where
-      keeps : (o : Option (Location ℕ)) → mount.mount_point ≡ o
-          → option_map (mount_point_left nat_eq world (number ∷ [])) o ≡ o
-      keeps None e = refl
-      keeps (Some place) e = ap Some (stays_at place (sym (ap (holds_of (λ l. nat_eq number l.mount)) e)
-          ∙ fails (stands_on nat_eq number) world.mounts alone mount m))
-
-      by : (b : Bool) → cond (b || false) (detached mount)
-          (record mount { mount_point = option_map (mount_point_left nat_eq world (number ∷ [])) mount.mount_point })
-          ≡ cond b (detached mount) mount
-      by true = refl
-      by false = ap (λ place. record mount { mount_point = place }) (keeps mount.mount_point refl)
+  one_by_one mount m = grind (arith, common_steps, stays_at, fails)
 
   goes_alone : StandsUnshared world number
       → unmounted nat_eq world number ≡ regrouped nat_eq (without_place world number)
@@ -78,14 +65,7 @@ found-map change same (first ∷ rest) number mount m e f =
         (no_mount number)
         ≡ change (unwrap_or (cond (nat_eq number first.number) (Some first) (find (λ x. nat_eq number x.number) rest))
         (no_mount number))
-    by true g later n h = ap (λ b.
-        change (unwrap_or (cond b (Some first) (find (λ x. nat_eq number x.number) rest)) (no_mount number))) (sym g)
-    by false g later n h = later
-        (⊎_elim (λ is. absurd (true≢false (sym (eq-eqb number first.number (sym f ∙ ap (λ x. x.number) is)) ∙ g)))
-        (λ l. l) n)
-        (sym (ap (λ b. unwrap_or (cond b (Some first) (find (λ x. nat_eq number x.number) rest)) (no_mount number)) g)
-        ∙ h) ∙ ap (λ b. change (unwrap_or (cond b (Some first) (find (λ x. nat_eq number x.number) rest))
-        (no_mount number))) (sym g)
+    by b g later n h = grind (arith, common_steps, true≢false, eq-eqb)
 
 -- where none has the number, none has it after the change
 pub not_found-map : (change : Mount ℕ → Mount ℕ) → ((mount : Mount ℕ) → (change mount).number ≡ mount.number)

@@ -1,5 +1,5 @@
 -- What calls that change plain trees let go of.
-use Rattle.std.proofs.Common.{arith, ◌≡◌, refl, sym, ap, subst, ◌∙◌, ◌⊎◌, inl, inr, ⊎_elim, ℕ, nat_eq, Bool, true, false, cond, ◌||◌, List, [], ◌∷◌, flat_map, map, true≢false, Option, Some, None, is_some, option_to_list}
+use Rattle.std.proofs.Common.{arith, ◌≡◌, refl, sym, ap, subst, ◌∙◌, ◌⊎◌, inl, inr, ⊎_elim, ℕ, nat_eq, true, false, cond, ◌||◌, List, [], ◌∷◌, flat_map, map, true≢false, Option, Some, None, is_some, option_to_list}
 use Rattle.std.proofs.lemmas.Grind.{common_steps}
 use Rattle.std.proofs.lemmas.Bool.{or_parts}
 use Rattle.std.specs.Cmp.Lexicographic.{bytes_decides}
@@ -236,14 +236,8 @@ inserted_keeps new (first ∷ rest) d m = grind (arith, common_steps, inserted_k
 
 with_descriptor_keeps : (task : Task ℕ) (file : Location ℕ) (access : Access) (location : Location ℕ)
     → Among location (locations_of task) → Among location (locations_of (with_descriptor task file access))
-with_descriptor_keeps task file access location (inl e) = inl e
-with_descriptor_keeps task file access location (inr (inl e)) = inr (inl e)
-with_descriptor_keeps task file access location (inr (inr l)) =
-    let from = among-from_map (λ (d : Descriptor ℕ). d.location) task.descriptors location l in
-    inr (inr (subst (λ x. Among x (map (λ (d : Descriptor ℕ). d.location)
-    (with_descriptor task file access).descriptors)) (sym from.2)
-    (among-map (λ (d : Descriptor ℕ). d.location) (with_descriptor task file access).descriptors from.0
-    (inserted_keeps _ task.descriptors from.0 from.1))))
+with_descriptor_keeps task file access location known =
+    grind (arith, common_steps, among-from_map, among-map, inserted_keeps)
 
 -- a task that goes to other locations leaves no location of another task
 pub replaced_leaves : (world : World ℕ) (task new : Task ℕ) (left : List (Location ℕ))
@@ -268,14 +262,7 @@ replaced_leaves world task new left one there called keeps =
 
     stays : (other : Task ℕ) → Among other world.tasks → (location : Location ℕ) → Among location (locations_of other)
         → Among location (locations_of (replaced_if_called new other)) ⊎ Among location left
-    stays other m location n = by (same_name new.name other.name) refl
-      where
-        by : (b : Bool) → same_name new.name other.name ≡ b
-            → Among location (locations_of (cond b new other)) ⊎ Among location left
-        by true e = keeps location (subst (λ t. Among location (locations_of t))
-            (sym (one_task world.tasks one task other there m
-            (ap (λ name. same_name name other.name) (sym called) ∙ e))) n)
-        by false e = inl n
+    stays other m location n = grind (arith, common_steps, one_task)
 
 pub none_left : (world : World ℕ) (task : Task ℕ) (file : Location ℕ) (access : Access)
     → any_pair (λ (a b : Task ℕ). same_name a.name b.name) world.tasks ≡ false

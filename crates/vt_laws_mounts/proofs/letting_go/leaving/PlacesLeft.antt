@@ -1,5 +1,5 @@
 -- What goes when tasks leave places.
-use Rattle.std.proofs.Common.{arith, ◌≡◌, refl, sym, ap, subst, ◌∙◌, ◌⊎◌, inl, inr, ⊎_elim, ℕ, nat_eq, eqb-true, eq-eqb, Bool, true, false, cond, ◌||◌, ◌&&◌, List, [], ◌∷◌, filter, find, map, true≢false, flat_map, ◌++◌, Option, Some, None, is_some, unwrap_or, option_to_list}
+use Rattle.std.proofs.Common.{arith, ◌≡◌, refl, sym, ap, subst, ◌∙◌, ◌⊎◌, inl, inr, ⊎_elim, ℕ, nat_eq, eqb-true, eq-eqb, Bool, true, false, cond, ◌||◌, ◌&&◌, List, [], ◌∷◌, filter, find, map, true≢false, flat_map, ◌++◌, Some, is_some, unwrap_or, option_to_list}
 use Rattle.std.proofs.lemmas.Grind.{common_steps}
 use Rattle.std.specs.Prelude.{filter_map}
 use Rattle.std.specs.List.{list_all, list_any}
@@ -8,9 +8,9 @@ use Rattle.vt_spec.specs.Lists.{any_pair, is_among}
 use Rattle.vt_spec.specs.Machine.Mounts.{Location, Mount, mount_in, no_mount, root_of, same_location}
 use Rattle.vt_spec.specs.Machine.Receives.{is_member_of}
 use Rattle.vt_spec.specs.Machine.Invariants.{is_nowhere_or_attached, is_private}
-use Rattle.vt_spec.specs.Machine.Locked.{of_overlay, overlay_or}
+use Rattle.vt_spec.specs.Machine.Locked.{of_overlay}
 use Rattle.vt_spec.specs.Machine.Settled.{filesystem_lives, has_layer_on, is_located, is_mounted, layers_in, located_in, mount_lives, named_in, objects_of_overlay, without_dead_filesystems, without_dead_mounts}
-use Rattle.vt_spec.specs.Machine.World.{Filesystem, Overlay, Task, World, all_locations, is_overlay, layers_of, mount_at}
+use Rattle.vt_spec.specs.Machine.World.{Filesystem, Task, World, all_locations, is_overlay, layers_of, mount_at}
 use Rattle.vt_laws_mounts.specs.LettingGo.InUse.{AllInUse, is_inode_used}
 use Rattle.vt_laws_mounts.specs.LettingGo.Leaving.{LeavingLetsGo, MountsStand, StayingKeepsAll, comes_nowhere, inodes_of_location, is_location_among, only_these_are_left, stands_on_attached, used_by_locations, with_tasks}
 use Rattle.vt_laws_mounts.specs.LettingGo.OneByOne.{FilesystemsInUseBut, GroupsInUseBut, InodesInUseBut, IsPlain, Losers, MountsInUseBut, is_inode_among, is_used_or_among}
@@ -45,13 +45,7 @@ found_in_filter stays (first ∷ rest) number h = by (nat_eq number first.number
         → mount_in nat_eq (filter stays rest) number ≡ mount_in nat_eq rest number
         → mount_in nat_eq (cond c (first ∷ filter stays rest) (filter stays rest)) number
         ≡ unwrap_or (cond b (Some first) (find (λ x. nat_eq number x.number) rest)) (no_mount number)
-    by true e true f later = ap (λ b.
-        unwrap_or (cond b (Some first) (find (λ x. nat_eq number x.number) (filter stays rest))) (no_mount number)) e
-    by true e false f later = absurd (true≢false (sym (h first (inl refl) (sym (eqb-true number first.number e))) ∙ f))
-    by false e true f later = ap (λ b.
-        unwrap_or (cond b (Some first) (find (λ x. nat_eq number x.number) (filter stays rest)))
-        (no_mount number)) e ∙ later
-    by false e false f later = later
+    by b e c f later = grind (arith, common_steps, true≢false, eqb-true)
 
 -- a mount in a namespace that is found is there
 pub found_is_there : (mounts : List (Mount ℕ)) (number : ℕ) → is_some (mount_in nat_eq mounts number).namespace ≡ true
@@ -101,30 +95,11 @@ pub no_layers : (number : ℕ) (other : World ℕ) (filesystems : List (Filesyst
     → list_any is_overlay filesystems ≡ false
     → list_any (λ merged. has_layer_on nat_eq number merged && is_mounted nat_eq other merged.number) filesystems
     ≡ false
-no_layers number other filesystems plain =
-    none_passes (λ merged. has_layer_on nat_eq number merged && is_mounted nat_eq other merged.number) filesystems
-    (λ merged m. by merged (fails is_overlay filesystems plain merged m))
-  where
-    by : (merged : Filesystem ℕ) → is_overlay merged ≡ false
-        → (has_layer_on nat_eq number merged && is_mounted nat_eq other merged.number) ≡ false
-    by merged e = ap (λ b. b && is_mounted nat_eq other merged.number) (none merged.overlay e)
-      where
-        none : (o : Option (Overlay ℕ)) → is_some o ≡ false
-            → overlay_or false (λ overlay. list_any (λ layer. nat_eq number layer.filesystem) (layers_of overlay)) o
-            ≡ false
-        none None f = refl
-        none (Some overlay) f = absurd (true≢false f)
+no_layers number other filesystems plain = grind (arith, common_steps, none_passes, fails, true≢false)
 
 -- nor has it layers or objects
 pub no_layers_of : (world : World ℕ) → IsPlain world → (number : ℕ) → layers_in nat_eq world number ≡ []
-no_layers_of world plain number =
-    ap (λ layers. map (λ layer. layer.directory) (filter (λ layer. nat_eq number layer.filesystem) layers))
-    (flat_map_none (of_overlay [] layers_of) world.filesystems
-    (λ f m. none f.overlay (fails is_overlay world.filesystems plain f m)))
-  where
-    none : (o : Option (Overlay ℕ)) → is_some o ≡ false → overlay_or [] layers_of o ≡ []
-    none None e = refl
-    none (Some overlay) e = absurd (true≢false e)
+no_layers_of world plain number = grind (arith, common_steps, flat_map_none, fails, true≢false)
 
 -- In a world of plain filesystems an inode is used as the root, by a name, or at a place.
 pub plain_uses : (world : World ℕ) → IsPlain world → (filesystem : Filesystem ℕ) (number : ℕ)
@@ -211,13 +186,7 @@ module _ (world : World ℕ) (tasks : List (Task ℕ)) (left : List (Location �
 
   pub mounts_but : MountsInUseBut losers.mounts after
   mounts_but =
-      all_pass (λ mount. is_among nat_eq mount.number losers.mounts || mount_lives nat_eq after mount) world.mounts
-      (λ mount m. ⊎_elim (λ lives. or_second (is_among nat_eq mount.number losers.mounts)
-      (mount_lives nat_eq after mount) lives) (λ dead. let gone = dead_was_left mount m dead in
-      or_first (is_among nat_eq mount.number losers.mounts) (mount_lives nat_eq after mount)
-      (ap (λ n. is_among nat_eq n losers.mounts) gone.2
-      ∙ is_among_numbers gone.0.mount losers.mounts (among-map (λ l. l.mount) left gone.0 gone.1)))
-      (cases_Bool (mount_lives nat_eq after mount)))
+      grind (arith, common_steps, all_pass, or_second, dead_was_left, or_first, is_among_numbers, among-map, cases_Bool)
 
   filesystems_but : IsPlain world → FilesystemsInUseBut losers.filesystems mounted
   filesystems_but plain = all_pass (λ filesystem. is_among nat_eq filesystem.number losers.filesystems
@@ -359,17 +328,8 @@ module _ (world : World ℕ) (tasks : List (Task ℕ)) (left : List (Location �
     -- what the world used is used still, or may go
     by_use : IsPlain world → (number : ℕ) → is_inode_used world filesystem number ≡ true
         → is_used_or_among losers.inodes swept filesystem number ≡ true
-    by_use plain number is_used = ⊎_elim (λ root. or_second (is_inode_among filesystem.number number losers.inodes) _
-        (or_first (nat_eq number filesystem.files.tree.root) _ (eq-eqb number filesystem.files.tree.root root)))
-        (λ rest. ⊎_elim (λ named. or_second (is_inode_among filesystem.number number losers.inodes) _
-        (or_second (nat_eq number filesystem.files.tree.root) _
-        (is_among_left number (named_in filesystem.files ++ located_in nat_eq swept filesystem.number
-        ++ layers_in nat_eq swept filesystem.number)
-        (flat_map (objects_of_overlay nat_eq filesystem.number) swept.filesystems)
-        (is_among_left number (named_in filesystem.files ++ located_in nat_eq swept filesystem.number)
-        (layers_in nat_eq swept filesystem.number)
-        (is_among_left number (named_in filesystem.files) (located_in nat_eq swept filesystem.number) named)))))
-        (by_located number) rest) (plain_uses world plain filesystem number is_used)
+    by_use plain number is_used =
+        grind (arith, common_steps, or_second, or_first, eq-eqb, is_among_left, by_located, plain_uses)
 
   inodes_but : IsPlain world → InodesInUseBut losers.inodes living
   inodes_but plain =

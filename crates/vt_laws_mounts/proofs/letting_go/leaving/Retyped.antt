@@ -6,7 +6,7 @@ use Rattle.std.proofs.lemmas.Bool.{false_from_ne_true, or_parts, cases_Bool}
 use Rattle.std.proofs.lemmas.List.Folds.{list_any-append}
 use Rattle.vt_spec.specs.Language.Calls.{TypeWord}
 use Rattle.vt_spec.specs.Lists.{Fresh, holds_of, is_among}
-use Rattle.vt_spec.specs.Machine.Mounts.{Location, Mount, Propagation, children, group_of, mount_in, numbers_by, root_of, stands_on, tree_from}
+use Rattle.vt_spec.specs.Machine.Mounts.{Location, Mount, Propagation, children, mount_in, numbers_by, root_of, stands_on, tree_from}
 use Rattle.vt_spec.specs.Machine.Mounts.Propagation.{Private, Shared, Slave, Unbindable}
 use Rattle.vt_spec.specs.Machine.Receives.{heir, inherited, inheriting, is_member_of, lost_a_group, regrouped_by}
 use Rattle.vt_spec.specs.Machine.Settled.{mount_lives, settled}
@@ -159,10 +159,7 @@ module _ (fresh : Fresh ℕ) (world : World ℕ) (number : ℕ) (word : TypeWord
     locations = λ location m. inl (inl m);
     places = λ mount m place p. inl (
       change b mount,
-      (
-        among-map (change b) world.mounts mount m,
-        (keeps (λ x. x.mount_point) (λ x kind. refl) b mount ∙ p, inl refl),
-      ),
+      (among-map (change b) world.mounts mount m, (keeps (λ x. x.mount_point) (λ x kind. refl) b mount ∙ p, inl refl)),
     );
     nowhere = all_pass is_nowhere_or_attached (last b).mounts (λ x m.
         let from = among-from_map (change b) world.mounts x m in
@@ -174,26 +171,17 @@ module _ (fresh : Fresh ℕ) (world : World ℕ) (number : ℕ) (word : TypeWord
 
   unnamed_member : (b : Bool) (mount : Mount ℕ) → is_among nat_eq mount.number numbers ≡ false → (one : ℕ)
       → is_member_of nat_eq one mount ≡ true → is_member_of nat_eq one (change b mount) ≡ true
-  unnamed_member b mount isnt one is = by b
-    where
-      same : retype mount ≡ mount
-      same = unnamed_stays mount (false_from_ne_true (is_named mount) (λ h.
-          let t = one_passes (λ other. nat_eq mount.number other.number) named h in
-          true≢false (sym (is_among_numbers mount.number numbers
-          (subst (λ n. Among n numbers) (sym (eqb-true mount.number t.0.number t.2))
-          (among-map (λ (x : Mount ℕ). x.number) named t.0 t.1))) ∙ isnt)))
-
-      shared : (kind : Propagation ℕ) → holds_of (nat_eq one) (group_of kind) ≡ true
-          → holds_of (nat_eq one) (group_of (inherited nat_eq base kind)) ≡ true
-      shared (Shared own) e = e
-      shared (Slave up) e = absurd (true≢false (sym e))
-      shared Private e = absurd (true≢false (sym e))
-      shared Unbindable e = absurd (true≢false (sym e))
-
-      by : (c : Bool) → is_member_of nat_eq one (change c mount) ≡ true
-      by true = ap (λ (x : Mount ℕ). holds_of (nat_eq one) (group_of (inherited nat_eq base x.propagation))) same
-          ∙ shared mount.propagation is
-      by false = ap (is_member_of nat_eq one) same ∙ is
+  unnamed_member b mount isnt one is = grind (
+    arith,
+    common_steps,
+    unnamed_stays,
+    false_from_ne_true,
+    one_passes,
+    true≢false,
+    is_among_numbers,
+    eqb-true,
+    among-map,
+  )
 
   no_master : (b : Bool) (one : ℕ) → is_among nat_eq one (map (λ mount. group mount.number) named) ≡ false
       → world.master one ≡ None → masters b one ≡ None

@@ -10,7 +10,7 @@ use Rattle.vt_spec.specs.Lists.{any_pair, is_among}
 use Rattle.vt_spec.specs.Machine.Detach.{taken_away}
 use Rattle.vt_spec.specs.Machine.Filesystems.{with_files}
 use Rattle.vt_spec.specs.Machine.Locked.{of_overlay}
-use Rattle.vt_spec.specs.Machine.Settled.{filesystem_lives, has_layer_on, is_mounted, layers_in, located_in, named_in, objects_of_overlay, settled, without_dead_filesystems, without_dead_mounts}
+use Rattle.vt_spec.specs.Machine.Settled.{filesystem_lives, has_layer_on, layers_in, located_in, named_in, objects_of_overlay, settled, without_dead_filesystems, without_dead_mounts}
 use Rattle.vt_spec.specs.Machine.World.{Filesystem, World, filesystem_numbered, is_overlay, layers_of, replaced_if_numbered}
 use Rattle.vt_laws_mounts.specs.LettingGo.InUse.{FilesystemsInUse, HasTrees, IsListedTree, UppersArePlain, has_upper_in, is_inode_used}
 use Rattle.vt_laws_mounts.specs.LettingGo.LeavingOverlays.{IsSettled, used_with_layers}
@@ -53,13 +53,7 @@ module _ (world : World ℕ) (change : Filesystem ℕ → Filesystem ℕ)
 
   pub lives_alike : (f : Filesystem ℕ) → Among f world.filesystems
       → filesystem_lives nat_eq (with_filesystems world change) (change f) ≡ filesystem_lives nat_eq world f
-  lives_alike f m = ap (λ n. is_mounted nat_eq world n
-      || list_any (λ merged. has_layer_on nat_eq n merged && is_mounted nat_eq world merged.number)
-      (map change world.filesystems)) (number_kept f m) ∙ ap (λ b. is_mounted nat_eq world f.number || b)
-      (any_changed change (λ merged. has_layer_on nat_eq f.number merged && is_mounted nat_eq world merged.number)
-      (λ merged. has_layer_on nat_eq f.number merged && is_mounted nat_eq world merged.number) world.filesystems (λ g n.
-      ap (λ b. b && is_mounted nat_eq world (change g).number) (same_layers_on f.number g n)
-      ∙ ap (λ k. has_layer_on nat_eq f.number g && is_mounted nat_eq world k) (number_kept g n)))
+  lives_alike f m = grind (arith, common_steps, any_changed, same_layers_on)
 
 -- In a world in which all but some is in use, all but those and what lost its last name or overlay is in use then
 module _ (world : World ℕ) (losers : Losers) (but : AllInUseBut losers world) (change : Filesystem ℕ → Filesystem ℕ)
@@ -247,12 +241,7 @@ module _ (world : World ℕ) (losers : Losers) (but : AllInUseBut losers world) 
       (inode_after from.0 from.1)))
 
   pub all_but_changed : AllInUseBut (with_lost losers lost) after
-  all_but_changed = record {
-    mounts = but.mounts;
-    filesystems = filesystems_but;
-    inodes = inodes_but;
-    groups = but.groups;
-  }
+  all_but_changed = grind (arith, common_steps, filesystems_but, inodes_but)
 
 module _ (world : World ℕ) (change : Filesystem ℕ → Filesystem ℕ) (lost : List Inode) (settles : IsSettled world)
     (trees : HasTrees (with_filesystems world change)) (uppers : UppersArePlain (with_filesystems world change))
@@ -313,25 +302,7 @@ no_real f plain number = grind (arith, common_steps, true≢false)
 
 -- a filesystem that does not change
 pub unchanged : (after : World ℕ) (lost : List Inode) (f : Filesystem ℕ) → ChangesFilesystem after lost f f
-unchanged after lost f = record {
-  number = refl;
-  root = refl;
-  layers = refl;
-  inodes = all_pass (λ k. is_among nat_eq k f.files.numbers || is_among nat_eq k (named_in f.files)
-      || is_among nat_eq k (upper_objects after f.number))
-      f.files.numbers (λ k m. or_first (is_among nat_eq k f.files.numbers || is_among nat_eq k (named_in f.files))
-      (is_among nat_eq k (upper_objects after f.number))
-      (or_first (is_among nat_eq k f.files.numbers) (is_among nat_eq k (named_in f.files))
-      (is_among_numbers k f.files.numbers m)));
-  names = all_pass (λ k. is_among nat_eq k (named_in f.files) || is_inode_among f.number k lost) (named_in f.files)
-      (λ k m.
-      or_first (is_among nat_eq k (named_in f.files)) (is_inode_among f.number k lost)
-      (is_among_numbers k (named_in f.files) m));
-  objects = λ number. all_pass (λ k. is_among nat_eq k (objects_of_overlay nat_eq number f)
-      || is_inode_among number k lost) (objects_of_overlay nat_eq number f)
-      (λ k m. or_first (is_among nat_eq k (objects_of_overlay nat_eq number f)) (is_inode_among number k lost)
-      (is_among_numbers k (objects_of_overlay nat_eq number f) m));
-}
+unchanged after lost f = grind (arith, common_steps, all_pass, or_first, is_among_numbers)
 
 module _ (world : World ℕ) (number : ℕ) (files : FileTree ℕ) (unnamed : List ℕ) (settles : IsSettled world)
     (one : any_pair (λ (a b : Filesystem ℕ). nat_eq a.number b.number) world.filesystems ≡ false)
@@ -417,25 +388,7 @@ module _ (world : World ℕ) (number : ℕ) (files : FileTree ℕ) (unnamed : Li
       (ap (λ b. b && nat_eq inode inode) (eq-eqb old.number number old_number) ∙ eq-eqb inode inode refl)
 
   of_old : (after : World ℕ) → ChangesFilesystem after without_name old new
-  of_old after = record {
-    number = refl;
-    root = changes.root;
-    layers = refl;
-    inodes = all_pass (λ k. is_among nat_eq k old.files.numbers || is_among nat_eq k (named_in files)
-        || is_among nat_eq k (upper_objects after new.number))
-        files.numbers (λ k m. or_first (is_among nat_eq k old.files.numbers || is_among nat_eq k (named_in files))
-        (is_among nat_eq k (upper_objects after new.number)) (passes (λ n. is_among nat_eq n old.files.numbers
-        || is_among nat_eq n (named_in files)) files.numbers changes.inodes k m));
-    names = all_pass (λ k. is_among nat_eq k (named_in files) || is_inode_among old.number k without_name)
-        (named_in old.files) (λ k m.
-        ⊎_elim (or_first (is_among nat_eq k (named_in files)) (is_inode_among old.number k without_name))
-        (λ lost. or_second (is_among nat_eq k (named_in files)) (is_inode_among old.number k without_name)
-        (lost_name k lost)) (or_cases (is_among nat_eq k (named_in files)) (is_among nat_eq k unnamed)
-        (passes (λ n. is_among nat_eq n (named_in files) || is_among nat_eq n unnamed)
-        (named_in old.files) changes.names k m)));
-    objects = λ target. ap (list_all (λ k. is_among nat_eq k (objects_of_overlay nat_eq target new)
-        || is_inode_among target k without_name)) (no_objects world target old plain);
-  }
+  of_old after = grind (arith, common_steps, all_pass, or_first, passes, or_second, lost_name, or_cases, no_objects)
 
   pub all_change : (after : World ℕ) → All (λ f. ChangesFilesystem after without_name f (swap f)) world.filesystems
   all_change after = all_from_among (λ f. ChangesFilesystem after without_name f (swap f)) world.filesystems

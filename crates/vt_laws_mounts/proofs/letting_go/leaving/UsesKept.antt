@@ -93,32 +93,10 @@ flags_are_of_one world here flags one = ap (with_mounts world)
     by : (mount : Mount ℕ) → Among mount world.mounts → (b : Bool) → nat_eq here.mount mount.number ≡ b
         → cond b (record (mount_at nat_eq world here) { flags = flags }) mount
         ≡ cond (nat_eq mount.number here.mount) (record mount { flags = flags }) mount
-    by mount m true e = ap (λ (x : Mount ℕ). record x { flags = flags })
-        (ap (mount_in nat_eq world.mounts) (eqb-true here.mount mount.number e) ∙ found_itself world.mounts one mount m)
-        ∙ ap (λ b. cond b (record mount { flags = flags }) mount)
-        (sym (eq-eqb mount.number here.mount (sym (eqb-true here.mount mount.number e))))
-    by mount m false e = ap (λ b. cond b (record mount { flags = flags }) mount)
-        (sym (differs (nat_eq mount.number here.mount) refl))
-      where
-        differs : (b : Bool) → nat_eq mount.number here.mount ≡ b → b ≡ false
-        differs false f = refl
-        differs true f = absurd (true≢false
-            (sym (eq-eqb here.mount mount.number (sym (eqb-true mount.number here.mount f))) ∙ e))
+    by mount m b e = grind (arith, common_steps, eqb-true, found_itself, eq-eqb, true≢false)
 
 keeps_flags : (number : ℕ) (flags : MountFlags) → KeepsUses (flags_if number flags)
-keeps_flags number flags = record {
-  number = λ mount. by mount (λ m. m.number) (λ m. refl) (nat_eq mount.number number);
-  namespace = λ mount. by mount (λ m. m.namespace) (λ m. refl) (nat_eq mount.number number);
-  mount_point = λ mount. by mount (λ m. m.mount_point) (λ m. refl) (nat_eq mount.number number);
-  filesystem = λ mount. by mount (λ m. m.filesystem) (λ m. refl) (nat_eq mount.number number);
-  root = λ mount. by mount (λ m. m.root) (λ m. refl) (nat_eq mount.number number);
-}
-  where
-    by : {A : Type 0} (mount : Mount ℕ) (part : Mount ℕ → A)
-        → ((m : Mount ℕ) → part (record m { flags = flags }) ≡ part m) → (b : Bool)
-        → part (cond b (record mount { flags = flags }) mount) ≡ part mount
-    by mount part same true = same mount
-    by mount part same false = refl
+keeps_flags number flags = grind (arith, common_steps)
 
 same_members : (number group : ℕ) (flags : MountFlags) (mounts : List (Mount ℕ))
     → has_members nat_eq (map (flags_if number flags) mounts) group ≡ has_members nat_eq mounts group

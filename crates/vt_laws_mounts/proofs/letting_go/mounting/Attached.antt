@@ -8,7 +8,7 @@ use Rattle.vt_spec.specs.Lists.{folded, holds_of, is_among, rest_of}
 use Rattle.vt_spec.specs.Machine.Attach.{Copies, Graft, Twig, added_mounts, all_groups_made, attached_by, copies_at, copy_at, graft_of, group_made, is_destination, masters_with, parts_of, mount_point_on_copy, pushed_onto, pushed_up, receiver_stood_on, receivers_of, takes_part, twig_of, with_moved_mounts}
 use Rattle.vt_spec.specs.Machine.Mounts.{Location, Mount, group_of, mount_in, no_mount, replaced_if_same, stands_at, with_mount}
 use Rattle.vt_spec.specs.Machine.Receives.{is_member_of}
-use Rattle.vt_spec.specs.Machine.Settled.{is_located, mount_lives}
+use Rattle.vt_spec.specs.Machine.Settled.{mount_lives}
 use Rattle.vt_spec.specs.Machine.World.{Filesystem, World, mount_at}
 use Rattle.vt_spec.specs.Machine.Invariants.{is_nowhere_or_attached}
 use Rattle.vt_laws_mounts.specs.LettingGo.InUse.{AllInUse, GroupsInUse}
@@ -252,35 +252,14 @@ module _ (world : World ℕ) (filesystems : List (Filesystem ℕ)) (new : Copies
 
   -- in use still
   last_lives : (mount : Mount ℕ) → Among mount world.mounts → mount_lives nat_eq after (last mount) ≡ true
-  last_lives mount m = ap (λ n. n || is_located nat_eq world (last mount).number)
-      (push_keeps (λ x. is_some x.namespace) (λ x at. refl) (went mount))
-      ∙ ap (λ n. is_some (went mount).namespace || is_located nat_eq world n) (last_number mount m)
-      ∙ by (went_is mount m)
-    where
-      by : Went mount → (is_some (went mount).namespace || is_located nat_eq world mount.number) ≡ true
-      by (stayed e none) = ap (λ (x : Mount ℕ). is_some x.namespace || is_located nat_eq world mount.number) e
-          ∙ passes (mount_lives nat_eq world) world.mounts in_use.mounts mount m
-      by (moved b n e) = ap (λ (x : Mount ℕ). is_some x.namespace || is_located nat_eq world mount.number) e
-          ∙ or_first (is_some destination.namespace) (is_located nat_eq world mount.number) at_attached
+  last_lives mount m = grind (arith, common_steps, push_keeps, last_number, went_is, passes, or_first)
 
   all_live : (x : Mount ℕ) → Among x after.mounts → mount_lives nat_eq after x ≡ true
   all_live x m = grind (arith, common_steps, comes x m, last_lives)
 
   last_nowhere : (mount : Mount ℕ) → Among mount world.mounts → is_nowhere_or_attached (last mount) ≡ true
-  last_nowhere mount m = by (is_some mount.namespace) refl (went_is mount m)
-    where
-      at_a_namespace : is_some (went mount).namespace ≡ true → is_nowhere_or_attached (last mount) ≡ true
-      at_a_namespace e = or_first (is_some (last mount).namespace) _
-          (push_keeps (λ x. is_some x.namespace) (λ x at. refl) (went mount) ∙ e)
-
-      by : (b : Bool) → is_some mount.namespace ≡ b → Went mount → is_nowhere_or_attached (last mount) ≡ true
-      by b f (moved g n e) = at_a_namespace (ap (λ (x : Mount ℕ). is_some x.namespace) e ∙ at_attached)
-      by true f (stayed e none) = at_a_namespace (ap (λ (x : Mount ℕ). is_some x.namespace) e ∙ f)
-      by false f (stayed e none) =
-          let was : is_nowhere_or_attached mount ≡ true =
-          passes is_nowhere_or_attached world.mounts stand.nowhere mount m in
-          ap (λ x. is_nowhere_or_attached (push x)) e ∙ ⊎_elim (λ same. ap is_nowhere_or_attached same ∙ was)
-          (λ up. absurd (true≢false (sym (ap is_some up.2) ∙ (nowhere_parts mount was f).0))) (pushed mount)
+  last_nowhere mount m =
+      grind (arith, common_steps, went_is, or_first, push_keeps, passes, true≢false, nowhere_parts, pushed)
 
   all_nowhere : list_all is_nowhere_or_attached after.mounts ≡ true
   all_nowhere = all_pass is_nowhere_or_attached after.mounts (λ x m. by x (comes x m))
@@ -367,12 +346,7 @@ module _ (world : World ℕ) (filesystems : List (Filesystem ℕ)) (new : Copies
   first_shown e = (copy destination first, (there, (all_live (copy destination first) there, refl)))
     where
       there : Among (copy destination first) after.mounts
-      there = among-append_left (map push (with_moved_mounts nat_eq moves world.mounts (copies destination))
-          ++ added_mounts moves (copies destination)) (flat_map copies (rest_of parts)) (copy destination first)
-          (among-append_right (map push (with_moved_mounts nat_eq moves world.mounts (copies destination)))
-          (added_mounts moves (copies destination)) (copy destination first)
-          (subst (λ b. Among (copy destination first) (added_mounts b (copies destination))) (sym e)
-          (copy_there destination first (inl refl))))
+      there = grind (arith, common_steps, among-append_left, among-append_right, copy_there)
 
   -- Groups
 

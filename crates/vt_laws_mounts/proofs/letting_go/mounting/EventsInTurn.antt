@@ -1,6 +1,6 @@
 -- Unmount events in a world that was swept before, or that was not.
 use Rattle.std.proofs.lemmas.Grind.{common_steps}
-use Rattle.std.proofs.Common.{◌≡◌, refl, sym, ap, subst, ◌∙◌, inl, inr, ⊎_elim, ℕ, nat_eq, Bool, true, false, true≢false, cond, List, [], ◌∷◌, filter, find, length, map, Option, Some, None, is_some, unwrap_or, arith}
+use Rattle.std.proofs.Common.{◌≡◌, refl, sym, ap, subst, ◌∙◌, inl, inr, ⊎_elim, ℕ, nat_eq, Bool, true, false, true≢false, cond, List, [], ◌∷◌, filter, find, length, map, Option, Some, None, is_some, arith}
 use Rattle.std.specs.Prelude.{filter_map}
 use Rattle.std.proofs.lemmas.Bool.{cases_Bool, or_parts}
 use Rattle.std.proofs.lemmas.List.{length-map}
@@ -8,7 +8,7 @@ use Rattle.vt_spec.specs.Lists.{holds_of, is_among}
 use Rattle.vt_spec.specs.Machine.Attach.{receivers_of}
 use Rattle.vt_spec.specs.Machine.Detach.{going, going_at, going_from, goes_at, taken_away, unmounted, unmounted_if_there}
 use Rattle.vt_spec.specs.Machine.Invariants.{HasLivingGroups, MountInvariants, is_nowhere_or_attached, is_private}
-use Rattle.vt_spec.specs.Machine.Mounts.{Location, Mount, Propagation, child_at, children, group_of, mount_in, source_of, stands_at, stands_on}
+use Rattle.vt_spec.specs.Machine.Mounts.{Location, Mount, Propagation, child_at, children, mount_in, source_of, stands_at, stands_on}
 use Rattle.vt_spec.specs.Machine.Mounts.Propagation.{Private, Shared, Slave, Unbindable}
 use Rattle.vt_spec.specs.Machine.Receives.{groups_up, receivers, receives}
 use Rattle.vt_spec.specs.Machine.Settled.{is_located, mount_lives, settled}
@@ -79,12 +79,7 @@ module _ (world : World ℕ) (kept : MountInvariants nat_eq world) where
 
   -- Receivers
   same_groups : (source : ℕ) → LivesIn world kept source → groups_up swept source ≡ groups_up world source
-  same_groups source life =
-      let many : length (groups_there world kept) ≡ length mounts_left =
-      length-map mounts_left (λ (mount : Mount ℕ). unwrap_or (group_of mount.propagation) 0) in
-      sym (chains_alike world.master swept.master (λ (g : ℕ). g) (groups_there world kept)
-      (λ a b e. ap world.master e) (length world.mounts) (length mounts_left) source (way_up world kept source life)
-      (omega (arith, many, shorter world kept)) (omega (arith, many)))
+  same_groups source life = grind (arith, common_steps, groups_there, length-map, chains_alike, way_up, shorter)
 
   receives_alike : (group : ℕ) (mount : Mount ℕ) → Among mount world.mounts
       → receives nat_eq swept group mount ≡ receives nat_eq world group mount

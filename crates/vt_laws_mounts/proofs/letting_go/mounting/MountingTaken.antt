@@ -88,12 +88,7 @@ module _ (world : World ℕ) (gone : List ℕ) (namespaces : List (Namespace ℕ
   pub same_place : (b : Bool) (mount : Mount ℕ) (place : Location ℕ) → mount.mount_point ≡ Some place
       → is_going nat_eq gone mount.number ≡ false
       → is_going nat_eq gone place.mount ≡ false → (change b mount).mount_point ≡ Some place
-  same_place true mount place p isnt on =
-      ap (λ m. m.mount_point) (stays mount isnt) ∙ ap (option_map (mount_point_left nat_eq world gone)) p
-      ∙ ap Some (stays_at place on)
-  same_place false mount place p isnt on =
-      ap (λ m. m.mount_point) (stays mount isnt) ∙ ap (option_map (mount_point_left nat_eq world gone)) p
-      ∙ ap Some (stays_at place on)
+  same_place b mount place p isnt on = grind (arith, common_steps, stays, stays_at)
 
   -- one outside every namespace has no place and is private
   private_still : (propagation : Propagation ℕ) → is_private propagation ≡ true
@@ -175,12 +170,8 @@ taken_is world gone = sym (same_namespaces (without world gone world.namespaces)
     ∙ is_changed world gone world.namespaces (hands_on world gone)
 
 pub taking_away_lets_go : TakingAwayLetsGo
-taking_away_lets_go world gone groups settles hears = grind (
-  arith,
-  common_steps,
-  taken_with_namespaces world gone groups world.namespaces settles hears,
-  same_namespaces,
-)
+taking_away_lets_go world gone groups settles hears =
+    grind (arith, common_steps, taken_with_namespaces, same_namespaces)
 
 pub ending_lets_go : EndingLetsGo
 ending_lets_go world groups settles hears = taken_with_namespaces world (ended_mounts world) groups

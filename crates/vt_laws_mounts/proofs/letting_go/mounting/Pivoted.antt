@@ -1,5 +1,5 @@
 -- What goes after pivot_root.
-use Rattle.std.proofs.Common.{arith, ◌≡◌, refl, sym, ap, subst, ◌∙◌, ◌⊎◌, inl, inr, ⊎_elim, ℕ, nat_eq, eqb-true, eq-eqb, true, cond, ◌||◌, [], Option, Some, is_some, option_to_list}
+use Rattle.std.proofs.Common.{arith, ◌≡◌, refl, sym, ap, ◌∙◌, ◌⊎◌, inl, inr, ⊎_elim, ℕ, nat_eq, eqb-true, eq-eqb, true, cond, ◌||◌, [], Option, Some, is_some, option_to_list}
 use Rattle.std.proofs.lemmas.Grind.{common_steps}
 use Rattle.std.proofs.lemmas.Bool.{or_cases}
 use Rattle.vt_spec.specs.Machine.Mounts.{Location, Mount, mount_in, root_of}
@@ -121,19 +121,7 @@ module _ (world : World ℕ) (namespace old new : ℕ) (put : Location ℕ) (in_
   place_still mount m place p = by (which mount m)
     where
       by : Is mount → StillAPlace after.mounts [] place ⊎ Among place (option_to_list target.mount_point)
-      by (is_target e) =
-          inr (subst (λ o. Among place (option_to_list o)) (sym p ∙ ap (λ (x : Mount ℕ). x.mount_point) e) (inl refl))
-      by (is_root e) = inl (
-        change target,
-        (
-          among-map change world.mounts target target_there,
-          (target_gets ∙ ap (λ (x : Mount ℕ). x.mount_point) (sym e) ∙ p, inl refl),
-        ),
-      )
-      by (is_other e) = inl (
-        change mount,
-        (among-map change world.mounts mount m, (ap (λ (x : Mount ℕ). x.mount_point) e ∙ p, inl refl)),
-      )
+      by known = grind (arith, common_steps, among-map, target_there, target_gets)
 
   pub loses : Loses world after [] (option_to_list target.mount_point)
   loses = record {

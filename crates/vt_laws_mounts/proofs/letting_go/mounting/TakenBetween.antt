@@ -1,7 +1,7 @@
 -- Mounts are taken away from a world that was swept before, or that was not: after the sweep that follows the two
 -- worlds are one.
 use Rattle.std.proofs.lemmas.Grind.{common_steps}
-use Rattle.std.proofs.Common.{◌≡◌, refl, sym, ap, subst, ◌∙◌, ⊎_elim, ℕ, zero, suc, nat_eq, eqb-true, eq-eqb, Bool, true, false, cond, not, ◌||◌, List, ◌++◌, filter, find, length, map, true≢false, Option, Some, None, is_some, option_map, unwrap_or, arith}
+use Rattle.std.proofs.Common.{◌≡◌, refl, sym, ap, subst, ◌∙◌, ⊎_elim, ℕ, zero, suc, nat_eq, eqb-true, eq-eqb, Bool, true, false, cond, not, ◌||◌, List, ◌++◌, filter, find, length, map, true≢false, Option, Some, None, is_some, option_map, arith}
 use Rattle.std.specs.Prelude.{filter_map}
 use Rattle.std.specs.List.{list_any}
 use Rattle.std.proofs.lemmas.Bool.{or_cases}
@@ -11,9 +11,9 @@ use Rattle.vt_spec.specs.Machine.Detach.{after_going, is_going, mount_point_left
 use Rattle.vt_spec.specs.Machine.Invariants.{HasLivingGroups, MountInvariants, Stands, is_nowhere_or_attached, is_private}
 use Rattle.vt_spec.specs.Machine.Invariants.Lives.{has_master, has_no_master}
 use Rattle.vt_spec.specs.Machine.Invariants.Stands.{at_root, on_parent}
-use Rattle.vt_spec.specs.Machine.Mounts.{Location, Mount, Propagation, detached, group_of, mount_in, root_of, source_of}
+use Rattle.vt_spec.specs.Machine.Mounts.{Location, Mount, Propagation, detached, mount_in, root_of, source_of}
 use Rattle.vt_spec.specs.Machine.Mounts.Propagation.{Private, Shared, Slave, Unbindable}
-use Rattle.vt_spec.specs.Machine.Receives.{groups_up, has_members, heir, inherited, inheriting, is_lost_group, is_member_of, lost_a_group, slave_of_heir}
+use Rattle.vt_spec.specs.Machine.Receives.{has_members, heir, inherited, inheriting, is_lost_group, is_member_of, lost_a_group, slave_of_heir}
 use Rattle.vt_spec.specs.Machine.Settled.{is_located, is_mounted, located_in, mount_lives, settled, without_dead_mounts}
 use Rattle.vt_spec.specs.Machine.World.{Namespace, Task, World, all_locations}
 use Rattle.vt_laws_mounts.specs.LettingGo.InUse.{HasTrees, UppersArePlain}
@@ -83,13 +83,7 @@ module _ (world : World ℕ) (tasks : List (Task ℕ)) (namespaces : List (Names
       point = ap (λ n. (mount_in nat_eq world.mounts n).mount_point) same ∙ e
 
       by : (b : Bool) → is_going nat_eq gone place.mount ≡ b → WayDown below → WayDown place
-      by false f later = ends place (ap (λ b. cond b (mount_in nat_eq world.mounts place.mount).mount_point None) f)
-          (ap (λ b. cond b (mount_in nat_eq first_mounts place.mount).mount_point None) f)
-      by true f later = goes_on place below
-          (ap (λ b. cond b (mount_in nat_eq world.mounts place.mount).mount_point None) f ∙ point)
-          (ap (λ b. cond b (mount_in nat_eq first_mounts place.mount).mount_point None) f
-          ∙ ap (λ (x : Mount ℕ). x.mount_point) (same_found world kept place.mount attached) ∙ point)
-          (number_there world kept place.mount attached) later
+      by b f later = grind (arith, common_steps, ends, goes_on, point, same_found, number_there)
 
   same_left : (place : Location ℕ) → IsAttached place.mount
       → mount_point_left nat_eq swept gone place ≡ mount_point_left nat_eq not_swept gone place
@@ -150,16 +144,7 @@ module _ (world : World ℕ) (tasks : List (Task ℕ)) (namespaces : List (Names
 
   heir_alike : (group : ℕ) → LivesIn group → heir nat_eq before_swept (Some group) ≡ heir nat_eq before (Some group)
   heir_alike group lives =
-      let many : length groups_there ≡ length first_mounts =
-      length-map first_mounts (λ (mount : Mount ℕ). unwrap_or (group_of mount.propagation) 0) in
-      let all : length before.mounts ≡ length world.mounts = length-map world.mounts going in
-      let rest : length before_swept.mounts ≡ length first_mounts =
-      length-map first_mounts (after_going nat_eq swept gone) in
-      find_agrees (has_members nat_eq before_swept.mounts) (has_members nat_eq before.mounts) members_before
-      (groups_up before_swept group) ∙ ap (find (has_members nat_eq before.mounts))
-      (sym (chains_alike world.master (settled nat_eq world).master (λ (g : ℕ). g) groups_there
-      (λ a b e. ap world.master e) (length before.mounts) (length before_swept.mounts) group
-      (way_up world kept group lives) (omega (arith, many, all, shorter world kept)) (omega (arith, many, rest))))
+      grind (arith, common_steps, length-map, find_agrees, members_before, chains_alike, way_up, shorter)
 
   heir_of_master : (group : ℕ) → LivesIn group
       → heir nat_eq before_swept ((settled nat_eq world).master group) ≡ heir nat_eq before (world.master group)
@@ -475,12 +460,7 @@ module _ (world : World ℕ) (tasks : List (Task ℕ)) (namespaces : List (Names
         (filter_map (λ mount. mount.mount_point) last_mounts) from.0 here.0))
 
     same_uses : SameUses world once again
-    same_uses = record {
-      mounts = same_mounts;
-      master = same_master;
-      mounted = mounted_was;
-      located = located_was;
-    }
+    same_uses = grind (arith, common_steps, same_mounts, same_master, mounted_was, located_was)
 
   abbrev taken : World ℕ → World ℕ
   taken now = record (taken_away nat_eq now gone) { namespaces = namespaces }

@@ -1,10 +1,10 @@
 -- What goes after unmounts, one or several after one another.
-use Rattle.std.proofs.Common.{arith, ◌≡◌, refl, sym, ap, subst, ◌∙◌, ◌⊎◌, inl, inr, ⊎_elim, ℕ, nat_eq, Bool, true, false, cond, not, ◌&&◌, List, [], ◌∷◌, filter, map, true≢false, Option, Some, None, is_some, option_map}
+use Rattle.std.proofs.Common.{arith, ◌≡◌, refl, sym, ap, subst, ◌∙◌, ◌⊎◌, inl, inr, ⊎_elim, ℕ, nat_eq, Bool, true, false, cond, not, ◌&&◌, List, [], ◌∷◌, filter, map, true≢false, Option, Some, None, is_some}
 use Rattle.std.proofs.lemmas.Grind.{common_steps}
 use Rattle.std.specs.List.{list_any}
 use Rattle.std.proofs.lemmas.Bool.{false_from_ne_true, or_cases, cases_Bool, or_parts}
 use Rattle.vt_spec.specs.Lists.{folded, holds_of, is_among}
-use Rattle.vt_spec.specs.Machine.Detach.{deepest_first, going, is_going, lazily_unmounted, mount_point_left, mounts_on, taken_away, unmounted, unmounted_if_there}
+use Rattle.vt_spec.specs.Machine.Detach.{deepest_first, going, is_going, lazily_unmounted, mounts_on, taken_away, unmounted, unmounted_if_there}
 use Rattle.vt_spec.specs.Machine.Mounts.{Location, Mount, detached, group_of, mount_in, mount_tree, root_of}
 use Rattle.vt_spec.specs.Machine.Receives.{has_members, heir, is_member_of, lost_a_group, regrouped_by}
 use Rattle.vt_spec.specs.Machine.Settled.{is_located, mount_lives, settled}
@@ -71,12 +71,7 @@ module _ (world : World ℕ) (gone : List ℕ) where
   -- one that goes is in no namespace then
   outside : (b : Bool) (mount : Mount ℕ) → is_going nat_eq gone mount.number ≡ true
       → is_some (change b mount).namespace ≡ false
-  outside true mount is = ap (λ c. is_some (cond c (detached mount) (record mount {
-    mount_point = option_map (mount_point_left nat_eq world gone) mount.mount_point;
-  })).namespace) is
-  outside false mount is = ap (λ c. is_some (cond c (detached mount) (record mount {
-    mount_point = option_map (mount_point_left nat_eq world gone) mount.mount_point;
-  })).namespace) is
+  outside b mount is = grind (arith, common_steps)
 
   -- one that is in a namespace then does not go
   pub does_not_go : (b : Bool) (mount : Mount ℕ) → is_some (change b mount).namespace ≡ true
@@ -172,21 +167,7 @@ module _ (world now : World ℕ) (faded : Faded world now) (gone : List ℕ) whe
   then_ = taken_away nat_eq now gone
 
   next_is : then_ ≡ changed world (map next world.mounts) then_.master world.namespaces world.tasks
-  next_is = λ i. record {
-    mounts = mounts i;
-    master = then_.master;
-    filesystems = (ap (λ w. w.filesystems) event ∙ ap (λ w. w.filesystems) faded.is) i;
-    namespaces = (ap (λ w. w.namespaces) event ∙ ap (λ w. w.namespaces) faded.is) i;
-    tasks = (ap (λ w. w.tasks) event ∙ ap (λ w. w.tasks) faded.is) i;
-    change = (ap (λ w. w.change) event ∙ ap (λ w. w.change) faded.is) i;
-  }
-    where
-      event : then_ ≡ changed now (map (change now gone b) now.mounts) (masters now gone b) now.namespaces now.tasks
-      event = one_event now gone b
-
-      mounts : then_.mounts ≡ map next world.mounts
-      mounts = ap (λ w. w.mounts) event ∙ ap (λ w. map (change now gone b) w.mounts) faded.is
-          ∙ map_twice (change now gone b) faded.change world.mounts
+  next_is = grind (arith, common_steps, then_, changed, one_event, map_twice)
 
   still_in_one : (mount : Mount ℕ) → is_some (next mount).namespace ≡ true
       → is_some (faded.change mount).namespace ≡ true

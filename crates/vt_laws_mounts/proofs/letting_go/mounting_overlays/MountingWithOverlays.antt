@@ -50,12 +50,8 @@ taken_with_namespaces world gone groups namespaces settles hears =
         (subst (GroupsInUseBut groups) (is_changed world gone namespaces b) h))
 
 pub taking_away_with_overlays_lets_go : TakingAwayWithOverlaysLetsGo
-taking_away_with_overlays_lets_go world gone groups settles hears = grind (
-  arith,
-  common_steps,
-  taken_with_namespaces world gone groups world.namespaces settles hears,
-  same_namespaces,
-)
+taking_away_with_overlays_lets_go world gone groups settles hears =
+    grind (arith, common_steps, taken_with_namespaces, same_namespaces)
 
 pub ending_with_overlays_lets_go : EndingWithOverlaysLetsGo
 ending_with_overlays_lets_go world groups settles hears = taken_with_namespaces world (ended_mounts world) groups

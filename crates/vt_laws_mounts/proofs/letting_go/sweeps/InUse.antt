@@ -7,7 +7,7 @@ use Rattle.vt_spec.specs.FileTree.{targets_in}
 use Rattle.vt_spec.specs.Lists.{is_among}
 use Rattle.vt_spec.specs.Machine.Locked.{of_overlay}
 use Rattle.vt_spec.specs.Machine.Mounts.{Location, root_of}
-use Rattle.vt_spec.specs.Machine.Settled.{filesystem_lives, has_layer_on, is_mounted, layers_in, located_in, mount_lives, named_in, objects_of_overlay, only_used, only_used_by, settled, used_in, without_dead_filesystems, without_dead_groups, without_dead_in, without_dead_inodes, without_dead_mounts}
+use Rattle.vt_spec.specs.Machine.Settled.{filesystem_lives, has_layer_on, is_mounted, layers_in, located_in, mount_lives, named_in, objects_of_overlay, only_used, only_used_by, settled, used_in, without_dead_filesystems, without_dead_groups, without_dead_in, without_dead_mounts}
 use Rattle.vt_spec.specs.Machine.World.{Filesystem, Layer, World, all_locations, is_overlay, layers_of, mount_at, with_mounts}
 use Rattle.vt_laws_mounts.specs.LettingGo.InUse.{AllInUse, FilesystemsInUse, GroupsInUse, HasTrees, InodesInUse, IsListedTree, MountsInUse, NothingGoes, OneSweepIsEnough, UppersArePlain, WhatIsLeftIsInUse, has_upper_in, is_inode_used}
 use Rattle.vt_laws_mounts.proofs.letting_go.Lists.{Among, all_from_among, all_pass, among-filter, among-flat_map, among-from_flat_map, among-from_map, among-map, among_from_all, any_passes, flat_map_none, one_passes, or_first, among-from_filter, flat_map-filter, flat_map-map, flat_map_alike, is_among_numbers, map_same, or_second, passes}
@@ -44,14 +44,7 @@ filesystems_stay world all = ap (λ filesystems. record world { filesystems = fi
     (passes (filesystem_lives nat_eq world) world.filesystems all))
 
 pub nothing_goes : NothingGoes
-nothing_goes world all =
-    ap (λ w. without_dead_groups nat_eq (without_dead_inodes nat_eq (without_dead_filesystems nat_eq w)))
-    (mounts_stay world all.mounts)
-    ∙ ap (λ w. without_dead_groups nat_eq (without_dead_inodes nat_eq w)) (filesystems_stay world all.filesystems)
-    ∙ ap (λ w. without_dead_groups nat_eq (without_dead_in nat_eq (λ filesystem. not (is_overlay filesystem)) w))
-    (inodes_stay is_overlay world all.inodes)
-    ∙ ap (without_dead_groups nat_eq) (inodes_stay (λ filesystem. not (is_overlay filesystem)) world all.inodes)
-    ∙ groups_stay world all.groups
+nothing_goes world all = grind (arith, common_steps, mounts_stay, filesystems_stay, inodes_stay, groups_stay)
 
 -- What is left
 
@@ -102,17 +95,7 @@ module _ (used : List ℕ) (filesystem : Filesystem ℕ) where
 pub unused_are_empty : (world : World ℕ) (filesystem : Filesystem ℕ) → IsListedTree filesystem.files
     → UnusedAreEmpty (used_in nat_eq world filesystem) filesystem
 unused_are_empty world filesystem conditions number unused =
-    let parts = or_parts (nat_eq number filesystem.files.tree.root) _ unused in
-    unnamed_is_empty filesystem.files conditions number
-    (λ root. true≢false (sym (eq-eqb number filesystem.files.tree.root root) ∙ parts.0)) (⊎_elim
-    (λ named. absurd (true≢false (sym (or_second (nat_eq number filesystem.files.tree.root) _
-    (is_among_left number (named_in filesystem.files ++ located_in nat_eq world filesystem.number
-    ++ layers_in nat_eq world filesystem.number)
-    (flat_map (objects_of_overlay nat_eq filesystem.number) world.filesystems)
-    (is_among_left number (named_in filesystem.files ++ located_in nat_eq world filesystem.number)
-    (layers_in nat_eq world filesystem.number)
-    (is_among_left number (named_in filesystem.files) (located_in nat_eq world filesystem.number) named)))) ∙ unused)))
-    (λ unnamed. unnamed) (cases_Bool (is_among nat_eq number (named_in filesystem.files))))
+    grind (arith, common_steps, or_parts, unnamed_is_empty, true≢false, eq-eqb, or_second, is_among_left, cases_Bool)
 
 -- a place that is there is in use
 pub used_at : (world : World ℕ) (filesystem : Filesystem ℕ) (location : Location ℕ) → Among location
@@ -213,12 +196,8 @@ module _ (world : World ℕ) where
 
   objects_after_second : (number : ℕ) (filesystem : Filesystem ℕ)
       → objects_of_overlay nat_eq number (after_second filesystem) ≡ objects_of_overlay nat_eq number filesystem
-  objects_after_second number filesystem = ⊎_elim
-      (λ e. ap (objects_of_overlay nat_eq number) (second_leaves filesystem e))
-      (λ e. no_objects number (after_second filesystem)
-      (ap (λ b. is_overlay (only_used nat_eq first (not b) filesystem)) e
-      ∙ overlay-left (used_in nat_eq first filesystem) filesystem _ ∙ e) ∙ sym (no_objects number filesystem e))
-      (cases_Bool (is_overlay filesystem))
+  objects_after_second number filesystem =
+      grind (arith, common_steps, second_leaves, no_objects, overlay-left, cases_Bool)
 
   same_objects : (number : ℕ) → flat_map (objects_of_overlay nat_eq number) (settled nat_eq world).filesystems
       ≡ flat_map (objects_of_overlay nat_eq number) first.filesystems

@@ -270,14 +270,7 @@ numbers_without gone filesystem numbers number = by (gone number) refl
 
     by : (b : Bool) → gone number ≡ b → is_among nat_eq number (filter (λ n. not (gone n)) filesystem.files.numbers)
         ≡ is_some (cond b None (filesystem.files.tree.node number))
-    by true f = missing (is_among nat_eq number (filter (λ n. not (gone n)) filesystem.files.numbers)) refl f
-    by false f = any-filter (nat_eq number) (λ n. not (gone n)) filesystem.files.numbers
-        (λ n m skipped. differs n (nat_eq number n) refl skipped) ∙ numbers number
-      where
-        differs : (n : ℕ) (b : Bool) → nat_eq number n ≡ b → not (gone n) ≡ false → b ≡ false
-        differs n false e skipped = refl
-        differs n true e skipped = absurd
-            (true≢false (sym (ap not f) ∙ ap (λ k. not (gone k)) (eqb-true number n e) ∙ skipped))
+    by b f = grind (arith, common_steps, missing, numbers, any-filter, true≢false, eqb-true)
 
 -- the sweep of a world of plain filesystems
 pub plain_sweep : (world : World ℕ) → IsPlain world → without_dead_inodes nat_eq world ≡ record world {
@@ -320,15 +313,7 @@ module _ (used : List ℕ) (losers : List Inode) (filesystem : Filesystem ℕ)
   unused_goes : (number : ℕ) → Among number filesystem.files.numbers
       → not (not (is_among nat_eq number used)) ≡ not (goes number)
   unfolding goes
-  unused_goes number m = by (is_inode_among filesystem.number number losers) (is_among nat_eq number used)
-      (passes (λ n. is_inode_among filesystem.number n losers
-      || is_among nat_eq n used) filesystem.files.numbers others number m)
-    where
-      by : (a u : Bool) → (a || u) ≡ true → not (not u) ≡ not (a && not u)
-      by true true e = refl
-      by true false e = refl
-      by false true e = refl
-      by false false e = absurd (true≢false (sym e))
+  unused_goes number m = grind (arith, common_steps, passes, numbers, true≢false)
 
   node_swept : (number : ℕ) → cond (not (is_among nat_eq number used)) None (filesystem.files.tree.node number)
       ≡ cond (goes number) None (filesystem.files.tree.node number)

@@ -81,13 +81,7 @@ module _ (chosen : Filesystem ℕ → Bool)
     -- what goes is not used
     is_unused : (filesystem : Filesystem ℕ) (number : ℕ) → here filesystem number ≡ true
         → is_among nat_eq number (used_in nat_eq world filesystem) ≡ false
-    is_unused filesystem number e =
-        let parts = and_parts ((chosen filesystem && nat_eq filesystem.number inode.0)
-        && not (is_inode_used world filesystem inode.1)) (nat_eq number inode.1) e in
-        let unused = and_parts (chosen filesystem && nat_eq filesystem.number inode.0)
-        (not (is_inode_used world filesystem inode.1)) parts.0 in
-        ap (λ n. is_among nat_eq n (used_in nat_eq world filesystem)) (eqb-true number inode.1 parts.1)
-        ∙ not-true (is_inode_used world filesystem inode.1) unused.1
+    is_unused filesystem number e = grind (arith, common_steps, and_parts, eqb-true, not-true)
 
     layers_step : (number : ℕ) → layers_in nat_eq next number ≡ layers_in nat_eq world number
     layers_step number =

@@ -1,5 +1,6 @@
 -- What a world is by its conditions.
-use Rattle.std.proofs.Common.{◌≡◌, refl, sym, ap, subst, ◌∙◌, inl, ℕ, nat_eq, eqb-true, Bool, true, false, not, ◌&&◌, ◌++◌, List, find, map, true≢false, Option, Some, None, is_some, option_to_list, unwrap_or}
+use Rattle.std.proofs.Common.{arith, ◌≡◌, refl, sym, ap, subst, ◌∙◌, inl, ℕ, nat_eq, eqb-true, Bool, true, false, not, ◌&&◌, ◌++◌, List, find, map, true≢false, Option, Some, None, is_some, option_to_list, unwrap_or}
+use Rattle.std.proofs.lemmas.Grind.{common_steps}
 use Rattle.std.specs.Prelude.{All}
 use Rattle.std.specs.List.{list_all}
 use Rattle.std.proofs.lemmas.Bool.{and_parts, not-true}
@@ -7,7 +8,7 @@ use Rattle.vt_spec.specs.Lists.{any_pair, holds_of, is_among}
 use Rattle.vt_spec.specs.Machine.Locked.{of_overlay, overlay_or}
 use Rattle.vt_spec.specs.Machine.Mounts.{Location, Mount}
 use Rattle.vt_spec.specs.Machine.World.{Filesystem, Layer, Overlay, World, all_locations, filesystem_numbered, is_overlay, layers_of, mount_at, mount_numbered, no_filesystem}
-use Rattle.vt_spec.specs.Machine.Invariants.{IsWorld, ListsNumbers, Stands, is_located_well, is_nowhere_or_attached, is_plain_layer}
+use Rattle.vt_spec.specs.Machine.Invariants.{IsWorld, ListsNumbers, Stands, is_located_well, is_plain_layer}
 use Rattle.vt_spec.specs.TreeInvariant.{IsTree}
 use Rattle.vt_laws_mounts.specs.LettingGo.InUse.{AllInUse, IsListedTree, has_upper_in}
 use Rattle.vt_laws_mounts.specs.LettingGo.Leaving.{stands_on_attached}
@@ -29,12 +30,7 @@ module _ (world : World ℕ) (is : IsWorld nat_eq world) where
   -- a mount with a place is in a namespace
   attached : (mount : Mount ℕ) → Among mount world.mounts → is_some mount.mount_point ≡ true
       → is_some mount.namespace ≡ true
-  attached mount m placed = by (is_some mount.namespace) refl
-    where
-      by : (b : Bool) → is_some mount.namespace ≡ b → is_some mount.namespace ≡ true
-      by true e = e
-      by false e = absurd (true≢false (sym placed ∙ (nowhere_parts mount
-          (passes is_nowhere_or_attached world.mounts is.mounts.nowhere mount m) e).0))
+  attached mount m placed = grind (arith, common_steps, true≢false, nowhere_parts, passes)
 
   on_attached : (mount : Mount ℕ) → Among mount world.mounts → (place : Location ℕ) → mount.mount_point ≡ Some place
       → is_some (mount_at nat_eq world place).namespace ≡ true

@@ -4,7 +4,7 @@ use Rattle.std.proofs.lemmas.Grind.{common_steps}
 use Rattle.std.proofs.lemmas.Bool.{or_parts}
 use Rattle.vt_spec.specs.Lists.{is_among}
 use Rattle.vt_spec.specs.Machine.Receives.{has_members}
-use Rattle.vt_spec.specs.Machine.Settled.{filesystem_lives, has_layer_on, is_mounted, mount_lives}
+use Rattle.vt_spec.specs.Machine.Settled.{filesystem_lives, mount_lives}
 use Rattle.vt_spec.specs.Machine.World.{Filesystem, World, with_mounts}
 use Rattle.vt_laws_mounts.specs.LettingGo.OneByOne.{FilesystemsGoOneByOne, GroupsGoOneByOne, MountsGoOneByOne, let_go_filesystem, let_go_filesystems, let_go_group, let_go_groups, let_go_mount, let_go_mounts}
 use Rattle.vt_laws_mounts.proofs.letting_go.Lists.{any-filter, filter_twice, passes}
@@ -14,14 +14,7 @@ use Rattle.vt_spec.proofs.Found.{filter_alike, filter_all}
 -- one after the other: looked at here, or looked at later
 pub looked_at : (here later lives : Bool)
     → (not (here || later) || lives) ≡ ((not here || lives) && (not later || lives))
-looked_at true true true = refl
-looked_at true true false = refl
-looked_at true false true = refl
-looked_at true false false = refl
-looked_at false true true = refl
-looked_at false true false = refl
-looked_at false false true = refl
-looked_at false false false = refl
+looked_at here later lives = grind (arith, common_steps)
 
 -- a thing that lives, or was looked at
 pub kept_alike : (among lives : Bool) → (among || lives) ≡ true → lives ≡ (not among || lives)
@@ -43,23 +36,12 @@ mounts_folded world (number ∷ rest) = mounts_folded (let_go_mount world number
     (mount_lives nat_eq world mount)) world.mounts)
 
 pub mounts_go_one_by_one : MountsGoOneByOne
-mounts_go_one_by_one world losers others = ap (with_mounts world)
-    (filter_alike (mount_lives nat_eq world) (λ mount. not (is_among nat_eq mount.number losers)
-    || mount_lives nat_eq world mount) world.mounts
-    (λ mount m. kept_alike (is_among nat_eq mount.number losers) (mount_lives nat_eq world mount)
-    (passes (λ x. is_among nat_eq x.number losers || mount_lives nat_eq world x) world.mounts others mount m)))
-    ∙ sym (mounts_folded world losers)
+mounts_go_one_by_one world losers others = grind (arith, common_steps, filter_alike, kept_alike, passes, mounts_folded)
 
 -- Filesystems: one that is not mounted keeps none
 filesystem_by_others : (world : World ℕ) (number : ℕ) (filesystem : Filesystem ℕ)
     → filesystem_lives nat_eq (let_go_filesystem world number) filesystem ≡ filesystem_lives nat_eq world filesystem
-filesystem_by_others world number filesystem = ap (λ b. is_mounted nat_eq world filesystem.number || b)
-    (any-filter (λ merged. has_layer_on nat_eq filesystem.number merged && is_mounted nat_eq world merged.number)
-    (λ other. not (nat_eq other.number number) || filesystem_lives nat_eq world other) world.filesystems
-    (λ other m gone. ap (λ b. has_layer_on nat_eq filesystem.number other && b)
-    (or_parts (is_mounted nat_eq world other.number) _
-    (or_parts (not (nat_eq other.number number)) (filesystem_lives nat_eq world other) gone).1).0
-    ∙ and-false (has_layer_on nat_eq filesystem.number other)))
+filesystem_by_others world number filesystem = grind (arith, common_steps, any-filter, or_parts, and-false)
 
 filesystems_folded : (world : World ℕ) (losers : List ℕ) → let_go_filesystems world losers ≡ record world {
   filesystems = filter (λ filesystem. not (is_among nat_eq filesystem.number losers)
@@ -83,12 +65,8 @@ filesystems_folded world (number ∷ rest) = filesystems_folded (let_go_filesyst
     (filesystem_lives nat_eq world filesystem)) world.filesystems)
 
 pub filesystems_go_one_by_one : FilesystemsGoOneByOne
-filesystems_go_one_by_one world losers others = ap (λ filesystems. record world { filesystems = filesystems })
-    (filter_alike (filesystem_lives nat_eq world) (λ filesystem. not (is_among nat_eq filesystem.number losers)
-    || filesystem_lives nat_eq world filesystem) world.filesystems
-    (λ filesystem m. kept_alike (is_among nat_eq filesystem.number losers) (filesystem_lives nat_eq world filesystem)
-    (passes (λ x. is_among nat_eq x.number losers
-    || filesystem_lives nat_eq world x) world.filesystems others filesystem m))) ∙ sym (filesystems_folded world losers)
+filesystems_go_one_by_one world losers others =
+    grind (arith, common_steps, filter_alike, kept_alike, passes, filesystems_folded)
 
 -- Groups
 groups_folded : (world : World ℕ) (losers : List ℕ) → let_go_groups world losers ≡ record world {

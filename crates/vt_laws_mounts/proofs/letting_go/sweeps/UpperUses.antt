@@ -123,18 +123,7 @@ one_upper_use_less world front back merged overlay layer inode object all is upp
         (filter (λ other. not (nat_eq other inode)) merged.files.numbers))) upper
 
     of_merged : times (nat_eq number) (objects merged) ≡ times (nat_eq number) (objects gone) + less
-    of_merged = ap (times (nat_eq number)) objects_merged ∙ by (nat_eq filesystem.number layer.filesystem)
-        ∙ ap (λ l. times (nat_eq number) l + less) (sym objects_gone)
-      where
-        by : (b : Bool)
-            → times (nat_eq number) (cond b (filter_map (λ k. upper_object (overlay.real k)) merged.files.numbers) [])
-            ≡ times (nat_eq number) (cond b (filter_map (λ k. upper_object ((without_real inode overlay).real k))
-            (filter (λ other. not (nat_eq other inode)) merged.files.numbers)) [])
-            + cond (b && nat_eq number object) 1 0
-        by true = objects_less overlay inode object number real (nat_eq number object) refl merged.files.numbers
-            ∙ ap (λ n. times (nat_eq number) (filter_map (λ k. upper_object ((without_real inode overlay).real k))
-            (filter (λ other. not (nat_eq other inode)) merged.files.numbers)) + cond (nat_eq number object) n 0) once
-        by false = refl
+    of_merged = grind (arith, common_steps, objects_merged, objects_gone, objects_less)
 
     objects_one : times (nat_eq number) (flat_map objects world.filesystems)
         ≡ times (nat_eq number) (flat_map objects (front ++ (gone ∷ back))) + less

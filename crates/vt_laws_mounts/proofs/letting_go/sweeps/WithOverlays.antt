@@ -69,35 +69,7 @@ pub object_parts : (number object : ℕ) (g : Filesystem ℕ) → Among object (
     → (overlay : Overlay ℕ) × (g.overlay ≡ Some overlay) × (layer : Layer ℕ) × (overlay.upper ≡ Some layer)
     × (nat_eq number layer.filesystem ≡ true)
     × (k : ℕ) × Among k g.files.numbers × (upper_object (overlay.real k) ≡ Some object)
-object_parts number object g m = by g.overlay refl m
-  where
-    by : (o : Option (Overlay ℕ)) → g.overlay ≡ o → Among object (overlay_or [] (λ overlay.
-        cond (holds_of (λ layer. nat_eq number layer.filesystem) overlay.upper)
-        (filter_map (λ k. upper_object (overlay.real k)) g.files.numbers) []) o)
-        → (overlay : Overlay ℕ) × (g.overlay ≡ Some overlay) × (layer : Layer ℕ) × (overlay.upper ≡ Some layer)
-        × (nat_eq number layer.filesystem ≡ true)
-        × (k : ℕ) × Among k g.files.numbers × (upper_object (overlay.real k) ≡ Some object)
-    by None e n = absurd n
-    by (Some overlay) e n = upper overlay.upper refl n
-      where
-        upper : (u : Option (Layer ℕ)) → overlay.upper ≡ u
-            → Among object (cond (holds_of (λ layer. nat_eq number layer.filesystem) u)
-            (filter_map (λ k. upper_object (overlay.real k)) g.files.numbers) [])
-            → (overlay : Overlay ℕ) × (g.overlay ≡ Some overlay) × (layer : Layer ℕ) × (overlay.upper ≡ Some layer)
-            × (nat_eq number layer.filesystem ≡ true)
-            × (k : ℕ) × Among k g.files.numbers × (upper_object (overlay.real k) ≡ Some object)
-        upper None d l = absurd l
-        upper (Some layer) d l = here (nat_eq number layer.filesystem) refl l
-          where
-            here : (b : Bool) → nat_eq number layer.filesystem ≡ b
-                → Among object (cond b (filter_map (λ k. upper_object (overlay.real k)) g.files.numbers) [])
-                → (overlay : Overlay ℕ) × (g.overlay ≡ Some overlay) × (layer : Layer ℕ) × (overlay.upper ≡ Some layer)
-                × (nat_eq number layer.filesystem ≡ true)
-                × (k : ℕ) × Among k g.files.numbers × (upper_object (overlay.real k) ≡ Some object)
-            here true c a =
-                let t = among-from_filter_map (λ k. upper_object (overlay.real k)) g.files.numbers object a in
-                (overlay, e, layer, d, c, t.0, t.1, t.2)
-            here false c a = absurd a
+object_parts number object g m = grind (arith, common_steps, among-from_filter_map)
 
 pub object_there : (number object : ℕ) (g : Filesystem ℕ) (overlay : Overlay ℕ) (layer : Layer ℕ)
     → g.overlay ≡ Some overlay → overlay.upper ≡ Some layer
@@ -239,12 +211,8 @@ module _ (world : World ℕ) (losers : List Inode) (trees : HasTrees world) (rea
       ))
 
 pub all_inodes_go_one_by_one : AllInodesGoOneByOne
-all_inodes_go_one_by_one world losers trees plain reals others = plain_go world losers trees reals others
-    ∙ ap (λ w. let_go_plain w (losers ++ uppers_of world losers)) (merged_go_one_by_one world losers trees plain reals
-    (all_from_among (λ x. is_overlay x ≡ true
-    → list_all (is_used_or_among losers world x) x.files.numbers ≡ true) world.filesystems
-    (λ f m is. among_from_all (λ x. list_all (is_used_or_among losers world x) x.files.numbers
-    ≡ true) world.filesystems others f m)))
+all_inodes_go_one_by_one world losers trees plain reals others =
+    grind (arith, common_steps, plain_go, merged_go_one_by_one, all_from_among, among_from_all)
 
 -- The whole sweep
 pub with_overlays_all_goes : WithOverlaysAllGoes

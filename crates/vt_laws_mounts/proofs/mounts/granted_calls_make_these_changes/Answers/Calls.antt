@@ -1,5 +1,6 @@
 -- What a granted call makes of the mounts.
-use Rattle.std.proofs.Common.{◌≡◌, refl, sym, ap, subst, ◌∙◌, false, Bool, List, Ok, Some, nat_eq, ok_or, ℕ, option_map, true≢false}
+use Rattle.std.proofs.Common.{arith, ◌≡◌, refl, sym, ap, ◌∙◌, false, Bool, List, Ok, Some, nat_eq, ok_or, ℕ, option_map, true≢false}
+use Rattle.std.proofs.lemmas.Grind.{common_steps}
 use Rattle.vt_spec.specs.Language.Calls.Call.{Bind, Exit, Lazy, MountOverlay, MountPlain, MoveMount, PivotRoot, Remount, Rmdir, SetType, Setns, Unshare, Rename}
 use Rattle.vt_laws_mounts.specs.Mounts.Granted.{BindBinds, ExitEnds, LazyUnmounts, MountMounts, MoveMoves, OverlayMounts, PivotPivots, RemountSetsFlags, RmdirTakesMounts, SetnsEnters, TypeIsSet, UnshareCopies, RenameOfOneObject, RenameReplaces}
 use Rattle.vt_spec.specs.Language.Calls.{Call, MountFlags, OverlayWords, TaskName, TypeWord}
@@ -134,13 +135,7 @@ module _ (fresh : Fresh ℕ) (world : World ℕ) (task : Task ℕ) where
   same_names : (old new : List ℕ) (from to one two : Place ℕ) → walk_end (old_leaf_walk nat_eq looks task old) ≡ Ok from
       → walk_end (rename_new_walk nat_eq looks task new (is_directory_there nat_eq looks from)) ≡ Ok to
       → AreNames nat_eq looks task old new one two → (one ≡ from) × (two ≡ to)
-  same_names old new from to one two e f names =
-      let first = one_end (old_leaf_walk nat_eq looks task old) one from names.from_end e in (
-        first,
-        one_end (rename_new_walk nat_eq looks task new (is_directory_there nat_eq looks from)) two to
-            (subst (λ from. rename_new_walk nat_eq looks task new (is_directory_there nat_eq looks from) ≡ Ok two) first
-            names.to_end) f,
-      )
+  same_names old new from to one two e f names = grind (arith, common_steps, one_end)
 
   rename_made : (old new : List ℕ) (from to : Place ℕ) → walk_end (old_leaf_walk nat_eq looks task old) ≡ Ok from
       → walk_end (rename_new_walk nat_eq looks task new (is_directory_there nat_eq looks from)) ≡ Ok to

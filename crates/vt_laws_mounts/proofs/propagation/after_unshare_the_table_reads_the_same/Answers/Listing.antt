@@ -60,18 +60,8 @@ module _ (world : World ℕ) (fresh : Fresh ℕ) (task : Task ℕ) (serves : Ser
 
   new_apart : (a b : Mount ℕ) → Among a copied → Among b copied
       → nat_eq (new_number a.number) (new_number b.number) ≡ nat_eq a.number b.number
-  new_apart a b m n = grind (
-    arith,
-    common_steps,
-    new_number,
-    eq-eqb,
-    eqb-true,
-    true≢false,
-    one_index,
-    is_one_of,
-    odds-distinct,
-    served-distinct,
-  )
+  new_apart a b m n =
+      grind (arith, common_steps, eq-eqb, eqb-true, true≢false, one_index, is_one_of, odds-distinct, served-distinct)
 
   -- the parent of a mount of a namespace is in the namespace
   parent_inside : (namespace : ℕ) (mount : Mount ℕ) → Among mount (mounts_of nat_eq world namespace)

@@ -1,10 +1,10 @@
 -- Looks at counted inodes and at the tree.
-use Rattle.std.proofs.Common.{◌≡◌, refl, sym, ap, ◌∙◌, ⊎_elim, ℕ, zero, suc, nat_eq, Bool, true, false, true≢false, cond, ◌||◌, List, [], ◌∷◌, length, Option, Some, None}
+use Rattle.std.proofs.Common.{arith, ◌≡◌, refl, sym, ap, ◌∙◌, ⊎_elim, ℕ, zero, suc, nat_eq, Bool, true, false, true≢false, cond, ◌||◌, List, [], ◌∷◌, length, Option, Some, None}
+use Rattle.std.proofs.lemmas.Grind.{common_steps}
 use Rattle.vt_spec.specs.FileTree.{has_entry_to, named_parent}
 use Rattle.vt_spec.specs.Lists.{chain, is_among, when}
 use Rattle.vt_spec.specs.Rights.{is_directory}
-use Rattle.vt_spec.specs.Tree.{Content, Node, Tree, entries_in, is_directory_node, kind_of, parent_in, parent_of}
-use Rattle.vt_spec.specs.Tree.Content.{Directory, Regular, Symlink, Whiteout}
+use Rattle.vt_spec.specs.Tree.{Node, Tree, entries_in, is_directory_node, parent_in}
 use Rattle.vt_spec.specs.TreeInvariant.{HasOwnParents, IsTree}
 use Rattle.vt_laws_mounts.specs.Counts.Looking.{CountedTreeIsTheTree, DirectoriesLieAlike}
 use Rattle.std.proofs.Math.Bool.{or-false}
@@ -17,14 +17,7 @@ counted_tree_is_the_tree world filesystem inodes counted =
 
 -- what is no directory is its own parent
 own_parent : (own : ℕ) (o : Option (Node ℕ)) → is_directory_node o ≡ false → parent_in own o ≡ own
-own_parent own None e = refl
-own_parent own (Some node) e = by node.content e
-  where
-    by : (content : Content ℕ) → is_directory (kind_of content) ≡ false → parent_of own content ≡ own
-    by (Directory parent entries opaque) e = cc
-    by (Regular bytes) e = refl
-    by (Symlink text) e = refl
-    by Whiteout e = refl
+own_parent own o e = grind (arith, common_steps)
 
 twice : (a : Bool) → (a || a) ≡ a
 twice true = refl
@@ -66,13 +59,7 @@ module _ (tree : Tree ℕ) (is : IsTree tree) (own : HasOwnParents tree) (top : 
           → (above d ≡ Some d → among (chain most above d) ≡ nat_eq top d)
           → among (next_of (chain most above) d (cond r None (Some (parent_in d (tree.node d)))))
           ≡ among (next_of (chain most named) d (cond r None (when e (parent_in d (tree.node d)))))
-      at true root e entry later self = refl
-      at false root true entry later self = ap (λ b. nat_eq top d || b) later
-      at false root false entry later self =
-          let same : parent_in d (tree.node d) ≡ d = parent_is_own d entry in
-          ap (λ p. nat_eq top d || among (chain most above p)) same ∙ ap (λ b. nat_eq top d || b) (self
-          (ap (λ b. cond b None (Some (parent_in d (tree.node d)))) root ∙ ap Some same))
-          ∙ twice (nat_eq top d) ∙ sym (or-false (nat_eq top d))
+      at r root e entry later self = grind (arith, common_steps, parent_is_own, twice, or-false)
 
 pub directories_lie_alike : DirectoriesLieAlike
 directories_lie_alike world filesystem inodes top directory is own counted =
