@@ -1,5 +1,6 @@
 -- What is removed and renamed may be.
-use Rattle.std.proofs.Common.{eqb-true, ◌≡◌, ◌≢◌, refl, sym, ap, subst, ◌∙◌, true≢false, ℕ, nat_eq, eq-eqb, Bool, true, false, not, List, [], ◌∷◌, ◌&&◌, Option, Some, None, is_some, option_map}
+use Rattle.std.proofs.Common.{arith, eqb-true, ◌≡◌, ◌≢◌, refl, sym, ap, subst, ◌∙◌, true≢false, ℕ, nat_eq, eq-eqb, Bool, true, false, not, List, [], ◌∷◌, ◌&&◌, Option, Some, None, is_some, option_map}
+use Rattle.std.proofs.lemmas.Grind.{common_steps}
 use Rattle.vt_spec.specs.Errors.{NoneFails}
 use Rattle.std.specs.Prelude.{unwrap_or}
 use Rattle.vt_spec.specs.Tree.{entries_in, entry_named, is_directory_node}
@@ -172,11 +173,4 @@ module _ (world : World ℕ) (task : Task ℕ) (from to : Place ℕ)
           ∙ passed.0)
 
   pub may_move : MayMove files.tree from.parent.node (name_of from.last) to.parent.node (name_of to.last) old.node
-  may_move = record {
-    named = old_is.1;
-    in_directory = to_directory;
-    reached = to_reached;
-    not_under = moves_not_under;
-    replaced_other = moves_other;
-    replaced_empty = moves_empty;
-  }
+  may_move = grind (arith, common_steps, old_is, to_directory, to_reached, moves_not_under, moves_other, moves_empty)

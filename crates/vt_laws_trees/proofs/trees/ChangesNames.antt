@@ -1,5 +1,6 @@
 -- The entries of a tree in which a name is given, or taken away.
-use Rattle.std.proofs.Common.{◌≡◌, ◌≢◌, refl, sym, ap, ◌∙◌, true≢false, ℕ, nat_eq, Bool, true, false, not, cond, List, [], ◌⊎◌, inl, inr, ⊎_elim, Some, None}
+use Rattle.std.proofs.Common.{arith, ◌≡◌, ◌≢◌, refl, sym, ap, ◌∙◌, true≢false, ℕ, nat_eq, Bool, true, false, not, cond, List, [], ◌⊎◌, inl, inr, ⊎_elim, Some, None}
+use Rattle.std.proofs.lemmas.Grind.{common_steps}
 use Rattle.std.proofs.lemmas.Bool.Decides.{eqb_tells}
 use Rattle.std.proofs.lemmas.Float.{T_from_true}
 use Rattle.std.specs.Str.{bytes_eq}
@@ -120,17 +121,8 @@ module _ (files : FileTree ℕ) (directory : ℕ) (name : List ℕ) (number : �
   -- every entry stays, but for what had that name
   pub given_kept : (d : ℕ) (n : List ℕ) (k : ℕ) → entry_at files.tree d n ≡ Some k
       → ((d ≡ directory) × (n ≡ name)) ⊎ (entry_at (with_name nat_eq files directory name number).tree d n ≡ Some k)
-  given_kept d n k e = ⊎_elim (λ t. by (eq_by_cmp name_cmp n name) refl t.1)
-      (λ t. inr (ap (entry_named n) (given_elsewhere d t.1) ∙ e)) (eqb_tells d directory)
-    where
-      by : (b : Bool) → eq_by_cmp name_cmp n name ≡ b → d ≡ directory
-          → ((d ≡ directory) × (n ≡ name)) ⊎ (entry_at (with_name nat_eq files directory name number).tree d n ≡ Some k)
-      by true tie here = inl (here, same_name n name tie)
-      by false apart here = inr (ap (λ m. entry_at (with_name nat_eq files directory name number).tree m n) here
-          ∙ ap (entry_named n) given_there
-          ∙ entry_named-with_entry n name number (entries_in (files.tree.node directory))
-          ∙ ap (λ b. cond b (Some number) (entry_named n (entries_in (files.tree.node directory)))) apart
-          ∙ ap (λ m. entry_at files.tree m n) (sym here) ∙ e)
+  given_kept d n k e =
+      grind (arith, common_steps, given_elsewhere, eqb_tells, same_name, given_there, entry_named-with_entry)
 
   -- entries stay in order
   pub given_in_order : ((d : ℕ) → is_sorted name_cmp (entries_in (files.tree.node d)) ≡ true)

@@ -1,5 +1,6 @@
 -- What an inode keeps when it loses an entry, its entries, or gets another parent, attributes or mark.
-use Rattle.std.proofs.Common.{◌≡◌, ◌≢◌, refl, ℕ, nat_eq, Bool, Option, Some, None, is_some}
+use Rattle.std.proofs.Common.{arith, ◌≡◌, ◌≢◌, refl, ℕ, nat_eq, Bool, Option, Some, None, is_some}
+use Rattle.std.proofs.lemmas.Grind.{common_steps}
 use Rattle.vt_spec.specs.declared.attributes.Attr.{Attr}
 use Rattle.vt_spec.specs.Rights.{is_directory}
 use Rattle.vt_spec.specs.Tree.{Node, Content, kind_of, entries_of, is_directory_node, entries_in, parent_of, parent_in}
@@ -33,23 +34,7 @@ elsewhere files number change other differ = node_other files.tree number (chang
 
 -- other attributes
 pub attr_keeps_place : (attr : Attr) → KeepsPlace (node_with_attr attr)
-attr_keeps_place attr = record { kind = kind; used = used; entries = entries; parent = parent }
-  where
-    kind : (o : Option (Node ℕ)) → is_directory_node (node_with_attr attr o) ≡ is_directory_node o
-    kind None = refl
-    kind (Some node) = refl
-
-    used : (o : Option (Node ℕ)) → is_some (node_with_attr attr o) ≡ is_some o
-    used None = refl
-    used (Some node) = refl
-
-    entries : (o : Option (Node ℕ)) → entries_in (node_with_attr attr o) ≡ entries_in o
-    entries None = refl
-    entries (Some node) = refl
-
-    parent : (own : ℕ) (o : Option (Node ℕ)) → parent_in own (node_with_attr attr o) ≡ parent_in own o
-    parent own None = refl
-    parent own (Some node) = refl
+attr_keeps_place attr = grind (arith, common_steps)
 
 -- another mark
 module _ (opaque : Bool) where
@@ -74,23 +59,7 @@ module _ (opaque : Bool) where
   mark_parent own Whiteout = refl
 
   pub mark_keeps_place : KeepsPlace (node_with_mark opaque)
-  mark_keeps_place = record { kind = kind; used = used; entries = entries; parent = parent }
-    where
-      kind : (o : Option (Node ℕ)) → is_directory_node (node_with_mark opaque o) ≡ is_directory_node o
-      kind None = refl
-      kind (Some node) = mark_kind node.content
-
-      used : (o : Option (Node ℕ)) → is_some (node_with_mark opaque o) ≡ is_some o
-      used None = refl
-      used (Some node) = refl
-
-      entries : (o : Option (Node ℕ)) → entries_in (node_with_mark opaque o) ≡ entries_in o
-      entries None = refl
-      entries (Some node) = mark_entries node.content
-
-      parent : (own : ℕ) (o : Option (Node ℕ)) → parent_in own (node_with_mark opaque o) ≡ parent_in own o
-      parent own None = refl
-      parent own (Some node) = mark_parent own node.content
+  mark_keeps_place = grind (arith, common_steps, mark_kind, mark_entries, mark_parent)
 
 -- with itself as the parent, it is its own
 pub own_parent-node_with_parent : (own : ℕ) (o : Option (Node ℕ)) → parent_in own (node_with_parent own o) ≡ own

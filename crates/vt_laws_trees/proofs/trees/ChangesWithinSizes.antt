@@ -1,4 +1,5 @@
 -- Every call but the mount of an overlay keeps names, link texts and files within the limits.
+use Rattle.std.proofs.lemmas.Grind.{common_steps}
 use Rattle.std.proofs.Common.{arith, eq-eqb, ◌≡◌, refl, sym, ap, subst, ◌∙◌, true≢false, ℕ, ◌+◌, ◌≤◌, nat_eq, nat_le, le-leb, leb-true, ltb-false, Bool, true, false, not, cond, List, [], ◌∷◌, ◌++◌, length, take, drop, ◌&&◌, inl, inr, ⊎_elim, Option, Some, None, is_some, ok_or}
 use Rattle.std.proofs.lemmas.List.{length-append, length-drop, length-take}
 use Rattle.std.specs.List.{All, list_all, list_any}
@@ -20,7 +21,7 @@ use Rattle.vt_spec.specs.Machine.Filesystems.{filesystem_changed, filesystems_ra
 use Rattle.vt_spec.specs.Lists.{Fresh, evens, odds}
 use Rattle.vt_spec.specs.Machine.Mounts.{Location}
 use Rattle.vt_spec.proofs.Tables.{pwrite_rules, with_new}
-use Rattle.vt_spec.specs.Machine.Descriptors.{is_copied_up, overwritten, padded, pwritten, with_copy}
+use Rattle.vt_spec.specs.Machine.Descriptors.{is_copied_up, overwritten, pwritten, with_copy}
 use Rattle.vt_spec.specs.Machine.Rows.{file_mode, linking, making, new_file}
 use Rattle.vt_spec.specs.Machine.NewMounts.{plain_filesystem}
 use Rattle.vt_spec.specs.Machine.Rules.Removing.{moving, object_there, removing}
@@ -99,15 +100,8 @@ module _ (fresh : Fresh ℕ) (world : World ℕ) (location : Location ℕ) (chan
 -- bytes written into a file end where they end, or where it ended
 pub overwritten_length : (offset : ℕ) (more bytes : List ℕ) (most : ℕ) → offset + length more ≤ most
     → length bytes ≤ most → length (overwritten offset more bytes) ≤ most
-overwritten_length offset more bytes most short old = omega (
-  arith,
-  length-append (take offset (padded offset bytes) ++ more) (drop (offset + length more) bytes),
-  length-append (take offset (padded offset bytes)) more,
-  length-drop (offset + length more) bytes,
-  length-take offset (padded offset bytes),
-  short,
-  old,
-)
+overwritten_length offset more bytes most short old =
+    grind (arith, common_steps, length-append, length-drop, length-take)
 
 overwritten_fits : (offset : ℕ) (more : List ℕ) → offset + length more ≤ largest_file → (o : Option (Node ℕ))
     → fits o ≡ true → fits (node_with_bytes (overwritten offset more (bytes_in o)) o) ≡ true

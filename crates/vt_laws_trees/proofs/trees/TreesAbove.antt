@@ -1,13 +1,14 @@
 -- The directories above a directory, one by one: a directory under another sees it above itself.
-use Rattle.std.proofs.Common.{◌≡◌, ◌≢◌, refl, sym, ap, subst, ◌∙◌, true≢false, ℕ, zero, suc, ◌+◌, ◌-◌, ◌<◌, ◌≤◌, arith, nat_eq, eq-eqb, eqb-true, ne_eqb, Bool, true, false, cond, List, [], ◌∷◌, length, map, ◌||◌, ⊎_elim, Option, Some, None, option_and_then, unwrap_or}
+use Rattle.std.proofs.lemmas.Grind.{common_steps}
+use Rattle.std.proofs.Common.{◌≡◌, ◌≢◌, refl, sym, ap, subst, ◌∙◌, true≢false, ℕ, zero, suc, ◌+◌, ◌-◌, ◌<◌, ◌≤◌, arith, nat_eq, eq-eqb, eqb-true, ne_eqb, Bool, true, false, cond, List, [], ◌∷◌, length, ◌||◌, ⊎_elim, Option, Some, None, option_and_then, unwrap_or}
 use Rattle.std.proofs.lemmas.Bool.{cases_lt, or_right}
 use Rattle.std.proofs.lemmas.Map.Made.{length-le_from_is_member}
 use Rattle.std.proofs.lemmas.Option.{same_Some}
 use Rattle.std.specs.Cmp.{nat_eq_equiv}
 use Rattle.std.specs.List.{AllByRecursion, IsDistinct}
 use Rattle.vt_spec.specs.Rights.{is_directory}
-use Rattle.vt_spec.specs.Tree.{Content, Node, Tree, entries_in, entries_of, is_directory_node, kind_of, parent_in}
-use Rattle.vt_spec.specs.Tree.Content.{Directory, Regular, Symlink, Whiteout}
+use Rattle.vt_spec.specs.Tree.{Node, Tree, entries_in, is_directory_node, parent_in}
+use Rattle.vt_spec.specs.Tree.Content.{Directory}
 use Rattle.vt_spec.specs.TreeInvariant.{entry_at, led, IsDirectory, IsReached, IsTree}
 use Rattle.vt_spec.specs.FileTree.{FileTree, has_entry_to, is_directory_under, named_parent, targets_in}
 use Rattle.vt_spec.specs.Lists.{chain, is_among, when}
@@ -49,25 +50,10 @@ module _ (tree : Tree ℕ) where
   -- what has an entry to something is a directory
   entry_to_directory : (o : Option (Node ℕ)) (k : ℕ) → is_among nat_eq k (targets_in o) ≡ true
       → is_directory_node o ≡ true
-  entry_to_directory None k h = absurd (true≢false (sym h))
-  entry_to_directory (Some node) k h = by node.content h
-    where
-      by : (content : Content ℕ) → is_among nat_eq k (map (λ e. e.1) (entries_of content)) ≡ true
-          → is_directory (kind_of content) ≡ true
-      by (Directory parent entries opaque) h = refl
-      by (Regular bytes) h = absurd (true≢false (sym h))
-      by (Symlink text) h = absurd (true≢false (sym h))
-      by Whiteout h = absurd (true≢false (sym h))
+  entry_to_directory o k h = grind (arith, common_steps, true≢false)
 
   parent_is_directory : (k d : ℕ) → named_parent nat_eq tree k ≡ Some d → IsDirectory tree d
-  parent_is_directory k d e = by (nat_eq k tree.root) (has_entry_to nat_eq tree (parent_in k (tree.node k)) k) refl e
-    where
-      by : (a b : Bool) → has_entry_to nat_eq tree (parent_in k (tree.node k)) k ≡ b
-          → cond a None (when b (parent_in k (tree.node k))) ≡ Some d → IsDirectory tree d
-      by true b h e = none_is_not None d refl e
-      by false true h e = subst (IsDirectory tree) (same_Some (parent_in k (tree.node k)) d e)
-          (entry_to_directory (tree.node (parent_in k (tree.node k))) k h)
-      by false false h e = none_is_not None d refl e
+  parent_is_directory k d e = grind (arith, common_steps, none_is_not, same_Some, entry_to_directory)
 
   root_above_none : named_parent nat_eq tree tree.root ≡ None
   root_above_none = ap (λ b. cond b None

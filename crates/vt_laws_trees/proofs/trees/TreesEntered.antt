@@ -1,8 +1,8 @@
 -- What a path leads to is there, where the roots of mounts and their places are.
-use Rattle.std.proofs.Common.{◌≡◌, ◌≢◌, refl, sym, ap, subst, ◌∙◌, true≢false, ℕ, zero, suc, nat_eq, Bool, true, false, not, cond, List, [], ◌∷◌, length, reverse, ◌==◌, ⊎_elim, Option, Some, None, is_some, option_map, ok_or, Result, Ok, Err}
-use Rattle.std.specs.Prelude.{codes, filter, unwrap_or}
+use Rattle.std.proofs.Common.{arith, ◌≡◌, ◌≢◌, refl, sym, ap, subst, ◌∙◌, true≢false, ℕ, zero, suc, nat_eq, Bool, true, false, not, cond, List, [], ◌∷◌, length, reverse, ◌==◌, ⊎_elim, Option, Some, None, is_some, option_map, ok_or, Result, Ok, Err}
+use Rattle.std.proofs.lemmas.Grind.{common_steps}
+use Rattle.std.specs.Prelude.{filter, unwrap_or}
 use Rattle.std.specs.List.{All, find}
-use Rattle.std.specs.Str.{bytes_eq}
 use Rattle.std.proofs.lemmas.List.{length-reverse, nil_from_length}
 use Rattle.std.proofs.lemmas.List.Elements.{All-head, All-tail}
 use Rattle.vt_spec.specs.declared.errors.Deny.{Deny}
@@ -46,16 +46,7 @@ chain_ends Q next step (suc most) default start q = by (next start) refl (λ b p
 
 -- a path without words is a path of slashes
 one_part : (byte : ℕ) (list : List (List ℕ)) → filter (λ part. not (is_empty part)) (with_byte false byte list) ≢ []
-one_part byte [] e = true≢false (sym (ap is_nil e))
-  where
-    is_nil : List (List ℕ) → Bool
-    is_nil [] = true
-    is_nil (x ∷ xs) = false
-one_part byte (part ∷ list) e = true≢false (sym (ap is_nil e))
-  where
-    is_nil : List (List ℕ) → Bool
-    is_nil [] = true
-    is_nil (x ∷ xs) = false
+one_part byte list e = grind (arith, common_steps, true≢false)
 
 no_words : (text : List ℕ) → words text ≡ [] → is_empty text ≡ false → ends_in_slash text ≡ true
 no_words [] e h = absurd (true≢false h)
@@ -74,12 +65,7 @@ no_words (byte ∷ next ∷ bytes) e h = by (byte == 47) e (λ g. no_words (next
 
 -- a word is no missing word
 is_some_word : (word : List ℕ) → is_no_word (last_word word) ≡ false
-is_some_word word = by (bytes_eq word (codes ".")) (bytes_eq word (codes ".."))
-  where
-    by : (a b : Bool) → is_no_word (cond a Dot (cond b DotDot (Named word))) ≡ false
-    by true b = refl
-    by false true = refl
-    by false false = refl
+is_some_word word = grind (arith, common_steps)
 
 -- where a directory is, there is a tree
 pub directory_in_tree : (world : World ℕ) → All (λ (f : Filesystem ℕ). IsTree f.files.tree) world.filesystems

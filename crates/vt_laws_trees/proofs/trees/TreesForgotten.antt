@@ -1,5 +1,6 @@
 -- A tree without the inodes that are not used is a tree.
-use Rattle.std.proofs.Common.{eqb-true, ◌≡◌, refl, sym, ap, subst, ◌∙◌, true≢false, ℕ, nat_eq, eq-eqb, Bool, true, false, cond, List, [], ◌∷◌, ◌++◌, not, ◌&&◌, ◌||◌, ⊎_elim, Some, None, is_some}
+use Rattle.std.proofs.Common.{arith, eqb-true, ◌≡◌, refl, sym, ap, subst, ◌∙◌, true≢false, ℕ, nat_eq, eq-eqb, Bool, true, false, cond, List, [], ◌∷◌, ◌++◌, not, ◌&&◌, ◌||◌, ⊎_elim, Some, None, is_some}
+use Rattle.std.proofs.lemmas.Grind.{common_steps}
 use Rattle.std.specs.List.{filter, flat_map, list_all, list_any}
 use Rattle.std.proofs.lemmas.Map.Views.{any-filter_same}
 use Rattle.std.proofs.lemmas.List.Elements.{All-filter, All-map, All-weaker}
@@ -164,13 +165,7 @@ module _ (world : World ℕ) (filesystem : Filesystem ℕ) where
   pub among_named_or_located : (number : ℕ)
       → is_among nat_eq number (named_in filesystem.files ++ located_in nat_eq world filesystem.number) ≡ true
       → is_among nat_eq number (used_in nat_eq world filesystem) ≡ true
-  among_named_or_located number h =
-      or_right (nat_eq number filesystem.files.tree.root) (is_among nat_eq number used_under_root) (is_among_left number
-      (named_in filesystem.files ++ located_in nat_eq world filesystem.number
-      ++ layers_in nat_eq world filesystem.number)
-      (flat_map (objects_of_overlay nat_eq filesystem.number) world.filesystems)
-      (is_among_left number (named_in filesystem.files ++ located_in nat_eq world filesystem.number)
-      (layers_in nat_eq world filesystem.number) h))
+  among_named_or_located number h = grind (arith, common_steps, or_right, is_among_left)
 
   pub among_located : (number : ℕ) → is_among nat_eq number (located_in nat_eq world filesystem.number) ≡ true
       → is_among nat_eq number (used_in nat_eq world filesystem) ≡ true
@@ -219,12 +214,7 @@ settling_keeps_trees world trees =
 
 -- what is used stays, and what is not is gone
 pub used_stays : UsedStays
-used_stays world filesystem number is = by _
-  where
-    by : (b : Bool) → (only_used_by nat_eq b (used_in nat_eq world filesystem) filesystem).files.tree.node number
-        ≡ filesystem.files.tree.node number
-    by true = refl
-    by false = ap (λ b. cond b (filesystem.files.tree.node number) None) is
+used_stays world filesystem number is = grind (arith, common_steps)
 
 -- a list of which each passes has none that does not
 all_pass : (test : ℕ → Bool) (xs : List ℕ) (x : ℕ) → list_all test xs ≡ true → test x ≡ false

@@ -1,8 +1,8 @@
 -- No call breaks a limit of a task.
-use Rattle.std.proofs.Common.{◌≡◌, refl, sym, ap, ◌∙◌, true≢false, ℕ, nat_eq, nat_le, Bool, true, false, not, cond, List, [], ◌∷◌, length, map, ◌+◌, Option, Some, None, ok_or, Result, Ok, Err}
+use Rattle.std.proofs.Common.{arith, ◌≡◌, refl, sym, ap, ◌∙◌, true≢false, ℕ, nat_eq, nat_le, Bool, true, false, not, cond, List, [], ◌∷◌, length, map, ◌+◌, Option, Some, None, ok_or, Ok}
+use Rattle.std.proofs.lemmas.Grind.{common_steps}
 use Rattle.std.specs.Prelude.{unwrap_or}
 use Rattle.std.specs.List.{find, list_all}
-use Rattle.vt_spec.specs.declared.errors.Deny.{Deny}
 use Rattle.vt_spec.specs.declared.errors.Rule.TheVariants.{S2}
 use Rattle.vt_spec.specs.Errors.{denial}
 use Rattle.vt_spec.specs.Language.Calls.{Access, Call, ForkWords, TaskName, TypeWord, same_name}
@@ -12,7 +12,7 @@ use Rattle.vt_spec.specs.Language.Changes.Change.{CopyUp, SetMark}
 use Rattle.vt_spec.specs.Machine.Detach.{deepest_first, lazily_unmounted, unmounted, unmounted_if_there, without_mounts_on, without_replaced}
 use Rattle.vt_spec.specs.Machine.Filesystems.{raised, with_change}
 use Rattle.vt_spec.specs.Lists.{Fresh, evens, folded, odds}
-use Rattle.vt_spec.specs.Machine.Mounts.{Location, Mount, mount_tree, numbers_by}
+use Rattle.vt_spec.specs.Machine.Mounts.{Location, Mount, mount_tree}
 use Rattle.vt_spec.specs.Machine.Namespaces.{namespace_entered, namespaces_ended, pivoted, pivoted_location, pivoted_task, unshared}
 use Rattle.vt_spec.specs.Machine.Descriptors.{is_copied_up, pwritten, with_copy, with_descriptor, without_descriptor}
 use Rattle.vt_spec.specs.Language.Limits.{deepest_name, most_descriptors, most_forks}
@@ -23,7 +23,7 @@ use Rattle.vt_spec.specs.Machine.Rules.Removing.{moving, object_there, removing}
 use Rattle.vt_spec.specs.Machine.Tasks.{child_credentials, child_of}
 use Rattle.vt_spec.specs.Machine.Outcomes.{Outcome}
 use Rattle.vt_spec.specs.Machine.Policy.{call_outcome, finished_by, raised_task}
-use Rattle.vt_spec.specs.Machine.Types.{named_mounts, retyped_mount, with_new_groups, with_type}
+use Rattle.vt_spec.specs.Machine.Types.{with_type}
 use Rattle.vt_spec.specs.Machine.Walking.{Place}
 use Rattle.vt_spec.specs.Machine.Invariants.{is_within_limits}
 use Rattle.vt_spec.proofs.Nodes.{none_is_not}
@@ -57,13 +57,7 @@ lazily_tasks (mount ∷ mounts) world = lazily_tasks mounts (unmounted_if_there 
 
 pub typed_tasks : (fresh : Fresh ℕ) (world : World ℕ) (number : ℕ) (word : TypeWord) (recursive : Bool)
     → (with_type nat_eq fresh world number word recursive).tasks ≡ world.tasks
-typed_tasks fresh world number word recursive =
-    let named = named_mounts nat_eq world number recursive in
-    let group = numbers_by nat_eq fresh named in
-    tasks-regrouped (record world {
-      mounts = map (retyped_mount nat_eq group word named) world.mounts;
-      master = with_new_groups nat_eq group world.master named;
-    })
+typed_tasks fresh world number word recursive = grind (arith, common_steps, tasks-regrouped)
 
 -- a task in the place of the one with its name
 task_keeps : (world : World ℕ) (task : Task ℕ) → is_within_limits task ≡ true → HasSmallTasks world
@@ -241,12 +235,7 @@ finished_small before name changed outcome false small =
         by false = h
 
 found_task : (o : Option (Task ℕ)) (task : Task ℕ) → ok_or o (denial S2) ≡ Ok task → o ≡ Some task
-found_task None task e = absurd (true≢false (sym (ap is_ok_result e)))
-  where
-    is_ok_result : Result (Task ℕ) Deny → Bool
-    is_ok_result (Ok l) = true
-    is_ok_result (Err d) = false
-found_task (Some other) task e = ap Some (ok_same other task (Ok other) refl e)
+found_task o task e = grind (arith, common_steps, true≢false, ok_same)
 
 pub calls_keep_small_tasks : CallsKeepSmallTasks
 calls_keep_small_tasks world fresh name call small few =

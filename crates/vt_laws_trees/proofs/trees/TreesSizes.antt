@@ -1,8 +1,8 @@
 -- The last word of a path is a name within the limits.
-use Rattle.std.proofs.Common.{◌≡◌, refl, ap, true≢false, ℕ, zero, suc, ◌+◌, nat_le, nat_lt, le-leb, ltb-false, Bool, true, false, not, cond, List, [], ◌∷◌, length, reverse, ◌&&◌, ◌||◌, Option, Some, None, is_some, Result, nat_eq}
-use Rattle.std.specs.Prelude.{⊤, codes}
+use Rattle.std.proofs.Common.{arith, ◌≡◌, refl, true≢false, ℕ, zero, suc, ◌+◌, nat_le, nat_lt, le-leb, ltb-false, Bool, true, false, not, cond, List, [], ◌∷◌, length, reverse, ◌&&◌, ◌||◌, Option, Some, None, is_some, Result, nat_eq}
+use Rattle.std.proofs.lemmas.Grind.{common_steps}
+use Rattle.std.specs.Prelude.{⊤}
 use Rattle.std.specs.List.{filter, list_all, list_any}
-use Rattle.std.specs.Str.{bytes_eq}
 use mathlib.Core.List.{reverse_aux}
 use Rattle.vt_spec.specs.declared.errors.Rule.TheVariants.{W6}
 use Rattle.vt_spec.specs.PathText.{ends_in_slash, is_empty, parts, path_rules, words}
@@ -33,15 +33,7 @@ parts_fit (part ∷ list) h = by (is_empty part) refl h (λ g. parts_fit list g)
         → list_all is_fit_name (filter (λ p. not (is_empty p)) list) ≡ true)
         → list_all is_fit_name (cond (not b) (part ∷ filter (λ p. not (is_empty p)) list)
         (filter (λ p. not (is_empty p)) list)) ≡ true
-    by true e g rest = rest g
-    by false e g rest =
-        let short = or_false_left (nat_lt longest_name (length part))
-        (list_any (λ word. nat_lt longest_name (length word)) (filter (λ p. not (is_empty p)) list)) g in
-        let later = (or_parts (nat_lt longest_name (length part))
-        (list_any (λ word. nat_lt longest_name (length word)) (filter (λ p. not (is_empty p)) list)) g).1 in
-        both (is_fit_name part) (list_all is_fit_name (filter (λ p. not (is_empty p)) list))
-        (both (not (is_empty part)) (nat_le (length part) longest_name) (ap not e) (no_longer longest_name part short))
-        (rest later)
+    by b e g rest = grind (arith, common_steps, or_false_left, or_parts, both, no_longer)
 
 all_turned : (test : List ℕ → Bool) (list done : List (List ℕ)) → list_all test list ≡ true → list_all test done ≡ true
     → list_all test (reverse_aux list done) ≡ true
@@ -67,13 +59,7 @@ fit_name_of DotDot plain fit = absurd (true≢false plain)
 fit_name_of (Named name) plain fit = fit
 
 final_fits : (list : List (List ℕ)) → list_all is_fit_name list ≡ true → IsFitWord (final_word list)
-final_fits [] h = tt
-final_fits (word ∷ front) h = by (bytes_eq word (codes ".")) (bytes_eq word (codes ".."))
-  where
-    by : (a b : Bool) → IsFitWord (cond a Dot (cond b DotDot (Named word)))
-    by true b = tt
-    by false true = tt
-    by false false = (and_parts (is_fit_name word) (list_all is_fit_name front) h).0
+final_fits list h = grind (arith, common_steps, and_parts)
 
 -- a text whose words are names
 abbrev pub HasFitWords : List ℕ → Type 0

@@ -1,5 +1,6 @@
 -- What calls do to tasks keeps the limits of tasks.
-use Rattle.std.proofs.Common.{nat_eq, ◌≡◌, ◌≢◌, refl, sym, ap, ◌∙◌, true≢false, ℕ, suc, ◌+◌, ◌<◌, ◌≤◌, ◌==◌, ◌%◌, arith, nat_le, nat_lt, eq-eqb, eqb-true, le-leb, le-ltb, leb-true, leb-false, lt-ltb, Bool, true, false, not, cond, List, [], ◌∷◌, ◌++◌, length, map, ◌&&◌, Option, Some, None}
+use Rattle.std.proofs.lemmas.Grind.{common_steps}
+use Rattle.std.proofs.Common.{nat_eq, ◌≡◌, ◌≢◌, refl, ap, ◌∙◌, true≢false, ℕ, suc, ◌+◌, ◌<◌, ◌≤◌, ◌==◌, ◌%◌, arith, nat_le, nat_lt, eq-eqb, eqb-true, le-leb, le-ltb, leb-true, leb-false, lt-ltb, Bool, true, false, not, cond, List, [], ◌∷◌, ◌++◌, length, map, ◌&&◌, Option, Some, None}
 use Rattle.std.proofs.Math.Nat.{mod-lt}
 use Rattle.std.proofs.lemmas.List.{length-append}
 use Rattle.std.proofs.lemmas.Bool.{and_parts}
@@ -157,31 +158,21 @@ inserted_ascending least new (descriptor ∷ list) e h =
         → (new.number ≡ free_from (least + 1) list → are_ascending_from (least + 1) list ≡ true
         → are_ascending_from (least + 1) (inserted new list) ≡ true) → are_ascending_from least
         (cond (nat_lt new.number descriptor.number) (new ∷ descriptor ∷ list) (descriptor ∷ inserted new list)) ≡ true
-    by true same f later =
-        let is : descriptor.number ≡ least = eqb-true descriptor.number least same in
-        ap (λ b. are_ascending_from least (cond b (new ∷ descriptor ∷ list) (descriptor ∷ inserted new list)))
-        (passed (free_above (least + 1) list) is)
-        ∙ both (nat_le least descriptor.number) (are_ascending_from (descriptor.number + 1) (inserted new list)) low
-        (ap (λ n. are_ascending_from (n + 1) (inserted new list)) is
-        ∙ later f (ap (λ n. are_ascending_from (n + 1) list) (sym is) ∙ rest))
-      where
-        passed : least + 1 ≤ free_from (least + 1) list → descriptor.number ≡ least
-            → nat_lt new.number descriptor.number ≡ false
-        passed above is = le-ltb new.number descriptor.number (omega (arith, f, above, is))
-    by false differ f later =
-        ap (λ b. are_ascending_from least (cond b (new ∷ descriptor ∷ list) (descriptor ∷ inserted new list)))
-        (lt-ltb new.number descriptor.number below) ∙ both (nat_le least new.number)
-        (nat_le (new.number + 1) descriptor.number && are_ascending_from (descriptor.number + 1) list)
-        (le-leb least new.number (omega (arith, f)))
-        (both (nat_le (new.number + 1) descriptor.number) (are_ascending_from (descriptor.number + 1) list)
-        (le-leb (new.number + 1) descriptor.number (omega (arith, below))) rest)
-      where
-        below : new.number < descriptor.number
-        below =
-            let apart : descriptor.number ≢ least =
-            λ same. true≢false (sym (eq-eqb descriptor.number least same) ∙ differ) in
-            let above : least ≤ descriptor.number = leb-true least descriptor.number low in
-            omega (arith, f, apart, above)
+    by b same f later = grind (
+      arith,
+      common_steps,
+      later,
+      eqb-true,
+      free_above,
+      low,
+      rest,
+      le-ltb,
+      lt-ltb,
+      le-leb,
+      true≢false,
+      eq-eqb,
+      leb-true,
+    )
 
 filtered_length : (stays : Descriptor ℕ → Bool) (list : List (Descriptor ℕ)) → length (filter stays list) ≤ length list
 filtered_length stays [] = omega arith

@@ -1,5 +1,6 @@
 -- What is known of the end of a walk: the directory of a name is one, and the name leads where its entry does.
-use Rattle.std.proofs.Common.{◌≡◌, refl, sym, ap, ◌∙◌, true≢false, ℕ, zero, suc, ◌+◌, nat_eq, Bool, true, false, not, List, [], ◌∷◌, ◌&&◌, ◌||◌, Option, Some, None, is_some, option_map, Result, Ok, Err, reverse, subst}
+use Rattle.std.proofs.Common.{arith, ◌≡◌, refl, sym, ap, ◌∙◌, true≢false, ℕ, zero, suc, ◌+◌, nat_eq, Bool, true, false, not, List, [], ◌∷◌, ◌&&◌, ◌||◌, Option, Some, None, is_some, option_map, Result, Ok, Err, reverse, subst}
+use Rattle.std.proofs.lemmas.Grind.{common_steps}
 use Rattle.std.specs.Prelude.{⊤}
 use Rattle.vt_spec.specs.declared.errors.Deny.{Deny}
 use Rattle.vt_spec.specs.declared.errors.Rule.TheVariants.{W3, W6}
@@ -169,14 +170,7 @@ module _ (world : World ℕ) (task : Task ℕ) where
   entered_file : (parent : Location ℕ) (last : LastWord) (object : Option (Location ℕ))
       → IsPlaceOf world parent last object
       → IsFileOf world parent last (option_map (topmost nat_eq world.mounts) object)
-  entered_file parent NoWord object is = tt
-  entered_file parent Dot object is = tt
-  entered_file parent DotDot object is = tt
-  entered_file parent (Named name) object is = (is.0, λ none. sym is.1 ∙ was_none object none)
-    where
-      was_none : (o : Option (Location ℕ)) → option_map (topmost nat_eq world.mounts) o ≡ None → o ≡ None
-      was_none None e = refl
-      was_none (Some x) e = absurd (true≢false (ap is_some e))
+  entered_file parent last object is = grind (arith, common_steps, true≢false)
 
   ends_file_or_link : (place : Place ℕ) (text : Option (List ℕ)) (follow : List ℕ → Result (Place ℕ) (Stop ℕ))
       → IsPlace world place → ((inner : List ℕ) → Ends (IsFilePlace world) (follow inner))

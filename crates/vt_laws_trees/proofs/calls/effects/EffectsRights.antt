@@ -1,10 +1,10 @@
 -- A right stands behind each effect.
-use Rattle.std.proofs.Common.{Bool, List, None, Option, Result, Some, [], ap, eqb-true, false, inl, inr, nat_eq, refl, subst, sym, true, true≢false, ℕ, ◌&&◌, ◌==◌, ◌||◌, ◌∙◌, ◌∷◌, ◌≡◌}
+use Rattle.std.proofs.Common.{arith, Bool, List, None, Option, Result, Some, [], ap, eqb-true, false, inl, inr, nat_eq, refl, subst, sym, true, true≢false, ℕ, ◌&&◌, ◌==◌, ◌||◌, ◌∙◌, ◌∷◌, ◌≡◌}
+use Rattle.std.proofs.lemmas.Grind.{common_steps}
 use Rattle.vt_spec.specs.Errors.{NoneFails}
 use Rattle.std.proofs.lemmas.Bool.{and_parts, or_parts}
 use Rattle.std.proofs.lemmas.Option.{same_Some}
 use Rattle.std.specs.Prelude.{Ok, ⊤, ◌⊎◌}
-use Rattle.std.specs.Str.{bytes_eq}
 use Rattle.vt_laws_trees.proofs.calls.effects.EffectsSearched.{IsSearched, MaySearch, searched_file_walk, searched_new_leaf_walk, searched_new_walk, searched_old_leaf_walk, searched_old_walk, searched_rename_walk}
 use Rattle.vt_laws_trees.proofs.calls.inodes.InodesEntries.{other_entries_stay}
 use Rattle.vt_laws_trees.proofs.calls.inodes.InodesOwn.{calls_change_their_own}
@@ -68,13 +68,7 @@ module _ (fresh : Fresh ℕ) (world : World ℕ) (task : Task ℕ) where
   one : (location : Location ℕ) (entry : List ℕ) → MayAt location → (directory : ℕ) (name : List ℕ)
       → is_among same_entry (directory, name) ((location.node, entry) ∷ []) ≡ true
       → MayEnter (mount_at nat_eq world location).filesystem directory
-  one location entry may directory name e =
-      subst (MayEnter (mount_at nat_eq world location).filesystem) (sym (eqb-true directory location.node (head
-      (nat_eq directory location.node) (bytes_eq name entry) e))) may
-    where
-      head : (a b : Bool) → ((a && b) || false) ≡ true → a ≡ true
-      head true b h = refl
-      head false b h = absurd (true≢false (sym h))
+  one location entry may directory name e = grind (arith, common_steps, may, eqb-true, true≢false)
 
   abbrev Granted : Call → Permit ℕ → Type 0
   Granted = IsGranted nat_eq looks (overfills nat_eq fresh world task) task
@@ -182,15 +176,7 @@ module _ (fresh : Fresh ℕ) (world : World ℕ) (task : Task ℕ) (filesystem n
       → P (mount_at nat_eq world location).filesystem location.node
       → (nat_eq filesystem (mount_at nat_eq world location).filesystem && (nat_eq number location.node || false)) ≡ true
       → P filesystem number
-  at_location P location is e =
-      let parts = head_two _ (nat_eq number location.node) false (by _ _ e) refl in
-      subst (λ f. P f number) (sym (eqb-true filesystem (mount_at nat_eq world location).filesystem parts.0))
-      (subst (P (mount_at nat_eq world location).filesystem) (sym (eqb-true number location.node parts.1)) is)
-    where
-      by : (a b : Bool) → (a && (b || false)) ≡ true → (a && (b || (false || false))) ≡ true
-      by true true h = refl
-      by true false h = h
-      by false b h = h
+  at_location P location is e = grind (arith, common_steps, head_two, eqb-true)
 
   at_directory : (P : ℕ → ℕ → Type 0) (location : Location ℕ)
       → P (mount_at nat_eq world location).filesystem location.node

@@ -1,5 +1,6 @@
 -- What each permit leaves of an inode, in worlds without overlays.
-use Rattle.std.proofs.Common.{◌≡◌, refl, sym, ap, subst, ◌∙◌, true≢false, ℕ, nat_eq, eqb-true, eq-eqb, Bool, true, false, cond, List, [], ◌∷◌, ◌++◌, map, find, Option, Some, None, is_some, unwrap_or}
+use Rattle.std.proofs.Common.{arith, ◌≡◌, refl, sym, ap, subst, ◌∙◌, true≢false, ℕ, nat_eq, eqb-true, eq-eqb, Bool, true, false, cond, List, [], ◌∷◌, ◌++◌, map, find, Option, Some, None, is_some, unwrap_or}
+use Rattle.std.proofs.lemmas.Grind.{common_steps}
 use Rattle.std.specs.List.{All}
 use Rattle.vt_laws_trees.specs.Calls.Inodes.{change_of}
 use Rattle.vt_spec.specs.Machine.Apply.{apply}
@@ -46,13 +47,7 @@ module _ (Q : Option (Node ℕ) → Type 0) (number inode : ℕ) where
       by : (b : Bool) → nat_eq new.number first.number ≡ b → (c : Bool) → nat_eq number first.number ≡ c
           → Q ((found c first rest).files.tree.node inode) → (Holds rest → Holds others)
           → Holds (cond b new first ∷ others)
-      by true e true f h later =
-          let same : number ≡ new.number = eqb-true number first.number f ∙ sym (eqb-true new.number first.number e) in
-          subst (λ c. Q ((found c new others).files.tree.node inode)) (sym (eq-eqb number new.number same)) (here same)
-      by true e false f h later = subst (λ c. Q ((found c new others).files.tree.node inode))
-          (sym (ap (nat_eq number) (eqb-true new.number first.number e) ∙ f)) (later h)
-      by false e true f h later = subst (λ c. Q ((found c first others).files.tree.node inode)) (sym f) h
-      by false e false f h later = subst (λ c. Q ((found c first others).files.tree.node inode)) (sym f) (later h)
+      by b e c f h later = grind (arith, common_steps, eqb-true, eq-eqb)
 
   -- one filesystem more
   added_holds : (new : Filesystem ℕ) → (number ≡ new.number → Q None → Q (new.files.tree.node inode))
@@ -152,12 +147,7 @@ module _ (Q : Option (Node ℕ) → Type 0) (number inode : ℕ) where
       where
         root : number ≡ evens fresh 0 → Q None
             → Q ((new_plain nat_eq (evens fresh 0) (evens fresh 1)).files.tree.node inode)
-        root same none = by (nat_eq inode (evens fresh 1)) refl
-          where
-            by : (b : Bool) → nat_eq inode (evens fresh 1) ≡ b
-                → Q (cond b (Some (record { attr = root_attr; content = new_directory (evens fresh 1) })) None)
-            by true e = here same (eqb-true inode (evens fresh 1) e)
-            by false e = none
+        root same none = grind (arith, common_steps, eqb-true)
     inode_left task (ToMountOverlay place overlay flags) here = absurd here
     inode_left task (ToUnmount mount) here = same_list _ (filesystems-taken_away world _)
     inode_left task (ToUnmountLazily mount) here = same_list _ (lazily_filesystems (deepest_first nat_eq world

@@ -1,5 +1,6 @@
 -- What calls change of an inode, part by part.
-use Rattle.std.proofs.Common.{◌≡◌, refl, sym, ap, subst, ◌∙◌, true≢false, inl, inr, ℕ, nat_eq, eqb-true, eq-eqb, Bool, true, false, cond, List, [], ◌∷◌, Option, Some, None}
+use Rattle.std.proofs.Common.{arith, ◌≡◌, refl, sym, ap, subst, ◌∙◌, true≢false, ℕ, nat_eq, eqb-true, eq-eqb, Bool, true, false, cond, List, [], ◌∷◌, Option, Some, None}
+use Rattle.std.proofs.lemmas.Grind.{common_steps}
 use Rattle.vt_laws_rules.proofs.given.GivenPermits.{permits_are_for_their_calls}
 use Rattle.vt_laws_trees.proofs.calls.inodes.InodesLeft.{ChangeHolds, LeftBy, MadeBy, inode_left}
 use Rattle.vt_laws_trees.proofs.calls.inodes.InodesSettled.{inode_after_call}
@@ -77,17 +78,7 @@ module _ {A : Type 0} (part : Node ℕ → A) where
     pub at_node : (files : FileTree ℕ) (number : ℕ) (new : Option (Node ℕ) → Option (Node ℕ))
         → (other ≡ number → Stays (files.tree.node number) (new (files.tree.node number)))
         → KeptIn files (changed_node nat_eq files number new)
-    at_node files number new here = by (nat_eq other number) refl
-      where
-        by : (b : Bool) → nat_eq other number ≡ b → Stays (files.tree.node other)
-            (cond (nat_eq other number) (new (files.tree.node number)) (files.tree.node other))
-        by true e =
-            let same : other ≡ number = eqb-true other number e in
-            subst (λ b. Stays (files.tree.node other) (cond b (new (files.tree.node number)) (files.tree.node other)))
-            (sym e) (subst (λ n. Stays (files.tree.node n) (new (files.tree.node number))) (sym same) (here same))
-        by false e =
-            subst (λ b. Stays (files.tree.node other) (cond b (new (files.tree.node number)) (files.tree.node other)))
-            (sym e) (itself (files.tree.node other))
+    at_node files number new here = grind (arith, common_steps, eqb-true, itself)
 
     pub then_kept : (a b c : FileTree ℕ) → KeptIn a b → KeptIn b c → KeptIn a c
     then_kept a b c = next (a.tree.node other) (b.tree.node other) (c.tree.node other)
@@ -178,22 +169,7 @@ module _ {A : Type 0} (part : Node ℕ → A) where
         set : (location : Location ℕ) (object : ℕ) (attr : Attr) → object ≡ location.node
             → IsForAttr (looks_of nat_eq world) call location attr
             → ChangeHolds (Stays Was) filesystem other world location (SetAttr object attr)
-        set location object attr at for = change_holds_if_kept location (SetAttr object attr)
-            (at_node (files_at nat_eq world location) object (node_with_attr attr) (λ same. by for))
-          where
-            there : Option (Node ℕ)
-            there = (files_at nat_eq world location).tree.node object
-
-            seen : (files_at nat_eq world location).tree.node location.node ≡ there
-            seen = ap (files_at nat_eq world location).tree.node (sym at)
-
-            by : IsForAttr (looks_of nat_eq world) call location attr → Stays there (node_with_attr attr there)
-            by (inl chmod) = subst (λ a. Stays there (node_with_attr a there))
-                (sym (chmod.3 ∙ ap (λ node. attr_with_mode (attr_in node) chmod.1) seen))
-                (modes (ap sets_mode chmod.2) chmod.1 there)
-            by (inr chown) = subst (λ a. Stays there (node_with_attr a there))
-                (sym (chown.4 ∙ ap (λ node. attr_with_owner (attr_in node) chown.1 chown.2) seen))
-                (owners (ap sets_owner chown.3) chown.1 chown.2 there)
+        set location object attr at for = grind (arith, common_steps, change_holds_if_kept, at_node)
 
         part_written : (file : Location ℕ) (offset : ℕ) (bytes : List ℕ) → writes_bytes call ≡ true
             → MadeBy (Stays Was) filesystem other fresh world plain (itself Was)

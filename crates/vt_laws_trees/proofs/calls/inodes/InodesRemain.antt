@@ -1,5 +1,6 @@
 -- A granted call takes no inode away itself.
-use Rattle.std.proofs.Common.{◌≡◌, refl, sym, ap, ◌∙◌, true≢false, ℕ, nat_eq, eqb-true, Bool, true, false, cond, List, Option, Some, None, is_some}
+use Rattle.std.proofs.Common.{arith, ◌≡◌, refl, sym, ap, ◌∙◌, true≢false, ℕ, nat_eq, eqb-true, Bool, true, false, cond, List, Option, Some, None, is_some}
+use Rattle.std.proofs.lemmas.Grind.{common_steps}
 use Rattle.vt_laws_rules.proofs.given.GivenPermits.{permits_are_for_their_calls}
 use Rattle.vt_laws_trees.proofs.calls.inodes.InodesLeft.{LeftBy, MadeBy, inode_left}
 use Rattle.vt_laws_rules.specs.Given.{IsFor}
@@ -32,18 +33,7 @@ module _ (other : ℕ) where
 
   pub at_node : (files : FileTree ℕ) (number : ℕ) (new : Option (Node ℕ) → Option (Node ℕ)) → LeavesOne new
       → RemainsIn files (changed_node nat_eq files number new)
-  at_node files number new leaves there = by (nat_eq other number) refl
-    where
-      some : (o : Option (Node ℕ)) → is_some o ≡ true → is_some (new o) ≡ true
-      some None e = cc
-      some (Some node) e = leaves node
-
-      by : (b : Bool) → nat_eq other number ≡ b
-          → is_some (cond (nat_eq other number) (new (files.tree.node number)) (files.tree.node other)) ≡ true
-      by true e = ap (λ b. is_some (cond b (new (files.tree.node number)) (files.tree.node other))) e
-          ∙ some (files.tree.node number)
-          (ap (λ n. is_some (files.tree.node n)) (sym (eqb-true other number e)) ∙ there)
-      by false e = ap (λ b. is_some (cond b (new (files.tree.node number)) (files.tree.node other))) e ∙ there
+  at_node files number new leaves there = grind (arith, common_steps, eqb-true)
 
   alone_remains : (files : FileTree ℕ) (object : Option ℕ) → RemainsIn files (without_parent nat_eq files object)
   alone_remains files None there = there

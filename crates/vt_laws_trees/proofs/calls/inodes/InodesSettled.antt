@@ -1,13 +1,14 @@
 -- What settling and raising leave of inodes: each is as it was, or gone.
-use Rattle.std.proofs.Common.{◌≡◌, refl, sym, ap, subst, ◌∙◌, true≢false, ℕ, nat_eq, eqb-true, Bool, true, false, not, cond, ◌||◌, List, [], ◌∷◌, map, filter, find, Option, Some, None, unwrap_or, Ok, Err, ok_or}
+use Rattle.std.proofs.Common.{arith, ◌≡◌, refl, sym, ap, subst, ◌∙◌, true≢false, ℕ, nat_eq, eqb-true, Bool, true, false, not, cond, ◌||◌, List, [], ◌∷◌, map, filter, find, Option, Some, None, unwrap_or, Ok, Err, ok_or}
+use Rattle.std.proofs.lemmas.Grind.{common_steps}
 use Rattle.vt_laws_rules.proofs.judged.CallsJudged.{policy_judges_then_applies}
 use Rattle.vt_spec.specs.declared.errors.Rule.TheVariants.{S2}
 use Rattle.vt_spec.specs.Errors.{denial}
 use Rattle.vt_spec.specs.Machine.Apply.{apply}
 use Rattle.vt_spec.specs.Language.Calls.{Call, TaskName}
-use Rattle.vt_spec.specs.Machine.Filesystems.{filesystems_raised, raised, raised_if_changed}
+use Rattle.vt_spec.specs.Machine.Filesystems.{filesystems_raised, raised}
 use Rattle.vt_spec.specs.Machine.Judge.{Judgement, judge_in}
-use Rattle.vt_spec.specs.Lists.{Fresh, is_among}
+use Rattle.vt_spec.specs.Lists.{Fresh}
 use Rattle.vt_spec.specs.Machine.Outcomes.{after, denied}
 use Rattle.vt_spec.specs.Machine.Permits.{Permit}
 use Rattle.vt_spec.specs.Machine.Policy.{filesystems_changed_by, finished, finished_by, only_looks, policy}
@@ -48,26 +49,7 @@ module _ (Q : Inode → Type 0) (number inode : ℕ) where
   -- raising
   pub raised_holds : (changed : List ℕ) (world : World ℕ) → HoldsIn world.filesystems
       → HoldsIn (filesystems_raised nat_eq changed world).filesystems
-  raised_holds changed world h = mapped (raised_if_changed nat_eq changed) keeps holds world.filesystems h
-    where
-      by : (filesystem : Filesystem ℕ) → Bool → Filesystem ℕ
-      by filesystem b = cond b (record filesystem { change = raised filesystem.change }) filesystem
-
-      keeps_by : (filesystem : Filesystem ℕ) (b : Bool) → (by filesystem b).number ≡ filesystem.number
-      keeps_by filesystem true = refl
-      keeps_by filesystem false = refl
-
-      keeps : (filesystem : Filesystem ℕ) → (raised_if_changed nat_eq changed filesystem).number ≡ filesystem.number
-      keeps filesystem = keeps_by filesystem _
-
-      holds_by : (filesystem : Filesystem ℕ) (b : Bool) → Q (filesystem.files.tree.node inode)
-          → Q ((by filesystem b).files.tree.node inode)
-      holds_by filesystem true h = h
-      holds_by filesystem false h = h
-
-      holds : (filesystem : Filesystem ℕ) → Q (filesystem.files.tree.node inode)
-          → Q ((raised_if_changed nat_eq changed filesystem).files.tree.node inode)
-      holds filesystem = holds_by filesystem _
+  raised_holds changed world h = grind (arith, common_steps, mapped)
 
   -- what holds where it is gone
   module _ (gone : Q None) where
@@ -112,12 +94,7 @@ module _ (Q : Inode → Type 0) (number inode : ℕ) where
 
     used_by_holds : (whole : Bool) (used : List ℕ) (filesystem : Filesystem ℕ) → Q (filesystem.files.tree.node inode)
         → Q ((only_used_by nat_eq whole used filesystem).files.tree.node inode)
-    used_by_holds true used filesystem h = h
-    used_by_holds false used filesystem h = by (is_among nat_eq inode used)
-      where
-        by : (b : Bool) → Q (cond b (filesystem.files.tree.node inode) None)
-        by true = h
-        by false = gone
+    used_by_holds whole used filesystem h = grind (arith, common_steps)
 
     used_holds : (world : World ℕ) (chosen : Bool) (filesystem : Filesystem ℕ) → Q (filesystem.files.tree.node inode)
         → Q ((only_used nat_eq world chosen filesystem).files.tree.node inode)

@@ -1,8 +1,9 @@
 -- Tasks by their names, in lists that are changed.
-use Rattle.std.proofs.Common.{◌≡◌, refl, sym, ap, ◌∙◌, true≢false, ℕ, Bool, true, false, not, cond, List, [], ◌∷◌, ◌++◌, map, filter, find, Option, Some, None, option_map, nat_eq}
+use Rattle.std.proofs.Common.{arith, ◌≡◌, refl, sym, ap, ◌∙◌, true≢false, ℕ, Bool, true, false, not, cond, List, [], ◌∷◌, ◌++◌, map, filter, find, Option, Some, None, option_map, nat_eq}
+use Rattle.std.proofs.lemmas.Grind.{common_steps}
 use Rattle.vt_spec.specs.Machine.Filesystems.{raised}
 use Rattle.vt_spec.specs.Machine.Mounts.{Mount}
-use Rattle.vt_spec.specs.Machine.Namespaces.{pivoted_location, pivoted_task}
+use Rattle.vt_spec.specs.Machine.Namespaces.{pivoted_task}
 use Rattle.vt_spec.specs.Machine.Policy.{raised_task}
 use Rattle.vt_spec.specs.Machine.World.{Task}
 use Rattle.vt_spec.specs.Language.Calls.{TaskName, same_name}
@@ -43,23 +44,11 @@ find_mapped change keeps name (first ∷ rest) =
 -- raising changes the change number alone
 pub raised_is : (name : TaskName) (task : Task ℕ)
     → raised_task name task ≡ record task { change = (raised_task name task).change }
-raised_is name task = by (same_name name task.name)
-  where
-    by : (b : Bool) → cond b (record task { change = raised task.change }) task
-        ≡ record task { change = (cond b (record task { change = raised task.change }) task).change }
-    by true = refl
-    by false = refl
+raised_is name task = grind (arith, common_steps)
 
 pub pivoted_keeps_name : (namespace : ℕ) (root new : Mount ℕ) (task : Task ℕ)
     → (pivoted_task nat_eq namespace root new task).name ≡ task.name
-pivoted_keeps_name namespace root new task = by (nat_eq namespace task.namespace)
-  where
-    by : (b : Bool) → (cond b (record task {
-      root = pivoted_location nat_eq root new task.root;
-      directory = pivoted_location nat_eq root new task.directory;
-    }) task).name ≡ task.name
-    by true = refl
-    by false = refl
+pivoted_keeps_name namespace root new task = grind (arith, common_steps)
 
 -- without those of a name nobody is found by it
 pub none_left : (name : TaskName) (tasks : List (Task ℕ))

@@ -1,5 +1,6 @@
 -- What tasks are after a call.
-use Rattle.std.proofs.Common.{◌≡◌, refl, sym, ap, subst, ◌∙◌, inl, inr, ◌⊎◌, ⊎_elim, ℕ, ◌+◌, nat_eq, nat_lt, eqb-true, eq-eqb, Bool, true, false, cond, not, ◌&&◌, ◌==◌, bit_and, bytes_eq, List, [], ◌∷◌, ◌++◌, map, filter, Option, Some, None, option_map, Ok}
+use Rattle.std.proofs.Common.{arith, ◌≡◌, refl, sym, ap, subst, ◌∙◌, inl, inr, ◌⊎◌, ⊎_elim, ℕ, ◌+◌, nat_eq, nat_lt, eqb-true, eq-eqb, Bool, true, false, cond, not, ◌&&◌, ◌==◌, bit_and, bytes_eq, List, [], ◌∷◌, ◌++◌, map, filter, Option, Some, None, option_map, Ok}
+use Rattle.std.proofs.lemmas.Grind.{common_steps}
 use Rattle.vt_spec.specs.Errors.{NoneFails}
 use Rattle.std.proofs.lemmas.Nat.{and_assoc}
 use Rattle.std.proofs.lemmas.Bool.{and_parts, not-false}
@@ -10,7 +11,7 @@ use Rattle.vt_laws_trees.proofs.calls.tasks.TasksFound.{Found, called, find_appe
 use Rattle.vt_laws_trees.proofs.calls.tasks.TasksLeft.{alone, entered, left_tasks, tasks_after_call, with_new}
 use Rattle.vt_laws_rules.specs.Given.{IsFor}
 use Rattle.vt_laws_trees.specs.Calls.Tasks.{IsForked, IsNoMore, MayGive, Opens, Pivots, moves_directory, moves_namespace, moves_root, task_after}
-use Rattle.vt_spec.specs.Language.Calls.{Access, Call, CapabilityWord, Creation, ForkWords, TaskName, opens_for_reading, opens_for_writing, same_name}
+use Rattle.vt_spec.specs.Language.Calls.{Access, Call, CapabilityWord, Creation, ForkWords, TaskName, same_name}
 use Rattle.vt_spec.specs.Language.Calls.Call.{Drop, Exit, Fork, OpenFile, PivotRoot, Umask}
 use Rattle.vt_spec.specs.Machine.Filesystems.{raised}
 use Rattle.vt_spec.specs.Machine.Judge.{judge_in}
@@ -18,7 +19,7 @@ use Rattle.vt_spec.specs.Lists.{Fresh, evens}
 use Rattle.vt_spec.specs.Machine.Looks.{looks_of}
 use Rattle.vt_spec.specs.Machine.Mounts.{Location, Mount}
 use Rattle.vt_spec.specs.Machine.Namespaces.{pivoted_location, pivoted_task}
-use Rattle.vt_spec.specs.Machine.Descriptors.{free_number, inserted, with_descriptor, without_descriptor}
+use Rattle.vt_spec.specs.Machine.Descriptors.{inserted, with_descriptor, without_descriptor}
 use Rattle.vt_spec.specs.Machine.Tasks.{capabilities_of, child_credentials, child_name, child_of, with_dropped}
 use Rattle.vt_spec.specs.Machine.Permits.{Permit}
 use Rattle.vt_spec.specs.Machine.Permits.Permit.{ToClose, ToEnterNamespace, ToExit, ToFork, ToOpen, ToOpenNew, ToPivot, ToSetCredentials, ToSetDirectory, ToSetRoot, ToSetUmask, ToUnshare}
@@ -181,17 +182,7 @@ module _ (fresh : Fresh ℕ) (world : World ℕ) (name : TaskName) (call : Call)
       where
         added : (b : Bool) → same_name other (child_name task) ≡ b → (found : Found) → Becomes found None
             → Becomes found (cond b (Some (child_of task credentials)) None)
-        added false e found before = before
-        added true e None before = (
-          words,
-          task,
-          forks,
-          is,
-          same_task_name other (child_name task) e,
-          ap (child_of task) given,
-          gives,
-        )
-        added true e (Some was) before = let no : Exit ≡ Fork words = sym before.1 ∙ forks in cc
+        added b e found before = grind (arith, common_steps, same_task_name)
 
     -- all tasks of the namespace are pivoted
     pivoted_becomes : (new old : List ℕ) (mount : ℕ) (put : Location ℕ) → call ≡ PivotRoot new old
@@ -228,14 +219,7 @@ module _ (fresh : Fresh ℕ) (world : World ℕ) (name : TaskName) (call : Call)
     opened_has : (file : Location ℕ) (path : List ℕ) (access : Access) (creation : Creation)
         → call ≡ OpenFile path access creation
         → HasOrOpens call task.descriptors (with_descriptor task file access).descriptors
-    opened_has file path access creation opens held among = ⊎_elim
-        (λ same. inr (path, access, creation, opens, ap (λ d. d.reads) same, ap (λ d. d.writes) same)) inl
-        (among_inserted (record {
-          number = free_number task;
-          location = file;
-          reads = opens_for_reading access;
-          writes = opens_for_writing access;
-        }) held task.descriptors among)
+    opened_has file path access creation opens held among = grind (arith, common_steps, among_inserted)
 
     -- what becomes of a task by each permit
     done : (permit : Permit ℕ) → judge_in nat_eq fresh world task call ≡ Ok permit
@@ -254,8 +238,7 @@ module _ (fresh : Fresh ℕ) (world : World ℕ) (name : TaskName) (call : Call)
     done (ToClose descriptor) judged for = changed_becomes (without_descriptor task descriptor) refl (
       inl refl,
       inl refl,
-      λ held among. inl (among-from_filter
-          (λ found. not (descriptor == found.number)) task.descriptors held among).0,
+      λ held among. inl (among-from_filter (λ found. not (descriptor == found.number)) task.descriptors held among).0,
       inr refl,
       inr refl,
       inr refl,

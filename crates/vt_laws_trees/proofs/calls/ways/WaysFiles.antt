@@ -41,8 +41,7 @@ module _ (world : World ℕ) (task : Task ℕ) where
       way = through_symlink start here end.parent (words text)
           (final_word (reverse (words text))) place.object inner to_name.passed
           further.passed to_name.way named.object linked further.way;
-      searched = All-append
-          (IsSearchable world task) to_name.passed further.passed to_name.searched further.searched;
+      searched = All-append (IsSearchable world task) to_name.passed further.passed to_name.searched further.searched;
     }
 
   abbrev next_text : ℕ → List ℕ → Bool → Here ℕ → Place ℕ → List ℕ → Result (Place ℕ) (Stop ℕ)

@@ -1,5 +1,6 @@
 -- Each directory on the way of a walk is searched: walks to names.
-use Rattle.std.proofs.Common.{◌≡◌, refl, sym, subst, true≢false, ℕ, nat_eq, Bool, true, false, not, ◌&&◌, List, [], ◌∷◌, ◌++◌, is_some, Ok, Err, Result, reverse}
+use Rattle.std.proofs.Common.{arith, ◌≡◌, refl, sym, subst, true≢false, ℕ, nat_eq, Bool, true, false, not, ◌&&◌, List, [], ◌∷◌, ◌++◌, is_some, Ok, Err, Result, reverse}
+use Rattle.std.proofs.lemmas.Grind.{common_steps}
 use mathlib.Core.List.{reverse-cons}
 use Rattle.std.proofs.lemmas.List.{reverse-reverse}
 use Rattle.std.proofs.lemmas.List.Elements.{All-append, All-cons, All-nil}
@@ -174,15 +175,8 @@ module _ (world : World ℕ) (task : Task ℕ) where
         ends_unless IsNamePlace place.steps ((place.slash && not directory, W3) ∷ []) place (λ passed. searched))
 
 pub symlink_ways_are_searched : SymlinkWaysAreSearched
-symlink_ways_are_searched world task path here e = (
-  (λ slash.
-      at_end (λ (end : Here ℕ). IsSearchedTo world task path end.location)
-      (symlink_walk_by nat_eq true world task path) here
-      (object_searched world task path) (subst (λ b. symlink_walk_by nat_eq b world task path ≡ Ok here) slash e)),
-  (λ slash.
-      at_end (IsNamed world task path) (symlink_walk_by nat_eq false world task path) here
-      (symlink_named world task path) (subst (λ b. symlink_walk_by nat_eq b world task path ≡ Ok here) slash e)),
-)
+symlink_ways_are_searched world task path here e =
+    grind (arith, common_steps, at_end, symlink_walk_by, object_searched, symlink_named)
 
 pub place_ways_are_searched : PlaceWaysAreSearched
 place_ways_are_searched world task path place e =

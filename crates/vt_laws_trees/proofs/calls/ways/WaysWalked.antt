@@ -1,5 +1,6 @@
 -- Each directory on the way of a walk is searched: words, and the texts of symlinks.
-use Rattle.std.proofs.Common.{◌≡◌, refl, sym, subst, ℕ, zero, suc, ◌+◌, nat_eq, List, [], ◌∷◌, ◌++◌, Option, Some, None, Ok, Err, Result, reverse}
+use Rattle.std.proofs.Common.{arith, ◌≡◌, refl, sym, subst, ℕ, zero, suc, ◌+◌, nat_eq, List, [], ◌∷◌, ◌++◌, Option, Some, None, Ok, Err, Result, reverse}
+use Rattle.std.proofs.lemmas.Grind.{common_steps}
 use mathlib.Core.List.{reverse-cons}
 use Rattle.std.proofs.lemmas.List.{append_assoc, reverse-reverse}
 use Rattle.std.proofs.lemmas.List.Elements.{All-append, All-cons, All-nil}
@@ -9,7 +10,7 @@ use Rattle.vt_laws_trees.specs.Calls.Searched.Way.{arrives, follows, goes_on}
 use Rattle.vt_spec.specs.FileTree.{symlink_text}
 use Rattle.vt_spec.specs.Language.Limits.{most_symlinks}
 use Rattle.vt_spec.specs.Machine.Mounts.{Location}
-use Rattle.vt_spec.specs.Machine.Walking.{Follow, Here, Stop, if_symlink, last_word, path_text, start_of, walk_start, walk_unless}
+use Rattle.vt_spec.specs.Machine.Walking.{Follow, Here, Stop, if_symlink, last_word, path_text, start_of, walk_unless}
 use Rattle.vt_spec.proofs.Walk.{follow_rules, followed, path_walked, slash_rules, symlink_start, symlink_walked, word_walked, words_walked}
 use Rattle.vt_spec.specs.Machine.World.{Task, World, node_at}
 use Rattle.vt_spec.specs.PathText.{path_rules, words}
@@ -67,8 +68,7 @@ module _ (world : World ℕ) (task : Task ℕ) where
           way = follows here next.location end.location end.location word text [] inner.passed [] step.1 linked
               inner.way (arrives end.location);
           searched = All-cons (IsSearchable world task) here (inner.passed ++ []) step.0
-              (All-append (IsSearchable world task) inner.passed [] inner.searched
-              (All-nil (IsSearchable world task)));
+              (All-append (IsSearchable world task) inner.passed [] inner.searched (All-nil (IsSearchable world task)));
         }
         further (Err stop) inner = tt
 
@@ -129,8 +129,4 @@ module _ (world : World ℕ) (task : Task ℕ) where
   pub path_searched : (path : List ℕ)
       → Ends (λ end. IsSearchedTo world task path end.location) (path_walked nat_eq world task path)
   path_searched path =
-      ends_then (λ text. text ≡ path) (λ end. IsSearchedTo world task path end.location) (path_text path) _
-      (path_text_same path) (λ text e.
-      subst (λ written. Ends (λ end. IsSearchedTo world task written end.location)
-      (words_walked nat_eq world task (followed nat_eq world task) (walk_start task text) (reverse (words text)))) e
-      (text_searched (followed nat_eq world task) followed_searched (walk_start task text) text))
+      grind (arith, common_steps, ends_then, path_text_same, words_walked, followed, text_searched, followed_searched)

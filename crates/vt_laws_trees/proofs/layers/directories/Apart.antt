@@ -9,7 +9,7 @@ use Rattle.vt_spec.specs.Machine.Locked.{in_use, lies_or_counts_under, live_laye
 use Rattle.vt_spec.specs.declared.errors.Rule.TheVariants.{O2, O3, O5}
 use Rattle.vt_spec.specs.Machine.Rules.Mounting.{LayerLocations}
 use Rattle.vt_spec.proofs.Tables.{layer_rules}
-use Rattle.vt_spec.specs.Machine.World.{Layer, Overlay, World, filesystem_numbered, is_overlay, layers_of}
+use Rattle.vt_spec.specs.Machine.World.{Layer, Overlay, World, filesystem_numbered, layers_of}
 use Rattle.vt_spec.specs.Machine.Invariants.{IsWorld, is_plain_layer, live_lowers, overlap}
 use Rattle.vt_laws_trees.specs.Layers.Layers.Mounted.{AreLayers}
 use Rattle.vt_laws_trees.specs.Layers.Layers.NewOverlays.{ChangedStayApart, LowersStayApart, NoneRefuses}
@@ -100,22 +100,11 @@ live_of : (world : World ℕ) (some_layers : Overlay ℕ → List (Layer ℕ))
     → ((overlay : Overlay ℕ) (layer : Layer ℕ) → Among (some_layers overlay) layer → Among (layers_of overlay) layer)
     → (layer : Layer ℕ) → Among (flat_map (of_overlay [] some_layers) (overlays world)) layer
     → Among (live_layers world) layer
-live_of world some_layers of layer among =
-    let found = from_flat_map (of_overlay [] some_layers) (overlays world) layer among in grind (
-      arith,
-      common_steps,
-      among_flat_map,
-    )
+live_of world some_layers of layer among = grind (arith, common_steps, from_flat_map, among_flat_map)
 
 live_plain : (world : World ℕ) → IsWorld nat_eq world → (layer : Layer ℕ) → Among (live_layers world) layer
     → is_plain_layer nat_eq world layer ≡ true
-live_plain world conditions layer among =
-    let found = from_flat_map (of_overlay [] layers_of) (overlays world) layer among in grind (
-      arith,
-      common_steps,
-      each_passes,
-      among_filtered is_overlay world.filesystems found.0 found.1,
-    )
+live_plain world conditions layer among = grind (arith, common_steps, from_flat_map, each_passes, among_filtered)
 
 module _ (world : World ℕ) (conditions : IsWorld nat_eq world) (overlay : Overlay ℕ)
     (are_layers : AreLayers world overlay) (plain : list_all (is_plain_layer nat_eq world) (layers_of overlay) ≡ true)
@@ -133,13 +122,7 @@ module _ (world : World ℕ) (conditions : IsWorld nat_eq world) (overlay : Over
       → of_overlay [] some_layers (new world conditions overlay are_layers fresh distinct unused) ≡ list
       → flat_map (of_overlay [] some_layers) (overlays after) ≡ flat_map (of_overlay [] some_layers) (overlays world)
       ++ list
-  live_after some_layers list e = grind (
-    arith,
-    common_steps,
-    filter-append is_overlay world.filesystems (new world conditions overlay are_layers fresh distinct unused ∷ []),
-    flat_map-append (of_overlay [] some_layers) (overlays world) (new world conditions
-        overlay are_layers fresh distinct unused ∷ []),
-  )
+  live_after some_layers list e = grind (arith, common_steps, filter-append, new, flat_map-append)
 
   changed : List (Layer ℕ)
   changed = live_upper_and_work world ++ upper_and_work overlay
@@ -212,16 +195,8 @@ module _ (world : World ℕ) (conditions : IsWorld nat_eq world) (overlay : Over
     where
       both : (a b : Layer ℕ) → Among (live_upper_and_work world) a ⊎ Among (upper_and_work overlay) a
           → Among (live_lowers nat_eq world) b ⊎ Among overlay.lowers b → Apart world a b
-      both a b (inl old) (inl low) = apart_from world (live_lowers nat_eq world) a b
-          (none_passes (overlaps_one_of nat_eq world (live_lowers nat_eq world))
-          (live_upper_and_work world) conditions.overlays.lowers_apart a old) low
-      both a b (inl old) (inr low) = apart_both world b a (apart_from world (live_upper_and_work world) b a
-          (none_passes (overlaps_one_of nat_eq world (live_upper_and_work world)) overlay.lowers
-          (or_false_right (list_any (overlaps_one_of nat_eq world (live_layers world))
-          (upper_and_work overlay)) _ not_in_use) b low) old)
-      both a b (inr own) (inl low) = new_apart a b own (live_lower b low)
-      both a b (inr own) (inr low) = apart_from world overlay.lowers a b
-          (none_passes (overlaps_one_of nat_eq world overlay.lowers) (upper_and_work overlay) lowers_apart a own) low
+      both a b known known_2 =
+          grind (arith, common_steps, apart_from, none_passes, apart_both, or_false_right, new_apart, live_lower)
 
 -- The rules on layers
 module _ (world : World ℕ) (places : LayerLocations ℕ) (overlay : Overlay ℕ)

@@ -1,12 +1,11 @@
 -- The layers of a newly mounted overlay lie apart from those of live ones, and what lies under a layer is as it was.
-use Rattle.std.proofs.Common.{arith, ◌≡◌, inl, inr, refl, sym, ap, ◌∙◌, true≢false, ℕ, zero, suc, nat_eq, eqb-true, Bool, true, false, cond, not, ◌&&◌, ◌||◌, List, [], ◌∷◌, ◌++◌, map, Option, Some, None, is_some, slice_get, unwrap_or}
+use Rattle.std.proofs.Common.{arith, ◌≡◌, inl, inr, refl, sym, ap, ◌∙◌, true≢false, ℕ, nat_eq, eqb-true, Bool, true, false, cond, not, ◌&&◌, ◌||◌, List, [], ◌∷◌, ◌++◌, map, Option, Some, None, is_some, unwrap_or}
 use Rattle.std.proofs.lemmas.Grind.{common_steps}
 use Rattle.std.specs.List.{find, list_all, list_any}
 use Rattle.std.specs.Prelude.{option_to_list}
 use Rattle.std.proofs.lemmas.List.Elements.{filter-append}
 use Rattle.std.proofs.lemmas.List.Folds.{list_any-append}
 use Rattle.vt_spec.specs.FileTree.{is_directory_under, is_file_under, is_under}
-use Rattle.vt_spec.specs.Machine.Layers.{at_path}
 use Rattle.vt_spec.specs.Lists.{Fresh, evens, holds_of, is_among, odds}
 use Rattle.vt_spec.specs.Machine.Locked.{counts_in_layer, is_real_upper, lies_in_layer, lies_or_counts_under, overlaps_one_of, overlays}
 use Rattle.vt_spec.specs.Machine.Merging.{Merged, real_object, real_of}
@@ -131,17 +130,7 @@ module _ (world : World ℕ) (conditions : IsWorld nat_eq world) (overlay : Over
           (odds-distinct fresh distinct) (is_some overlay.upper) m → (l : ℕ)
           → m.seen.layer ≡ l → Upper object ≡ real_object true l m → (path : List (List ℕ)) × (led
           (filesystem_numbered nat_eq world upper.filesystem).files.tree upper.directory path ≡ Some object)
-      by m found zero lm r =
-          let top : slice_get (map (open_layer nat_eq world) (shown_layers overlay)) 0
-          ≡ Some (open_layer nat_eq world upper) =
-          ap (λ o. slice_get (map (open_layer nat_eq world) (option_to_list o ++ overlay.lowers)) 0) is in
-          let same = same_Some (open_layer nat_eq world upper) found.layer
-          (sym top ∙ ap (slice_get (map (open_layer nat_eq world) (shown_layers overlay))) (sym lm) ∙ found.there) in (
-            m.path,
-            ap (λ layer. at_path layer m.path) same ∙ found.at
-                ∙ ap Some (sym (same_Some object m.seen.object (ap upper_in r))),
-          )
-      by m found (suc l) lm r = none_is_some object (sym (ap upper_in r))
+      by m found l lm r = grind (arith, common_steps, same_Some, none_is_some)
 
   new_counts : (fs object : ℕ) (layer : Layer ℕ) → IsOld layer
       → counts_in_layer nat_eq later fs object layer new ≡ true → lies_in_layer nat_eq world fs object layer ≡ true

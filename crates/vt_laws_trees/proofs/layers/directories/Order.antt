@@ -1,12 +1,12 @@
 -- The names of a merged directory stand in their order.
-use Rattle.std.proofs.Common.{arith, ◌≡◌, ◌≤◌, ◌⊎◌, inl, inr, ⊎_elim, refl, sym, ap, subst, ◌∙◌, ℕ, zero, suc, nat_eq, Bool, true, T, List, [], ◌∷◌, ◌++◌, filter, flat_map, length, map, Option, Some, None}
+use Rattle.std.proofs.Common.{arith, ◌≡◌, ◌≤◌, ◌⊎◌, inl, inr, ⊎_elim, refl, sym, ap, subst, ◌∙◌, ℕ, zero, suc, nat_eq, Bool, true, T, List, [], ◌∷◌, ◌++◌, filter, flat_map, length, map, Option, Some}
 use Rattle.std.proofs.lemmas.Grind.{common_steps}
 use Rattle.std.specs.List.{filter_map}
 use Rattle.std.specs.Cmp.{tied_itself}
 use Rattle.std.specs.Cmp.Lexicographic.{nat_list_cmp_total}
 use Rattle.std.specs.FinMap.Entries.{below_all, is_sorted, is_sorted-put}
 use Rattle.std.specs.Ordering.{is_lt}
-use Rattle.std.specs.Prelude.{option_map, ⊤}
+use Rattle.std.specs.Prelude.{⊤}
 use Rattle.vt_spec.specs.Machine.Layers.{OpenLayer, shown, view_of}
 use Rattle.vt_spec.specs.Lists.{Fresh, folded}
 use Rattle.vt_spec.specs.Machine.Merging.{Merged, entry_in_directory, merged_at, merged_objects}
@@ -197,9 +197,4 @@ module _ (layers : List (OpenLayer ℕ)) (are_open : AreOpen layers) (longest : 
       (paths_from longest (map view_of layers) []) (paths_rise (map view_of layers) longest []))))
     where
       path_of : (path : List (List ℕ)) (object : Merged ℕ) → merged_at layers path ≡ Some object → path ≡ object.path
-      path_of path object e = by (shown layers path) e
-        where
-          by : (o : Option (Shown ℕ)) → option_map (λ seen. record { path = path; seen = seen }) o ≡ Some object
-              → path ≡ object.path
-          by None e = none_is_some object e
-          by (Some seen) e = ap (λ m. m.path) (same_Some (record { path = path; seen = seen }) object e)
+      path_of path object e = grind (arith, common_steps, none_is_some, same_Some)

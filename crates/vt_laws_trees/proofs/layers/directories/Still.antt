@@ -1,15 +1,13 @@
 -- Each overlay is what its layers show when another one is mounted.
-use Rattle.std.proofs.Common.{arith, ◌≡◌, ◌∙◌, refl, sym, ap, subst, inl, inr, ℕ, zero, suc, nat_eq, eqb-true, Bool, true, false, cond, List, [], ◌∷◌, ◌++◌, map, Option, Some, None, is_some, slice_get, unwrap_or}
+use Rattle.std.proofs.Common.{arith, ◌≡◌, ◌∙◌, refl, sym, ap, subst, inl, inr, ℕ, zero, suc, nat_eq, eqb-true, Bool, true, false, cond, List, [], ◌∷◌, ◌++◌, map, Some, None, is_some, slice_get, unwrap_or, Option}
 use Rattle.std.proofs.lemmas.Grind.{common_steps}
 use Rattle.std.specs.List.{find, list_any}
-use Rattle.std.specs.Prelude.{option_map, option_to_list}
+use Rattle.std.specs.Prelude.{option_to_list, option_map}
 use Rattle.vt_spec.specs.Machine.Layers.{shown}
-use Rattle.vt_spec.specs.Lists.{Fresh, evens, holds_of, is_among, then_some}
-use Rattle.vt_spec.specs.Machine.Merging.{layer_node, merged_at, real_object}
+use Rattle.vt_spec.specs.Lists.{Fresh, evens, is_among, holds_of, then_some}
 use Rattle.vt_spec.specs.Machine.NewMounts.{overlay_filesystem}
 use Rattle.vt_spec.specs.Machine.World.{Filesystem, Layer, Overlay, Real, World, filesystem_numbered, no_filesystem, open_layer, shown_layers}
-use Rattle.vt_spec.specs.Machine.World.Real.{Lower, Upper}
-use Rattle.vt_spec.specs.Machine.Invariants.{IsMerged, IsWorld, SameObject, is_plain_layer, is_there, number_at_path, real_node}
+use Rattle.vt_spec.specs.Machine.Invariants.{IsMerged, IsWorld, is_plain_layer, real_node, SameObject, is_there, number_at_path}
 use Rattle.vt_laws_trees.specs.Layers.Layers.Mounted.{AreLayers}
 use Rattle.vt_laws_trees.specs.Layers.Layers.NewOverlays.{OverlaysStillMerge}
 use Rattle.vt_laws_trees.proofs.layers.directories.Apart.{each_passes}
@@ -19,6 +17,7 @@ use Rattle.vt_laws_trees.proofs.layers.layers.ShownObjects.{Among, among_append_
 use Rattle.vt_laws_trees.proofs.layers.layers.UpperWorld.{overlay_layers}
 use Rattle.std.proofs.lemmas.Option.{same_Some}
 use Rattle.vt_spec.proofs.Options.{none_is_some}
+use Rattle.vt_spec.specs.Machine.Merging.{layer_node, merged_at, real_object}
 
 pub among_slice : (list : List (Layer ℕ)) (k : ℕ) (layer : Layer ℕ) → slice_get list k ≡ Some layer → Among list layer
 among_slice [] k layer e = none_is_some layer e
@@ -62,17 +61,7 @@ module _ (world : World ℕ) (conditions : IsWorld nat_eq world) (overlay : Over
         (subst (λ o. Among (option_to_list o) layer) (sym e) (inl refl)))
 
     real_same : (real : Real ℕ) → real_node nat_eq after some_overlay real ≡ real_node nat_eq world some_overlay real
-    real_same (Upper object) = by some_overlay.upper old_upper
-      where
-        by : (o : Option (Layer ℕ)) → ((layer : Layer ℕ) → o ≡ Some layer → Old layer)
-            → then_some o (λ layer. (filesystem_numbered nat_eq after layer.filesystem).files.tree.node object)
-            ≡ then_some o (λ layer. (filesystem_numbered nat_eq world layer.filesystem).files.tree.node object)
-        by None olds = refl
-        by (Some layer) olds = ap (λ f. f.files.tree.node object)
-            (same_filesystem world conditions overlay are_layers fresh distinct unused layer.filesystem
-            (olds layer refl))
-    real_same (Lower k path) =
-        grind (arith, common_steps, among_append_right, among_slice some_overlay.lowers k, open_same)
+    real_same real = grind (arith, common_steps, old_upper, same_filesystem, among_append_right, among_slice, open_same)
 
     still_merged : IsMerged nat_eq after filesystem some_overlay
     still_merged = record {

@@ -131,12 +131,7 @@ module _ (views : List (View ℕ)) where
       same : (rest : List (List ℕ)) → rest ≢ [] → shown_in (views_of directory) rest ≡ shown views (front ++ rest)
 
     from_root : ShowsFrom [] tree.root
-    from_root = record {
-      is_led = refl;
-      are_views = subst AreViews (sym is.root_views) are;
-      of_place = subst (All IsOfPlace) (sym is.root_views) placed_of_place;
-      same = λ rest n. ap (λ v. shown_in v rest) is.root_views ∙ sym (placed_show_the_same views rest);
-    }
+    from_root = grind (arith, common_steps, placed_of_place, placed_show_the_same)
 
     goes_on : (front : List (List ℕ)) (directory : ℕ) (name : List ℕ) (number : ℕ) → ShowsFrom front directory
         → IsDirectory tree directory → entry_at tree directory name ≡ Some number → IsDirectory tree number
@@ -193,13 +188,7 @@ module _ (views : List (View ℕ)) where
                 → Said ((front ++ name ∷ []) ++ other ∷ rest) (led tree number (other ∷ rest))
                 (shown views ((front ++ name ∷ []) ++ other ∷ rest)))
                 → Said path (led tree directory (name ∷ other ∷ rest)) (shown views path)
-            by o e false f on = ends f
-            by None e true f on = absurd (true≢false (sym f ∙ ap (λ o. is_directory_node (then_some o tree.node)) e))
-            by (Some number) e true f on = subst (λ o. Said path o (shown views path))
-                (ap (option_and_then (λ n. led tree n (other ∷ rest))) (sym e))
-                (subst (λ p. Said p (led tree number (other ∷ rest)) (shown views p))
-                (append_assoc front (name ∷ []) (other ∷ rest))
-                (on number e (sym (ap (λ o. is_directory_node (then_some o tree.node)) e) ∙ f)))
+            by o e b f on = grind (arith, common_steps, ends, true≢false, append_assoc)
 
         said_everywhere : Said [] (Some tree.root) (shown views []) → (path : List (List ℕ))
             → Said path (led tree tree.root path) (shown views path)
@@ -246,14 +235,7 @@ views_of_layers (layer ∷ lower) depth are =
 
 nodes_of_layers : (layers : List (OpenLayer ℕ)) (seen : Shown ℕ)
     → shown_node (map view_of layers) seen ≡ layer_node layers seen
-nodes_of_layers layers seen =
-    ap (λ o. then_some o (λ view. view.node seen.object)) (slice_get-map view_of layers seen.layer)
-    ∙ by (slice_get layers seen.layer)
-  where
-    by : (o : Option (OpenLayer ℕ)) → then_some (option_map view_of o) (λ view. view.node seen.object)
-        ≡ then_some o (λ layer. layer.tree.node seen.object)
-    by None = refl
-    by (Some layer) = refl
+nodes_of_layers layers seen = grind (arith, common_steps, slice_get-map)
 
 pub overlays_are_merged_by_directory : OverlaysAreMergedByDirectory
 overlays_are_merged_by_directory world overlay tree views_of path conditions are_layers is =

@@ -1,12 +1,11 @@
 -- A change of an overlay does to its upper layer what it is asked, clause by clause.
 use Rattle.std.proofs.lemmas.Grind.{common_steps}
-use Rattle.std.proofs.Common.{◌≡◌, ◌≢◌, refl, sym, ap, ◌∙◌, true≢false, arith, ℕ, suc, nat_eq, eq-eqb, ne_eqb, true, cond, ◌||◌, List, [], ◌∷◌, ◌++◌, Option, Some, is_some, unwrap_or}
-use Rattle.vt_spec.specs.Language.Changes.{content_with_parent, node_with_parent, node_without_entry, with_inode, with_moved, with_name, without_name, without_parent}
+use Rattle.std.proofs.Common.{◌≡◌, ◌≢◌, sym, ap, ◌∙◌, true≢false, arith, ℕ, suc, nat_eq, eq-eqb, ne_eqb, true, ◌||◌, List, [], ◌∷◌, ◌++◌, Option, Some, is_some, unwrap_or}
+use Rattle.vt_spec.specs.Language.Changes.{node_with_parent, node_without_entry, with_moved, with_name, without_name, without_parent}
 use Rattle.vt_spec.specs.Machine.CopyUp.{Merge, Stack, hides_directory, merge_with_moved, merge_with_new, merge_without_name, name_left_by, shown_in_lowers_at, upper_directory_named, upper_of, with_mark, without_contents}
 use Rattle.vt_spec.specs.FileTree.{FileTree, is_opaque_in}
 use Rattle.vt_spec.specs.Lists.{Fresh}
 use Rattle.vt_spec.specs.Machine.World.{Real, upper_object}
-use Rattle.vt_spec.specs.Machine.World.Real.{Upper}
 use Rattle.vt_spec.specs.Tree.{Node, entries_in, entry_named, is_directory_node, new_directory, node_with_entry}
 use Rattle.vt_spec.specs.TreeInvariant.{IsDirectory, IsTree, entry_at}
 use Rattle.vt_spec.specs.Machine.Invariants.{number_at_path}
@@ -111,29 +110,18 @@ module _ (files : FileTree ℕ) (tree : IsTree files.tree) (first : ℕ → Opti
       → is_opaque_in ((merge_with_new nat_eq fresh stack here directory name number node).upper.tree.node
       (upper_of (merge_with_new nat_eq fresh stack here directory name number node) number))
       ≡ hides_directory nat_eq stack here directory name
-  made_marked directory name number node seen has parent e =
-      let object : Node ℕ = record {
-        attr = node.attr;
-        content = content_with_parent (upper_of here directory) node.content;
-      } in
-      let added = with_inode nat_eq upper (fresh 0) object in
-      let named = with_name nat_eq added (upper_of here directory) name (fresh 0) in
-      let there : named.tree.node (fresh 0) ≡ Some object =
-      kept_elsewhere added (upper_of here directory) (node_with_entry name (fresh 0)) (fresh 0)
-      (ne_eqb (fresh 0) (upper_of here directory)
-      (λ same. old_differs directory seen has (sym (upper_of_is here directory seen has) ∙ sym same)))
-      ∙ node_set upper.tree (fresh 0) (Some object) in
-      let made_directory = ap (content_with_parent (upper_of here directory)) e in
-      ap (λ n. is_opaque_in ((with_mark nat_eq (hides_directory nat_eq stack here directory name) named
-      (fresh 0)).tree.node n))
-      (ap (λ b. unwrap_or (upper_object (cond b (Some (Upper (fresh 0))) (real number))) number)
-      (eq-eqb number number refl)) ∙ marked_itself (hides_directory nat_eq stack here directory name) named (fresh 0)
-      (ap is_directory_node there ∙ ap
-      (λ c. Rattle.vt_spec.specs.Rights.is_directory (Rattle.vt_spec.specs.Tree.kind_of c)) made_directory)
-      ∙ ap (λ o. hides_directory nat_eq stack here directory name || is_opaque_in o) there
-      ∙ ap (λ c. hides_directory nat_eq stack here directory name
-      || Rattle.vt_spec.specs.FileTree.opaque_of c) made_directory
-      ∙ or-false (hides_directory nat_eq stack here directory name)
+  made_marked directory name number node seen has parent e = grind (
+    arith,
+    common_steps,
+    kept_elsewhere,
+    ne_eqb,
+    old_differs,
+    upper_of_is,
+    node_set,
+    eq-eqb,
+    marked_itself,
+    or-false,
+  )
 
   module _ (from : ℕ) (old : List ℕ) (to : ℕ) (name : List ℕ) (object : ℕ) (seen_from seen : ℕ)
       (e : entry_at files.tree from old ≡ Some object) (has_from : upper_object (real from) ≡ Some seen_from)

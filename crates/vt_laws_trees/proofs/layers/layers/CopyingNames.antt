@@ -1,5 +1,5 @@
 -- What stands in the upper layer where a name was, and what a mark changes.
-use Rattle.std.proofs.Common.{arith, ◌≡◌, ◌≢◌, refl, sym, ap, subst, ◌∙◌, true≢false, ℕ, nat_eq, ne_eqb, Bool, true, false, cond, not, ◌||◌, List, [], ◌∷◌, Option, Some, None, is_some}
+use Rattle.std.proofs.Common.{arith, ◌≡◌, ◌≢◌, refl, sym, ap, ◌∙◌, true≢false, ℕ, nat_eq, ne_eqb, Bool, true, false, cond, not, ◌||◌, List, [], ◌∷◌, Option, Some, None, is_some}
 use Rattle.std.proofs.lemmas.Grind.{common_steps}
 use Rattle.std.specs.Cmp.{tied_itself}
 use Rattle.std.specs.Cmp.Lexicographic.{bytes_decides, nat_list_cmp_total, texts_ties}
@@ -92,20 +92,8 @@ pub left_where : (fresh : Fresh ℕ) (below : Option (Shown ℕ)) (stack : Stack
     (name : List ℕ) → is_directory_node (upper.tree.node directory) ≡ true → directory ≢ fresh 0
     → LeftWith (fresh 0) below stack
     (name_left_by nat_eq (is_some below) fresh stack upper directory name) directory name
-left_where fresh None stack upper directory name d differ = ap (λ o. entry_named name (entries_in o))
-    (node_set upper.tree directory (node_without_entry name (upper.tree.node directory)))
-    ∙ no_name_left name (upper.tree.node directory)
-left_where fresh (Some seen) stack upper directory name d differ =
-    let whited = with_inode nat_eq upper (fresh 0) (whiteout_of stack.mounter) in
-    let same = ap (λ b. cond b (Some (whiteout_of stack.mounter)) (upper.tree.node directory))
-    (ne_eqb directory (fresh 0) differ) in (
-      ap (λ o. entry_named name (entries_in o))
-          (node_set whited.tree directory (node_with_entry name (fresh 0) (whited.tree.node directory)))
-          ∙ name_put name (fresh 0) (whited.tree.node directory) (ap is_directory_node same ∙ d),
-      kept_elsewhere whited directory (node_with_entry name (fresh 0)) (fresh 0)
-          (ne_eqb (fresh 0) directory (λ e. differ (sym e)))
-          ∙ node_set upper.tree (fresh 0) (Some (whiteout_of stack.mounter)),
-    )
+left_where fresh below stack upper directory name d differ =
+    grind (arith, common_steps, node_set, no_name_left, ne_eqb, name_put, kept_elsewhere)
 
 -- it stays, where the directory's entries and the whiteout do
 pub left_stays : (number : ℕ) (below : Option (Shown ℕ)) (stack : Stack ℕ) (upper later : FileTree ℕ) (directory : ℕ)
@@ -119,21 +107,13 @@ left_stays number (Some seen) stack upper later directory name e f left = (ap (e
 pub left_elsewhere : (hidden : Bool) (fresh : Fresh ℕ) (stack : Stack ℕ) (upper : FileTree ℕ) (directory : ℕ)
     (name : List ℕ) (inode : ℕ) → inode ≢ directory → inode ≢ fresh 0
     → (name_left_by nat_eq hidden fresh stack upper directory name).tree.node inode ≡ upper.tree.node inode
-left_elsewhere true fresh stack upper directory name inode differ new =
-    kept_elsewhere (with_inode nat_eq upper (fresh 0) (whiteout_of stack.mounter)) directory
-    (node_with_entry name (fresh 0)) inode (ne_eqb inode directory differ)
-    ∙ ap (λ b. cond b (Some (whiteout_of stack.mounter)) (upper.tree.node inode)) (ne_eqb inode (fresh 0) new)
-left_elsewhere false fresh stack upper directory name inode differ new =
-    kept_elsewhere upper directory (node_without_entry name) inode (ne_eqb inode directory differ)
+left_elsewhere hidden fresh stack upper directory name inode differ new =
+    grind (arith, common_steps, kept_elsewhere, ne_eqb)
 
 pub emptied_is_empty : (upper : FileTree ℕ) (replaced : Option ℕ) (object : ℕ) → replaced ≡ Some object
     → entries_in ((without_contents nat_eq upper replaced).tree.node object) ≡ []
 emptied_is_empty upper replaced object e =
-    subst (λ o. entries_in ((without_contents nat_eq upper o).tree.node object) ≡ []) (sym e)
-    (part-changed_node entries_in (changed_node nat_eq upper object node_without_entries) object
-    (node_with_parent object) (entries-node_with_parent object) object
-    ∙ ap entries_in (node_set upper.tree object (node_without_entries (upper.tree.node object)))
-    ∙ entries-node_without_entries (upper.tree.node object))
+    grind (arith, common_steps, part-changed_node, entries-node_with_parent, node_set, entries-node_without_entries)
 
 pub emptied_other : (upper : FileTree ℕ) (replaced : Option ℕ) (inode : ℕ) → replaced ≢ Some inode
     → (without_contents nat_eq upper replaced).tree.node inode ≡ upper.tree.node inode

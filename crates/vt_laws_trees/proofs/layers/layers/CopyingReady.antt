@@ -36,12 +36,7 @@ module _ (fresh : Fresh ℕ) (before : Merge ℕ) (fit : IsFitToChange fresh bef
   Spares spare = (number : ℕ) → spare number → IsNewBy fresh number
 
   pub start : (spare : ℕ → Type 0) → Spares spare → IsSound files before.real spare before.real before.upper
-  start spare new = record {
-    one = fit.one_to_one;
-    kinds = fit.kinds;
-    stands = λ number object e. inl e;
-    spared = λ number object e s. let found = new object s in fit.unused found.0 number (e ∙ ap Some found.1);
-  }
+  start spare new = grind (arith, common_steps)
 
   -- what is asked is copied, with some numbers spared
   pub record IsReady (spare : ℕ → Type 0) (list : List ℕ) (merge : Merge ℕ) : Type 0 where

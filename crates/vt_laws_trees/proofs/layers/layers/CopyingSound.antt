@@ -1,6 +1,7 @@
 -- What is copied up stands in the upper layer: each inode has its own object there, of its kind, and a copy is what is
 -- shown.
-use Rattle.std.proofs.Common.{◌≡◌, ◌≢◌, ◌⊎◌, inl, inr, refl, sym, ap, subst, ◌∙◌, ℕ, nat_eq, eq-eqb, ne_eqb, true, false, cond, List, Option, Some, None, is_some, ⊎_elim}
+use Rattle.std.proofs.Common.{arith, ◌≡◌, ◌≢◌, ◌⊎◌, inl, inr, refl, sym, ap, subst, ◌∙◌, ℕ, nat_eq, eq-eqb, ne_eqb, true, false, cond, List, Option, Some, None, is_some, ⊎_elim}
+use Rattle.std.proofs.lemmas.Grind.{common_steps}
 use Rattle.std.proofs.lemmas.Bool.Decides.{eqb_tells}
 use Rattle.vt_spec.specs.Language.Changes.{with_inode}
 use Rattle.vt_spec.specs.Machine.CopyUp.{Merge, copied_content, copy_named, copy_of_node, copy_parent, upper_of, with_real}
@@ -32,15 +33,7 @@ copy_mark parent Whiteout = refl
 -- a copied inode is a copy of what is shown
 pub is_copy_of : (parent : ℕ) (seen : Option (Node ℕ)) (node : Node ℕ) → seen ≡ Some node
     → IsCopyOf seen (Some (record { attr = node.attr; content = copied_content parent node.content }))
-is_copy_of parent seen node e =
-    subst (λ o. IsCopyOf o (Some (record { attr = node.attr; content = copied_content parent node.content }))) (sym e)
-    (record {
-      there = refl;
-      kind = kind_of-copied_content parent node.content;
-      attr = refl;
-      bytes = copy_bytes parent node.content;
-      mark = copy_mark parent node.content;
-    })
+is_copy_of parent seen node e = grind (arith, common_steps, kind_of-copied_content, copy_bytes, copy_mark)
 
 module _ (files : FileTree ℕ) (first : ℕ → Option (Real ℕ)) (spare : ℕ → Type 0) where
   abbrev pub State : (ℕ → Option (Real ℕ)) → FileTree ℕ → Merge ℕ
@@ -163,14 +156,4 @@ module _ (files : FileTree ℕ) (first : ℕ → Option (Real ℕ)) (spare : ℕ
     }
       where
         soundly : Soundly real (λ seen. seen ≡ copy) (copy_of_node nat_eq (State real upper) object copy node)
-        soundly = record {
-          real = real_later;
-          upper = later;
-          is = refl;
-          sound = later_sound;
-          grows = λ number seen e. ⊎_elim
-              (λ t. none_is_some seen (sym below ∙ ap (λ n. upper_object (real n)) (sym t.1) ∙ e))
-              (λ t. ap (λ b. upper_object (cond b (Some (Upper copy)) (real number))) t.0 ∙ e)
-              (eqb_tells number object);
-          told = λ number seen e. ⊎_elim (λ t. inr t.1) (λ t. inl t) (told_later number seen e);
-        }
+        soundly = grind (arith, common_steps, later_sound, none_is_some, eqb_tells, told_later)

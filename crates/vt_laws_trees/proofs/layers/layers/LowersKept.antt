@@ -1,12 +1,12 @@
 -- What each change of a tree leaves as it was.
-use Rattle.std.proofs.Common.{arith, ◌≡◌, refl, sym, ap, subst, ◌∙◌, ℕ, nat_eq, false, cond, List, ⊎_elim, Option, Some, None, is_some}
+use Rattle.std.proofs.Common.{arith, ◌≡◌, refl, sym, ap, subst, ◌∙◌, ℕ, nat_eq, false, cond, List, ⊎_elim, Option, Some, None}
 use Rattle.std.proofs.lemmas.Grind.{common_steps}
 use Rattle.std.proofs.lemmas.Bool.Decides.{eqb_tells}
 use Rattle.vt_spec.specs.Language.Changes.{Change, changed, changed_node, node_with_attr, node_with_mark, node_with_parent, node_without_entry, with_inode, with_moved, with_name, without_name, without_parent}
 use Rattle.vt_spec.specs.Language.Changes.Change.{AddName, CopyUp, Make, Move, Remove, SetAttr, SetBytes, SetMark}
-use Rattle.vt_spec.specs.FileTree.{FileTree, attr_in, is_opaque_in, kind_in}
+use Rattle.vt_spec.specs.FileTree.{FileTree}
 use Rattle.vt_spec.specs.Lists.{is_among}
-use Rattle.vt_spec.specs.Tree.{Node, bytes_in, entries_in, entry_named, node_with_bytes, node_with_entry}
+use Rattle.vt_spec.specs.Tree.{Node, entries_in, entry_named, node_with_bytes, node_with_entry}
 use Rattle.vt_laws_trees.specs.Layers.Layers.Untouched.{IsKept, inodes_changed}
 use Rattle.vt_spec.proofs.Truths.{or_false_left, or_false_right}
 
@@ -14,24 +14,10 @@ pub kept_itself : (inode : Option (Node ℕ)) → IsKept inode inode
 kept_itself inode = record { there = refl; kind = refl; attr = refl; names = refl; bytes = refl; mark = refl }
 
 pub kept_same : (old new : Option (Node ℕ)) → new ≡ old → IsKept old new
-kept_same old new e = record {
-  there = ap is_some e;
-  kind = ap kind_in e;
-  attr = ap attr_in e;
-  names = ap entries_in e;
-  bytes = ap bytes_in e;
-  mark = ap is_opaque_in e;
-}
+kept_same old new e = grind (arith, common_steps)
 
 pub kept_both : (old middle new : Option (Node ℕ)) → IsKept old middle → IsKept middle new → IsKept old new
-kept_both old middle new a b = record {
-  there = b.there ∙ a.there;
-  kind = b.kind ∙ a.kind;
-  attr = b.attr ∙ a.attr;
-  names = b.names ∙ a.names;
-  bytes = b.bytes ∙ a.bytes;
-  mark = b.mark ∙ a.mark;
-}
+kept_both old middle new a b = grind (arith, common_steps)
 
 -- another parent leaves an inode as it was
 kept_parent : (parent : ℕ) (node : Option (Node ℕ)) → IsKept node (node_with_parent parent node)

@@ -3,7 +3,7 @@ use Rattle.std.proofs.lemmas.Grind.{common_steps}
 use Rattle.std.proofs.Common.{◌≡◌, ◌≢◌, refl, sym, ap, subst, ◌∙◌, true≢false, arith, ℕ, suc, ◌+◌, Bool, true, false, not, List, [], ◌∷◌, ◌++◌, Option, Some, None, is_some, option_and_then, slice_get}
 use Rattle.vt_spec.proofs.Layers.{cuts, shown_from, shown_over}
 use Rattle.vt_spec.specs.Machine.Layers.{OpenLayer, Shown, at_path, hides, node_at_path}
-use Rattle.vt_spec.specs.Lists.{then_some, when}
+use Rattle.vt_spec.specs.Lists.{then_some}
 use Rattle.vt_spec.specs.Tree.{Node, is_directory_node}
 use Rattle.vt_spec.specs.TreeInvariant.{IsDirectory, IsTree, entry_at}
 use Rattle.vt_laws_trees.proofs.layers.layers.ShownFronts.{prefix_found, prefix_passes}
@@ -72,18 +72,8 @@ pub record ShowsDirectory (depth : ℕ) (layers : List (OpenLayer ℕ)) (path : 
 
 own_directory : (depth : ℕ) (layer : OpenLayer ℕ) (lower : List (OpenLayer ℕ)) (path : List (List ℕ)) (object : ℕ)
     → at_path layer path ≡ Some object → IsDirectory layer.tree object → ShowsDirectory depth (layer ∷ lower) path
-own_directory depth layer lower path object e d = record {
-  place = 0;
-  layer = layer;
-  object = object;
-  there = refl;
-  is = ap (λ o. shown_over layer depth o (cuts layer path) (shown_from (depth + 1) lower path)) e
-      ∙ ap (λ b. when (not b) (record { layer = depth; object = object }))
-      (directory_no_whiteout (layer.tree.node object) d)
-      ∙ ap (λ l. Some (record { layer = l; object = object })) (omega arith);
-  at = e;
-  directory = d;
-}
+own_directory depth layer lower path object e d =
+    grind (arith, common_steps, shown_over, cuts, shown_from, directory_no_whiteout)
 
 pub shown_in_directory : (layers : List (OpenLayer ℕ)) → AreOpen layers
     → (depth : ℕ) (path : List (List ℕ)) (name : List ℕ) (seen : Shown ℕ)

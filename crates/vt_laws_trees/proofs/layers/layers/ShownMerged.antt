@@ -160,15 +160,8 @@ module _ (layers : List (OpenLayer ℕ)) (are_open : AreOpen layers) (longest : 
     entry object = entry_in_directory nat_eq fresh has_upper objects path object
 
     entry_here : (object : Merged ℕ) → object.path ≡ path ++ name ∷ [] → entry object ≡ Some (name, number object)
-    entry_here object e = grind (
-      arith,
-      common_steps,
-      number object,
-      last_of_longer path name [],
-      root_of_longer,
-      without_last_of_longer,
-      path_itself,
-    )
+    entry_here object e =
+        grind (arith, common_steps, last_of_longer, root_of_longer, without_last_of_longer, path_itself)
 
     pub entry_is_here : (object : Merged ℕ) (found : List ℕ × ℕ) → entry object ≡ Some found
         → (object.path ≡ path ++ found.0 ∷ []) × (found.1 ≡ number object)
@@ -207,13 +200,7 @@ module _ (layers : List (OpenLayer ℕ)) (are_open : AreOpen layers) (longest : 
         is_first same = ap entry same ∙ entry_here target e
 
         same_as : (found : List ℕ × ℕ) → entry first ≡ Some found → found.0 ≡ name → found.1 ≡ number target
-        same_as found f n =
-            let here = entry_is_here first found f in
-            let paths = here.0 ∙ ap (λ m. path ++ m ∷ []) n ∙ sym e in
-            let seen = same_Some first.seen target.seen
-            (sym (all first (inl refl)) ∙ ap (shown layers) paths ∙ all target among) in
-            let whole : first ≡ target = λ i. record { path = paths i; seen = seen i } in
-            here.1 ∙ ap number whole
+        same_as found f n = grind (arith, common_steps, entry_is_here, same_Some)
 
         choose : (found : List ℕ × ℕ) → entry first ≡ Some found → (b : Bool) → is_name name found.0 ≡ b
             → (first ≡ target) ⊎ Among list target

@@ -15,7 +15,7 @@ use Rattle.vt_spec.specs.Machine.NewMounts.{inode_count, overlay_filesystem}
 use Rattle.vt_spec.specs.Machine.World.{Filesystem, Layer, Overlay, Real, World, filesystem_numbered, is_overlay, no_filesystem, open_layer, shown_layers}
 use Rattle.vt_spec.specs.Machine.Invariants.{IsMerged, IsWorld, ListsNumbers, SameObject, is_plain_layer, is_there, node_shown, real_node, same_content}
 use Rattle.vt_spec.specs.Tree.{Content, Node, is_directory_node}
-use Rattle.vt_spec.specs.Tree.Content.{Directory, Regular, Symlink, Whiteout}
+use Rattle.vt_spec.specs.Tree.Content.{Directory}
 use Rattle.vt_spec.specs.TreeInvariant.{IsDirectory, IsTree, entry_at, led}
 use Rattle.vt_laws_trees.specs.Layers.Layers.Mounted.{AreLayers, RemountShowsTheSame}
 use Rattle.vt_laws_trees.proofs.layers.layers.ShownAlike.{shown_alike}
@@ -226,43 +226,7 @@ bytes_alike : (a b c : List ℕ) → bytes_eq a c ≡ true → bytes_eq b c ≡ 
 bytes_alike a b c e f = (bytes_decides a b).1 ((bytes_decides a c).0 e ∙ sym ((bytes_decides b c).0 f))
 
 content_alike : (a b c : Content ℕ) → same_content a c ≡ true → same_content b c ≡ true → same_content a b ≡ true
-content_alike (Directory p q r) (Directory s t u) c e f = refl
-content_alike (Directory p q r) (Regular y) (Directory s t u) e f = absurd (true≢false (sym f))
-content_alike (Directory p q r) (Regular y) (Regular z) e f = absurd (true≢false (sym e))
-content_alike (Directory p q r) (Regular y) (Symlink z) e f = absurd (true≢false (sym e))
-content_alike (Directory p q r) (Regular y) Whiteout e f = absurd (true≢false (sym e))
-content_alike (Directory p q r) (Symlink y) (Directory s t u) e f = absurd (true≢false (sym f))
-content_alike (Directory p q r) (Symlink y) (Regular z) e f = absurd (true≢false (sym e))
-content_alike (Directory p q r) (Symlink y) (Symlink z) e f = absurd (true≢false (sym e))
-content_alike (Directory p q r) (Symlink y) Whiteout e f = absurd (true≢false (sym e))
-content_alike (Directory p q r) Whiteout c e f = absurd (true≢false (sym f))
-content_alike (Regular x) (Directory s t u) (Directory v w o) e f = absurd (true≢false (sym e))
-content_alike (Regular x) (Directory s t u) (Regular z) e f = absurd (true≢false (sym f))
-content_alike (Regular x) (Directory s t u) (Symlink z) e f = absurd (true≢false (sym e))
-content_alike (Regular x) (Directory s t u) Whiteout e f = absurd (true≢false (sym e))
-content_alike (Regular x) (Regular y) (Directory s t u) e f = absurd (true≢false (sym e))
-content_alike (Regular x) (Regular y) (Regular z) e f = bytes_alike x y z e f
-content_alike (Regular x) (Regular y) (Symlink z) e f = absurd (true≢false (sym e))
-content_alike (Regular x) (Regular y) Whiteout e f = absurd (true≢false (sym e))
-content_alike (Regular x) (Symlink y) (Directory s t u) e f = absurd (true≢false (sym e))
-content_alike (Regular x) (Symlink y) (Regular z) e f = absurd (true≢false (sym f))
-content_alike (Regular x) (Symlink y) (Symlink z) e f = absurd (true≢false (sym e))
-content_alike (Regular x) (Symlink y) Whiteout e f = absurd (true≢false (sym e))
-content_alike (Regular x) Whiteout c e f = absurd (true≢false (sym f))
-content_alike (Symlink x) (Directory s t u) (Directory v w o) e f = absurd (true≢false (sym e))
-content_alike (Symlink x) (Directory s t u) (Regular z) e f = absurd (true≢false (sym e))
-content_alike (Symlink x) (Directory s t u) (Symlink z) e f = absurd (true≢false (sym f))
-content_alike (Symlink x) (Directory s t u) Whiteout e f = absurd (true≢false (sym e))
-content_alike (Symlink x) (Regular y) (Directory s t u) e f = absurd (true≢false (sym e))
-content_alike (Symlink x) (Regular y) (Regular z) e f = absurd (true≢false (sym e))
-content_alike (Symlink x) (Regular y) (Symlink z) e f = absurd (true≢false (sym f))
-content_alike (Symlink x) (Regular y) Whiteout e f = absurd (true≢false (sym e))
-content_alike (Symlink x) (Symlink y) (Directory s t u) e f = absurd (true≢false (sym e))
-content_alike (Symlink x) (Symlink y) (Regular z) e f = absurd (true≢false (sym e))
-content_alike (Symlink x) (Symlink y) (Symlink z) e f = bytes_alike x y z e f
-content_alike (Symlink x) (Symlink y) Whiteout e f = absurd (true≢false (sym e))
-content_alike (Symlink x) Whiteout c e f = absurd (true≢false (sym f))
-content_alike Whiteout b c e f = absurd (true≢false (sym e))
+content_alike a b c e f = grind (arith, common_steps, true≢false, bytes_alike)
 
 objects_alike : (a b c : Option (Node ℕ)) → SameObject a c → SameObject b c → SameObject a b
 objects_alike None None c e f = tt

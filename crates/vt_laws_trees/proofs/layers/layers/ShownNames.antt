@@ -57,16 +57,7 @@ filtered test name (other ∷ names) = by (is_name name other) refl (test other)
         → list_any (is_name name) (filter test names) ≡ (list_any (is_name name) names && test name)
         → list_any (is_name name) (cond t (other ∷ filter test names) (filter test names))
         ≡ ((b || list_any (is_name name) names) && test name)
-    by true s true t rest = ap (λ b. b || list_any (is_name name) (filter test names)) s ∙ sym t
-        ∙ ap test (sym (same_name name other s))
-    by true s false t rest = rest ∙ fails (list_any (is_name name) names) (test name)
-        (ap test (same_name name other s) ∙ t)
-      where
-        fails : (a b : Bool) → b ≡ false → (a && b) ≡ b
-        fails true b e = refl
-        fails false b e = sym e
-    by false s true t rest = ap (λ b. b || list_any (is_name name) (filter test names)) s ∙ rest
-    by false s false t rest = rest
+    by b s t known rest = grind (arith, common_steps, same_name)
 
 -- entries put one by one into others
 all_put : (name : List ℕ) (entries : Entries ℕ) (names : Entries (Unit {0}))

@@ -8,7 +8,6 @@ use Rattle.std.specs.Cmp.Lexicographic.{bytes_decides}
 use Rattle.vt_spec.specs.Machine.Layers.{OpenLayer, Shown, names_shown, paths_from, shown}
 use Rattle.vt_spec.specs.Lists.{index_from}
 use Rattle.vt_spec.specs.Machine.Merging.{Merged, is_one_inode, merged_at, merged_objects, real_object, same_path, same_real}
-use Rattle.vt_spec.specs.Machine.World.Real.{Upper}
 use Rattle.vt_laws_trees.proofs.layers.layers.ShownAtPath.{computed}
 use Rattle.vt_laws_trees.proofs.layers.layers.ShownDirectories.{AreOpen, append_assoc, shown_in_directory}
 use Rattle.vt_laws_trees.proofs.layers.layers.ShownNames.{names_are_those_shown}
@@ -200,12 +199,7 @@ module _ (layers : List (OpenLayer ℕ)) (are_open : AreOpen layers) where
 
     pub object_is : (object : Merged ℕ) → Among (merged_objects layers longest) object
         → shown layers object.path ≡ Some object.seen
-    object_is object among =
-        let found = from_filter_map (merged_at layers) (paths_from longest layers []) object among in grind (
-          arith,
-          common_steps,
-          none_is_some,
-        )
+    object_is object among = grind (arith, common_steps, from_filter_map, none_is_some)
 
 -- two objects that are one inode are the same in their layer, and have one real object
 pub record IsOne (has_upper : Bool) (a b : Merged ℕ) : Type 0 where
@@ -224,18 +218,7 @@ is_one layers has_upper a b s t e = by has_upper refl a.seen.layer refl b.seen.l
 
     by : (u : Bool) → has_upper ≡ u → (l : ℕ) → a.seen.layer ≡ l → (k : ℕ) → b.seen.layer ≡ k
         → same_real nat_eq (real_object u l a) (real_object u k b) ≡ true → IsOne has_upper a b
-    by false hu l la k lb e = by_path (path_same a.path b.path e)
-    by true hu zero la zero lb e =
-        let objects = eqb-true a.seen.object b.seen.object e in
-        record {
-          seen = λ i. record { layer = (la ∙ sym lb) i; object = objects i };
-          real = ap (λ u. real_object u a.seen.layer a) hu ∙ ap (λ l. real_object true l a) la
-              ∙ ap (λ o. Upper o) objects
-              ∙ sym (ap (λ u. real_object u b.seen.layer b) hu ∙ ap (λ l. real_object true l b) lb);
-        }
-    by true hu zero la (suc k) lb e = absurd (true≢false (sym e))
-    by true hu (suc l) la zero lb e = absurd (true≢false (sym e))
-    by true hu (suc l) la (suc k) lb e = by_path (path_same a.path b.path e)
+    by u hu l la k lb e = grind (arith, common_steps, by_path, path_same, eqb-true, true≢false)
 
 -- an object is one inode with itself
 pub one_itself : (has_upper : Bool) (a : Merged ℕ) → is_one_inode nat_eq has_upper a a ≡ true

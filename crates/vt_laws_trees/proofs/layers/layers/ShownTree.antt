@@ -1,11 +1,11 @@
 -- A merged tree that is made of its layers has at each path what they show, with its real object.
 use Rattle.std.proofs.lemmas.Grind.{common_steps}
-use Rattle.std.proofs.Common.{◌≡◌, ◌≢◌, ◌≤◌, refl, sym, ap, subst, ◌∙◌, true≢false, arith, ℕ, zero, suc, ◌+◌, nat_eq, Bool, true, cond, List, [], ◌∷◌, ◌++◌, length, Option, Some, None, option_and_then, unwrap_or}
-use Rattle.std.specs.List.{cons_option, filter_map}
+use Rattle.std.proofs.Common.{◌≡◌, ◌≢◌, ◌≤◌, refl, sym, ap, subst, ◌∙◌, true≢false, arith, ℕ, zero, suc, ◌+◌, nat_eq, Bool, true, List, [], ◌∷◌, ◌++◌, length, Option, Some, None, option_and_then}
+use Rattle.std.specs.List.{filter_map}
 use Rattle.std.specs.Prelude.{option_map}
 use Rattle.vt_spec.specs.Machine.Layers.{OpenLayer, Shown, paths_from, shown}
-use Rattle.vt_spec.specs.Lists.{Fresh, index_from, then_some}
-use Rattle.vt_spec.specs.Machine.Merging.{Merged, MergedInode, entry_in_directory, is_one_inode, layer_node, merged_at, merged_content, real_object, real_of, tree_of}
+use Rattle.vt_spec.specs.Lists.{Fresh, then_some}
+use Rattle.vt_spec.specs.Machine.Merging.{Merged, MergedInode, entry_in_directory, layer_node, merged_at, merged_content, real_object, real_of, tree_of}
 use Rattle.vt_spec.specs.Machine.Invariants.{SameObject}
 use Rattle.vt_spec.specs.Rights.{is_directory}
 use Rattle.vt_spec.specs.Tree.{Content, Node, Tree, entries_in, entries_of, entry_named, kind_of}
@@ -49,14 +49,7 @@ module _ (layers : List (OpenLayer ℕ)) (are_open : AreOpen layers) (longest : 
   first_path (suc most) = (_, refl)
 
   pub root_number : num (object_at [] top) ≡ fresh 0
-  root_number =
-      let paths = first_path longest in
-      ap (λ l. fresh (unwrap_or (index_from (is_one_inode nat_eq has_upper (object_at [] top)) 0 l) 0))
-      (ap (filter_map (merged_at layers)) paths.1
-      ∙ ap (λ o. cons_option (option_map (λ seen. object_at [] seen) o) (filter_map (merged_at layers) paths.0)) is_top)
-      ∙ ap (λ b. fresh (unwrap_or (cond b (Some 0)
-      (index_from (is_one_inode nat_eq has_upper (object_at [] top)) (0 + 1)
-      (filter_map (merged_at layers) paths.0))) 0)) (one_itself has_upper (object_at [] top))
+  root_number = grind (arith, common_steps, first_path, one_itself)
 
   pub inode_at : (path : List (List ℕ)) (seen : Shown ℕ) → shown layers path ≡ Some seen
       → HasInode layers are_open longest bounded fresh distinct has_upper (object_at path seen)

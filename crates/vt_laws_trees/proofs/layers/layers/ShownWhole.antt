@@ -1,5 +1,5 @@
 -- A merged tree has no whiteout and no mark, and two inodes of it have two real objects, which are there.
-use Rattle.std.proofs.Common.{arith, ◌≡◌, ◌≢◌, ◌≤◌, refl, sym, ap, subst, ◌∙◌, true≢false, ℕ, zero, suc, nat_eq, eqb-true, Bool, true, false, List, [], ◌∷◌, length, Option, Some, None, is_some, slice_get, unwrap_or}
+use Rattle.std.proofs.Common.{arith, ◌≡◌, ◌≢◌, ◌≤◌, refl, sym, ap, subst, ◌∙◌, true≢false, ℕ, suc, nat_eq, eqb-true, Bool, true, false, List, [], ◌∷◌, length, Option, Some, None, is_some, slice_get, unwrap_or}
 use Rattle.std.proofs.lemmas.Grind.{common_steps}
 use Rattle.std.specs.List.{find}
 use Rattle.std.specs.Prelude.{option_map}
@@ -172,15 +172,7 @@ module _ (layers : List (OpenLayer ℕ)) (are_open : AreOpen layers) (longest : 
   behind_object : (object : Merged ℕ) (found : InLayer layers are_open longest bounded fresh distinct has_upper object)
       (upper : Bool) (layer : ℕ) → object.seen.layer ≡ layer
       → behind layers upper (real_object upper layer object) ≡ Some found.node
-  behind_object object found true zero e =
-      ap (λ o. then_some o (λ layer. layer.tree.node object.seen.object)) (ap (slice_get layers) (sym e) ∙ found.there)
-      ∙ found.is
-  behind_object object found true (suc layer) e =
-      ap (λ o. then_some o (λ lower. node_at_path lower object.path)) (ap (slice_get layers) (sym e) ∙ found.there)
-      ∙ ap (λ o. then_some o found.layer.tree.node) found.at ∙ found.is
-  behind_object object found false layer e =
-      ap (λ o. then_some o (λ lower. node_at_path lower object.path)) (ap (slice_get layers) (sym e) ∙ found.there)
-      ∙ ap (λ o. then_some o found.layer.tree.node) found.at ∙ found.is
+  behind_object object found upper layer e = grind (arith, common_steps)
 
   pub merged_is_real : (n : ℕ) → SameObject (nodes n) (then_some (real_of nat_eq made n) (behind layers has_upper))
   merged_is_real n = by (inode_of made n nat_eq) refl

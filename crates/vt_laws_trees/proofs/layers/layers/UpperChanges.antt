@@ -1,7 +1,7 @@
 -- A change of an overlay writes to new inodes and to objects of the upper layer alone.
 use Rattle.std.proofs.Common.{arith, ◌≡◌, ◌≢◌, refl, sym, ap, subst, ◌∙◌, true≢false, ℕ, ◌+◌, ◌*◌, nat_eq, ne_eqb, Bool, true, false, cond, List, Option, Some, None, is_some}
 use Rattle.std.proofs.lemmas.Grind.{common_steps}
-use Rattle.vt_spec.specs.Language.Changes.{Change, changed_node, node_with_attr, node_with_mark, node_with_parent, node_without_entries, node_without_entry, with_inode, with_moved, with_name, without_name, without_parent}
+use Rattle.vt_spec.specs.Language.Changes.{Change, changed_node, node_with_attr, node_with_mark, node_with_parent, node_without_entries, node_without_entry, with_inode, with_moved, without_name}
 use Rattle.vt_spec.specs.Language.Changes.Change.{AddName, CopyUp, Make, Move, Remove, SetAttr, SetBytes, SetMark}
 use Rattle.vt_spec.specs.Machine.CopyUp.{Merge, Stack, changed_both, copied_up, hides_directory, merge_changed, merge_with_link, merge_with_moved, merge_with_new, merge_without_name, name_left_by, shown_in_lowers_at, upper_directory_named, upper_of, whiteout_of, with_mark, without_contents}
 use Rattle.vt_spec.specs.FileTree.{FileTree, a_name}
@@ -48,16 +48,7 @@ module _ (inode : ℕ) where
       → nat_eq inode from ≡ false → nat_eq inode to ≡ false → nat_eq inode object ≡ false
       → entry_named name (entries_in (files.tree.node to)) ≢ Some inode
       → (with_moved nat_eq files from old to name object).tree.node inode ≡ files.tree.node inode
-  moved_elsewhere files from old to name object f t o spared =
-      let freed = without_parent nat_eq files (entry_named name (entries_in (files.tree.node to))) in let left =
-      without_name nat_eq freed from old in grind (
-        arith,
-        common_steps,
-        kept_elsewhere (with_name nat_eq left to name object) object (node_with_parent to) inode o,
-        kept_elsewhere left to (node_with_entry name object) inode t,
-        kept_elsewhere freed from (node_without_entry old) inode f,
-        kept_elsewhere,
-      )
+  moved_elsewhere files from old to name object f t o spared = grind (arith, common_steps, kept_elsewhere)
 
 module _ (files : FileTree ℕ) (tree : IsTree files.tree) (numbers : ListsNumbers nat_eq files) (inode : ℕ)
     (node : Option (Node ℕ)) where
@@ -79,12 +70,7 @@ module _ (files : FileTree ℕ) (tree : IsTree files.tree) (numbers : ListsNumbe
         → (merge_with_new nat_eq fresh stack (With real upper) directory name number object).upper.tree.node inode
         ≡ node
     made_keeps directory name number object has =
-        marked_elsewhere inode (hides_directory nat_eq stack (With real upper) directory name) _ (fresh 0)
-        (ne_eqb inode (fresh 0) (new 0))
-        ∙ kept_elsewhere (with_inode nat_eq upper (fresh 0) _) (upper_of (With real upper) directory)
-        (node_with_entry name (fresh 0)) inode
-        (upper_differs files tree numbers inode node real upper fine directory has)
-        ∙ inode_elsewhere inode upper (fresh 0) _ (ne_eqb inode (fresh 0) (new 0)) ∙ fine.here
+        grind (arith, common_steps, marked_elsewhere, ne_eqb, kept_elsewhere, upper_differs, inode_elsewhere)
 
     linked_keeps : (directory : ℕ) (name : List ℕ) (object : ℕ) → HasUpper real directory
         → (merge_with_link nat_eq (With real upper) directory name object).upper.tree.node inode ≡ node

@@ -1,6 +1,6 @@
 -- In an overlay whose tree is what its layers show: the root has an object in the upper layer, and so has each
 -- directory that has an entry for an upper object; what lies below has one name.
-use Rattle.std.proofs.Common.{arith, ◌≡◌, refl, sym, ap, ◌∙◌, true≢false, ℕ, zero, suc, nat_eq, eqb-true, Bool, true, false, cond, not, ◌||◌, List, [], ◌∷◌, ◌++◌, map, Option, Some, None, is_some, option_and_then}
+use Rattle.std.proofs.Common.{arith, ◌≡◌, refl, sym, ap, ◌∙◌, true≢false, ℕ, zero, suc, nat_eq, eqb-true, Bool, true, false, cond, ◌||◌, List, [], ◌∷◌, ◌++◌, map, Option, Some, None, is_some, option_and_then}
 use Rattle.std.proofs.lemmas.Grind.{common_steps}
 use Rattle.std.specs.List.{cons_option, filter_map, find, list_any}
 use Rattle.std.specs.Prelude.{option_map}
@@ -97,12 +97,7 @@ module _ (top : OpenLayer ℕ) (lower : List (OpenLayer ℕ)) where
   -- a directory of the upper layer is shown
   pub upper_is_real : (path : List (List ℕ)) (directory : ℕ) → at_path top path ≡ Some directory
       → IsDirectory top.tree directory → real_at path ≡ Some (Upper directory)
-  upper_is_real path directory e d = ap (λ o. option_map (λ object. real_object true object.seen.layer object)
-      (option_map (λ seen. record { path = path; seen = seen }) o))
-      (ap (λ o. Rattle.vt_spec.proofs.Layers.shown_over top 0 o (Rattle.vt_spec.proofs.Layers.cuts top path)
-      (Rattle.vt_spec.proofs.Layers.shown_from 1 lower path)) e
-      ∙ ap (λ b. Rattle.vt_spec.specs.Lists.when (not b) (record { layer = 0; object = directory }))
-      (directory_no_whiteout (top.tree.node directory) d))
+  upper_is_real path directory e d = grind (arith, common_steps, directory_no_whiteout)
 
   -- what the upper layer shows at a path with one name more is in a directory of the upper layer
   pub real_is_upper : (path : List (List ℕ)) (name : List ℕ)

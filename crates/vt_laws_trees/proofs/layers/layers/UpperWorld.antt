@@ -3,20 +3,18 @@
 use Rattle.std.proofs.lemmas.Grind.{common_steps}
 use Rattle.std.proofs.Common.{◌≡◌, ◌≢◌, ◌<◌, All, refl, sym, ap, subst, ◌∙◌, true≢false, arith, ℕ, suc, nat_eq, Bool, true, false, cond, not, ◌&&◌, List, [], ◌∷◌, ◌++◌, map, length, Option, Some, None, is_some}
 use Rattle.std.specs.List.{find, list_all}
-use Rattle.std.specs.Prelude.{nat_le, option_to_list}
+use Rattle.std.specs.Prelude.{option_to_list}
 use Rattle.vt_spec.specs.Language.Changes.{Change}
 use Rattle.vt_spec.specs.Machine.CopyUp.{Merge, merge_changed}
 use Rattle.vt_spec.specs.FileTree.{FileTree, a_name}
 use Rattle.vt_spec.specs.Machine.Filesystems.{filesystem_changed, merge_of, overlay_changed, stack_of, with_change, with_files, with_merge}
 use Rattle.vt_spec.specs.Machine.Layers.{OpenLayer, shown}
-use Rattle.vt_spec.specs.Lists.{Fresh, without_last, is_empty_list}
+use Rattle.vt_spec.specs.Lists.{Fresh, without_last}
 use Rattle.vt_spec.specs.Machine.Locked.{of_overlay, overlay_or}
 use Rattle.vt_spec.specs.Machine.Merging.{merged_at, real_object}
 use Rattle.vt_spec.specs.Machine.Mounts.{Location}
-use Rattle.vt_spec.specs.Language.Limits.{most_lowers}
-use Rattle.vt_spec.specs.Machine.Policy.{same_bool}
 use Rattle.vt_spec.specs.Machine.World.{Filesystem, Layer, Overlay, Real, World, filesystem_at, filesystem_numbered, files_at, is_overlay, layers_of, mount_at, open_layer, upper_object, with_filesystem}
-use Rattle.vt_spec.specs.Machine.Invariants.{IsMerged, IsWorld, ListsNumbers, has_fit_layers, is_plain_layer, number_at_path}
+use Rattle.vt_spec.specs.Machine.Invariants.{IsMerged, IsWorld, ListsNumbers, is_plain_layer, number_at_path}
 use Rattle.vt_spec.specs.Tree.{Node, is_directory_node}
 use Rattle.vt_spec.specs.TreeInvariant.{IsTree, entry_at, led}
 use Rattle.vt_spec.proofs.Trees.{led-append}
@@ -93,34 +91,16 @@ module _ (world : World ℕ) (conditions : IsWorld nat_eq world) (number : ℕ) 
 
   -- its layers may be mounted
   pub overlay_layers : AreLayers world overlay
-  overlay_layers = (
-    some_lower (option_to_list overlay.upper) overlay.lowers has_lowers,
-    without_middle (option_to_list overlay.upper) (option_to_list overlay.work) overlay.lowers plain_layers,
+  overlay_layers = grind (
+    arith,
+    common_steps,
+    plain_layers,
+    and_true_left,
+    all_pass_found,
+    overlay_found,
+    true≢false,
+    and_true_right,
   )
-    where
-      has_lowers : not (is_empty_list overlay.lowers) ≡ true
-      has_lowers = and_true_left (not (is_empty_list overlay.lowers)) (nat_le (length overlay.lowers) most_lowers)
-          (and_true_left (not (is_empty_list overlay.lowers) && nat_le (length overlay.lowers) most_lowers)
-          (same_bool (is_some overlay.upper) (is_some overlay.work)) (sym (ap (overlay_or true has_fit_layers) is)
-          ∙ all_pass_found (of_overlay true has_fit_layers)
-          (λ filesystem. nat_eq number filesystem.number) world.filesystems conditions.overlays.fit_layers merged
-          (overlay_found world number overlay is)))
-
-      some_lower : (above lowers : List (Layer ℕ)) → not (is_empty_list lowers) ≡ true → above ++ lowers ≢ []
-      some_lower [] [] e none = true≢false (sym e)
-      some_lower [] (layer ∷ lowers) e none = absurd cc
-      some_lower (layer ∷ above) lowers e none = absurd cc
-
-      without_middle : (first middle last : List (Layer ℕ))
-          → list_all (is_plain_layer nat_eq world) (first ++ middle ++ last) ≡ true
-          → list_all (is_plain_layer nat_eq world) (first ++ last) ≡ true
-      without_middle [] [] last e = e
-      without_middle [] (layer ∷ middle) last e =
-          without_middle [] middle last (and_true_right (is_plain_layer nat_eq world layer) _ e)
-      without_middle (layer ∷ first) middle last e =
-          let plain = and_true_left (is_plain_layer nat_eq world layer) _ e in
-          ap (λ b. b && list_all (is_plain_layer nat_eq world) (first ++ last)) plain
-          ∙ without_middle first middle last (and_true_right (is_plain_layer nat_eq world layer) _ e)
 
   module _ (upper : Layer ℕ) (has : overlay.upper ≡ Some upper) where
     plain_upper : is_plain_layer nat_eq world upper ≡ true
@@ -130,12 +110,7 @@ module _ (world : World ℕ) (conditions : IsWorld nat_eq world) (number : ℕ) 
 
     -- the upper layer is in another filesystem
     pub upper_elsewhere : upper.filesystem ≢ number
-    upper_elsewhere e = grind (
-      arith,
-      common_steps,
-      and_true_left (not (is_overlay (filesystem_numbered nat_eq world upper.filesystem))) _ plain_upper,
-      true≢false,
-    )
+    upper_elsewhere e = grind (arith, common_steps, and_true_left, plain_upper, true≢false)
 
     upper_directory : is_directory_node
         ((filesystem_numbered nat_eq world upper.filesystem).files.tree.node upper.directory) ≡ true

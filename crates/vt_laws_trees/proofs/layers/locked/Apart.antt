@@ -5,7 +5,7 @@ use Rattle.std.specs.List.{find, list_any, list_all}
 use Rattle.std.specs.Prelude.{flat_map, option_to_list}
 use Rattle.vt_spec.specs.FileTree.{FileTree, is_under}
 use Rattle.vt_spec.specs.Lists.{any_pair, holds_of}
-use Rattle.vt_spec.specs.Machine.Locked.{counts_in_layer, is_object_of, is_real_upper, lies_in_layer, lies_or_counts_under, live_upper_and_work, of_overlay, overlaps_one_of, overlay_or, overlays, upper_and_work}
+use Rattle.vt_spec.specs.Machine.Locked.{is_object_of, is_real_upper, lies_in_layer, lies_or_counts_under, live_upper_and_work, of_overlay, overlaps_one_of, overlay_or, overlays, upper_and_work}
 use Rattle.vt_spec.specs.Machine.World.{Filesystem, Layer, Overlay, World, filesystem_numbered, is_overlay, layers_of, no_filesystem, upper_object}
 use Rattle.vt_spec.specs.Machine.Invariants.{IsWorld, ListsNumbers, is_plain_layer, is_there, live_lowers, overlap}
 use Rattle.vt_spec.specs.Tree.{is_directory_node}
@@ -108,12 +108,7 @@ module _ (world : World ℕ) (conditions : IsWorld nat_eq world) where
 
   pub no_overlay_in : (layer : Layer ℕ) → is_plain_layer nat_eq world layer ≡ true
       → (filesystem_numbered nat_eq world layer.filesystem).overlay ≡ None
-  no_overlay_in layer plain = grind (
-    arith,
-    common_steps,
-    and_true_left (not (is_overlay (filesystem_numbered nat_eq world layer.filesystem))) _ plain,
-    true≢false,
-  )
+  no_overlay_in layer plain = grind (arith, common_steps, and_true_left, true≢false)
 
   module _ (number : ℕ) (overlay : Overlay ℕ) (is : (filesystem_numbered nat_eq world number).overlay ≡ Some overlay)
       (upper : Layer ℕ) (has : overlay.upper ≡ Some upper) where
@@ -146,14 +141,8 @@ module _ (world : World ℕ) (conditions : IsWorld nat_eq world) where
           (layer_plain number overlay is upper upper_in_layers)))
 
       pub object_counts : lies_or_counts_under nat_eq world upper.filesystem object upper ≡ true
-      object_counts = or_right (lies_in_layer nat_eq world upper.filesystem object upper) _
-          (any_from_among (counts_in_layer nat_eq world upper.filesystem object upper) (overlays world)
-          (filesystem_numbered nat_eq world number) (merged_among world number overlay is)
-          (subst (λ o. overlay_or false (λ v.
-          holds_of (λ u. lies_in_layer nat_eq world u.filesystem u.directory upper) v.upper
-          && is_object_of nat_eq upper.filesystem object (filesystem_numbered nat_eq world number) v) o ≡ true) (sym is)
-          (and_from _ _
-          (ap (holds_of (λ u. lies_in_layer nat_eq world u.filesystem u.directory upper)) has ∙ directory_lies) is_of)))
+      object_counts =
+          grind (arith, common_steps, or_right, any_from_among, merged_among, and_from, directory_lies, is_of)
 
       pub object_listed : Among object (filesystem_numbered nat_eq world upper.filesystem).files.numbers
       object_listed = listed upper.filesystem object object_there
@@ -192,10 +181,4 @@ module _ (world : World ℕ) (conditions : IsWorld nat_eq world) where
           apart : (a b : Layer ℕ) → upper.filesystem ≡ a.filesystem → overlap nat_eq world a b ≡ false
               → lies_or_counts_under nat_eq world upper.filesystem object a ≡ true
               → lies_or_counts_under nat_eq world upper.filesystem object b ≡ true → ⊥
-          apart a b same e f g = never_both _ _
-              (none_among (λ (o : ℕ). lies_or_counts_under nat_eq world upper.filesystem o a
-              && list_any (lies_or_counts_under nat_eq world upper.filesystem o) (b ∷ []))
-              (filesystem_numbered nat_eq world upper.filesystem).files.numbers
-              (ap (λ n. list_any (λ (o : ℕ). lies_or_counts_under nat_eq world n o a
-              && list_any (lies_or_counts_under nat_eq world n o) (b ∷ []))
-              (filesystem_numbered nat_eq world n).files.numbers) same ∙ e) object object_listed) f (or_left _ false g)
+          apart a b same e f g = grind (arith, common_steps, never_both, none_among, object_listed, or_left)

@@ -4,11 +4,11 @@ use Rattle.std.proofs.lemmas.Grind.{common_steps}
 use Rattle.vt_spec.specs.Language.Calls.{Access, Call}
 use Rattle.vt_spec.specs.Language.Changes.{Change}
 use Rattle.vt_spec.specs.Language.Changes.Change.{SetBytes, SetMark}
-use Rattle.vt_spec.specs.Lists.{Fresh, evens, is_among, odds}
+use Rattle.vt_spec.specs.Lists.{Fresh, is_among}
 use Rattle.vt_spec.specs.Machine.Locked.{is_locked, is_locked_at}
 use Rattle.vt_spec.specs.Machine.Mounts.{Location}
 use Rattle.vt_spec.specs.Machine.Descriptors.{pwritten}
-use Rattle.vt_spec.specs.Machine.Rows.{file_mode, linking, making, new_file}
+use Rattle.vt_spec.specs.Machine.Rows.{file_mode, linking, new_file}
 use Rattle.vt_spec.proofs.Tables.{with_new}
 use Rattle.vt_spec.specs.Machine.Rules.Removing.{moving, object_there, removing, rename_rules}
 use Rattle.vt_spec.specs.Machine.Detach.{without_replaced, without_mounts_on}
@@ -88,12 +88,7 @@ module _ (world : World ℕ) (fresh : Fresh ℕ) (task : Task ℕ) where
   -- a new object in a directory that is there and not locked
   new_left : (place : Place ℕ) (node : Node ℕ) → is_locked_at nat_eq world place.parent ≡ false → NodeThere place.parent
       → Left (with_new nat_eq fresh world place node)
-  new_left place node unlocked there =
-      change_left (odds fresh) (λ inode new k. new (2 * k + 1)) place.parent (making place (evens fresh 0) node)
-      (λ inode locked new.
-      or_from (nat_eq inode (fresh 0)) _ (ne_eqb inode (fresh 0) (new 0))
-      (or_from (nat_eq inode place.parent.node) false (differs place.parent unlocked inode locked) refl))
-      (λ overlay is. there)
+  new_left place node unlocked there = grind (arith, common_steps, change_left, or_from, ne_eqb, differs)
 
   -- a change of one inode that is there and not locked
   one_left : (location : Location ℕ) (change : Change ℕ) → inodes_changed change ≡ location.node ∷ []

@@ -93,8 +93,7 @@ calls_go_through_one fresh world task call conditions called c = ⊎_elim (λ e.
   record {
     elsewhere = λ number differ upper.
         same_filesystem (changed_in change.supply world change.mounted change.change) later number change.so
-        ∙ changed_elsewhere change.supply world
-        (filesystem_numbered nat_eq world change.mounted) change.change number
+        ∙ changed_elsewhere change.supply world (filesystem_numbered nat_eq world change.mounted) change.change number
         (λ e. differ (e ∙ number_of_filesystem world change.mounted)) upper;
     others = λ number overlay layer inode differ is m lies new.
         layer_stays fresh world task conditions called call c number overlay is layer

@@ -1,11 +1,11 @@
 -- Where what lies under a layer stays as it was, paths lead from the layer's directory where they led.
-use Rattle.std.proofs.Common.{arith, ◌≡◌, ◌≢◌, refl, sym, ap, ◌∙◌, true≢false, eq-eqb, ℕ, nat_eq, true, cond, not, ◌&&◌, ◌||◌, List, Some, is_some}
+use Rattle.std.proofs.Common.{arith, ◌≡◌, ◌≢◌, sym, ap, ◌∙◌, true≢false, eq-eqb, ℕ, nat_eq, true, cond, not, ◌&&◌, ◌||◌, List, Some, is_some}
 use Rattle.std.proofs.lemmas.Grind.{common_steps}
-use Rattle.std.specs.List.{find, list_any}
-use Rattle.vt_spec.specs.FileTree.{is_directory_under, is_file_under, is_under}
+use Rattle.std.specs.List.{find}
+use Rattle.vt_spec.specs.FileTree.{is_directory_under, is_file_under}
 use Rattle.vt_spec.specs.Lists.{Fresh}
 use Rattle.vt_spec.specs.Machine.Layers.{at_path}
-use Rattle.vt_spec.specs.Machine.Locked.{counts_in_layer, lies_or_counts_under, overlays, upper_and_work}
+use Rattle.vt_spec.specs.Machine.Locked.{lies_or_counts_under, upper_and_work}
 use Rattle.vt_spec.specs.Machine.Policy.{call_outcome}
 use Rattle.vt_spec.specs.Machine.World.{Filesystem, Layer, World, filesystem_numbered, is_overlay, layers_of, open_layer}
 use Rattle.vt_spec.specs.Machine.Invariants.{IsWorld, ListsNumbers, is_plain_layer}
@@ -51,11 +51,7 @@ module _ (world : World ℕ) (conditions : IsWorld nat_eq world) (layer : Layer 
   pub led_lies : (path : List (List ℕ)) (object : ℕ) → at_path (open_layer nat_eq world layer) path ≡ Some object
       → lies_or_counts_under nat_eq world layer.filesystem object layer ≡ true
   led_lies path object e =
-      ap (λ b. b || list_any (counts_in_layer nat_eq world layer.filesystem object layer) (overlays world))
-      (ap (λ b. b && is_under nat_eq filesystem.files layer.directory object)
-      (eq-eqb layer.filesystem layer.filesystem refl)
-      ∙ led_below filesystem.files layer_tree layer_numbers layer.directory layer.directory path object
-      top_under top_directory e)
+      grind (arith, common_steps, eq-eqb, led_below, layer_tree, layer_numbers, top_under, top_directory)
 
   pub led_there : (path : List (List ℕ)) (object : ℕ) → at_path (open_layer nat_eq world layer) path ≡ Some object
       → is_some (inode_in world layer.filesystem object) ≡ true

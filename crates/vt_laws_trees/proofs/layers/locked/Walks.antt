@@ -1,5 +1,6 @@
 -- Where a task's walk ends something is, and so where its descriptors are.
-use Rattle.std.proofs.Common.{◌≡◌, refl, sym, ap, subst, ℕ, zero, suc, nat_eq, Bool, true, false, cond, List, [], ◌∷◌, ◌+◌, reverse, Option, Some, None, is_some, Ok, Err, Result, ok_or, inr}
+use Rattle.std.proofs.Common.{arith, ◌≡◌, refl, sym, ap, subst, ℕ, zero, suc, nat_eq, Bool, true, false, cond, List, [], ◌∷◌, ◌+◌, reverse, Option, Some, None, is_some, Ok, Err, Result, ok_or, inr}
+use Rattle.std.proofs.lemmas.Grind.{common_steps}
 use Rattle.std.specs.List.{find}
 use Rattle.std.specs.Prelude.{option_to_list}
 use Rattle.vt_spec.specs.Errors.{denial}
@@ -147,13 +148,4 @@ module _ (world : World ℕ) (conditions : IsWorld nat_eq world) (task : Task �
 
       by : (o : Option (Descriptor ℕ)) → descriptor_numbered task number ≡ o
           → ok_or (find fits (option_to_list o)) (denial S4) ≡ Ok descriptor → Among descriptor task.descriptors
-      by None f h = absurd (no_answer h)
-        where
-          is_answer : Result (Descriptor ℕ) Deny → Bool
-          is_answer (Ok d) = true
-          is_answer (Err d) = false
-
-          no_answer : Err (denial S4) ≡ Ok descriptor → ⊥
-          no_answer h = Rattle.std.proofs.Common.true≢false (sym (ap is_answer h))
-      by (Some held) f h = chosen held
-          (found_among (λ d. Rattle.std.specs.Prelude.nat_eq number d.number) task.descriptors held f) (fits held) h
+      by o f h = grind (arith, common_steps, chosen, found_among)

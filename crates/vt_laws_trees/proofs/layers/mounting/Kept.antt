@@ -49,16 +49,7 @@ WithMounts world mounts master = record world { mounts = mounts; master = master
 merged_with : (world : World ℕ) (mounts : List (Mount ℕ)) (master : ℕ → Option ℕ) (filesystem : Filesystem ℕ)
     (overlay : Overlay ℕ)
     → IsMerged nat_eq world filesystem overlay → IsMerged nat_eq (WithMounts world mounts master) filesystem overlay
-merged_with world mounts master filesystem overlay is = record {
-  shows = is.shows;
-  names = is.names;
-  real_objects = is.real_objects;
-  real_there = is.real_there;
-  no_whiteout = is.no_whiteout;
-  no_mark = is.no_mark;
-  upper_there = is.upper_there;
-  one_to_one = is.one_to_one;
-}
+merged_with world mounts master filesystem overlay is = grind (arith, common_steps)
 
 pub overlays_with : (world : World ℕ) (mounts : List (Mount ℕ)) (master : ℕ → Option ℕ)
     → OverlayInvariants nat_eq world → OverlayInvariants nat_eq (WithMounts world mounts master)
@@ -74,13 +65,7 @@ overlays_with world mounts master is = record {
 
 pub trees_with : (world : World ℕ) (mounts : List (Mount ℕ)) (master : ℕ → Option ℕ) → TreeInvariants nat_eq world
     → TreeInvariants nat_eq (WithMounts world mounts master)
-trees_with world mounts master is = record {
-  trees = is.trees;
-  own_parents = is.own_parents;
-  numbers = is.numbers;
-  one_filesystem = is.one_filesystem;
-  fit_filesystems = is.fit_filesystems;
-}
+trees_with world mounts master is = grind (arith, common_steps)
 
 none_equal : (number : ℕ) (list : List (Filesystem ℕ)) → is_among nat_eq number (map (λ f. f.number) list) ≡ false
     → (filesystem : Filesystem ℕ) → Among list filesystem → nat_eq filesystem.number number ≡ false

@@ -10,7 +10,6 @@ use Rattle.vt_spec.specs.declared.errors.Deny.{Deny}
 use Rattle.vt_spec.specs.declared.errors.Rule.TheVariants.{W3, W8}
 use Rattle.vt_spec.specs.Errors.{NoneFails, Rules, and_then}
 use Rattle.vt_spec.specs.Language.Calls.{OverlayWords}
-use Rattle.vt_spec.specs.Language.Limits.{most_lowers}
 use Rattle.vt_spec.specs.Lists.{is_empty_list}
 use Rattle.vt_spec.specs.Machine.Looks.{looks_of}
 use Rattle.vt_spec.specs.Machine.Mounts.{Location}
@@ -177,12 +176,7 @@ module _ (world : World ℕ) (task : Task ℕ) where
     beside_each_other (Some upper) (Some work) e f = refl
 
     pub fit_layers : has_fit_layers overlay ≡ true
-    fit_layers = ap (λ b. b && nat_le (length overlay.lowers) most_lowers
-        && same_bool (is_some overlay.upper) (is_some overlay.work)) (not_empty places.lowers passed.0)
-        ∙ ap (λ b. b && same_bool (is_some overlay.upper) (is_some overlay.work))
-        (ap (λ n. nat_le n most_lowers) (length-map places.lowers layer)
-        ∙ no_fewer most_lowers (length places.lowers) passed.1.1.1.0)
-        ∙ beside_each_other places.upper places.work passed.1.1.0 walked.beside
+    fit_layers = grind (arith, common_steps, not_empty, length-map, no_fewer, beside_each_other)
 
     pub has_layers : option_to_list overlay.upper ++ overlay.lowers ≡ [] → ⊥
     has_layers = grind (arith, common_steps, layer, true≢false)

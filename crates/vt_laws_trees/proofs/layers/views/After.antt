@@ -1,5 +1,5 @@
 -- What a change of the upper layer leaves of what is shown.
-use Rattle.std.proofs.Common.{arith, ◌≡◌, ◌≢◌, refl, sym, ap, subst, ◌∙◌, true≢false, ℕ, nat_eq, Bool, true, false, not, cond, List, [], ◌∷◌, ◌++◌, ⊎_elim, Option, Some, None}
+use Rattle.std.proofs.Common.{arith, ◌≡◌, ◌≢◌, refl, sym, ap, subst, ◌∙◌, true≢false, ℕ, nat_eq, Bool, true, false, not, cond, List, [], ◌∷◌, ◌++◌, Option, Some, None}
 use Rattle.std.proofs.lemmas.Grind.{common_steps}
 use Rattle.std.proofs.lemmas.Bool.Decides.{eqb_tells}
 use Rattle.std.proofs.lemmas.List.{append-nil}
@@ -78,12 +78,7 @@ holds_after : (R : Option (Node ℕ) → Option (Node ℕ)
     → Type 0) (files : FileTree ℕ) (number : ℕ) (change : Option (Node ℕ) → Option (Node ℕ))
     → ((o : Option (Node ℕ)) → R o o) → ((o : Option (Node ℕ)) → R o (change o)) → (inode : ℕ)
     → R (files.tree.node inode) ((changed_node nat_eq files number change).tree.node inode)
-holds_after R files number change same changes inode = ⊎_elim
-    (λ t. subst (λ b. R (files.tree.node inode) (cond b (change (files.tree.node number)) (files.tree.node inode)))
-    (sym t.0) (subst (λ n. R (files.tree.node n) (change (files.tree.node number))) (sym t.1)
-    (changes (files.tree.node number))))
-    (λ t. subst (R (files.tree.node inode)) (sym (kept_elsewhere files number change inode t.0))
-    (same (files.tree.node inode))) (eqb_tells inode number)
+holds_after R files number change same changes inode = grind (arith, common_steps, kept_elsewhere, eqb_tells)
 
 -- and so of what a path leads to
 module _ (R : Option (Node ℕ) → Option (Node ℕ) → Type 0) (same : (o : Option (Node ℕ)) → R o o) where

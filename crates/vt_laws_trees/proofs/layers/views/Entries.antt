@@ -28,14 +28,7 @@ module _ (files : FileTree ℕ) (directory : ℕ) (name : List ℕ) where
       ≡ cond (bytes_eq word name) to (entry_at files.tree directory word)) → (other : ℕ) (word : List ℕ)
       → entry_at (changed_node nat_eq files directory change).tree other word
       ≡ cond (is_entry directory name other word) to (entry_at files.tree other word)
-  one_entry change to told other word = ⊎_elim (λ t. ap (λ b. entry_named word
-      (entries_in (cond b (change (files.tree.node directory)) (files.tree.node other)))) t.0 ∙ told word
-      ∙ ap (λ d. cond (bytes_eq word name) to (entry_at files.tree d word)) (sym t.1)
-      ∙ ap (λ b. cond (b && bytes_eq word name) to (entry_at files.tree other word)) (sym t.0))
-      (λ t. ap (λ b. entry_named word
-      (entries_in (cond b (change (files.tree.node directory)) (files.tree.node other)))) t.0
-      ∙ ap (λ b. cond (b && bytes_eq word name) to (entry_at files.tree other word)) (sym t.0))
-      (eqb_tells other directory)
+  one_entry change to told other word = grind (arith, common_steps, told, eqb_tells)
 
   pub given : (number : ℕ) → IsDirectory files.tree directory → (other : ℕ) (word : List ℕ)
       → entry_at (with_name nat_eq files directory name number).tree other word

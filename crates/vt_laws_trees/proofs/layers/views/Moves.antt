@@ -3,9 +3,9 @@ use Rattle.std.proofs.lemmas.Grind.{common_steps}
 use Rattle.std.proofs.Common.{◌≡◌, ◌≢◌, ◌≤◌, refl, sym, ap, subst, ◌∙◌, true≢false, eq-eqb, arith, ℕ, suc, nat_eq, true, false, cond, ◌&&◌, List, [], ◌∷◌, ◌++◌, Option, Some, None, option_and_then}
 use Rattle.std.specs.Cmp.Lexicographic.{bytes_decides}
 use Rattle.std.specs.Str.{bytes_eq}
-use Rattle.vt_spec.specs.Language.Changes.{node_with_parent, node_without_entry, with_moved, with_name, without_name, without_parent}
+use Rattle.vt_spec.specs.Language.Changes.{node_with_parent, with_moved, with_name, without_name, without_parent}
 use Rattle.vt_spec.specs.FileTree.{FileTree}
-use Rattle.vt_spec.specs.Tree.{Tree, entries_in, entry_named, is_directory_node}
+use Rattle.vt_spec.specs.Tree.{Tree, entries_in, entry_named}
 use Rattle.vt_spec.specs.TreeInvariant.{IsDirectory, IsTree, entry_at, led}
 use Rattle.vt_laws_trees.specs.Layers.Layers.Views.{MovedLeadsOn, NewLeadsAsOld, OldLeadsNowhere, ThroughIsSplit}
 use Rattle.vt_laws_trees.proofs.layers.layers.CopyingParts.{parent_keeps, without_entry_keeps}
@@ -133,14 +133,7 @@ module _ (files : FileTree ℕ) (from : ℕ) (old : List ℕ) (to : ℕ) (new : 
     (is : IsDirectory files.tree to) where
   still : (replaced : Option ℕ)
       → IsDirectory (without_name nat_eq (without_parent nat_eq files replaced) from old).tree to
-  still replaced = grind (
-    arith,
-    common_steps,
-    part-changed_node is_directory_node (without_parent nat_eq files replaced) from
-        (node_without_entry old) (without_entry_keeps old).directory to,
-    part-changed_node,
-    parent_keeps,
-  )
+  still replaced = grind (arith, common_steps, part-changed_node, without_entry_keeps, parent_keeps)
 
   pub move_told : (other : ℕ) (word : List ℕ)
       → entry_at (with_moved nat_eq files from old to new object).tree other word

@@ -52,13 +52,7 @@ alike_same one other e =
     subst (λ o. IsAlike one o) (sym e) (record { there = refl; kind = refl; attr = refl; bytes = refl; mark = refl })
 
 pub alike_both : (one middle other : Option (Node ℕ)) → IsAlike one middle → IsAlike middle other → IsAlike one other
-alike_both one middle other a b = record {
-  there = b.there ∙ a.there;
-  kind = b.kind ∙ a.kind;
-  attr = b.attr ∙ a.attr;
-  bytes = b.bytes ∙ a.bytes;
-  mark = b.mark ∙ a.mark;
-}
+alike_both one middle other a b = grind (arith, common_steps)
 
 pub alike_after : (files : FileTree ℕ) (number : ℕ) (change : Option (Node ℕ) → Option (Node ℕ)) → KeepsButNames change
     → (inode : ℕ) → IsAlike (files.tree.node inode) ((changed_node nat_eq files number change).tree.node inode)

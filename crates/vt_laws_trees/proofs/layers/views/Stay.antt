@@ -1,7 +1,8 @@
 -- Changes that move no path of a layer: bytes, attributes and marks, and changes elsewhere in its tree.
-use Rattle.std.proofs.Common.{◌≡◌, refl, sym, ap, subst, ◌∙◌, true≢false, ne_eqb, ℕ, nat_eq, true, false, ◌||◌, List, [], ◌∷◌, Option, Some, None, is_some, option_and_then}
+use Rattle.std.proofs.Common.{arith, ◌≡◌, refl, sym, ap, subst, ◌∙◌, true≢false, ne_eqb, ℕ, nat_eq, true, false, ◌||◌, List, [], ◌∷◌, Option, Some, None, is_some, option_and_then}
+use Rattle.std.proofs.lemmas.Grind.{common_steps}
 use Rattle.vt_spec.specs.Language.Changes.{Change, changed, changed_node, node_with_attr, node_with_mark, with_inode}
-use Rattle.vt_spec.specs.Language.Changes.Change.{AddName, CopyUp, Make, Move, Remove, SetAttr, SetBytes, SetMark}
+use Rattle.vt_spec.specs.Language.Changes.Change.{Make}
 use Rattle.vt_spec.specs.FileTree.{FileTree}
 use Rattle.vt_spec.specs.Lists.{is_among, then_some}
 use Rattle.vt_spec.specs.Tree.{Node, Tree, entries_in, entries_of, entry_named, node_with_bytes}
@@ -65,16 +66,7 @@ mark_changes_one_inode files top directory opaque =
 among_the_old : (files : FileTree ℕ) (change : Change ℕ) → MakesWithNewNumber files.tree change → (inode : ℕ)
     → is_some (files.tree.node inode) ≡ true → is_among nat_eq inode (old_inodes_changed change) ≡ false
     → is_among nat_eq inode (inodes_changed change) ≡ false
-among_the_old files (Make directory name number node) new inode there e =
-    ap (λ b. b || is_among nat_eq inode (directory ∷ [])) (ne_eqb inode number
-    (λ same. true≢false (sym there ∙ ap (λ n. is_some (files.tree.node n)) same ∙ ap is_some new))) ∙ e
-among_the_old files (AddName directory name object) new inode there e = e
-among_the_old files (Remove directory name object) new inode there e = e
-among_the_old files (Move from old to name object) new inode there e = e
-among_the_old files (SetBytes file bytes) new inode there e = e
-among_the_old files (SetAttr object attr) new inode there e = e
-among_the_old files (SetMark directory opaque) new inode there e = e
-among_the_old files (CopyUp object) new inode there e = e
+among_the_old files change new inode there e = grind (arith, common_steps, ne_eqb, true≢false)
 
 pub elsewhere_keeps_view : ElsewhereKeepsView
 elsewhere_keeps_view files change top tree is new apart path = (leads, by (led files.tree top path) refl)

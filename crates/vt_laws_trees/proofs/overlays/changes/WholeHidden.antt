@@ -1,5 +1,6 @@
 -- What lower layers show after a change they showed before.
-use Rattle.std.proofs.Common.{arith, ◌≡◌, refl, sym, ap, subst, ◌∙◌, true≢false, eq-eqb, ℕ, zero, suc, ◌+◌, nat_eq, Bool, true, false, cond, List, Option, Some, None, is_some}
+use Rattle.std.proofs.lemmas.Grind.{common_steps}
+use Rattle.std.proofs.Common.{arith, ◌≡◌, refl, sym, ap, subst, ◌∙◌, true≢false, eq-eqb, ℕ, suc, ◌+◌, nat_eq, Bool, true, false, cond, List, Option, Some, None, is_some}
 use Rattle.vt_spec.specs.Language.Changes.{Change}
 use Rattle.vt_spec.specs.Language.Changes.Change.{AddName, CopyUp, Make, Move, Remove, SetAttr, SetBytes, SetMark}
 use Rattle.vt_spec.specs.Lists.{Fresh, odds, then_some}
@@ -73,12 +74,7 @@ shown_before stack merge later whole after uncovers path layer object e = by (nu
     lies_at : (found : Shown ℕ) → shown (layers_under stack merge) path ≡ Some found → (k : ℕ) → found.layer ≡ k
         → Some (Lower layer path) ≡ Some (real_object true k (record { path = path; seen = found }))
         → shown (layers_under stack merge) path ≡ Some (record { layer = suc layer; object = object })
-    lies_at found f zero l q = none_is_some found.object (ap upper_object q)
-    lies_at found f (suc k) l q =
-        let same : found.layer ≡ suc layer = l ∙ ap suc (sym (ap (layer_in layer) q)) in
-        let here : shown (layers_under stack merge) path ≡ Some (record { layer = suc layer; object = found.object }) =
-        f ∙ ap (λ n. Some (record { layer = n; object = found.object })) same in
-        here ∙ ap (λ n. Some (record { layer = suc layer; object = n })) (same_object found found.object here)
+    lies_at found f k l q = grind (arith, common_steps, none_is_some, same_object)
 
     found_by : (o : Option (Shown ℕ)) → shown (layers_under stack merge) path ≡ o
         → Some (Lower layer path) ≡ real_by path o

@@ -1,5 +1,6 @@
 -- Which number is at a path of a merged tree, and what its inode is.
-use Rattle.std.proofs.Common.{◌≡◌, ◌≢◌, refl, sym, ap, subst, ◌∙◌, true≢false, ℕ, nat_eq, eq-eqb, eqb-true, Bool, true, false, cond, ◌||◌, T, List, [], ◌∷◌, ◌++◌, map, Option, Some, None, is_some, option_and_then}
+use Rattle.std.proofs.Common.{arith, ◌≡◌, ◌≢◌, refl, sym, ap, subst, ◌∙◌, true≢false, ℕ, nat_eq, eq-eqb, eqb-true, Bool, true, false, cond, ◌||◌, T, List, [], ◌∷◌, ◌++◌, map, Option, Some, None, is_some, option_and_then}
+use Rattle.std.proofs.lemmas.Grind.{common_steps}
 use Rattle.std.proofs.lemmas.Slice.Eq.{bytes_eq-Decides}
 use Rattle.std.specs.FinMap.Entries.{is_sorted, same_entries}
 use Rattle.std.specs.Cmp.Lexicographic.{nat_list_cmp_total}
@@ -105,16 +106,7 @@ listed number name (other ∷ names) = by (number other) refl (is_name name othe
         → entry_named name (with_names number names) ≡ cond (list_any (is_name name) names) (number name) None
         → entry_named name (cons_option (option_map (λ n. (other, n)) o) (with_names number names)) ≡ cond
         (b || list_any (is_name name) names) (number name) None
-    by None e true same rest = rest ∙ both (list_any (is_name name) names) (ap number (same_name name other same) ∙ e)
-        ∙ sym (ap number (same_name name other same) ∙ e)
-      where
-        both : (b : Bool) → number name ≡ None → cond b (number name) None ≡ None
-        both true e = e
-        both false e = refl
-    by None e false same rest = rest
-    by (Some n) e true same rest = ap (λ b. cond b (Some n) (entry_named name (with_names number names))) same
-        ∙ sym (ap number (same_name name other same) ∙ e)
-    by (Some n) e false same rest = ap (λ b. cond b (Some n) (entry_named name (with_names number names))) same ∙ rest
+    by o e b same rest = grind (arith, common_steps, same, is_name, same_name)
 
 in_order : (number : List ℕ → Option ℕ) (names : List (List ℕ)) → Pairwise NameBelow names
     → T (is_sorted name_cmp (with_names number names))

@@ -1,8 +1,9 @@
 -- Bytes and attributes of what stands in the upper layer are set: the tree is still what the layers show.
-use Rattle.std.proofs.Common.{◌≡◌, refl, sym, ap, subst, ◌∙◌, true≢false, eqb-true, eq-eqb, ℕ, zero, suc, nat_eq, Bool, true, false, cond, List, map, Option, Some, None, is_some, slice_get, unwrap_or}
+use Rattle.std.proofs.Common.{arith, ◌≡◌, refl, sym, ap, subst, ◌∙◌, true≢false, eqb-true, eq-eqb, ℕ, zero, suc, nat_eq, Bool, true, false, cond, List, map, Option, Some, None, is_some, slice_get, unwrap_or}
+use Rattle.std.proofs.lemmas.Grind.{common_steps}
 use Rattle.vt_spec.specs.declared.attributes.Attr.{Attr}
 use Rattle.vt_spec.specs.declared.attributes.Kind.TheVariants.{White}
-use Rattle.vt_spec.specs.FileTree.{is_kind, is_kind_in, is_opaque_in, opaque_of}
+use Rattle.vt_spec.specs.FileTree.{is_kind, is_kind_in, is_opaque_in}
 use Rattle.vt_spec.specs.Language.Changes.{changed_node, node_with_attr}
 use Rattle.vt_spec.specs.Language.Changes.Change.{SetAttr, SetBytes}
 use Rattle.vt_spec.specs.Lists.{then_some}
@@ -10,9 +11,9 @@ use Rattle.vt_spec.specs.Machine.CopyUp.{Merge, Stack, changed_both, upper_of}
 use Rattle.vt_spec.specs.Machine.Layers.{OpenLayer, view_of}
 use Rattle.vt_spec.specs.Machine.World.{Real, upper_object}
 use Rattle.vt_spec.specs.Machine.World.Real.{Lower, Upper}
-use Rattle.vt_spec.specs.Machine.Invariants.{ListsNumbers, SameObject, number_at_path, same_content}
-use Rattle.vt_spec.specs.Tree.{Content, Node, kind_of, node_with_bytes, with_bytes}
-use Rattle.vt_spec.specs.Tree.Content.{Directory, Regular, Symlink, Whiteout}
+use Rattle.vt_spec.specs.Machine.Invariants.{ListsNumbers, SameObject, number_at_path}
+use Rattle.vt_spec.specs.Tree.{Node, node_with_bytes, with_bytes}
+use Rattle.vt_spec.specs.Tree.Content.{Directory}
 use Rattle.vt_spec.specs.TreeInvariant.{IsTree}
 use Rattle.vt_laws_trees.proofs.trees.ChangesKeepTrees.{changes_keep_numbers, changes_keep_trees}
 use Rattle.vt_laws_trees.specs.Layers.Layers.ChangesUpper.{StandsInUpper}
@@ -58,51 +59,7 @@ attr_shape attr = record {
     by (Some a) (Some b) s = (refl, s.1)
 
 bytes_shape : (bytes : List ℕ) → KeepsShape (node_with_bytes bytes)
-bytes_shape bytes = record {
-  there = λ o. elim o as (λ o. is_some (node_with_bytes bytes o) ≡ is_some o) [ None ↦ refl | Some node ↦ refl ];
-  white = λ o. elim o as (λ o. is_kind_in White (node_with_bytes bytes o)
-      ≡ is_kind_in White o) [ None ↦ refl | Some node ↦ white node.content ];
-  mark = λ o. elim o as (λ o. is_opaque_in (node_with_bytes bytes o)
-      ≡ is_opaque_in o) [ None ↦ refl | Some node ↦ mark node.content ];
-  same = by;
-}
-  where
-    white : (c : Content ℕ) → is_kind White (kind_of (with_bytes c bytes)) ≡ is_kind White (kind_of c)
-    white (Directory parent entries opaque) = refl
-    white (Regular old) = refl
-    white (Symlink text) = refl
-    white Whiteout = refl
-
-    mark : (c : Content ℕ) → opaque_of (with_bytes c bytes) ≡ opaque_of c
-    mark (Directory parent entries opaque) = refl
-    mark (Regular old) = refl
-    mark (Symlink text) = refl
-    mark Whiteout = refl
-
-    content : (a b : Content ℕ) → same_content a b ≡ true
-        → same_content (with_bytes a bytes) (with_bytes b bytes) ≡ true
-    content (Directory p e o) (Directory q f r) s = refl
-    content (Directory p e o) (Regular b) s = s
-    content (Directory p e o) (Symlink b) s = s
-    content (Directory p e o) Whiteout s = s
-    content (Regular a) (Directory q f r) s = s
-    content (Regular a) (Regular b) s = bytes_eq_itself bytes
-    content (Regular a) (Symlink b) s = s
-    content (Regular a) Whiteout s = s
-    content (Symlink a) (Directory q f r) s = s
-    content (Symlink a) (Regular b) s = s
-    content (Symlink a) (Symlink b) s = s
-    content (Symlink a) Whiteout s = s
-    content Whiteout (Directory q f r) s = s
-    content Whiteout (Regular b) s = s
-    content Whiteout (Symlink b) s = s
-    content Whiteout Whiteout s = s
-
-    by : (a b : Option (Node ℕ)) → SameObject a b → SameObject (node_with_bytes bytes a) (node_with_bytes bytes b)
-    by None None s = tt
-    by None (Some b) s = absurd s
-    by (Some a) None s = absurd s
-    by (Some a) (Some b) s = (s.0, content a.content b.content s.1)
+bytes_shape bytes = grind (arith, common_steps, bytes_eq_itself)
 
 module _ (stack : Stack ℕ) (merge : Merge ℕ) (whole : IsWhole stack merge) (file : ℕ)
     (stands : StandsInUpper merge file) (change : Option (Node ℕ) → Option (Node ℕ)) (shape : KeepsShape change)

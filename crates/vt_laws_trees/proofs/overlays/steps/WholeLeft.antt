@@ -1,7 +1,7 @@
 -- Names that are given and taken in the upper layer, and the one name of a directory there.
-use Rattle.std.proofs.Common.{◌≡◌, refl, sym, ap, subst, ◌∙◌, true≢false, arith, ℕ, zero, suc, ◌+◌, nat_eq, map, slice_get, Bool, true, false, not, cond, ◌&&◌, ◌||◌, List, [], ◌∷◌, ◌++◌, Option, Some, None, is_some, option_and_then}
-use Rattle.vt_spec.specs.declared.attributes.Kind.TheVariants.{White}
-use Rattle.vt_spec.specs.FileTree.{FileTree, is_kind_in}
+use Rattle.std.proofs.lemmas.Grind.{common_steps}
+use Rattle.std.proofs.Common.{◌≡◌, refl, sym, ap, subst, ◌∙◌, true≢false, arith, ℕ, suc, ◌+◌, nat_eq, map, slice_get, Bool, true, false, not, cond, ◌&&◌, ◌||◌, List, [], ◌∷◌, ◌++◌, Option, Some, None, is_some, option_and_then}
+use Rattle.vt_spec.specs.FileTree.{FileTree}
 use Rattle.vt_spec.specs.Language.Changes.{changed_node, node_with_parent, node_without_entries}
 use Rattle.vt_spec.specs.Lists.{holds_of, then_some, when}
 use Rattle.vt_spec.specs.Machine.CopyUp.{Merge, Stack, upper_directory_named, without_contents}
@@ -9,8 +9,7 @@ use Rattle.vt_spec.proofs.Layers.{shown_from}
 use Rattle.vt_spec.specs.Machine.Layers.{OpenLayer, Shown, at_path, view_of}
 use Rattle.vt_spec.specs.Machine.Views
 use Rattle.vt_spec.specs.Machine.Views.{cuts, node_led, shown_over}
-use Rattle.vt_spec.specs.Machine.World.{Real, upper_object}
-use Rattle.vt_spec.specs.Machine.World.Real.{Lower, Upper}
+use Rattle.vt_spec.specs.Machine.World.Real.{Upper}
 use Rattle.vt_spec.specs.Machine.Invariants.{number_at_path}
 use Rattle.vt_spec.specs.Tree.{Tree, entry_named, entries_in, is_directory_node}
 use Rattle.vt_spec.specs.TreeInvariant.{IsDirectory, IsTree, entry_at, led}
@@ -111,15 +110,7 @@ lowers_have (first ∷ lowers) depth place object layer path there is at d =
         → shown_from (depth + 1) lowers path ≡ Some (record { layer = depth + 1 + k; object = object })
         → Views.lowers_have_directory (map view_of lowers) path ≡ true)
         → Views.lowers_have_directory (map view_of (first ∷ lowers)) path ≡ true
-    by place f e (Some found) a rest =
-        let none : place ≡ 0 = over place found (is_kind_in White (first.tree.node found))
-        (sym (ap (λ o. shown_over (view_of first) depth o (cuts (view_of first) path)
-        (shown_from (depth + 1) lowers path)) a) ∙ e) in
-        here (ap (slice_get (first ∷ lowers)) (sym none) ∙ f)
-    by zero f e None a rest = here f
-    by (suc k) f e None a rest = below (cuts (view_of first) path) refl k f
-        (sym (ap (λ o. shown_over (view_of first) depth o (cuts (view_of first) path)
-        (shown_from (depth + 1) lowers path)) a) ∙ e) rest
+    by place f e o a rest = grind (arith, common_steps, over, shown_from, here, below)
 
 -- The name of a directory of the overlay in the upper layer
 module _ (stack : Stack ℕ) (merge : Merge ℕ) (whole : IsWhole stack merge) (d ud : ℕ) (w : List ℕ) (object uo : ℕ)
@@ -179,24 +170,4 @@ module _ (stack : Stack ℕ) (merge : Merge ℕ) (whole : IsWhole stack merge) (
 pub own_upper : (merge : Merge ℕ) (d : ℕ) (w : List ℕ) (uo : ℕ) → upper_directory_named merge d w ≡ Some uo
     → (object : ℕ) × (entry_at merge.files.tree d w ≡ Some object) × (merge.real object ≡ Some (Upper uo))
     × IsDirectory merge.files.tree object
-own_upper merge d w uo e = by (entry_at merge.files.tree d w) refl e
-  where
-    upper_is : (r : Option (Real ℕ)) → upper_object r ≡ Some uo → r ≡ Some (Upper uo)
-    upper_is None e = none_is_some uo e
-    upper_is (Some (Upper k)) e = ap (λ n. Some (Upper n)) (same_Some k uo e)
-    upper_is (Some (Lower layer path)) e = none_is_some uo e
-
-    at : (object : ℕ) → entry_at merge.files.tree d w ≡ Some object → (b : Bool)
-        → is_directory_node (merge.files.tree.node object) ≡ b
-        → cond b (upper_object (merge.real object)) None ≡ Some uo
-        → (object : ℕ) × (entry_at merge.files.tree d w ≡ Some object) × (merge.real object ≡ Some (Upper uo))
-        × IsDirectory merge.files.tree object
-    at object f true is_dir e = (object, f, upper_is (merge.real object) e, is_dir)
-    at object f false is_dir e = none_is_some uo e
-
-    by : (o : Option ℕ) → entry_at merge.files.tree d w ≡ o
-        → then_some o (λ k. cond (is_directory_node (merge.files.tree.node k)) (upper_object (merge.real k)) None)
-        ≡ Some uo → (object : ℕ) × (entry_at merge.files.tree d w ≡ Some object) × (merge.real object ≡ Some (Upper uo))
-        × IsDirectory merge.files.tree object
-    by None f e = none_is_some uo e
-    by (Some object) f e = at object f (is_directory_node (merge.files.tree.node object)) refl e
+own_upper merge d w uo e = grind (arith, common_steps, none_is_some, same_Some)

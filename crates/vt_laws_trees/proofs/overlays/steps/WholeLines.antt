@@ -1,4 +1,5 @@
 -- An object is copied up with the directories above it, one by one: the tree is still what the layers show.
+use Rattle.std.proofs.lemmas.Grind.{common_steps}
 use Rattle.std.proofs.Common.{arith, ◌≡◌, ◌≢◌, ◌≤◌, ◌⊎◌, inl, inr, refl, sym, ap, subst, ◌∙◌, true≢false, ℕ, zero, suc, ◌+◌, nat_eq, eq-eqb, Bool, true, false, cond, List, [], ◌∷◌, ◌++◌, ⊎_elim, reverse, length, Option, Some, None, is_some}
 use mathlib.Core.List.{reverse-cons}
 use Rattle.std.specs.Prelude.{⊤}
@@ -164,23 +165,13 @@ module _ (stack : Stack ℕ) (fresh : Fresh ℕ) (distinct : (j k : ℕ) → fre
   pub below_before : (merge : Merge ℕ) (object copy n layer : ℕ) (path : List (List ℕ))
       → with_real nat_eq merge.real object (Upper copy) n ≡ Some (Lower layer path)
       → merge.real n ≡ Some (Lower layer path)
-  below_before merge object copy n layer path e = by (nat_eq n object) e
-    where
-      by : (b : Bool) → cond b (Some (Upper copy)) (merge.real n) ≡ Some (Lower layer path)
-          → merge.real n ≡ Some (Lower layer path)
-      by true e = none_is_some copy (sym (ap upper_object e))
-      by false e = e
+  below_before merge object copy n layer path e = grind (arith, common_steps, none_is_some)
 
   -- an upper object after a copy was one before, or is the copy
   own_before : (merge : Merge ℕ) (object k n y : ℕ)
       → with_real nat_eq merge.real object (Upper (fresh k)) n ≡ Some (Upper y)
       → (merge.real n ≡ Some (Upper y)) ⊎ IsNewBy fresh y
-  own_before merge object k n y e = by (nat_eq n object) e
-    where
-      by : (b : Bool) → cond b (Some (Upper (fresh k))) (merge.real n) ≡ Some (Upper y)
-          → (merge.real n ≡ Some (Upper y)) ⊎ IsNewBy fresh y
-      by true e = inr (k, same_Some y (fresh k) (sym (ap upper_object e)))
-      by false e = inl e
+  own_before merge object k n y e = grind (arith, common_steps, same_Some)
 
   -- names lead where they led after a copy, or to the copy
   copy_told : (merge : Merge ℕ) (copy : ℕ) (node : Node ℕ) → entries_of node.content ≡ [] → (o : Option (ℕ × List ℕ))

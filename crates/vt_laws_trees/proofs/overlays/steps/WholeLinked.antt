@@ -1,5 +1,6 @@
 -- An object of the upper layer is put under a further name: the tree is still what the layers show.
-use Rattle.std.proofs.Common.{◌≡◌, refl, sym, ap, subst, ◌∙◌, true≢false, ℕ, nat_eq, Bool, true, false, not, cond, ◌||◌, List, [], ◌∷◌, ◌++◌, map, Option, Some, None, is_some, option_and_then}
+use Rattle.std.proofs.Common.{arith, ◌≡◌, refl, sym, ap, subst, ◌∙◌, true≢false, ℕ, nat_eq, Bool, true, false, not, cond, ◌||◌, List, [], ◌∷◌, ◌++◌, map, Option, Some, None, is_some, option_and_then}
+use Rattle.std.proofs.lemmas.Grind.{common_steps}
 use Rattle.vt_spec.specs.declared.attributes.Kind.TheVariants.{White}
 use Rattle.vt_spec.specs.FileTree.{FileTree, is_kind, is_kind_in, opaque_of}
 use Rattle.vt_spec.specs.Language.Changes.{changed}
@@ -9,9 +10,9 @@ use Rattle.vt_spec.specs.Machine.CopyUp.{Merge, Stack, merge_with_link, upper_of
 use Rattle.vt_spec.specs.Machine.Layers.{shown, view_of}
 use Rattle.vt_spec.specs.Machine.Views.{View, hides, node_led, shown_from}
 use Rattle.vt_spec.specs.Machine.World.Real.{Upper}
-use Rattle.vt_spec.specs.Machine.Invariants.{SameObject, number_at_path, same_content}
-use Rattle.vt_spec.specs.Tree.{Content, Node, is_directory_node, kind_of}
-use Rattle.vt_spec.specs.Tree.Content.{Directory, Regular, Symlink, Whiteout}
+use Rattle.vt_spec.specs.Machine.Invariants.{SameObject, number_at_path}
+use Rattle.vt_spec.specs.Tree.{Node, is_directory_node}
+use Rattle.vt_spec.specs.Tree.Content.{Directory}
 use Rattle.vt_spec.specs.TreeInvariant.{IsDirectory, IsTree, entry_at, led}
 use Rattle.vt_spec.proofs.Trees.{led-append}
 use Rattle.vt_laws_trees.specs.Trees.{MayAddName}
@@ -33,19 +34,7 @@ use Rattle.vt_spec.proofs.Options.{none_is_some}
 
 -- what is the same object as another is no whiteout
 pub no_white_object : (a b : Option (Node ℕ)) → SameObject a b → is_kind_in White b ≡ false
-no_white_object None None s = refl
-no_white_object None (Some b) s = absurd s
-no_white_object (Some a) None s = absurd s
-no_white_object (Some a) (Some b) s = by a.content b.content s.1
-  where
-    by : (x y : Content ℕ) → same_content x y ≡ true → is_kind White (kind_of y) ≡ false
-    by x (Directory p n o) e = refl
-    by x (Regular t) e = refl
-    by x (Symlink t) e = refl
-    by (Directory p n o) Whiteout e = absurd (true≢false (sym e))
-    by (Regular t) Whiteout e = absurd (true≢false (sym e))
-    by (Symlink t) Whiteout e = absurd (true≢false (sym e))
-    by Whiteout Whiteout e = absurd (true≢false (sym e))
+no_white_object a b s = grind (arith, common_steps, true≢false)
 
 -- what is there and is no directory hides what is below
 pub file_hides : (o : Option (Node ℕ)) → is_some o ≡ true → is_directory_node o ≡ false → hides o ≡ true

@@ -1,5 +1,6 @@
 -- A new object under a name that shows nothing: the tree is still what the layers show.
-use Rattle.std.proofs.Common.{◌≡◌, refl, sym, ap, subst, ◌∙◌, true≢false, eqb-true, eq-eqb, ne_eqb, inl, inr, ℕ, suc, nat_eq, Bool, true, false, not, cond, List, [], ◌∷◌, ◌++◌, map, Option, Some, None, is_some, option_and_then}
+use Rattle.std.proofs.Common.{arith, ◌≡◌, refl, sym, ap, subst, ◌∙◌, true≢false, eqb-true, eq-eqb, ne_eqb, inl, inr, ℕ, suc, nat_eq, Bool, true, false, not, cond, List, [], ◌∷◌, ◌++◌, map, Option, Some, None, is_some, option_and_then}
+use Rattle.std.proofs.lemmas.Grind.{common_steps}
 use Rattle.vt_spec.specs.declared.attributes.Kind.TheVariants.{White}
 use Rattle.vt_spec.specs.FileTree.{FileTree, is_kind, is_kind_in, is_opaque_in, opaque_of}
 use Rattle.vt_spec.specs.Language.Changes.{changed, changed_node, content_with_mark, content_with_parent, node_with_mark}
@@ -40,14 +41,7 @@ use Rattle.vt_spec.proofs.Truths.{bytes_eq_itself}
 
 -- a whiteout has no names in it
 pub white_bare : (o : Option (Node ℕ)) → is_kind_in White o ≡ true → entries_in o ≡ []
-white_bare None e = refl
-white_bare (Some node) e = by node.content e
-  where
-    by : (c : Content ℕ) → is_kind White (kind_of c) ≡ true → entries_of c ≡ []
-    by (Directory p n o) e = absurd (true≢false (sym e))
-    by (Regular b) e = refl
-    by (Symlink b) e = refl
-    by Whiteout e = refl
+white_bare o e = grind (arith, common_steps, true≢false)
 
 -- a new inode has no names in it and no mark
 pub new_bare : (d : ℕ) (node : Node ℕ) → IsNewIn d node → entries_of node.content ≡ []
@@ -55,14 +49,7 @@ new_bare d node (inl e) = ap entries_of e
 new_bare d node (inr e) = entries_of-no_directory node.content e
 
 new_unmarked : (d : ℕ) (node : Node ℕ) → IsNewIn d node → opaque_of node.content ≡ false
-new_unmarked d node (inl e) = ap opaque_of e
-new_unmarked d node (inr e) = by node.content e
-  where
-    by : (c : Content ℕ) → is_directory (kind_of c) ≡ false → opaque_of c ≡ false
-    by (Directory p n o) e = absurd (true≢false e)
-    by (Regular b) e = refl
-    by (Symlink b) e = refl
-    by Whiteout e = refl
+new_unmarked d node known = grind (arith, common_steps, true≢false)
 
 -- what lower layers show at a name in a directory
 pub below_name : (stack : Stack ℕ) (merge : Merge ℕ) (whole : IsWhole stack merge) (d : ℕ) (w : List ℕ)
@@ -307,14 +294,7 @@ module _ (files : FileTree ℕ) (ud c : ℕ) (w : List ℕ) (new : Node ℕ) (is
       (cond b (Some new) (files.tree.node k)))
       ≡ cond (nat_eq k ud) (node_with_entry w c (cond (nat_eq ud c) (Some marked_node) (files.tree.node ud)))
       (cond b (Some marked_node) (files.tree.node k))
-  nodes_same k true e =
-      ap (node_with_mark true) ((make_adds_inode files files.tree.root ud c w new is_directory vacant).0)
-      ∙ sym (ap (λ b. cond b (node_with_entry w c (cond (nat_eq ud c) (Some marked_node) (files.tree.node ud)))
-      (Some marked_node)) (apart k (eqb-true k c e)))
-  nodes_same k false e = ap (λ b. cond (nat_eq k ud) (node_with_entry w c (cond b (Some new) (files.tree.node ud)))
-      (files.tree.node k)) ud_apart
-      ∙ sym (ap (λ b. cond (nat_eq k ud) (node_with_entry w c (cond b (Some marked_node) (files.tree.node ud)))
-      (files.tree.node k)) ud_apart)
+  nodes_same k b e = grind (arith, common_steps, make_adds_inode, apart, eqb-true, ud_apart)
 
   pub marked_is_made : changed_node nat_eq unmarked c (node_with_mark true)
       ≡ changed nat_eq files (Make ud w c marked_node)
@@ -384,11 +364,10 @@ make_keeps_shown fresh stack merge d w number node whole stands vacant may white
     })) (sym (marked_is_made merge.upper (upper_of merge d) (fresh 0) w (record {
       attr = node.attr;
       content = content_with_parent (upper_of merge d) node.content;
-    }) upper_directory vacant)) (later_is_fine stack merge whole d w number node stands may (fresh 0) vacant
-        (record {
-          attr = node.attr;
-          content = content_with_mark true (content_with_parent (upper_of merge d) node.content);
-        }) (refl, mark_same (upper_of merge d) node.content white)
+    }) upper_directory vacant)) (later_is_fine stack merge whole d w number node stands may (fresh 0) vacant (record {
+      attr = node.attr;
+      content = content_with_mark true (content_with_parent (upper_of merge d) node.content);
+    }) (refl, mark_same (upper_of merge d) node.content white)
         (mark_names (upper_of merge d) node.content ∙ new_bare d node may.fits)
         white (ap (is_kind White) (mark_kind (upper_of merge d) node.content) ∙ white)
         (λ shows. absurd (true≢false (sym (mark_hides (upper_of merge d) node node.content) ∙ shows))))

@@ -1,5 +1,6 @@
 -- A mark is set in the upper layer where lower layers have no directory: the tree is still what the layers show.
-use Rattle.std.proofs.Common.{◌≡◌, refl, sym, ap, subst, ◌∙◌, true≢false, eqb-true, eq-eqb, ℕ, suc, nat_eq, Bool, true, false, cond, List, [], ◌∷◌, ◌++◌, map, Option, Some, None, is_some}
+use Rattle.std.proofs.Common.{arith, ◌≡◌, refl, sym, ap, subst, ◌∙◌, true≢false, eqb-true, eq-eqb, ℕ, suc, nat_eq, Bool, true, false, cond, List, [], ◌∷◌, ◌++◌, map, Option, Some, None, is_some}
+use Rattle.std.proofs.lemmas.Grind.{common_steps}
 use Rattle.std.proofs.lemmas.List.{append-nil}
 use Rattle.vt_laws_trees.proofs.layers.layers.CopyingNames.{directory_marked}
 use Rattle.vt_spec.specs.declared.attributes.Kind.TheVariants.{White}
@@ -13,8 +14,7 @@ use Rattle.vt_spec.specs.Machine.Views.{View, cuts, shown_from, shown_over}
 use Rattle.vt_spec.specs.Machine.World.{Real}
 use Rattle.vt_spec.specs.Machine.World.Real.{Lower, Upper}
 use Rattle.vt_spec.specs.Machine.Invariants.{SameObject, number_at_path}
-use Rattle.vt_spec.specs.Tree.{Content, Node, is_directory_node}
-use Rattle.vt_spec.specs.Tree.Content.{Directory, Regular, Symlink, Whiteout}
+use Rattle.vt_spec.specs.Tree.{Node, is_directory_node}
 use Rattle.vt_laws_trees.proofs.trees.ChangesKeepTrees.{changes_keep_trees}
 use Rattle.vt_laws_trees.specs.Layers.Layers.ChangesUpper.{StandsInUpper}
 use Rattle.vt_laws_trees.specs.Layers.Layers.ShownAfter.{leads_over}
@@ -38,56 +38,16 @@ mark_there opaque None = refl
 mark_there opaque (Some node) = refl
 
 mark_white : (opaque : Bool) (o : Option (Node ℕ)) → is_kind_in White (node_with_mark opaque o) ≡ is_kind_in White o
-mark_white opaque None = refl
-mark_white opaque (Some node) = by node.content
-  where
-    by : (c : Content ℕ) → is_kind_in White (node_with_mark opaque (Some (record { attr = node.attr; content = c })))
-        ≡ is_kind_in White (Some (record { attr = node.attr; content = c }))
-    by (Directory parent entries old) = refl
-    by (Regular bytes) = refl
-    by (Symlink text) = refl
-    by Whiteout = refl
+mark_white opaque o = grind (arith, common_steps)
 
 mark_directory : (opaque : Bool) (o : Option (Node ℕ))
     → is_directory_node (node_with_mark opaque o) ≡ is_directory_node o
-mark_directory opaque None = refl
-mark_directory opaque (Some node) = by node.content
-  where
-    by : (c : Content ℕ) → is_directory_node (node_with_mark opaque (Some (record { attr = node.attr; content = c })))
-        ≡ is_directory_node (Some (record { attr = node.attr; content = c }))
-    by (Directory parent entries old) = refl
-    by (Regular bytes) = refl
-    by (Symlink text) = refl
-    by Whiteout = refl
+mark_directory opaque o = grind (arith, common_steps)
 
 -- an inode is its real object, whatever mark that has
 mark_same : (opaque : Bool) (merged real : Option (Node ℕ)) → SameObject merged real
     → SameObject merged (node_with_mark opaque real)
-mark_same opaque None None same = same
-mark_same opaque None (Some real) same = absurd same
-mark_same opaque (Some merged) None same = absurd same
-mark_same opaque (Some merged) (Some real) same = by merged.content real.content same
-  where
-    by : (c d : Content ℕ) → SameObject (Some (record { attr = merged.attr; content = c }))
-        (Some (record { attr = real.attr; content = d }))
-        → SameObject (Some (record { attr = merged.attr; content = c }))
-        (node_with_mark opaque (Some (record { attr = real.attr; content = d })))
-    by (Directory p e o) (Directory q f r) same = same
-    by (Directory p e o) (Regular b) same = same
-    by (Directory p e o) (Symlink b) same = same
-    by (Directory p e o) Whiteout same = same
-    by (Regular a) (Directory q f r) same = same
-    by (Regular a) (Regular b) same = same
-    by (Regular a) (Symlink b) same = same
-    by (Regular a) Whiteout same = same
-    by (Symlink a) (Directory q f r) same = same
-    by (Symlink a) (Regular b) same = same
-    by (Symlink a) (Symlink b) same = same
-    by (Symlink a) Whiteout same = same
-    by Whiteout (Directory q f r) same = same
-    by Whiteout (Regular b) same = same
-    by Whiteout (Symlink b) same = same
-    by Whiteout Whiteout same = same
+mark_same opaque merged real same = grind (arith, common_steps, real)
 
 module _ (stack : Stack ℕ) (merge : Merge ℕ) (whole : IsWhole stack merge) (directory : ℕ)
     (stands : StandsInUpper merge directory) (opaque : Bool)

@@ -1,5 +1,6 @@
 -- An object is moved: the tree is still what the layers show.
-use Rattle.std.proofs.Common.{◌≡◌, ◌≢◌, refl, sym, ap, subst, ◌∙◌, true≢false, eqb-true, ne_eqb, ⊎_elim, ℕ, nat_eq, Bool, true, false, not, cond, ◌&&◌, ◌||◌, List, [], ◌∷◌, ◌++◌, map, Option, Some, None, is_some, option_and_then}
+use Rattle.std.proofs.Common.{arith, ◌≡◌, ◌≢◌, refl, sym, ap, subst, ◌∙◌, true≢false, eqb-true, ne_eqb, ⊎_elim, ℕ, nat_eq, Bool, true, false, not, cond, ◌&&◌, ◌||◌, List, [], ◌∷◌, ◌++◌, map, Option, Some, None, is_some, option_and_then}
+use Rattle.std.proofs.lemmas.Grind.{common_steps}
 use Rattle.std.proofs.lemmas.Bool.Decides.{eqb_tells}
 use Rattle.vt_spec.specs.declared.attributes.Kind.TheVariants.{White}
 use Rattle.vt_spec.specs.FileTree.{FileTree, is_kind, is_kind_in}
@@ -100,13 +101,7 @@ mark_more (Some node) = record {
     white Whiteout = refl
 
     content : (a x : Content ℕ) → same_content a x ≡ true → same_content a (content_with_mark true x) ≡ true
-    content (Directory q k l) (Directory p n m) e = refl
-    content (Regular q) (Directory p n m) e = e
-    content (Symlink q) (Directory p n m) e = e
-    content Whiteout (Directory p n m) e = e
-    content a (Regular b) e = e
-    content a (Symlink b) e = e
-    content a Whiteout e = e
+    content a x e = grind (arith, common_steps)
 
     object : (a : Option (Node ℕ)) → SameObject a (Some node) → SameObject a (node_with_mark true (Some node))
     object None same = same
@@ -590,13 +585,7 @@ module _ (fresh : Fresh ℕ) (stack : Stack ℕ) (merge : Merge ℕ) (whole : Is
       record { named = may.named; in_directory = may.in_directory; not_under = may.not_under; replaced_empty = may.replaced_empty }
 
   number_is : (path : List (List ℕ)) → number_at_path files path ≡ led files.tree merge.files.tree.root path
-  number_is path = ap (λ r. led files.tree r path)
-      (by (Rattle.vt_spec.specs.Tree.entry_named new (Rattle.vt_spec.specs.Tree.entries_in (merge.files.tree.node t))))
-    where
-      by : (x : Option ℕ) → (Rattle.vt_spec.specs.Language.Changes.without_parent nat_eq merge.files x).tree.root
-          ≡ merge.files.tree.root
-      by None = refl
-      by (Some k) = refl
+  number_is path = grind (arith, common_steps)
 
   paths_later : (path : List (List ℕ)) → then_some (number_at_path files path) merge.real ≡ real_seen stack later path
   paths_later path = by (goes_through before ut new path) refl

@@ -1,9 +1,10 @@
 -- Where names lead in the tree of an overlay and in its upper layer.
-use Rattle.std.proofs.Common.{◌≡◌, refl, sym, ap, subst, ◌∙◌, true≢false, eqb-true, eq-eqb, ℕ, zero, suc, nat_eq, Bool, true, false, not, ◌&&◌, List, [], ◌∷◌, ◌++◌, map, Option, Some, None, is_some, option_and_then, slice_get}
+use Rattle.std.proofs.Common.{arith, ◌≡◌, refl, sym, ap, subst, ◌∙◌, true≢false, eqb-true, eq-eqb, ℕ, zero, suc, nat_eq, Bool, true, false, not, ◌&&◌, List, [], ◌∷◌, ◌++◌, map, Option, Some, None, is_some, option_and_then, slice_get}
+use Rattle.std.proofs.lemmas.Grind.{common_steps}
 use Rattle.std.specs.Str.{bytes_eq}
 use Rattle.vt_spec.specs.declared.attributes.Kind.TheVariants.{White}
 use Rattle.vt_spec.specs.FileTree.{FileTree, is_kind_in}
-use Rattle.vt_spec.specs.Lists.{without_last, is_empty_list, last_or, same_option, then_some, when}
+use Rattle.vt_spec.specs.Lists.{without_last, is_empty_list, last_or, same_option, then_some}
 use Rattle.vt_spec.specs.Machine.CopyUp.{Merge, Stack}
 use Rattle.vt_spec.specs.Machine.Layers.{OpenLayer, Shown, at_path, shown, view_of}
 use Rattle.vt_spec.specs.Machine.Merging.{real_object}
@@ -44,16 +45,7 @@ same_holds o n e = ap (λ p. same_option nat_eq p (Some n)) e ∙ eq-eqb n n ref
 pub entry_named_so : (files : FileTree ℕ) (top directory : ℕ) (name : List ℕ) (way : List (List ℕ))
     → led files.tree top way ≡ Some directory → names_entry (view_in files top) directory name (way ++ name ∷ []) ≡ true
 entry_named_so files top directory name way e =
-    ap (λ b. not b && (same_option nat_eq (led files.tree top (without_last (way ++ name ∷ []))) (Some directory)
-    && bytes_eq (last_or [] (way ++ name ∷ [])) name)) (longer way)
-    ∙ ap (λ b. b && bytes_eq (last_or [] (way ++ name ∷ [])) name)
-    (ap (λ p. same_option nat_eq (led files.tree top p) (Some directory)) (without_last_of_longer way name)
-    ∙ same_holds (led files.tree top way) directory e)
-    ∙ ap (λ w. bytes_eq w name) (last_of_longer way name []) ∙ bytes_eq_itself name
-  where
-    longer : (way : List (List ℕ)) → is_empty_list (way ++ name ∷ []) ≡ false
-    longer [] = refl
-    longer (word ∷ way) = refl
+    grind (arith, common_steps, without_last_of_longer, same_holds, last_of_longer, bytes_eq_itself)
 
 -- and leads where the entry does
 pub named_led : (files : FileTree ℕ) (top directory : ℕ) (name : List ℕ) (path : List (List ℕ))
@@ -95,16 +87,7 @@ pub over_same : (one other : View ℕ) (lowers : List (View ℕ)) (path : List (
     → ((object : ℕ) → one.leads path ≡ Some object
     → is_kind_in White (other.node object) ≡ is_kind_in White (one.node object))
     → cuts other path ≡ cuts one path → shown_from 0 (other ∷ lowers) path ≡ shown_from 0 (one ∷ lowers) path
-over_same one other lowers path leads white cut =
-    ap (λ b. shown_over other 0 (other.leads path) b (shown_from 1 lowers path)) cut
-    ∙ ap (λ o. shown_over other 0 o (cuts one path) (shown_from 1 lowers path)) leads
-    ∙ by (one.leads path) refl (cuts one path)
-  where
-    by : (o : Option ℕ) → one.leads path ≡ o → (b : Bool)
-        → shown_over other 0 o b (shown_from 1 lowers path) ≡ shown_over one 0 o b (shown_from 1 lowers path)
-    by None e true = refl
-    by None e false = refl
-    by (Some object) e b = ap (λ w. when (not w) (record { layer = 0; object = object })) (white object e)
+over_same one other lowers path leads white cut = grind (arith, common_steps)
 
 pub cut_shows_none : (view : View ℕ) (lowers : List (View ℕ)) (path : List (List ℕ)) → view.leads path ≡ None
     → cuts view path ≡ true → shown_from 0 (view ∷ lowers) path ≡ None

@@ -1,5 +1,6 @@
 -- A name is taken away, with a whiteout or without one: the tree is still what the layers show.
-use Rattle.std.proofs.Common.{◌≡◌, ◌≢◌, refl, sym, ap, subst, ◌∙◌, true≢false, ne_eqb, ◌⊎◌, ⊎_elim, inl, inr, ℕ, suc, nat_eq, Bool, true, false, not, cond, ◌||◌, List, [], ◌∷◌, ◌++◌, map, Option, Some, None, is_some, option_and_then}
+use Rattle.std.proofs.Common.{arith, ◌≡◌, ◌≢◌, refl, sym, ap, subst, ◌∙◌, true≢false, ne_eqb, ◌⊎◌, ⊎_elim, inl, inr, ℕ, suc, nat_eq, Bool, true, false, not, cond, ◌||◌, List, [], ◌∷◌, ◌++◌, map, Option, Some, None, is_some, option_and_then}
+use Rattle.std.proofs.lemmas.Grind.{common_steps}
 use Rattle.vt_spec.specs.declared.attributes.Kind.TheVariants.{White}
 use Rattle.vt_spec.specs.FileTree.{FileTree, is_kind, is_kind_in}
 use Rattle.vt_spec.specs.Language.Changes.{changed, changed_node, node_with_parent, node_without_entries, node_without_entry, without_name}
@@ -12,8 +13,8 @@ use Rattle.vt_spec.specs.Machine.World.{Real, upper_object}
 use Rattle.vt_spec.specs.Machine.World.Real.{Lower, Upper}
 use Rattle.vt_spec.specs.Machine.Invariants.{number_at_path}
 use Rattle.vt_spec.specs.Rights.{is_directory}
-use Rattle.vt_spec.specs.Tree.{Content, Node, entries_in, entry_named, is_directory_node, kind_of}
-use Rattle.vt_spec.specs.Tree.Content.{Directory, Regular, Symlink, Whiteout}
+use Rattle.vt_spec.specs.Tree.{Node, entries_in, entry_named, is_directory_node}
+use Rattle.vt_spec.specs.Tree.Content.{Directory}
 use Rattle.vt_spec.specs.TreeInvariant.{IsDirectory, IsTree, entry_at, led}
 use Rattle.vt_spec.proofs.Trees.{led-append}
 use Rattle.vt_laws_trees.specs.Trees.{MayRemove}
@@ -52,15 +53,7 @@ use Rattle.vt_spec.proofs.Options.{none_is_some}
 use Rattle.vt_laws_trees.proofs.overlays.steps.WholeLeft.{emptied_alike}
 
 pub white_hides : (o : Option (Node ℕ)) → is_kind_in White o ≡ true → hides o ≡ true
-white_hides None e = absurd (true≢false (sym e))
-white_hides (Some node) e = by node.content e
-  where
-    by : (c : Content ℕ) → is_kind White (kind_of c) ≡ true
-        → (not (is_directory (kind_of c)) || Rattle.vt_spec.specs.FileTree.opaque_of c) ≡ true
-    by (Directory p n o) e = absurd (true≢false (sym e))
-    by (Regular b) e = refl
-    by (Symlink b) e = refl
-    by Whiteout e = refl
+white_hides o e = grind (arith, common_steps, true≢false)
 
 module _ (stack : Stack ℕ) (merge : Merge ℕ) (whole : IsWhole stack merge) (d : ℕ) (w : List ℕ) (object : ℕ)
     (stands : StandsInUpper merge d) (may : MayRemove merge.files.tree d w object) where

@@ -1,5 +1,6 @@
 -- Layers stand apart after a change of an overlay.
-use Rattle.std.proofs.Common.{◌≡◌, ◌≢◌, refl, sym, ap, subst, ◌∙◌, true≢false, eqb-true, eq-eqb, ne_eqb, ◌⊎◌, ⊎_elim, inl, inr, ℕ, nat_eq, Bool, true, false, not, cond, ◌&&◌, ◌||◌, List, [], ◌∷◌, ◌++◌, map, Option, Some, None, is_some}
+use Rattle.std.proofs.Common.{arith, ◌≡◌, ◌≢◌, refl, sym, ap, subst, ◌∙◌, true≢false, eqb-true, eq-eqb, ne_eqb, ◌⊎◌, ⊎_elim, inl, inr, ℕ, nat_eq, Bool, true, false, not, cond, ◌&&◌, ◌||◌, List, [], ◌∷◌, ◌++◌, map, Option, Some, None, is_some}
+use Rattle.std.proofs.lemmas.Grind.{common_steps}
 use Rattle.std.proofs.lemmas.Bool.Decides.{eqb_tells}
 use Rattle.std.specs.List.{list_any}
 use Rattle.std.specs.Prelude.{flat_map, option_to_list}
@@ -150,32 +151,23 @@ module _ (fresh : Fresh ℕ) (world : World ℕ) (location : Location ℕ) (chan
 
   overlap_of : (a b : Layer ℕ) (n object : ℕ) → n ≡ a.filesystem → is_some (inode_in world n object) ≡ true
       → Lies a n object → Lies b n object → overlap nat_eq world a b ≡ true
-  overlap_of a b n object same there in_a in_b = subst (λ m. list_any
-      (λ (o : ℕ). lies_or_counts_under nat_eq world m o a && list_any (lies_or_counts_under nat_eq world m o) (b ∷ []))
-      (filesystem_numbered nat_eq world m).files.numbers ≡ true) same (any_from_among
-      (λ (o : ℕ). lies_or_counts_under nat_eq world n o a && list_any (lies_or_counts_under nat_eq world n o) (b ∷ []))
-      (filesystem_numbered nat_eq world n).files.numbers object (listed n object there)
-      (and_from _ _ in_a (or_left _ false in_b)))
+  overlap_of a b n object same there in_a in_b = grind (arith, common_steps, any_from_among, listed, and_from, or_left)
 
   pub clash : (layer : Layer ℕ) → IsOther layer → (n object : ℕ) → is_some (inode_in world n object) ≡ true
       → Lies upper n object → Lies layer n object → ⊥
-  clash layer (inl m) n object there in_upper in_layer = ⊎_elim (λ e. true≢false
-      (sym (overlap_of layer upper n object (lies_there world object n layer in_layer) there in_layer in_upper) ∙ e))
-      (λ e. true≢false
-      (sym (overlap_of upper layer n object (lies_there world object n upper in_upper) there in_upper in_layer) ∙ e))
-      (two_apart (overlap nat_eq world) (live_upper_and_work world) conditions.overlays.changed_apart layer upper m.0
-      upper_live m.1)
-  clash layer (inr m) n object there in_upper in_layer =
-      let same = lies_there world object n upper in_upper in
-      never_both _ _ (none_among (λ (o : ℕ). lies_or_counts_under nat_eq world upper.filesystem o upper
-      && list_any (lies_or_counts_under nat_eq world upper.filesystem o) (live_lowers nat_eq world))
-      (filesystem_numbered nat_eq world upper.filesystem).files.numbers
-      (none_among (overlaps_one_of nat_eq world (live_lowers nat_eq world)) (live_upper_and_work world)
-      conditions.overlays.lowers_apart upper upper_live)
-      object (listed upper.filesystem object (subst (λ k. is_some (inode_in world k object) ≡ true) same there)))
-      (subst (λ k. Lies upper k object) same in_upper)
-      (any_from_among (lies_or_counts_under nat_eq world upper.filesystem object) (live_lowers nat_eq world) layer m
-      (subst (λ k. Lies layer k object) same in_layer))
+  clash layer known n object there in_upper in_layer = grind (
+    arith,
+    common_steps,
+    true≢false,
+    overlap_of,
+    lies_there,
+    two_apart,
+    upper_live,
+    never_both,
+    none_among,
+    listed,
+    any_from_among,
+  )
 
   -- paths from the others lead where they led
   pub other_leads : (layer : Layer ℕ) → IsOther layer → LeadsAsBefore world later layer
@@ -357,35 +349,11 @@ module _ (fresh : Fresh ℕ) (world : World ℕ) (location : Location ℕ) (chan
 
   counts_parts : (w : World ℕ) (layer : Layer ℕ) (n object : ℕ) (g : Filesystem ℕ)
       → counts_in_layer nat_eq w n object layer g ≡ true → Counts w layer n object g
-  counts_parts w layer n object g e = by g.overlay refl e
-    where
-      at : (v : Overlay ℕ) → g.overlay ≡ Some v → (o : Option (Layer ℕ)) → v.upper ≡ o
-          → (holds_of (λ u. lies_in_layer nat_eq w u.filesystem u.directory layer) o
-          && is_object_of nat_eq n object g v) ≡ true → Counts w layer n object g
-      at v f None u e = absurd (true≢false (sym e))
-      at v f (Some u) k e = record {
-        overlay_of = v;
-        is_of = f;
-        upper_of_it = u;
-        has_it = k;
-        lies = and_true_left (lies_in_layer nat_eq w u.filesystem u.directory layer) _ e;
-        object_of = and_true_right (lies_in_layer nat_eq w u.filesystem u.directory layer) _ e;
-      }
-
-      by : (o : Option (Overlay ℕ)) → g.overlay ≡ o → overlay_or false
-          (λ v. holds_of (λ u. lies_in_layer nat_eq w u.filesystem u.directory layer) v.upper
-          && is_object_of nat_eq n object g v) o ≡ true → Counts w layer n object g
-      by None f e = absurd (true≢false (sym e))
-      by (Some v) f e = at v f v.upper refl e
+  counts_parts w layer n object g e = grind (arith, common_steps, true≢false, and_true_left, and_true_right)
 
   counts_again : (layer : Layer ℕ) (n object : ℕ) (g : Filesystem ℕ) → Among g (overlays world)
       → Counts world layer n object g → Lies layer n object
-  counts_again layer n object g m parts = or_right (lies_in_layer nat_eq world n object layer) _
-      (any_from_among (counts_in_layer nat_eq world n object layer) (overlays world) g m (ap (overlay_or false
-      (λ v. holds_of (λ u. lies_in_layer nat_eq world u.filesystem u.directory layer) v.upper
-      && is_object_of nat_eq n object g v)) parts.is_of
-      ∙ and_from _ _ (ap (holds_of (λ u. lies_in_layer nat_eq world u.filesystem u.directory layer)) parts.has_it
-      ∙ parts.lies) parts.object_of))
+  counts_again layer n object g m parts = grind (arith, common_steps, or_right, any_from_among, and_from)
 
   -- the object of which it is said is one of the upper layer
   real_of_object : (g : Filesystem ℕ) (v : Overlay ℕ) (u : Layer ℕ) → v.upper ≡ Some u → (n object : ℕ)
@@ -599,15 +567,7 @@ module _ (fresh : Fresh ℕ) (world : World ℕ) (location : Location ℕ) (chan
   first_same : (layers : Overlay ℕ → List (Layer ℕ)) → IgnoresReal layers → (f : Filesystem ℕ)
       → Among f world.filesystems
       → of_overlay [] layers (replaced_if_numbered nat_eq changed f) ≡ of_overlay [] layers f
-  first_same layers ignores f m = by (nat_eq changed.number f.number) refl
-    where
-      by : (b : Bool) → nat_eq changed.number f.number ≡ b
-          → of_overlay [] layers (cond b changed f) ≡ of_overlay [] layers f
-      by true e = ignores overlay merge.real ∙ sym (ap (overlay_or [] layers) is)
-          ∙ ap (λ n. of_overlay [] layers (filesystem_numbered nat_eq world n))
-          (sym (number_of_filesystem world number) ∙ eqb-true changed.number f.number e)
-          ∙ ap (of_overlay [] layers) (own_number f m)
-      by false e = refl
+  first_same layers ignores f m = grind (arith, common_steps, number_of_filesystem, eqb-true, own_number)
 
   second_same : (layers : Overlay ℕ → List (Layer ℕ)) (f : Filesystem ℕ)
       → Among f (map (replaced_if_numbered nat_eq changed) world.filesystems)
@@ -617,14 +577,7 @@ module _ (fresh : Fresh ℕ) (world : World ℕ) (location : Location ℕ) (chan
       at : (old : Filesystem ℕ) → Among old world.filesystems → (b : Bool) → nat_eq changed.number old.number ≡ b
           → f ≡ cond b changed old → (c : Bool) → nat_eq changed_upper.number f.number ≡ c
           → of_overlay [] layers (cond c changed_upper f) ≡ of_overlay [] layers f
-      at old o b e same false g = refl
-      at old o true e same true g =
-          absurd (apart (sym (number_of_filesystem world upper.filesystem) ∙ eqb-true changed_upper.number f.number g
-          ∙ ap (λ x. x.number) same ∙ number_of_filesystem world number))
-      at old o false e same true g = ap (λ n. of_overlay [] layers (filesystem_numbered nat_eq world n))
-          (sym (number_of_filesystem world upper.filesystem) ∙ eqb-true changed_upper.number f.number g
-          ∙ ap (λ x. x.number) same)
-          ∙ ap (of_overlay [] layers) (own_number old o) ∙ sym (ap (of_overlay [] layers) same)
+      at old o b e same c g = grind (arith, common_steps, apart, number_of_filesystem, eqb-true, own_number)
 
       from : (old : Filesystem ℕ) × Among old world.filesystems × (f ≡ replaced_if_numbered nat_eq changed old)
           → of_overlay [] layers (replaced_if_numbered nat_eq changed_upper f) ≡ of_overlay [] layers f
@@ -651,17 +604,8 @@ module _ (fresh : Fresh ℕ) (world : World ℕ) (location : Location ℕ) (chan
   -- two that overlap then
   overlap_then : (a b : Layer ℕ) → IsLive a → IsLive b → overlap nat_eq later a b ≡ true
       → overlap nat_eq world a b ≡ true
-  overlap_then a b live_a live_b e = from (any_among (λ (o : ℕ). lies_or_counts_under nat_eq later a.filesystem o a
-      && list_any (lies_or_counts_under nat_eq later a.filesystem o) (b ∷ []))
-      (filesystem_numbered nat_eq later a.filesystem).files.numbers e)
-    where
-      from : (o : ℕ) × Among o (filesystem_numbered nat_eq later a.filesystem).files.numbers
-          × ((lies_or_counts_under nat_eq later a.filesystem o a
-          && (lies_or_counts_under nat_eq later a.filesystem o b || false)) ≡ true) → overlap nat_eq world a b ≡ true
-      from (o, m, f) = overlap_before a b live_a live_b a.filesystem o refl
-          (and_true_left (lies_or_counts_under nat_eq later a.filesystem o a) _ f)
-          (or_false_alone (lies_or_counts_under nat_eq later a.filesystem o b)
-          (and_true_right (lies_or_counts_under nat_eq later a.filesystem o a) _ f))
+  overlap_then a b live_a live_b e =
+      grind (arith, common_steps, any_among, overlap_before, and_true_left, or_false_alone, and_true_right)
 
   changed_stay : any_pair (overlap nat_eq later) (live_upper_and_work later) ≡ false
   changed_stay = ap (any_pair (overlap nat_eq later)) (layers_same upper_and_work (λ o real. refl))

@@ -1,5 +1,6 @@
 -- Of some, no pair passes a test.
-use Rattle.std.proofs.Common.{◌≡◌, ◌≢◌, refl, sym, ap, ◌∙◌, true≢false, ◌⊎◌, ⊎_elim, inl, inr, Bool, true, false, ◌||◌, List, [], ◌∷◌}
+use Rattle.std.proofs.Common.{arith, ◌≡◌, ◌≢◌, refl, sym, ap, ◌∙◌, true≢false, ◌⊎◌, ⊎_elim, inl, inr, Bool, true, false, ◌||◌, List, [], ◌∷◌}
+use Rattle.std.proofs.lemmas.Grind.{common_steps}
 use Rattle.std.specs.List.{list_any}
 use Rattle.vt_spec.specs.Lists.{any_pair}
 use Rattle.vt_spec.proofs.Lists.{Among, any_among, any_from_among, none_among}
@@ -27,9 +28,4 @@ no_pair_later test later (x ∷ xs) h e =
   where
     by : (p : Bool) → list_any (later x) xs ≡ p → (q r : Bool) → list_any (test x) xs ≡ q → any_pair test xs ≡ r
         → (q || r) ≡ false → (any_pair test xs ≡ false → any_pair later xs ≡ false) → (p || any_pair later xs) ≡ false
-    by p f true r g k e rest = absurd (true≢false e)
-    by false f false r g k e rest = rest (k ∙ e)
-    by true f false r g k e rest =
-        let found = any_among (later x) xs f in
-        absurd (true≢false
-        (sym (any_from_among (test x) xs found.0 found.1 (h x found.0 (inl refl) (inr found.1) found.2)) ∙ g))
+    by p f q r g k e rest = grind (arith, common_steps, true≢false, any_among, any_from_among)

@@ -1,6 +1,7 @@
 -- A plain tree after a change that its call's rules let pass: it is a tree, and the directory of a layer in it is still
 -- reached.
-use Rattle.std.proofs.Common.{◌≡◌, ◌≢◌, refl, sym, ap, subst, ◌∙◌, true≢false, ℕ, nat_eq, false, List, [], ⊎_elim, inl, inr, Option, Some, None, is_some}
+use Rattle.std.proofs.Common.{arith, ◌≡◌, ◌≢◌, refl, sym, ap, subst, ◌∙◌, true≢false, ℕ, nat_eq, false, List, [], ⊎_elim, inl, inr, Option, Some, is_some}
+use Rattle.std.proofs.lemmas.Grind.{common_steps}
 use Rattle.std.proofs.lemmas.Bool.Decides.{eqb_tells}
 use Rattle.std.specs.FinMap.Entries.{is_sorted}
 use Rattle.std.specs.Prelude.{⊤}
@@ -8,8 +9,8 @@ use Rattle.vt_spec.specs.FileTree.{FileTree}
 use Rattle.vt_spec.specs.Language.Changes.{Change, changed, changed_node, node_with_attr, node_with_mark, node_without_entries}
 use Rattle.vt_spec.specs.Language.Changes.Change.{AddName, CopyUp, Make, Move, Remove, SetAttr, SetBytes, SetMark}
 use Rattle.vt_spec.specs.Machine.Invariants.{ListsNumbers}
-use Rattle.vt_spec.specs.Tree.{Content, Node, Tree, entries_in, entry_named, is_directory_node, name_cmp, node_with_bytes, parent_in, parent_of, with_entries}
-use Rattle.vt_spec.specs.Tree.Content.{Directory, Regular, Symlink, Whiteout}
+use Rattle.vt_spec.specs.Tree.{Node, Tree, entries_in, entry_named, is_directory_node, name_cmp, node_with_bytes, parent_in}
+use Rattle.vt_spec.specs.Tree.Content.{Directory}
 use Rattle.vt_spec.specs.TreeInvariant.{HasName, HasOwnParents, IsDirectory, IsReached, IsTree, entry_at}
 use Rattle.vt_spec.proofs.Nodes.{directory_used}
 use Rattle.vt_spec.proofs.Trees.{directory_kept, entry_kept, reached_named, used_differs}
@@ -164,14 +165,7 @@ module _ (files : FileTree ℕ) (r : ℕ) (conditions : IsTree files.tree)
   bare = changed_node nat_eq files r node_without_entries
 
   parent_same : (own : ℕ) (o : Option (Node ℕ)) → parent_in own (node_without_entries o) ≡ parent_in own o
-  parent_same own None = refl
-  parent_same own (Some node) = by node.content
-    where
-      by : (content : Content ℕ) → parent_of own (with_entries content []) ≡ parent_of own content
-      by (Directory parent entries opaque) = refl
-      by (Regular bytes) = refl
-      by (Symlink text) = refl
-      by Whiteout = refl
+  parent_same own o = grind (arith, common_steps)
 
   pub bare_there : entries_in (bare.tree.node r) ≡ []
   bare_there = ap entries_in (changed_node_there files r node_without_entries)

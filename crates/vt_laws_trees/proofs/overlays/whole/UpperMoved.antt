@@ -1,13 +1,14 @@
 -- An object is moved in the upper layer: its tree goes on to be one.
-use Rattle.std.proofs.Common.{◌≡◌, ◌≢◌, refl, sym, ap, subst, ◌∙◌, true≢false, inr, ℕ, nat_eq, Bool, true, false, cond, List, [], ◌∷◌, Option, Some, None, is_some}
+use Rattle.std.proofs.Common.{arith, ◌≡◌, ◌≢◌, refl, sym, ap, subst, ◌∙◌, true≢false, inr, ℕ, nat_eq, Bool, true, false, cond, List, [], ◌∷◌, Option, Some, None, is_some}
+use Rattle.std.proofs.lemmas.Grind.{common_steps}
 use Rattle.vt_spec.specs.FileTree.{FileTree}
-use Rattle.vt_spec.specs.Language.Changes.{changed, changed_node, content_with_parent, node_with_parent, with_moved, with_name, without_name, without_parent}
+use Rattle.vt_spec.specs.Language.Changes.{changed, changed_node, node_with_parent, with_moved, with_name, without_name, without_parent}
 use Rattle.vt_spec.specs.Language.Changes.Change.{Move}
 use Rattle.vt_spec.specs.Lists.{Fresh}
 use Rattle.vt_spec.specs.Machine.CopyUp.{Merge, Stack, hides_directory, merge_with_moved, name_left_by, shown_in_lowers_at, upper_directory_named, upper_of, whiteout_of, with_mark, without_contents}
 use Rattle.vt_spec.specs.Machine.World.Real.{Upper}
-use Rattle.vt_spec.specs.Tree.{Content, Node, entries_in, entry_named, is_directory_node}
-use Rattle.vt_spec.specs.Tree.Content.{Directory, Regular, Symlink, Whiteout}
+use Rattle.vt_spec.specs.Tree.{Node, entries_in, entry_named, is_directory_node}
+use Rattle.vt_spec.specs.Tree.Content.{Directory}
 use Rattle.vt_spec.specs.TreeInvariant.{IsDirectory, IsReached, entry_at}
 use Rattle.vt_spec.proofs.Trees.{led_kept}
 use Rattle.vt_laws_trees.specs.Trees.{MayMove}
@@ -30,14 +31,7 @@ use Rattle.vt_spec.proofs.Options.{none_from_not_some, none_is_some}
 
 -- with itself as the parent once more
 parent_twice : (k : ℕ) (o : Option (Node ℕ)) → node_with_parent k (node_with_parent k o) ≡ node_with_parent k o
-parent_twice k None = refl
-parent_twice k (Some node) = ap (λ c. Some (record { attr = node.attr; content = c })) (by node.content)
-  where
-    by : (c : Content ℕ) → content_with_parent k (content_with_parent k c) ≡ content_with_parent k c
-    by (Directory p n o) = refl
-    by (Regular b) = refl
-    by (Symlink b) = refl
-    by Whiteout = refl
+parent_twice k o = grind (arith, common_steps)
 
 -- What a move takes the place of may have lost its parent already
 moved_twice : (files : FileTree ℕ) (from : ℕ) (old : List ℕ) (to : ℕ) (new : List ℕ) (object r : ℕ)

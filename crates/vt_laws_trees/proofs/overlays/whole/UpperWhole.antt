@@ -1,5 +1,6 @@
 -- An overlay stays whole in each change.
-use Rattle.std.proofs.Common.{◌≡◌, refl, sym, ap, subst, ◌∙◌, ℕ, zero, suc, nat_eq, [], ◌∷◌, Some, None, slice_get}
+use Rattle.std.proofs.Common.{arith, ◌≡◌, refl, sym, ap, subst, ◌∙◌, ℕ, zero, suc, nat_eq, [], ◌∷◌, Some, None, slice_get}
+use Rattle.std.proofs.lemmas.Grind.{common_steps}
 use Rattle.vt_spec.specs.Language.Changes.{Change, changed}
 use Rattle.vt_spec.specs.Language.Changes.Change.{AddName, CopyUp, Make, Move, Remove, SetAttr, SetBytes, SetMark}
 use Rattle.vt_spec.specs.Lists.{Fresh, odds}
@@ -74,14 +75,7 @@ move_keeps_whole fresh stack merge f old t new o whole from to own vacant may al
 -- what a change asks of its own tree
 pub proper : (stack : Stack ℕ) (merge : Merge ℕ) (change : Change ℕ) → IsAskedWell stack merge change
     → IsProper merge.files.tree change
-proper stack merge (Make d w number node) asked = asked.0
-proper stack merge (AddName d w object) asked = asked
-proper stack merge (Remove d w object) asked = asked
-proper stack merge (Move f old t new o) asked = asked.0
-proper stack merge (SetBytes file bytes) asked = tt
-proper stack merge (SetAttr object attr) asked = tt
-proper stack merge (SetMark d opaque) asked = absurd asked
-proper stack merge (CopyUp object) asked = tt
+proper stack merge change asked = grind (arith, common_steps)
 
 -- A whole change
 module _ (fresh : Fresh ℕ) (stack : Stack ℕ) (merge : Merge ℕ) (whole : IsWhole stack merge)

@@ -1,5 +1,6 @@
 -- What is found in two worlds that are alike, and changes of their filesystems and tasks.
-use Rattle.std.proofs.Common.{◌≡◌, refl, sym, ap, subst, ℕ, nat_eq, List, map, Option, Some, None}
+use Rattle.std.proofs.Common.{arith, ◌≡◌, sym, ap, subst, ℕ, nat_eq, List, map, Option, Some, None}
+use Rattle.std.proofs.lemmas.Grind.{common_steps}
 use Rattle.std.proofs.lemmas.List.Sorted.{IsPermutation-cons}
 use Rattle.vt_laws_trees.proofs.runs.answered.AlikeWorlds.{Alike, AlikeFilesystem, SameTask, files_itself}
 use Rattle.vt_laws_trees.proofs.runs.Each.{Each, IfAny, chosen, each_find, each_flat, each_found, each_map}
@@ -15,12 +16,7 @@ use Rattle.vt_spec.specs.Machine.SameWorlds.{SameFiles}
 use Rattle.vt_spec.specs.Machine.World.{Filesystem, Task, World, all_locations, filesystem_at, filesystem_numbered, locations_of, mount_at, no_filesystem, node_at, replaced_if_called, replaced_if_numbered, task_called, with_filesystem, with_task}
 
 none_alike : (number : ℕ) → AlikeFilesystem (no_filesystem number) (no_filesystem number)
-none_alike number = record {
-  number = refl;
-  files = files_itself (no_filesystem number).files;
-  plain = refl;
-  plain_too = refl;
-}
+none_alike number = grind (arith, common_steps, files_itself)
 
 module _ (one other : World ℕ) (same : Alike one other) where
   pub found_alike : (number : ℕ)
@@ -135,13 +131,7 @@ change_alike one other same fresh location change =
 -- Tasks
 pub with_tasks_alike : (one other : World ℕ) → Alike one other → (tasks again : List (Task ℕ))
     → Each SameTask tasks again → Alike (record one { tasks = tasks }) (record other { tasks = again })
-with_tasks_alike one other same tasks again alike = record {
-  mounts = same.mounts;
-  master = same.master;
-  filesystems = same.filesystems;
-  namespaces = same.namespaces;
-  tasks = alike;
-}
+with_tasks_alike one other same tasks again alike = grind (arith, common_steps)
 
 pub replaced_alike : (ones others : List (Task ℕ)) → Each SameTask ones others → (task again : Task ℕ)
     → SameTask task again → Each SameTask (map (replaced_if_called task) ones) (map (replaced_if_called again) others)

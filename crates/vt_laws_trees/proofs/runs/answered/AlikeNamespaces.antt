@@ -1,5 +1,6 @@
 -- Calls on namespaces and tasks in two worlds that are alike.
-use Rattle.std.proofs.Common.{◌≡◌, refl, ap, ℕ, nat_eq, not, ◌&&◌, [], ◌∷◌, ◌++◌, ◌+◌, map, filter}
+use Rattle.std.proofs.Common.{arith, ◌≡◌, refl, ap, ℕ, nat_eq, not, ◌&&◌, [], ◌∷◌, ◌++◌, ◌+◌, map, filter}
+use Rattle.std.proofs.lemmas.Grind.{common_steps}
 use Rattle.std.specs.Prelude.{unwrap_or}
 use Rattle.std.specs.List.{list_any}
 use Rattle.vt_laws_trees.proofs.runs.answered.AlikeChanges.{replaced_alike, with_task_alike, with_tasks_alike}
@@ -9,7 +10,7 @@ use Rattle.vt_laws_trees.proofs.runs.Each.{chosen, each_any, each_append, each_f
 use Rattle.vt_spec.specs.Language.Calls.{TaskName, same_name}
 use Rattle.vt_spec.specs.Lists.{Fresh, evens, holds_of, odds}
 use Rattle.vt_spec.specs.Machine.Mounts.{Location, Mount, numbers_by}
-use Rattle.vt_spec.specs.Machine.Namespaces.{copied_mount, entered_at, has_tasks, is_in_ended, namespace_entered, namespace_root, namespaces_ended, pivoted, pivoted_location, pivoted_task, unshared, unshared_task}
+use Rattle.vt_spec.specs.Machine.Namespaces.{copied_mount, entered_at, has_tasks, is_in_ended, namespace_entered, namespace_root, namespaces_ended, pivoted, unshared, unshared_task}
 use Rattle.vt_spec.specs.Machine.Tasks.{with_child}
 use Rattle.vt_spec.specs.Machine.World.{Namespace, Task, World, mounts_of, without_task}
 
@@ -93,21 +94,4 @@ entered_alike namespace task again alike one other same = mounts_of_one (λ worl
 
 pub pivoted_alike : (namespace : ℕ) (root new : Mount ℕ) (put : Location ℕ) (one other : World ℕ) → Alike one other
     → Alike (pivoted nat_eq one namespace root new put) (pivoted nat_eq other namespace root new put)
-pivoted_alike namespace root new put = of_one (λ world. pivoted nat_eq world namespace root new put) (λ one other same.
-    record {
-      mounts = refl;
-      master = refl;
-      filesystems = same.filesystems;
-      namespaces = same.namespaces;
-      tasks =
-          each_map SameTask SameTask (pivoted_task nat_eq namespace root new) (pivoted_task nat_eq namespace root new)
-          moved one.tasks other.tasks same.tasks;
-    })
-  where
-    moved : (task again : Task ℕ) → SameTask task again
-        → SameTask (pivoted_task nat_eq namespace root new task) (pivoted_task nat_eq namespace root new again)
-    moved task again alike = chosen SameTask (nat_eq namespace task.namespace) (nat_eq namespace again.namespace)
-        (λ i. nat_eq namespace (alike i).namespace) _ task _ again (λ i. record (alike i) {
-          root = pivoted_location nat_eq root new (alike i).root;
-          directory = pivoted_location nat_eq root new (alike i).directory;
-        }) alike
+pivoted_alike namespace root new put = grind (arith, common_steps, of_one, each_map, chosen)

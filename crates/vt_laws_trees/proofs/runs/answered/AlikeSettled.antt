@@ -1,5 +1,6 @@
 -- What nothing uses goes alike in two worlds that are alike.
-use Rattle.std.proofs.Common.{◌≡◌, sym, ap, subst, ◌∙◌, ℕ, nat_eq, Bool, true, false, cond, not, ◌&&◌, ◌||◌, List, [], ◌∷◌, ◌++◌, map, filter, filter_map, flat_map, None, is_some, option_map, if◌then◌else◌}
+use Rattle.std.proofs.Common.{arith, ◌≡◌, sym, ap, subst, ◌∙◌, ℕ, nat_eq, Bool, true, false, cond, not, ◌&&◌, ◌||◌, List, [], ◌∷◌, ◌++◌, map, filter, filter_map, flat_map, None, is_some, if◌then◌else◌}
+use Rattle.std.proofs.lemmas.Grind.{common_steps}
 use Rattle.std.specs.List.{list_all, list_any}
 use Rattle.std.specs.List.Sorted.{IsPermutation}
 use Rattle.std.proofs.lemmas.List.Sorted.{IsPermutation-append_left, IsPermutation-cons, list_any-IsPermutation}
@@ -15,9 +16,8 @@ use Rattle.vt_spec.specs.Machine.Filesystems.{raised, raised_if_changed}
 use Rattle.vt_spec.specs.Machine.Locked.{of_overlay, overlay_or}
 use Rattle.vt_spec.specs.Machine.Mounts.{Location, Mount, mount_in, root_of}
 use Rattle.vt_spec.specs.Machine.Policy.{numbers_raised, raised_namespace, raised_task}
-use Rattle.vt_spec.specs.Machine.Receives.{has_members}
 use Rattle.vt_spec.specs.Machine.SameWorlds.{SameFiles}
-use Rattle.vt_spec.specs.Machine.Settled.{filesystem_lives, has_layer_on, layers_in, located_in, objects_of_overlay, only_among, only_used, only_used_by, only_used_of, real_among, settled, used_in, without_dead_filesystems, without_dead_groups, without_dead_in, without_dead_inodes, without_dead_mounts}
+use Rattle.vt_spec.specs.Machine.Settled.{filesystem_lives, layers_in, located_in, objects_of_overlay, only_among, only_used, only_used_by, only_used_of, settled, used_in, without_dead_filesystems, without_dead_groups, without_dead_in, without_dead_inodes, without_dead_mounts}
 use Rattle.vt_spec.specs.Machine.World.{Filesystem, Namespace, Overlay, Task, World, is_overlay, layers_of, upper_object}
 
 -- both have no overlay
@@ -57,13 +57,7 @@ used_alike one other same used again among =
         same.files.numbers ∙ (λ i. list_all (λ number. among number i) other.files.numbers)
 
     by : (b : Bool) → AlikeFilesystem (only_used_by nat_eq b used one) (only_used_by nat_eq b again other)
-    by true = same
-    by false = record {
-      number = same.number;
-      files = among_alike one.files other.files same.files used again among;
-      plain = ap (option_map (real_among nat_eq used)) same.plain;
-      plain_too = ap (option_map (real_among nat_eq again)) same.plain_too;
-    }
+    by b = grind (arith, common_steps, among_alike)
 
 module _ (one other : World ℕ) (same : Alike one other) where
   layers_same : (a b : ℕ) → a ≡ b → layers_in nat_eq one a ≡ layers_in nat_eq other b
@@ -133,12 +127,7 @@ module _ (one other : World ℕ) (same : Alike one other) where
 
   lives_same : (first second : Filesystem ℕ) → AlikeFilesystem first second
       → filesystem_lives nat_eq one first ≡ filesystem_lives nat_eq other second
-  lives_same first second alike = λ i. is_shown (same.mounts i) (alike.number i) || each_any AlikeFilesystem
-      (λ merged. has_layer_on nat_eq first.number merged && is_shown one.mounts merged.number)
-      (λ merged. has_layer_on nat_eq second.number merged && is_shown other.mounts merged.number) (λ a b known. λ j.
-      overlay_or false (λ overlay. list_any (λ layer. nat_eq (alike.number j) layer.filesystem) (layers_of overlay))
-      (overlay_same a b known j) && is_shown (same.mounts j) (known.number j))
-      one.filesystems other.filesystems same.filesystems i
+  lives_same first second alike = grind (arith, common_steps, each_any, overlay_same)
 
   without_dead_filesystems_alike : Alike (without_dead_filesystems nat_eq one) (without_dead_filesystems nat_eq other)
   without_dead_filesystems_alike = record {
@@ -151,13 +140,7 @@ module _ (one other : World ℕ) (same : Alike one other) where
   }
 
   without_dead_groups_alike : Alike (without_dead_groups nat_eq one) (without_dead_groups nat_eq other)
-  without_dead_groups_alike = record {
-    mounts = same.mounts;
-    master = λ i group. cond (has_members nat_eq (same.mounts i) group) (same.master i group) None;
-    filesystems = same.filesystems;
-    namespaces = same.namespaces;
-    tasks = same.tasks;
-  }
+  without_dead_groups_alike = grind (arith, common_steps)
 
 without_dead_inodes_alike : (one other : World ℕ) → Alike one other
     → Alike (without_dead_inodes nat_eq one) (without_dead_inodes nat_eq other)
@@ -174,13 +157,7 @@ settled_alike one other same = without_dead_groups_alike _ _ (without_dead_inode
 -- Change numbers, however they are raised
 filesystem_raised : (a b : Filesystem ℕ) → AlikeFilesystem a b → (raise again : Bool) (change other : ℕ)
     → AlikeFilesystem (cond raise (record a { change = change }) a) (cond again (record b { change = other }) b)
-filesystem_raised a b alike true true change other =
-    record { number = alike.number; files = alike.files; plain = alike.plain; plain_too = alike.plain_too }
-filesystem_raised a b alike true false change other =
-    record { number = alike.number; files = alike.files; plain = alike.plain; plain_too = alike.plain_too }
-filesystem_raised a b alike false true change other =
-    record { number = alike.number; files = alike.files; plain = alike.plain; plain_too = alike.plain_too }
-filesystem_raised a b alike false false change other = alike
+filesystem_raised a b alike raise again change other = grind (arith, common_steps)
 
 namespace_raised : (a b : Namespace ℕ) → SameNamespace a b → (keep again : Bool) (change other : ℕ)
     → SameNamespace (cond keep a (record a { change = change })) (cond again b (record b { change = other }))

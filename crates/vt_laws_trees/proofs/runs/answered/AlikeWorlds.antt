@@ -1,4 +1,5 @@
 -- Worlds of plain filesystems that are the same but for change numbers and the order of numbers beside trees.
+use Rattle.std.proofs.lemmas.Grind.{common_steps}
 use Rattle.std.proofs.Common.{◌≡◌, refl, sym, ap, subst, ◌∙◌, ℕ, false, List, [], ◌∷◌, None, is_some, arith}
 use Rattle.std.specs.Prelude.{All}
 use Rattle.std.proofs.lemmas.List.Elements.{All-cons, All-head, All-tail}
@@ -89,30 +90,7 @@ filesystems_onward (one ∷ ones) (other ∷ others) (last ∷ lasts) same next 
 )
 
 pub sameness_is_an_equivalence : SamenessIsAnEquivalence
-sameness_is_an_equivalence = record {
-  itself = λ world. record {
-    mounts = refl;
-    master = refl;
-    filesystems = filesystems_itself world.filesystems;
-    namespaces = refl;
-    tasks = refl;
-  };
-  back = λ one other same. record {
-    mounts = sym same.mounts;
-    master = sym same.master;
-    filesystems = filesystems_back one.filesystems other.filesystems same.filesystems;
-    namespaces = sym same.namespaces;
-    tasks = sym same.tasks;
-  };
-  onward = λ one other last same next. record {
-    mounts = same.mounts ∙ next.mounts;
-    master = same.master ∙ next.master;
-    filesystems =
-        filesystems_onward one.filesystems other.filesystems last.filesystems same.filesystems next.filesystems;
-    namespaces = same.namespaces ∙ next.namespaces;
-    tasks = same.tasks ∙ next.tasks;
-  };
-}
+sameness_is_an_equivalence = grind (arith, common_steps, filesystems_itself, filesystems_back, filesystems_onward)
 
 abbrev Plain : Filesystem ℕ → Type 0
 Plain filesystem = is_overlay filesystem ≡ false
@@ -154,34 +132,16 @@ alike_from_same one other same plain = record {
 }
 
 pub same_from_alike : (one other : World ℕ) → Alike one other → SameWorlds one other
-same_from_alike one other same = record {
-  mounts = same.mounts;
-  master = same.master;
-  filesystems = alike_same one.filesystems other.filesystems same.filesystems;
-  namespaces = each_to_one SameNamespace bare_namespace bare_namespace (λ a b e. e) one.namespaces other.namespaces
-      same.namespaces;
-  tasks = each_to_one SameTask bare_task bare_task (λ a b e. e) one.tasks other.tasks same.tasks;
-}
+same_from_alike one other same = grind (arith, common_steps, alike_same, each_to_one, bare_namespace, bare_task)
 
 pub plain_from_alike : (one other : World ℕ) → Alike one other → IsPlain one
 plain_from_alike one other same = alike_plain one.filesystems other.filesystems same.filesystems
 
 filesystem_back : (a b : Filesystem ℕ) → AlikeFilesystem a b → AlikeFilesystem b a
-filesystem_back a b same = record {
-  number = sym same.number;
-  files = files_back a.files b.files same.files;
-  plain = same.plain_too;
-  plain_too = same.plain;
-}
+filesystem_back a b same = grind (arith, common_steps, files_back)
 
 pub alike_back : (one other : World ℕ) → Alike one other → Alike other one
-alike_back one other same = record {
-  mounts = sym same.mounts;
-  master = sym same.master;
-  filesystems = each_back AlikeFilesystem filesystem_back one.filesystems other.filesystems same.filesystems;
-  namespaces = each_back SameNamespace (λ a b e. sym e) one.namespaces other.namespaces same.namespaces;
-  tasks = each_back SameTask (λ a b e. sym e) one.tasks other.tasks same.tasks;
-}
+alike_back one other same = grind (arith, common_steps, each_back, filesystem_back)
 
 pub alike_onward : (one other last : World ℕ) → Alike one other → Alike other last → Alike one last
 alike_onward one other last same next = record {

@@ -1,5 +1,6 @@
 -- What has a name, and what a task is at, stays where what nothing uses goes.
-use Rattle.std.proofs.Common.{eqb-true, ◌≡◌, refl, sym, ap, subst, ◌∙◌, true≢false, ℕ, nat_eq, eq-eqb, Bool, true, false, not, cond, List, [], ◌∷◌, ◌++◌, map, ◌&&◌, ◌||◌, ⊎_elim, Some, None, is_some}
+use Rattle.std.proofs.Common.{arith, eqb-true, ◌≡◌, refl, sym, ap, subst, ◌∙◌, true≢false, ℕ, nat_eq, eq-eqb, Bool, true, false, not, cond, List, [], ◌∷◌, ◌++◌, map, ◌&&◌, ◌||◌, ⊎_elim, Some, None, is_some}
+use Rattle.std.proofs.lemmas.Grind.{common_steps}
 use Rattle.std.specs.Prelude.{filter_map, unwrap_or}
 use Rattle.std.specs.List.{filter, find, list_any}
 use Rattle.std.proofs.lemmas.List.Elements.{All-filter}
@@ -29,12 +30,7 @@ filtered stays number (filesystem ∷ list) h =
         → numbered number (filter (λ f. stays f.number) list) ≡ numbered number list
         → numbered number (cond c (filesystem ∷ filter (λ f. stays f.number) list) (filter (λ f. stays f.number) list))
         ≡ unwrap_or (cond b (Some filesystem) (find (λ f. nat_eq number f.number) list)) (no_filesystem number)
-    by true e true d rest = ap (λ b. unwrap_or (cond b (Some filesystem)
-        (find (λ f. nat_eq number f.number) (filter (λ f. stays f.number) list))) (no_filesystem number)) e
-    by true e false d rest = absurd (true≢false (sym h ∙ ap stays (eqb-true number filesystem.number e) ∙ d))
-    by false e true d rest = ap (λ b. unwrap_or (cond b (Some filesystem)
-        (find (λ f. nat_eq number f.number) (filter (λ f. stays f.number) list))) (no_filesystem number)) e ∙ rest
-    by false e false d rest = rest
+    by b e c d rest = grind (arith, common_steps, true≢false, eqb-true)
 
 -- a mount of a shorter list, where those of its number stay
 filtered_mount : (stays : Mount ℕ → Bool) (number : ℕ) (list : List (Mount ℕ))
@@ -48,14 +44,7 @@ filtered_mount stays number (mount ∷ list) h =
         → mount_in nat_eq (filter stays list) number ≡ mount_in nat_eq list number
         → mount_in nat_eq (cond c (mount ∷ filter stays list) (filter stays list)) number
         ≡ unwrap_or (cond b (Some mount) (find (λ m. nat_eq number m.number) list)) (no_mount number)
-    by true e true d rest =
-        ap (λ b. unwrap_or (cond b (Some mount) (find (λ m. nat_eq number m.number) (filter stays list)))
-        (no_mount number)) e
-    by true e false d rest = absurd (true≢false (sym (h mount (sym (eqb-true number mount.number e))) ∙ d))
-    by false e true d rest =
-        ap (λ b. unwrap_or (cond b (Some mount) (find (λ m. nat_eq number m.number) (filter stays list)))
-        (no_mount number)) e ∙ rest
-    by false e false d rest = rest
+    by b e c d rest = grind (arith, common_steps, true≢false, eqb-true)
 
 -- a filesystem of a list of which each was changed, but not its number
 mapped_node : (change : Filesystem ℕ → Filesystem ℕ) → ((f : Filesystem ℕ) → (change f).number ≡ f.number)
@@ -191,12 +180,7 @@ listed_node test (first ∷ list) location h t =
         → is_among nat_eq location.node (map (λ l. l.node) (filter test list)) ≡ true)
         → is_among nat_eq location.node (map (λ l. l.node) (cond c (first ∷ filter test list) (filter test list)))
         ≡ true
-    by true e true d g rest = ap (λ b. b || is_among nat_eq location.node (map (λ l. l.node) (filter test list)))
-        (eq-eqb location.node first.node (ap (λ (l : Location ℕ). l.node) (same_location_is location first e)))
-    by true e false d g rest = absurd (true≢false (sym t ∙ ap test (same_location_is location first e) ∙ d))
-    by false e true d g rest = or_right (nat_eq location.node first.node)
-        (is_among nat_eq location.node (map (λ l. l.node) (filter test list))) (rest g)
-    by false e false d g rest = rest g
+    by b e c d g rest = grind (arith, common_steps, eq-eqb, same_location_is, true≢false, or_right)
 
 -- its mount is located
 located_mount : (list : List (Location ℕ)) (location : Location ℕ)
@@ -246,12 +230,7 @@ still_listed stays (mount ∷ list) number h g =
         → (is_among nat_eq number (map (λ m. m.number) list) ≡ true
         → is_among nat_eq number (map (λ m. m.number) (filter stays list)) ≡ true)
         → is_among nat_eq number (map (λ m. m.number) (cond c (mount ∷ filter stays list) (filter stays list))) ≡ true
-    by true e true d k rest = ap (λ b. b || is_among nat_eq number (map (λ m. m.number) (filter stays list))) e
-    by true e false d k rest = absurd (true≢false (sym (h mount (sym (eqb-true number mount.number e))) ∙ d))
-    by false e true d k rest =
-        or_right (nat_eq number mount.number) (is_among nat_eq number (map (λ m. m.number) (filter stays list)))
-        (rest k)
-    by false e false d k rest = rest k
+    by b e c d k rest = grind (arith, common_steps, true≢false, eqb-true, or_right)
 
 module _ (world : World ℕ) (location : Location ℕ)
     (located : list_any (same_location nat_eq location) (all_locations world) ≡ true)

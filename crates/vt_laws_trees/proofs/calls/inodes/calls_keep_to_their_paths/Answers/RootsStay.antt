@@ -1,16 +1,17 @@
 -- The root of a filesystem stays its root, as long as the filesystem is there.
-use Rattle.std.proofs.Common.{◌≡◌, refl, sym, ap, subst, ◌∙◌, inl, inr, ◌⊎◌, true≢false, ℕ, ◌+◌, nat_eq, eqb-true, eq-eqb, Bool, true, false, not, cond, ◌||◌, List, [], ◌∷◌, ◌++◌, map, filter, find, Option, Some, None, is_some, option_map, unwrap_or, Ok, Err, ok_or}
+use Rattle.std.proofs.Common.{arith, ◌≡◌, refl, sym, ap, subst, ◌∙◌, inl, inr, ◌⊎◌, true≢false, ℕ, ◌+◌, nat_eq, eqb-true, eq-eqb, Bool, true, false, not, cond, ◌||◌, List, [], ◌∷◌, ◌++◌, map, filter, find, Option, Some, None, is_some, option_map, Ok, Err, ok_or}
+use Rattle.std.proofs.lemmas.Grind.{common_steps}
 use Rattle.std.proofs.lemmas.Option.{same_Some}
 use Rattle.vt_laws_trees.specs.Calls.Reached.{RootsStay, root_in}
 use Rattle.vt_laws_rules.proofs.judged.CallsJudged.{policy_judges_then_applies}
 use Rattle.vt_spec.specs.declared.errors.Rule.TheVariants.{S2}
 use Rattle.vt_spec.specs.Errors.{denial}
-use Rattle.vt_spec.specs.FileTree.{FileTree, a_name}
-use Rattle.vt_spec.specs.Language.Changes.{Change, changed, with_moved, without_parent}
+use Rattle.vt_spec.specs.FileTree.{FileTree}
+use Rattle.vt_spec.specs.Language.Changes.{Change, changed, with_moved}
 use Rattle.vt_spec.specs.Language.Changes.Change.{AddName, CopyUp, Make, Move, Remove, SetAttr, SetBytes, SetMark}
 use Rattle.vt_spec.specs.Lists.{Fresh, evens, odds}
 use Rattle.vt_spec.specs.Machine.Apply.{apply}
-use Rattle.vt_spec.specs.Machine.CopyUp.{Merge, Stack, copied_each, copied_up, copy_named, copy_of, hides_directory, is_in_upper, line_to, merge_changed, merge_with_link, merge_with_moved, merge_with_new, merge_without_name, name_left, shown_in_lowers_at, upper_directory_named, upper_of, without_contents}
+use Rattle.vt_spec.specs.Machine.CopyUp.{Merge, Stack, copied_each, copied_up, copy_of, hides_directory, is_in_upper, line_to, merge_changed, merge_with_link, merge_with_moved, merge_with_new, merge_without_name, name_left, shown_in_lowers_at, upper_directory_named, upper_of, without_contents}
 use Rattle.vt_spec.specs.Machine.Detach.{deepest_first, without_replaced}
 use Rattle.vt_spec.specs.Machine.Filesystems.{filesystem_changed, filesystems_raised, merge_of, overlay_changed, raised, raised_if_changed, stack_of, with_change, with_files}
 use Rattle.vt_spec.specs.Machine.Judge.{Judgement, judge_in}
@@ -31,18 +32,7 @@ use Rattle.vt_spec.proofs.Worlds.{filesystems-taken_away, filesystems-without_re
 
 -- a change of a tree leaves its root
 changed_root : (files : FileTree ℕ) (change : Change ℕ) → (changed nat_eq files change).tree.root ≡ files.tree.root
-changed_root files (Make directory name number node) = refl
-changed_root files (AddName directory name object) = refl
-changed_root files (Remove directory name object) = refl
-changed_root files (Move from old to new object) = alone _
-  where
-    alone : (replaced : Option ℕ) → (without_parent nat_eq files replaced).tree.root ≡ files.tree.root
-    alone None = refl
-    alone (Some object) = refl
-changed_root files (SetBytes file bytes) = refl
-changed_root files (SetAttr object attr) = refl
-changed_root files (SetMark directory opaque) = refl
-changed_root files (CopyUp object) = refl
+changed_root files change = grind (arith, common_steps)
 
 -- A change of an overlay leaves the roots of its tree and of that of its upper layer
 abbrev SameRoots : Merge ℕ → Merge ℕ → Type 0
@@ -53,14 +43,7 @@ and_roots was then now first later = (later.0 ∙ first.0, later.1 ∙ first.1)
 
 copy_roots : (merge : Merge ℕ) (object copy : ℕ) (o : Option (Node ℕ)) (in_upper : Bool)
     → SameRoots merge (copy_of nat_eq merge object copy o in_upper)
-copy_roots merge object copy None in_upper = (refl, refl)
-copy_roots merge object copy (Some node) true = (refl, refl)
-copy_roots merge object copy (Some node) false = (refl, by (a_name nat_eq merge.files object) _)
-  where
-    by : (name : Option (ℕ × List ℕ)) (upper : FileTree ℕ)
-        → (copy_named nat_eq merge copy name upper).tree.root ≡ upper.tree.root
-    by None upper = refl
-    by (Some name) upper = refl
+copy_roots merge object copy o in_upper = grind (arith, common_steps)
 
 copied_roots : (fresh : Fresh ℕ) (k : ℕ) (merge : Merge ℕ) (list : List ℕ)
     → SameRoots merge (copied_each nat_eq fresh k merge list)
@@ -179,14 +162,7 @@ module _ (number : ℕ) where
 
         by : (b : Bool) → nat_eq new.number first.number ≡ b → (c : Bool) → nat_eq number first.number ≡ c
             → root_at (found c first rest) ≡ Some root → (Is rest → Is others) → Is (cond b new first ∷ others)
-        by true e true f h later =
-            let same : number ≡ new.number = eqb-true number first.number f ∙ sym (eqb-true new.number first.number e)
-            in ap (λ c. root_at (found c new others)) (eq-eqb number new.number same) ∙ ap Some (here same)
-        by true e false f h later =
-            ap (λ n. root_at (found (nat_eq number n) new others)) (eqb-true new.number first.number e)
-            ∙ ap (λ c. root_at (found c new others)) f ∙ later h
-        by false e true f h later = ap (λ c. root_at (found c first others)) f ∙ h
-        by false e false f h later = ap (λ c. root_at (found c first others)) f ∙ later h
+        by b e c f h later = grind (arith, common_steps, eqb-true, eq-eqb)
 
     -- one filesystem more
     added_root : (new : Filesystem ℕ) (list : List (Filesystem ℕ)) → Is list → Is (list ++ (new ∷ []))
@@ -200,12 +176,7 @@ module _ (number : ℕ) where
 
     -- the filesystem that is found has it
     root_found : (list : List (Filesystem ℕ)) → Is list → (numbered number list).files.tree.root ≡ root
-    root_found list = by (find (λ filesystem. nat_eq number filesystem.number) list)
-      where
-        by : (o : Option (Filesystem ℕ)) → root_at o ≡ Some root
-            → (unwrap_or o (no_filesystem number)).files.tree.root ≡ root
-        by None e = cc
-        by (Some one) e = same_Some one.files.tree.root root e
+    root_found list = grind (arith, common_steps, same_Some)
 
     -- What a permit leaves
     -- a filesystem that is found by a number has it, if the number is this one
@@ -293,15 +264,7 @@ module _ (number : ℕ) where
 
   -- What the sweep and the raising of change numbers leave
   raises : (changes : List ℕ) → Keeps (raised_if_changed nat_eq changes)
-  raises changes filesystem = by _
-    where
-      chosen : Bool → Filesystem ℕ
-      chosen b = cond b (record filesystem { change = raised filesystem.change }) filesystem
-
-      by : (b : Bool) → ((chosen b).number ≡ filesystem.number)
-          × ((chosen b).files.tree.root ≡ filesystem.files.tree.root)
-      by true = (refl, refl)
-      by false = (refl, refl)
+  raises changes filesystem = grind (arith, common_steps)
 
   only_used_keeps : (world : World ℕ) (chosen : Filesystem ℕ → Bool)
       → Keeps (λ filesystem. only_used nat_eq world (chosen filesystem) filesystem)
