@@ -100,12 +100,7 @@ ComeFrom before after = (task : Task ℕ) → Among task after → (old : Task �
     × (old.forks ≤ task.forks)
 
 counted_on : (before after : List (Task ℕ)) → ComeFrom before after → AreCounted before → AreCounted after
-counted_on before after come counted task other number rest m n e =
-    let one = come task m in
-    let two = come other n in
-    let small : number ≤ one.0.forks =
-    counted one.0 two.0 number rest one.1 two.1 (sym two.2 ∙ e ∙ ap (λ l. l ++ (number ∷ rest)) one.2) in
-    omega (arith, small, one.3)
+counted_on before after come counted task other number rest m n e = grind (arith, common_steps)
 
 replaced_come : (new task : Task ℕ) (tasks : List (Task ℕ)) → Among task tasks → new.name ≡ task.name
     → task.forks ≤ new.forks → ComeFrom tasks (map (replaced_if_called new) tasks)
@@ -139,20 +134,17 @@ module _ (task : Task ℕ) (before : List (Task ℕ)) (there : Among task before
   child_is_new other m = grind (arith, common_steps, same_task_name)
 
   pub go_on_apart : (after : List (Task ℕ)) → GoOn task before after → AreNamedApart after
-  go_on_apart after (same_ones list e) = subst AreNamedApart (sym e) apart
-  go_on_apart after (one_changed new list name forks e) =
-      subst AreNamedApart (sym e) (mapped_apart (replaced_if_called new) (name-replaced_if_called new) before apart)
-  go_on_apart after (all_moved namespace root new list e) = subst AreNamedApart (sym e)
-      (mapped_apart (pivoted_task nat_eq namespace root new) (λ t. (pivoted_keeps namespace root new t).0) before apart)
-  go_on_apart after (one_left list e) = subst AreNamedApart (sym e)
-      (pair-filter (λ (a b : Task ℕ). same_name a.name b.name)
-      (λ (other : Task ℕ). not (same_name task.name other.name)) before apart)
-  go_on_apart after (one_more credentials list e) = subst AreNamedApart (sym e)
-      (appended_apart (map (replaced_if_called parent) before) (child_of task credentials)
-      (mapped_apart (replaced_if_called parent) (name-replaced_if_called parent) before apart) (λ other m.
-      let from = among-from_map (replaced_if_called parent) before other m in
-      ap (λ (t : Task ℕ). same_name t.name (child_name task)) from.2
-      ∙ ap (λ n. same_name n (child_name task)) (name-replaced_if_called parent from.0) ∙ child_is_new from.0 from.1))
+  go_on_apart after known = grind (
+    arith,
+    common_steps,
+    mapped_apart,
+    name-replaced_if_called,
+    pivoted_keeps,
+    pair-filter,
+    appended_apart,
+    among-from_map,
+    child_is_new,
+  )
 
   -- a child's name begins with that of a task that was there
   above_child : (other : Task ℕ) → Among other (map (replaced_if_called parent) before) → (number : ℕ) (rest : TaskName)
@@ -214,10 +206,7 @@ module _ (task : Task ℕ) (before : List (Task ℕ)) (there : Among task before
       below_none : (other : Task ℕ) → Among other (map (replaced_if_called parent) before)
           → (number : ℕ) (rest : TaskName) → other.name ≡ child_name task ++ (number ∷ rest) → ⊥
       below_none other m number rest h =
-          let from = among-from_map (replaced_if_called parent) before other m in
-          too_many (counted task from.0 (task.forks + 1) (number ∷ rest) there from.1
-          (sym (name-replaced_if_called parent from.0) ∙ ap (λ (t : Task ℕ). t.name) (sym from.2) ∙ h
-          ∙ append_assoc task.name ((task.forks + 1) ∷ []) (number ∷ rest)))
+          grind (arith, common_steps, among-from_map, too_many, name-replaced_if_called, append_assoc)
 
 pub opening_counts_forks : (fresh : Fresh ℕ) → ForksAreCounted (opening nat_eq fresh)
 opening_counts_forks fresh = counted_from (opening nat_eq fresh) (λ task other number rest m n e.

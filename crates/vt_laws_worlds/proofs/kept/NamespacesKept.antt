@@ -1,9 +1,10 @@
 -- Each permit that fits keeps the invariants of namespaces.
-use Rattle.std.proofs.Common.{◌≡◌, refl, sym, ap, subst, None, Option, Some, filter, flat_map, length, map, nat_eq, ℕ, ◌+◌}
+use Rattle.std.proofs.Common.{arith, ◌≡◌, refl, sym, ap, subst, None, Option, Some, flat_map, map, nat_eq, ℕ, ◌+◌}
+use Rattle.std.proofs.lemmas.Grind.{common_steps}
 use Rattle.vt_spec.specs.Machine.Apply.{apply}
 use Rattle.vt_spec.specs.Language.Changes.Change.{Make, Move, Remove}
 use Rattle.vt_spec.specs.Machine.Detach.{mounts_on, without_mounts_on, without_replaced}
-use Rattle.vt_spec.specs.Lists.{Fresh, evens, holds_of, odds}
+use Rattle.vt_spec.specs.Lists.{Fresh, evens, odds}
 use Rattle.vt_spec.specs.Machine.Mounts.{Location, Mount, mount_tree}
 use Rattle.vt_spec.specs.Machine.Descriptors.{is_copied_up, with_descriptor, without_descriptor}
 use Rattle.vt_spec.specs.Machine.NewMounts.{plain_filesystem}
@@ -12,7 +13,7 @@ use Rattle.vt_spec.specs.Machine.Permits.{Permit}
 use Rattle.vt_spec.specs.Machine.Permits.Permit.{ToBind, ToChange, ToClose, ToEnterNamespace, ToExit, ToFork, ToMake, ToMountOverlay, ToMountPlain, ToMove, ToOpen, ToOpenNew, ToPivot, ToRemoveDirectory, ToRename, ToSetCredentials, ToSetDirectory, ToSetFlags, ToSetRoot, ToSetType, ToSetUmask, ToUnmount, ToUnmountLazily, ToUnshare, ToWritePart}
 use Rattle.vt_spec.specs.Machine.Run.{Serves}
 use Rattle.vt_spec.specs.Machine.World.{Task, World, mount_at, mount_numbered, replaced_if_called}
-use Rattle.vt_spec.specs.Machine.Invariants.{IsWorld, NamespaceInvariants, is_root_mount}
+use Rattle.vt_spec.specs.Machine.Invariants.{IsWorld, NamespaceInvariants}
 use Rattle.vt_spec.proofs.Lists.{Among}
 use Rattle.vt_laws_mounts.proofs.ends.EndingCounts.{points_keep_roots, points_take_none_in, unmount_keeps_roots, unmount_takes_none_in}
 use Rattle.vt_laws_mounts.proofs.ends.EndingLazyCounts.{lazy_unmount_keeps_roots, lazy_unmount_takes_none_in}
@@ -36,13 +37,7 @@ use Rattle.vt_laws_trees.proofs.trees.TreesTasks.{called_there}
 -- Mounts and namespaces as they were, and tasks in the namespaces in which some were
 same_mounts_stay : (before after : World ℕ) → after.namespaces ≡ before.namespaces → after.mounts ≡ before.mounts
     → TasksStay before.tasks after.tasks → AreNamespaces before → AreNamespaces after
-same_mounts_stay before after namespaces mounts tasks are = namespaces_stay before after (record {
-  namespaces = namespaces;
-  mounts = λ mount m number e. (mount, subst (Among mount) mounts m, e);
-  roots = λ namespace. ap (λ these. length (filter (is_root_mount nat_eq)
-      (filter (λ (mount : Mount ℕ). holds_of (nat_eq namespace) mount.namespace) these))) mounts;
-  tasks = tasks;
-}) are
+same_mounts_stay before after namespaces mounts tasks are = grind (arith, common_steps, are, namespaces_stay)
 
 same_tasks : (before after : World ℕ) → after.tasks ≡ before.tasks → TasksStay before.tasks after.tasks
 same_tasks before after same = subst (TasksStay before.tasks) (sym same) (same_tasks_stay before.tasks)

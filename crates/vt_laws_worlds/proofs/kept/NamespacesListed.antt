@@ -1,4 +1,5 @@
 -- Namespaces of a world with their mounts and tasks, as facts on what stands in its lists.
+use Rattle.std.proofs.lemmas.Grind.{common_steps}
 use Rattle.std.proofs.Common.{◌≡◌, refl, sym, ap, subst, ◌∙◌, ℕ, nat_eq, Bool, true, false, List, [], ◌∷◌, Option, Some, None, arith, eq-eqb, eqb-true, inl, is_some, length, map, true≢false, ⊎_elim, ◌&&◌}
 use Rattle.std.specs.Prelude.{Contains, option_to_list}
 use Rattle.std.specs.List.{list_all}
@@ -68,21 +69,7 @@ abbrev has_its_namespace : World ℕ → Option ℕ → Bool
 has_its_namespace world namespace = list_all (is_listed nat_eq world) (option_to_list namespace)
 
 pub are_namespaces : (world : World ℕ) → NamespaceInvariants nat_eq world → AreNamespaces world
-are_namespaces world is = record {
-  listed = record {
-    apart = is.one_namespace;
-    of_mounts = λ mount m number e. listed_in world number (and_parts (is_listed nat_eq world number) true
-        (ap (has_its_namespace world) (sym e)
-        ∙ among_from_list_all (λ (x : Mount ℕ). has_its_namespace world x.namespace) world.mounts is.mounts_listed
-        mount m)).0;
-    of_tasks = λ task m. listed_in world task.namespace
-        (among_from_list_all (λ (x : Task ℕ). is_listed nat_eq world x.namespace) world.tasks is.tasks_listed task m);
-  };
-  roots = λ namespace m. eqb-true (root_mounts_in world namespace.number) 1
-      (among_from_list_all (has_one_root nat_eq world) world.namespaces is.root_mounts namespace m);
-  live = λ namespace m. tasks_in world namespace
-      (among_from_list_all (has_tasks nat_eq world) world.namespaces is.namespaces_live namespace m);
-}
+are_namespaces world is = grind (arith, common_steps, listed_in, and_parts, among_from_list_all, eqb-true, tasks_in)
 
 pub from_namespaces : (world : World ℕ) → AreNamespaces world → has_too_many nat_eq world ≡ false
     → NamespaceInvariants nat_eq world
@@ -188,9 +175,4 @@ same_tasks_stay tasks = record { come = λ task m. (task, m, refl); stay = λ ol
 
 pub mapped_tasks_stay : (f : Task ℕ → Task ℕ) (tasks : List (Task ℕ))
     → ((task : Task ℕ) → Among task tasks → (f task).namespace ≡ task.namespace) → TasksStay tasks (map f tasks)
-mapped_tasks_stay f tasks same = record {
-  come = λ task m.
-      let from = among-from_map f tasks task m in
-      (from.0, from.1, ap (λ (x : Task ℕ). x.namespace) from.2 ∙ same from.0 from.1);
-  stay = λ old m. (f old, among-map f tasks old m, sym (same old m));
-}
+mapped_tasks_stay f tasks same = grind (arith, common_steps, among-from_map, among-map)

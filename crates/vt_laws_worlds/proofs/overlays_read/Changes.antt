@@ -1,5 +1,6 @@
 -- What a permit changes is no overlay without an upper layer.
-use Rattle.std.proofs.Common.{Bool, List, None, Option, Some, [], ap, false, is_some, nat_eq, not, refl, subst, sym, true, true≢false, ℕ, ◌&&◌, ◌==◌, ◌∙◌, ◌∷◌, ◌≡◌}
+use Rattle.std.proofs.Common.{arith, Bool, List, None, Option, Some, [], ap, false, is_some, nat_eq, not, refl, subst, sym, true, true≢false, ℕ, ◌&&◌, ◌==◌, ◌∙◌, ◌∷◌, ◌≡◌}
+use Rattle.std.proofs.lemmas.Grind.{common_steps}
 use Rattle.std.proofs.lemmas.Bool.{or_parts}
 use Rattle.std.specs.List.{list_all}
 use Rattle.std.specs.Prelude.{⊤}
@@ -47,12 +48,7 @@ module _ (world : World ℕ) (task : Task ℕ) (fresh : Fresh ℕ) where
   -- open(2) of a file that exists
   opened : (file : Location ℕ) (access : Access) → (opens_for_writing access && has_no_upper looks file) ≡ false
       → HasLayer (change_asked fresh world (ToOpen file access))
-  opened file access refused = by (is_copied_up nat_eq world file access) refl
-    where
-      by : (b : Bool) → is_copied_up nat_eq world file access ≡ b → HasLayer (when b (file, CopyUp file.node))
-      by true e =
-          ap (λ writes. writes && has_no_upper looks file) (sym (and_true_left (opens_for_writing access) _ e)) ∙ refused
-      by false e = tt
+  opened file access refused = grind (arith, common_steps, and_true_left)
 
   -- a descriptor that is open for writing
   written : (number : ℕ) (descriptor : Descriptor ℕ) → list_all (writes_to_a_layer world) task.descriptors ≡ true
@@ -118,13 +114,7 @@ changes_have_layers world fresh task permit location change well given asks = su
 -- a call that is not the mount of an overlay
 to_task : (fresh : Fresh ℕ) (world : World ℕ) (task : Task ℕ) (permit : Permit ℕ) → IsGiven fresh world task permit
     → IsGivenToTask fresh world task permit
-to_task fresh world task permit given = record {
-  serves = given.serves;
-  called = given.called;
-  call = given.call;
-  few_groups = given.few_groups;
-  judged = given.judged;
-}
+to_task fresh world task permit given = grind (arith, common_steps)
 
 -- where no overlay has an upper layer, one with an upper layer is none
 plain_there : (world : World ℕ) (location : Location ℕ) → OverlaysHaveNoUpper world

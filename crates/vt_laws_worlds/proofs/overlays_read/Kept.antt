@@ -1,10 +1,10 @@
 -- A permit leaves no descriptor open for writing in an overlay without an upper layer.
-use Rattle.std.proofs.Common.{Bool, List, None, Ok, Option, Some, [], ap, cond, false, inr, is_some, map, nat_eq, not, option_map, refl, subst, sym, true, ⊎_elim, ℕ, ◌&&◌, ◌+◌, ◌++◌, ◌==◌, ◌∙◌, ◌∷◌, ◌≡◌}
+use Rattle.std.proofs.Common.{arith, Bool, List, None, Ok, Option, Some, [], ap, false, inr, is_some, map, nat_eq, not, option_map, refl, subst, sym, true, ⊎_elim, ℕ, ◌&&◌, ◌+◌, ◌++◌, ◌==◌, ◌∙◌, ◌∷◌, ◌≡◌}
+use Rattle.std.proofs.lemmas.Grind.{common_steps}
 use Rattle.std.proofs.lemmas.Bool.{and_parts}
 use Rattle.std.specs.Prelude.{⊤}
 use Rattle.vt_laws_trees.proofs.calls.tasks.TasksLeft.{left_tasks, tasks_left}
 use Rattle.vt_laws_worlds.specs.Given.LeftWorlds.{IsGivenToTask}
-use Rattle.vt_laws_mounts.specs.Mounts.Attaching.{is_mount}
 use Rattle.vt_laws_worlds.proofs.overlay_permits.kept.KeptOverlays.{permits_make_their_change}
 use Rattle.vt_laws_worlds.proofs.overlay_permits.worlds.EveryCall.{LeavesFilesystems, unchanged}
 use Rattle.vt_laws_worlds.proofs.overlay_permits.worlds.EveryCall.LeavesFilesystems.{as_they_were, with_overlay, with_plain}
@@ -34,12 +34,12 @@ use Rattle.vt_spec.specs.Lists.{Fresh, evens, odds}
 use Rattle.vt_spec.specs.Machine.Apply.{apply, overfills}
 use Rattle.vt_spec.specs.Machine.Descriptors.{with_descriptor, without_descriptor}
 use Rattle.vt_spec.specs.Machine.Filesystems.{raised, with_change}
-use Rattle.vt_spec.specs.Machine.Invariants.{IsWorld, is_located_well, is_there}
+use Rattle.vt_spec.specs.Machine.Invariants.{IsWorld, is_located_well}
 use Rattle.vt_spec.specs.Machine.Judge.{judge_in}
 use Rattle.vt_spec.specs.Machine.Locked.{overlay_or}
 use Rattle.vt_spec.specs.Machine.Looks.{Looks, looks_of}
 use Rattle.vt_spec.specs.Machine.Mounts.{Location, Mount}
-use Rattle.vt_spec.specs.Machine.Namespaces.{pivoted_location, pivoted_task}
+use Rattle.vt_spec.specs.Machine.Namespaces.{pivoted_task}
 use Rattle.vt_spec.specs.Machine.NewMounts.{overlay_filesystem, plain_filesystem}
 use Rattle.vt_spec.specs.Machine.Outcomes.{Outcome, after as outcome_after}
 use Rattle.vt_spec.specs.Machine.Permits.{Permit}
@@ -49,7 +49,7 @@ use Rattle.vt_spec.specs.Machine.Rules.Conditions.{has_no_upper}
 use Rattle.vt_spec.specs.Machine.Rules.Mounting.{overlay_at}
 use Rattle.vt_spec.specs.Machine.Settled.{settled}
 use Rattle.vt_spec.specs.Machine.Tasks.{child_of}
-use Rattle.vt_spec.specs.Machine.World.{Descriptor, Filesystem, Overlay, Task, World, all_locations, filesystem_numbered, locations_of, mount_at, mount_numbered, replaced_if_called}
+use Rattle.vt_spec.specs.Machine.World.{Descriptor, Filesystem, Overlay, Task, World, all_locations, locations_of, mount_at, mount_numbered, replaced_if_called}
 
 -- Whether there is an upper layer is told by the layers
 abbrev lacking : Option Layers → Bool
@@ -74,13 +74,7 @@ module _ (fresh : Fresh ℕ) (world later : World ℕ) (task : Task ℕ)
   Left tasks = (other : Task ℕ) → Among other tasks → writes later other ≡ true
 
   replaced : (new : Task ℕ) → writes later new ≡ true → Left (map (replaced_if_called new) world.tasks)
-  replaced new well other m =
-      let from = among-from_map (replaced_if_called new) world.tasks other m in
-      ap (writes later) from.2 ∙ by (same_name new.name from.0.name) from.0 (all from.0 from.1)
-    where
-      by : (b : Bool) (old : Task ℕ) → writes later old ≡ true → writes later (cond b new old) ≡ true
-      by true old e = well
-      by false old e = e
+  replaced new well other m = grind (arith, common_steps, among-from_map, writes)
 
   opened_well : (file : Location ℕ) (access : Access)
       → not (opens_for_writing access && has_no_upper (looks_of nat_eq later) file) ≡ true
@@ -98,16 +92,7 @@ module _ (fresh : Fresh ℕ) (world later : World ℕ) (task : Task ℕ)
       (among-from_filter (λ (d : Descriptor ℕ). not (number == d.number)) task.descriptors descriptor m).0)
 
   pivoted : (root top : Mount ℕ) → Left (map (pivoted_task nat_eq task.namespace root top) world.tasks)
-  pivoted root top other m =
-      let from = among-from_map (pivoted_task nat_eq task.namespace root top) world.tasks other m in
-      ap (writes later) from.2 ∙ by (nat_eq task.namespace from.0.namespace) from.0 (all from.0 from.1)
-    where
-      by : (b : Bool) (old : Task ℕ) → writes later old ≡ true → writes later (cond b (record old {
-        root = pivoted_location nat_eq root top old.root;
-        directory = pivoted_location nat_eq root top old.directory;
-      }) old) ≡ true
-      by true old e = e
-      by false old e = e
+  pivoted root top other m = grind (arith, common_steps, among-from_map, writes)
 
   pub left_well : (permit : Permit ℕ) → OpensForLayer permit → Left (left_tasks fresh world task permit)
   left_well (ToOpen file access) may = replaced (with_descriptor task file access) (opened_well file access may)
@@ -187,12 +172,7 @@ module _ (world : World ℕ) (fresh : Fresh ℕ) (task : Task ℕ) (permit : Per
   upper_stays : (location : Location ℕ) → is_located_well nat_eq world location ≡ true
       → has_no_upper (looks_of nat_eq later) location ≡ has_no_upper looks location
   upper_stays location there =
-      let own = (mount_at nat_eq world location).filesystem in
-      ap (λ n. lacks_upper (filesystem_numbered nat_eq later n))
-      (seen.views location.mount (mount_of_located world later seen location there)).filesystem
-      ∙ lacks_by_layers (filesystem_numbered nat_eq later own).overlay ∙ ap lacking (layers_stay own location.node
-      (and_parts (is_mount world location.mount) (is_there nat_eq world own location.node) there).1)
-      ∙ sym (lacks_by_layers (filesystem_numbered nat_eq world own).overlay)
+      grind (arith, common_steps, lacks_upper, seen, mount_of_located, lacks_by_layers, layers_stay, and_parts)
 
   kept : (other : Task ℕ) → Among other world.tasks → writes later other ≡ true
   kept other m = list_all_from_among (writes_to_a_layer later) other.descriptors (λ descriptor d.
@@ -256,11 +236,7 @@ raised_well before name changed world = writers_alike world (numbers_raised nat_
     (λ test. all_write_alike test (raised_task name) same world.tasks)
   where
     same : (task : Task ℕ) → (raised_task name task).descriptors ≡ task.descriptors
-    same task = by (same_name name task.name)
-      where
-        by : (b : Bool) → (cond b (record task { change = raised task.change }) task).descriptors ≡ task.descriptors
-        by true = refl
-        by false = refl
+    same task = grind (arith, common_steps)
 
 pub every_call_keeps_writers : EveryCallKeepsWriters
 every_call_keeps_writers world fresh name call is serves few well =

@@ -6,7 +6,6 @@ use Rattle.vt_spec.specs.Lists.{is_among}
 use Rattle.vt_spec.specs.Machine.Mounts.{Location, Mount, root_of}
 use Rattle.vt_spec.specs.Machine.Settled.{filesystem_lives, is_located, is_mounted, located_in, mount_lives, only_used, settled, without_dead_filesystems, without_dead_in, without_dead_mounts}
 use Rattle.vt_spec.specs.Machine.World.{Filesystem, World, all_locations, filesystem_numbered, is_overlay, mount_at, mount_numbered, no_filesystem, node_at}
-use Rattle.vt_spec.specs.Machine.Invariants.{is_nowhere_or_attached}
 use Rattle.vt_laws_mounts.proofs.letting_go.Lists.{Among, among-filter, among-map, any_passes, is_among_numbers, or_first, or_second, passes}
 use Rattle.vt_laws_mounts.proofs.letting_go.leaving.PlacesLeft.{found_in_filter, found_itself, nowhere_parts}
 use Rattle.vt_laws_trees.proofs.trees.TreesForgotten.{among_located, used_stays}
@@ -75,12 +74,7 @@ module _ (world : World ℕ) (unsettled : IsUnderWay world) where
   -- what has a place is in a namespace
   pub placed_attached : (mount : Mount ℕ) → Among mount world.mounts → is_some mount.mount_point ≡ true
       → is_some mount.namespace ≡ true
-  placed_attached mount m placed = by (is_some mount.namespace) refl
-    where
-      by : (b : Bool) → is_some mount.namespace ≡ b → is_some mount.namespace ≡ true
-      by true e = e
-      by false e = absurd (true≢false (sym placed ∙ (nowhere_parts mount
-          (passes is_nowhere_or_attached world.mounts unsettled.mounts.nowhere mount m) e).0))
+  placed_attached mount m placed = grind (arith, common_steps, true≢false, nowhere_parts, passes)
 
   -- Locations
   abbrev pub used_locations : List (Location ℕ)
@@ -115,19 +109,14 @@ module _ (world : World ℕ) (unsettled : IsUnderWay world) where
       → Among (mount_at nat_eq world location) world.mounts
       → mount_lives nat_eq world (mount_at nat_eq world location) ≡ true
       → node_at nat_eq settled_world location ≡ node_at nat_eq world location
-  seen_stays location used there lives =
-      ap (λ (m : Mount ℕ). (filesystem_numbered nat_eq settled_world m.filesystem).files.tree.node location.node)
-      (found_still location.mount lives) ∙ node_stays shown location.node is_shown
-      (is_among_numbers location.node (located_in nat_eq mounted shown)
-      (among-map (λ l. l.node) (filter (λ l. nat_eq shown (mount_at nat_eq mounted l).filesystem) used_locations)
-      location (among-filter (λ l. nat_eq shown (mount_at nat_eq mounted l).filesystem) used_locations location used
-      (eq-eqb shown (mount_at nat_eq mounted location).filesystem
-      (ap (λ (m : Mount ℕ). m.filesystem) (sym (found_still location.mount lives)))))))
-    where
-      shown : ℕ
-      shown = (mount_at nat_eq world location).filesystem
-
-      is_shown : is_mounted nat_eq mounted shown ≡ true
-      is_shown = any_passes (λ (m : Mount ℕ). nat_eq shown m.filesystem) mounted.mounts (mount_at nat_eq world location)
-          (among-filter (mount_lives nat_eq world) world.mounts (mount_at nat_eq world location) there lives)
-          (eq-eqb shown shown refl)
+  seen_stays location used there lives = grind (
+    arith,
+    common_steps,
+    found_still,
+    node_stays,
+    is_among_numbers,
+    among-map,
+    among-filter,
+    eq-eqb,
+    any_passes,
+  )

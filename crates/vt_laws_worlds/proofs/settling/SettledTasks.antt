@@ -1,5 +1,6 @@
 -- Tasks, and what mounts show, where what nothing uses goes.
-use Rattle.std.proofs.Common.{◌≡◌, refl, sym, ap, subst, ◌∙◌, not, inl, inr, ℕ, nat_eq, Bool, true, false, List, ◌++◌, Option, Some, None, filter, is_some, map, true≢false, ◌&&◌}
+use Rattle.std.proofs.Common.{arith, ◌≡◌, refl, sym, ap, subst, ◌∙◌, not, inl, inr, ℕ, nat_eq, Bool, true, false, List, ◌++◌, Option, Some, None, filter, is_some, map, true≢false, ◌&&◌}
+use Rattle.std.proofs.lemmas.Grind.{common_steps}
 use Rattle.std.specs.Prelude.{All, filter_map, option_to_list}
 use Rattle.std.specs.List.{list_all}
 use Rattle.std.proofs.lemmas.Bool.{and_from, and_parts}
@@ -190,11 +191,7 @@ module _ (world : World ℕ) (unsettled : IsUnderWay world) where
   first_round = without_dead_in nat_eq is_overlay living
 
   pub trees_under_way : All (λ f. IsFileTree f.files) world.filesystems
-  trees_under_way = all_from_among (λ f. IsFileTree f.files) world.filesystems (λ f m. record {
-    tree = among_from_all (λ g. IsTree g.files.tree) world.filesystems unsettled.files.trees f m;
-    numbers = among_from_all (λ g. ListsNumbers nat_eq g.files) world.filesystems unsettled.files.numbers f m;
-    own_parents = among_from_all (λ g. HasOwnParents g.files.tree) world.filesystems unsettled.files.own_parents f m;
-  })
+  trees_under_way = grind (arith, common_steps, all_from_among, among_from_all)
 
   pub settled_trees : TreeInvariants nat_eq after
   settled_trees =
@@ -217,11 +214,7 @@ module _ (world : World ℕ) (unsettled : IsUnderWay world) where
           → any_pair (λ (a b : Filesystem ℕ). nat_eq a.number b.number) w.filesystems ≡ false
           → any_pair (λ (a b : Filesystem ℕ). nat_eq a.number b.number)
           (without_dead_in nat_eq chosen w).filesystems ≡ false
-      same_numbers w chosen apart =
-          pair-map (λ (a b : Filesystem ℕ). nat_eq a.number b.number) (λ (a b : Filesystem ℕ). nat_eq a.number b.number)
-          (λ f. only_used nat_eq w (chosen f) f) w.filesystems
-          (λ a b m n e. ap (λ k. nat_eq k (only_used nat_eq w (chosen b) b).number) (number-only_used w (chosen a) a)
-          ∙ ap (nat_eq a.number) (number-only_used w (chosen b) b) ∙ e) apart
+      same_numbers w chosen apart = grind (arith, common_steps, pair-map, number-only_used)
 
   pub listed_trees : All (λ f. IsListedTree f.files) world.filesystems
   listed_trees = All-weaker (λ f. IsFileTree f.files) (λ f. IsListedTree f.files)
@@ -229,13 +222,7 @@ module _ (world : World ℕ) (unsettled : IsUnderWay world) where
 
 -- In a world of plain filesystems
 pub under_way : (world : World ℕ) → IsWorldButForUse world → IsUnderWay world
-under_way world unsettled = record {
-  files = unsettled.files;
-  mounts = unsettled.mounts;
-  namespaces = unsettled.namespaces;
-  tasks = unsettled.tasks;
-  roots = unsettled.roots;
-}
+under_way world unsettled = grind (arith, common_steps)
 
 module _ (world : World ℕ) (unsettled : IsWorldButForUse world) where
   pub same_node : (location : Location ℕ) → Among location (all_locations world)

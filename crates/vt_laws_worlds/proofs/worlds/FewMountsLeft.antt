@@ -1,6 +1,6 @@
 -- Permits that attach nothing leave no namespace with too many mounts.
 use Rattle.std.proofs.lemmas.Grind.{common_steps}
-use Rattle.std.proofs.Common.{◌≡◌, refl, sym, ap, ◌∙◌, true≢false, arith, inl, inr, ⊎_elim, ◌⊎◌, eqb-true, eq-eqb, ℕ, nat_eq, nat_lt, Bool, true, false, List, [], ◌∷◌, ◌++◌, ◌+◌, ◌≤◌, ◌&&◌, filter, map, length, Option, Some, None}
+use Rattle.std.proofs.Common.{◌≡◌, refl, ap, ◌∙◌, true≢false, arith, ◌⊎◌, eqb-true, eq-eqb, ℕ, nat_eq, nat_lt, Bool, true, false, List, [], ◌∷◌, ◌++◌, ◌+◌, ◌≤◌, ◌&&◌, filter, map, length, Option, Some, None}
 use Rattle.std.proofs.lemmas.List.{length-append, length-map}
 use Rattle.std.proofs.lemmas.List.Elements.{filter-append}
 use Rattle.vt_spec.specs.Machine.Apply.{apply}
@@ -147,12 +147,7 @@ module _ (fresh : Fresh ℕ) (world : World ℕ) (whole : IsWorld nat_eq world) 
       by : (namespace : Namespace ℕ) (b : Bool) → nat_eq namespace.number new ≡ b
           → Among namespace world.namespaces ⊎ Among namespace (record { number = new; change = 0 } ∷ [])
           → nat_lt most_mounts (count_in (world.mounts ++ copies) namespace.number) ≡ false
-      by namespace true e m = in_new namespace.number e
-      by namespace false e (inl m) =
-          not_too_many (count_in (world.mounts ++ copies) namespace.number) (count_in world.mounts namespace.number)
-          (in_old namespace.number e) (few_of world whole.namespaces.few_mounts namespace m)
-      by namespace false e (inr m) = ⊎_elim (λ same. absurd (true≢false (sym (eq-eqb namespace.number new
-          (ap (λ (n : Namespace ℕ). n.number) same)) ∙ e))) (λ none. absurd none) m
+      by namespace b e m = grind (arith, common_steps, in_new, not_too_many, in_old, few_of, true≢false, eq-eqb)
 
   -- each permit
   abbrev after : Permit ℕ → World ℕ
@@ -197,8 +192,7 @@ module _ (fresh : Fresh ℕ) (world : World ℕ) (whole : IsWorld nat_eq world) 
   few_left (ToUnmountLazily mount) other = shrinks_few world (after (ToUnmountLazily mount))
       (lazily_shrinks world mount) whole.namespaces.few_mounts
   few_left (ToSetFlags mount flags) other = shrinks_few world (after (ToSetFlags mount flags)) (
-    mapped_no_more
-        (replaced_if_same nat_eq (record (mount_numbered nat_eq world mount) { flags = flags })) world.mounts
+    mapped_no_more (replaced_if_same nat_eq (record (mount_numbered nat_eq world mount) { flags = flags })) world.mounts
         (flags_stay world whole mount flags),
     refl,
   ) whole.namespaces.few_mounts
@@ -208,8 +202,7 @@ module _ (fresh : Fresh ℕ) (world : World ℕ) (whole : IsWorld nat_eq world) 
   few_left (ToPivot root put) other = shrinks_few world (after (ToPivot root put)) (
     mapped_no_more (pivoted_mount nat_eq (mount_at nat_eq world task.root)
         (mount_numbered nat_eq world root) put) world.mounts
-        (λ mount m. pivot_stays world (mount_at nat_eq world task.root)
-        (mount_numbered nat_eq world root) put mount),
+        (λ mount m. pivot_stays world (mount_at nat_eq world task.root) (mount_numbered nat_eq world root) put mount),
     refl,
   ) whole.namespaces.few_mounts
   few_left permit other = whole.namespaces.few_mounts

@@ -3,27 +3,25 @@ use Rattle.std.proofs.Common.{arith, Bool, Ok, Option, ap, eqb-true, length, ok_
 use Rattle.std.proofs.lemmas.Grind.{common_steps}
 use Rattle.std.proofs.Math.Bool.{or-false}
 use Rattle.std.proofs.lemmas.Option.{same_Some}
-use Rattle.std.specs.List.{find, list_any}
+use Rattle.std.specs.List.{list_any}
 use Rattle.std.specs.Prelude.{None, Some, false, is_some, nat_eq, option_to_list, true, unwrap_or, ℕ, ◌≡◌}
 use Rattle.vt_laws_mounts.proofs.namespaces.Topmost.{topmost_is_free}
 use Rattle.vt_spec.proofs.Found.{found_among}
 use Rattle.vt_spec.proofs.Lists.{Among, among_from_list_all}
 use Rattle.vt_spec.proofs.Nodes.{none_is_not}
-use Rattle.vt_spec.specs.Errors.{denial}
 use Rattle.vt_spec.specs.FileTree.{is_kind_in}
 use Rattle.vt_spec.specs.Language.Calls.{TaskName}
 use Rattle.vt_spec.specs.Lists.{chain, holds_of, rest_of}
 use Rattle.vt_spec.specs.Machine.Invariants.{IsWorld, is_listed}
 use Rattle.vt_spec.specs.Machine.Looks.{Looks, looks_of}
-use Rattle.vt_spec.specs.Machine.Mounts.{Location, child_at}
+use Rattle.vt_spec.specs.Machine.Mounts.{Location}
 use Rattle.vt_spec.specs.Machine.Rules.Conditions.{is_elsewhere, is_no_root}
-use Rattle.vt_spec.specs.Machine.Rules.Descriptors.{descriptor_at, descriptor_numbered}
+use Rattle.vt_spec.specs.Machine.Rules.Descriptors.{descriptor_at}
 use Rattle.vt_spec.specs.Machine.Rules.Mounting.{is_on_descendant, lies_under_location}
 use Rattle.vt_spec.specs.Machine.Walking.{Here, Place, is_special}
 use Rattle.vt_spec.specs.Machine.World.{Descriptor, Task, World, is_directory_at, mount_at, mount_numbered, node_at, task_called}
 use Rattle.vt_spec.specs.declared.attributes.Kind.TheVariants.{File, White}
 use Rattle.vt_spec.specs.declared.errors.Deny.{Deny}
-use Rattle.vt_spec.specs.declared.errors.Rule.TheVariants.{S4}
 use Rattle.vt_laws_trees.proofs.trees.TreesTasks.{called_there}
 use Rattle.vt_laws_trees.proofs.trees.TreesWalked.{not_true, ok_same}
 use Rattle.vt_laws_worlds.proofs.worlds.Reached.{directory_found, is_reached_directory, others_are_files}
@@ -75,11 +73,7 @@ module _ (world : World ℕ) (whole : IsWorld nat_eq world) (task : Task ℕ)
 
   pub destination : (here : Here ℕ) → IsTopmost world whole task called here
       → is_elsewhere nat_eq looks task here.location ≡ false → IsDestination world task here.location
-  destination here is e = record {
-    directory = reached_directory here is.0;
-    own = own_if here.location e;
-    free = ap (child_at nat_eq world.mounts) is.1.1 ∙ topmost_is_free world is.1.0 whole.mounts;
-  }
+  destination here is e = grind (arith, common_steps, reached_directory, own_if, topmost_is_free)
 
   pub parent_directory : {P : Location ℕ → Type 0} (place : Place ℕ) → IsPlaceIn world whole task called P place
       → is_special place.last ≡ false → IsReachedDirectory world task place.parent
@@ -94,13 +88,7 @@ module _ (world : World ℕ) (whole : IsWorld nat_eq world) (task : Task ℕ)
   -- a descriptor that is found is one of the task's
   pub descriptor_among : (number : ℕ) (fits : Descriptor ℕ → Bool) (descriptor : Descriptor ℕ)
       → descriptor_at task number fits ≡ Ok descriptor → Among descriptor task.descriptors
-  descriptor_among number fits descriptor e = grind (
-    arith,
-    common_steps,
-    found_among fits (option_to_list (descriptor_numbered task number)) descriptor
-        (ok_or_some (find fits (option_to_list (descriptor_numbered task number))) (denial S4) descriptor e),
-    found_among,
-  )
+  descriptor_among number fits descriptor e = grind (arith, common_steps, found_among, ok_or_some)
 
   -- the place below a mount is that of the mount, whatever inode it is seen at
   pub below_at : (new : Location ℕ) → is_on_descendant nat_eq looks task.root.mount new ≡ true → (node : ℕ)

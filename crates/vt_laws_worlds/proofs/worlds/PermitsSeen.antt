@@ -1,10 +1,11 @@
 -- A permit that fits keeps what is seen.
-use Rattle.std.proofs.Common.{◌≡◌, refl, sym, subst, ◌∙◌, ℕ, nat_eq, Bool, true, false, filter, flat_map, List, [], ◌∷◌, Option, Some, None, map}
+use Rattle.std.proofs.Common.{arith, ◌≡◌, refl, sym, subst, ◌∙◌, ℕ, nat_eq, Bool, true, false, filter, flat_map, List, [], ◌∷◌, Option, Some, None, map}
+use Rattle.std.proofs.lemmas.Grind.{common_steps}
 use Rattle.std.specs.Prelude.{All}
 use Rattle.vt_spec.specs.Machine.Apply.{apply}
 use Rattle.vt_spec.specs.Machine.Attach.{bind_tree}
 use Rattle.vt_spec.specs.Language.Changes.{Change}
-use Rattle.vt_spec.specs.Language.Changes.Change.{AddName, CopyUp, Make, Move, Remove, SetAttr, SetBytes, SetMark}
+use Rattle.vt_spec.specs.Language.Changes.Change.{CopyUp, Make, Move, Remove}
 use Rattle.vt_spec.specs.Machine.Filesystems.{with_change}
 use Rattle.vt_spec.specs.Machine.Detach.{going, mounts_on, taken_away, without_mounts_on, without_replaced}
 use Rattle.vt_spec.specs.Lists.{Fresh, evens, odds}
@@ -29,14 +30,7 @@ use Rattle.vt_spec.proofs.Worlds.{filesystems-taken_away, filesystems-without_re
 -- what a permit sets or names makes nothing
 pub makes_none : (world : World ℕ) (location : Location ℕ) (change : Change ℕ) → SetsBytesOfFiles world location change
     → MakesNew (files_at nat_eq world location) change
-makes_none world location (Make directory name number node) sets = absurd sets
-makes_none world location (AddName directory name object) sets = tt
-makes_none world location (Remove directory name object) sets = tt
-makes_none world location (Move from old to new object) sets = tt
-makes_none world location (SetBytes file bytes) sets = tt
-makes_none world location (SetAttr object attr) sets = tt
-makes_none world location (SetMark directory opaque) sets = tt
-makes_none world location (CopyUp object) sets = tt
+makes_none world location change sets = grind (arith, common_steps)
 
 pub taken_plain : (world : World ℕ) (gone : List ℕ) → IsPlain world → IsPlain (taken_away nat_eq world gone)
 taken_plain world gone plain = subst (All (λ filesystem. is_overlay filesystem ≡ false))

@@ -1,5 +1,6 @@
 -- A permit that fits leaves each mount with a root and a place that are directories.
-use Rattle.std.proofs.Common.{◌≡◌, refl, ℕ, nat_eq, Bool, true, false, List, [], ◌∷◌, Option, Some, None, is_some}
+use Rattle.std.proofs.Common.{arith, ◌≡◌, refl, ℕ, nat_eq, Bool, true, false, List, [], ◌∷◌, Option, Some, None}
+use Rattle.std.proofs.lemmas.Grind.{common_steps}
 use Rattle.std.proofs.lemmas.Bool.{and_parts}
 use Rattle.vt_spec.specs.Machine.Apply.{apply}
 use Rattle.vt_spec.specs.Language.Changes.Change.{CopyUp, Make, Move, Remove}
@@ -13,9 +14,8 @@ use Rattle.vt_spec.specs.Machine.Descriptors.{is_copied_up, pwritten, with_copy}
 use Rattle.vt_spec.specs.Machine.Permits.{Permit}
 use Rattle.vt_spec.specs.Machine.Permits.Permit.{ToBind, ToChange, ToClose, ToEnterNamespace, ToExit, ToFork, ToMake, ToMountOverlay, ToMountPlain, ToMove, ToOpen, ToOpenNew, ToPivot, ToRemoveDirectory, ToRename, ToSetCredentials, ToSetDirectory, ToSetFlags, ToSetRoot, ToSetType, ToSetUmask, ToUnmount, ToUnmountLazily, ToUnshare, ToWritePart}
 use Rattle.vt_spec.specs.Machine.Run.{Serves}
-use Rattle.vt_spec.specs.Machine.World.{Task, World, mount_at, mount_numbered, node_at, without_task}
+use Rattle.vt_spec.specs.Machine.World.{Task, World, mount_at, mount_numbered, without_task}
 use Rattle.vt_spec.specs.Machine.Invariants.{IsWorld}
-use Rattle.vt_laws_mounts.specs.Mounts.Attaching.{is_mount}
 use Rattle.vt_laws_worlds.specs.Worlds.Kept.{KeptByAllPermits, KeptByPermits, MountsShow}
 use Rattle.vt_laws_worlds.specs.Worlds.Permits.{IsReachedDirectory, NamesWhatIsThere}
 use Rattle.vt_laws_worlds.proofs.worlds.PermitsSeen.{are_new, change_seen_in, copy_seen, elsewhere, gone_on, makes_none, new_at, odds_are_new, permits_keep_what_is_seen, written_seen}
@@ -35,11 +35,7 @@ module _ (world : World ℕ) (fresh : Fresh ℕ) (task : Task ℕ) (is : IsWorld
   shows = world_shows world is
 
   reached_place : (location : Location ℕ) → IsReachedDirectory world task location → IsPlace world location
-  reached_place location at = record {
-    listed = (and_parts (is_mount world location.mount)
-        (is_some (node_at nat_eq world location)) at.reached.there).0;
-    directory = at.directory;
-  }
+  reached_place location at = grind (arith, common_steps, and_parts)
 
   -- a change of a tree
   changing : (supply : Fresh ℕ) (middle : World ℕ) → AllShow middle → (location : Location ℕ) (change : Change ℕ)

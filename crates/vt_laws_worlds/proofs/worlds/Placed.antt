@@ -44,8 +44,7 @@ module _ (before after : World ℕ) (seen : KeepsWhatIsSeen before after) where
   pub opens_after : (location : Location ℕ) → OpensAt before location → OpensAt after location
   opens_after location at = record {
     located = located_after before after seen location at.located;
-    regular = file_after before after seen location
-        (mount_of_located before after seen location at.located) at.regular;
+    regular = file_after before after seen location (mount_of_located before after seen location at.located) at.regular;
   }
 
   pub placed_after : (task : Task ℕ) → IsPlaced before task → IsPlaced after task

@@ -118,11 +118,8 @@ module _ (world : World ℕ) (whole : IsWorld nat_eq world) (task : Task ℕ)
       (λ passed. (is, not_true (is_some place.object) passed.0)))
 
   pub old_leaf_walk_found : (path : List ℕ) → Ends IsOldPlace (old_leaf_walk nat_eq world task path)
-  old_leaf_walk_found path = ends_then IsOldPlace IsOldPlace (old_walk nat_eq world task path) _ (old_walk_found path)
-      (λ place is. ends_unless IsOldPlace place.steps ((
-        place.slash && not (is_directory_there nat_eq world place),
-        W3,
-      ) ∷ []) place (λ passed. is))
+  old_leaf_walk_found path =
+      grind (arith, common_steps, ends_then, old_walk, old_walk_found, ends_unless, is_directory_there)
 
   -- files
   no_link_there : (place : Place ℕ) → symlink_there nat_eq world place ≡ None → (object : Location ℕ)

@@ -1,7 +1,8 @@
 -- Directories at which a task may come to stand: the root of a mount of its namespace, also through mounts over it,
 -- and the
 -- copies of where it stood.
-use Rattle.std.proofs.Common.{◌≡◌, refl, sym, ap, subst, ◌∙◌, inl, inr, ⊎_elim, ℕ, zero, suc, nat_eq, eqb-true, eq-eqb, Bool, true, false, cond, true≢false, find, filter, length, List, [], ◌∷◌, ◌==◌, Option, Some, None, is_some, map, option_map}
+use Rattle.std.proofs.Common.{arith, ◌≡◌, refl, sym, ap, subst, ◌∙◌, inl, inr, ⊎_elim, ℕ, zero, suc, nat_eq, eqb-true, eq-eqb, Bool, true, false, cond, true≢false, find, filter, length, List, [], ◌∷◌, ◌==◌, Option, Some, None, is_some, map, option_map}
+use Rattle.std.proofs.lemmas.Grind.{common_steps}
 use Rattle.std.specs.Prelude.{if◌then◌else◌, option_to_list, unwrap_or}
 use Rattle.std.specs.List.{list_all}
 use Rattle.std.proofs.lemmas.Bool.{and_from, and_parts}
@@ -9,7 +10,7 @@ use Rattle.vt_spec.specs.Lists.{Fresh, chain, evens, holds_of, last_or, odds}
 use Rattle.vt_spec.specs.Machine.Mounts.{Location, Mount, child_at, numbers_by, root_of, stands_at, topmost}
 use Rattle.vt_spec.specs.Machine.Namespaces.{copied_mount, is_copied, location_on_copy, moved_location, namespace_root, pivoted_location, pivoted_task, unshared, unshared_task}
 use Rattle.vt_spec.specs.Machine.World.{Namespace, Task, World, filesystem_numbered, is_directory_at, mount_at, mount_numbered, mounts_of, node_at, root_mount}
-use Rattle.vt_spec.specs.Machine.Invariants.{IsWorld, Stands, has_its_root, has_one_root, is_listed, is_root_mount}
+use Rattle.vt_spec.specs.Machine.Invariants.{IsWorld, Stands, has_one_root, is_listed, is_root_mount}
 use Rattle.vt_spec.specs.Machine.Invariants.Stands.{at_root, on_parent}
 use Rattle.vt_spec.specs.Tree.{is_directory_node}
 use Rattle.vt_spec.proofs.Lists.{Among, among-append_right, among-filter, among-from_filter, among-from_map, among-map, among_from_all, among_from_list_all, among_numbers, any_among, chain_ends, chain_goes_on, is_among_numbers, none_among}
@@ -76,11 +77,7 @@ module _ (world : World ℕ) (is : IsWorld nat_eq world) where
 
   pub root_is_directory : (mount : Mount ℕ) → Among mount world.mounts
       → is_directory_at nat_eq world (root_of mount) ≡ true
-  root_is_directory mount m = ap (λ (x : Mount ℕ). is_directory_node
-      ((filesystem_numbered nat_eq world x.filesystem).files.tree.node mount.root)) (itself mount m)
-      ∙ (and_parts (is_directory_node ((filesystem_numbered nat_eq world mount.filesystem).files.tree.node mount.root))
-      (list_all (is_directory_at nat_eq world) (option_to_list mount.mount_point))
-      (among_from_list_all (has_its_root nat_eq world) world.mounts is.roots mount m)).0
+  root_is_directory mount m = grind (arith, common_steps, itself, and_parts, among_from_list_all)
 
   -- the root of a mount of the namespace
   pub root_stands : (own : ℕ) (mount : Mount ℕ) → Among mount world.mounts → is_in own mount ≡ true

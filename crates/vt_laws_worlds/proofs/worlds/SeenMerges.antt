@@ -16,7 +16,7 @@ use Rattle.vt_spec.specs.Machine.Locked.{of_overlay, overlay_or}
 use Rattle.vt_spec.specs.Machine.Mounts.{Location, Mount, mount_in}
 use Rattle.vt_spec.specs.Machine.Run.{Serves}
 use Rattle.vt_spec.specs.Machine.World.{Filesystem, Layer, Overlay, World, files_at, filesystem_at, filesystem_numbered, is_directory_at, is_overlay, layers_of, mount_at, node_at, replaced_if_numbered, with_filesystem}
-use Rattle.vt_spec.specs.Tree.{Node, entries_in, entry_named, is_directory_node, kind_of, node_with_bytes}
+use Rattle.vt_spec.specs.Tree.{Node, entries_in, entry_named, kind_of, node_with_bytes}
 use Rattle.vt_spec.proofs.Lists.{Among, all_from_among, among_from_list_all}
 use Rattle.vt_laws_trees.proofs.trees.ChangesNodes.{part_stays}
 use Rattle.vt_laws_trees.proofs.trees.TreesOfWorlds.{number_numbered, numbered, numbered_all}
@@ -182,14 +182,7 @@ module _ (fresh : Fresh ℕ) (stack : Stack ℕ) (merge : Merge ℕ) (vacant : I
 
   removed_keeps : (directory : ℕ) (name : List ℕ) (object : ℕ)
       → Keeps merge.upper (merge_without_name nat_eq fresh stack merge directory name object).upper
-  removed_keeps directory name object =
-      let left = name_left_by nat_eq (is_some
-      (shown_in_lowers_at nat_eq stack merge directory name)) fresh stack merge.upper (upper_of merge directory) name in
-      let last = (merge_without_name nat_eq fresh stack merge directory name object).upper in
-      keeps_both merge.upper left last
-      (left_keeps (is_some (shown_in_lowers_at nat_eq stack merge directory name)) fresh stack merge.upper
-      (upper_of merge directory) name vacant)
-      (keeps_kinds left last (kinds_emptied left (upper_directory_named merge directory name)))
+  removed_keeps directory name object = grind (arith, common_steps, keeps_both, left_keeps, keeps_kinds, kinds_emptied)
 
   moved_keeps : (from : ℕ) (old : List ℕ) (to : ℕ) (name : List ℕ) (object : ℕ)
       → Keeps merge.upper (merge_with_moved nat_eq fresh stack merge from old to name object).upper
@@ -412,14 +405,7 @@ module _ (fresh : Fresh ℕ) (world : World ℕ) (elsewhere : UppersAreElsewhere
   there_in : (new : Filesystem ℕ) → new.number ≡ place → new.files ≡ changed nat_eq before_it.files Made
       → kind_seen ((numbered place (map (replaced_if_numbered nat_eq new) world.filesystems)).files.tree.node number)
       ≡ Some (kind_of node.content)
-  there_in new same files = ap (λ n. kind_seen ((numbered n
-      (map (replaced_if_numbered nat_eq new) world.filesystems)).files.tree.node number)) (sym same) ∙ ⊎_elim
-      (λ found. ap (λ (f : Filesystem ℕ). kind_seen (f.files.tree.node number)) found
-      ∙ ap (λ (files : FileTree ℕ). kind_seen (files.tree.node number)) files
-      ∙ made_kind before_it.files location.node name number node) (λ none. absurd (true≢false (sym is_directory
-      ∙ ap (λ n. is_directory_node ((numbered n world.filesystems).files.tree.node location.node)) (sym same)
-      ∙ ap (λ (f : Filesystem ℕ). is_directory_node (f.files.tree.node location.node)) none.1)))
-      (found_new new world.filesystems)
+  there_in new same files = grind (arith, common_steps, kind_seen, numbered, made_kind, true≢false, found_new)
 
   abbrev Is : World ℕ → Type 0
   Is later = kind_seen (inode_in later place number) ≡ Some (kind_of node.content)

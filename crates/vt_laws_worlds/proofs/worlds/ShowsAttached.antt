@@ -177,8 +177,7 @@ module _ (world : World ℕ) (new : Copies ℕ) (place : Location ℕ) (moves : 
       → ShowsWell after (copy part origin)
   copy_shows part m origin n = record {
     root = roots origin n;
-    mount_point = λ at e.
-        subst (IsPlace after) (same_Some (copy_mount_point nat_eq new tree part.number origin) at e)
+    mount_point = λ at e. subst (IsPlace after) (same_Some (copy_mount_point nat_eq new tree part.number origin) at e)
         (by (is_top nat_eq tree origin.number) refl origin.mount_point refl);
   }
     where

@@ -1,13 +1,13 @@
 -- The groups that a line names are at most 32.
 use Rattle.std.proofs.Common.{arith, ◌≡◌, refl, sym, ap, ◌∙◌, ℕ, Bool, true, false, cond, List, [], ◌∷◌, Option, Some, None, option_map}
 use Rattle.std.proofs.lemmas.Grind.{common_steps}
-use Rattle.std.specs.Prelude.{codes, length, nat_le, unwrap_or, ⊤}
+use Rattle.std.specs.Prelude.{codes, length, nat_le, ⊤}
 use Rattle.std.specs.Str.{bytes_eq}
 use Rattle.vt_spec.specs.PathText.{parts}
-use Rattle.vt_spec.specs.Language.Calls.{Access, Call, CapabilityWord, Creation, plain_flags}
-use Rattle.vt_spec.specs.Language.Calls.Call.{Fork, Mkdir, MountOverlay, MountPlain, OpenFile}
+use Rattle.vt_spec.specs.Language.Calls.{Access, Call, CapabilityWord, Creation}
+use Rattle.vt_spec.specs.Language.Calls.Call.{Fork, Mkdir, MountOverlay, OpenFile}
 use Rattle.vt_spec.specs.Lists.{then_some, when}
-use Rattle.vt_spec.specs.Language.Script.{access_word, bytes_word, descriptor_word, flags_word, kept_or_identity, mode_word, offset_word, options_of, path_word, task_word, type_word, yes_or_no_word, Grammar, Request, Version, Who, asked_by, attribute_words, call_read, capabilities_word, call_words, chown_call, creation_words, descriptor_words, each_of, fork_words, groups_word, identity_word, may_have, mount_words, mounting_words, naming_words, no_more, request_of, request_of_texts, second_words, task_words, token_text, raw_tokens, who_of, word_then}
+use Rattle.vt_spec.specs.Language.Script.{access_word, bytes_word, descriptor_word, flags_word, kept_or_identity, mode_word, offset_word, path_word, task_word, type_word, yes_or_no_word, Grammar, Request, Version, Who, asked_by, attribute_words, call_read, capabilities_word, call_words, chown_call, creation_words, descriptor_words, each_of, fork_words, groups_word, identity_word, may_have, mount_words, mounting_words, naming_words, no_more, request_of, request_of_texts, second_words, task_words, token_text, raw_tokens, who_of, word_then}
 use Rattle.vt_spec.specs.Language.Script.Request.{Asking, Calling}
 use Rattle.vt_spec.specs.Language.Script.Version.{One, Two}
 use Rattle.vt_spec.specs.Language.Script.Who.{Nobody, Someone}
@@ -106,13 +106,7 @@ few_open path access None = record { passes = refl }
 few_open path access (Some how) = record { passes = refl }
 
 few_mount : (version : Version) (kind : List ℕ) (words : List (List ℕ)) → Few (mount_words version kind words)
-few_mount version kind words =
-    few_if (bytes_eq kind (codes "plain")) _ _ (few_word path_word _ words (λ one rest path e.
-    few_may_have (flags_word version) (λ given. MountPlain path (unwrap_or given plain_flags)) rest (λ o. refl)))
-    (few_if (bytes_eq kind (codes "overlay")) _ _
-    (few_word path_word _ words (λ one rest path e. few_word bytes_word _ rest (λ two more options f.
-    few_may_have (flags_word version)
-    (λ given. MountOverlay path (options_of options) (unwrap_or given plain_flags)) more (λ o. refl)))) none)
+few_mount version kind words = grind (arith, common_steps, few_if, few_word, few_may_have, none)
 
 -- a path, or two
 few_path : (read : List ℕ → Option (List ℕ)) (call : List ℕ → Call) (words : List (List ℕ))

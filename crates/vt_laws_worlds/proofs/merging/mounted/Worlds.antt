@@ -1,4 +1,5 @@
 -- What `mount overlay` leaves is a world with all invariants.
+use Rattle.std.proofs.lemmas.Grind.{common_steps}
 use Rattle.std.proofs.Common.{◌≡◌, refl, sym, ap, subst, ◌∙◌, true≢false, arith, inl, inr, ⊎_elim, ℕ, ◌+◌, ◌*◌, nat_eq, eq-eqb, Bool, true, false, not, cond, List, [], ◌∷◌, ◌++◌, filter, flat_map, map, Option, Some, None, is_some, unwrap_or}
 use Rattle.std.specs.List.{cons_option, filter_map, list_all}
 use Rattle.std.specs.Prelude.{option_map, ⊤}
@@ -145,11 +146,7 @@ module _ (world : World ℕ) (is : IsWorld nat_eq world) (fresh : Fresh ℕ) (se
 
     -- its numbers are even ones
     made_even : (number : ℕ) → Among number (used_by_filesystem new) → (k : ℕ) × (number ≡ evens fresh k)
-    made_even number (inl e) = (2 * 0, e)
-    made_even number (inr m) =
-        let found = one_of (odds (evens fresh)) new.files.numbers (once_are (odds (evens fresh)) _
-        (made_are (odds (evens fresh)) (is_some overlay.upper) opened objects objects)) number m in
-        (2 * found.0 + 1, found.1)
+    made_even number known = grind (arith, common_steps, one_of, once_are, made_are)
 
     not_used : (k number : ℕ) → Among number (used_by_filesystem new) → nat_eq (odds fresh k) number ≡ false
     not_used k number m =

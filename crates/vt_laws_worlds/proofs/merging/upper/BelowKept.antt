@@ -1,8 +1,9 @@
 -- What lower layers show in two overlays over them: where that is the same, and where it is nothing.
-use Rattle.std.proofs.Common.{◌≡◌, refl, sym, ap, subst, ◌∙◌, true≢false, ℕ, suc, ◌+◌, nat_eq, Bool, true, false, cond, List, [], ◌∷◌, ◌++◌, map, Option, Some, None, is_some, option_and_then, slice_get}
+use Rattle.std.proofs.Common.{arith, ◌≡◌, refl, sym, ap, subst, ◌∙◌, true≢false, ℕ, suc, ◌+◌, nat_eq, Bool, true, false, cond, List, [], ◌∷◌, ◌++◌, map, Option, Some, None, is_some, option_and_then}
+use Rattle.std.proofs.lemmas.Grind.{common_steps}
 use Rattle.std.proofs.lemmas.List.{append-nil}
 use Rattle.std.specs.List.{list_any}
-use Rattle.vt_spec.specs.Lists.{prefixes, holds_of, then_some}
+use Rattle.vt_spec.specs.Lists.{prefixes, then_some}
 use Rattle.vt_spec.specs.Machine.CopyUp.{Merge, Stack, hides_directory, is_directory_shown, is_in_upper, upper_of}
 use Rattle.vt_spec.specs.Machine.Invariants.{SameObject, number_at_path}
 use Rattle.vt_spec.specs.Machine.Layers.{OpenLayer, Shown, shown, view_of}
@@ -10,7 +11,7 @@ use Rattle.vt_spec.specs.Machine.Merging.{layer_node}
 use Rattle.vt_spec.specs.Machine.Views.{View, cuts, hides, node_led, shown_from, shown_over}
 use Rattle.vt_spec.specs.Machine.World.{upper_object}
 use Rattle.vt_spec.specs.Machine.World.Real.{Upper}
-use Rattle.vt_spec.specs.Tree.{Node, Tree, is_directory_node}
+use Rattle.vt_spec.specs.Tree.{Tree, is_directory_node}
 use Rattle.vt_spec.specs.TreeInvariant.{entry_at, led}
 use Rattle.std.proofs.lemmas.Option.{same_Some}
 use Rattle.vt_spec.proofs.Options.{none_from_not_some, none_is_some}
@@ -80,12 +81,7 @@ module _ (stack : Stack ℕ) (m : Merge ℕ) (whole : IsWhole stack m) where
   -- the inode of a directory that lower layers show
   shown_node : (layers : List (OpenLayer ℕ)) (seen : Shown ℕ) → is_directory_shown layers (Some seen) ≡ true
       → is_directory_node (layer_node layers seen) ≡ true
-  shown_node layers seen e = by (slice_get layers seen.layer) e
-    where
-      by : (o : Option (OpenLayer ℕ)) → holds_of (λ layer. is_directory_node (layer.tree.node seen.object)) o ≡ true
-          → is_directory_node (then_some o (λ layer. layer.tree.node seen.object)) ≡ true
-      by None e = e
-      by (Some layer) e = e
+  shown_node layers seen e = grind (arith, common_steps)
 
   abbrev seen_in : (way : List (List ℕ)) → ShowsDirectory 1 stack.lowers way → Shown ℕ
   seen_in way shows = record { layer = 1 + shows.place; object = shows.object }
@@ -107,19 +103,7 @@ module _ (stack : Stack ℕ) (m : Merge ℕ) (whole : IsWhole stack m) where
       at : (o : Option ℕ) → number_at_path m.files way ≡ o
           → SameObject (then_some o m.files.tree.node) (layer_node (layers_under stack m) (seen_in way shows))
           → (directory : ℕ) × LeadsToDirectory m way directory
-      at None e same = absurd (no (layer_node (layers_under stack m) (seen_in way shows)) is_directory same)
-        where
-          no : (node : Option (Node ℕ)) → is_directory_node node ≡ true → SameObject None node → ⊥
-          no None d s = true≢false (sym d)
-          no (Some node) d s = s
-      at (Some n) e same = (
-        n,
-        (
-          e,
-          sym (same_directory (m.files.tree.node n) (layer_node (layers_under stack m) (seen_in way shows)) same)
-              ∙ is_directory,
-        ),
-      )
+      at o e same = grind (arith, common_steps, is_directory, true≢false, same_directory)
 
       top : (way : List (List ℕ)) → cuts view way ≡ false → (u : ℕ) → led m.upper.tree stack.directory way ≡ Some u
           → is_directory_node (m.upper.tree.node u) ≡ true

@@ -1,5 +1,6 @@
 -- What lower layers show after copies, a new object, a further name, and bytes, owner and mode that are set.
-use Rattle.std.proofs.Common.{◌≡◌, ◌≢◌, refl, sym, ap, subst, ◌∙◌, true≢false, eq-eqb, ne_eqb, ℕ, nat_eq, Bool, true, false, cond, List, [], ◌∷◌, ◌++◌, Option, Some, None, is_some}
+use Rattle.std.proofs.Common.{arith, ◌≡◌, ◌≢◌, refl, sym, ap, subst, ◌∙◌, true≢false, eq-eqb, ne_eqb, ℕ, nat_eq, Bool, true, false, cond, List, [], ◌∷◌, ◌++◌, Option, Some, None, is_some}
+use Rattle.std.proofs.lemmas.Grind.{common_steps}
 use Rattle.vt_spec.specs.FileTree.{FileTree}
 use Rattle.vt_spec.specs.Language.Changes.{changed, content_with_parent, node_with_mark}
 use Rattle.vt_spec.specs.Language.Changes.Change.{AddName, Make, SetAttr, SetBytes}
@@ -101,11 +102,8 @@ module _ (fresh : Fresh ℕ) (stack : Stack ℕ) (merge : Merge ℕ) (whole : Is
 pub not_named : (files : FileTree ℕ) (d : ℕ) (w : List ℕ) (way front rest : List (List ℕ)) → front ++ rest ≡ way
     → goes_through (view_in files files.tree.root) d w way ≡ false
     → names_entry (view_in files files.tree.root) d w front ≡ false
-not_named files d w way [] rest e none = refl
-not_named files d w way (word ∷ front) rest e none =
-    fails (names_entry (view_in files files.tree.root) d w (word ∷ front))
-    (λ t. true≢false (sym (prefix_passes (names_entry (view_in files files.tree.root) d w) way (word ∷ front) rest e
-    (cons_is_not_empty word front) t) ∙ none))
+not_named files d w way front rest e none =
+    grind (arith, common_steps, none, fails, true≢false, prefix_passes, cons_is_not_empty)
 
 pub marked_hides : (files : FileTree ℕ) (c : ℕ) (b : Bool) → b ≡ true → is_some (files.tree.node c) ≡ true
     → hides ((with_mark nat_eq b files c).tree.node c) ≡ true

@@ -1,7 +1,8 @@
 -- What lower layers show after a name was removed, and after a move.
-use Rattle.std.proofs.Common.{◌≡◌, ◌≢◌, refl, sym, ap, subst, ◌∙◌, true≢false, eqb-true, eq-eqb, ne_eqb, ℕ, nat_eq, Bool, true, false, cond, List, [], ◌∷◌, ◌++◌, Option, Some, None, is_some, option_and_then}
+use Rattle.std.proofs.Common.{arith, ◌≡◌, ◌≢◌, refl, sym, ap, subst, ◌∙◌, true≢false, eqb-true, eq-eqb, ne_eqb, ℕ, nat_eq, Bool, true, false, cond, List, [], ◌∷◌, ◌++◌, Option, Some, None, is_some, option_and_then}
+use Rattle.std.proofs.lemmas.Grind.{common_steps}
 use Rattle.vt_spec.specs.FileTree.{FileTree}
-use Rattle.vt_spec.specs.Language.Changes.{changed, node_with_mark, node_without_entry, with_inode, without_parent}
+use Rattle.vt_spec.specs.Language.Changes.{changed, node_with_mark, node_without_entry, with_inode}
 use Rattle.vt_spec.specs.Language.Changes.Change.{Move}
 use Rattle.vt_spec.specs.Lists.{Fresh, then_some}
 use Rattle.vt_spec.specs.Machine.CopyUp.{Merge, Stack, hides_directory, merge_with_moved, merge_without_name, name_left_by, shown_in_lowers_at, upper_directory_named, upper_of, whiteout_of, with_mark, without_contents}
@@ -9,7 +10,7 @@ use Rattle.vt_spec.specs.Machine.Invariants.{number_at_path}
 use Rattle.vt_spec.specs.Machine.Views.{hides}
 use Rattle.vt_spec.specs.Machine.World.{upper_object}
 use Rattle.vt_spec.specs.Machine.World.Real.{Upper}
-use Rattle.vt_spec.specs.Tree.{entries_in, entry_named, is_directory_node, node_with_entry}
+use Rattle.vt_spec.specs.Tree.{entry_named, is_directory_node, node_with_entry}
 use Rattle.vt_spec.specs.TreeInvariant.{entry_at, led}
 use Rattle.vt_spec.proofs.Nodes.{node_other}
 use Rattle.vt_spec.proofs.Trees.{led-append}
@@ -169,11 +170,7 @@ module _ (fresh : Fresh ℕ) (stack : Stack ℕ) (m : Merge ℕ) (whole : IsWhol
 
   number_is : (path : List (List ℕ))
       → number_at_path then_moved.files path ≡ led then_moved.files.tree m.files.tree.root path
-  number_is path = ap (λ r. led then_moved.files.tree r path) (by (entry_named new (entries_in (m.files.tree.node t))))
-    where
-      by : (x : Option ℕ) → (without_parent nat_eq m.files x).tree.root ≡ m.files.tree.root
-      by None = refl
-      by (Some k) = refl
+  number_is path = grind (arith, common_steps)
 
   abbrev through_old : List (List ℕ) → Bool
   through_old path = goes_through (view_in m.files m.files.tree.root) f old path

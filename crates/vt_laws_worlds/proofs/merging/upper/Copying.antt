@@ -1,4 +1,5 @@
 -- Copies of what a path leads to, front by front.
+use Rattle.std.proofs.lemmas.Grind.{common_steps}
 use Rattle.std.proofs.Common.{arith, ◌≡◌, ◌≤◌, refl, sym, ap, subst, ◌∙◌, true≢false, ℕ, zero, suc, ◌+◌, nat_eq, Bool, true, false, List, [], ◌∷◌, ◌++◌, length, map, reverse, Option, Some, None, is_some, option_and_then, unwrap_or}
 use mathlib.Core.List.{reverse-cons}
 use Rattle.vt_spec.specs.FileTree.{FileTree, a_name, named_parent, is_kind_in}
@@ -19,16 +20,14 @@ use Rattle.vt_laws_trees.proofs.overlays.steps.WholeNames.{above_named, named_ab
 use Rattle.vt_laws_trees.proofs.overlays.steps.WholeParts.{real_by}
 use Rattle.vt_laws_worlds.specs.Merging.UpperChanges.{copied_at, copied_to, copy_node, copy_over, led_above, node_seen, object_above}
 use Rattle.vt_spec.specs.declared.attributes.Kind.TheVariants.{White}
-use Rattle.vt_spec.specs.Machine.Layers.{view_of}
-use Rattle.vt_spec.specs.Machine.World.{Real, upper_object}
+use Rattle.vt_spec.specs.Machine.World.{Real}
 use Rattle.vt_spec.specs.Language.Changes.{changed, with_inode}
 use Rattle.vt_spec.specs.Language.Changes.Change.{Make}
-use Rattle.vt_laws_trees.specs.Layers.Layers.Views.{view_in}
 use Rattle.vt_laws_trees.proofs.layers.views.After.{on_top}
 use Rattle.std.proofs.lemmas.Slice.Eq.{bytes_eq-Decides}
 use Rattle.vt_laws_trees.proofs.overlays.changes.WholeTogether.{stands_above}
 use Rattle.vt_spec.specs.Tree.{Content, Node, Tree}
-use Rattle.vt_spec.specs.Tree.Content.{Directory, Regular, Symlink, Whiteout}
+use Rattle.vt_spec.specs.Tree.Content.{Directory}
 use Rattle.std.proofs.lemmas.List.{length-reverse, map-append}
 use Rattle.std.proofs.lemmas.Option.{same_Some}
 use Rattle.vt_spec.proofs.Options.{none_is_some}
@@ -201,13 +200,8 @@ module _ (fresh : Fresh ℕ) (stack : Stack ℕ) (merge : Merge ℕ) (whole : Is
 
       at : (u : ℕ) (white : Bool) → is_kind_in White (merge.upper.tree.node u) ≡ white
           → led_above stack merge.upper path ≡ Some u → ⊥
-      at u true e l = no_real (merge.real object) refl
-          (real_here ∙ ap (real_by path) (on_top (view_in merge.upper stack.directory)
-          (map view_of stack.lowers) path u true l e))
-      at u false e l =
-          let found = above_named stack merge whole path u l e in
-          true≢false (sym (ap (λ r. is_some (upper_object r)) found.2)
-          ∙ ap (λ n. is_some (upper_object (merge.real n))) (same_Some found.0 object (sym found.1 ∙ leads)) ∙ low)
+      at u white e l =
+          grind (arith, common_steps, no_real, real_here, real_by, on_top, above_named, true≢false, same_Some)
 
       by : (o : Option ℕ) → led_above stack merge.upper path ≡ o → o ≡ None
       by None e = refl
@@ -220,22 +214,7 @@ module _ (fresh : Fresh ℕ) (stack : Stack ℕ) (merge : Merge ℕ) (whole : Is
 -- what is copied is what is shown
 pub same_copied : (parent : ℕ) (content other : Content ℕ) → same_content content other ≡ true
     → copied_content parent content ≡ copied_content parent other
-same_copied parent (Directory p e o) (Directory q f r) s = refl
-same_copied parent (Directory p e o) (Regular bytes) s = absurd (true≢false (sym s))
-same_copied parent (Directory p e o) (Symlink text) s = absurd (true≢false (sym s))
-same_copied parent (Directory p e o) Whiteout s = absurd (true≢false (sym s))
-same_copied parent (Regular bytes) (Directory q f r) s = absurd (true≢false (sym s))
-same_copied parent (Regular bytes) (Regular other) s = ap (λ b. Regular b) ((bytes_eq-Decides bytes other).0 s)
-same_copied parent (Regular bytes) (Symlink text) s = absurd (true≢false (sym s))
-same_copied parent (Regular bytes) Whiteout s = absurd (true≢false (sym s))
-same_copied parent (Symlink text) (Directory q f r) s = absurd (true≢false (sym s))
-same_copied parent (Symlink text) (Regular other) s = absurd (true≢false (sym s))
-same_copied parent (Symlink text) (Symlink other) s = ap (λ b. Symlink b) ((bytes_eq-Decides text other).0 s)
-same_copied parent (Symlink text) Whiteout s = absurd (true≢false (sym s))
-same_copied parent Whiteout (Directory q f r) s = absurd (true≢false (sym s))
-same_copied parent Whiteout (Regular other) s = absurd (true≢false (sym s))
-same_copied parent Whiteout (Symlink text) s = absurd (true≢false (sym s))
-same_copied parent Whiteout Whiteout s = absurd (true≢false (sym s))
+same_copied parent content other s = grind (arith, common_steps, true≢false, bytes_eq-Decides)
 
 -- an object is copied under its name in a directory that stands in the upper layer
 module _ (fresh : Fresh ℕ) (stack : Stack ℕ) (m : Merge ℕ) (whole : IsWhole stack m) (front : List (List ℕ))
@@ -301,11 +280,7 @@ copied_longer fresh stack upper path name = ap (folded (copied_at fresh stack) u
 -- where the upper layer has the object of a path, nothing is copied
 led_before : (tree : Tree ℕ) (from : ℕ) (path : List (List ℕ)) (name : List ℕ)
     → is_some (led tree from (path ++ name ∷ [])) ≡ true → is_some (led tree from path) ≡ true
-led_before tree from path name e = by (led tree from path) (sym (ap is_some (last_name tree from path name)) ∙ e)
-  where
-    by : (o : Option ℕ) → is_some (option_and_then (λ d. entry_at tree d name) o) ≡ true → is_some o ≡ true
-    by None e = absurd (true≢false (sym e))
-    by (Some d) e = refl
+led_before tree from path name e = grind (arith, common_steps, last_name, true≢false)
 
 pub none_copied : (fresh : Fresh ℕ) (stack : Stack ℕ) (upper : FileTree ℕ) (steps : ℕ) (path : List (List ℕ))
     → length path ≡ steps → is_some (led_above stack upper path) ≡ true → copied_to fresh stack upper path ≡ upper

@@ -1,4 +1,5 @@
 -- An object at a path is copied with the fronts of that: what leads where, and which numbers are still new.
+use Rattle.std.proofs.lemmas.Grind.{common_steps}
 use Rattle.std.proofs.Common.{arith, ◌≡◌, ◌≢◌, ◌<◌, refl, sym, ap, subst, ◌∙◌, true≢false, ℕ, zero, suc, ◌+◌, nat_eq, ne_eqb, Bool, true, false, cond, List, [], ◌∷◌, ◌++◌, length, Option, Some, None, is_some, option_and_then, unwrap_or}
 use Rattle.vt_spec.specs.FileTree.{FileTree, a_name}
 use Rattle.vt_spec.specs.Language.Changes.{changed, with_inode}
@@ -220,13 +221,7 @@ module _ (stack : Stack ℕ) (merge : Merge ℕ) (whole : IsWhole stack merge) (
   pub one_way : (path other : List (List ℕ)) → is_some (merge.files.tree.node object) ≡ true
       → number_at_path merge.files path ≡ Some object → number_at_path merge.files other ≡ Some object → path ≡ other
   one_way path other there leads other_leads =
-      let here = below_is path there leads in
-      let too = below_is other there other_leads in
-      ap (way_in path) (same_Some _ _ (sym here.1 ∙ too.1))
-    where
-      way_in : List (List ℕ) → Real ℕ → List (List ℕ)
-      way_in default (Upper u) = default
-      way_in default (Lower layer way) = way
+      grind (arith, common_steps, leads, other_leads, here, below_is, same_Some)
 
 -- An object at a path is copied with what is shown at its fronts.
 module _ (fresh : Fresh ℕ) (distinct : (j k : ℕ) → fresh j ≡ fresh k → j ≡ k) (stack : Stack ℕ) (merge : Merge ℕ)

@@ -1,16 +1,17 @@
 -- What copies make of the upper layer, for an object at a path or without a name, and what lower layers show beside
 -- them.
-use Rattle.std.proofs.Common.{arith, ◌≡◌, ◌≢◌, refl, sym, ap, subst, ◌∙◌, true≢false, ℕ, suc, ◌+◌, nat_eq, eq-eqb, ne_eqb, Bool, true, false, cond, not, List, [], ◌∷◌, ◌++◌, length, map, Option, Some, None, is_some, slice_get, unwrap_or}
+use Rattle.std.proofs.lemmas.Grind.{common_steps}
+use Rattle.std.proofs.Common.{arith, ◌≡◌, ◌≢◌, refl, sym, ap, subst, ◌∙◌, true≢false, ℕ, suc, ◌+◌, nat_eq, eq-eqb, ne_eqb, Bool, true, false, cond, not, List, [], ◌∷◌, ◌++◌, length, map, Option, Some, None, is_some, unwrap_or}
 use Rattle.vt_spec.specs.FileTree.{FileTree, a_name, is_kind_in}
 use Rattle.vt_spec.specs.Language.Changes.{with_inode}
-use Rattle.vt_spec.specs.Lists.{Fresh, without_last, holds_of, then_some, when}
+use Rattle.vt_spec.specs.Lists.{Fresh, without_last, then_some, when}
 use Rattle.vt_spec.specs.Machine.CopyUp.{Merge, Stack, copied_content, copied_each, copied_up, copy_named, copy_of, copy_parent, is_directory_shown, is_in_upper, line_by, upper_of}
 use Rattle.vt_spec.specs.Machine.Invariants.{SameObject, number_at_path}
 use Rattle.vt_spec.specs.Machine.Layers.{OpenLayer, Shown, view_of}
 use Rattle.vt_spec.specs.Machine.Views.{View, cuts, shown_from, shown_over}
 use Rattle.vt_spec.specs.Machine.World.{Real, upper_object}
 use Rattle.vt_spec.specs.Machine.World.Real.{Lower, Upper}
-use Rattle.vt_spec.specs.Tree.{Node, is_directory_node}
+use Rattle.vt_spec.specs.Tree.{Node}
 use Rattle.vt_laws_trees.specs.Layers.Layers.Views.{view_in}
 use Rattle.vt_laws_trees.proofs.layers.layers.UpperLine.{is_reached_in, named_so}
 use Rattle.vt_laws_trees.proofs.layers.layers.UpperShown.{without_last_of_longer, way_to}
@@ -168,13 +169,7 @@ directory_below_any one other lowers path false = by (shown_from 1 (map view_of 
   where
     by : (o : Option (Shown ℕ)) → ((seen : Shown ℕ) → o ≡ Some seen → (n : ℕ) × (seen.layer ≡ suc n))
         → is_directory_shown (one ∷ lowers) o ≡ is_directory_shown (other ∷ lowers) o
-    by None low = refl
-    by (Some seen) low =
-        let place = low seen refl in
-        ap (λ n. holds_of (λ layer. is_directory_node (layer.tree.node seen.object))
-        (slice_get (one ∷ lowers) n)) place.1
-        ∙ sym (ap (λ n. holds_of (λ layer. is_directory_node (layer.tree.node seen.object))
-        (slice_get (other ∷ lowers) n)) place.1)
+    by o low = grind (arith, common_steps, low)
 
 module _ (stack : Stack ℕ) (one other : FileTree ℕ) (way : List (List ℕ)) (name : List ℕ)
     (cut : cuts (view_in other stack.directory) way ≡ cuts (view_in one stack.directory) way) where

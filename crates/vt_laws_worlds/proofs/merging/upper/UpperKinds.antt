@@ -1,5 +1,6 @@
 -- What each kind of change makes of the upper layer.
-use Rattle.std.proofs.Common.{◌≡◌, refl, sym, ap, ◌∙◌, true≢false, ℕ, ◌+◌, ◌*◌, nat_eq, eqb-true, Bool, true, false, cond, if◌then◌else◌, List, [], ◌∷◌, ◌++◌, Option, Some, None, is_some, option_and_then, unwrap_or}
+use Rattle.std.proofs.Common.{arith, ◌≡◌, refl, sym, ap, ◌∙◌, true≢false, ℕ, ◌+◌, ◌*◌, nat_eq, eqb-true, Bool, true, false, cond, if◌then◌else◌, List, [], ◌∷◌, ◌++◌, Option, Some, None, is_some, option_and_then, unwrap_or}
+use Rattle.std.proofs.lemmas.Grind.{common_steps}
 use Rattle.vt_spec.specs.FileTree.{FileTree}
 use Rattle.vt_spec.specs.Language.Changes.{changed, changed_node, content_with_parent, node_with_attr, node_with_mark, with_moved}
 use Rattle.vt_spec.specs.Language.Changes.Change.{AddName, Make}
@@ -119,13 +120,7 @@ real_stays fresh k m (first ∷ list) object stands =
   where
     by : (o : Option (Node ℕ)) (b : Bool) → is_in_upper m first ≡ b
         → (copy_of nat_eq m first (fresh k) o b).real object ≡ m.real object
-    by None b e = refl
-    by (Some node) true e = refl
-    by (Some node) false e = at (nat_eq object first) refl
-      where
-        at : (c : Bool) → nat_eq object first ≡ c → cond c (Some (Upper (fresh k))) (m.real object) ≡ m.real object
-        at true same = absurd (true≢false (sym stands ∙ ap (is_in_upper m) (eqb-true object first same) ∙ e))
-        at false same = refl
+    by o b e = grind (arith, common_steps, true≢false, stands, eqb-true)
 
 -- New numbers, in parts
 pub even_new : (fresh : Fresh ℕ) (upper : FileTree ℕ) → AreNew fresh upper → AreNew (evens fresh) upper
@@ -164,11 +159,7 @@ module _ (fresh : Fresh ℕ) (stack : Stack ℕ) (merge : Merge ℕ) (whole : Is
   still_below : (way : List (List ℕ)) (directory : ℕ) (name : List ℕ) → LeadsToDirectory merge way directory
       → (seen_below stack c.upper (way ++ name ∷ []) ≡ seen_below stack merge.upper (way ++ name ∷ []))
       × (directory_below stack c.upper (way ++ name ∷ []) ≡ directory_below stack merge.upper (way ++ name ∷ []))
-  still_below way directory name is =
-      let same = copies_hide_nothing fresh stack merge whole new path way directory name some_there is in (
-        ap (λ u. seen_below stack u (way ++ name ∷ [])) upper_is ∙ same.0,
-        ap (λ u. directory_below stack u (way ++ name ∷ [])) upper_is ∙ same.1,
-      )
+  still_below way directory name is = grind (arith, common_steps, copies_hide_nothing, some_there, upper_is)
 
 -- Bytes, owner and mode, and mark
 set_above : (fresh : Fresh ℕ) (stack : Stack ℕ) (merge : Merge ℕ) → IsWhole stack merge → AreNew fresh merge.upper

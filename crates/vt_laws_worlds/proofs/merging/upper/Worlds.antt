@@ -1,5 +1,6 @@
 -- The upper layer's files after a permitted call.
-use Rattle.std.proofs.Common.{◌≡◌, ◌≢◌, refl, sym, ap, subst, ◌∙◌, true≢false, ℕ, nat_eq, List, flat_map, map, Some, None, unwrap_or}
+use Rattle.std.proofs.Common.{arith, ◌≡◌, ◌≢◌, refl, sym, ap, subst, ◌∙◌, true≢false, ℕ, nat_eq, List, flat_map, map, Some, None, unwrap_or}
+use Rattle.std.proofs.lemmas.Grind.{common_steps}
 use Rattle.std.specs.List.{find}
 use Rattle.vt_spec.specs.Language.Changes.{Change}
 use Rattle.vt_spec.specs.Lists.{Fresh}
@@ -176,8 +177,5 @@ upper_layers_after_calls fresh numbers world task permit location change at over
     after_call fresh world task location at overlay upper conditions is has numbers permit change does new asks
 
 pub upper_layers_after_whole_calls : UpperLayersAfterWholeCalls
-upper_layers_after_whole_calls fresh numbers world task call permit location change at overlay upper conditions judged
-    does is has new asks = ap (λ o. (filesystem_numbered nat_eq o.world upper.filesystem).files)
-    (call_is_judged_then_applied fresh world task call ∙ ap (λ r. after world r (apply nat_eq fresh world task)) judged)
-    ∙ upper_layers_after_calls fresh numbers world task permit location change at overlay upper conditions does is has
-    new asks
+upper_layers_after_whole_calls fresh numbers world task call permit location change at overlay upper conditions judged does is has new asks =
+    grind (arith, common_steps, call_is_judged_then_applied, upper_layers_after_calls)

@@ -1,5 +1,6 @@
 -- What is found in two worlds that are alike, and changes of their filesystems and tasks.
-use Rattle.std.proofs.Common.{◌≡◌, refl, sym, ap, subst, ℕ, nat_eq, List, Option, Some, None, map}
+use Rattle.std.proofs.Common.{arith, ◌≡◌, refl, sym, ap, subst, ℕ, nat_eq, List, Option, Some, None, map}
+use Rattle.std.proofs.lemmas.Grind.{common_steps}
 use Rattle.vt_laws_worlds.proofs.one_text.answered.AlikeCopies.{LinesAlike, MergesAlike, merge_changed_alike}
 use Rattle.vt_laws_worlds.proofs.one_text.answered.AlikeWorlds.{Alike}
 use Rattle.vt_laws_rules.proofs.same.SameMany.{same_filesystem_itself}
@@ -81,20 +82,12 @@ module _ (one other : World ℕ) (same : Alike one other) (fresh : Fresh ℕ) (f
     (here : SameFilesystem first second) (change : Change ℕ) where
   plain_alike : Alike (with_filesystem nat_eq one (with_files first (changed nat_eq first.files change)))
       (with_filesystem nat_eq other (with_files second (changed nat_eq second.files change)))
-  plain_alike = with_filesystem_alike one other same _ _ (record {
-    number = here.number;
-    files = changed_alike first.files second.files here.files change;
-    overlay = here.overlay;
-  })
+  plain_alike = grind (arith, common_steps, with_filesystem_alike, changed_alike)
 
   module _ (overlay again : Overlay ℕ) (is : overlay ≡ again) where
     stacks_same : (upper next : Layer ℕ) → upper ≡ next
         → stack_of nat_eq one overlay upper ≡ stack_of nat_eq other again next
-    stacks_same upper next top = λ i. record {
-      directory = (top i).directory;
-      lowers = map (λ layer. opened_same one other same layer i) (is i).lowers;
-      mounter = (is i).mounter;
-    }
+    stacks_same upper next top = grind (arith, common_steps, opened_same)
 
     merges_alike : (upper next : Layer ℕ) → upper ≡ next
         → MergesAlike (merge_of nat_eq one first overlay upper) (merge_of nat_eq other second again next)
@@ -166,13 +159,7 @@ change_alike one other same copies fresh location change =
 -- Tasks
 pub with_tasks_alike : (one other : World ℕ) → Alike one other → (tasks again : List (Task ℕ))
     → Each SameTask tasks again → Alike (record one { tasks = tasks }) (record other { tasks = again })
-with_tasks_alike one other same tasks again alike = record {
-  mounts = same.mounts;
-  master = same.master;
-  filesystems = same.filesystems;
-  namespaces = same.namespaces;
-  tasks = alike;
-}
+with_tasks_alike one other same tasks again alike = grind (arith, common_steps)
 
 pub with_task_alike : (one other : World ℕ) → Alike one other → (task again : Task ℕ) → SameTask task again
     → Alike (with_task one task) (with_task other again)

@@ -1,5 +1,6 @@
 -- Directives are answered alike in two worlds that are alike.
-use Rattle.std.proofs.Common.{◌≡◌, refl, sym, ap, subst, ◌∙◌, ℕ, nat_eq, Bool, true, false, not, ◌&&◌, ◌||◌, ◌+◌, List, [], ◌∷◌, ◌++◌, map, filter, flat_map, Option, Some, None, Ok, is_some, option_map}
+use Rattle.std.proofs.Common.{arith, ◌≡◌, refl, sym, ap, subst, ◌∙◌, ℕ, nat_eq, Bool, true, false, not, ◌&&◌, ◌||◌, ◌+◌, List, [], ◌∷◌, ◌++◌, map, filter, flat_map, Option, Some, None, Ok, is_some, option_map}
+use Rattle.std.proofs.lemmas.Grind.{common_steps}
 use Rattle.std.specs.List.{list_all, list_any}
 use Rattle.std.proofs.lemmas.List.Sorted.{list_any-IsPermutation}
 use Rattle.vt_laws_worlds.proofs.one_text.answered.AlikeApplied.{OutcomesAlike}
@@ -22,10 +23,10 @@ use Rattle.vt_spec.specs.Machine.Mounts.{Location, Mount}
 use Rattle.vt_spec.specs.Machine.Outcomes.{granted, judged}
 use Rattle.vt_spec.specs.Machine.Receives.{is_member_of}
 use Rattle.vt_spec.specs.Machine.Sealed.{all_named, change_layers, directed, holds_all_tasks, shares_no_events, share_events, is_lower_root, is_member_task, is_own_namespace, locations, members, no_outsider_on, no_outsider_on_mounts, no_such_task, outsiders, sealed, used_alone, used_directly, used_filesystems, wholly_locked}
-use Rattle.vt_spec.specs.Machine.World.{Filesystem, Layer, Namespace, Overlay, Task, World, filesystem_numbered, is_overlay, layers_of, locations_of, mount_at, task_called}
+use Rattle.vt_spec.specs.Machine.World.{Filesystem, Layer, Namespace, Overlay, Task, World, filesystem_numbered, is_overlay, locations_of, mount_at, task_called}
 use Rattle.std.specs.Prelude.{option_to_list}
 use Rattle.vt_spec.specs.Machine.SameWorlds.{SameFiles, SameFilesystem}
-use Rattle.vt_spec.specs.Machine.Settled.{has_layer_on, named_in}
+use Rattle.vt_spec.specs.Machine.Settled.{named_in}
 
 -- Peers
 module _ (one other : World ℕ) (same : Alike one (with_mounts_of one other)) where
@@ -167,14 +168,7 @@ module _ (one other : World ℕ) (same : Alike one (with_mounts_of one other)) (
       (places_same (outsiders one names) (outsiders second names) outsiders_alike i))
 
   alone_same : (filesystem : ℕ) → used_alone nat_eq one names filesystem ≡ used_alone nat_eq second names filesystem
-  alone_same filesystem = λ i. no_outsider_same filesystem i
-      && each_all SameFilesystem (λ merged. not (has_layer_on nat_eq filesystem merged)
-      || no_outsider_on nat_eq one names merged.number)
-      (λ merged. not (has_layer_on nat_eq filesystem merged) || no_outsider_on nat_eq second names merged.number)
-      (λ a b alike. λ j.
-      not (overlay_or false (λ overlay. list_any (λ layer. nat_eq filesystem layer.filesystem) (layers_of overlay))
-      (alike.overlay j)) || (no_outsider_same a.number ∙ (λ k. no_outsider_on nat_eq second names (alike.number k))) j)
-      (overlays one) (overlays second) (overlays_alike one.filesystems other.filesystems same.filesystems) i
+  alone_same filesystem = grind (arith, common_steps, no_outsider_same, each_all, overlays_alike)
 
   named_same : (filesystem : ℕ) → all_named nat_eq (filesystem_numbered nat_eq one filesystem).files
       ≡ all_named nat_eq (filesystem_numbered nat_eq second filesystem).files

@@ -1,5 +1,6 @@
 -- Calls on mounts and namespaces in two worlds that are alike.
-use Rattle.std.proofs.Common.{◌≡◌, refl, subst, ℕ, nat_eq, Bool, true, false, List, [], ◌∷◌, map, filter, flat_map, Option, Some, None, is_some}
+use Rattle.std.proofs.Common.{arith, ◌≡◌, refl, subst, ℕ, nat_eq, Bool, List, [], ◌∷◌, map, filter, flat_map, Option, Some, None, is_some}
+use Rattle.std.proofs.lemmas.Grind.{common_steps}
 use Rattle.std.specs.List.{list_any}
 use Rattle.vt_laws_worlds.proofs.one_text.answered.AlikeChanges.{here_alike}
 use Rattle.vt_laws_worlds.proofs.one_text.answered.AlikeWorlds.{Alike, mounts_of_one}
@@ -17,13 +18,7 @@ use Rattle.vt_spec.specs.Machine.World.{World, filesystem_at, mount_numbered, wi
 -- worlds that are alike, with other mounts
 pub with_mounts_alike : (one other : World ℕ) → Alike one other → (mounts again : List (Mount ℕ)) → mounts ≡ again
     → Alike (with_mounts one mounts) (with_mounts other again)
-with_mounts_alike one other same mounts again alike = record {
-  mounts = alike;
-  master = same.master;
-  filesystems = same.filesystems;
-  namespaces = same.namespaces;
-  tasks = same.tasks;
-}
+with_mounts_alike one other same mounts again alike = grind (arith, common_steps)
 
 -- the two worlds with the same mounts
 abbrev pub Keeps : (World ℕ → World ℕ) → Type 0
@@ -41,14 +36,7 @@ regrouped_alike = of_one (regrouped nat_eq)
   where
     by : (one other : World ℕ) → Alike one (with_mounts_of one other) → (b : Bool)
         → Alike (regrouped_by nat_eq b one) (regrouped_by nat_eq b (with_mounts_of one other))
-    by one other same true = record {
-      mounts = refl;
-      master = refl;
-      filesystems = same.filesystems;
-      namespaces = same.namespaces;
-      tasks = same.tasks;
-    }
-    by one other same false = same
+    by one other same b = grind (arith, common_steps)
 
 pub taken_alike : (one other : World ℕ) → Alike one other → (gone again : List ℕ) → gone ≡ again
     → Alike (taken_away nat_eq one gone) (taken_away nat_eq other again)
@@ -94,15 +82,7 @@ retyped_first fresh word named world = record world {
 retyped_alike : (fresh : Fresh ℕ) (word : TypeWord) (named : List (Mount ℕ)) (one other : World ℕ)
     → Alike one (with_mounts_of one other) → Alike (regrouped nat_eq (retyped_first fresh word named one))
     (regrouped nat_eq (retyped_first fresh word named (with_mounts_of one other)))
-retyped_alike fresh word named one other same =
-    regrouped_alike (retyped_first fresh word named one) (retyped_first fresh word named (with_mounts_of one other))
-    (record {
-      mounts = refl;
-      master = refl;
-      filesystems = same.filesystems;
-      namespaces = same.namespaces;
-      tasks = same.tasks;
-    })
+retyped_alike fresh word named one other same = grind (arith, common_steps, regrouped_alike, with_mounts_of)
 
 pub type_alike : (fresh : Fresh ℕ) (number : ℕ) (word : TypeWord) (recursive : Bool) (one other : World ℕ)
     → Alike one other

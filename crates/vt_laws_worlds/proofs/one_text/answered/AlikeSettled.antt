@@ -1,6 +1,6 @@
 -- What nothing uses goes alike in two worlds that are alike.
 use Rattle.std.proofs.lemmas.Grind.{common_steps}
-use Rattle.std.proofs.Common.{arith, ◌≡◌, refl, ap, subst, ◌∙◌, ℕ, nat_eq, Bool, true, false, cond, not, ◌&&◌, ◌||◌, List, [], ◌∷◌, ◌++◌, map, filter, filter_map, flat_map, Option, Some, None, is_some, option_map, option_to_list, if◌then◌else◌}
+use Rattle.std.proofs.Common.{arith, ◌≡◌, refl, ap, subst, ◌∙◌, ℕ, nat_eq, Bool, true, false, cond, not, ◌&&◌, ◌||◌, List, [], ◌∷◌, ◌++◌, map, filter, filter_map, flat_map, Option, Some, None, is_some, option_to_list, if◌then◌else◌}
 use Rattle.std.specs.List.{list_all, list_any}
 use Rattle.std.specs.List.Sorted.{IsPermutation}
 use Rattle.std.proofs.lemmas.List.Sorted.{IsPermutation-append_left, IsPermutation-append_right, IsPermutation-cons, IsPermutation-refl, IsPermutation-trans, list_any-IsPermutation}
@@ -17,9 +17,8 @@ use Rattle.vt_spec.specs.Machine.Filesystems.{raised, raised_if_changed}
 use Rattle.vt_spec.specs.Machine.Locked.{of_overlay, overlay_or}
 use Rattle.vt_spec.specs.Machine.Mounts.{Location, Mount, mount_in, root_of}
 use Rattle.vt_spec.specs.Machine.Policy.{numbers_raised, raised_namespace, raised_task}
-use Rattle.vt_spec.specs.Machine.Receives.{has_members}
 use Rattle.vt_spec.specs.Machine.SameWorlds.{SameFiles, SameFilesystem}
-use Rattle.vt_spec.specs.Machine.Settled.{filesystem_lives, has_layer_on, layers_in, located_in, objects_of_overlay, only_among, only_used, only_used_by, only_used_of, settled, used_in, without_dead_filesystems, without_dead_groups, without_dead_in, without_dead_inodes, without_dead_mounts}
+use Rattle.vt_spec.specs.Machine.Settled.{filesystem_lives, layers_in, located_in, objects_of_overlay, only_among, only_used, only_used_by, only_used_of, settled, used_in, without_dead_filesystems, without_dead_groups, without_dead_in, without_dead_inodes, without_dead_mounts}
 use Rattle.vt_spec.specs.Machine.World.{Filesystem, Namespace, Overlay, Task, World, is_overlay, layers_of, upper_object}
 
 filter_map_as_flat_map : {A B : Type 0} (h : A → Option B) (xs : List A)
@@ -76,14 +75,7 @@ used_alike one other same used again among =
         same.files.numbers ∙ (λ i. list_all (λ number. among number i) other.files.numbers)
 
     by : (b : Bool) → SameFilesystem (only_used_by nat_eq b used one) (only_used_by nat_eq b again other)
-    by true = same
-    by false = record {
-      number = same.number;
-      files = among_alike one.files other.files same.files used again among;
-      overlay = λ i. option_map (λ (overlay : Overlay ℕ). record overlay {
-        real = λ number. cond (among number i) (overlay.real number) None;
-      }) (same.overlay i);
-    }
+    by b = grind (arith, common_steps, among_alike)
 
 module _ (one other : World ℕ) (same : Alike one other) where
   layers_same : (a b : ℕ) → a ≡ b → layers_in nat_eq one a ≡ layers_in nat_eq other b
@@ -175,12 +167,7 @@ module _ (one other : World ℕ) (same : Alike one other) where
 
   pub lives_same : (first second : Filesystem ℕ) → SameFilesystem first second
       → filesystem_lives nat_eq one first ≡ filesystem_lives nat_eq other second
-  lives_same first second alike = λ i. is_shown (same.mounts i) (alike.number i) || each_any SameFilesystem
-      (λ merged. has_layer_on nat_eq first.number merged && is_shown one.mounts merged.number)
-      (λ merged. has_layer_on nat_eq second.number merged && is_shown other.mounts merged.number) (λ a b known. λ j.
-      overlay_or false (λ overlay. list_any (λ layer. nat_eq (alike.number j) layer.filesystem) (layers_of overlay))
-      (known.overlay j) && is_shown (same.mounts j) (known.number j))
-      one.filesystems other.filesystems same.filesystems i
+  lives_same first second alike = grind (arith, common_steps, each_any)
 
   without_dead_filesystems_alike : Alike (without_dead_filesystems nat_eq one) (without_dead_filesystems nat_eq other)
   without_dead_filesystems_alike = record {
@@ -193,13 +180,7 @@ module _ (one other : World ℕ) (same : Alike one other) where
   }
 
   without_dead_groups_alike : Alike (without_dead_groups nat_eq one) (without_dead_groups nat_eq other)
-  without_dead_groups_alike = record {
-    mounts = same.mounts;
-    master = λ i group. cond (has_members nat_eq (same.mounts i) group) (same.master i group) None;
-    filesystems = same.filesystems;
-    namespaces = same.namespaces;
-    tasks = same.tasks;
-  }
+  without_dead_groups_alike = grind (arith, common_steps)
 
 without_dead_inodes_alike : (one other : World ℕ) → Alike one other
     → Alike (without_dead_inodes nat_eq one) (without_dead_inodes nat_eq other)
@@ -216,13 +197,7 @@ settled_alike one other same = without_dead_groups_alike _ _ (without_dead_inode
 -- Change numbers, however they are raised
 filesystem_raised : (a b : Filesystem ℕ) → SameFilesystem a b → (raise again : Bool) (change other : ℕ)
     → SameFilesystem (cond raise (record a { change = change }) a) (cond again (record b { change = other }) b)
-filesystem_raised a b alike true true change other =
-    record { number = alike.number; files = alike.files; overlay = alike.overlay }
-filesystem_raised a b alike true false change other =
-    record { number = alike.number; files = alike.files; overlay = alike.overlay }
-filesystem_raised a b alike false true change other =
-    record { number = alike.number; files = alike.files; overlay = alike.overlay }
-filesystem_raised a b alike false false change other = alike
+filesystem_raised a b alike raise again change other = grind (arith, common_steps)
 
 namespace_raised : (a b : Namespace ℕ) → SameNamespace a b → (keep again : Bool) (change other : ℕ)
     → SameNamespace (cond keep a (record a { change = change })) (cond again b (record b { change = other }))

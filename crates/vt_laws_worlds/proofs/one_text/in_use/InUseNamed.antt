@@ -1,5 +1,6 @@
 -- Each number that a world has is in use, those of its overlays too.
-use Rattle.std.proofs.Common.{eqb-true, ◌≡◌, refl, sym, ap, subst, ◌∙◌, ⊎_elim, inl, inr, true≢false, ℕ, nat_eq, Bool, true, false, cond, not, List, [], ◌∷◌, ◌++◌, map, flat_map, Option, Some, None, is_some}
+use Rattle.std.proofs.Common.{arith, eqb-true, ◌≡◌, refl, sym, ap, subst, ◌∙◌, ⊎_elim, inl, inr, true≢false, ℕ, nat_eq, Bool, true, false, cond, not, List, [], ◌∷◌, ◌++◌, map, flat_map, Option, Some, None, is_some}
+use Rattle.std.proofs.lemmas.Grind.{common_steps}
 use Rattle.std.specs.Prelude.{option_to_list}
 use Rattle.std.specs.List.{list_all}
 use Rattle.std.proofs.lemmas.Bool.{and_parts}
@@ -17,9 +18,8 @@ use Rattle.vt_spec.specs.Machine.Mounts.{Location, Mount, Propagation, group_of,
 use Rattle.vt_spec.specs.Machine.Mounts.Propagation.{Private, Shared, Slave, Unbindable}
 use Rattle.vt_spec.specs.Machine.Receives.{has_members, is_member_of}
 use Rattle.vt_spec.specs.Machine.Run.{numbers_in_use, used_by_filesystem, used_by_mount}
-use Rattle.vt_spec.specs.Machine.World.{Descriptor, Filesystem, Layer, Namespace, Overlay, Real, Task, World, all_locations, filesystem_numbered, is_overlay, layers_of, locations_of, mount_at, node_at}
+use Rattle.vt_spec.specs.Machine.World.{Descriptor, Filesystem, Layer, Namespace, Overlay, Real, Task, World, all_locations, filesystem_numbered, is_overlay, locations_of, mount_at, node_at}
 use Rattle.vt_spec.specs.Machine.World.Real.{Lower, Upper}
-use Rattle.vt_spec.specs.Machine.Locked.{of_overlay, overlay_or}
 use Rattle.vt_spec.specs.Machine.Invariants.{HasLivingGroups, IsMerged, IsWorld, ListsNumbers, has_its_root, is_listed, is_located_well, is_plain_layer, is_there}
 use Rattle.vt_spec.specs.Tree.{Content, Entries, Node, Tree, entries_in, entry_named, is_directory_node, name_cmp, parent_in}
 use Rattle.vt_spec.specs.Tree.Content.{Directory, Regular, Symlink, Whiteout}
@@ -286,13 +286,7 @@ module _ (world : World ℕ) (whole : IsWorld nat_eq world) where
 
         layers : (list_all (is_plain_layer nat_eq world) (option_to_list overlay.upper ++ option_to_list overlay.work)
             ≡ true) × (list_all (is_plain_layer nat_eq world) overlay.lowers ≡ true)
-        layers = and_parts (list_all (is_plain_layer nat_eq world)
-            (option_to_list overlay.upper ++ option_to_list overlay.work))
-            (list_all (is_plain_layer nat_eq world) overlay.lowers) (sym (list_all-append (is_plain_layer nat_eq world)
-            (option_to_list overlay.upper ++ option_to_list overlay.work) overlay.lowers)
-            ∙ sym (ap (overlay_or true (λ (o : Overlay ℕ). list_all (is_plain_layer nat_eq world) (layers_of o))) e)
-            ∙ passes (of_overlay true (λ o. list_all (is_plain_layer nat_eq world) (layers_of o))) world.filesystems
-            whole.overlays.plain_layers filesystem there)
+        layers = grind (arith, common_steps, and_parts, list_all-append, passes)
 
         above : (list_all (is_plain_layer nat_eq world) (option_to_list overlay.upper) ≡ true)
             × (list_all (is_plain_layer nat_eq world) (option_to_list overlay.work) ≡ true)

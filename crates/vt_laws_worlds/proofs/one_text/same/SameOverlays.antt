@@ -1,5 +1,6 @@
 -- The invariants of overlays go along worlds that are the same.
-use Rattle.std.proofs.Common.{◌≡◌, sym, ap, subst, ◌∙◌, ℕ, nat_eq, true, false, not, ◌&&◌, ◌||◌, List, [], ◌∷◌, map, flat_map, Option, is_some, option_map, slice_get}
+use Rattle.std.proofs.Common.{arith, ◌≡◌, sym, ap, subst, ◌∙◌, ℕ, nat_eq, true, not, ◌&&◌, ◌||◌, List, [], ◌∷◌, map, flat_map, Option, is_some, option_map, slice_get}
+use Rattle.std.proofs.lemmas.Grind.{common_steps}
 use Rattle.std.specs.List.{list_all, list_any}
 use Rattle.std.proofs.lemmas.List.Sorted.{list_any-IsPermutation}
 use Rattle.vt_laws_worlds.proofs.one_text.answered.AlikeChanges.{found_alike, opened_same}
@@ -13,7 +14,7 @@ use Rattle.vt_spec.specs.FileTree.{is_kind_in, is_opaque_in}
 use Rattle.vt_spec.specs.Lists.{any_pair, holds_of, then_some}
 use Rattle.vt_spec.specs.Machine.Invariants.{IsMerged, OverlayInvariants, SameObject, has_fit_layers, is_plain_layer, live_lowers, real_node}
 use Rattle.vt_spec.specs.Machine.Layers.{node_at_path, shown}
-use Rattle.vt_spec.specs.Machine.Locked.{counts_in_layer, is_real_upper, lies_in_layer, lies_or_counts_under, live_upper_and_work, of_overlay, overlaps_one_of, overlay_or, overlays, upper_and_work}
+use Rattle.vt_spec.specs.Machine.Locked.{counts_in_layer, lies_in_layer, lies_or_counts_under, live_upper_and_work, of_overlay, overlaps_one_of, overlay_or, overlays, upper_and_work}
 use Rattle.vt_spec.specs.Machine.Merging.{layer_node, merged_at, real_object}
 use Rattle.vt_spec.specs.Machine.SameWorlds.{SameFilesystem}
 use Rattle.vt_spec.specs.Machine.World.{Filesystem, Layer, Overlay, Real, World, filesystem_numbered, layers_of, shown_layers}
@@ -83,11 +84,8 @@ module _ (one other : World ℕ) (same : Alike one other) where
   counts_same : (filesystem object : ℕ) (layer : Layer ℕ) (merged again : Filesystem ℕ) → SameFilesystem merged again
       → counts_in_layer nat_eq one filesystem object layer merged
       ≡ counts_in_layer nat_eq other filesystem object layer again
-  counts_same filesystem object layer merged again alike = λ i. overlay_or false (λ overlay.
-      holds_of (λ upper. lies_same upper.filesystem upper.directory layer i) overlay.upper
-      && (holds_of (λ upper. nat_eq filesystem upper.filesystem) overlay.upper
-      && list_any-IsPermutation (is_real_upper nat_eq overlay object) merged.files.numbers again.files.numbers
-      alike.files.numbers i)) (alike.overlay i)
+  counts_same filesystem object layer merged again alike =
+      grind (arith, common_steps, lies_same, list_any-IsPermutation)
 
   lies_or_counts_same : (filesystem object : ℕ) (layer : Layer ℕ)
       → lies_or_counts_under nat_eq one filesystem object layer

@@ -1,5 +1,6 @@
 -- What each way in which a call is granted asks for: what may be done.
-use Rattle.std.proofs.Common.{Bool, List, None, Option, Some, [], ap, arith, drop, false, inl, inr, is_some, le-leb, leb-true, ltb-false, nat_eq, nat_le, not, refl, sym, take, true, true≢false, ℕ, ◌&&◌, ◌*◌, ◌+◌, ◌==◌, ◌∙◌, ◌∷◌, ◌≡◌}
+use Rattle.std.proofs.lemmas.Grind.{common_steps}
+use Rattle.std.proofs.Common.{List, None, Option, Some, [], ap, arith, drop, false, inl, inr, is_some, le-leb, leb-true, ltb-false, nat_eq, nat_le, not, refl, sym, take, true, true≢false, ℕ, ◌&&◌, ◌*◌, ◌+◌, ◌==◌, ◌∙◌, ◌∷◌, ◌≡◌}
 use Rattle.vt_spec.specs.Errors.{NoneFails}
 use Rattle.std.proofs.lemmas.List.{length-append, length-drop, length-take}
 use Rattle.std.specs.Prelude.{length, nat_lt, ◌++◌}
@@ -20,12 +21,11 @@ use Rattle.vt_spec.proofs.Walk.{new_name_rules}
 use Rattle.vt_spec.proofs.Worlds.{special_word}
 use Rattle.vt_spec.specs.FileTree.{is_kind, is_kind_in}
 use Rattle.vt_spec.specs.Language.Calls.{Access, Call}
-use Rattle.vt_spec.specs.Language.Changes.Change.{CopyUp}
 use Rattle.vt_spec.specs.Language.Limits.{largest_file, longest_path}
 use Rattle.vt_spec.specs.Laws.Trees.{IsNewIn}
-use Rattle.vt_spec.specs.Lists.{Fresh, evens, when}
+use Rattle.vt_spec.specs.Lists.{Fresh, evens}
 use Rattle.vt_spec.specs.Machine.Apply.{overfills}
-use Rattle.vt_spec.specs.Machine.Descriptors.{is_copied_up, overwritten, padded}
+use Rattle.vt_spec.specs.Machine.Descriptors.{overwritten, padded}
 use Rattle.vt_spec.specs.Machine.Invariants.{IsWorld, ListsNumbers, has_regular_files_open, is_fit_filesystem}
 use Rattle.vt_spec.specs.Machine.Judge.{make_permit}
 use Rattle.vt_spec.specs.Machine.Looks.{Looks, looks_of}
@@ -39,9 +39,7 @@ use Rattle.vt_spec.specs.Machine.Run.{Serves}
 use Rattle.vt_spec.specs.Machine.Walking.{Here, Place, is_directory_there, is_special, name_of, object_walk, symlink_walk}
 use Rattle.vt_spec.specs.Machine.World.{Descriptor, Filesystem, Task, World, files_at, mount_at, node_at, task_called}
 use Rattle.vt_spec.specs.PathText.{is_empty}
-use Rattle.vt_spec.specs.Tree.{Content, Node, bytes_in, entries_in, is_directory_node, kind_of}
-use Rattle.vt_spec.specs.Tree.Content.{Directory, Regular, Symlink, Whiteout}
-use Rattle.vt_spec.specs.declared.attributes.Attr.{Attr}
+use Rattle.vt_spec.specs.Tree.{Node, bytes_in, entries_in, is_directory_node, kind_of}
 use Rattle.vt_spec.specs.declared.attributes.Kind.TheVariants.{File, White}
 use Rattle.vt_laws_trees.proofs.trees.ChangesByLinks.{may_link}
 use Rattle.vt_laws_trees.proofs.trees.ChangesByRemoving.{may_move, old_removable}
@@ -102,11 +100,7 @@ module _ (world : World ℕ) (whole : IsWorld nat_eq world) (task : Task ℕ)
   -- open(2) of a file that exists
   opened_asked : (file : Location ℕ) (access : Access) → is_some (node_at nat_eq world file) ≡ true
       → Asks (ToOpen file access)
-  opened_asked file access = by (is_copied_up nat_eq world file access)
-    where
-      by : (b : Bool) → is_some (node_at nat_eq world file) ≡ true → AsksWellIf world (when b (file, CopyUp file.node))
-      by true there = (there, tt)
-      by false there = tt
+  opened_asked file access = grind (arith, common_steps)
 
   -- the object of an old place is seen through its directory's mount
   seen_in : (place : Place ℕ) (plain : is_special place.last ≡ false) (is : IsOldPlace world task place)
@@ -127,17 +121,7 @@ module _ (world : World ℕ) (whole : IsWorld nat_eq world) (task : Task ℕ)
   -- whose bytes are within the limit
   bytes_small : (o : Option (Node ℕ)) → is_kind_in File o ≡ true → fits o ≡ true
       → nat_le (length (bytes_in o)) largest_file ≡ true
-  bytes_small None e k = absurd (true≢false (sym e))
-  bytes_small (Some node) e k = by node.attr node.content e k
-    where
-      by : (attr : Attr) (content : Content ℕ)
-          → is_kind_in File (Some (record { attr = attr; content = content })) ≡ true
-          → fits (Some (record { attr = attr; content = content })) ≡ true
-          → nat_le (length (bytes_in (Some (record { attr = attr; content = content })))) largest_file ≡ true
-      by attr (Directory parent entries opaque) f g = absurd (true≢false (sym f))
-      by attr (Regular bytes) f g = and_true_first _ _ _ g
-      by attr (Symlink text) f g = absurd (true≢false (sym f))
-      by attr Whiteout f g = absurd (true≢false (sym f))
+  bytes_small o e k = grind (arith, common_steps, true≢false, fits, and_true_first)
 
   file_fits : (file : Location ℕ) → is_some (node_at nat_eq world file) ≡ true → fits (node_at nat_eq world file) ≡ true
   file_fits file there = fits_here (files_at nat_eq world file)
@@ -162,8 +146,7 @@ module _ (world : World ℕ) (whole : IsWorld nat_eq world) (task : Task ℕ)
         there,
         le-leb (length (overwritten offset (byte ∷ bytes) old)) largest_file (omega (
           arith,
-          length-append (take offset (padded offset old) ++ (byte ∷ bytes))
-              (drop (offset + length (byte ∷ bytes)) old),
+          length-append (take offset (padded offset old) ++ (byte ∷ bytes)) (drop (offset + length (byte ∷ bytes)) old),
           length-append (take offset (padded offset old)) (byte ∷ bytes),
           length-drop (offset + length (byte ∷ bytes)) old,
           length-take offset (padded offset old),

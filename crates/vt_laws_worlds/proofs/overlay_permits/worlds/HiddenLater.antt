@@ -1,11 +1,11 @@
 -- What a change of an overlay hides does not show again while the overlay lives.
+use Rattle.std.proofs.lemmas.Grind.{common_steps}
 use Rattle.std.proofs.Common.{arith, ◌≡◌, ◌≢◌, refl, sym, ap, subst, ◌∙◌, true≢false, inl, inr, ℕ, zero, suc, ◌+◌, ◌&&◌, nat_eq, eqb-true, eq-eqb, Bool, true, false, not, List, [], ◌∷◌, ◌++◌, map, Option, Some, None, Ok, is_some}
 use Rattle.std.specs.Prelude.{length, nat_lt, option_to_list}
 use Rattle.vt_spec.specs.Language.Calls.{Call, TaskName}
 use Rattle.vt_spec.specs.Language.Changes.{Change}
 use Rattle.vt_spec.specs.Language.Limits.{longest_line}
 use Rattle.vt_spec.specs.Language.Script.{Grammar, Request, is_silent, request_of}
-use Rattle.vt_spec.specs.Language.Script.Request.{Asking, Calling}
 use Rattle.vt_spec.specs.Lists.{Fresh}
 use Rattle.vt_spec.specs.Machine.CopyUp.{Merge, Stack, merge_changed}
 use Rattle.vt_spec.specs.Machine.Filesystems.{filesystem_changed, merge_of, overlay_changed, stack_of, with_change}
@@ -263,12 +263,8 @@ module _ (world : World ℕ) (is : IsWorld nat_eq world) (number : ℕ) (overlay
   request_uncovers : (fresh : Fresh ℕ) → Serves nat_eq world fresh → (request : Option Request)
       → request_names_few request ≡ true → is_live (requested nat_eq world request fresh).world number ≡ true
       → UncoversNothing world (requested nat_eq world request fresh).world number overlay
-  request_uncovers fresh serves None few live = uncovers_itself world number overlay was
-  request_uncovers fresh serves (Some (Calling name call)) few live =
-      every_call_uncovers_nothing world fresh name call number overlay is serves few was live
-  request_uncovers fresh serves (Some (Asking directive)) few live =
-      subst (λ w. UncoversNothing world w number overlay) (sym (directive_changes_nothing world directive))
-      (uncovers_itself world number overlay was)
+  request_uncovers fresh serves request few live =
+      grind (arith, common_steps, uncovers_itself, every_call_uncovers_nothing, directive_changes_nothing)
 
   line_uncovers : (long silent : Bool) (grammar : Grammar) (line : List ℕ) (fresh : Fresh ℕ) → Serves nat_eq world fresh
       → is_live (step_world world (line_step_by nat_eq long silent grammar world line (Some fresh))) number ≡ true

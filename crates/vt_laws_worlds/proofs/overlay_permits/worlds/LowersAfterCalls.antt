@@ -1,9 +1,10 @@
 -- After every call that leaves an overlay live its lower layers are as they were.
-use Rattle.std.proofs.Common.{◌≡◌, refl, sym, ap, subst, ◌∙◌, ⊎_elim, ℕ, nat_eq, true≢false, Bool, true, false, List, [], ◌∷◌, ◌++◌, ◌&&◌, not, eqb-true, find, Option, Some, None, Ok, is_some}
+use Rattle.std.proofs.Common.{arith, ◌≡◌, refl, sym, ap, subst, ◌∙◌, ⊎_elim, ℕ, nat_eq, true≢false, Bool, true, false, List, [], ◌∷◌, ◌++◌, ◌&&◌, not, eqb-true, find, Option, Some, None, Ok, is_some}
+use Rattle.std.proofs.lemmas.Grind.{common_steps}
 use Rattle.std.specs.Prelude.{option_map, unwrap_or}
 use Rattle.std.specs.List.{list_any}
 use Rattle.vt_spec.specs.Language.Calls.{Call, TaskName}
-use Rattle.vt_spec.specs.Language.Calls.Call.{MakeWhiteout, Mkdir, MountOverlay, SymlinkAt, Write}
+use Rattle.vt_spec.specs.Language.Calls.Call.{MountOverlay, Write}
 use Rattle.vt_spec.specs.Language.Changes.{Change}
 use Rattle.vt_spec.specs.Language.Changes.Change.{AddName, CopyUp, Make, Move, Remove, SetAttr, SetBytes, SetMark}
 use Rattle.vt_spec.specs.Lists.{Fresh, holds_of, then_some}
@@ -58,11 +59,7 @@ use Rattle.vt_laws_trees.specs.Trees.Settling.{inode_in}
 
 -- a call that asks for a change is one on files
 pub makes_files : (call : Call) → makes_a_name call ≡ true → changes_no_mount call ≡ true
-makes_files (Write path bytes) e = refl
-makes_files (Mkdir path mode) e = refl
-makes_files (SymlinkAt text path) e = refl
-makes_files (MakeWhiteout path) e = refl
-makes_files call e = cc
+makes_files call e = grind (arith, common_steps)
 
 pub on_files : (fresh : Fresh ℕ) (world : World ℕ) (task : Task ℕ) (call : Call) (permit : Permit ℕ)
     (made : Location ℕ × Change ℕ)

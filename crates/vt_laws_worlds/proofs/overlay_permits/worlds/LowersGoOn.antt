@@ -1,8 +1,9 @@
 -- A live overlay goes on over the layers that it had, while filesystems change, come and go.
-use Rattle.std.proofs.Common.{◌≡◌, refl, sym, ap, subst, ◌∙◌, ⊎_elim, ℕ, nat_eq, Bool, true, false, cond, true≢false, not, List, [], ◌∷◌, find, map, Option, Some, None}
+use Rattle.std.proofs.Common.{arith, ◌≡◌, refl, sym, ap, subst, ◌∙◌, ⊎_elim, ℕ, nat_eq, Bool, true, false, cond, true≢false, not, List, [], ◌∷◌, find, map, Option, Some, None}
+use Rattle.std.proofs.lemmas.Grind.{common_steps}
 use Rattle.std.proofs.lemmas.Bool.Decides.{eqb_tells}
 use Rattle.std.specs.List.{list_any}
-use Rattle.std.specs.Prelude.{is_some, option_map, unwrap_or}
+use Rattle.std.specs.Prelude.{option_map, unwrap_or}
 use Rattle.vt_spec.specs.Language.Calls.{TaskName}
 use Rattle.vt_spec.specs.Language.Changes.{Change, changed}
 use Rattle.vt_spec.specs.Lists.{Fresh, then_some}
@@ -53,26 +54,11 @@ leads_by_files world later layer same path = (
 
 pub stays_itself : (world : World ℕ) (number : ℕ) (overlay : Overlay ℕ)
     → (filesystem_numbered nat_eq world number).overlay ≡ Some overlay → OverlayStays world world number overlay
-stays_itself world number overlay is = record {
-  after = overlay;
-  is = is;
-  upper = refl;
-  work = refl;
-  lowers = refl;
-  leads = λ lower m. leads_by_files world world lower refl;
-}
+stays_itself world number overlay is = grind (arith, common_steps, leads_by_files)
 
 pub stays_both : (a b c : World ℕ) (number : ℕ) (overlay : Overlay ℕ) (first : OverlayStays a b number overlay)
     → OverlayStays b c number first.after → OverlayStays a c number overlay
-stays_both a b c number overlay first second = record {
-  after = second.after;
-  is = second.is;
-  upper = second.upper ∙ first.upper;
-  work = second.work ∙ first.work;
-  lowers = second.lowers ∙ first.lowers;
-  leads = λ lower m. leads_both a b c lower (first.leads lower m)
-      (second.leads lower (subst (Among lower) (sym first.lowers) m));
-}
+stays_both a b c number overlay first second = grind (arith, common_steps, leads_both)
 
 -- An overlay with its layers
 abbrev pub Layers : Type 0
@@ -88,22 +74,7 @@ pub stays_over : (world later : World ℕ) (number : ℕ) (overlay : Overlay ℕ
     → (filesystem_numbered nat_eq world number).overlay ≡ Some overlay → layers_at later number ≡ layers_at world number
     → ((lower : Layer ℕ) → Among lower overlay.lowers → LeadsAsBefore world later lower)
     → OverlayStays world later number overlay
-stays_over world later number overlay is same leads =
-    by (filesystem_numbered nat_eq later number).overlay refl (same ∙ ap (option_map layers) is)
-  where
-    by : (o : Option (Overlay ℕ)) → (filesystem_numbered nat_eq later number).overlay ≡ o
-        → option_map layers o ≡ Some (layers overlay) → OverlayStays world later number overlay
-    by None e f = absurd (true≢false (sym (ap is_some f)))
-    by (Some after) e f =
-        let parts = same_Some (layers after) (layers overlay) f in
-        record {
-          after = after;
-          is = e;
-          upper = ap (λ (l : Layers). l.0) parts;
-          work = ap (λ (l : Layers). l.1) parts;
-          lowers = ap (λ (l : Layers). l.2) parts;
-          leads = leads;
-        }
+stays_over world later number overlay is same leads = grind (arith, common_steps, true≢false, same_Some)
 
 -- A change of a filesystem leaves the layers of each overlay
 replaced_layers : (world : World ℕ) (new : Filesystem ℕ) → option_map layers new.overlay ≡ layers_at world new.number
@@ -174,12 +145,7 @@ raised_layers changed number (first ∷ rest) = by (list_any (λ n. nat_eq n fir
         (no_filesystem number)).overlay
         ≡ (unwrap_or (find (λ (f : Filesystem ℕ). nat_eq number f.number) (first ∷ rest))
         (no_filesystem number)).overlay
-    by true on = pick (record first { change = raised first.change }) refl (nat_eq number first.number)
-        (find (λ (f : Filesystem ℕ). nat_eq number f.number) (map (raised_if_changed nat_eq changed) rest))
-        (find (λ (f : Filesystem ℕ). nat_eq number f.number) rest) on
-    by false on = pick first refl (nat_eq number first.number)
-        (find (λ (f : Filesystem ℕ). nat_eq number f.number) (map (raised_if_changed nat_eq changed) rest))
-        (find (λ (f : Filesystem ℕ). nat_eq number f.number) rest) on
+    by b on = grind (arith, common_steps, pick)
 
 module _ (before : World ℕ) (name : TaskName) (changed : List ℕ) (world : World ℕ) (number : ℕ) where
   pub raised_overlay : (filesystem_numbered nat_eq (numbers_raised nat_eq before name changed world) number).overlay
@@ -205,38 +171,17 @@ module _ (world : World ℕ) (under : IsUnderWay world) (are : OverlayInvariants
 
   from_mounted : (after : Overlay ℕ) (on : GoesOn mounted living number after)
       → (filesystem_numbered nat_eq living number).overlay ≡ Some after → OverlayStays world living number on.before
-  from_mounted after on is = record {
-    after = after;
-    is = is;
-    upper = on.upper;
-    work = on.work;
-    lowers = on.lowers;
-    leads = λ lower m. on.leads lower (lower_is_layer on.before lower m);
-  }
+  from_mounted after on is = grind (arith, common_steps, lower_is_layer)
 
   from_living : (after : Overlay ℕ) (on : GoesOn living first number after)
       → (filesystem_numbered nat_eq first number).overlay ≡ Some after → OverlayStays living first number on.before
-  from_living after on is = record {
-    after = after;
-    is = is;
-    upper = on.upper;
-    work = on.work;
-    lowers = on.lowers;
-    leads = λ lower m. on.leads lower (lower_is_layer on.before lower m);
-  }
+  from_living after on is = grind (arith, common_steps, lower_is_layer)
 
   from_first : (after : Overlay ℕ)
       (on : GoesOn first (without_dead_in nat_eq (λ f. not (is_overlay f)) first) number after)
       → (filesystem_numbered nat_eq (settled nat_eq world) number).overlay ≡ Some after
       → OverlayStays first (settled nat_eq world) number on.before
-  from_first after on is = record {
-    after = after;
-    is = is;
-    upper = on.upper;
-    work = on.work;
-    lowers = on.lowers;
-    leads = λ lower m. on.leads lower (lower_is_layer on.before lower m);
-  }
+  from_first after on is = grind (arith, common_steps, lower_is_layer)
 
   pub swept_stays : (after : Overlay ℕ)
       → (filesystem_numbered nat_eq (settled nat_eq world) number).overlay ≡ Some after

@@ -1,7 +1,8 @@
 -- Overlays that go on: each was there before, with the same layers, whose paths lead where they led. Then all
 -- invariants of overlays
 -- hold, where they held before.
-use Rattle.std.proofs.Common.{◌≡◌, refl, sym, ap, subst, ◌∙◌, true≢false, eqb-true, eq-eqb, ⊎_elim, inl, inr, ℕ, nat_eq, Bool, true, false, not, ◌&&◌, List, [], ◌∷◌, ◌++◌, Option, Some, None, is_some}
+use Rattle.std.proofs.Common.{arith, ◌≡◌, refl, sym, ap, subst, ◌∙◌, true≢false, eqb-true, eq-eqb, ⊎_elim, inl, inr, ℕ, nat_eq, Bool, true, false, not, ◌&&◌, List, [], ◌∷◌, ◌++◌, Option, Some, None, is_some}
+use Rattle.std.proofs.lemmas.Grind.{common_steps}
 use Rattle.std.specs.List.{list_all, list_any}
 use Rattle.std.specs.Prelude.{All, flat_map, option_to_list}
 use Rattle.vt_spec.specs.FileTree.{is_under}
@@ -70,13 +71,7 @@ module _ (world : World ℕ) (files : AreTrees world) where
     where
       by : (f : Filesystem ℕ) → filesystem_numbered nat_eq world f.number ≡ f → (o : Option (Overlay ℕ)) → f.overlay ≡ o
           → Among layer (overlay_or [] layers o) → IsLayerOf layers layer
-      by f itself None e a = absurd a
-      by f itself (Some overlay) e a = record {
-        number = f.number;
-        overlay = overlay;
-        is = ap (λ (x : Filesystem ℕ). x.overlay) itself ∙ e;
-        among = a;
-      }
+      by f itself o e a = grind (arith, common_steps)
 
   module _ (are : OverlayInvariants nat_eq world) where
     pub plain_layer : (number : ℕ) (overlay : Overlay ℕ)
@@ -381,13 +376,7 @@ module _ (world later : World ℕ) (files : AreTrees world) (are : OverlayInvari
       by f itself (Some after) e = holds f.number after (ap (λ (x : Filesystem ℕ). x.overlay) itself ∙ e)
 
   still_fit : (number : ℕ) (after : Overlay ℕ) → GoesOn world later number after → has_fit_layers after ≡ true
-  still_fit number after on = (λ i. has_fit_layers (record {
-    upper = on.upper i;
-    work = on.work i;
-    lowers = on.lowers i;
-    mounter = after.mounter;
-    real = after.real;
-  })) ∙ fit_overlay world files are number on.before on.is
+  still_fit number after on = grind (arith, common_steps, fit_overlay)
 
   pub overlays_go_on : OverlayInvariants nat_eq later
   overlays_go_on = record {

@@ -1,5 +1,6 @@
 -- A change of a plain tree that spares what is locked keeps the invariants of trees and of overlays.
-use Rattle.std.proofs.Common.{◌≡◌, ◌≢◌, refl, sym, ap, subst, ◌∙◌, true≢false, eqb-true, ne_eqb, ⊎_elim, inl, inr, ℕ, nat_eq, Bool, true, false, not, cond, ◌||◌, List, [], ◌∷◌, filter, map, Some, None, is_some}
+use Rattle.std.proofs.Common.{arith, ◌≡◌, ◌≢◌, refl, sym, ap, subst, ◌∙◌, true≢false, eqb-true, ne_eqb, ⊎_elim, inl, inr, ℕ, nat_eq, Bool, true, false, not, cond, ◌||◌, List, [], ◌∷◌, filter, map, Some, None, is_some}
+use Rattle.std.proofs.lemmas.Grind.{common_steps}
 use Rattle.std.proofs.lemmas.Bool.Decides.{eqb_tells}
 use Rattle.std.specs.Prelude.{All, flat_map}
 use Rattle.vt_spec.specs.FileTree.{FileTree}
@@ -96,17 +97,7 @@ module _ (fresh : Fresh ℕ) (world : World ℕ) (location : Location ℕ) (chan
   Fits f = IsFileTree f.files × (is_fit_filesystem f ≡ true)
 
   all_fit : All Fits world.filesystems
-  all_fit = all_from_among Fits world.filesystems (λ f m. (
-    record {
-      tree = among_from_all (λ (g : Filesystem ℕ). IsTree g.files.tree) world.filesystems conditions.files.trees f m;
-      numbers =
-          among_from_all (λ (g : Filesystem ℕ). ListsNumbers nat_eq g.files) world.filesystems conditions.files.numbers
-          f m;
-      own_parents = among_from_all (λ
-          (g : Filesystem ℕ). HasOwnParents g.files.tree) world.filesystems conditions.files.own_parents f m;
-    },
-    among_from_list_all is_fit_filesystem world.filesystems conditions.files.fit_filesystems f m,
-  ))
+  all_fit = grind (arith, common_steps, all_from_among, among_from_all, among_from_list_all)
 
   all_fit_later : All Fits later.filesystems
   all_fit_later = replaced_all Fits new world.filesystems all_fit (⊎_elim (λ is. inl (
@@ -120,11 +111,7 @@ module _ (fresh : Fresh ℕ) (world : World ℕ) (location : Location ℕ) (chan
       (sym new_number) none.1)) (numbered_all Fits place world.filesystems all_fit))
 
   number_same : (f : Filesystem ℕ) → (replaced_if_numbered nat_eq new f).number ≡ f.number
-  number_same f = by (nat_eq new.number f.number) refl
-    where
-      by : (b : Bool) → nat_eq new.number f.number ≡ b → (cond b new f).number ≡ f.number
-      by true e = eqb-true new.number f.number e
-      by false e = refl
+  number_same f = grind (arith, common_steps, eqb-true)
 
   pub trees_later : TreeInvariants nat_eq later
   trees_later = record {

@@ -1,6 +1,7 @@
 -- Where inodes go that nothing uses, overlays keep their invariants: first those of overlays go, then those of plain
 -- trees.
-use Rattle.std.proofs.Common.{◌≡◌, refl, sym, ap, subst, ◌∙◌, true≢false, eq-eqb, ⊎_elim, ℕ, nat_eq, Bool, true, false, not, cond, List, [], ◌∷◌, ◌++◌, find, map, Option, Some, None, is_some}
+use Rattle.std.proofs.Common.{arith, ◌≡◌, refl, sym, ap, subst, ◌∙◌, true≢false, eq-eqb, ⊎_elim, ℕ, nat_eq, Bool, true, false, not, cond, List, [], ◌∷◌, ◌++◌, find, map, Option, Some, None, is_some}
+use Rattle.std.proofs.lemmas.Grind.{common_steps}
 use Rattle.std.specs.List.{list_all}
 use Rattle.std.specs.Prelude.{All, filter, filter_map, flat_map, option_map, unwrap_or}
 use Rattle.std.proofs.lemmas.List.Elements.{All-weaker}
@@ -318,13 +319,7 @@ module _ (world : World ℕ) (files : HasFileTrees world)
 
         objects : (b : Bool) (inode object : ℕ) → (abbrev_left b).real inode ≡ Some (Upper object)
             → before.real inode ≡ Some (Upper object)
-        objects true inode object g = g
-        objects false inode object g = by (is_among nat_eq inode (used_in nat_eq world f)) g
-          where
-            by : (u : Bool) → cond u (before.real inode) None ≡ Some (Upper object)
-                → before.real inode ≡ Some (Upper object)
-            by true h = h
-            by false h = none_is_some (Upper object) h
+        objects b inode object g = grind (arith, common_steps, none_is_some)
 
   pub first_goes : (number : ℕ) (after : Overlay ℕ)
       → (filesystem_numbered nat_eq first_later number).overlay ≡ Some after → GoesOn world first_later number after

@@ -1,14 +1,15 @@
 -- Where what nothing uses goes, overlays keep their invariants: filesystems go, then inodes of overlays, and then those
 -- of plain trees.
-use Rattle.std.proofs.Common.{◌≡◌, refl, sym, ap, subst, ◌∙◌, true≢false, eqb-true, eq-eqb, ⊎_elim, inl, ℕ, nat_eq, Bool, true, false, not, cond, ◌&&◌, ◌||◌, List, [], ◌∷◌, ◌++◌, filter, find, Option, Some, None, is_some}
+use Rattle.std.proofs.Common.{arith, ◌≡◌, refl, sym, ap, subst, ◌∙◌, true≢false, eqb-true, eq-eqb, ⊎_elim, inl, ℕ, nat_eq, Bool, true, false, not, cond, ◌&&◌, ◌||◌, List, [], ◌∷◌, ◌++◌, filter, Option, Some, None, is_some}
+use Rattle.std.proofs.lemmas.Grind.{common_steps}
 use Rattle.std.proofs.lemmas.Bool.{and_from}
 use Rattle.std.specs.List.{list_any}
-use Rattle.std.specs.Prelude.{flat_map, option_to_list, unwrap_or}
-use Rattle.vt_spec.specs.Lists.{any_pair, then_some}
+use Rattle.std.specs.Prelude.{flat_map, option_to_list}
+use Rattle.vt_spec.specs.Lists.{any_pair}
 use Rattle.vt_spec.specs.Machine.Invariants.{IsMerged, ListsNumbers, OverlayInvariants}
 use Rattle.vt_spec.specs.Machine.Locked.{of_overlay, overlay_or, upper_and_work}
 use Rattle.vt_spec.specs.Machine.Settled.{filesystem_lives, has_layer_on, is_mounted, without_dead_filesystems}
-use Rattle.vt_spec.specs.Machine.World.{Filesystem, Layer, Overlay, World, filesystem_numbered, is_overlay, layers_of, no_filesystem, shown_layers}
+use Rattle.vt_spec.specs.Machine.World.{Filesystem, Layer, Overlay, World, filesystem_numbered, is_overlay, layers_of, shown_layers}
 use Rattle.vt_spec.specs.TreeInvariant.{IsReached, IsTree}
 use Rattle.vt_spec.proofs.Lists.{Among, among-append, among-append_left, among-append_right, among-filter, among-from_filter, any_among, any_from_among, pair-filter}
 use Rattle.std.proofs.lemmas.List.Elements.{All-filter}
@@ -79,23 +80,12 @@ pairs_fewer {B = B} test g stays (first ∷ rest) e = by (stays first) (pairs_fe
 -- A filesystem that is there, by an inode in it or by its overlay
 there_among : (world : World ℕ) (number inode : ℕ) → is_some (inode_in world number inode) ≡ true
     → Among (filesystem_numbered nat_eq world number) world.filesystems
-there_among world number inode there = by
-    (find (λ (f : Filesystem ℕ). nat_eq number f.number) world.filesystems) refl there
-  where
-    by : (o : Option (Filesystem ℕ)) → find (λ (f : Filesystem ℕ). nat_eq number f.number) world.filesystems ≡ o
-        → is_some ((unwrap_or o (no_filesystem number)).files.tree.node inode) ≡ true
-        → Among (unwrap_or o (no_filesystem number)) world.filesystems
-    by None e h = absurd (true≢false (sym h))
-    by (Some f) e h = found_among (λ (f : Filesystem ℕ). nat_eq number f.number) world.filesystems f e
+there_among world number inode there = grind (arith, common_steps, true≢false, found_among)
 
 pub leads_same : (world later : World ℕ) (layer : Layer ℕ)
     → filesystem_numbered nat_eq later layer.filesystem ≡ filesystem_numbered nat_eq world layer.filesystem
     → LeadsAsBefore world later layer
-leads_same world later layer same path = (
-  ap (λ (f : Filesystem ℕ). Rattle.vt_spec.specs.TreeInvariant.led f.files.tree layer.directory path) same,
-  kept_same _ _ (ap (λ (f : Filesystem ℕ). then_some
-      (Rattle.vt_spec.specs.TreeInvariant.led f.files.tree layer.directory path) f.files.tree.node) same),
-)
+leads_same world later layer same path = grind (arith, common_steps, kept_same)
 
 pub shown_among : (overlay : Overlay ℕ) (layer : Layer ℕ) → Among layer (shown_layers overlay)
     → Among layer (layers_of overlay)

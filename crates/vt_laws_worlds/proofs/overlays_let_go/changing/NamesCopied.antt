@@ -1,4 +1,5 @@
 -- Copies take no name of the upper layer away: each stands under a name that is free.
+use Rattle.std.proofs.lemmas.Grind.{common_steps}
 use Rattle.std.proofs.Common.{◌≡◌, ◌≢◌, ◌≤◌, refl, sym, ap, subst, ◌∙◌, ◌⊎◌, inl, inr, ⊎_elim, append_assoc, true≢false, arith, ℕ, zero, suc, ◌+◌, nat_eq, eq-eqb, ne_eqb, true, cond, List, [], ◌∷◌, ◌++◌, length, reverse, Option, Some, None, is_some, unwrap_or}
 use Rattle.std.proofs.lemmas.Bool.Decides.{eqb_tells}
 use Rattle.std.specs.Cmp.Lexicographic.{bytes_decides}
@@ -6,7 +7,7 @@ use Rattle.std.specs.Prelude.{⊤}
 use Rattle.std.specs.Str.{bytes_eq}
 use mathlib.Core.List.{reverse-cons}
 use Rattle.vt_spec.specs.FileTree.{FileTree, a_name, named_parent}
-use Rattle.vt_spec.specs.Language.Changes.{with_inode, with_name, without_name, node_without_entry}
+use Rattle.vt_spec.specs.Language.Changes.{with_inode, with_name, without_name}
 use Rattle.vt_spec.specs.Lists.{Fresh, chain}
 use Rattle.vt_spec.specs.Machine.CopyUp.{Merge, copied_content, copied_each, copied_up, copy_named, copy_of, copy_parent, line_by, line_to, with_real}
 use Rattle.vt_spec.specs.Machine.World.{Real, upper_object}
@@ -35,26 +36,14 @@ one_place d directory n name = ⊎_elim (λ same. ⊎_elim (λ e. inl (same.1, (
 pub put_same : (files : FileTree ℕ) (directory : ℕ) (name : List ℕ) (number d : ℕ) (n : List ℕ)
     → ((d ≡ directory) → (n ≡ name) → ⊥)
     → entry_at (with_name nat_eq files directory name number).tree d n ≡ entry_at files.tree d n
-put_same files directory name number d n differ = ⊎_elim
-    (λ same. ap (λ m. entry_at (with_name nat_eq files directory name number).tree m n) same.1
-    ∙ ap (λ o. entry_named n (entries_in o))
-    (node_set files.tree directory (node_with_entry name number (files.tree.node directory)))
-    ∙ name_stays_put n name number (files.tree.node directory) (differ same.1)
-    ∙ ap (λ m. entry_at files.tree m n) (sym same.1)) (λ other. ap (λ o. entry_named n (entries_in o))
-    (node_other files.tree directory (node_with_entry name number (files.tree.node directory)) d other.1))
-    (eqb_tells d directory)
+put_same files directory name number d n differ =
+    grind (arith, common_steps, node_set, name_stays_put, node_other, eqb_tells)
 
 pub take_same : (files : FileTree ℕ) (directory : ℕ) (name : List ℕ) (d : ℕ) (n : List ℕ)
     → ((d ≡ directory) → (n ≡ name) → ⊥)
     → entry_at (without_name nat_eq files directory name).tree d n ≡ entry_at files.tree d n
-take_same files directory name d n differ = ⊎_elim
-    (λ same. ap (λ m. entry_at (without_name nat_eq files directory name).tree m n) same.1
-    ∙ ap (λ o. entry_named n (entries_in o))
-    (node_set files.tree directory (node_without_entry name (files.tree.node directory)))
-    ∙ name_stays_without n name (files.tree.node directory) (differ same.1)
-    ∙ ap (λ m. entry_at files.tree m n) (sym same.1)) (λ other. ap (λ o. entry_named n (entries_in o))
-    (node_other files.tree directory (node_without_entry name (files.tree.node directory)) d other.1))
-    (eqb_tells d directory)
+take_same files directory name d n differ =
+    grind (arith, common_steps, node_set, name_stays_without, node_other, eqb_tells)
 
 module _ (files : FileTree ℕ) (tree : IsTree files.tree) (numbers : ListsNumbers nat_eq files) (start : FileTree ℕ)
     (fresh : Fresh ℕ) (distinct : (j k : ℕ) → fresh j ≡ fresh k → j ≡ k) (spare : ℕ → Type 0)
@@ -112,12 +101,7 @@ module _ (files : FileTree ℕ) (tree : IsTree files.tree) (numbers : ListsNumbe
 
     told : (number seen : ℕ) → upper_object (real_later number) ≡ Some seen
         → ((number ≡ object) × (seen ≡ copy)) ⊎ (upper_object (real number) ≡ Some seen)
-    told number seen e = ⊎_elim (λ same. inl (
-      same.1,
-      sym (same_Some copy seen (ap (λ b. upper_object (cond b (Some (Upper copy)) (real number))) (sym same.0)
-          ∙ e)),
-    )) (λ other. inr (ap (λ b. upper_object (cond b (Some (Upper copy)) (real number))) (sym other.0) ∙ e))
-        (eqb_tells number object)
+    told number seen e = grind (arith, common_steps, same_Some, eqb_tells)
 
     not_copy : (inode : ℕ) → IsLeft (k + 1) inode → inode ≢ copy
     not_copy inode (inl j) same = let e = distinct j.0 k (sym j.2 ∙ same) in let h = j.1 in let no : ⊥ = omega arith in

@@ -1,6 +1,7 @@
 -- What loses its last name in the upper layer where a change gives a name of the overlay: at the most what the upper
 -- layer had at that name before the call.
-use Rattle.std.proofs.Common.{◌≡◌, refl, sym, ap, subst, ◌∙◌, ◌⊎◌, inl, inr, ⊎_elim, append-nil, true≢false, ℕ, nat_eq, Bool, true, false, cond, not, ◌&&◌, List, [], ◌∷◌, ◌++◌, map, Option, Some, None, is_some, option_to_list, unwrap_or}
+use Rattle.std.proofs.Common.{arith, ◌≡◌, refl, sym, ap, subst, ◌∙◌, ◌⊎◌, inl, inr, ⊎_elim, append-nil, true≢false, ℕ, nat_eq, Bool, true, false, cond, not, ◌&&◌, List, [], ◌∷◌, ◌++◌, map, Option, Some, None, is_some, option_to_list, unwrap_or}
+use Rattle.std.proofs.lemmas.Grind.{common_steps}
 use Rattle.std.proofs.lemmas.Bool.{not-true}
 use Rattle.vt_spec.specs.FileTree.{FileTree}
 use Rattle.vt_spec.specs.Language.Changes.{Change}
@@ -9,7 +10,6 @@ use Rattle.vt_spec.specs.Lists.{Fresh, evens, is_among, odds, then_some}
 use Rattle.vt_spec.specs.Machine.CopyUp.{Merge, Stack, copied_up, upper_of}
 use Rattle.vt_spec.specs.Machine.Filesystems.{stack_of, with_change}
 use Rattle.vt_spec.specs.Machine.Invariants.{IsWorld}
-use Rattle.vt_spec.specs.Machine.Locked.{overlay_or}
 use Rattle.vt_spec.specs.Machine.Mounts.{Location}
 use Rattle.vt_spec.specs.Machine.Descriptors.{with_descriptor}
 use Rattle.vt_spec.specs.Machine.Settled.{named_in, settled}
@@ -26,7 +26,7 @@ use Rattle.vt_laws_trees.proofs.layers.layers.CopyingReady.{IsReady}
 use Rattle.vt_laws_mounts.specs.LettingGo.FileChanges.{names_lost}
 use Rattle.vt_laws_mounts.specs.LettingGo.InUse.{IsListedTree, is_inode_used}
 use Rattle.vt_laws_mounts.specs.LettingGo.OneByOne.{Inode, is_inode_among}
-use Rattle.vt_laws_mounts.specs.LettingGo.Overlays.{let_go_all_inodes, let_go_in_of, let_go_merged, let_go_plain, uppers_in, uppers_of, uppers_of_inode_in, without_inode_of}
+use Rattle.vt_laws_mounts.specs.LettingGo.Overlays.{let_go_all_inodes, let_go_in_of, let_go_merged, let_go_plain, uppers_of, uppers_of_inode_in, without_inode_of}
 use Rattle.vt_laws_mounts.proofs.letting_go.leaving.FilesChanged.{none_left}
 use Rattle.vt_laws_mounts.proofs.letting_go.Lists.{Among, among-from_filter, among-from_map, among_from_all, any_passes, flat_map_none, map_same, one_passes}
 use Rattle.vt_laws_mounts.proofs.letting_go.Trees.{named_among}
@@ -74,16 +74,7 @@ module _ (number : ℕ) (world : World ℕ) (plain : (f : Filesystem ℕ) → Am
 
   -- an inode of a plain tree has no upper object
   none_in : (inode : ℕ) (f : Filesystem ℕ) → Among f world.filesystems → uppers_of_inode_in (number, inode) f ≡ []
-  none_in inode f m = by f.overlay refl
-    where
-      by : (o : Option (Overlay ℕ)) → f.overlay ≡ o
-          → cond (nat_eq f.number number) (overlay_or [] (uppers_in inode) o) [] ≡ []
-      by None e = nothing (nat_eq f.number number)
-        where
-          nothing : (b : Bool) → Path (List Inode) (cond b [] []) []
-          nothing true = refl
-          nothing false = refl
-      by (Some overlay) e = ap (λ b. cond b (uppers_in inode overlay) []) (plain f m (ap is_some e))
+  none_in inode f m = grind (arith, common_steps)
 
   no_uppers : (list : List ℕ) → uppers_of world (inodes_of list) ≡ []
   no_uppers [] = refl

@@ -1,5 +1,6 @@
 -- What calls that change overlays let go of.
-use Rattle.std.proofs.Common.{◌≡◌, refl, sym, ap, subst, ◌∙◌, ℕ, nat_eq, eq-eqb, Bool, true, false, not, ◌||◌, ◌&&◌, List, [], map, ⊎_elim, is_some, Some}
+use Rattle.std.proofs.Common.{arith, ◌≡◌, refl, sym, ap, subst, ◌∙◌, ℕ, nat_eq, eq-eqb, Bool, true, false, not, ◌||◌, ◌&&◌, List, [], map, ⊎_elim, is_some, Some}
+use Rattle.std.proofs.lemmas.Grind.{common_steps}
 use Rattle.std.proofs.lemmas.Bool.{and_parts, not-true, or_cases}
 use Rattle.vt_spec.proofs.Lists.{among_from_contains}
 use Rattle.vt_spec.specs.Language.Changes.{Change}
@@ -103,11 +104,7 @@ still_mounted world settles gone number keeps =
         (ap (is_located nat_eq world) (same_number world gone world.namespaces b mount) ∙ on)
 
     stays : not (is_among nat_eq mount.number gone) ≡ true → mount_lives nat_eq then_ image ≡ true
-    stays isnt = ap (λ n. is_some n || is_located nat_eq world image.number)
-        (same_namespace world gone world.namespaces b mount (not-true (is_among nat_eq mount.number gone) isnt))
-        ∙ ap (λ n. is_some mount.namespace || is_located nat_eq world n)
-        (same_number world gone world.namespaces b mount)
-        ∙ passes (mount_lives nat_eq world) world.mounts settles.in_use.mounts mount kept.1
+    stays isnt = grind (arith, common_steps, same_namespace, not-true, same_number, passes, settles, kept)
 
 module _ (fresh : Fresh ℕ) (world : World ℕ) (location : Location ℕ) (change : Change ℕ) (overlay : Overlay ℕ)
     (upper : Layer ℕ)

@@ -1,5 +1,6 @@
 -- What goes when an overlay changes.
-use Rattle.std.proofs.Common.{◌≡◌, refl, sym, ap, subst, ◌∙◌, ◌⊎◌, inl, inr, ⊎_elim, true≢false, ne_eqb, ℕ, nat_eq, eqb-true, eq-eqb, Bool, true, false, cond, not, ◌||◌, ◌&&◌, List, [], find, map, Option, Some, None, is_some, option_to_list, unwrap_or}
+use Rattle.std.proofs.Common.{arith, ◌≡◌, refl, sym, ap, subst, ◌∙◌, ◌⊎◌, inl, inr, ⊎_elim, true≢false, ne_eqb, ℕ, nat_eq, eqb-true, eq-eqb, Bool, true, false, cond, not, ◌||◌, ◌&&◌, List, [], find, map, Option, Some, None, is_some, option_to_list, unwrap_or}
+use Rattle.std.proofs.lemmas.Grind.{common_steps}
 use Rattle.std.proofs.lemmas.Bool.{and_parts, not-true, or_cases, cases_Bool}
 use Rattle.std.proofs.lemmas.List.Folds.{list_any-append}
 use Rattle.std.specs.List.{filter_map, list_all}
@@ -55,24 +56,8 @@ HasThese list wider = (filesystem inode : ℕ) → is_inode_among filesystem ino
 -- what may have lost its last name is in a longer list, too
 changes_within : (last : World ℕ) (lost wider : List Inode) → HasThese lost wider → (old new : Filesystem ℕ)
     → ChangesFilesystem last lost old new → ChangesFilesystem last wider old new
-changes_within last lost wider has old new is = record {
-  number = is.number;
-  root = is.root;
-  layers = is.layers;
-  inodes = is.inodes;
-  names = within (λ k. is_among nat_eq k (named_in new.files)) old.number (named_in old.files) is.names;
-  objects = λ target. within (λ k. is_among nat_eq k (objects_of_overlay nat_eq target new)) target
-      (objects_of_overlay nat_eq target old) (is.objects target);
-}
-  where
-    within : (kept : ℕ → Bool) (filesystem : ℕ) (list : List ℕ)
-        → list_all (λ k. kept k || is_inode_among filesystem k lost) list ≡ true
-        → list_all (λ k. kept k || is_inode_among filesystem k wider) list ≡ true
-    within kept filesystem list all = all_pass (λ k. kept k || is_inode_among filesystem k wider) list (λ k m.
-        ⊎_elim (λ e. or_first (kept k) (is_inode_among filesystem k wider) e)
-        (λ e. or_second (kept k) (is_inode_among filesystem k wider) (has filesystem k e))
-        (or_cases (kept k) (is_inode_among filesystem k lost)
-        (passes (λ k. kept k || is_inode_among filesystem k lost) list all k m)))
+changes_within last lost wider has old new is =
+    grind (arith, common_steps, all_pass, or_first, or_second, or_cases, passes)
 
 -- the real objects of an overlay in a filesystem
 abbrev objects_by : ℕ → List ℕ → Overlay ℕ → List ℕ
@@ -86,15 +71,7 @@ objects_stay : (filesystem : ℕ) (numbers more : List ℕ) (overlay : Overlay �
     → upper_object (real number) ≡ Some object) → (object : ℕ) → Among object (objects_by filesystem numbers overlay)
     → Among object (objects_by filesystem more (record overlay { real = real }))
 objects_stay filesystem numbers more overlay real stay grows object =
-    by (holds_of (λ (layer : Layer ℕ). nat_eq filesystem layer.filesystem) overlay.upper)
-  where
-    by : (b : Bool) → Among object (cond b (filter_map (λ number. upper_object (overlay.real number)) numbers) [])
-        → Among object (cond b (filter_map (λ number. upper_object (real number)) more) [])
-    by true m =
-        let from = among-from_filter_map (λ number. upper_object (overlay.real number)) numbers object m in
-        among-filter_map (λ number. upper_object (real number)) more from.0 object (stay from.0 from.1)
-        (grows from.0 object from.2)
-    by false m = absurd m
+    grind (arith, common_steps, among-from_filter_map, among-filter_map)
 
 module _ (fresh : Fresh ℕ) (world : World ℕ) (location : Location ℕ) (change : Change ℕ) (overlay : Overlay ℕ)
     (upper : Layer ℕ)

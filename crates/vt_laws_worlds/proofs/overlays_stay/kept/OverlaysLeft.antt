@@ -1,5 +1,6 @@
 -- A permit leaves overlays without an upper layer as they are.
-use Rattle.std.proofs.Common.{◌≡◌, refl, sym, ap, subst, ◌∙◌, ℕ, nat_eq, eqb-true, Bool, true, false, true≢false, cond, List, [], ◌∷◌, ◌++◌, filter, map, Option, Some, None, is_some}
+use Rattle.std.proofs.Common.{arith, ◌≡◌, refl, sym, ap, subst, ◌∙◌, ℕ, nat_eq, eqb-true, Bool, true, false, true≢false, cond, List, [], ◌∷◌, ◌++◌, filter, map, Option, Some, None, is_some}
+use Rattle.std.proofs.lemmas.Grind.{common_steps}
 use Rattle.std.specs.Prelude.{All}
 use Rattle.vt_spec.specs.Language.Changes.Change.{CopyUp, Make, Move, Remove}
 use Rattle.vt_spec.specs.Language.Changes.{Change, changed}
@@ -41,11 +42,7 @@ by_overlays P plain before after same all = all_from_among P after (λ f m. by f
 
 pub no_upper_of_plain : (f : Filesystem ℕ) → is_overlay f ≡ false
     → of_overlay false (λ overlay. is_some overlay.upper) f ≡ false
-no_upper_of_plain f e = by f.overlay e
-  where
-    by : (o : Option (Overlay ℕ)) → is_some o ≡ false → overlay_or false (λ overlay. is_some overlay.upper) o ≡ false
-    by None h = refl
-    by (Some overlay) h = absurd (true≢false h)
+no_upper_of_plain f e = grind (arith, common_steps, true≢false)
 
 -- a plain filesystem more
 one_more : (list : List (Filesystem ℕ)) (new : Filesystem ℕ) → is_overlay new ≡ false
@@ -98,24 +95,7 @@ module _ (world : World ℕ) (fresh : Fresh ℕ) (task : Task ℕ) (none : Overl
           ∙ (λ i. filesystem_numbered nat_eq (record middle { filesystems = sym same i }) number)
 
       plain : old.overlay ≡ None → Left (map (replaced_if_numbered nat_eq new) middle.filesystems)
-      plain e = ap (λ list. overlays_in (map (replaced_if_numbered nat_eq new) list)) same
-          ∙ filter_stays (replaced_if_numbered nat_eq new) is_overlay world.filesystems kind stays
-        where
-          kind : (f : Filesystem ℕ) → Among f world.filesystems
-              → is_overlay (replaced_if_numbered nat_eq new f) ≡ is_overlay f
-          kind f m = each (nat_eq new.number f.number) refl
-            where
-              each : (b : Bool) → nat_eq new.number f.number ≡ b → is_overlay (cond b new f) ≡ is_overlay f
-              each true h = ap is_overlay (sym (is_old f m h))
-              each false h = refl
-
-          stays : (f : Filesystem ℕ) → Among f world.filesystems → is_overlay f ≡ true
-              → replaced_if_numbered nat_eq new f ≡ f
-          stays f m is = each (nat_eq new.number f.number) refl
-            where
-              each : (b : Bool) → nat_eq new.number f.number ≡ b → cond b new f ≡ f
-              each true h = absurd (true≢false (sym is ∙ ap is_overlay (is_old f m h) ∙ ap is_some e))
-              each false h = refl
+      plain e = grind (arith, common_steps, filter_stays, is_old, true≢false)
 
       unchanged : (overlay : Overlay ℕ) (upper : Option (Layer ℕ)) → is_some upper ≡ false
           → Left (overlay_changed nat_eq supply middle old overlay upper change).filesystems

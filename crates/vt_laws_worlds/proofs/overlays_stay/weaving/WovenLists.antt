@@ -1,4 +1,5 @@
 -- Lists of filesystems, woven by their numbers.
+use Rattle.std.proofs.lemmas.Grind.{common_steps}
 use Rattle.std.proofs.Common.{◌≡◌, refl, sym, ap, subst, ◌∙◌, ℕ, nat_eq, nat_lt, Bool, true, false, true≢false, cond, not, ◌&&◌, List, [], ◌∷◌, filter, find, Some, arith}
 use Rattle.std.specs.Prelude.{All}
 use Rattle.std.specs.List.{list_all}
@@ -17,11 +18,7 @@ fails test filesystem = not (test filesystem)
 -- Numbers
 
 not_both : (a b : ℕ) → nat_lt a b ≡ true → nat_lt b a ≡ false
-not_both a b less = by (nat_lt b a) refl
-  where
-    by : (c : Bool) → nat_lt b a ≡ c → c ≡ false
-    by false e = refl
-    by true e = absurd (omega (arith, ltb-true a b less, ltb-true b a e))
+not_both a b less = grind (arith, common_steps, ltb-true)
 
 -- Putting in
 
@@ -113,13 +110,7 @@ put_passing test f passes (first ∷ rest) before =
         → (list_all (is_before f) (filter test rest) ≡ true → filter test (put_in f rest) ≡ f ∷ filter test rest)
         → filter test (cond b (first ∷ put_in f rest) (f ∷ first ∷ rest))
         ≡ f ∷ cond c (first ∷ filter test rest) (filter test rest)
-    by true e true g before later =
-        absurd (true≢false (sym (and_parts (is_before f first) (list_all (is_before f) (filter test rest)) before).0
-        ∙ not_both first.number f.number e))
-    by true e false g before later =
-        ap (λ c. cond c (first ∷ filter test (put_in f rest)) (filter test (put_in f rest))) g ∙ later before
-    by false e c g before later = ap (λ d. cond d (f ∷ filter test (first ∷ rest)) (filter test (first ∷ rest))) passes
-        ∙ ap (λ d. f ∷ cond d (first ∷ filter test rest) (filter test rest)) g
+    by b e c g before later = grind (arith, common_steps, true≢false, and_parts, not_both)
 
 pub woven_lists_are_passing : WovenListsArePassing
 woven_lists_are_passing test plain [] parted rising = none_pass test plain parted.fail
@@ -151,13 +142,7 @@ turned p q (first ∷ rest) = by (p first) (q first) refl refl (turned p q rest)
     by : (a b : Bool) → p first ≡ a → q first ≡ b → filter p (filter q rest) ≡ filter q (filter p rest)
         → filter p (cond b (first ∷ filter q rest) (filter q rest))
         ≡ filter q (cond a (first ∷ filter p rest) (filter p rest))
-    by true true e f later = ap (λ x. cond x (first ∷ filter p (filter q rest)) (filter p (filter q rest))) e
-        ∙ ap (λ list. first ∷ list) later
-        ∙ sym (ap (λ x. cond x (first ∷ filter q (filter p rest)) (filter q (filter p rest))) f)
-    by true false e f later =
-        later ∙ sym (ap (λ x. cond x (first ∷ filter q (filter p rest)) (filter q (filter p rest))) f)
-    by false true e f later = ap (λ x. cond x (first ∷ filter p (filter q rest)) (filter p (filter q rest))) e ∙ later
-    by false false e f later = later
+    by a b e f later = grind (arith, common_steps)
 
 pub woven_lists_are_filtered : WovenListsAreFiltered
 woven_lists_are_filtered test stays plain overlays parted overlays_rise rising =

@@ -1,5 +1,6 @@
 -- What is in use is the same in worlds that are the same.
-use Rattle.std.proofs.Common.{◌≡◌, sym, ap, subst, ◌∙◌, ℕ, nat_eq, Bool, true, false, ◌&&◌, ◌||◌, List, [], ◌∷◌, ◌++◌, map, filter, filter_map, flat_map, is_some}
+use Rattle.std.proofs.Common.{arith, ◌≡◌, sym, ap, subst, ◌∙◌, ℕ, nat_eq, Bool, true, ◌&&◌, ◌||◌, List, [], ◌∷◌, ◌++◌, map, filter, filter_map, flat_map, is_some}
+use Rattle.std.proofs.lemmas.Grind.{common_steps}
 use Rattle.std.specs.List.{list_all, list_any}
 use Rattle.std.specs.List.Sorted.{IsPermutation}
 use Rattle.std.proofs.lemmas.List.Sorted.{IsPermutation-append_left, IsPermutation-cons, list_any-IsPermutation}
@@ -16,7 +17,7 @@ use Rattle.vt_laws_trees.proofs.runs.Permuted.{IsPermutation-flat_map, list_all-
 use Rattle.vt_spec.specs.FileTree.{targets_in}
 use Rattle.vt_spec.specs.Machine.Locked.{of_overlay, overlay_or}
 use Rattle.vt_spec.specs.Machine.Mounts.{Location, Mount, mount_in, root_of}
-use Rattle.vt_spec.specs.Machine.Settled.{filesystem_lives, has_layer_on, layers_in, located_in, objects_of_overlay, used_in}
+use Rattle.vt_spec.specs.Machine.Settled.{filesystem_lives, layers_in, located_in, objects_of_overlay, used_in}
 use Rattle.vt_spec.specs.Machine.World.{Filesystem, World, layers_of}
 use Rattle.vt_spec.specs.Machine.Invariants.{IsWorld}
 use Rattle.vt_laws_worlds.proofs.RaisedInUse.{unsettled_of, world_of}
@@ -64,12 +65,7 @@ module _ (one second : World ℕ) (same : Alike one (with_mounts_of one second))
 
   lives_same : (first next : Filesystem ℕ) → AlikeFilesystem first next
       → filesystem_lives nat_eq one first ≡ filesystem_lives nat_eq other next
-  lives_same first next alike = λ i. is_shown one.mounts (alike.number i) || each_any AlikeFilesystem
-      (λ merged. has_layer_on nat_eq first.number merged && is_shown one.mounts merged.number)
-      (λ merged. has_layer_on nat_eq next.number merged && is_shown one.mounts merged.number) (λ a b known. λ j.
-      overlay_or false (λ overlay. list_any (λ layer. nat_eq (alike.number j) layer.filesystem) (layers_of overlay))
-      (overlay_same a b known j) && is_shown one.mounts (known.number j))
-      one.filesystems other.filesystems same.filesystems i
+  lives_same first next alike = grind (arith, common_steps, each_any, overlay_same)
 
   inodes_used : (a b : Filesystem ℕ) → AlikeFilesystem a b
       → list_all (is_inode_used one a) a.files.numbers ≡ list_all (is_inode_used other b) b.files.numbers

@@ -1,5 +1,6 @@
 -- Each change of a tree that a permit asks for is proper, and fits whoever keeps that tree alone.
-use Rattle.std.proofs.Common.{eq-eqb, le-leb, leb-true, ltb-false, ne_eqb, ◌≡◌, ◌≢◌, refl, sym, ap, subst, ◌∙◌, ⊎_elim, true≢false, ℕ, zero, suc, ◌+◌, ◌*◌, nat_eq, nat_le, nat_lt, Bool, true, false, not, cond, List, [], ◌∷◌, ◌&&◌, ◌||◌, length, Option, Some, None, option_map, option_and_then}
+use Rattle.std.proofs.Common.{arith, eq-eqb, le-leb, leb-true, ltb-false, ne_eqb, ◌≡◌, ◌≢◌, refl, sym, ap, subst, ◌∙◌, ⊎_elim, true≢false, ℕ, zero, suc, ◌+◌, ◌*◌, nat_eq, nat_le, nat_lt, Bool, true, false, not, cond, List, [], ◌∷◌, ◌&&◌, ◌||◌, length, Option, Some, None, option_map, option_and_then}
+use Rattle.std.proofs.lemmas.Grind.{common_steps}
 use Rattle.std.specs.Prelude.{⊤}
 use Rattle.vt_laws_trees.specs.Calls.Inodes.{change_of, written_if_some}
 use Rattle.vt_laws_mounts.proofs.letting_go.Lists.{all_from_among, among_from_all, among_numbers, passes}
@@ -23,8 +24,8 @@ use Rattle.vt_spec.specs.Fits.{Fits, MayReplace}
 use Rattle.vt_spec.specs.Inodes.{Inode, Inodes, parent_above, tree_of}
 use Rattle.vt_spec.specs.PathText.{is_empty}
 use Rattle.vt_spec.specs.Rights.{is_directory}
-use Rattle.vt_spec.specs.Tree.{Content, Node, Tree, bytes_in, is_directory_node, kind_of, parent_in}
-use Rattle.vt_spec.specs.Tree.Content.{Directory, Regular, Symlink, Whiteout}
+use Rattle.vt_spec.specs.Tree.{Node, Tree, bytes_in, is_directory_node, parent_in}
+use Rattle.vt_spec.specs.Tree.Content.{Directory}
 use Rattle.vt_spec.specs.TreeInvariant.{HasName, IsDirectory, IsReached, IsTree, entry_at, led}
 use Rattle.vt_spec.proofs.Lists.{chain_ends, chain_goes_on}
 use Rattle.vt_spec.proofs.Trees.{parent_reached, reached_named}
@@ -127,15 +128,7 @@ module _ (inodes : Inodes ℕ) where
 
 -- a regular file is no directory
 file_is_no_directory : (o : Option (Node ℕ)) → is_kind_in File o ≡ true → is_directory_node o ≡ false
-file_is_no_directory None e = refl
-file_is_no_directory (Some node) e = by node.content e
-  where
-    by : (content : Content ℕ) → is_kind_in File (Some (record { attr = node.attr; content = content })) ≡ true
-        → is_directory (kind_of content) ≡ false
-    by (Directory parent entries opaque) h = absurd (true≢false (sym h))
-    by (Regular bytes) h = refl
-    by (Symlink text) h = refl
-    by Whiteout h = refl
+file_is_no_directory o e = grind (arith, common_steps, true≢false)
 
 module _ (world : World ℕ) (fresh : Fresh ℕ) (task : Task ℕ) (permit : Permit ℕ) (whole : IsWorld nat_eq world)
     (given : IsGiven fresh world task permit) where
@@ -175,20 +168,7 @@ module _ (world : World ℕ) (fresh : Fresh ℕ) (task : Task ℕ) (permit : Per
 
   changed_facts : (location : Location ℕ) (change : Change ℕ) → SeesToChange world location change
       → FactsOf (Some (location, change))
-  changed_facts location (Make directory name number node) seen = absurd seen
-  changed_facts location (AddName directory name object) seen =
-      ((subst (λ d. IsProper (tree_at world location) (AddName d name object)) (sym seen.0) seen.1, tt), seen.2)
-  changed_facts location (Remove directory name object) seen =
-      ((subst (λ d. IsProper (tree_at world location) (Remove d name object)) (sym seen.0) seen.1, tt), tt)
-  changed_facts location (Move from old to new object) seen = absurd seen
-  changed_facts location (SetBytes file bytes) seen = (
-    (tt, (ap (λ n. is_directory_node ((tree_at world location).node n)) seen.0 ∙ seen.1, seen.2)),
-    seen.2,
-  )
-  changed_facts location (SetAttr object attr) seen = ((tt, tt), tt)
-  changed_facts location (SetMark directory opaque) seen =
-      ((tt, ap (λ n. is_directory_node ((tree_at world location).node n)) seen.0 ∙ seen.1), tt)
-  changed_facts location (CopyUp object) seen = absurd seen
+  changed_facts location change seen = grind (arith, common_steps)
 
   -- what is seen through a mount is in the tree that it shows
   abbrev shown : ℕ → Tree ℕ

@@ -1,5 +1,6 @@
 -- What each call's judgement sees to.
-use Rattle.std.proofs.Common.{List, None, Ok, Option, Some, [], ap, arith, eqb-true, false, inl, inr, is_some, le-leb, nat_eq, nat_le, not, refl, sym, true, true≢false, ℕ, ◌&&◌, ◌∙◌, ◌≡◌}
+use Rattle.std.proofs.lemmas.Grind.{common_steps}
+use Rattle.std.proofs.Common.{List, Ok, Option, Some, [], ap, arith, eqb-true, false, inl, inr, is_some, le-leb, nat_eq, nat_le, not, refl, sym, true, true≢false, ℕ, ◌&&◌, ◌∙◌, ◌≡◌}
 use Rattle.std.proofs.Math.Nat.{mod-lt}
 use Rattle.std.proofs.lemmas.Bool.{or_parts}
 use Rattle.std.specs.Prelude.{length}
@@ -26,8 +27,8 @@ use Rattle.vt_spec.specs.Machine.Walking.{Here, directory_walk, is_directory_the
 use Rattle.vt_spec.specs.Machine.World.{Task, World, is_directory_at, node_at, task_called}
 use Rattle.vt_spec.specs.PathText.{is_empty}
 use Rattle.vt_spec.specs.Rights.{is_directory}
-use Rattle.vt_spec.specs.Tree.{Content, Node, entries_in, is_directory_node, kind_of}
-use Rattle.vt_spec.specs.Tree.Content.{Directory, Regular, Symlink, Whiteout}
+use Rattle.vt_spec.specs.Tree.{Node, entries_in, is_directory_node}
+use Rattle.vt_spec.specs.Tree.Content.{Symlink}
 use Rattle.vt_spec.specs.declared.attributes.Kind.TheVariants.{Symlink as SymlinkKind}
 use Rattle.vt_laws_trees.proofs.trees.ChangesByLinks.{may_link}
 use Rattle.vt_laws_trees.proofs.trees.ChangesByRemoving.{may_move, old_removable}
@@ -42,15 +43,7 @@ use Rattle.vt_laws_trees.proofs.trees.PlacesReached.{file_is, new_is, new_leaf_i
 
 -- a symlink is no directory
 link_is_no_directory : (o : Option (Node ℕ)) → is_kind_in SymlinkKind o ≡ true → is_directory_node o ≡ false
-link_is_no_directory None e = refl
-link_is_no_directory (Some node) e = by node.content e
-  where
-    by : (content : Content ℕ) → is_kind_in SymlinkKind (Some (record { attr = node.attr; content = content })) ≡ true
-        → is_directory (kind_of content) ≡ false
-    by (Directory parent entries opaque) h = absurd (true≢false (sym h))
-    by (Regular bytes) h = refl
-    by (Symlink text) h = refl
-    by Whiteout h = refl
+link_is_no_directory o e = grind (arith, common_steps, true≢false)
 
 module _ (fresh : Fresh ℕ) (world : World ℕ) (whole : IsWorld nat_eq world) (task : Task ℕ)
     (called : task_called world task.name ≡ Some task) where

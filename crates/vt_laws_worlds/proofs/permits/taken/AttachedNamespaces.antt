@@ -1,9 +1,10 @@
 -- The namespaces of the mounts of a world in which a tree is attached do not go by the numbers of its copies.
-use Rattle.std.proofs.Common.{◌≡◌, refl, sym, ap, ◌∙◌, ℕ, nat_eq, eq-eqb, Bool, true, false, cond, ◌&&◌, List, [], ◌∷◌, ◌++◌, map, Option, None, Some}
+use Rattle.std.proofs.Common.{arith, ◌≡◌, refl, sym, ap, ◌∙◌, ℕ, nat_eq, eq-eqb, Bool, true, false, cond, ◌&&◌, List, [], ◌∷◌, ◌++◌, map, Option}
+use Rattle.std.proofs.lemmas.Grind.{common_steps}
 use Rattle.std.specs.Prelude.{flat_map}
 use Rattle.std.proofs.lemmas.List.{map-append}
 use Rattle.vt_spec.specs.Lists.{folded, rest_of}
-use Rattle.vt_spec.specs.Machine.Attach.{Copies, Graft, attached_by, copies_at, copy_at, graft_of, parts_of, pushed_onto, pushed_up, receiver_stood_on, twig_of}
+use Rattle.vt_spec.specs.Machine.Attach.{Copies, Graft, attached_by, copies_at, copy_at, graft_of, parts_of, pushed_up, twig_of}
 use Rattle.vt_spec.specs.Machine.Mounts.{Location, Mount, group_of, with_mount}
 use Rattle.vt_spec.specs.Machine.World.{World, mount_at}
 use Rattle.vt_spec.proofs.Worlds.{number-mount_in}
@@ -58,11 +59,7 @@ module _ (world : World ℕ) (place : Location ℕ) (moves : Bool) (tree : List 
     graft = graft_of nat_eq world new place moves tree
 
     pushed_stays : (mount : Mount ℕ) → (pushed_up nat_eq world new graft parts mount).namespace ≡ mount.namespace
-    pushed_stays mount = by (receiver_stood_on nat_eq graft parts mount)
-      where
-        by : (o : Option (Mount ℕ)) → (pushed_onto nat_eq world new graft parts mount o).namespace ≡ mount.namespace
-        by None = refl
-        by (Some part) = refl
+    pushed_stays mount = grind (arith, common_steps)
 
     all_pushed : (mounts : List (Mount ℕ))
         → namespaces_in (map (pushed_up nat_eq world new graft parts) mounts) ≡ namespaces_in mounts

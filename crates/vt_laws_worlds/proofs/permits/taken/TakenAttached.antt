@@ -1,5 +1,6 @@
 -- What is attached at a mount that is in no peer group: only the numbers of copies are taken.
-use Rattle.std.proofs.Common.{eq-eqb, ◌≡◌, refl, sym, ap, subst, ◌∙◌, ℕ, suc, ◌+◌, ◌*◌, ◌<◌, nat_eq, Bool, true, false, cond, not, ◌&&◌, List, [], ◌∷◌, ◌++◌, length, map, filter, filter_map, Option, Some, None, option_map, if◌then◌else◌, arith}
+use Rattle.std.proofs.lemmas.Grind.{common_steps}
+use Rattle.std.proofs.Common.{eq-eqb, ◌≡◌, sym, ap, subst, ◌∙◌, ℕ, suc, ◌+◌, ◌*◌, ◌<◌, nat_eq, Bool, true, false, cond, not, ◌&&◌, List, [], ◌∷◌, ◌++◌, length, map, filter, filter_map, Option, Some, None, option_map, if◌then◌else◌, arith}
 use Rattle.std.specs.Prelude.{unwrap_or}
 use Rattle.vt_spec.specs.Lists.{Fresh, folded, index_from, then_some, when}
 use Rattle.vt_spec.specs.Machine.Attach.{Copies, Graft, Twig, added_mounts, attach, attached_at, copies_from, copy_type, image, is_top, masters_with, nearest_image, index_in_rows, takes_part, twig_master, twig_of, with_moved_mounts}
@@ -21,20 +22,10 @@ place_bound test k (first ∷ rest) j e = by (test first) e (place_bound test (k
 
 pub index_bound : (mounts : List (Mount ℕ)) (number : ℕ) → 0 < length mounts
     → index_of nat_eq mounts number < length mounts
-index_bound mounts number some = by (index_from (λ mount. nat_eq number mount.number) 0 mounts) refl
-  where
-    by : (o : Option ℕ) → index_from (λ mount. nat_eq number mount.number) 0 mounts ≡ o → unwrap_or o 0 < length mounts
-    by None e = some
-    by (Some j) e =
-        let low = place_bound (λ mount. nat_eq number mount.number) 0 mounts j e in
-        omega arith
+index_bound mounts number some = grind (arith, common_steps, place_bound)
 
 first_index : (mount : Mount ℕ) (number : ℕ) → index_of nat_eq (mount ∷ []) number ≡ 0
-first_index mount number = by (nat_eq number mount.number)
-  where
-    by : (b : Bool) → ◌≡◌ {A = ℕ} (unwrap_or (cond b (Some 0) None) 0) 0
-    by true = refl
-    by false = refl
+first_index mount number = grind (arith, common_steps)
 
 module _ (world : World ℕ) (place : Location ℕ) (mounts : List (Mount ℕ)) where
   abbrev pub destination : Mount ℕ

@@ -1,4 +1,5 @@
 -- Only the first numbers of a supply are taken.
+use Rattle.std.proofs.lemmas.Grind.{common_steps}
 use Rattle.std.proofs.Common.{◌≡◌, refl, sym, ap, subst, ◌∙◌, true≢false, ℕ, zero, suc, ◌+◌, ◌*◌, ◌<◌, nat_eq, Bool, true, false, cond, List, [], ◌∷◌, length, map, filter, Option, Some, None, find, arith}
 use Rattle.std.specs.Prelude.{All, unwrap_or, ◌==◌}
 use Rattle.std.specs.List.{list_all}
@@ -15,7 +16,7 @@ use Rattle.vt_spec.specs.Lists.{Fresh, odds}
 use Rattle.vt_spec.specs.Machine.Apply.{apply, with_new_inode}
 use Rattle.vt_spec.specs.Machine.Attach.{attach, bind_tree}
 use Rattle.vt_spec.specs.Machine.Detach.{without_mounts_on, without_replaced}
-use Rattle.vt_spec.specs.Machine.Filesystems.{filesystem_changed, with_change}
+use Rattle.vt_spec.specs.Machine.Filesystems.{with_change}
 use Rattle.vt_spec.specs.Machine.Mounts.{Location, Mount, Propagation, group_of, index_of, mount_in, mount_tree, no_mount, numbers_by, tree_from}
 use Rattle.vt_spec.specs.Machine.Mounts.Propagation.{Private, Shared, Slave, Unbindable}
 use Rattle.vt_spec.specs.Machine.Namespaces.{namespaces_ended, unshared_by}
@@ -25,7 +26,7 @@ use Rattle.vt_spec.specs.Machine.Permits.{Permit}
 use Rattle.vt_spec.specs.Machine.Permits.Permit.{ToBind, ToChange, ToMake, ToMountOverlay, ToMountPlain, ToMove, ToOpen, ToOpenNew, ToRemoveDirectory, ToRename, ToSetType, ToUnshare, ToWritePart}
 use Rattle.vt_spec.specs.Machine.Settled.{settled}
 use Rattle.vt_spec.specs.Machine.Types.{named_mounts, retyped}
-use Rattle.vt_spec.specs.Machine.World.{Filesystem, Namespace, Overlay, Task, World, filesystem_at, is_overlay, mount_at, mount_numbered, mounts_of, new_plain, node_at, task_called}
+use Rattle.vt_spec.specs.Machine.World.{Filesystem, Namespace, Overlay, Task, World, is_overlay, mount_numbered, mounts_of, new_plain, node_at, task_called}
 use Rattle.vt_spec.specs.Machine.Invariants.{IsWorld, has_one_root, is_listed, is_root_mount}
 use Rattle.vt_spec.specs.Tree.{Node, bytes_in}
 use Rattle.vt_spec.proofs.Lists.{among_from_list_all, among_numbers, among-from_map}
@@ -62,11 +63,7 @@ found_ungrouped (mount ∷ rest) all number = by (nat_eq number mount.number)
 -- in a plain world a change takes no number
 change_same : (world : World ℕ) → IsPlain world → (fresh again : Fresh ℕ) (location : Location ℕ) (change : Change ℕ)
     → with_change nat_eq fresh world location change ≡ with_change nat_eq again world location change
-change_same world plain fresh again location change =
-    let none = plain_numbered world plain (mount_at nat_eq world location).filesystem in
-    let filesystem = filesystem_at nat_eq world location in
-    ap (λ o. filesystem_changed nat_eq fresh world filesystem o change) none
-    ∙ sym (ap (λ o. filesystem_changed nat_eq again world filesystem o change) none)
+change_same world plain fresh again location change = grind (arith, common_steps, plain_numbered)
 
 taken_plain : (world after : World ℕ) → after.filesystems ≡ world.filesystems → IsPlain world → IsPlain after
 taken_plain world after same plain = subst (All (λ (f : Filesystem ℕ). is_overlay f ≡ false)) (sym same) plain

@@ -1,5 +1,6 @@
 -- A judgement does not go by the numbers handed in.
-use Rattle.std.proofs.Common.{◌≡◌, refl, sym, ap, ◌∙◌, true≢false, ℕ, nat_eq, nat_lt, Bool, true, false, List, [], ◌∷◌, length, map, filter, Ok}
+use Rattle.std.proofs.Common.{arith, ◌≡◌, refl, sym, ap, ◌∙◌, true≢false, ℕ, nat_eq, nat_lt, Bool, true, false, List, [], ◌∷◌, length, map, filter, Ok}
+use Rattle.std.proofs.lemmas.Grind.{common_steps}
 use Rattle.std.specs.List.{list_any}
 use Rattle.std.proofs.lemmas.List.{length-map}
 use Rattle.vt_laws_mounts.proofs.letting_go.Lists.{filter-map}
@@ -8,7 +9,7 @@ use Rattle.vt_laws_worlds.proofs.permits.taken.PartsKept.{same_parts}
 use Rattle.vt_laws_worlds.specs.Permits.Taken.{GivenWithAnySupply, JudgementsDoNotSeeSupplies}
 use Rattle.vt_spec.specs.Errors.{and_then, unless}
 use Rattle.vt_spec.specs.Language.Calls.{Call, MountFlags}
-use Rattle.vt_spec.specs.Language.Calls.Call.{Bind, MountOverlay, MountPlain, MoveMount}
+use Rattle.vt_spec.specs.Language.Calls.Call.{Bind, MountPlain}
 use Rattle.vt_spec.specs.Language.Limits.{most_mounts}
 use Rattle.vt_spec.specs.Lists.{Fresh, holds_of, odds, rest_of}
 use Rattle.vt_spec.specs.Machine.Apply.{apply, overfills}
@@ -118,22 +119,12 @@ module _ (world : World ℕ) (whole : IsWorld nat_eq world) (task : Task ℕ) (f
 
   call_judged : (call : Call) → mounts_overlay call ≡ false
       → judge_in nat_eq fresh world task call ≡ judge_in nat_eq again world task call
-  call_judged (MountPlain path flags) other = mount_judged path flags
-  call_judged (MountOverlay path options flags) other = absurd (true≢false other)
-  call_judged (Bind source path recursive) other = bind_judged source path recursive
-  call_judged (MoveMount source path) other = move_judged source path
-  call_judged call other = refl
+  call_judged call other = grind (arith, common_steps, mount_judged, true≢false, bind_judged, move_judged)
 
 pub judgements_do_not_see_supplies : JudgementsDoNotSeeSupplies
 judgements_do_not_see_supplies world task call fresh again whole other =
     call_judged world whole task fresh again call other
 
 pub given_with_any_supply : GivenWithAnySupply
-given_with_any_supply world task permit fresh again whole serves given = record {
-  serves = serves;
-  called = given.called;
-  call = given.call;
-  no_overlay = given.no_overlay;
-  few_groups = given.few_groups;
-  judged = judgements_do_not_see_supplies world task given.call again fresh whole given.no_overlay ∙ given.judged;
-}
+given_with_any_supply world task permit fresh again whole serves given =
+    grind (arith, common_steps, judgements_do_not_see_supplies)

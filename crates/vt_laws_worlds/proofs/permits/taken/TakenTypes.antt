@@ -1,5 +1,6 @@
 -- A mount that does not become shared takes no number when its type changes.
-use Rattle.std.proofs.Common.{◌≡◌, refl, sym, ap, ◌∙◌, ⊎_elim, true≢false, ℕ, zero, suc, nat_eq, Bool, true, false, cond, List, [], ◌∷◌, map, Option, Some, None, find, length, inl, inr}
+use Rattle.std.proofs.Common.{arith, ◌≡◌, refl, sym, ap, ◌∙◌, ⊎_elim, true≢false, ℕ, zero, suc, nat_eq, Bool, true, false, cond, List, [], ◌∷◌, map, Option, Some, None, find, inl, inr}
+use Rattle.std.proofs.lemmas.Grind.{common_steps}
 use Rattle.std.specs.Prelude.{unwrap_or}
 use Rattle.vt_laws_mounts.proofs.letting_go.Lists.{Among, among-from_filter, among-from_flat_map, none_passes, passes}
 use Rattle.vt_laws_worlds.specs.Permits.Taken.{IsUngrouped, is_ungrouped}
@@ -10,7 +11,7 @@ use Rattle.vt_spec.specs.Machine.Mounts.{Mount, Propagation, children, group_of,
 use Rattle.vt_spec.specs.Machine.Mounts.Propagation.{Private, Shared, Slave, Unbindable}
 use Rattle.vt_spec.specs.Machine.Receives.{is_member_of, regrouped}
 use Rattle.vt_spec.specs.Machine.Types.{master_after, named_mounts, retyped, retyped_mount, type_after, with_master, with_new_groups}
-use Rattle.vt_spec.specs.Machine.World.{World, mount_numbered}
+use Rattle.vt_spec.specs.Machine.World.{World}
 use Rattle.vt_spec.specs.Machine.Invariants.{IsWorld}
 use Rattle.vt_laws_mounts.proofs.letting_go.sweeps.OfWorlds.{all_in_use}
 
@@ -25,13 +26,7 @@ Ungrouped mount = is_ungrouped mount.propagation ≡ true
 
 type_same : (one other : ℕ) (word : TypeWord) → makes_groups word ≡ false → (kind : Propagation ℕ)
     → type_after one word kind ≡ type_after other word kind
-type_same one other ToShared e kind = absurd (true≢false e)
-type_same one other ToSlave e (Shared group) = refl
-type_same one other ToSlave e (Slave master) = refl
-type_same one other ToSlave e Private = refl
-type_same one other ToSlave e Unbindable = refl
-type_same one other ToPrivate e kind = refl
-type_same one other ToUnbindable e kind = refl
+type_same one other word e kind = grind (arith, common_steps, true≢false)
 
 no_master : (kind : Propagation ℕ) → is_ungrouped kind ≡ true → master_after kind ≡ None
 no_master (Shared group) e = absurd (true≢false (sym e))
@@ -76,12 +71,7 @@ module _ (world : World ℕ) (whole : IsWorld nat_eq world) (ungrouped : IsUngro
 
   named_is : (number : ℕ) (recursive : Bool) (mount : Mount ℕ)
       → Among mount (named_mounts nat_eq world number recursive) → Ungrouped mount
-  named_is number true mount among =
-      tree_is world.mounts each_is (length world.mounts) (mount_numbered nat_eq world number)
-      (found_is world.mounts each_is number) mount among
-  named_is number false mount among = ⊎_elim
-      (λ same. ap (λ (m : Mount ℕ). is_ungrouped m.propagation) same ∙ found_is world.mounts each_is number)
-      (λ none. absurd none) among
+  named_is number recursive mount among = grind (arith, common_steps, tree_is, each_is, found_is)
 
   -- no group has a master
   no_masters : (group : ℕ) → world.master group ≡ None
@@ -117,12 +107,4 @@ module _ (world : World ℕ) (whole : IsWorld nat_eq world) (ungrouped : IsUngro
 
       mount_same : (mount : Mount ℕ)
           → retyped_mount nat_eq one word named mount ≡ retyped_mount nat_eq other word named mount
-      mount_same mount = by _
-        where
-          by : (b : Bool)
-              → cond b (record mount { propagation = type_after (one mount.number) word mount.propagation }) mount
-              ≡ cond b (record mount { propagation = type_after (other mount.number) word mount.propagation }) mount
-          by true = λ i. record mount {
-            propagation = type_same (one mount.number) (other mount.number) word makes mount.propagation i;
-          }
-          by false = refl
+      mount_same mount = grind (arith, common_steps, type_same)

@@ -1,5 +1,6 @@
 -- Copies one prefix at a time.
-use Rattle.std.proofs.Common.{◌≡◌, ◌≢◌, refl, sym, ap, subst, ◌∙◌, ℕ, nat_eq, List, [], ◌∷◌, ◌++◌, length, Option, Some, None, is_some, unwrap_or}
+use Rattle.std.proofs.Common.{arith, ◌≡◌, ◌≢◌, refl, sym, ap, subst, ◌∙◌, ℕ, nat_eq, List, [], ◌∷◌, ◌++◌, length, Option, Some, None, is_some, unwrap_or}
+use Rattle.std.proofs.lemmas.Grind.{common_steps}
 use Rattle.std.specs.Prelude.{option_map}
 use Rattle.vt_spec.specs.FileTree.{FileTree}
 use Rattle.vt_spec.specs.Language.Changes.{changed}
@@ -69,12 +70,7 @@ module _ (fresh : Fresh ℕ) (stack : Stack ℕ) (merge : Merge ℕ) (front : Li
   over : (seen : Option (Node ℕ)) → object_above stack later front ≡ above
       → option_map (copy_node above) seen ≡ Some (copy_node above node) → copy_over fresh stack later path None seen
       ≡ changed nat_eq later (Make above name (fresh (length path)) (copy_node above node))
-  over None at e = none_is_some (copy_node above node) e
-  over (Some other) at e = ap (λ directory. changed nat_eq later (Make directory (last_or [] path) (fresh (length path))
-      (copy_node directory other))) (ap (object_above stack later) (without_last_is front name) ∙ at)
-      ∙ ap (λ last. changed nat_eq later (Make above last (fresh (length path)) (copy_node above other)))
-      (last_is [] name front) ∙ ap (λ copy. changed nat_eq later (Make above name (fresh (length path)) copy))
-      (same_Some (copy_node above other) (copy_node above node) e)
+  over seen at e = grind (arith, common_steps, none_is_some, without_last_is, last_is, same_Some)
 
 pub step_by_step : CopiesGoStepByStep
 step_by_step fresh stack merge whole new front name parent above node leads none seen is =

@@ -1,12 +1,12 @@
 -- Filesystems, inodes and groups go in any order before the sweep.
-use Rattle.std.proofs.Common.{◌≡◌, refl, sym, ap, subst, ◌∙◌, true≢false, ℕ, nat_eq, eqb-true, Bool, true, false, cond, not, ◌||◌, ◌&&◌, List, [], ◌∷◌, filter, Option, Some, None, is_some}
+use Rattle.std.proofs.Common.{arith, ◌≡◌, refl, sym, ap, subst, ◌∙◌, true≢false, ℕ, nat_eq, eqb-true, Bool, true, false, cond, not, ◌||◌, ◌&&◌, List, [], ◌∷◌, filter, None, is_some}
+use Rattle.std.proofs.lemmas.Grind.{common_steps}
 use Rattle.std.specs.Prelude.{All}
 use Rattle.std.proofs.lemmas.List.Elements.{All-filter, All-map}
 use Rattle.std.proofs.lemmas.Map.Views.{any-filter_same}
 use Rattle.vt_spec.specs.Lists.{folded, is_among}
 use Rattle.vt_spec.specs.Machine.Settled.{filesystem_lives, located_in, settled}
 use Rattle.vt_spec.specs.Machine.World.{Filesystem, World, is_overlay}
-use Rattle.vt_spec.specs.Tree.{Node}
 use Rattle.vt_spec.specs.TreeInvariant.{HasName}
 use Rattle.vt_spec.proofs.Nodes.{directory_used}
 use Rattle.vt_laws_trees.specs.Trees.{IsFileTree}
@@ -44,12 +44,7 @@ module _ (gone : ℕ → Bool) (f : Filesystem ℕ) (tree : IsFileTree f.files) 
 
   same_node : (k : ℕ) → cond (is_among nat_eq k stays) (f.files.tree.node k) None
       ≡ cond (gone k) None (f.files.tree.node k)
-  same_node k = ap (λ b. cond b (f.files.tree.node k) None) (among_stays k) ∙ by (gone k) (f.files.tree.node k)
-    where
-      by : (b : Bool) (o : Option (Node ℕ)) → cond (not b && is_some o) o None ≡ cond b None o
-      by true o = refl
-      by false None = refl
-      by false (Some node) = refl
+  same_node k = grind (arith, common_steps, among_stays)
 
   same_numbers : filter (λ k. is_among nat_eq k stays) f.files.numbers ≡ stays
   same_numbers = filter_alike (λ k. is_among nat_eq k stays) (λ k. not (gone k)) f.files.numbers (λ k m.
@@ -100,11 +95,7 @@ module _ (chosen : Filesystem ℕ → Bool) (world : World ℕ) (inode : Inode) 
 
   -- what is used does not go
   used_stays : (f : Filesystem ℕ) (k : ℕ) → is_inode_used world f k ≡ true → goes f k ≡ false
-  used_stays f k used = by (goes f k) refl
-    where
-      by : (b : Bool) → goes f k ≡ b → goes f k ≡ false
-      by false e = e
-      by true e = absurd (true≢false (sym used ∙ went_unused chosen world inode f k e))
+  used_stays f k used = grind (arith, common_steps, true≢false, went_unused)
 
   tree_kept : (f : Filesystem ℕ) → IsFileTree f.files → IsFileTree (less goes f).files
   tree_kept f tree =

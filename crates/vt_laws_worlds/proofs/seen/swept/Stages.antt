@@ -1,12 +1,12 @@
 -- Inodes that nothing uses may go before the sweep of inodes.
-use Rattle.std.proofs.Common.{arith, ◌≡◌, refl, sym, ap, subst, ◌∙◌, ⊎_elim, true≢false, ℕ, nat_eq, Bool, true, false, cond, not, ◌||◌, ◌&&◌, List, [], map, filter, flat_map, ◌++◌, ◌∷◌, Option, Some, None, option_map}
+use Rattle.std.proofs.Common.{arith, ◌≡◌, refl, sym, ap, subst, ◌∙◌, ⊎_elim, true≢false, ℕ, nat_eq, Bool, true, false, cond, not, ◌||◌, ◌&&◌, List, [], map, filter, flat_map, ◌++◌, ◌∷◌}
 use Rattle.std.proofs.lemmas.Grind.{common_steps}
 use Rattle.std.specs.Prelude.{All, filter_map}
 use Rattle.std.proofs.lemmas.Bool.{cases_Bool, not-true}
-use Rattle.vt_spec.specs.Lists.{holds_of, is_among}
-use Rattle.vt_spec.specs.Machine.Locked.{of_overlay, overlay_or}
+use Rattle.vt_spec.specs.Lists.{is_among}
+use Rattle.vt_spec.specs.Machine.Locked.{of_overlay}
 use Rattle.vt_spec.specs.Machine.Settled.{layers_in, located_in, named_in, objects_of_overlay, only_used, only_used_of, used_in, without_dead_in, without_dead_inodes}
-use Rattle.vt_spec.specs.Machine.World.{Filesystem, Overlay, World, is_overlay, layers_of, upper_object}
+use Rattle.vt_spec.specs.Machine.World.{Filesystem, World, is_overlay, layers_of, upper_object}
 use Rattle.vt_spec.proofs.Lists.{map_alike, map_twice}
 use Rattle.vt_laws_mounts.specs.LettingGo.InUse.{HasTrees, IsListedTree, UppersArePlain, has_upper_in, is_inode_used}
 use Rattle.vt_laws_mounts.specs.LettingGo.Overlays.{RealsAreThere}
@@ -25,42 +25,14 @@ upper_less number gone f = grind (arith, common_steps)
 
 -- what is not there has no real object, still
 pub reals_less : (gone : ℕ → Bool) (f : Filesystem ℕ) → HasReals f → HasReals (without_all gone f)
-reals_less gone f has number none = over f.overlay (has number) (gone number) refl none
-  where
-    over : (o : Option (Overlay ℕ))
-        → (f.files.tree.node number ≡ None → overlay_or None (λ overlay. overlay.real number) o ≡ None)
-        → (b : Bool) → gone number ≡ b → cond b None (f.files.tree.node number) ≡ None
-        → overlay_or None (λ overlay. overlay.real number) (option_map (reals_without gone) o) ≡ None
-    over None h b e n = refl
-    over (Some overlay) h true e n = ap (λ b. cond b None (overlay.real number)) e
-    over (Some overlay) h false e n = ap (λ b. cond b None (overlay.real number)) e ∙ h n
+reals_less gone f has number none = grind (arith, common_steps, reals_without)
 
 -- an overlay without inodes has fewer upper objects
 objects_less : (gone : ℕ → Bool) (number object : ℕ) (f : Filesystem ℕ)
     → Among object (objects_of_overlay nat_eq number (without_all gone f))
     → Among object (objects_of_overlay nat_eq number f)
-objects_less gone number object f = over f.overlay
-  where
-    over : (o : Option (Overlay ℕ)) → Among object (overlay_or [] (λ overlay.
-        cond (holds_of (λ layer. nat_eq number layer.filesystem) overlay.upper)
-        (filter_map (λ k. upper_object (overlay.real k)) (filter (λ k. not (gone k)) f.files.numbers)) [])
-        (option_map (reals_without gone) o)) → Among object (overlay_or [] (λ overlay.
-        cond (holds_of (λ layer. nat_eq number layer.filesystem) overlay.upper)
-        (filter_map (λ k. upper_object (overlay.real k)) f.files.numbers) []) o)
-    over None m = absurd m
-    over (Some overlay) m = here (holds_of (λ layer. nat_eq number layer.filesystem) overlay.upper) m
-      where
-        here : (b : Bool) → Among object (cond b (filter_map (λ k. upper_object (cond (gone k) None (overlay.real k)))
-            (filter (λ k. not (gone k)) f.files.numbers)) [])
-            → Among object (cond b (filter_map (λ k. upper_object (overlay.real k)) f.files.numbers) [])
-        here false n = absurd n
-        here true n =
-            let from = among-from_filter_map (λ k. upper_object (cond (gone k) None (overlay.real k)))
-            (filter (λ k. not (gone k)) f.files.numbers) object n in
-            let listed = among-from_filter (λ k. not (gone k)) f.files.numbers from.0 from.1 in
-            among-filter_map (λ k. upper_object (overlay.real k)) f.files.numbers from.0 object listed.0
-            (sym (ap (λ b. upper_object (cond b None (overlay.real from.0))) (not-true (gone from.0) listed.1))
-            ∙ from.2)
+objects_less gone number object f =
+    grind (arith, common_steps, reals_without, among-from_filter_map, among-from_filter, among-filter_map, not-true)
 
 -- what one world uses another one uses too
 within : (a b c d : List ℕ) (number : ℕ) → (Among number a → Among number c) → (Among number b → Among number d)
@@ -207,14 +179,7 @@ module _ (went : Filesystem ℕ → ℕ → Bool) (world : World ℕ) (trees : H
       (cases_Bool (is_overlay f))
 
   layers_first : (number : ℕ) → layers_in nat_eq second_world number ≡ layers_in nat_eq world number
-  layers_first number =
-      ap (λ layers. map (λ layer. layer.directory) (filter (λ layer. nat_eq number layer.filesystem) layers))
-      (flat_map-map first (of_overlay [] layers_of) world.filesystems (λ f. by f (is_overlay f)))
-    where
-      by : (f : Filesystem ℕ) (b : Bool)
-          → of_overlay [] layers_of (only_used nat_eq world b f) ≡ of_overlay [] layers_of f
-      by f true = layers-left (used_in nat_eq world f) f _
-      by f false = refl
+  layers_first number = grind (arith, common_steps, flat_map-map, layers-left)
 
   used_before : (f : Filesystem ℕ) (k : ℕ) → is_inode_used second_world f k ≡ true → is_inode_used world f k ≡ true
   used_before f k is = used_too second_world world f k (λ m. m) (subst (Among k) (layers_first f.number))

@@ -1,5 +1,6 @@
 -- No overlay has a layer in another.
-use Rattle.std.proofs.Common.{◌≡◌, refl, sym, ap, ◌∙◌, true≢false, ℕ, nat_eq, eqb-true, Bool, true, false, ◌&&◌, not, List, [], ◌∷◌, ◌++◌, map, filter, Option, Some, None, if◌then◌else◌}
+use Rattle.std.proofs.Common.{arith, ◌≡◌, refl, sym, ap, ◌∙◌, true≢false, ℕ, nat_eq, eqb-true, Bool, true, false, ◌&&◌, List, [], ◌∷◌, ◌++◌, map, filter, Option, Some, None, if◌then◌else◌}
+use Rattle.std.proofs.lemmas.Grind.{common_steps}
 use Rattle.std.proofs.lemmas.List.{append-nil}
 use Rattle.std.proofs.lemmas.List.Elements.{filter-append}
 use Rattle.std.specs.List.{filter_map, flat_map, list_all}
@@ -8,7 +9,7 @@ use Rattle.vt_spec.specs.Lists.{holds_of}
 use Rattle.vt_spec.specs.Machine.Invariants.{is_plain_layer}
 use Rattle.vt_spec.specs.Machine.Locked.{of_overlay, overlay_or}
 use Rattle.vt_spec.specs.Machine.Settled.{located_in, named_in, objects_of_overlay, used_in}
-use Rattle.vt_spec.specs.Machine.World.{Filesystem, Layer, Overlay, World, filesystem_numbered, is_overlay, layers_of, upper_object}
+use Rattle.vt_spec.specs.Machine.World.{Filesystem, Layer, Overlay, World, filesystem_numbered, layers_of, upper_object}
 use Rattle.vt_spec.proofs.Found.{found_passes}
 use Rattle.vt_laws_trees.proofs.layers.layers.UpperWorld.{overlay_found}
 use Rattle.vt_laws_worlds.specs.Seen.InodeUses.{OverlaysAreUsedByLocations}
@@ -28,13 +29,7 @@ module _ (world : World ℕ) (number : ℕ) (overlay : Overlay ℕ)
 
   -- a plain layer is not in this filesystem
   elsewhere : (layer : Layer ℕ) → is_plain_layer nat_eq world layer ≡ true → here layer ≡ false
-  elsewhere layer plain = by (here layer) refl
-    where
-      by : (b : Bool) → here layer ≡ b → here layer ≡ false
-      by false e = e
-      by true e = absurd (true≢false (sym (first_holds _ _ plain)
-          ∙ ap (λ n. not (is_overlay (filesystem_numbered nat_eq world n))) (sym (eqb-true number layer.filesystem e))
-          ∙ ap (λ o. not (elim o as (λ _. Bool) [ None ↦ false | Some _ ↦ true ])) is))
+  elsewhere layer plain = grind (arith, common_steps, true≢false, first_holds, eqb-true)
 
   none : (layers : List (Layer ℕ)) → list_all (is_plain_layer nat_eq world) layers ≡ true → filter here layers ≡ []
   none [] plain = refl

@@ -1,5 +1,6 @@
 -- Where no mount is in a group none is afterwards, if none is made shared.
-use Rattle.std.proofs.Common.{◌≡◌, refl, sym, ap, subst, ◌∙◌, ⊎_elim, true≢false, ℕ, zero, suc, nat_eq, Bool, true, false, cond, ◌&&◌, List, [], ◌∷◌, ◌++◌, map, filter, flat_map, length, Option, Some, None}
+use Rattle.std.proofs.Common.{arith, ◌≡◌, refl, sym, ap, subst, ◌∙◌, ⊎_elim, true≢false, ℕ, zero, suc, nat_eq, Bool, true, false, cond, ◌&&◌, List, [], ◌∷◌, ◌++◌, map, filter, flat_map, length, Option, Some, None}
+use Rattle.std.proofs.lemmas.Grind.{common_steps}
 use Rattle.std.specs.Prelude.{All, option_map}
 use Rattle.std.specs.List.{list_all}
 use Rattle.std.proofs.lemmas.Bool.{and_parts}
@@ -18,14 +19,14 @@ use Rattle.vt_spec.specs.Machine.Apply.{apply}
 use Rattle.vt_spec.specs.Machine.Attach.{Copies, Twig, added_mounts, attach, bind_tree, bindable_children, bindable_tree, copies_from, stands_under, with_moved_mounts}
 use Rattle.vt_spec.specs.Machine.Detach.{after_going, deepest_first, mount_point_left, taken_away, unmounted, unmounted_if_there, without_mounts_on, without_replaced}
 use Rattle.vt_spec.specs.Machine.Filesystems.{filesystem_changed, with_change}
-use Rattle.vt_spec.specs.Machine.Mounts.{Location, Mount, Propagation, children, detached, mount_tree, numbers_by, replaced_if_same, stands_on, with_mount}
+use Rattle.vt_spec.specs.Machine.Mounts.{Location, Mount, Propagation, children, detached, mount_tree, numbers_by, stands_on, with_mount}
 use Rattle.vt_spec.specs.Machine.Mounts.Propagation.{Private, Shared, Slave, Unbindable}
 use Rattle.vt_spec.specs.Machine.Namespaces.{copied_mount, is_in_ended, namespace_entered, namespaces_ended, pivoted_mount, unshared}
 use Rattle.vt_spec.specs.Machine.Descriptors.{is_copied_up, overwritten, pwritten, with_copy}
 use Rattle.vt_spec.specs.Machine.NewMounts.{new_mount, plain_filesystem, with_new_filesystem}
 use Rattle.vt_spec.specs.Machine.Permits.{Permit}
 use Rattle.vt_spec.specs.Machine.Permits.Permit.{ToBind, ToChange, ToEnterNamespace, ToExit, ToMake, ToMountOverlay, ToMountPlain, ToMove, ToOpen, ToOpenNew, ToPivot, ToRemoveDirectory, ToRename, ToSetFlags, ToSetType, ToUnmount, ToUnmountLazily, ToUnshare, ToWritePart}
-use Rattle.vt_spec.specs.Machine.Receives.{inherited, inheriting, regrouped, regrouped_by}
+use Rattle.vt_spec.specs.Machine.Receives.{inherited, regrouped}
 use Rattle.vt_spec.specs.Machine.Settled.{mount_lives, settled}
 use Rattle.vt_spec.specs.Machine.Types.{named_mounts, retyped_mount, type_after, with_new_groups, with_type}
 use Rattle.vt_spec.specs.Machine.World.{Filesystem, Task, World, filesystem_at, is_overlay, mount_at, mount_numbered, mounts_of, node_at, with_mounts, without_task}
@@ -56,12 +57,7 @@ inherited_free world Private e = refl
 inherited_free world Unbindable e = refl
 
 regrouped_free : (world : World ℕ) → IsUngrouped world → IsUngrouped (regrouped nat_eq world)
-regrouped_free world is = by _
-  where
-    by : (b : Bool) → IsUngrouped (regrouped_by nat_eq b world)
-    by true = all-map free (inheriting nat_eq world)
-        (λ mount e. inherited_free world mount.propagation e) world.mounts is
-    by false = is
+regrouped_free world is = grind (arith, common_steps, all-map, inherited_free)
 
 taken_free : (world : World ℕ) (gone : List ℕ) → IsUngrouped world → IsUngrouped (taken_away nat_eq world gone)
 taken_free world gone is = regrouped_free (with_mounts world (map (after_going nat_eq world gone) world.mounts))
@@ -78,11 +74,7 @@ ended_free world is =
 
 there_free : (world : World ℕ) (mount : Mount ℕ) → IsUngrouped world
     → IsUngrouped (unmounted_if_there nat_eq world mount)
-there_free world mount is = by _
-  where
-    by : (b : Bool) → IsUngrouped (cond b (unmounted nat_eq world mount.number) world)
-    by true = taken_free world _ is
-    by false = is
+there_free world mount is = grind (arith, common_steps, taken_free)
 
 folded_free : (list : List (Mount ℕ)) (world : World ℕ) → IsUngrouped world
     → IsUngrouped (folded (unmounted_if_there nat_eq) world list)
@@ -92,11 +84,7 @@ folded_free (mount ∷ list) world is =
 
 replaced_free : (new : Mount ℕ) → free new ≡ true → (mounts : List (Mount ℕ)) → AllFree mounts
     → AllFree (with_mount nat_eq mounts new)
-replaced_free new is mounts all = all-map free (replaced_if_same nat_eq new) (λ mount e. by mount e _) mounts all
-  where
-    by : (mount : Mount ℕ) → free mount ≡ true → (b : Bool) → free (cond b new mount) ≡ true
-    by mount e true = is
-    by mount e false = e
+replaced_free new is mounts all = grind (arith, common_steps, all-map)
 
 each_replaced : (list mounts : List (Mount ℕ)) → AllFree list → AllFree mounts
     → AllFree (folded (with_mount nat_eq) mounts list)
@@ -146,13 +134,7 @@ attached_free world fresh place moves mounts is all = subst IsUngrouped
 -- A type that is no group's
 type_free : (new : ℕ) (word : TypeWord) → makes_groups word ≡ false → (kind : Propagation ℕ)
     → is_ungrouped kind ≡ true → is_ungrouped (type_after new word kind) ≡ true
-type_free new ToShared makes kind e = absurd (true≢false makes)
-type_free new ToSlave makes (Shared group) e = absurd (true≢false (sym e))
-type_free new ToSlave makes (Slave master) e = absurd (true≢false (sym e))
-type_free new ToSlave makes Private e = refl
-type_free new ToSlave makes Unbindable e = refl
-type_free new ToPrivate makes kind e = refl
-type_free new ToUnbindable makes kind e = refl
+type_free new word makes kind e = grind (arith, common_steps, true≢false)
 
 module _ (world : World ℕ) (plain : IsPlain world) (is : IsUngrouped world) (task : Task ℕ) (fresh : Fresh ℕ) where
   each_free : (mount : Mount ℕ) → Among mount world.mounts → free mount ≡ true
@@ -236,15 +218,7 @@ module _ (world : World ℕ) (plain : IsPlain world) (is : IsUngrouped world) (t
 
   pivoted_free : (root new : Mount ℕ) (put : Location ℕ)
       → AllFree (map (pivoted_mount nat_eq root new put) world.mounts)
-  pivoted_free root new put = all-map free (pivoted_mount nat_eq root new put)
-      (λ mount e. by mount e _ _) world.mounts is
-    where
-      by : (mount : Mount ℕ) → free mount ≡ true → (a b : Bool)
-          → free (cond a (record mount { mount_point = root.mount_point })
-          (cond b (record mount { mount_point = Some put }) mount)) ≡ true
-      by mount e true b = e
-      by mount e false true = e
-      by mount e false false = e
+  pivoted_free root new put = grind (arith, common_steps, all-map)
 
   applied_free : (permit : Permit ℕ) → IsNoOverlay permit → makes_shared permit ≡ false
       → IsUngrouped (apply nat_eq fresh world task permit).world
