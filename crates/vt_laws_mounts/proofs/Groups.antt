@@ -2,10 +2,9 @@
 use Rattle.std.proofs.Common.{arith, ◌≡◌, refl, ap, ◌∙◌, ℕ, nat_eq, true, false, ◌||◌, List, [], ◌∷◌, length, map, Option, Some, None}
 use Rattle.std.proofs.lemmas.Grind.{common_steps}
 use Rattle.std.proofs.lemmas.Bool.{or_parts, not-false}
-use Rattle.vt_spec.specs.Lists.{holds_of}
 use Rattle.vt_spec.specs.Machine.Mounts.{Mount, Propagation, group_of}
 use Rattle.vt_spec.specs.Machine.Mounts.Propagation.{Private, Shared, Slave, Unbindable}
-use Rattle.vt_spec.specs.Machine.Receives.{has_members, heir, inherited, inheriting, is_member_of, lost_a_group, regrouped, slave_of_heir}
+use Rattle.vt_spec.specs.Machine.Receives.{has_members, heir, inherited, inheriting, lost_a_group, regrouped, slave_of_heir}
 use Rattle.vt_spec.specs.Machine.World.{World}
 use Rattle.vt_spec.proofs.Lists.{chain_ends, map_same, none_among}
 use Rattle.vt_spec.proofs.Found.{find-chain_start}
@@ -26,9 +25,7 @@ module _ (world : World ℕ) where
       → has_members nat_eq (map (inheriting nat_eq world) mounts) group ≡ has_members nat_eq mounts group
   members-inherited [] group = refl
   members-inherited (mount ∷ mounts) group =
-      ap (λ g. holds_of (nat_eq group) g || has_members nat_eq (map (inheriting nat_eq world) mounts) group)
-      (group-inherited mount.propagation)
-      ∙ ap (λ b. is_member_of nat_eq group mount || b) (members-inherited mounts group)
+      grind (arith, common_steps, group-inherited, members-inherited mounts group)
 
   -- a slave whose master has a member keeps it
   pub inherited_kept : (above : ℕ) → has_members nat_eq world.mounts above ≡ true

@@ -40,18 +40,12 @@ module _ (group : ℕ → ℕ) where
       ⊎ IsNewMaster named one (with_new_groups nat_eq group master named one)
   unfolding IsNewMaster
   new_or_old master [] one = inl refl
-  new_or_old master (first ∷ rest) one = ⊎_elim (λ kept.
-      ⊎_elim (λ other. inl (kept ∙ ap (λ b. if b then master_after first.propagation else master one) other.0))
-      (λ same. inr (
-        first,
-        inl refl,
-        same.1,
-        kept ∙ ap (λ b. if b then master_after first.propagation else master one) same.0,
-      )) (either one (group first.number))) (λ t. inr (t.0, inr t.1, t.2, t.3))
-      (new_or_old (with_master nat_eq master (group first.number) (master_after first.propagation)) rest one)
-    where
-      either : (a b : ℕ) → ((nat_eq a b ≡ false) × Unit {0}) ⊎ ((nat_eq a b ≡ true) × (a ≡ b))
-      either a b = ⊎_elim (λ t. inr t) (λ t. inl (t.0, tt)) (eqb_tells a b)
+  new_or_old master (first ∷ rest) one = grind (
+    arith,
+    common_steps,
+    eqb_tells,
+    new_or_old (with_master nat_eq master (group first.number) (master_after first.propagation)) rest one,
+  )
 
   -- a group that is made for one of them has a new master
   new_for_one : (master : ℕ → Option ℕ) (named : List (Mount ℕ)) (mount : Mount ℕ) → Among mount named

@@ -74,10 +74,9 @@ module _ (master : ℕ → Option ℕ) where
     -- all groups up the masters of a living group have members
     pub all_on_way : (n group : ℕ) → Lives members master group → list_all members (chain n master group) ≡ true
     all_on_way zero group life = ap (λ b. b && true) (live_members group life)
-    all_on_way (suc n) group (has_no_master it has f) =
-        ap (list_all members) (chain_ends master n it f) ∙ ap (λ b. b && true) has
-    all_on_way (suc n) group (has_master it next has f later) = ap (list_all members) (chain_goes_on master n it next f)
-        ∙ ap (λ b. b && list_all members (chain n master next)) has ∙ all_on_way n next later
+    all_on_way (suc n) group (has_no_master it has f) = grind (arith, common_steps, chain_ends)
+    all_on_way (suc n) group (has_master it next has f later) =
+        grind (arith, common_steps, chain_goes_on, all_on_way n next later)
 
     -- a chain as long as the way comes to an end
     pub ends_within : (n group : ℕ) (life : Lives members master group) → length (way group life) ≤ suc n
@@ -192,8 +191,7 @@ groups_live_by world lives = list_all_from_among (has_living_groups nat_eq world
         let few : length (way world.master members source life) ≤ length world.mounts =
         fewer_groups (way world.master members source life) world.mounts (way_apart world.master members source life)
         (way_members world.master members source life) in
-        and_from _ _ (all_on_way world.master members (length world.mounts) source life)
-        (ap not (ends_within world.master members (length world.mounts) source life (omega (arith, few))))
+        grind (arith, common_steps, and_from, all_on_way, ends_within)
 
     by : (mount : Mount ℕ) → Among mount world.mounts → (found : Option ℕ) → source_of mount.propagation ≡ found
         → has_living_groups nat_eq world mount ≡ true

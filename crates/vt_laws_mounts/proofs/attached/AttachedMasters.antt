@@ -1,5 +1,5 @@
 -- The groups that are new where a tree of mounts is attached, and their masters.
-use Rattle.std.proofs.Common.{arith, ◌≡◌, refl, sym, ap, subst, ◌∙◌, true, false, nat_eq, ℕ, Bool, List, None, Option, Some, [], eq-eqb, inl, inr, not, true≢false, ⊎_elim, ◌∷◌, ◌⊎◌, filter_map, option_map}
+use Rattle.std.proofs.Common.{arith, ◌≡◌, refl, sym, ap, ◌∙◌, true, false, nat_eq, ℕ, Bool, List, None, Option, Some, [], eq-eqb, inl, inr, not, true≢false, ⊎_elim, ◌∷◌, ◌⊎◌, filter_map, option_map}
 use Rattle.std.proofs.lemmas.Grind.{common_steps}
 use Rattle.std.proofs.lemmas.Bool.Decides.{eqb_tells}
 use Rattle.std.specs.Prelude.{if◌then◌else◌, unwrap_or}
@@ -28,10 +28,8 @@ made_or_old : (master : ℕ → Option ℕ) (made : List (ℕ × Option ℕ)) (o
     → (folded (masters_with nat_eq) master made one ≡ master one)
     ⊎ IsMade made one (folded (masters_with nat_eq) master made one)
 made_or_old master [] one = inl refl
-made_or_old master (first ∷ rest) one = ⊎_elim (λ kept.
-    ⊎_elim (λ same. inr (first, inl refl, same.1, kept ∙ ap (λ b. if b then first.1 else master one) same.0))
-    (λ other. inl (kept ∙ ap (λ b. if b then first.1 else master one) other.0)) (eqb_tells one first.0))
-    (λ t. inr (t.0, inr t.1, t.2, t.3)) (made_or_old (masters_with nat_eq master first) rest one)
+made_or_old master (first ∷ rest) one =
+    grind (arith, common_steps, eqb_tells, made_or_old (masters_with nat_eq master first) rest one)
 
 -- a group that is made has one of those masters
 made_for_one : (master : ℕ → Option ℕ) (made : List (ℕ × Option ℕ)) (entry : ℕ × Option ℕ) → Among entry made
@@ -213,6 +211,4 @@ module _ (world : World ℕ) (new : Copies ℕ) (place : Location ℕ) (moves : 
       (ap (λ b. if b then twig_master (twig origin) else made_elsewhere origin (group_of part.propagation))
       (is_elsewhere part group m has lacks) ∙ ap (λ k. made_elsewhere origin (group_of k)) shared
       ∙ ap (λ b. when (not b) (made_pair origin group)) lacks) in
-      ap after.master same ∙ new_master group origin (takes_part_in part group m (ap group_of shared)) n above
-      (subst (λ g. Among (g, above) all_made) same made)
-      ∙ ap (λ b. if b then master_after origin.propagation else nearest origin (world.master group)) lacks
+      grind (arith, common_steps, new_master, takes_part_in)

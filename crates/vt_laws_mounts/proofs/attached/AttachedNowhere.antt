@@ -31,8 +31,7 @@ module _ (world : World ℕ) (new : Copies ℕ) (place : Location ℕ) (moves : 
   copy_fits part copy e m =
       let tree = graft world new place moves mounts in
       let from = among-from_map (copy_at nat_eq world new tree part_list part) tree.twigs copy m in
-      ap is_nowhere_or_attached from.2
-      ∙ ap (λ b. b || (not true && is_private (copy_at nat_eq world new tree part_list part from.0).propagation)) e
+      grind (arith, common_steps)
 
   taker_attached : (part : Mount ℕ) → Among part (rest_of part_list) → is_some part.namespace ≡ true
   taker_attached part m = grind (arith, common_steps, among-from_filter, and_parts)

@@ -126,22 +126,14 @@ module _ (list : List (Mount ℕ)) where
         → depth_of child.number ≡ suc (depth_of here.mount)
     cover_rank here child e =
         let found = found_in (stands_at nat_eq here) list child e in
-        rank_child world one all child.number here
-        (ap (λ (x : Mount ℕ). x.mount_point) (found_itself world.mounts one child (are_there child found.0))
-        ∙ stands_there here child found.1)
+        grind (arith, common_steps, rank_child, found_itself, stands_there)
 
     visited_deeper : (n : ℕ) (here end : Location ℕ) (steps : Covers list n here end) (number : ℕ)
         → Among number (visited n here end steps) → depth_of here.mount < depth_of number
     unfolding visited
     visited_deeper n here end (none it) number m = absurd m
     visited_deeper n here end (next k it last child e steps) number m =
-        let up = cover_rank it child e in
-        ⊎_elim
-        (λ same. let level : depth_of number ≡ depth_of child.number = ap depth_of same in omega (arith, up, level))
-        (λ later.
-        let further : depth_of child.number < depth_of number =
-        visited_deeper k (root_of child) last steps number later in
-        omega (arith, up, further)) m
+        grind (arith, common_steps, cover_rank, visited_deeper k (root_of child) last steps number)
 
     visited_apart : (n : ℕ) (here end : Location ℕ) (steps : Covers list n here end)
         → any_pair nat_eq (visited n here end steps) ≡ false
@@ -297,11 +289,7 @@ module _ (world : World ℕ) (new : Copies ℕ) (place : Location ℕ) (mounts :
   two_parts : (p q a b : Mount ℕ) → Among p parts → Among q parts → Among a mounts → Among b mounts
       → nat_eq p.number q.number ≡ false → nat_eq (new.copy p.number a.number) (new.copy q.number b.number) ≡ false
   two_parts p q a b m n k l differ =
-      false_from_ne_true (nat_eq (new.copy p.number a.number) (new.copy q.number b.number)) (λ same.
-      let at : (p.number ≡ q.number) × (a.number ≡ b.number) = serve.apart p.number a.number q.number b.number
-      (is_one_of parts p m) (is_one_of mounts a k) (is_one_of parts q n) (is_one_of mounts b l)
-      (eqb-true (new.copy p.number a.number) (new.copy q.number b.number) same) in
-      true≢false (sym (eq-eqb p.number q.number at.0) ∙ differ))
+      grind (arith, common_steps, is_one_of parts p m, is_one_of mounts a k, is_one_of parts q n, is_one_of mounts b l)
 
   part_there : (part : Mount ℕ) → Among part parts → is_mount world part.number ≡ true
   part_there part m = ⊎_elim (λ e. subst (λ n. is_mount world n ≡ true)
@@ -410,13 +398,8 @@ module _ (world : World ℕ) (new : Copies ℕ) (place : Location ℕ) (mounts :
       where
         by : Stands nat_eq world mount.number → mount_numbered nat_eq world mount.number ≡ mount
             → is_mount world on.mount ≡ true
-        by (at_root number f) itself =
-            absurd (true≢false (sym (ap is_some e) ∙ sym (ap (λ (x : Mount ℕ). is_some x.mount_point) itself)
-            ∙ ap is_some f))
-        by (on_parent number at f g stands) itself =
-            let same : at.mount ≡ on.mount = ap (λ (l : Location ℕ). l.mount)
-            (same_Some at on (sym f ∙ ap (λ (x : Mount ℕ). x.mount_point) itself ∙ e)) in
-            subst (λ n. is_mount world n ≡ true) same (stood_on_there world nowhere number at f g)
+        by (at_root number f) itself = grind (arith, common_steps, true≢false)
+        by (on_parent number at f g stands) itself = grind (arith, common_steps, at, same_Some, stood_on_there)
 
     two_old : OneMountAMountPoint world.mounts → (a b : Mount ℕ) → Among a world.mounts → Among b world.mounts
         → test a b ≡ false → test (push a) (push b) ≡ false
@@ -451,10 +434,7 @@ module _ (world : World ℕ) (new : Copies ℕ) (place : Location ℕ) (mounts :
         by (stays e f) (goes receiver origin r o g h same) = (mixed a b m e receiver origin r o h same).0
         by (goes receiver origin r o e f same) (stays g h) = (mixed b a n g receiver origin r o f same).1
         by (goes receiver origin r o e f same) (goes other second t u g h same_too) =
-            two (nat_eq receiver.number other.number) refl
-          where
-            two : (c : Bool) → nat_eq receiver.number other.number ≡ c → test (push a) (push b) ≡ false
-            two c equal = grind (arith, common_steps, eqb-true, true≢false, stand_together, differ_by_mount, two_parts)
+            grind (arith, common_steps, eqb-true, true≢false, stand_together, differ_by_mount, two_parts)
 
     -- nothing stands on the topmost copy
     free_top : (part : Mount ℕ) → Among part parts → child_at nat_eq (copies part) (top_at part) ≡ None

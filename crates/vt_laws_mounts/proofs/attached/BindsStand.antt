@@ -106,9 +106,7 @@ all_stand_with_filesystem : (world : World ℕ) (filesystem : Filesystem ℕ) �
     → AllStand (with_new_filesystem world filesystem)
 all_stand_with_filesystem world filesystem all =
     let larger = with_new_filesystem world filesystem in
-    all_from_among (λ (x : Mount ℕ). Stands nat_eq larger x.number) world.mounts (λ x m.
-    stands_with_filesystem world filesystem x.number
-    (among_from_all (λ (y : Mount ℕ). Stands nat_eq world y.number) world.mounts all x m))
+    grind (arith, common_steps, all_from_among, stands_with_filesystem, among_from_all)
 
 pub new_mounts_keep_standing : NewMountsKeepStanding
 new_mounts_keep_standing world fresh place filesystem flags serves one nowhere all there =

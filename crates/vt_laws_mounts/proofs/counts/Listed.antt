@@ -21,13 +21,7 @@ none_times n (first ∷ rest) e =
 -- in a list without repeats each stands once
 pub once_times : (n : ℕ) (list : List ℕ) → any_pair nat_eq list ≡ false → times_in n list ≤ 1
 once_times n [] e = omega arith
-once_times n (first ∷ rest) e = ⊎_elim (λ t. let here : one_if n first ≡ 1 = ap (λ b. cond b 1 0) t.0 in
-    let none = none_times n rest (ap (λ m. is_among nat_eq m rest) t.1 ∙ parts.0) in omega arith)
-    (λ t. let here : one_if n first
-    ≡ 0 = ap (λ b. cond b 1 0) t.0 in let later = once_times n rest parts.1 in omega arith) (eqb_tells n first)
-  where
-    parts : (is_among nat_eq first rest ≡ false) × (any_pair nat_eq rest ≡ false)
-    parts = or_parts (is_among nat_eq first rest) (any_pair nat_eq rest) e
+once_times n (first ∷ rest) e = grind (arith, common_steps, one_if, none_times, eqb_tells, or_parts, once_times n rest)
 
 pub once_or_none : (n : ℕ) (list : List ℕ) → any_pair nat_eq list ≡ false
     → times_in n list ≡ cond (is_among nat_eq n list) 1 0

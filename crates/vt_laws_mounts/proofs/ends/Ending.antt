@@ -1,12 +1,13 @@
 -- What takes mounts away keeps the invariants of mounts.
-use Rattle.std.proofs.Common.{◌≡◌, refl, sym, ap, ◌∙◌, false, nat_eq, ℕ, List, None, Some, eq-eqb, flat_map, is_some, map, true≢false, ⊎_elim}
+use Rattle.std.proofs.Common.{arith, ◌≡◌, sym, ap, ◌∙◌, false, nat_eq, ℕ, List, None, Some, eq-eqb, flat_map, is_some, map, true≢false, ⊎_elim}
+use Rattle.std.proofs.lemmas.Grind.{common_steps}
 use Rattle.vt_spec.proofs.Lists.{Among, all_from_among, among_from_all, none_among}
 use Rattle.vt_spec.specs.Machine.Detach.{going, has_child, mounts_on, taken_away}
 use Rattle.vt_spec.specs.Lists.{holds_of}
 use Rattle.vt_spec.specs.Machine.Mounts.{Location, Mount, mount_tree, stands_on}
 use Rattle.vt_spec.specs.Machine.Namespaces.{namespaces_ended}
 use Rattle.vt_spec.specs.Machine.World.{World, mount_numbered}
-use Rattle.vt_spec.specs.Machine.Invariants.{MountInvariants, Stands}
+use Rattle.vt_spec.specs.Machine.Invariants.{MountInvariants}
 use Rattle.vt_laws_mounts.specs.Mounts.Invariants.{AreApart, OneMountEachMountPoint}
 use Rattle.vt_laws_mounts.specs.Mounts.Ending.{EndedNamespacesKeepMounts, PointsKeepMounts, ReplacedKeepsMounts, TreesKeepMounts, UnmountKeepsMounts}
 use Rattle.vt_laws_mounts.specs.Mounts.Standing.{AllStand}
@@ -84,12 +85,4 @@ ended_namespaces_keep_mounts world kept =
     closed_keeps world (in_ended world) (ended_closed world (places_end_in world kept) kept.one_number) kept in
     let left = taken_away nat_eq world (in_ended world) in
     let end = namespaces_ended nat_eq world in
-    record {
-      one_number = taken.one_number;
-      one_child = taken.one_child;
-      standing = all_from_among (λ (mount : Mount ℕ). Stands nat_eq end mount.number) end.mounts (λ mount m.
-          stands_alike left end (λ number. refl) mount.number
-          (among_from_all (λ (other : Mount ℕ). Stands nat_eq left other.number) left.mounts taken.standing mount m));
-      nowhere = taken.nowhere;
-      groups = taken.groups;
-    }
+    grind (arith, common_steps, all_from_among, stands_alike, among_from_all)

@@ -1,9 +1,9 @@
 -- What namespaces have left of their mounts where some are taken away.
 use Rattle.std.proofs.lemmas.Grind.{common_steps}
-use Rattle.std.proofs.Common.{◌≡◌, refl, sym, ap, subst, ◌∙◌, true, false, nat_eq, ℕ, Bool, List, None, Option, Some, [], arith, cond, eq-eqb, eqb-true, filter, flat_map, inl, inr, is_some, length, map, not, option_map, zero, suc, true≢false, ⊎_elim, ◌&&◌, ◌∷◌, ◌≤◌, ◌⊎◌}
-use Rattle.std.proofs.lemmas.Bool.{and_from, false_from_ne_true, le-leb}
+use Rattle.std.proofs.Common.{◌≡◌, refl, sym, ap, subst, ◌∙◌, true, false, nat_eq, ℕ, Bool, List, None, Option, Some, [], arith, filter, flat_map, inl, inr, is_some, length, map, not, option_map, zero, suc, true≢false, ⊎_elim, ◌&&◌, ◌∷◌, ◌≤◌, ◌⊎◌}
+use Rattle.std.proofs.lemmas.Bool.{le-leb}
 use Rattle.std.specs.List.{list_any}
-use Rattle.vt_spec.proofs.Lists.{Among, all_from_among, among-from_filter, among-from_flat_map, among-from_map, among_from_contains, among_from_list_all, among_numbers, any_among, any_from_among, contains_from_among, filter_here, filter_skip, list_all_from_among}
+use Rattle.vt_spec.proofs.Lists.{Among, all_from_among, among-from_filter, among-from_flat_map, among-from_map, among_from_contains, among_from_list_all, among_numbers, any_among, contains_from_among, filter_here, filter_skip, list_all_from_among}
 use Rattle.vt_spec.specs.Machine.Detach.{after_going, going, is_going, is_point, mounts_on, mount_point_left, points_of, taken_away}
 use Rattle.vt_spec.specs.Lists.{holds_of}
 use Rattle.vt_spec.specs.Machine.Mounts.{Location, Mount, children, mount_in, mount_tree, stands_on, tree_from}
@@ -30,15 +30,7 @@ module _ {A : Type 0} where
   same_count : (p q : A → Bool) (f : A → A) (xs : List A) → ((x : A) → Among x xs → p (f x) ≡ q x)
       → length (filter p (map f xs)) ≡ length (filter q xs)
   same_count p q f [] same = refl
-  same_count p q f (y ∷ ys) same =
-      ap (λ b. length (cond b (f y ∷ filter p (map f ys)) (filter p (map f ys)))) (same y (inl refl))
-      ∙ by (q y) (same_count p q f ys (λ x m. same x (inr m)))
-    where
-      by : (b : Bool) → length (filter p (map f ys)) ≡ length (filter q ys)
-          → length (cond b (f y ∷ filter p (map f ys)) (filter p (map f ys)))
-          ≡ length (cond b (y ∷ filter q ys) (filter q ys))
-      by true later = omega (arith, later)
-      by false later = later
+  same_count p q f (y ∷ ys) same = grind (arith, common_steps, same_count p q f ys)
 
   no_higher_count : (p q : A → Bool) (f : A → A) (xs : List A) → ((x : A) → p (f x) ≡ true → q x ≡ true)
       → length (filter p (map f xs)) ≤ length (filter q xs)
@@ -113,11 +105,8 @@ module _ (world : World ℕ) (gone : List ℕ) where
 
       by : (mount : Mount ℕ) → Among mount world.mounts → (b : Bool) → is_going nat_eq gone mount.number ≡ b
           → is_root namespace (after_it mount) ≡ is_root namespace mount
-      by mount m true e = ap (λ x. holds_of (nat_eq namespace) x.namespace && not (is_some x.mount_point))
-          (going_is_detached world gone mount e) ∙ sym (no_root mount (placed mount m e))
-      by mount m false e = ap (λ x. holds_of (nat_eq namespace) x.namespace && not (is_some x.mount_point))
-          (staying_is_placed world gone mount e)
-          ∙ ap (λ b. is_in namespace mount && not b) (placed_alike mount.mount_point)
+      by mount m true e = grind (arith, common_steps, going_is_detached, no_root, placed)
+      by mount m false e = grind (arith, common_steps, staying_is_placed, placed_alike)
 
 -- a mount with the number of another is that one
 same_mount : (world : World ℕ) → OneNumberEach world → (a b : Mount ℕ) → Among a world.mounts → Among b world.mounts
@@ -201,13 +190,7 @@ ended_namespaces_keep_roots world listed each there tasks =
         (λ (n : Namespace ℕ). nat_eq number n.number && has_tasks nat_eq world n) world.namespaces)) namespace
 
     elsewhere : (namespace : Option ℕ) → ended_of namespace ≡ true → holds_of (nat_eq listed.number) namespace ≡ false
-    elsewhere None e = refl
-    elsewhere (Some number) e = false_from_ne_true (nat_eq listed.number number) (λ same.
-        true≢false (sym e ∙ ap not (any_from_among (λ
-        (n : Namespace ℕ). nat_eq number n.number && has_tasks nat_eq world n) world.namespaces listed
-        (among_from_contains world.namespaces listed there)
-        (and_from (nat_eq number listed.number) (has_tasks nat_eq world listed)
-        (eq-eqb number listed.number (sym (eqb-true listed.number number same))) tasks))))
+    elsewhere namespace e = grind (arith, common_steps, among_from_contains world.namespaces listed there)
 
 -- The counts of each change
 pub unmount_has_no_more : ByUnmount HasNoMoreMounts

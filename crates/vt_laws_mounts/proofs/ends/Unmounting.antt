@@ -85,15 +85,9 @@ module _ (world : World ℕ) (gone : List ℕ) where
   falls_to_rest : (n : ℕ) (place rest : Location ℕ) → EndsBelow n place → FallsTo world gone place rest
       → last_or place (chain n (mount_point_of_parent nat_eq world gone) place) ≡ rest
   falls_to_rest n place rest ends (rests at stays) = left_at_rest n at stays
-  falls_to_rest zero place rest ends (falls at below end goes under later) =
-      absurd (true≢false (sym (ap is_some under) ∙ ends))
+  falls_to_rest zero place rest ends (falls at below end goes under later) = grind (arith, common_steps, true≢false)
   falls_to_rest (suc n) place rest ends (falls at below end goes under later) =
-      let next : mount_point_of_parent nat_eq world gone at ≡ Some below =
-      ap (λ b. if b then down at else None) goes ∙ under in
-      ap (last_or at) (chain_goes_on (mount_point_of_parent nat_eq world gone) n at below next)
-      ∙ last_of_chain (mount_point_of_parent nat_eq world gone) n below at ∙ falls_to_rest n below end
-      (sym (ap (λ p. is_some (down p))
-      (ap (last_or at) (chain_goes_on down n at below under) ∙ last_of_chain down n below at)) ∙ ends) later
+      grind (arith, common_steps, chain_goes_on, last_of_chain, falls_to_rest n below end)
 
   abbrev below_mount : Mount ℕ → Option (Mount ℕ)
   below_mount mount = option_map (mount_at nat_eq world) mount.mount_point
@@ -133,14 +127,7 @@ module _ (world : World ℕ) (gone : List ℕ) where
   pub kept_by_number : (number : ℕ) → is_going nat_eq gone number ≡ false
       → KeepsAllButMountPointAndType (before_it number) (left number)
   kept_by_number number e =
-      let it = taken_staying number (goes_so number false e) in
-      record {
-        number = ap (λ m. m.number) it;
-        namespace = ap (λ m. m.namespace) it;
-        filesystem = ap (λ m. m.filesystem) it;
-        root = ap (λ m. m.root) it;
-        flags = ap (λ m. m.flags) it;
-      }
+      grind (arith, common_steps, taken_staying number (goes_so number false e), goes_so number false e)
 
   place_by_number : (number : ℕ) (place : Location ℕ) → is_going nat_eq gone number ≡ false
       → (before_it number).mount_point ≡ Some place

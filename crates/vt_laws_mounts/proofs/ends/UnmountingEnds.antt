@@ -62,14 +62,7 @@ then_event : (before : Mount ℕ) (world : World ℕ) (gone : List ℕ) (number 
     → DetachedOrKept before (mount_numbered nat_eq world number)
     → DetachedOrKept before (mount_numbered nat_eq (taken_away nat_eq world gone) number)
 then_event before world gone number (inl e) = inl (stays_detached world gone number before e)
-then_event before world gone number (inr r) = ⊎_elim
-    (λ e. inl (e ∙ detached_of_kept before (mount_numbered nat_eq world number) r)) (λ s. inr (record {
-      number = s.number ∙ r.number;
-      namespace = s.namespace ∙ r.namespace;
-      filesystem = s.filesystem ∙ r.filesystem;
-      root = s.root ∙ r.root;
-      flags = s.flags ∙ r.flags;
-    })) (event world gone number)
+then_event before world gone number (inr r) = grind (arith, common_steps, number, detached_of_kept, event)
 
 all_events : (before : Mount ℕ) (number : ℕ) (mounts : List (Mount ℕ)) (world : World ℕ)
     → DetachedOrKept before (mount_numbered nat_eq world number)

@@ -81,9 +81,7 @@ module _ (world : World ℕ) (live : GroupsLive world) (mount : Mount ℕ) where
         where
           on : (k : Propagation ℕ) → (mount_at nat_eq world place).propagation ≡ k
               → Among number (going_from nat_eq world mount place (is_shared k)) → Goes world mount number
-          on (Shared group) g m = shared place group e g
-              (subst (λ rs. Among number (map (λ gone. gone.number) (filter_map (goes_at nat_eq world place.node) rs)))
-              (receivers_of_shared world (mount_at nat_eq world place) group g) m)
+          on (Shared group) g m = grind (arith, common_steps, shared, receivers_of_shared)
           on (Slave above) g m = itself (alone place e (ap is_shared g)) m
           on Private g m = itself (alone place e (ap is_shared g)) m
           on Unbindable g m = itself (alone place e (ap is_shared g)) m

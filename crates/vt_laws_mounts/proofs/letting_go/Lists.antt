@@ -62,13 +62,7 @@ module _ {A : Type 0} where
   pub any-filter : (t q : A → Bool) (xs : List A) → ((x : A) → Among x xs → q x ≡ false → t x ≡ false)
       → list_any t (filter q xs) ≡ list_any t xs
   any-filter t q [] h = refl
-  any-filter t q (y ∷ ys) h = by (q y) refl (any-filter t q ys (λ x m. h x (inr m)))
-    where
-      by : (b : Bool) → q y ≡ b → list_any t (filter q ys) ≡ list_any t ys
-          → list_any t (filter q (y ∷ ys)) ≡ (t y || list_any t ys)
-      by true e later = ap (list_any t) (filter_here q y ys e) ∙ ap (λ b. t y || b) later
-      by false e later = ap (list_any t) (filter_skip q y ys e) ∙ later
-          ∙ ap (λ b. b || list_any t ys) (sym (h y (inl refl) e))
+  any-filter t q (y ∷ ys) h = grind (arith, common_steps, any-filter t q ys)
 
 module _ {A B : Type 0} where
   pub any-map : (p : B → Bool) {q : A → Bool} (f : A → B) (xs : List A) → ((x : A) → p (f x) ≡ q x)
@@ -117,12 +111,7 @@ module _ {A B C : Type 0} where
 pub filter_less : {A : Type 0} (p q : A → Bool) (xs : List A) → ((x : A) → Among x xs → q x ≡ false → p x ≡ false)
     → filter p (filter q xs) ≡ filter p xs
 filter_less p q [] h = refl
-filter_less p q (y ∷ ys) h = by (q y) refl (filter_less p q ys (λ x m. h x (inr m)))
-  where
-    by : (b : Bool) → q y ≡ b → filter p (filter q ys) ≡ filter p ys
-        → filter p (cond b (y ∷ filter q ys) (filter q ys)) ≡ filter p (y ∷ ys)
-    by true e later = ap (λ l. cond (p y) (y ∷ l) l) later
-    by false e later = later ∙ sym (filter_skip p y ys (h y (inl refl) e))
+filter_less p q (y ∷ ys) h = grind (arith, common_steps, filter_less p q ys)
 
 module _ {A : Type 0} where
   -- some pass just where their count is not zero

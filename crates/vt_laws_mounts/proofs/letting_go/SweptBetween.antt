@@ -174,13 +174,7 @@ module _ (world : World ℕ) (once_mounts again_mounts : List (Mount ℕ)) (once
       none g b e dead = grind (arith, common_steps, and_parts, true≢false, or_first, last_mounted_was)
 
   same_lives : (f : Filesystem ℕ) → filesystem_lives nat_eq (without_dead_mounts nat_eq again) (swept f) ≡ lives_last f
-  same_lives f = ap (λ n. is_mounted nat_eq (without_dead_mounts nat_eq again) n
-      || list_any (λ merged. has_layer_on nat_eq n merged
-      && is_mounted nat_eq (without_dead_mounts nat_eq again) merged.number) (settled nat_eq world).filesystems)
-      (number-swept f) ∙ ap (λ b. b || list_any (λ merged. has_layer_on nat_eq f.number merged
-      && is_mounted nat_eq (without_dead_mounts nat_eq again) merged.number) (settled nat_eq world).filesystems)
-      (same_mounted f.number)
-      ∙ ap (λ b. is_mounted nat_eq (without_dead_mounts nat_eq once) f.number || b) (same_layered f.number)
+  same_lives f = grind (arith, common_steps, number-swept f, same_mounted f.number, same_layered f.number)
 
   same_filesystems : again_living.filesystems ≡ map swept once_living.filesystems
   same_filesystems = ap (filter (filesystem_lives nat_eq (without_dead_mounts nat_eq again))) first_sweep

@@ -1,5 +1,5 @@
 -- Mounts stay apart, by number and by place.
-use Rattle.std.proofs.Common.{arith, ◌≡◌, refl, sym, ap, ◌∙◌, true, false, nat_eq, ℕ, Bool, List, [], eqb-true, is_some, map, ◌&&◌, ◌∷◌, ⊎_elim, ◌++◌}
+use Rattle.std.proofs.Common.{arith, ◌≡◌, refl, ap, ◌∙◌, true, false, nat_eq, ℕ, Bool, List, [], eqb-true, is_some, map, ◌&&◌, ◌∷◌, ⊎_elim, ◌++◌}
 use Rattle.std.proofs.lemmas.Grind.{common_steps}
 use Rattle.vt_spec.specs.Machine.Mounts.{Mount, mount_in, mount_tree, replaced_if_same, same_location, with_mount, numbers_by}
 use Rattle.vt_spec.proofs.Lists.{Among, pair-filter, pair-map, among-append, among-from_map, among_from_list_all, list_all_from_among}
@@ -124,11 +124,5 @@ flags_keep_nowhere world here flags one e =
         → is_nowhere_or_attached (replaced_if_same nat_eq (record (mount_at nat_eq world here) { flags = flags }) old)
         ≡ true
     by old m true f =
-        let same : mount_at nat_eq world here ≡ old =
-        ap (mount_in nat_eq world.mounts) (sym (number-mount_in world.mounts here.mount) ∙ eqb-true _ _ f)
-        ∙ found_itself world.mounts one old m in
-        ap is_nowhere_or_attached (replaced_there (record (mount_at nat_eq world here) { flags = flags }) old f)
-        ∙ ap is_nowhere_or_attached same ∙ among_from_list_all is_nowhere_or_attached world.mounts e old m
-    by old m false f =
-        ap is_nowhere_or_attached (replaced_elsewhere (record (mount_at nat_eq world here) { flags = flags }) old f)
-        ∙ among_from_list_all is_nowhere_or_attached world.mounts e old m
+        grind (arith, common_steps, number-mount_in, eqb-true, found_itself, replaced_there, among_from_list_all)
+    by old m false f = grind (arith, common_steps, replaced_elsewhere, among_from_list_all)

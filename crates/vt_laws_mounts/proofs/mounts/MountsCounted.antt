@@ -1,5 +1,6 @@
 -- How many mounts a namespace has, and how many root mounts.
-use Rattle.std.proofs.Common.{◌≡◌, refl, sym, ap, ◌∙◌, true, false, nat_eq, ℕ, Bool, List, [], filter, inl, inr, is_some, length, map, not, ◌∷◌}
+use Rattle.std.proofs.Common.{arith, ◌≡◌, refl, ap, ◌∙◌, nat_eq, ℕ, Bool, List, [], filter, is_some, length, map, not, ◌∷◌}
+use Rattle.std.proofs.lemmas.Grind.{common_steps}
 use Rattle.std.proofs.lemmas.List.{length-map}
 use Rattle.vt_spec.proofs.Lists.{Among, among-from_filter, filter_here, filter_skip}
 use Rattle.vt_spec.specs.Lists.{holds_of}
@@ -13,14 +14,7 @@ use Rattle.vt_laws_mounts.specs.Mounts.Ending.{is_in}
 pub filter-map : {A B : Type 0} (later : B → Bool) (p : A → Bool) (f : A → B) (xs : List A)
     → ((x : A) → Among x xs → later (f x) ≡ p x) → filter later (map f xs) ≡ map f (filter p xs)
 filter-map later p f [] same = refl
-filter-map later p f (y ∷ ys) same = by (p y) refl (same y (inl refl)) (filter-map later p f ys (λ x m. same x (inr m)))
-  where
-    by : (b : Bool) → p y ≡ b → later (f y) ≡ p y → filter later (map f ys) ≡ map f (filter p ys)
-        → filter later (map f (y ∷ ys)) ≡ map f (filter p (y ∷ ys))
-    by true e here rest = filter_here later (f y) (map f ys) (here ∙ e) ∙ ap (λ l. f y ∷ l) rest
-        ∙ ap (map f) (sym (filter_here p y ys e))
-    by false e here rest =
-        filter_skip later (f y) (map f ys) (here ∙ e) ∙ rest ∙ ap (map f) (sym (filter_skip p y ys e))
+filter-map later p f (y ∷ ys) same = grind (arith, common_steps, filter_here, filter_skip, filter-map later p f ys)
 
 pub same_root : (a b : Mount ℕ) → a.mount_point ≡ b.mount_point → is_root_mount nat_eq a ≡ is_root_mount nat_eq b
 same_root a b e = ap (λ p. not (is_some p)) e

@@ -93,11 +93,7 @@ indexed mounts number one =
 
 pub one_index : (mounts : List (Mount ℕ)) (a b : ℕ) → IsOneOf mounts a → IsOneOf mounts b
     → index_of nat_eq mounts a ≡ index_of nat_eq mounts b → a ≡ b
-one_index mounts a b m n e =
-    let s = indexed mounts a m in
-    let t = indexed mounts b n in
-    let same : s.1 ≡ t.1 = same_Some s.1 t.1 (sym s.3 ∙ ap (slice_get mounts) (sym s.2 ∙ e ∙ t.2) ∙ t.3) in
-    sym s.4 ∙ ap (λ mount. mount.number) same ∙ t.4
+one_index mounts a b m n e = grind (arith, common_steps, indexed mounts a m, indexed mounts b n)
 
 index_below : (mounts : List (Mount ℕ)) (number : ℕ) → IsOneOf mounts number
     → index_of nat_eq mounts number < length mounts
@@ -124,10 +120,7 @@ one_index_of_groups : (parts : List (Mount ℕ)) (group other : ℕ) → has_mem
     → has_members nat_eq parts other ≡ true
     → index_of_group nat_eq parts group ≡ index_of_group nat_eq parts other → group ≡ other
 one_index_of_groups parts group other m n e =
-    let s = indexed_group parts group m in
-    let t = indexed_group parts other n in
-    let same : s.1 ≡ t.1 = same_Some s.1 t.1 (sym s.3 ∙ ap (slice_get parts) (sym s.2 ∙ e ∙ t.2) ∙ t.3) in
-    one_group group other s.1 s.4 (ap (is_member_of nat_eq other) same ∙ t.4)
+    grind (arith, common_steps, indexed_group parts group m, indexed_group parts other n)
 
 -- the i-th of the k-th is no other, where each has so many
 numbered_apart : (size k i m j : ℕ) → i < size → j < size → index_in_rows size k i ≡ index_in_rows size m j → (k

@@ -141,8 +141,7 @@ pub type_is_taken : TypeIsTaken
 type_is_taken world fresh number word recursive other there chosen has =
     let group = groups_by world fresh number recursive in
     let named = named_mounts nat_eq world number recursive in
-    type_of_named world group word named other there chosen ∙ kept_where_master world group word named
-    (type_after (group other) word (mount_numbered nat_eq world other).propagation) has
+    grind (arith, common_steps, type_of_named, kept_where_master)
 
 pub alone_is_private : AloneIsPrivate
 alone_is_private world fresh number one there shared no_master none =

@@ -1,9 +1,9 @@
 -- What the policy takes for the receivers of a group is what receives from it.
-use Rattle.std.proofs.Common.{arith, ◌≡◌, refl, sym, ap, subst, ◌∙◌, inl, ⊎_elim, ℕ, zero, suc, nat_eq, Bool, true, false, true≢false, ◌&&◌, [], ◌∷◌, length, Option, Some, None, is_some}
+use Rattle.std.proofs.Common.{arith, ◌≡◌, refl, sym, ap, subst, ◌∙◌, ⊎_elim, ℕ, zero, suc, nat_eq, Bool, true, false, true≢false, ◌&&◌, [], ◌∷◌, length, Option, Some, None, is_some}
 use Rattle.std.proofs.lemmas.Grind.{common_steps}
-use Rattle.std.specs.Prelude.{◌↔◌, option_to_list}
+use Rattle.std.specs.Prelude.{◌↔◌}
 use Rattle.std.specs.List.{list_all}
-use Rattle.std.proofs.lemmas.Bool.{and_parts, not-true}
+use Rattle.std.proofs.lemmas.Bool.{not-true}
 use Rattle.std.proofs.lemmas.Option.{same_Some}
 use Rattle.vt_spec.specs.Lists.{chain, holds_of, is_among, last_or}
 use Rattle.vt_spec.specs.Machine.Mounts.{Mount, Propagation, source_of}
@@ -82,11 +82,8 @@ pub groups_live_at : (world : World ℕ) → GroupsLive world → (mount : Mount
     → source_of mount.propagation ≡ Some source
     → (list_all (has_members nat_eq world.mounts) (groups_up world source) ≡ true)
     × (masters_end nat_eq world source ≡ true)
-groups_live_at world live mount m source e = and_parts _ _
-    (among_from_list_all (λ group. list_all (has_members nat_eq world.mounts) (groups_up world group)
-    && masters_end nat_eq world group) (option_to_list (source_of mount.propagation))
-    (among_from_list_all (has_living_groups nat_eq world) world.mounts live mount m) source
-    (subst (λ s. Among source (option_to_list s)) (sym e) (inl refl)))
+groups_live_at world live mount m source e =
+    grind (arith, common_steps, among_from_list_all (has_living_groups nat_eq world) world.mounts live mount m)
 
 ends_above : (world : World ℕ) → GroupsLive world → (mount : Mount ℕ) → Among mount world.mounts → (source : ℕ)
     → source_of mount.propagation ≡ Some source

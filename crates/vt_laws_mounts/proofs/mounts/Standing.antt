@@ -78,13 +78,10 @@ module _ (world : World ℕ) where
   same_depth : (a : ℕ) (x : Stand a) (b : ℕ) (y : Stand b) → a ≡ b → depth a x ≡ depth b y
   unfolding depth
   same_depth a (at_root it e) b (at_root other f) same = refl
-  same_depth a (at_root it e) b (on_parent other place f g y) same =
-      absurd (true≢false (sym (ap is_some f) ∙ sym (ap (λ n. is_some (mount_of n).mount_point) same) ∙ ap is_some e))
-  same_depth a (on_parent it place e f x) b (at_root other g) same =
-      absurd (true≢false (sym (ap is_some e) ∙ ap (λ n. is_some (mount_of n).mount_point) same ∙ ap is_some g))
+  same_depth a (at_root it e) b (on_parent other place f g y) same = grind (arith, common_steps, true≢false)
+  same_depth a (on_parent it place e f x) b (at_root other g) same = grind (arith, common_steps, true≢false)
   same_depth a (on_parent it place e f x) b (on_parent other at g h y) same =
-      ap suc (same_depth place.mount x at.mount y
-      (ap (λ (p : Location ℕ). p.mount) (same_Some place at (sym e ∙ ap (λ n. (mount_of n).mount_point) same ∙ g))))
+      grind (arith, common_steps, same_Some, same_depth place.mount x at.mount y)
 
   -- what is on the way stands no deeper
   on_way : (number : ℕ) (stands : Stand number) (other : ℕ) → Among other (way number stands)
@@ -133,32 +130,18 @@ module _ (world : World ℕ) where
   unfolding depth
   last_stands zero number (at_root it e) l = (e, refl)
   last_stands zero number (on_parent it place e f stands) l = absurd (omega (arith, l))
-  last_stands (suc n) number (at_root it e) l =
-      let end : last_in (suc n) (mount_of it) ≡ mount_of it =
-      ap (last_or (mount_of it)) (chain_ends below n (mount_of it) (ap (option_map (mount_at nat_eq world)) e)) in
-      (ap (λ m. m.mount_point) end ∙ e, ap (λ m. m.namespace) (sym end))
+  last_stands (suc n) number (at_root it e) l = grind (arith, common_steps, chain_ends)
   last_stands (suc n) number (on_parent it place e f stands) l =
-      let one = mount_of it in
-      let parent = mount_of place.mount in
-      let end : last_in (suc n) one ≡ last_in n parent =
-      ap (last_or one) (chain_goes_on below n one parent (ap (option_map (mount_at nat_eq world)) e))
-      ∙ last_of_chain below n parent one in
-      let later = last_stands n place.mount stands (omega (arith, l)) in
-      (ap (λ m. m.mount_point) end ∙ later.0, f ∙ later.1 ∙ ap (λ m. m.namespace) (sym end))
+      grind (arith, common_steps, chain_goes_on, last_of_chain, last_stands n place.mount stands (omega (arith, l)))
 
   chain_length : (n number : ℕ) (stands : Stand number) → depth number stands ≤ n
       → length (chain n below (mount_of number)) ≡ suc (depth number stands)
   unfolding depth
   chain_length zero number (at_root it e) l = omega arith
   chain_length zero number (on_parent it place e f stands) l = absurd (omega (arith, l))
-  chain_length (suc n) number (at_root it e) l =
-      let here = ap length (chain_ends below n (mount_of it) (ap (option_map (mount_at nat_eq world)) e)) in
-      omega (arith, here)
+  chain_length (suc n) number (at_root it e) l = grind (arith, common_steps, chain_ends)
   chain_length (suc n) number (on_parent it place e f stands) l =
-      let parent = mount_of place.mount in
-      let here = ap length (chain_goes_on below n (mount_of it) parent (ap (option_map (mount_at nat_eq world)) e)) in
-      let later = chain_length n place.mount stands (omega (arith, l)) in
-      omega (arith, here, later)
+      grind (arith, common_steps, chain_goes_on, chain_length n place.mount stands (omega (arith, l)))
 
   same_as_test : (a b : Option ℕ) → a ≡ b → same_option nat_eq a b ≡ true
   same_as_test None None e = refl
@@ -284,23 +267,15 @@ module _ (world : World ℕ) (one : OneNumberEach world) (all : AllStand world) 
   pub lies_deeper : (above number : ℕ) → LiesIn world above number → (above ≡ number) ⊎ (rank above < rank number)
   lies_deeper above number (itself it) = inl refl
   lies_deeper above number (under top it place e way) =
-      let child = rank_child it place e in
-      ⊎_elim (λ same. let equal : rank top ≡ rank place.mount = ap rank same in inr (omega (arith, equal, child)))
-      (λ further. inr (omega (arith, further, child))) (lies_deeper top place.mount way)
+      grind (arith, common_steps, rank_child, lies_deeper top place.mount way)
 
   -- of those that are no deeper than another, one alone is above a mount
   one_above : (a b number : ℕ) → LiesIn world a number → LiesIn world b number → rank a ≡ rank b → a ≡ b
-  one_above a b number (itself it) second same =
-      ⊎_elim sym (λ further. absurd (omega (arith, further, same))) (lies_deeper b it second)
+  one_above a b number (itself it) second same = grind (arith, common_steps, lies_deeper)
   one_above a b number (under top it place e way) (itself other) same =
-      let child = rank_child it place e in
-      ⊎_elim (λ equal.
-      let level : rank top ≡ rank place.mount = ap rank equal in
-      absurd (omega (arith, level, child, same)))
-      (λ further. absurd (omega (arith, further, child, same))) (lies_deeper top place.mount way)
+      grind (arith, common_steps, rank_child, lies_deeper)
   one_above a b number (under top it place e way) (under above other at f later) same =
-      one_above top above place.mount way
-      (subst (LiesIn world above) (ap (λ (p : Location ℕ). p.mount) (same_Some at place (sym f ∙ e))) later) same
+      grind (arith, common_steps, same_Some, one_above top above place.mount way)
 
   -- a child stands on its parent
   child_lies : (mount child : Mount ℕ) → Among child (children nat_eq world.mounts mount.number)

@@ -1,8 +1,9 @@
 -- A move leaves each mount standing, and at most one at a place.
-use Rattle.std.proofs.Common.{◌≡◌, refl, sym, ap, subst, ◌∙◌, true, nat_eq, ℕ, List, [], append-nil, eqb-true, flat_map, inl, inr, is_some, length, not, suc, true≢false, zero, ⊎_elim, ◌&&◌, ◌∷◌, ◌||◌}
+use Rattle.std.proofs.Common.{arith, ◌≡◌, refl, sym, ap, subst, ◌∙◌, true, nat_eq, ℕ, List, [], append-nil, eqb-true, flat_map, inl, inr, is_some, length, not, suc, true≢false, zero, ⊎_elim, ◌&&◌, ◌∷◌, ◌||◌}
+use Rattle.std.proofs.lemmas.Grind.{common_steps}
 use Rattle.vt_spec.proofs.Lists.{Among, among-flat_map, among-from_filter, among-from_flat_map, among-from_map, among_from_all, among_from_list_all, none_among, none_from_among}
 use Rattle.vt_spec.specs.Machine.Attach.{moved_tree, parts_of}
-use Rattle.vt_spec.specs.Lists.{holds_of, is_among}
+use Rattle.vt_spec.specs.Lists.{is_among}
 use Rattle.vt_spec.specs.Machine.Mounts.{Location, Mount, children, mount_in, mount_tree, stands_on, tree_from}
 use Rattle.vt_spec.specs.Machine.World.{World, mount_at, mount_numbered}
 use Rattle.vt_spec.specs.Machine.Invariants.{MountInvariants, Stands, is_nowhere_or_attached, is_private}
@@ -75,16 +76,8 @@ module _ (world : World ℕ) where
       where
         by : Stands nat_eq world child.number → mount_numbered nat_eq world child.number ≡ child
             → stands_on nat_eq mount.number child ≡ true → child.namespace ≡ mount.namespace
-        by (at_root it e) itself on = absurd (true≢false (sym on
-            ∙ ap (λ (x : Mount ℕ). holds_of (λ (p : Location ℕ). nat_eq mount.number p.mount) x.mount_point)
-            (sym itself) ∙ ap (holds_of (λ (p : Location ℕ). nat_eq mount.number p.mount)) e))
-        by (on_parent it at e f stands) itself on =
-            let parent : mount.number ≡ at.mount = eqb-true mount.number at.mount
-            (sym (ap (λ (x : Mount ℕ). holds_of (λ (p : Location ℕ). nat_eq mount.number p.mount) x.mount_point)
-            (sym itself) ∙ ap (holds_of (λ (p : Location ℕ). nat_eq mount.number p.mount)) e) ∙ on) in
-            ap (λ (x : Mount ℕ). x.namespace) (sym itself) ∙ f
-            ∙ ap (λ n. (mount_numbered nat_eq world n).namespace) (sym parent)
-            ∙ ap (λ (x : Mount ℕ). x.namespace) (found_itself world.mounts invariants.one_number mount m)
+        by (at_root it e) itself on = grind (arith, common_steps, true≢false)
+        by (on_parent it at e f stands) itself on = grind (arith, common_steps, eqb-true, found_itself)
 
     tree_namespace : (fuel : ℕ) (mount x : Mount ℕ) → Among mount world.mounts
         → Among x (tree_from nat_eq fuel world.mounts mount) → x.namespace ≡ mount.namespace

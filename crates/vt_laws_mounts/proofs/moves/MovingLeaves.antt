@@ -1,5 +1,5 @@
 -- What moves, before anything is attached for the receivers: each mount stands, at most one at a place.
-use Rattle.std.proofs.Common.{arith, ◌≡◌, refl, sym, ap, subst, ◌∙◌, true, false, nat_eq, ℕ, Bool, List, None, Option, Some, [], eq-eqb, eqb-true, inl, inr, is_some, map, option_map, true≢false, ⊎_elim, ◌∷◌}
+use Rattle.std.proofs.Common.{arith, ◌≡◌, refl, sym, ap, subst, ◌∙◌, true, false, nat_eq, ℕ, Bool, List, None, Option, Some, [], eq-eqb, eqb-true, is_some, map, option_map, true≢false, ⊎_elim, ◌∷◌}
 use Rattle.std.proofs.lemmas.Grind.{common_steps}
 use Rattle.std.specs.List.{list_any}
 use Rattle.std.specs.Prelude.{if◌then◌else◌, unwrap_or}
@@ -50,11 +50,7 @@ pub pair_by : (test : Mount ℕ → Mount ℕ → Bool) (list : List (Mount ℕ)
     → any_pair test list ≡ false
 pair_by test [] own each = refl
 pair_by test (first ∷ rest) own each =
-    let parted : (list_any (same_number first) rest ≡ false) × OneNumberAMount rest =
-    or_parts (list_any (same_number first) rest) (any_pair same_number rest) own in
-    or_from (list_any (test first) rest) (any_pair test rest) (none_from_among (test first) rest (λ x m.
-    each first x (inl refl) (inr m) (none_among (same_number first) rest parted.0 x m)))
-    (pair_by test rest parted.1 (λ a b m n. each a b (inr m) (inr n)))
+    grind (arith, common_steps, test, same_number, or_parts, or_from, none_from_among, none_among, pair_by test rest)
 
 -- a mount of the list has this number
 abbrev pub is_moved : List (Mount ℕ) → ℕ → Bool

@@ -308,14 +308,8 @@ module _ (world : World ℕ) (new : Copies ℕ) (place : Location ℕ) (mounts :
             two (nat_eq receiver.number other.number) refl
           where
             two : (c : Bool) → nat_eq receiver.number other.number ≡ c → test (push a) (push b) ≡ false
-            two true equal =
-                let number : receiver.number ≡ other.number = eqb-true receiver.number other.number equal in
-                absurd (true≢false (sym (stand_together a b (place_at other)
-                (e ∙ (λ i. Some (record { mount = number i; node = place.node }))) g) ∙ differ))
-            two false apart_too = differ_by_mount (push a) (push b) (top_at receiver) (top_at other) f h
-                (ap (λ k. nat_eq k (top_at other).mount) same
-                ∙ ap (nat_eq (new.copy receiver.number origin.number)) same_too
-                ∙ two_parts receiver other origin second r t o u apart_too)
+            two true equal = grind (arith, common_steps, eqb-true, true≢false, stand_together)
+            two false apart_too = grind (arith, common_steps, differ_by_mount, two_parts)
 
     -- nothing stands on the topmost copy
     free_top : (part : Mount ℕ) → Among part takers → child_at nat_eq (copies part) (top_at part) ≡ None

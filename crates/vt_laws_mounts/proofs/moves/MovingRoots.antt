@@ -39,10 +39,7 @@ module _ (namespace : ℕ) where
       → ((x : Mount ℕ) → Among x xs → is_root_in namespace (f x) ≡ is_root_in namespace x)
       → count namespace (map f xs) ≡ count namespace xs
   count_map f [] same = refl
-  count_map f (x ∷ xs) same = count_step (f x) (map f xs)
-      ∙ ap (λ b. cond b (suc (count namespace (map f xs))) (count namespace (map f xs))) (same x (inl refl))
-      ∙ ap (λ n. cond (is_root_in namespace x) (suc n) n) (count_map f xs (λ y m. same y (inr m)))
-      ∙ sym (count_step x xs)
+  count_map f (x ∷ xs) same = grind (arith, common_steps, count_step, count_map f xs)
 
   count_none : (xs : List (Mount ℕ)) → ((x : Mount ℕ) → Among x xs → is_root_in namespace x ≡ false)
       → count namespace xs ≡ 0

@@ -1,6 +1,6 @@
 -- A pivot of the root: the new root mount stands where the old one stood, and that one over it.
 use Rattle.std.proofs.lemmas.Grind.{common_steps}
-use Rattle.std.proofs.Common.{◌≡◌, refl, sym, ap, subst, ◌∙◌, true, false, zero, suc, nat_eq, ℕ, Bool, None, Option, Some, arith, cond, eq-eqb, eqb-true, inl, inr, is_some, length, true≢false, ⊎_elim, ◌<◌, ◌⊎◌}
+use Rattle.std.proofs.Common.{◌≡◌, refl, sym, ap, subst, ◌∙◌, true, false, zero, suc, nat_eq, ℕ, Bool, None, Option, Some, arith, cond, eq-eqb, eqb-true, is_some, length, true≢false, ⊎_elim, ◌<◌, ◌⊎◌}
 use Rattle.std.specs.Prelude.{if◌then◌else◌}
 use Rattle.std.proofs.lemmas.Bool.{and_parts, false_from_ne_true}
 use Rattle.std.proofs.lemmas.Option.{same_Some}
@@ -8,8 +8,6 @@ use Rattle.vt_spec.proofs.Lists.{Among, all_from_among, among-from_map, among-ma
 use Rattle.vt_spec.specs.Lists.{any_pair, chain, rest_of}
 use Rattle.vt_spec.specs.Machine.Mounts.{Location, Mount, root_of, stands_at}
 use Rattle.vt_spec.specs.Machine.Namespaces.{pivoted, pivoted_mount}
-use Rattle.vt_spec.specs.Machine.Looks.{looks_of}
-use Rattle.vt_spec.specs.Machine.Rules.Mounting.{is_on_descendant, lies_under_location}
 use Rattle.vt_spec.specs.Machine.World.{World, mount_at, mount_numbered}
 use Rattle.vt_spec.specs.Machine.Invariants.{MountInvariants, Stands, is_nowhere_or_attached, share_a_mount_point}
 use Rattle.vt_spec.specs.Machine.Invariants.Stands.{at_root, on_parent}
@@ -101,9 +99,7 @@ module _ (world : World ℕ) (namespace : ℕ) (root new : Mount ℕ) (put : Loc
       let t = new_stands_over in
       let step = rank_child world mounts.one_number mounts.standing new.number t.0
       (ap (λ x. x.mount_point) may.new_there ∙ t.1) in
-      ⊎_elim (λ same. let equal : level root.number ≡ level t.0.mount = ap level same in omega (arith, equal, step))
-      (λ more. omega (arith, more, step))
-      (lies_deeper world mounts.one_number mounts.standing root.number t.0.mount t.2)
+      grind (arith, common_steps, lies_deeper)
 
   put_lies_over : LiesIn world new.number put.mount
   put_lies_over =
@@ -247,10 +243,7 @@ module _ (world : World ℕ) (namespace : ℕ) (root new : Mount ℕ) (put : Loc
       higher =
           let step = rank_child world mounts.one_number mounts.standing it place e in
           let new_level : level new.number ≡ level above = ap level (sym same) in
-          ⊎_elim (λ equal.
-          let levels : level above ≡ level place.mount = ap level equal in
-          omega (arith, levels, step, new_level)) (λ more. omega (arith, more, step, new_level))
-          (lies_deeper world mounts.one_number mounts.standing above place.mount way)
+          grind (arith, common_steps, lies_deeper)
 
       by : (b : Bool) → nat_eq it new.number ≡ b → Stands nat_eq after place.mount → Stands nat_eq after it
       by true f below = subst (Stands nat_eq after) (sym (eqb-true it new.number f)) new_stands
@@ -305,23 +298,9 @@ module _ (world : World ℕ) (namespace : ℕ) (root new : Mount ℕ) (put : Loc
       by : (a : Bool) → nat_eq mount.number new.number ≡ a → (b : Bool) → nat_eq mount.number root.number ≡ b
           → ((before : Mount ℕ) × Among before world.mounts × (before.mount_point ≡ Some place)
           × (mount.number ≡ swapped before.number)) ⊎ ((mount.number ≡ root.number) × (put ≡ place))
-      by true f b g = inl (
-        root,
-        root_among,
-        sym (ap (λ x. (move x).mount_point) (is_new mount m f) ∙ moved_new) ∙ e,
-        eqb-true mount.number new.number f
-            ∙ ap (λ c. cond c new.number root.number) (sym (eq-eqb root.number root.number refl)),
-      )
-      by false f true g = inr (
-        eqb-true mount.number root.number g,
-        same_Some put place (sym (ap (λ x. (move x).mount_point) (is_root mount m g) ∙ moved_root) ∙ e),
-      )
-      by false f false g = inl (
-        mount,
-        m,
-        ap (λ x. x.mount_point) (sym (moved_other mount f g)) ∙ e,
-        ap (λ c. cond c new.number mount.number) (sym g),
-      )
+      by true f b g = grind (arith, common_steps, root_among, is_new, moved_new, eqb-true, eq-eqb)
+      by false f true g = grind (arith, common_steps, eqb-true, same_Some, is_root, moved_root)
+      by false f false g = grind (arith, common_steps, moved_other)
 
   two_after : (a b : Mount ℕ) → Among a world.mounts → Among b world.mounts → same_number a b ≡ false
       → share_a_mount_point nat_eq (move a) (move b) ≡ false
@@ -362,17 +341,4 @@ pivot_keeps_mounts world namespace root new put may mounts =
 
 pub numbered_mounts_can_pivot : NumberedMountsCanPivot
 numbered_mounts_can_pivot world namespace root new put root_inside new_inside put_inside node_is over put_under free =
-    let root_number : (mount_numbered nat_eq world root).number ≡ root = number-mount_in world.mounts root in
-    let new_number : (mount_at nat_eq world new).number ≡ new.mount = number-mount_in world.mounts new.mount in
-    let top : new ≡ root_of (mount_at nat_eq world new) = λ i. record { mount = sym new_number i; node = node_is i } in
-    record {
-      root_there = ap (mount_numbered nat_eq world) root_number;
-      new_there = ap (mount_numbered nat_eq world) new_number;
-      root_inside = root_inside;
-      new_inside = new_inside;
-      put_inside = put_inside;
-      new_over = ap (λ n. is_on_descendant nat_eq (looks_of nat_eq world) n (root_of (mount_at nat_eq world new)))
-          root_number ∙ ap (is_on_descendant nat_eq (looks_of nat_eq world) root) (sym top) ∙ over;
-      put_over = ap (λ here. lies_under_location nat_eq (looks_of nat_eq world) here put) (sym top) ∙ put_under;
-      put_free = free;
-    }
+    grind (arith, common_steps, number-mount_in world.mounts root, number-mount_in world.mounts new.mount)

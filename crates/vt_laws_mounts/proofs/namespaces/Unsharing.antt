@@ -99,13 +99,7 @@ module _ (world : World ℕ) (fresh : Fresh ℕ) (task : Task ℕ) (serves : Ser
       → (parent : Mount ℕ) × Among parent copied × (parent.number ≡ place.mount)
   copied_parent mount m place e =
       let parent = parent_of world mounts mount (is_copied_from mount m) place e in
-      let inside =
-      (among-from_filter (λ (x : Mount ℕ). holds_of (nat_eq task.namespace) x.namespace) world.mounts mount m).1 in (
-        parent.parent,
-        among-filter (λ (x : Mount ℕ). holds_of (nat_eq task.namespace) x.namespace) world.mounts parent.parent
-            parent.there (ap (holds_of (nat_eq task.namespace)) (sym parent.namespace) ∙ inside),
-        parent.number,
-      )
+      grind (arith, common_steps, among-from_filter, among-filter)
 
   -- a mount that was there is found as it was, and each copy by its own number
   pub old_found : (mount : Mount ℕ) → Among mount world.mounts → mount_numbered nat_eq after mount.number ≡ mount

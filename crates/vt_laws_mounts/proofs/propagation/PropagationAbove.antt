@@ -61,9 +61,7 @@ pub slaves_have_a_group_above : SlavesHaveAGroupAbove
 slaves_have_a_group_above it one master is away slave =
     let heard = hears it one is (λ same. true≢false (sym (eq-eqb one.number it.mount_point.mount
     (ap (λ (x : Mount ℕ). x.number) same ∙ number_found it.world.mounts it.mount_point.mount)) ∙ away)) in
-    nearest_is it heard.0 master heard.1
-    (sym (ap (λ k. holds_of (λ source. is_among nat_eq heard.0 (groups_up it.world source)) (source_of k)) slave)
-    ∙ heard.2)
+    grind (arith, common_steps, nearest_is)
 
 pub lower_groups_have_a_group_above : LowerGroupsHaveAGroupAbove
 lower_groups_have_a_group_above it one own is shared lacks =

@@ -1,11 +1,11 @@
 -- The copy of a mount at a part, as it is found after a tree was attached.
-use Rattle.std.proofs.Common.{arith, ◌≡◌, refl, sym, ap, subst, ◌∙◌, true, false, nat_eq, ℕ, Bool, List, Some, [], eq-eqb, eqb-true, flat_map, map, option_map, unwrap_or, ⊎_elim, ◌&&◌, ◌++◌, ◌∷◌}
+use Rattle.std.proofs.Common.{arith, ◌≡◌, refl, sym, ap, subst, ◌∙◌, true, false, nat_eq, ℕ, Bool, List, Some, [], eq-eqb, eqb-true, flat_map, map, ⊎_elim, ◌&&◌, ◌++◌, ◌∷◌}
 use Rattle.std.proofs.lemmas.Grind.{common_steps}
 use Rattle.std.specs.Prelude.{if◌then◌else◌}
 use Rattle.std.specs.List.{list_any}
 use Rattle.vt_spec.proofs.Lists.{Among, among-append_left, among-append_right, among-flat_map, among-from_filter, among-map, none_from_among, pair-map}
-use Rattle.vt_spec.specs.Machine.Attach.{Copies, Graft, Twig, attached_by, copies_at, copy_at, graft_of, parts_of, mount_point_on_copy, pushed_up, receivers_of, takes_part, twig_of}
-use Rattle.vt_spec.specs.Lists.{first_of_list, holds_of, is_among, rest_of}
+use Rattle.vt_spec.specs.Machine.Attach.{Copies, Graft, Twig, attached_by, copies_at, copy_at, graft_of, parts_of, pushed_up, receivers_of, takes_part, twig_of}
+use Rattle.vt_spec.specs.Lists.{holds_of, is_among, rest_of}
 use Rattle.vt_spec.specs.Machine.Mounts.{Location, Mount, group_of, mount_in, same_location}
 use Rattle.vt_spec.specs.Machine.World.{World, mount_at, mount_numbered}
 use Rattle.vt_laws_mounts.specs.Mounts.Attaching.{KeepsAllButMountPoint, OneNumberAMount, numbers_of}
@@ -71,11 +71,7 @@ module _ (world : World ℕ) (new : Copies ℕ) (place : Location ℕ) (moves : 
   -- where the top of the tree stands
   pub first_location : (part first : Mount ℕ) (rest : List (Mount ℕ)) → mounts ≡ first ∷ rest
       → (made part first).mount_point ≡ Some (record { mount = part.number; node = place.node })
-  first_location part first rest e = ap (λ b. Some (
-      if b then record { mount = part.number; node = place.node }
-      else unwrap_or (option_map (mount_point_on_copy nat_eq new tree part.number) first.mount_point) place))
-      (ap (λ ms. holds_of (λ (t : Twig ℕ). nat_eq first.number t.origin.number) (first_of_list (map twig ms))) e
-      ∙ eq-eqb first.number first.number refl)
+  first_location part first rest e = cc (eq-eqb first.number first.number refl)
 
   pub other_place : (part first origin below : Mount ℕ) (rest : List (Mount ℕ)) (at : Location ℕ)
       → mounts ≡ first ∷ rest → nat_eq origin.number first.number ≡ false → origin.mount_point ≡ Some at

@@ -305,11 +305,7 @@ module _ (world : World ℕ) (new : Copies ℕ) (place : Location ℕ) (moves : 
           → ((image group ≡ fresh_group) × (has_members nat_eq world.mounts (image group) ≡ false))
           ⊎ ((has_members nat_eq world.mounts (image group) ≡ true) ×
           (source_of origin.propagation ≡ Some (image group)))
-      made e = inl (
-        e,
-        ap (has_members nat_eq world.mounts) e
-            ∙ there_new world new place moves mounts serve own origin of_tree group shared,
-      )
+      made e = grind (arith, common_steps, there_new world new place moves mounts serve own origin of_tree group shared)
 
       by : (kind : Propagation ℕ) → origin.propagation ≡ kind
           → ((image group ≡ fresh_group) × (has_members nat_eq world.mounts (image group) ≡ false))

@@ -123,44 +123,25 @@ named_by node numbers = flat_map (λ directory. targets_in (node directory)) num
 pub named_apart : (node : ℕ → Option (Node ℕ)) (place : ℕ) (new : Option (Node ℕ)) (numbers : List ℕ)
     → times_in place numbers ≡ 0 → named_by (changed_at node place new) numbers ≡ named_by node numbers
 named_apart node place new [] none = refl
-named_apart node place new (first ∷ rest) none = ⊎_elim
-    (λ t. absurd (let some : one_if place first ≡ 1 = ap (λ b. cond b 1 0) t.0 in omega arith))
-    (λ t. λ i. targets_in (cond (ne_eqb first place (λ e. t.1 (sym e)) i) new (node first))
-    ++ named_apart node place new rest (let h : one_if place first ≡ 0 = ap (λ b. cond b 1 0) t.0 in omega arith) i)
-    (eqb_tells place first)
+named_apart node place new (first ∷ rest) none =
+    grind (arith, common_steps, ne_eqb, eqb_tells, named_apart node place new rest)
 
 -- one that is among them once has its new entries for its old ones
 pub named_changed : (number : ℕ) (node : ℕ → Option (Node ℕ)) (place : ℕ) (new : Option (Node ℕ)) (numbers : List ℕ)
     → times_in place numbers ≡ 1 → times_in number (named_by (changed_at node place new) numbers) + times_in number
     (targets_in (node place)) ≡ times_in number (named_by node numbers) + times_in number (targets_in new)
 named_changed number node place new [] one = absurd (omega arith)
-named_changed number node place new (first ∷ rest) one = ⊎_elim (λ t. here t.0 t.1) (λ t. later t.0 t.1
-    (named_changed number node place new rest (let h : one_if place first ≡ 0 = ap (λ b. cond b 1 0) t.0 in
-    omega arith))) (eqb_tells place first)
-  where
-    whole : times_in number (named_by node (first ∷ rest)) ≡ times_in number (targets_in (node first)) + times_in number
-        (named_by node rest)
-    whole = times_append number (targets_in (node first)) (named_by node rest)
-
-    now : times_in number (named_by (changed_at node place new) (first ∷ rest)) ≡ times_in number
-        (targets_in (changed_at node place new first)) + times_in number (named_by (changed_at node place new) rest)
-    now = times_append number (targets_in (changed_at node place new first)) (named_by (changed_at node place new) rest)
-
-    here : nat_eq place first ≡ true → place ≡ first
-        → times_in number (named_by (changed_at node place new) (first ∷ rest)) + times_in number
-        (targets_in (node place)) ≡ times_in number (named_by node (first ∷ rest)) + times_in number (targets_in new)
-    here t same = grind (arith, common_steps, times_in, named_apart, eq-eqb, whole, now)
-
-    later : nat_eq place first ≡ false → place ≢ first
-        → times_in number (named_by (changed_at node place new) rest) + times_in number
-        (targets_in (node place)) ≡ times_in number (named_by node rest) + times_in number (targets_in new)
-        → times_in number (named_by (changed_at node place new) (first ∷ rest)) + times_in number
-        (targets_in (node place)) ≡ times_in number (named_by node (first ∷ rest)) + times_in number (targets_in new)
-    later t apart rec =
-        let first_same : times_in number (targets_in (changed_at node place new first))
-        ≡ times_in number (targets_in (node first)) =
-        ap (λ b. times_in number (targets_in (cond b new (node first)))) (ne_eqb first place (λ e. apart (sym e))) in
-        let a = whole in let b = now in omega arith
+named_changed number node place new (first ∷ rest) one = grind (
+  arith,
+  common_steps,
+  eqb_tells,
+  times_in,
+  times_append,
+  named_apart,
+  eq-eqb,
+  ne_eqb,
+  named_changed number node place new rest,
+)
 
 -- a node changed where it stands
 abbrev pub at_place : (ℕ → Option (Node ℕ)) → ℕ → (Option (Node ℕ) → Option (Node ℕ)) → ℕ → Option (Node ℕ)

@@ -1,4 +1,5 @@
 -- Mounts and filesystems that go at zero.
+use Rattle.std.proofs.lemmas.Grind.{common_steps}
 use Rattle.std.proofs.Common.{◌≡◌, refl, sym, ap, ◌∙◌, ℕ, ◌+◌, nat_eq, eqb-true, Bool, true, false, true≢false, cond, not, ◌||◌, List, [], ◌∷◌, map, filter, find, Some, is_some, unwrap_or, arith}
 use Rattle.std.specs.List.{list_any}
 use Rattle.std.proofs.lemmas.Bool.{or_parts}
@@ -55,21 +56,8 @@ one_taken test (first ∷ rest) number one there =
         → times test (first ∷ rest) ≡ times test (cond (not (nat_eq first.number number)) (first ∷ left) left)
         + cond (test (unwrap_or (cond b (Some first) (find (λ mount. nat_eq number mount.number) rest))
         (no_mount number))) 1 0
-    by true e h later =
-        let all : left ≡ rest = filter_all (λ mount. not (nat_eq mount.number number)) rest
-        (λ mount m. ap not (nat_eq-swapped number mount.number false
-        (ap (λ k. nat_eq k mount.number) (eqb-true number first.number e)
-        ∙ fails (λ b. nat_eq first.number b.number) rest parts.0 mount m))) in
-        (let aside : cond (test first) 1 0 + times test rest
-        ≡ times test rest + cond (test first) 1 0 = omega arith in aside)
-        ∙ ap (λ l. times test l + cond (test first) 1 0) (sym all)
-        ∙ ap (λ b. times test (cond (not b) (first ∷ left) left) + cond (test first) 1 0)
-        (sym (nat_eq-swapped number first.number true e))
-    by false e h later = (let l = later h in
-        let aside : cond (test first) 1 0 + times test rest ≡ (cond (test first) 1 0 + times test left) + cond
-        (test (mount_in nat_eq rest number)) 1 0 = omega arith in aside)
-        ∙ ap (λ b. times test (cond (not b) (first ∷ left) left) + cond (test (mount_in nat_eq rest number)) 1 0)
-        (sym (nat_eq-swapped number first.number false e))
+    by true e h later = grind (arith, common_steps, filter_all, nat_eq-swapped, eqb-true, fails, parts)
+    by false e h later = grind (arith, common_steps, nat_eq-swapped)
 
 pub mount_takes_its_count : MountTakesItsCount
 mount_takes_its_count world number filesystem one there = one_taken

@@ -2,7 +2,6 @@
 use Rattle.std.proofs.lemmas.Grind.{common_steps}
 use Rattle.std.proofs.Common.{◌≡◌, refl, sym, ap, ◌∙◌, ℕ, ◌+◌, nat_eq, Bool, true, false, true≢false, cond, not, ◌&&◌, List, [], ◌∷◌, ◌++◌, map, filter, flat_map, Option, Some, None, arith}
 use Rattle.std.specs.Prelude.{All, filter_map, option_to_list}
-use Rattle.std.specs.List.{cons_option}
 use Rattle.std.proofs.lemmas.Bool.{or_parts}
 use Rattle.vt_spec.specs.Lists.{holds_of}
 use Rattle.vt_spec.specs.Machine.Locked.{of_overlay, overlay_or}
@@ -52,35 +51,13 @@ module _ (k n : ℕ) where
 
   layers_append : (one other : List (Layer ℕ)) → layers_at (one ++ other) ≡ layers_at one + layers_at other
   layers_append [] other = omega arith
-  layers_append (first ∷ rest) other = by (nat_eq k first.filesystem) (layers_append rest other)
-    where
-      by : (b : Bool) → layers_at (rest ++ other) ≡ layers_at rest + layers_at other
-          → times_in n (map (λ layer. layer.directory)
-          (cond b (first ∷ filter (λ (layer : Layer ℕ). nat_eq k layer.filesystem) (rest ++ other))
-          (filter (λ (layer : Layer ℕ). nat_eq k layer.filesystem) (rest ++ other))))
-          ≡ times_in n (map (λ layer. layer.directory)
-          (cond b (first ∷ filter (λ (layer : Layer ℕ). nat_eq k layer.filesystem) rest)
-          (filter (λ (layer : Layer ℕ). nat_eq k layer.filesystem) rest))) + layers_at other
-      by true e = omega arith
-      by false e = e
+  layers_append (first ∷ rest) other = grind (arith, common_steps, times_in, layers_append rest other)
 
   -- those of layers
   layers_are_uses : (layers : List (Layer ℕ))
       → times (is_inode k n) (map (λ (layer : Layer ℕ). (layer.filesystem, layer.directory)) layers) ≡ layers_at layers
   layers_are_uses [] = refl
-  layers_are_uses (first ∷ rest) = by (nat_eq k first.filesystem) (layers_are_uses rest)
-    where
-      by : (b : Bool)
-          → times (is_inode k n) (map (λ (layer : Layer ℕ). (layer.filesystem, layer.directory)) rest) ≡ layers_at rest
-          → cond (b && nat_eq n first.directory) 1 0
-          + times (is_inode k n) (map (λ (layer : Layer ℕ). (layer.filesystem, layer.directory)) rest)
-          ≡ times_in n (map (λ layer. layer.directory)
-          (cond b (first ∷ filter (λ (layer : Layer ℕ). nat_eq k layer.filesystem) rest)
-          (filter (λ (layer : Layer ℕ). nat_eq k layer.filesystem) rest)))
-      by true e = ap (λ m. cond (nat_eq n first.directory) 1 0 + m) e
-      by false e =
-          let later : times (is_inode k n) (map (λ (layer : Layer ℕ). (layer.filesystem, layer.directory)) rest)
-          ≡ layers_at rest = e in omega arith
+  layers_are_uses (first ∷ rest) = grind (arith, common_steps, times_in, layers_are_uses rest)
 
   -- those of upper objects
   abbrev of_object : Layer ℕ → Option ℕ → List Inode
@@ -91,20 +68,10 @@ module _ (k n : ℕ) where
       ≡ times_in n (cond b (filter_map real numbers) [])
   objects_are_uses upper real true e [] = refl
   objects_are_uses upper real false e [] = refl
-  objects_are_uses upper real true e (first ∷ rest) = by (real first) (objects_are_uses upper real true e rest)
-    where
-      by : (o : Option ℕ) → times (is_inode k n) (flat_map (λ number. of_object upper (real number)) rest)
-          ≡ times_in n (filter_map real rest)
-          → times (is_inode k n) (of_object upper o ++ flat_map (λ number. of_object upper (real number)) rest)
-          ≡ times_in n (cons_option o (filter_map real rest))
-      by None later = later
-      by (Some object) later = λ i. cond (e i && nat_eq n object) 1 0 + later i
-  objects_are_uses upper real false e (first ∷ rest) = by (real first) (objects_are_uses upper real false e rest)
-    where
-      by : (o : Option ℕ) → times (is_inode k n) (flat_map (λ number. of_object upper (real number)) rest) ≡ 0
-          → times (is_inode k n) (of_object upper o ++ flat_map (λ number. of_object upper (real number)) rest) ≡ 0
-      by None later = later
-      by (Some object) later = λ i. cond (e i && nat_eq n object) 1 0 + later i
+  objects_are_uses upper real true e (first ∷ rest) =
+      grind (arith, common_steps, upper, times_in, objects_are_uses upper real true e rest)
+  objects_are_uses upper real false e (first ∷ rest) =
+      grind (arith, common_steps, upper, objects_are_uses upper real false e rest)
 
   no_uses : (numbers : List ℕ) → times (is_inode k n) (flat_map (λ (number : ℕ). []) numbers) ≡ 0
   no_uses [] = refl
@@ -157,11 +124,7 @@ module _ (k n : ℕ) where
       ≡ times (is_inode k n) (flat_map used_by_filesystem one)
       + times (is_inode k n) (flat_map used_by_filesystem other)
   taken_apart [] other = omega arith
-  taken_apart (first ∷ rest) other =
-      let later = taken_apart rest other in
-      let one = times_append (is_inode k n) (used_by_filesystem first) (flat_map used_by_filesystem (rest ++ other)) in
-      let two = times_append (is_inode k n) (used_by_filesystem first) (flat_map used_by_filesystem rest) in
-      omega arith
+  taken_apart (first ∷ rest) other = grind (arith, common_steps, times_append, taken_apart rest other)
 
 -- What overlays use is all that filesystems use.
 plain_use_none : (g : Filesystem ℕ) → is_overlay g ≡ false → used_by_filesystem g ≡ []
@@ -253,15 +216,7 @@ overlays_take_their_uses world after stays k mounts locations are same = exchang
     both : (n : ℕ) (list : List (Filesystem ℕ))
         → used n list ≡ used n (filter stays list) + used n (filter (λ merged. not (stays merged)) list)
     both n [] = refl
-    both n (first ∷ rest) = times_append (is_inode k n) (used_by_filesystem first) (flat_map used_by_filesystem rest)
-        ∙ by (stays first) (both n rest)
-      where
-        by : (b : Bool) → used n rest ≡ used n (filter stays rest) + used n (filter (λ merged. not (stays merged)) rest)
-            → times (is_inode k n) (used_by_filesystem first) + used n rest
-            ≡ used n (cond b (first ∷ filter stays rest) (filter stays rest))
-            + used n (cond (not b) (first ∷ filter (λ merged. not (stays merged)) rest)
-            (filter (λ merged. not (stays merged)) rest))
-        by b later = grind (arith, common_steps, times_append)
+    both n (first ∷ rest) = grind (arith, common_steps, times_append, both n rest)
 
 pub plain_ones_use_nothing : PlainOnesUseNothing
 plain_ones_use_nothing world after k mounts locations are same = exchanged_by world after [] [] k mounts locations

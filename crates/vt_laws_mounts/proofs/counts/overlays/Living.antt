@@ -28,22 +28,7 @@ module _ (world : World ℕ) (number : ℕ) where
       ≡ list_any is_there
       (flat_map (of_overlay [] layers_of) (filter (λ merged. is_mounted nat_eq world merged.number) list))
   any_layered [] = refl
-  any_layered (first ∷ rest) = by (is_mounted nat_eq world first.number) (any_layered rest)
-    where
-      none : (b : Bool) → (b && false) ≡ false
-      none true = refl
-      none false = refl
-
-      by : (b : Bool)
-          → list_any (λ merged. has_layer_on nat_eq number merged && is_mounted nat_eq world merged.number) rest
-          ≡ list_any is_there
-          (flat_map (of_overlay [] layers_of) (filter (λ merged. is_mounted nat_eq world merged.number) rest))
-          → ((has_layer_on nat_eq number first && b)
-          || list_any (λ merged. has_layer_on nat_eq number merged && is_mounted nat_eq world merged.number) rest)
-          ≡ list_any is_there (flat_map (of_overlay [] layers_of)
-          (cond b (first ∷ filter (λ merged. is_mounted nat_eq world merged.number) rest)
-          (filter (λ merged. is_mounted nat_eq world merged.number) rest)))
-      by b later = grind (arith, common_steps, layers_on, list_any-append, none)
+  any_layered (first ∷ rest) = grind (arith, common_steps, layers_on, list_any-append, any_layered rest)
 
   counted_layers : list_any (λ merged. has_layer_on nat_eq number merged && is_mounted nat_eq world merged.number)
       world.filesystems ≡ nat_lt 0 (mounted_layer_count world number)
@@ -152,13 +137,7 @@ of_overlays number list = ap (times (λ (layer : Layer ℕ). nat_eq number layer
 among_both : (number : ℕ) (one other : List (Filesystem ℕ))
     → layers_among number (one ++ other) ≡ layers_among number one + layers_among number other
 among_both number [] other = omega arith
-among_both number (first ∷ rest) other =
-    let later = among_both number rest other in
-    let a = times_append (λ (layer : Layer ℕ). nat_eq number layer.filesystem) (of_overlay [] layers_of first)
-    (flat_map (of_overlay [] layers_of) (rest ++ other)) in
-    let b = times_append (λ (layer : Layer ℕ). nat_eq number layer.filesystem) (of_overlay [] layers_of first)
-    (flat_map (of_overlay [] layers_of) rest) in
-    omega arith
+among_both number (first ∷ rest) other = grind (arith, common_steps, times_append, among_both number rest other)
 
 pub overlays_use_filesystems : OverlaysUseFilesystems
 overlays_use_filesystems world after gained lost front back number were are =
@@ -181,10 +160,4 @@ layers_left_are_mounted world after number are = sym (of_overlays number after.f
     turned : (list : List (Filesystem ℕ))
         → filter mounted (filter is_overlay list) ≡ filter is_overlay (filter mounted list)
     turned [] = refl
-    turned (first ∷ rest) = by (is_overlay first) (mounted first) refl refl (turned rest)
-      where
-        by : (a b : Bool) → is_overlay first ≡ a → mounted first ≡ b
-            → filter mounted (filter is_overlay rest) ≡ filter is_overlay (filter mounted rest)
-            → filter mounted (cond a (first ∷ filter is_overlay rest) (filter is_overlay rest))
-            ≡ filter is_overlay (cond b (first ∷ filter mounted rest) (filter mounted rest))
-        by a b e f later = grind (arith, common_steps)
+    turned (first ∷ rest) = grind (arith, common_steps, turned rest)

@@ -1,5 +1,5 @@
 -- The sweep leaves overlays whose inodes have names.
-use Rattle.std.proofs.Common.{arith, ◌≡◌, refl, sym, ap, ◌∙◌, ⊎_elim, inl, inr, ℕ, nat_eq, Bool, true, false, true≢false, cond, ◌||◌, List, [], ◌∷◌, ◌++◌, map, filter, flat_map}
+use Rattle.std.proofs.Common.{arith, ◌≡◌, refl, sym, ap, ◌∙◌, ⊎_elim, ℕ, nat_eq, Bool, true, false, true≢false, cond, ◌||◌, List, [], ◌∷◌, ◌++◌, map, filter, flat_map}
 use Rattle.std.proofs.lemmas.Grind.{common_steps}
 use Rattle.std.specs.List.{list_all}
 use Rattle.std.proofs.lemmas.Bool.{or_cases}
@@ -21,15 +21,7 @@ pub filter_stays : {A : Type 0} (step : A → A) (p : A → Bool) (list : List A
     → ((a : A) → Among a list → p (step a) ≡ p a) → ((a : A) → Among a list → p a ≡ true → step a ≡ a)
     → filter p (map step list) ≡ filter p list
 filter_stays step p [] same stays = refl
-filter_stays step p (first ∷ rest) same stays =
-    ap (λ b. cond b (step first ∷ filter p (map step rest)) (filter p (map step rest))) (same first (inl refl))
-    ∙ by (p first) refl (filter_stays step p rest (λ a m. same a (inr m)) (λ a m. stays a (inr m)))
-  where
-    by : (b : Bool) → p first ≡ b → filter p (map step rest) ≡ filter p rest
-        → cond b (step first ∷ filter p (map step rest)) (filter p (map step rest))
-        ≡ cond b (first ∷ filter p rest) (filter p rest)
-    by true e later = λ i. stays first (inl refl) e i ∷ later i
-    by false e later = later
+filter_stays step p (first ∷ rest) same stays = grind (arith, common_steps, stays, filter_stays step p rest)
 
 module _ (world : World ℕ) (named : OverlaysAreNamed world) where
   abbrev lives : World ℕ

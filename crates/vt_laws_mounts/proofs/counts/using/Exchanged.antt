@@ -1,6 +1,6 @@
 -- Inodes that get some uses and lose some.
 use Rattle.std.proofs.lemmas.Grind.{common_steps}
-use Rattle.std.proofs.Common.{◌≡◌, refl, sym, ap, subst, ◌∙◌, ⊎_elim, inl, inr, ℕ, ◌+◌, ◌≤◌, nat_eq, eqb-true, Bool, true, false, true≢false, cond, not, ◌&&◌, ◌||◌, List, [], ◌∷◌, ◌++◌, map, filter, find, flat_map, Option, Some, None, is_some, unwrap_or, arith}
+use Rattle.std.proofs.Common.{◌≡◌, refl, sym, ap, subst, ◌∙◌, ⊎_elim, inl, inr, ℕ, ◌+◌, ◌≤◌, nat_eq, eqb-true, Bool, true, false, true≢false, cond, not, ◌&&◌, ◌||◌, List, [], ◌∷◌, ◌++◌, map, filter, find, flat_map, Option, None, is_some, unwrap_or, arith}
 use Rattle.std.specs.List.{list_all}
 use Rattle.std.proofs.lemmas.Bool.{and_parts}
 use Rattle.std.proofs.lemmas.Bool.Decides.{eqb_tells}
@@ -97,19 +97,11 @@ module _ (k : ℕ) (node : ℕ → Option (Node ℕ)) where
 
   pub root_pinned : (gained : List Inode) (inodes : Inodes ℕ) → (folded (pinned_if k) inodes gained).root ≡ inodes.root
   root_pinned [] inodes = refl
-  root_pinned (first ∷ rest) inodes = root_pinned rest (pinned_if k inodes first) ∙ by (nat_eq k first.0)
-    where
-      by : (b : Bool) → (cond b (Trees.pinned nat_eq inodes first.1) inodes).root ≡ inodes.root
-      by true = refl
-      by false = refl
+  root_pinned (first ∷ rest) inodes = grind (arith, common_steps, root_pinned rest (pinned_if k inodes first))
 
   pub root_unpinned : (lost : List Inode) (inodes : Inodes ℕ) → (folded (unpinned_if k) inodes lost).root ≡ inodes.root
   root_unpinned [] inodes = refl
-  root_unpinned (first ∷ rest) inodes = root_unpinned rest (unpinned_if k inodes first) ∙ by (nat_eq k first.0)
-    where
-      by : (b : Bool) → (cond b (Trees.unpinned nat_eq inodes first.1) inodes).root ≡ inodes.root
-      by true = refl
-      by false = refl
+  root_unpinned (first ∷ rest) inodes = grind (arith, common_steps, root_unpinned rest (unpinned_if k inodes first))
 
 -- The world
 
@@ -119,18 +111,7 @@ pub found_mapped : (step : Filesystem ℕ → Filesystem ℕ) → ((f : Filesyst
     → unwrap_or (find (λ f. nat_eq k f.number) (map step filesystems)) (no_filesystem k)
     ≡ step (unwrap_or (find (λ f. nat_eq k f.number) filesystems) (no_filesystem k))
 found_mapped step same [] k there = absurd (true≢false (sym there))
-found_mapped step same (first ∷ rest) k there =
-    ap (λ n. unwrap_or (cond (nat_eq k n) (Some (step first)) (find (λ f. nat_eq k f.number) (map step rest)))
-    (no_filesystem k)) (same first) ∙ by (nat_eq k first.number) there (found_mapped step same rest k)
-  where
-    by : (b : Bool) → (b || is_among nat_eq k (map (λ f. f.number) rest)) ≡ true
-        → (is_among nat_eq k (map (λ f. f.number) rest) ≡ true
-        → unwrap_or (find (λ f. nat_eq k f.number) (map step rest))
-        (no_filesystem k) ≡ step (unwrap_or (find (λ f. nat_eq k f.number) rest) (no_filesystem k)))
-        → unwrap_or (cond b (Some (step first)) (find (λ f. nat_eq k f.number) (map step rest))) (no_filesystem k)
-        ≡ step (unwrap_or (cond b (Some first) (find (λ f. nat_eq k f.number) rest)) (no_filesystem k))
-    by true h later = refl
-    by false h later = later h
+found_mapped step same (first ∷ rest) k there = grind (arith, common_steps, there, found_mapped step same rest k)
 
 pub numbers_mapped : (step : Filesystem ℕ → Filesystem ℕ) → ((f : Filesystem ℕ) → (step f).number ≡ f.number)
     → (filesystems : List (Filesystem ℕ)) → map (λ f. f.number) (map step filesystems) ≡ map (λ f. f.number) filesystems
@@ -403,10 +384,7 @@ module _ (world after : World ℕ) (gained lost : List Inode) (k : ℕ) (inodes 
     where
       not_lost : (list : List Inode) → is_inode_among k n list ≡ false → times (is_inode k n) list ≡ 0
       not_lost [] e = refl
-      not_lost (first ∷ rest) e =
-          let parts = Rattle.std.proofs.lemmas.Bool.or_parts (is_inode k n first) (is_inode_among k n rest) e in
-          let here : one_when (is_inode k n first) ≡ 0 = ap one_when parts.0 in
-          let later = not_lost rest parts.1 in omega arith
+      not_lost (first ∷ rest) e = grind (arith, common_steps, not_lost rest)
 
       never : (b : Bool) → is_some (inodes.inode n) ≡ b → inode_uses world f n ≡ 0 → f.files.tree.node n ≡ None
       never true e none = absurd (let some = start.in_use n e in let same = start.uses_are n in omega arith)

@@ -1,11 +1,11 @@
 -- Mounts and the locations on them.
-use Rattle.std.proofs.Common.{arith, ◌≡◌, refl, sym, ap, subst, ◌∙◌, ⊎_elim, inl, ℕ, nat_eq, eqb-true, Bool, true, false, true≢false, cond, not, ◌||◌, List, [], ◌∷◌, ◌++◌, map, filter, find, Option, Some, None, is_some, unwrap_or}
+use Rattle.std.proofs.Common.{arith, ◌≡◌, refl, sym, ap, subst, ◌∙◌, ⊎_elim, inl, ℕ, nat_eq, eqb-true, Bool, true, false, true≢false, cond, not, ◌||◌, List, [], ◌∷◌, ◌++◌, map, filter, Option, Some, None, is_some}
 use Rattle.std.proofs.lemmas.Grind.{common_steps}
 use Rattle.std.specs.Prelude.{filter_map}
 use Rattle.std.specs.List.{cons_option, list_all, list_any}
 use Rattle.std.proofs.lemmas.Bool.{or_parts}
 use Rattle.vt_spec.specs.Lists.{any_pair, is_among}
-use Rattle.vt_spec.specs.Machine.Mounts.{Location, Mount, mount_in, no_mount, root_of}
+use Rattle.vt_spec.specs.Machine.Mounts.{Location, Mount, mount_in, root_of}
 use Rattle.vt_spec.specs.Machine.Settled.{is_located}
 use Rattle.vt_spec.specs.Machine.World.{World, all_locations, mount_at, mount_numbered}
 use Rattle.vt_spec.specs.Machine.Invariants.{is_nowhere_or_attached}
@@ -25,14 +25,7 @@ use Rattle.vt_spec.proofs.Truths.{nat_eq-swapped}
 attached_is : (mounts : List (Mount ℕ)) (number : ℕ) → is_some (mount_in nat_eq mounts number).namespace ≡ true
     → is_among nat_eq number (map (λ mount. mount.number) mounts) ≡ true
 attached_is [] number e = absurd (true≢false (sym e))
-attached_is (first ∷ rest) number e = by (nat_eq number first.number) e (attached_is rest number)
-  where
-    by : (b : Bool) → is_some (unwrap_or (cond b (Some first) (find (λ mount. nat_eq number mount.number) rest))
-        (no_mount number)).namespace ≡ true → (is_some (mount_in nat_eq rest number).namespace ≡ true
-        → is_among nat_eq number (map (λ mount. mount.number) rest) ≡ true)
-        → (b || is_among nat_eq number (map (λ mount. mount.number) rest)) ≡ true
-    by true e later = refl
-    by false e later = later e
+attached_is (first ∷ rest) number e = grind (arith, common_steps, attached_is rest number)
 
 pub places_stand : PlacesStand
 places_stand world stand locations =

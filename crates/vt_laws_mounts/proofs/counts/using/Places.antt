@@ -1,16 +1,16 @@
 -- Locations and mounts as uses of inodes.
 use Rattle.std.proofs.lemmas.Grind.{common_steps}
-use Rattle.std.proofs.Common.{◌≡◌, refl, sym, ap, subst, ◌∙◌, ⊎_elim, inl, inr, ℕ, ◌+◌, nat_eq, eqb-true, eq-eqb, Bool, true, false, true≢false, cond, not, ◌&&◌, ◌||◌, List, [], ◌∷◌, ◌++◌, map, filter, find, flat_map, Option, Some, None, unwrap_or, arith}
+use Rattle.std.proofs.Common.{◌≡◌, refl, sym, ap, subst, ◌∙◌, ⊎_elim, inl, inr, ℕ, ◌+◌, nat_eq, eqb-true, eq-eqb, Bool, true, false, true≢false, cond, not, ◌&&◌, ◌||◌, List, [], ◌∷◌, ◌++◌, map, filter, find, flat_map, Some, None, unwrap_or, arith}
 use Rattle.std.specs.Prelude.{filter_map, option_to_list}
-use Rattle.std.specs.List.{cons_option, list_all}
+use Rattle.std.specs.List.{list_all}
 use Rattle.std.proofs.lemmas.Bool.{and_parts}
 use Rattle.std.proofs.lemmas.List.{append_assoc}
 use Rattle.vt_spec.specs.FileTree.{targets_in}
 use Rattle.vt_spec.specs.Lists.{any_pair, is_among}
 use Rattle.vt_spec.specs.Machine.Locked.{of_overlay}
-use Rattle.vt_spec.specs.Machine.Mounts.{Location, Mount, mount_in, no_mount, root_of}
+use Rattle.vt_spec.specs.Machine.Mounts.{Location, Mount, mount_in, root_of}
 use Rattle.vt_spec.specs.Machine.Settled.{layers_in, located_in, named_in, objects_of_overlay}
-use Rattle.vt_spec.specs.Machine.World.{first_mount, first_location, opening, Filesystem, World, all_locations, filesystem_numbered, layers_of, new_plain, no_filesystem, root_attr}
+use Rattle.vt_spec.specs.Machine.World.{opening, Filesystem, World, all_locations, filesystem_numbered, layers_of, new_plain, no_filesystem, root_attr}
 use Rattle.vt_spec.specs.Inodes.{node_in, uses_in}
 use Rattle.vt_spec.specs.Tree.{new_directory}
 use Rattle.vt_laws_mounts.specs.LettingGo.Counts.{inode_uses, mounts_showing, times}
@@ -22,7 +22,7 @@ use Rattle.vt_laws_mounts.proofs.counts.counting.Entries.{one_if}
 use Rattle.vt_laws_mounts.proofs.counts.counting.Times.{times_in}
 use Rattle.vt_laws_mounts.specs.Counts.Counted.{IsCounted}
 use Rattle.vt_laws_mounts.specs.Counts.Going.{LocationsUseMounts, MountsUseFilesystems}
-use Rattle.vt_laws_mounts.specs.Counts.Using.{ExchangesFollow, MountIsPlaced, OthersUseNothing, LocationsAreUses, MountsAreUses, NewTreeIsCounted, OpeningIsCounted, is_inode, is_on, is_outside, one_counted, places_of, root_counted}
+use Rattle.vt_laws_mounts.specs.Counts.Using.{ExchangesFollow, MountIsPlaced, OthersUseNothing, LocationsAreUses, MountsAreUses, NewTreeIsCounted, OpeningIsCounted, is_inode, is_on, is_outside, one_counted, places_of}
 use Rattle.vt_laws_mounts.proofs.counts.using.Swept.{found_number, plain_of, uses_split}
 use Rattle.vt_laws_mounts.proofs.letting_go.sweeps.UpperUses.{times_append}
 use Rattle.vt_spec.proofs.Worlds.{mount_in-among, number-mount_in}
@@ -39,15 +39,7 @@ module _ (mounts : List (Mount ℕ)) (k n : ℕ) where
 
   pub count_append : (one other : List (Location ℕ)) → count_in (one ++ other) ≡ count_in one + count_in other
   count_append [] other = omega arith
-  count_append (first ∷ rest) other = by (shown first) (count_append rest other)
-    where
-      by : (b : Bool) → count_in (rest ++ other) ≡ count_in rest + count_in other
-          → times_in n (map (λ location. location.node)
-          (cond b (first ∷ filter shown (rest ++ other)) (filter shown (rest ++ other))))
-          ≡ times_in n (map (λ location. location.node)
-          (cond b (first ∷ filter shown rest) (filter shown rest))) + count_in other
-      by true e = omega arith
-      by false e = e
+  count_append (first ∷ rest) other = grind (arith, common_steps, times_in, count_append rest other)
 
   abbrev place_inode : Location ℕ → Inode
   place_inode location = ((mount_in nat_eq mounts location.mount).filesystem, location.node)
@@ -55,13 +47,7 @@ module _ (mounts : List (Mount ℕ)) (k n : ℕ) where
   pub count_places : (locations : List (Location ℕ))
       → times (is_inode k n) (map place_inode locations) ≡ count_in locations
   count_places [] = refl
-  count_places (first ∷ rest) = by (shown first) (count_places rest)
-    where
-      by : (b : Bool) → times (is_inode k n) (map place_inode rest) ≡ count_in rest
-          → cond (b && nat_eq n first.node) 1 0 + times (is_inode k n) (map place_inode rest)
-          ≡ times_in n (map (λ location. location.node) (cond b (first ∷ filter shown rest) (filter shown rest)))
-      by true e = ap (λ m. cond (nat_eq n first.node) 1 0 + m) e
-      by false e = let later : times (is_inode k n) (map place_inode rest) ≡ count_in rest = e in omega arith
+  count_places (first ∷ rest) = grind (arith, common_steps, times_in, count_places rest)
 
   pub count_none : (locations : List (Location ℕ)) → list_all (λ location. not (shown location)) locations ≡ true
       → count_in locations ≡ 0
@@ -151,16 +137,7 @@ points_append : (one other : List (Mount ℕ)) → filter_map (λ (mount : Mount
     ≡ filter_map (λ (mount : Mount ℕ). mount.mount_point) one
     ++ filter_map (λ (mount : Mount ℕ). mount.mount_point) other
 points_append [] other = refl
-points_append (first ∷ rest) other = by first.mount_point (points_append rest other)
-  where
-    by : (o : Option (Location ℕ)) → filter_map (λ (mount : Mount ℕ). mount.mount_point) (rest ++ other)
-        ≡ filter_map (λ (mount : Mount ℕ). mount.mount_point) rest
-        ++ filter_map (λ (mount : Mount ℕ). mount.mount_point) other
-        → cons_option o (filter_map (λ (mount : Mount ℕ). mount.mount_point) (rest ++ other))
-        ≡ cons_option o (filter_map (λ (mount : Mount ℕ). mount.mount_point) rest)
-        ++ filter_map (λ (mount : Mount ℕ). mount.mount_point) other
-    by None e = e
-    by (Some place) e = ap (λ l. place ∷ l) e
+points_append (first ∷ rest) other = grind (arith, common_steps, points_append rest other)
 
 -- among more mounts, each with its own number, it is found still
 found_still : (front added back : List (Mount ℕ)) (number : ℕ)
@@ -215,13 +192,7 @@ mounts_are_uses world after front added back filesystems locations were are one 
     one_new = subst (λ m. any_pair (λ (a b : Mount ℕ). nat_eq a.number b.number) m ≡ false) are one
 
     on_old : list_all (is_on old) ((all_locations world ++ map root_of old) ++ points old) ≡ true
-    on_old = subst (λ m. list_all (is_on m) ((all_locations world ++ map root_of m) ++ points m) ≡ true) were
-        (assoc (list_all (is_on world.mounts)) ∙ on)
-      where
-        assoc : (p : List (Location ℕ) → Bool)
-            → p ((all_locations world ++ map root_of world.mounts) ++ points world.mounts)
-            ≡ p (all_locations world ++ (map root_of world.mounts ++ points world.mounts))
-        assoc p = ap p (append_assoc (all_locations world) (map root_of world.mounts) (points world.mounts))
+    on_old = cc (append_assoc (all_locations world) (map root_of world.mounts) (points world.mounts))
 
     same_counts : (n : ℕ) → count_in new k n ((all_locations world ++ map root_of old) ++ points old)
         ≡ count_in old k n ((all_locations world ++ map root_of old) ++ points old)
@@ -251,26 +222,9 @@ mounts_are_uses world after front added back filesystems locations were are one 
 found_placed : (front back : List (Mount ℕ)) (old new : Mount ℕ) → new.number ≡ old.number
     → new.filesystem ≡ old.filesystem → (number : ℕ) → (mount_in nat_eq (front ++ (new ∷ back)) number).filesystem
     ≡ (mount_in nat_eq (front ++ (old ∷ back)) number).filesystem
-found_placed [] back old new numbered shows number =
-    (λ i. (unwrap_or (cond (nat_eq number (numbered i)) (Some new) (find (λ mount. nat_eq number mount.number) back))
-    (no_mount number)).filesystem) ∙ by (nat_eq number old.number)
-  where
-    by : (b : Bool) → (unwrap_or (cond b (Some new) (find (λ mount. nat_eq number mount.number) back))
-        (no_mount number)).filesystem
-        ≡ (unwrap_or (cond b (Some old) (find (λ mount. nat_eq number mount.number) back)) (no_mount number)).filesystem
-    by true = shows
-    by false = refl
-found_placed (first ∷ front) back old new numbered shows number = by (nat_eq number first.number)
-    (found_placed front back old new numbered shows number)
-  where
-    by : (b : Bool) → (mount_in nat_eq (front ++ (new ∷ back)) number).filesystem
-        ≡ (mount_in nat_eq (front ++ (old ∷ back)) number).filesystem
-        → (unwrap_or (cond b (Some first) (find (λ mount. nat_eq number mount.number) (front ++ (new ∷ back))))
-        (no_mount number)).filesystem
-        ≡ (unwrap_or (cond b (Some first) (find (λ mount. nat_eq number mount.number) (front ++ (old ∷ back))))
-        (no_mount number)).filesystem
-    by true later = refl
-    by false later = later
+found_placed [] back old new numbered shows number = grind (arith, common_steps)
+found_placed (first ∷ front) back old new numbered shows number =
+    grind (arith, common_steps, found_placed front back old new numbered shows number)
 
 pub mount_is_placed : MountIsPlaced
 mount_is_placed world after front back old new filesystems locations were are numbered shows rooted k = record {
@@ -454,62 +408,4 @@ new_tree_is_counted world number root plain one own outside =
 
 -- The opening world
 pub opening_is_counted : OpeningIsCounted
-opening_is_counted fresh = subst (λ f. IsCounted world f (one_counted root 4)) (sym found) (record {
-  root = refl;
-  node = λ n. nodes (nat_eq n root);
-  uses = λ n. uses n;
-  count = refl;
-  once = refl;
-})
-  where
-    world : World ℕ
-    world = opening nat_eq fresh
-
-    root : ℕ
-    root = fresh 3
-
-    tree : Filesystem ℕ
-    tree = new_plain nat_eq (fresh 2) root
-
-    found : filesystem_numbered nat_eq world (fresh 2) ≡ tree
-    found = ap (λ b. unwrap_or (cond b (Some tree) None) (no_filesystem (fresh 2))) (eq-eqb (fresh 2) (fresh 2) refl)
-
-    nodes : (b : Bool) → node_in (cond b (Some (root_counted root 4)) None)
-        ≡ cond b (Some (record { attr = root_attr; content = new_directory root })) None
-    nodes true = refl
-    nodes false = refl
-
-    here : Location ℕ
-    here = first_location nat_eq fresh
-
-    is_shown : shown world.mounts (fresh 2) 0 here ≡ true
-    is_shown = ap (λ b. nat_eq (fresh 2) (unwrap_or (cond b (Some (first_mount nat_eq fresh)) None)
-        (no_mount (fresh 0))).filesystem) (eq-eqb (fresh 0) (fresh 0) refl) ∙ eq-eqb (fresh 2) (fresh 2) refl
-
-    one_here : (n : ℕ) (rest : List (Location ℕ)) → count_in world.mounts (fresh 2) n (here ∷ rest)
-        ≡ one_if n root + count_in world.mounts (fresh 2) n rest
-    one_here n rest = ap (λ b. times_in n (map (λ location. location.node)
-        (cond b (here ∷ filter (shown world.mounts (fresh 2) n) rest)
-        (filter (shown world.mounts (fresh 2) n) rest)))) is_shown
-
-    uses : (n : ℕ) → uses_in ((one_counted root 4).inode n) ≡ inode_uses world tree n
-    uses n = by (nat_eq n root) ∙ sym (let split = uses_split world tree n in
-        let bare : times_in n (named_in tree.files) ≡ 0 = ap (λ b. times_in n (targets_in
-        (cond b (Some (record { attr = root_attr; content = new_directory root })) None) ++ []))
-        (eq-eqb root root refl) in
-        let layers : times_in n (layers_in nat_eq world (fresh 2)) ≡ 0 = refl in
-        let objects : times_in n (flat_map (objects_of_overlay nat_eq (fresh 2)) world.filesystems) ≡ 0 = refl in
-        let a : times_in n (located_in nat_eq world (fresh 2))
-        ≡ count_in world.mounts (fresh 2) n (here ∷ here ∷ here ∷ []) = refl in
-        let b = one_here n (here ∷ here ∷ []) in
-        let c = one_here n (here ∷ []) in
-        let d = one_here n [] in
-        let none : count_in world.mounts (fresh 2) n [] ≡ 0 = refl in
-        let all : inode_uses world tree n ≡ one_if n root + (one_if n root + (one_if n root + one_if n root)) =
-        omega arith in
-        all)
-      where
-        by : (b : Bool) → uses_in (cond b (Some (root_counted root 4)) None)
-            ≡ cond b 1 0 + (cond b 1 0 + (cond b 1 0 + cond b 1 0))
-        by true = refl
-        by false = refl
+opening_is_counted fresh = grind (arith, common_steps, eq-eqb (fresh 2) (fresh 2) refl, eq-eqb (fresh 0) (fresh 0) refl)

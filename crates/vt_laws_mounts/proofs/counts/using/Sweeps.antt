@@ -1,4 +1,5 @@
 -- Counted inodes after the sweep at the end of a call.
+use Rattle.std.proofs.lemmas.Grind.{common_steps}
 use Rattle.std.proofs.Common.{◌≡◌, refl, sym, ap, subst, ◌∙◌, ℕ, ◌≤◌, nat_eq, Bool, true, false, cond, not, List, [], ◌∷◌, ◌++◌, length, map, filter, flat_map, None, is_some, arith}
 use Rattle.std.specs.List.{list_all}
 use Rattle.vt_spec.specs.FileTree.{targets_in}
@@ -171,11 +172,7 @@ module _ (world after : World ℕ) (gained lost : List Inode) (k : ℕ) (inodes 
       by false e = refl
 
   few : (n : ℕ) → times_in n f_last.files.numbers ≤ 1
-  few n = by (is_some (result.inode n)) (times_last n)
-    where
-      by : (b : Bool) → times_in n f_last.files.numbers ≡ cond b 1 0 → times_in n f_last.files.numbers ≤ 1
-      by true e = omega arith
-      by false e = omega arith
+  few n = grind (arith, common_steps, times_last n, times_in n f_last.files.numbers)
 
   counted_swept : IsCounted swept f_last result
   counted_swept = record {

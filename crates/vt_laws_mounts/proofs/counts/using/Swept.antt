@@ -77,15 +77,7 @@ found_changed (first ∷ rest) number new is there =
     by : (b : Bool) → nat_eq new.number first.number ≡ b → (is_among nat_eq number (map (λ f. f.number) rest) ≡ true
         → unwrap_or (find (λ f. nat_eq number f.number) (map (replaced_if_numbered nat_eq new) rest))
         (no_filesystem number) ≡ new) → Found (cond b new first)
-    by true e later = ap (λ b. unwrap_or (cond b (Some new)
-        (find (λ f. nat_eq number f.number) (map (replaced_if_numbered nat_eq new) rest))) (no_filesystem number))
-        (eq-eqb number new.number (sym is))
-    by false e later =
-        let apart : nat_eq number first.number ≡ false = ap (λ k. nat_eq k first.number) (sym is) ∙ e in
-        ap (λ b. unwrap_or (cond b (Some first)
-        (find (λ f. nat_eq number f.number) (map (replaced_if_numbered nat_eq new) rest))) (no_filesystem number)) apart
-        ∙ later (⊎_elim (λ here. absurd (true≢false (sym here ∙ apart))) (λ rest. rest)
-        (or_cases (nat_eq number first.number) (is_among nat_eq number (map (λ f. f.number) rest)) there))
+    by b e later = grind (arith, common_steps, eq-eqb number new.number (sym is))
 
 pub found_other : (filesystems : List (Filesystem ℕ)) (other : ℕ) (new : Filesystem ℕ) → other ≢ new.number
     → unwrap_or (find (λ f. nat_eq other f.number) (map (replaced_if_numbered nat_eq new) filesystems))
@@ -132,28 +124,13 @@ found_is (first ∷ rest) number there = by (nat_eq number first.number) refl (f
 pub found_number : (filesystems : List (Filesystem ℕ)) (number : ℕ)
     → (unwrap_or (find (λ f. nat_eq number f.number) filesystems) (no_filesystem number)).number ≡ number
 found_number [] number = refl
-found_number (first ∷ rest) number = by (nat_eq number first.number) refl (found_number rest number)
-  where
-    by : (b : Bool) → nat_eq number first.number ≡ b
-        → (unwrap_or (find (λ f. nat_eq number f.number) rest) (no_filesystem number)).number ≡ number
-        → (unwrap_or (cond b (Some first) (find (λ f. nat_eq number f.number) rest)) (no_filesystem number)).number
-        ≡ number
-    by true e later = sym (eqb-true number first.number e)
-    by false e later = later
+found_number (first ∷ rest) number = grind (arith, common_steps, eqb-true, found_number rest number)
 
 pub not_found : (filesystems : List (Filesystem ℕ)) (number : ℕ)
     → is_among nat_eq number (map (λ f. f.number) filesystems) ≡ false
     → unwrap_or (find (λ f. nat_eq number f.number) filesystems) (no_filesystem number) ≡ no_filesystem number
 not_found [] number none = refl
-not_found (first ∷ rest) number none = by (nat_eq number first.number) none (not_found rest number)
-  where
-    by : (b : Bool) → (b || is_among nat_eq number (map (λ f. f.number) rest)) ≡ false
-        → (is_among nat_eq number (map (λ f. f.number) rest) ≡ false
-        → unwrap_or (find (λ f. nat_eq number f.number) rest) (no_filesystem number) ≡ no_filesystem number)
-        → unwrap_or (cond b (Some first) (find (λ f. nat_eq number f.number) rest)) (no_filesystem number)
-        ≡ no_filesystem number
-    by true e later = absurd (true≢false e)
-    by false e later = later e
+not_found (first ∷ rest) number none = grind (arith, common_steps, none, true≢false, not_found rest number)
 
 -- a filesystem with counted inodes is there
 pub there_if_some : (searched world : World ℕ) (number : ℕ) (inodes : Inodes ℕ)
@@ -448,11 +425,7 @@ module _ (world : World ℕ) (number : ℕ) (files : FileTree ℕ) (in_use : All
         by false e = refl
 
     few : (n : ℕ) → times_in n swept.numbers ≤ 1
-    few n = by (is_some (inodes.inode n)) (times_left n)
-      where
-        by : (b : Bool) → times_in n swept.numbers ≡ cond b 1 0 → times_in n swept.numbers ≤ 1
-        by true e = omega arith
-        by false e = omega arith
+    few n = grind (arith, common_steps, times_left n, times_in n swept.numbers)
 
     pub counted_done : IsCounted done (with_files old swept) inodes
     counted_done = record {

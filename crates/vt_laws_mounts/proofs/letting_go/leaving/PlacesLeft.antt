@@ -1,5 +1,5 @@
 -- What goes when tasks leave places.
-use Rattle.std.proofs.Common.{arith, ◌≡◌, refl, sym, ap, subst, ◌∙◌, ◌⊎◌, inl, inr, ⊎_elim, ℕ, nat_eq, eqb-true, eq-eqb, Bool, true, false, cond, ◌||◌, ◌&&◌, List, [], ◌∷◌, filter, find, map, true≢false, flat_map, ◌++◌, Some, is_some, unwrap_or, option_to_list}
+use Rattle.std.proofs.Common.{arith, ◌≡◌, refl, sym, ap, subst, ◌∙◌, ◌⊎◌, inl, inr, ⊎_elim, ℕ, nat_eq, eqb-true, eq-eqb, Bool, true, false, cond, ◌||◌, ◌&&◌, List, [], ◌∷◌, filter, map, true≢false, flat_map, ◌++◌, Some, is_some, option_to_list}
 use Rattle.std.proofs.lemmas.Grind.{common_steps}
 use Rattle.std.specs.Prelude.{filter_map}
 use Rattle.std.specs.List.{list_all, list_any}
@@ -38,14 +38,8 @@ pub found_in_filter : (stays : Mount ℕ → Bool) (mounts : List (Mount ℕ)) (
     → ((mount : Mount ℕ) → Among mount mounts → mount.number ≡ number → stays mount ≡ true)
     → mount_in nat_eq (filter stays mounts) number ≡ mount_in nat_eq mounts number
 found_in_filter stays [] number h = refl
-found_in_filter stays (first ∷ rest) number h = by (nat_eq number first.number) refl (stays first) refl
-    (found_in_filter stays rest number (λ mount m e. h mount (inr m) e))
-  where
-    by : (b : Bool) → nat_eq number first.number ≡ b → (c : Bool) → stays first ≡ c
-        → mount_in nat_eq (filter stays rest) number ≡ mount_in nat_eq rest number
-        → mount_in nat_eq (cond c (first ∷ filter stays rest) (filter stays rest)) number
-        ≡ unwrap_or (cond b (Some first) (find (λ x. nat_eq number x.number) rest)) (no_mount number)
-    by b e c f later = grind (arith, common_steps, true≢false, eqb-true)
+found_in_filter stays (first ∷ rest) number h =
+    grind (arith, common_steps, true≢false, eqb-true, found_in_filter stays rest number)
 
 -- a mount in a namespace that is found is there
 pub found_is_there : (mounts : List (Mount ℕ)) (number : ℕ) → is_some (mount_in nat_eq mounts number).namespace ≡ true

@@ -1,12 +1,12 @@
 -- What goes when types of mounts change.
-use Rattle.std.proofs.Common.{arith, ◌≡◌, refl, sym, ap, subst, ◌∙◌, inl, inr, ⊎_elim, ℕ, zero, suc, nat_eq, eqb-true, Bool, true, false, cond, List, [], ◌∷◌, map, true≢false, Option, Some, None, is_some}
+use Rattle.std.proofs.Common.{arith, ◌≡◌, refl, sym, ap, subst, ◌∙◌, inl, inr, ⊎_elim, ℕ, zero, suc, nat_eq, eqb-true, Bool, true, false, cond, List, [], ◌∷◌, map, true≢false, Option, None, is_some}
 use Rattle.std.proofs.lemmas.Grind.{common_steps}
 use Rattle.std.specs.List.{list_any}
 use Rattle.std.proofs.lemmas.Bool.{false_from_ne_true, or_parts, cases_Bool}
 use Rattle.std.proofs.lemmas.List.Folds.{list_any-append}
 use Rattle.vt_spec.specs.Language.Calls.{TypeWord}
-use Rattle.vt_spec.specs.Lists.{Fresh, holds_of, is_among}
-use Rattle.vt_spec.specs.Machine.Mounts.{Location, Mount, Propagation, children, mount_in, numbers_by, root_of, stands_on, tree_from}
+use Rattle.vt_spec.specs.Lists.{Fresh, is_among}
+use Rattle.vt_spec.specs.Machine.Mounts.{Mount, Propagation, children, mount_in, numbers_by, root_of, stands_on, tree_from}
 use Rattle.vt_spec.specs.Machine.Mounts.Propagation.{Private, Shared, Slave, Unbindable}
 use Rattle.vt_spec.specs.Machine.Receives.{heir, inherited, inheriting, is_member_of, lost_a_group, regrouped_by}
 use Rattle.vt_spec.specs.Machine.Settled.{mount_lives, settled}
@@ -51,15 +51,12 @@ tree_attached world stand (suc depth) top is mount m = ⊎_elim (λ e. ap (λ (x
   where
     placed : (child : Mount ℕ) → Among child world.mounts → stands_on nat_eq top.number child ≡ true
         → is_some child.namespace ≡ true
-    placed child n on = ⊎_elim (λ in_one. in_one) (λ out. absurd (true≢false
-        (sym (has_place child.mount_point on) ∙ (nowhere_parts child
-        (passes is_nowhere_or_attached world.mounts stand.nowhere child n) out).0)))
-        (cases_Bool (is_some child.namespace))
-      where
-        has_place : (place : Option (Location ℕ)) → holds_of (λ l. nat_eq top.number l.mount) place ≡ true
-            → is_some place ≡ true
-        has_place None e = absurd (true≢false (sym e))
-        has_place (Some place) e = refl
+    placed child n on = grind (
+      arith,
+      common_steps,
+      passes is_nowhere_or_attached world.mounts stand.nowhere child n,
+      cases_Bool (is_some child.namespace),
+    )
 
 module _ (fresh : Fresh ℕ) (world : World ℕ) (number : ℕ) (word : TypeWord) (recursive : Bool) (in_use : AllInUse world)
     (stand : MountsStand world) (attached : is_attached world number ≡ true) where

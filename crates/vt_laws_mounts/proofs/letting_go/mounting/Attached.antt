@@ -213,11 +213,8 @@ module _ (world : World ℕ) (filesystems : List (Filesystem ℕ)) (new : Copies
       stands : (part : Mount ℕ) (at : Option (Location ℕ)) → mount.mount_point ≡ at
           → stands_at nat_eq (record { mount = part.number; node = place.node }) mount ≡ true
           → mount.mount_point ≡ Some (record { mount = part.number; node = place.node })
-      stands part None e h = absurd (true≢false
-          (sym h ∙ ap (holds_of (λ l. nat_eq part.number l.mount && nat_eq place.node l.node)) e))
-      stands part (Some at) e h =
-          e ∙ ap Some (sym (same_location_is (record { mount = part.number; node = place.node }) at
-          (sym (ap (holds_of (λ l. nat_eq part.number l.mount && nat_eq place.node l.node)) e) ∙ h)))
+      stands part None e h = grind (arith, common_steps, true≢false)
+      stands part (Some at) e h = grind (arith, common_steps, same_location_is)
 
       by : (below : Option (Mount ℕ)) → receiver_stood_on nat_eq tree parts mount ≡ below → (push mount ≡ mount)
           ⊎ ((part : Mount ℕ) × Among part (rest_of parts) ×

@@ -1,7 +1,6 @@
 -- Unmount events in a world that was swept before, or that was not.
 use Rattle.std.proofs.lemmas.Grind.{common_steps}
-use Rattle.std.proofs.Common.{◌≡◌, refl, sym, ap, subst, ◌∙◌, inl, inr, ⊎_elim, ℕ, nat_eq, Bool, true, false, true≢false, cond, List, [], ◌∷◌, filter, find, length, map, Option, Some, None, is_some, arith}
-use Rattle.std.specs.Prelude.{filter_map}
+use Rattle.std.proofs.Common.{◌≡◌, refl, sym, ap, subst, ◌∙◌, ⊎_elim, ℕ, nat_eq, Bool, true, false, true≢false, cond, List, [], ◌∷◌, filter, find, length, map, Option, Some, None, is_some, arith}
 use Rattle.std.proofs.lemmas.Bool.{cases_Bool, or_parts}
 use Rattle.std.proofs.lemmas.List.{length-map}
 use Rattle.vt_spec.specs.Lists.{holds_of, is_among}
@@ -12,7 +11,7 @@ use Rattle.vt_spec.specs.Machine.Mounts.{Location, Mount, Propagation, child_at,
 use Rattle.vt_spec.specs.Machine.Mounts.Propagation.{Private, Shared, Slave, Unbindable}
 use Rattle.vt_spec.specs.Machine.Receives.{groups_up, receivers, receives}
 use Rattle.vt_spec.specs.Machine.Settled.{is_located, mount_lives, settled}
-use Rattle.vt_spec.specs.Machine.World.{World, mount_at, mount_numbered}
+use Rattle.vt_spec.specs.Machine.World.{World, mount_numbered}
 use Rattle.vt_spec.proofs.Found.{filter_alike}
 use Rattle.vt_spec.proofs.Options.{none_from_not_some}
 use Rattle.vt_spec.proofs.Worlds.{filesystems-taken_away, found_or_none, number-mount_in}
@@ -30,12 +29,7 @@ use Rattle.vt_laws_mounts.proofs.letting_go.sweeps.InUse.{one_sweep_is_enough}
 module _ {A : Type 0} (p q : A → Bool) where
   find_less : (xs : List A) → ((x : A) → Among x xs → q x ≡ false → p x ≡ false) → find p (filter q xs) ≡ find p xs
   find_less [] h = refl
-  find_less (y ∷ ys) h = by (q y) refl (find_less ys (λ x m. h x (inr m)))
-    where
-      by : (b : Bool) → q y ≡ b → find p (filter q ys) ≡ find p ys
-          → find p (cond b (y ∷ filter q ys) (filter q ys)) ≡ find p (y ∷ ys)
-      by true e later = ap (λ l. cond (p y) (Some y) l) later
-      by false e later = later ∙ ap (λ b. cond b (Some y) (find p ys)) (sym (h y (inl refl) e))
+  find_less (y ∷ ys) h = grind (arith, common_steps, find_less ys)
 
 -- a mount outside every namespace that is looked for has no mount point
 no_point_outside : (mounts : List (Mount ℕ)) → ((mount : Mount ℕ) → Among mount mounts
@@ -112,10 +106,7 @@ module _ (world : World ℕ) (kept : MountInvariants nat_eq world) where
   goes_from_alike : (mount : Mount ℕ) (place : Location ℕ) → IsAttached world kept place.mount → (shared : Bool)
       → going_from nat_eq swept mount place shared ≡ going_from nat_eq world mount place shared
   goes_from_alike mount place attached false = refl
-  goes_from_alike mount place attached true =
-      λ i. map (λ (gone : Mount ℕ). gone.number) (filter_map (λ receiver. goes_alike place.node receiver i)
-      ((ap (receivers_of nat_eq swept) (same_found world kept place.mount attached)
-      ∙ same_receivers_of (mount_at nat_eq world place)) i))
+  goes_from_alike mount place attached true = grind (arith, common_steps, goes_alike, same_found, same_receivers_of)
 
   goes_alike_at : (mount : Mount ℕ)
       → ((place : Location ℕ) → mount.mount_point ≡ Some place → IsAttached world kept place.mount)

@@ -1,4 +1,5 @@
 -- What the sweep leaves of mounts: those in namespaces stay, with all their groups, and those outside are private.
+use Rattle.std.proofs.lemmas.Grind.{common_steps}
 use Rattle.std.proofs.Common.{◌≡◌, refl, sym, ap, subst, ◌∙◌, ℕ, nat_eq, true, false, cond, not, ◌&&◌, List, ◌≤◌, filter, length, map, true≢false, Option, Some, None, is_some, unwrap_or, arith}
 use Rattle.std.specs.Prelude.{option_to_list}
 use Rattle.std.specs.List.{list_all}
@@ -24,12 +25,8 @@ module _ (world : World ℕ) (kept : MountInvariants nat_eq world) where
   parent : (mount : Mount ℕ) → (place : Location ℕ) → mount.mount_point ≡ Some place
       → (number : ℕ) → Stands nat_eq world number → mount_numbered nat_eq world number ≡ mount
       → mount.namespace ≡ (mount_at nat_eq world place).namespace
-  parent mount place p number (at_root it e) itself =
-      absurd (true≢false (sym (ap is_some (ap (λ (x : Mount ℕ). x.mount_point) itself ∙ p)) ∙ ap is_some e))
-  parent mount place p number (on_parent it below e same rest) itself =
-      let at : below ≡ place = same_Some below place (sym e ∙ ap (λ (x : Mount ℕ). x.mount_point) itself ∙ p) in
-      ap (λ (x : Mount ℕ). x.namespace) (sym itself) ∙ same
-      ∙ ap (λ (l : Location ℕ). (mount_at nat_eq world l).namespace) at
+  parent mount place p number (at_root it e) itself = grind (arith, common_steps, true≢false)
+  parent mount place p number (on_parent it below e same rest) itself = grind (arith, common_steps, same_Some)
 
   pub beside_parent : (mount : Mount ℕ) → Among mount world.mounts → (place : Location ℕ)
       → mount.mount_point ≡ Some place → mount.namespace ≡ (mount_at nat_eq world place).namespace

@@ -68,22 +68,9 @@ module _ (world : World ℕ) (tasks : List (Task ℕ)) (namespaces : List (Names
 
   way_down : (number : ℕ) → Stands nat_eq world number → (place : Location ℕ) → place.mount ≡ number
       → IsAttached place.mount → WayDown place
-  way_down number (at_root it e) place same attached = ends place
-      (cond-None (is_going nat_eq gone place.mount) (mount_in nat_eq world.mounts place.mount).mount_point root)
-      (cond-None (is_going nat_eq gone place.mount) (mount_in nat_eq first_mounts place.mount).mount_point
-      (ap (λ (x : Mount ℕ). x.mount_point) (same_found world kept place.mount attached) ∙ root))
-    where
-      root : (mount_in nat_eq world.mounts place.mount).mount_point ≡ None
-      root = ap (λ n. (mount_in nat_eq world.mounts n).mount_point) same ∙ e
-  way_down number (on_parent it below e beside rest) place same attached = by (is_going nat_eq gone place.mount) refl
-      (way_down below.mount rest below refl
-      (ap is_some (sym beside) ∙ ap (λ n. is_some (mount_in nat_eq world.mounts n).namespace) (sym same) ∙ attached))
-    where
-      point : (mount_in nat_eq world.mounts place.mount).mount_point ≡ Some below
-      point = ap (λ n. (mount_in nat_eq world.mounts n).mount_point) same ∙ e
-
-      by : (b : Bool) → is_going nat_eq gone place.mount ≡ b → WayDown below → WayDown place
-      by b f later = grind (arith, common_steps, ends, goes_on, point, same_found, number_there)
+  way_down number (at_root it e) place same attached = grind (arith, common_steps, same, ends, cond-None, same_found)
+  way_down number (on_parent it below e beside rest) place same attached =
+      grind (arith, common_steps, same, ends, goes_on, same_found, number_there, way_down below.mount rest below refl)
 
   same_left : (place : Location ℕ) → IsAttached place.mount
       → mount_point_left nat_eq swept gone place ≡ mount_point_left nat_eq not_swept gone place
@@ -148,11 +135,8 @@ module _ (world : World ℕ) (tasks : List (Task ℕ)) (namespaces : List (Names
 
   heir_of_master : (group : ℕ) → LivesIn group
       → heir nat_eq before_swept ((settled nat_eq world).master group) ≡ heir nat_eq before (world.master group)
-  heir_of_master group (has_no_master it has e) =
-      ap (heir nat_eq before_swept) (master_kept world kept it has ∙ e) ∙ sym (ap (heir nat_eq before) e)
-  heir_of_master group (has_master it above has e rest) =
-      ap (heir nat_eq before_swept) (master_kept world kept it has ∙ e) ∙ heir_alike above rest
-      ∙ sym (ap (heir nat_eq before) e)
+  heir_of_master group (has_no_master it has e) = grind (arith, common_steps, master_kept)
+  heir_of_master group (has_master it above has e rest) = grind (arith, common_steps, above, master_kept, heir_alike)
 
   abbrev HasLivingSource : Propagation ℕ → Type 0
   HasLivingSource kind = (group : ℕ) → source_of kind ≡ Some group → LivesIn group
@@ -296,9 +280,7 @@ module _ (world : World ℕ) (tasks : List (Task ℕ)) (namespaces : List (Names
   same_master group has =
       let t = one_passes (is_member_of nat_eq group) last_mounts has in
       let old = was t.0 t.1 in
-      ap (λ b. MountingTaken.masters swept gone namespaces b group) hands_alike ∙ masters_alike hands_on group
-      (source_then old.0 old.1 group
-      (member_was hands_on old.0 group (ap (is_member_of nat_eq group) (sym old.2) ∙ t.2)))
+      grind (arith, common_steps, hands_alike, masters_alike, source_then, member_was)
 
   -- What is mounted and located
   mounted_was : (number : ℕ) → is_mounted nat_eq (without_dead_mounts nat_eq once) number ≡ true
@@ -306,9 +288,7 @@ module _ (world : World ℕ) (tasks : List (Task ℕ)) (namespaces : List (Names
   mounted_was number is =
       let t = one_passes (λ (mount : Mount ℕ). nat_eq number mount.filesystem) last_mounts is in
       let old = was t.0 t.1 in
-      any_passes (λ (mount : Mount ℕ). nat_eq number mount.filesystem) first_mounts old.0 (was_first old.0 old.1 old.3)
-      (ap (nat_eq number) (sym (ap (λ (x : Mount ℕ). x.filesystem) old.2
-      ∙ same_filesystem not_swept gone namespaces hands_on old.0)) ∙ t.2)
+      grind (arith, common_steps, any_passes, was_first, same_filesystem)
 
   shows_alike : (number : ℕ) → ((mount : Mount ℕ) → Among mount world.mounts → mount.number ≡ number
       → mount_lives nat_eq once (change mount) ≡ true)

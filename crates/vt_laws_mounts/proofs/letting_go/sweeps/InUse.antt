@@ -13,7 +13,6 @@ use Rattle.vt_laws_mounts.specs.LettingGo.InUse.{AllInUse, FilesystemsInUse, Gro
 use Rattle.vt_laws_mounts.proofs.letting_go.Lists.{Among, all_from_among, all_pass, among-filter, among-flat_map, among-from_flat_map, among-from_map, among-map, among_from_all, any_passes, flat_map_none, one_passes, or_first, among-from_filter, flat_map-filter, flat_map-map, flat_map_alike, is_among_numbers, map_same, or_second, passes}
 use Rattle.vt_laws_mounts.proofs.letting_go.Trees.{unnamed_is_empty}
 use Rattle.std.proofs.lemmas.Bool.{and_parts, or_cases, or_parts, cases_Bool}
-use Rattle.std.proofs.lemmas.List.Folds.{list_any-append}
 use Rattle.vt_spec.proofs.Found.{is_among_left, is_among_right, filter_all}
 
 -- Where all is in use
@@ -234,19 +233,7 @@ module _ (world : World ℕ) where
 
       still : (all : Bool) (number : ℕ) → is_among nat_eq number used ≡ true
           → is_among nat_eq number (used_in nat_eq (settled nat_eq world) (left_by used filesystem all)) ≡ true
-      still all number is = ap (is_among nat_eq number) (same all)
-          ∙ more (filesystem.files.tree.root ∷ (named_in filesystem.files ++ located_in nat_eq living filesystem.number
-          ++ layers_in nat_eq living filesystem.number))
-          (flat_map (objects_of_overlay nat_eq filesystem.number) living.filesystems)
-          (flat_map (objects_of_overlay nat_eq (left_by used filesystem all).number)
-          (settled nat_eq world).filesystems) plain is
-        where
-          more : (front before after : List ℕ) → before ≡ [] → is_among nat_eq number (front ++ before) ≡ true
-              → is_among nat_eq number (front ++ after) ≡ true
-          more front before after none h = ⊎_elim (λ g. is_among_left number front after g)
-              (λ g. absurd (true≢false (sym g ∙ ap (is_among nat_eq number) none)))
-              (or_cases (is_among nat_eq number front) (is_among nat_eq number before)
-              (sym (list_any-append (nat_eq number) front before) ∙ h))
+      still all number is = grind (arith, common_steps, same all)
 
       by : (all : Bool) → list_all (λ number. is_among nat_eq number used) filesystem.files.numbers ≡ all
           → list_all (is_inode_used (settled nat_eq world) (left_by used filesystem all))

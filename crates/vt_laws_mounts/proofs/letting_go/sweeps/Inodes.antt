@@ -8,12 +8,11 @@ use Rattle.vt_spec.specs.Tree.{Node}
 use Rattle.vt_spec.specs.FileTree.{FileTree}
 use Rattle.vt_spec.specs.Lists.{is_among}
 use Rattle.vt_spec.specs.Machine.Locked.{of_overlay, overlay_or}
-use Rattle.vt_spec.specs.Machine.Receives.{has_members}
-use Rattle.vt_spec.specs.Machine.Settled.{filesystem_lives, layers_in, named_in, only_used, only_used_by, only_used_of, real_among, used_in, without_dead_filesystems, without_dead_groups, without_dead_in, without_dead_inodes, without_dead_mounts, objects_of_overlay}
+use Rattle.vt_spec.specs.Machine.Settled.{filesystem_lives, layers_in, named_in, only_used, only_used_by, only_used_of, real_among, used_in, without_dead_filesystems, without_dead_in, without_dead_inodes, without_dead_mounts, objects_of_overlay}
 use Rattle.vt_spec.specs.Machine.World.{Filesystem, Overlay, World, is_overlay, layers_of}
 use Rattle.vt_spec.specs.Machine.Invariants.{ListsNumbers}
 use Rattle.vt_laws_mounts.specs.LettingGo.InUse.{HasTrees, IsListedTree, is_inode_used}
-use Rattle.vt_laws_mounts.specs.LettingGo.OneByOne.{AllGoesOneByOne, Inode, InodesGoOneByOne, IsPlain, is_inode_among, is_used_or_among, let_go_filesystems, let_go_inode, let_go_inode_of, let_go_inodes, let_go_groups}
+use Rattle.vt_laws_mounts.specs.LettingGo.OneByOne.{AllGoesOneByOne, Inode, InodesGoOneByOne, IsPlain, is_inode_among, is_used_or_among, let_go_inode, let_go_inode_of, let_go_inodes}
 use Rattle.vt_laws_mounts.proofs.letting_go.sweeps.InUse.{UnusedAreEmpty, unused_are_empty, no_objects}
 use Rattle.vt_laws_mounts.proofs.letting_go.sweeps.Merged.{named_without}
 use Rattle.vt_laws_mounts.proofs.letting_go.Lists.{Among, flat_map_none, any-filter, among-from_filter, among-from_map, among_from_all, among_numbers, fails, filter_twice, flat_map-map, map_same, none_passes, passes}
@@ -235,27 +234,8 @@ left_of_plain used filesystem numbers plain =
     by : (all : Bool) → list_all (λ number. is_among nat_eq number used) filesystem.files.numbers ≡ all
         → only_used_by nat_eq all used filesystem
         ≡ without_those (λ number. not (is_among nat_eq number used)) filesystem
-    by true e = λ i. record filesystem {
-      files = record {
-        tree = record {
-          root = filesystem.files.tree.root;
-          node = λ number. (node_kept used filesystem.files numbers e number
-              ∙ node number (is_among nat_eq number used)) i;
-        };
-        numbers = (sym (filter_all (λ number. is_among nat_eq number used) filesystem.files.numbers
-            (passes (λ number. is_among nat_eq number used) filesystem.files.numbers e)) ∙ twice) i;
-      };
-    }
-    by false e = λ i. record filesystem {
-      files = record {
-        tree = record {
-          root = filesystem.files.tree.root;
-          node = λ number. node number (is_among nat_eq number used) i;
-        };
-        numbers = twice i;
-      };
-      overlay = no_real used filesystem.overlay plain i;
-    }
+    by true e = grind (arith, common_steps, node, node_kept, numbers, filter_all, passes, twice)
+    by false e = grind (arith, common_steps, node, numbers, twice, no_real)
 
 -- the numbers beside a tree without some
 pub numbers_without : (gone : ℕ → Bool) (filesystem : Filesystem ℕ) → ListsNumbers nat_eq filesystem.files
@@ -362,10 +342,4 @@ all_goes_one_by_one world losers plain trees others =
     let trees_living : HasTrees living = All-filter (filesystem_lives nat_eq mounted)
     (λ filesystem. IsListedTree filesystem.files) world.filesystems trees in
     let inodes = inodes_go_one_by_one living losers.inodes plain_living trees_living others.inodes in
-    ap (without_dead_groups nat_eq) inodes ∙ groups_go_one_by_one (let_go_inodes living losers.inodes) losers.groups
-    (λ group among none. let same = sym inodes in
-    ap (λ w. w.master group) same ∙ others.groups group among
-    (ap (λ w. has_members nat_eq w.mounts group) inodes ∙ none))
-    ∙ ap (λ w. let_go_groups (let_go_inodes w losers.inodes) losers.groups)
-    (filesystems_go_one_by_one mounted losers.filesystems others.filesystems
-    ∙ ap (λ w. let_go_filesystems w losers.filesystems) (mounts_go_one_by_one world losers.mounts others.mounts))
+    grind (arith, common_steps, groups_go_one_by_one, filesystems_go_one_by_one, mounts_go_one_by_one)

@@ -31,16 +31,8 @@ filesystem_is_looked_up world number = by (is_filesystem_used world number) refl
 
     by : (b : Bool) → is_filesystem_used world number ≡ b
         → let_go_filesystem world number ≡ cond b world (without_filesystem world number)
-    by true e = ap (λ filesystems. record world { filesystems = filesystems })
-        (filter_all (λ filesystem. not (nat_eq filesystem.number number)
-        || filesystem_lives nat_eq world filesystem) world.filesystems
-        (λ filesystem m. kept_used (nat_eq filesystem.number number) (filesystem_lives nat_eq world filesystem)
-        (λ same. its_use filesystem same ∙ e)))
-    by false e = ap (λ filesystems. record world { filesystems = filesystems })
-        (filter_alike (λ filesystem. not (nat_eq filesystem.number number) || filesystem_lives nat_eq world filesystem)
-        (λ filesystem. not (nat_eq filesystem.number number)) world.filesystems
-        (λ filesystem m. gone_unused (nat_eq filesystem.number number) (filesystem_lives nat_eq world filesystem)
-        (λ same. its_use filesystem same ∙ e)))
+    by true e = grind (arith, common_steps, filter_all, kept_used, its_use)
+    by false e = grind (arith, common_steps, filter_alike, gone_unused, its_use)
 
 pub inode_is_looked_up : InodeIsLookedUp
 inode_is_looked_up world inode one = by (is_inode_used_in world inode) refl

@@ -40,13 +40,8 @@ module _ (world : World ℕ) (is : IsWorld nat_eq world) where
     where
       by : Stands nat_eq world mount.number → mount_numbered nat_eq world mount.number ≡ mount
           → is_some (mount_at nat_eq world place).namespace ≡ true
-      by (at_root number e) itself =
-          absurd (true≢false (sym (ap is_some p) ∙ sym (ap (λ (x : Mount ℕ). is_some x.mount_point) itself)
-          ∙ ap is_some e))
-      by (on_parent number at e same stands) itself =
-          let it : at ≡ place = same_Some at place (sym e ∙ ap (λ (x : Mount ℕ). x.mount_point) itself ∙ p) in
-          ap (λ l. is_some (mount_at nat_eq world l).namespace) (sym it)
-          ∙ ap is_some (sym same) ∙ ap (λ (x : Mount ℕ). is_some x.namespace) itself ∙ attached mount m (ap is_some p)
+      by (at_root number e) itself = grind (arith, common_steps, true≢false)
+      by (on_parent number at e same stands) itself = grind (arith, common_steps, same, same_Some, attached)
 
 pub mounts_of_worlds_stand : MountsOfWorldsStand
 mounts_of_worlds_stand world is = record {
@@ -139,9 +134,5 @@ worlds_are_settled world is = record {
 }
 
 pub plain_worlds_are_settled : PlainWorldsAreSettled
-plain_worlds_are_settled world is plain = record {
-  in_use = all_in_use world is;
-  plain = plain;
-  trees = worlds_have_trees world is;
-  mounts = mounts_of_worlds_stand world is;
-}
+plain_worlds_are_settled world is plain =
+    grind (arith, common_steps, all_in_use world is, worlds_have_trees world is, mounts_of_worlds_stand world is)

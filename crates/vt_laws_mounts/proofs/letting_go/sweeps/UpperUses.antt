@@ -1,6 +1,6 @@
 -- An inode of an overlay that goes is one use less of its upper inode.
 use Rattle.std.proofs.lemmas.Grind.{common_steps}
-use Rattle.std.proofs.Common.{◌≡◌, refl, sym, ap, ◌∙◌, ℕ, nat_eq, eqb-true, eq-eqb, Bool, true, false, cond, not, ◌&&◌, ◌+◌, List, [], ◌∷◌, filter, map, true≢false, flat_map, ◌++◌, Option, Some, None, option_map, arith}
+use Rattle.std.proofs.Common.{◌≡◌, refl, sym, ap, ◌∙◌, ℕ, nat_eq, eqb-true, eq-eqb, Bool, true, false, cond, not, ◌&&◌, ◌+◌, List, [], ◌∷◌, filter, map, true≢false, flat_map, ◌++◌, Option, Some, option_map, arith}
 use Rattle.std.specs.Prelude.{filter_map}
 use Rattle.vt_spec.specs.Lists.{holds_of}
 use Rattle.vt_spec.specs.Machine.Locked.{of_overlay, overlay_or}
@@ -29,16 +29,9 @@ module _ {A B : Type 0} where
   times_one : (test : B → Bool) (g : A → List B) (front back : List A) (x y : A) (less : ℕ)
       → times test (g x) ≡ times test (g y) + less
       → times test (flat_map g (front ++ (x ∷ back))) ≡ times test (flat_map g (front ++ (y ∷ back))) + less
-  times_one test g [] back x y less e = grind (
-    arith,
-    common_steps,
-    times_append test (g x) (flat_map g back),
-    times_append test (g y) (flat_map g back),
-  )
-  times_one test g (z ∷ front) back x y less e = times_append test (g z) (flat_map g (front ++ (x ∷ back)))
-      ∙ ap (λ n. times test (g z) + n) (times_one test g front back x y less e)
-      ∙ sym (add_assoc (times test (g z)) (times test (flat_map g (front ++ (y ∷ back)))) less)
-      ∙ ap (λ n. n + less) (sym (times_append test (g z) (flat_map g (front ++ (y ∷ back)))))
+  times_one test g [] back x y less e = grind (arith, common_steps, times_append)
+  times_one test g (z ∷ front) back x y less e =
+      grind (arith, common_steps, times_append, add_assoc, times_one test g front back x y less e)
 
 -- upper objects, with and without one inode
 module _ (overlay : Overlay ℕ) (inode object number : ℕ) (upper : overlay.real inode ≡ Some (Upper object)) where
@@ -93,12 +86,7 @@ one_upper_use_less world front back merged overlay layer inode object all is upp
     over a b c d = omega arith
 
     layers_gone : of_overlay [] layers_of merged ≡ of_overlay [] layers_of gone
-    layers_gone = by merged.overlay
-      where
-        by : (o : Option (Overlay ℕ)) → overlay_or [] layers_of o
-            ≡ overlay_or [] layers_of (option_map (without_real inode) o)
-        by None = refl
-        by (Some x) = refl
+    layers_gone = cc
 
     layers : layers_in nat_eq world filesystem.number ≡ layers_in nat_eq later filesystem.number
     layers = ap (λ list. map (λ l. l.directory) (filter (λ l. nat_eq filesystem.number l.filesystem) list))

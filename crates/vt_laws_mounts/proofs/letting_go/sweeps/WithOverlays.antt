@@ -6,14 +6,13 @@ use Rattle.std.specs.List.{list_all}
 use Rattle.std.proofs.lemmas.Bool.{and_parts, not-true}
 use Rattle.std.proofs.lemmas.List.Elements.{All-filter}
 use Rattle.std.proofs.lemmas.List.Folds.{list_any-append}
-use Rattle.vt_spec.specs.Lists.{holds_of, is_among}
+use Rattle.vt_spec.specs.Lists.{is_among}
 use Rattle.vt_spec.specs.Machine.Locked.{of_overlay, overlay_or}
-use Rattle.vt_spec.specs.Machine.Receives.{has_members}
-use Rattle.vt_spec.specs.Machine.Settled.{filesystem_lives, layers_in, objects_of_overlay, only_used, used_in, without_dead_filesystems, without_dead_groups, without_dead_in, without_dead_inodes, without_dead_mounts}
+use Rattle.vt_spec.specs.Machine.Settled.{filesystem_lives, layers_in, objects_of_overlay, only_used, used_in, without_dead_filesystems, without_dead_in, without_dead_inodes, without_dead_mounts}
 use Rattle.vt_spec.specs.Machine.World.{Filesystem, Layer, Overlay, World, is_overlay, layers_of, upper_object}
 use Rattle.vt_laws_mounts.specs.LettingGo.InUse.{HasTrees, IsListedTree, UppersArePlain, has_upper_in, is_inode_used}
-use Rattle.vt_laws_mounts.specs.LettingGo.OneByOne.{Inode, InodesInUseBut, is_inode_among, is_used_or_among, let_go_filesystems, let_go_groups}
-use Rattle.vt_laws_mounts.specs.LettingGo.Overlays.{AllInodesGoOneByOne, MergedGoOneByOne, RealsAreThere, WithOverlaysAllGoes, is_plain, let_go_all_inodes, let_go_plain, uppers_in, uppers_of, uppers_of_inode, uppers_of_inode_in}
+use Rattle.vt_laws_mounts.specs.LettingGo.OneByOne.{Inode, InodesInUseBut, is_inode_among, is_used_or_among}
+use Rattle.vt_laws_mounts.specs.LettingGo.Overlays.{AllInodesGoOneByOne, MergedGoOneByOne, RealsAreThere, WithOverlaysAllGoes, is_plain, let_go_plain, uppers_in, uppers_of, uppers_of_inode, uppers_of_inode_in}
 use Rattle.vt_laws_mounts.proofs.letting_go.sweeps.InUse.{layers-left, no_objects, no_upper_objects, overlay-left, unused_are_empty}
 use Rattle.vt_laws_mounts.proofs.letting_go.Lists.{Among, all_from_among, all_pass, among-filter, among-filter_map, among-flat_map, among-from_filter, among-from_filter_map, among-from_flat_map, among-from_map, among-map, among_from_all, among_numbers, any_passes, flat_map-map, is_among_numbers, one_passes, passes}
 use Rattle.vt_laws_mounts.proofs.letting_go.sweeps.Merged.{HasReals, left_of, reals_without, without_all}
@@ -38,8 +37,7 @@ overlays_apart world plain f g m is n are gone =
     let none = among_from_all (λ other. has_upper_in f.number other ≡ false) world.filesystems
     (among_from_all (λ x. is_overlay x ≡ true → All (λ other. has_upper_in x.number other
     ≡ false) world.filesystems) world.filesystems plain f m is) g n in
-    no_upper_objects world f.number (without_all gone g) (upper_without f.number gone g ∙ none)
-    ∙ sym (no_upper_objects world f.number g none)
+    grind (arith, common_steps, no_upper_objects, without_all, upper_without)
 
 -- no plain tree has an object
 plain_apart : (world : World ℕ) → Apart is_plain plain_without world
@@ -79,11 +77,7 @@ object_there number object g overlay layer e d c k m r = subst (λ l. Among obje
     (among-filter_map (λ n. upper_object (overlay.real n)) g.files.numbers k object m r)
   where
     here : objects_of_overlay nat_eq number g ≡ filter_map (λ n. upper_object (overlay.real n)) g.files.numbers
-    here = ap (overlay_or [] (λ o. cond (holds_of (λ l. nat_eq number l.filesystem) o.upper)
-        (filter_map (λ n. upper_object (o.real n)) g.files.numbers) [])) e
-        ∙ ap (λ u. cond (holds_of (λ l. nat_eq number l.filesystem) u)
-        (filter_map (λ n. upper_object (overlay.real n)) g.files.numbers) []) d
-        ∙ ap (λ b. cond b (filter_map (λ n. upper_object (overlay.real n)) g.files.numbers) []) c
+    here = cc
 
 -- the upper inode of an inode that is looked at is looked at
 upper_looked_at : (world : World ℕ) (losers : List Inode) (number object k : ℕ) (g : Filesystem ℕ)
@@ -131,11 +125,7 @@ module _ (world : World ℕ) (losers : List Inode) (trees : HasTrees world) (rea
 
   -- a plain tree is as it was
   plain_was : (f : Filesystem ℕ) → Among f after.filesystems → is_plain f ≡ true → Among f world.filesystems
-  plain_was f m is =
-      let from = among-from_map first world.filesystems f m in
-      let plain : is_overlay from.0 ≡ false =
-      sym (overlay_first from.0) ∙ ap is_overlay (sym from.2) ∙ not-true (is_overlay f) is in
-      subst (λ x. Among x world.filesystems) (sym (from.2 ∙ ap (λ b. only_used nat_eq world b from.0) plain)) from.1
+  plain_was f m is = grind (arith, common_steps, among-from_map first world.filesystems f m, not-true (is_overlay f) is)
 
   -- an upper object is one still, or is looked at
   object_left : (number object : ℕ) → Among object (flat_map (objects_of_overlay nat_eq number) world.filesystems)
@@ -230,10 +220,4 @@ with_overlays_all_goes world losers trees plain reals others =
     → All (λ g. has_upper_in x.number g ≡ false) world.filesystems) world.filesystems plain f
     (among-from_filter (filesystem_lives nat_eq mounted) world.filesystems f m).0 is)) in
     let inodes = all_inodes_go_one_by_one living losers.inodes trees_living plain_living reals_living others.inodes in
-    ap (without_dead_groups nat_eq) inodes ∙ groups_go_one_by_one (let_go_all_inodes living losers.inodes) losers.groups
-    (λ group among none. let same = sym inodes in
-    ap (λ w. w.master group) same ∙ others.groups group among
-    (ap (λ w. has_members nat_eq w.mounts group) inodes ∙ none))
-    ∙ ap (λ w. let_go_groups (let_go_all_inodes w losers.inodes) losers.groups)
-    (filesystems_go_one_by_one mounted losers.filesystems others.filesystems
-    ∙ ap (λ w. let_go_filesystems w losers.filesystems) (mounts_go_one_by_one world losers.mounts others.mounts))
+    grind (arith, common_steps, groups_go_one_by_one, filesystems_go_one_by_one, mounts_go_one_by_one)

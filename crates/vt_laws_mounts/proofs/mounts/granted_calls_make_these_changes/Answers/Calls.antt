@@ -156,9 +156,7 @@ module _ (fresh : Fresh ℕ) (world : World ℕ) (task : Task ℕ) where
       → (permit : Permit ℕ) → Makes (Rename old new) world.mounts permit
   one_object_made old new from to e f same permit (keeps_names _ _ one two names as_one passed) = refl
   one_object_made old new from to e f same permit (renames _ _ one two names another passed) =
-      let ends = same_names old new from to one two e f names in
-      absurd (true≢false (sym same
-      ∙ (λ i. is_one_object nat_eq looks (object_there (sym ends.0 i)) (sym ends.1 i).object) ∙ another))
+      grind (arith, common_steps, same_names, true≢false)
 
 pub bind_binds : BindBinds
 bind_binds fresh world name task source path recursive from here e f =

@@ -1,5 +1,5 @@
 -- The list of mounts after an unshare.
-use Rattle.std.proofs.Common.{arith, ◌≡◌, refl, sym, ap, ◌∙◌, List, [], None, eq-eqb, eqb-true, true≢false, Option, Some, cond, flat_map, map, nat_eq, option_map, unwrap_or, ℕ, ◌+◌, ◌∷◌, inl, inr}
+use Rattle.std.proofs.Common.{arith, ◌≡◌, refl, sym, ap, ◌∙◌, List, [], None, eq-eqb, eqb-true, true≢false, Option, Some, flat_map, map, nat_eq, option_map, unwrap_or, ℕ, ◌+◌, ◌∷◌, inl, inr}
 use Rattle.std.proofs.lemmas.Grind.{common_steps}
 use Rattle.std.proofs.lemmas.List.Folds.{flat_map-map}
 use Rattle.vt_spec.proofs.Lists.{Among, among-filter, among-from_filter}
@@ -37,12 +37,8 @@ new_place : (new : ℕ → ℕ) (copy : Mount ℕ → Mount ℕ) → ((mount : M
     → index_from (nat_eq (new number)) k (map (λ (x : Mount ℕ). x.number) (map copy mounts))
     ≡ index_from (nat_eq number) k (map (λ (x : Mount ℕ). x.number) mounts)
 new_place new copy numbers number k [] same = refl
-new_place new copy numbers number k (mount ∷ rest) same = ap (λ n. cond (nat_eq (new number) n) (Some k)
-    (index_from (nat_eq (new number)) (k + 1) (map (λ (x : Mount ℕ). x.number) (map copy rest)))) (numbers mount)
-    ∙ ap (λ b. cond b (Some k)
-    (index_from (nat_eq (new number)) (k + 1) (map (λ (x : Mount ℕ). x.number) (map copy rest)))) (same mount
-    (inl refl)) ∙ ap (cond (nat_eq number mount.number) (Some k))
-    (new_place new copy numbers number (k + 1) rest (λ other m. same other (inr m)))
+new_place new copy numbers number k (mount ∷ rest) same =
+    grind (arith, common_steps, new_place new copy numbers number (k + 1) rest)
 
 module _ (world : World ℕ) (fresh : Fresh ℕ) (task : Task ℕ) (serves : Serves nat_eq world fresh)
     (mounts : MountInvariants nat_eq world) where

@@ -1,5 +1,6 @@
 -- An unmount of a mount that was attached: the others are as they were before.
-use Rattle.std.proofs.Common.{◌≡◌, refl, sym, ap, subst, ◌∙◌, true, false, nat_eq, ℕ, List, None, Option, Some, [], filter, flat_map, inl, inr, is_some, map, true≢false, ⊎_elim, ◌++◌, ◌∷◌, ◌⊎◌, eqb-true}
+use Rattle.std.proofs.Common.{arith, ◌≡◌, refl, sym, ap, subst, ◌∙◌, true, false, nat_eq, ℕ, List, None, Option, Some, [], filter, flat_map, inl, inr, is_some, map, true≢false, ⊎_elim, ◌++◌, ◌∷◌, ◌⊎◌, eqb-true}
+use Rattle.std.proofs.lemmas.Grind.{common_steps}
 use Rattle.std.specs.Prelude.{Contains}
 use Rattle.std.proofs.lemmas.Bool.{false_from_ne_true}
 use Rattle.std.proofs.lemmas.Option.{same_Some}
@@ -221,9 +222,7 @@ module _ (world : World ℕ) (fresh : Fresh ℕ) (place : Location ℕ) (first :
       let shared : (mount_numbered nat_eq world member.0.number).propagation ≡ Shared group =
       ap (λ (x : Mount ℕ). x.propagation) (found_itself world.mounts can.one_number member.0 member.1)
       ∙ member_shared group member.0 member.2 in
-      any_from_among (is_member_of nat_eq group) undone.mounts (mount_left after gone member.0.number)
-      (left_among member.0.number is) (shared_member group (mount_left after gone member.0.number)
-      (type_stays member.0.number is (ap (has_its_master undone) shared) ∙ shared))
+      grind (arith, common_steps, any_from_among, left_among, shared_member, type_stays)
 
   master_there : (number : ℕ) → is_mount world number ≡ true
       → has_its_master undone (mount_numbered nat_eq world number).propagation ≡ true
@@ -255,15 +254,7 @@ module _ (world : World ℕ) (fresh : Fresh ℕ) (place : Location ℕ) (first :
   has_its_record_back number is =
       let k = what_stays_keeps after gone number (stays number is) in
       let same = kept number is in
-      λ i. record {
-        number = (k.number ∙ ap (λ (x : Mount ℕ). x.number) same) i;
-        namespace = (k.namespace ∙ ap (λ (x : Mount ℕ). x.namespace) same) i;
-        mount_point = place_stays number is i;
-        filesystem = (k.filesystem ∙ ap (λ (x : Mount ℕ). x.filesystem) same) i;
-        root = (k.root ∙ ap (λ (x : Mount ℕ). x.root) same) i;
-        flags = (k.flags ∙ ap (λ (x : Mount ℕ). x.flags) same) i;
-        propagation = type_stays number is (master_there number is) i;
-      }
+      grind (arith, common_steps, place_stays, type_stays, master_there)
 
   -- All copies go
   part_later : (part : Mount ℕ) → IsPart it part → Among part after.mounts

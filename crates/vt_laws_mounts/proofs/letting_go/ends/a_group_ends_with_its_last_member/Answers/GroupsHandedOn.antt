@@ -1,14 +1,14 @@
 -- A group that loses its last member hands its slaves on.
-use Rattle.std.proofs.Common.{arith, ◌≡◌, refl, sym, ap, ◌∙◌, ℕ, suc, nat_eq, eqb-true, eq-eqb, Bool, true, false, cond, ◌||◌, find, length, true≢false, Option, Some, None, option_to_list}
+use Rattle.std.proofs.Common.{arith, ◌≡◌, refl, ap, ◌∙◌, ℕ, suc, nat_eq, eqb-true, eq-eqb, Bool, true, false, cond, ◌||◌, find, length, true≢false, Option, Some, None, option_to_list}
 use Rattle.std.proofs.lemmas.Grind.{common_steps}
 use Rattle.std.specs.List.{list_all, list_any}
 use Rattle.std.proofs.lemmas.Bool.{and_parts, or_parts, cases_Bool}
 use Rattle.vt_spec.specs.Lists.{chain}
 use Rattle.vt_spec.specs.Machine.Mounts.{Propagation, source_of}
 use Rattle.vt_spec.specs.Machine.Mounts.Propagation.{Private, Shared, Slave, Unbindable}
-use Rattle.vt_spec.specs.Machine.Receives.{has_members, heir, inherited, inheriting, is_lost_group, lost_a_group, regrouped, regrouped_by}
+use Rattle.vt_spec.specs.Machine.Receives.{has_members, heir, inherited, is_lost_group, lost_a_group, regrouped, regrouped_by}
 use Rattle.vt_spec.specs.Machine.World.{World}
-use Rattle.vt_laws_mounts.specs.LettingGo.Groups.{GroupsLiveBut, NoGroupIsHandedOn, OneGroupIsHandedOn, hand_on, handed_on, is_group_or_lives, master_handed_on, mount_handed_on}
+use Rattle.vt_laws_mounts.specs.LettingGo.Groups.{GroupsLiveBut, NoGroupIsHandedOn, OneGroupIsHandedOn, hand_on, handed_on, is_group_or_lives, master_handed_on}
 use Rattle.vt_laws_mounts.proofs.letting_go.Lists.{fails, map_same, one_passes, or_second, passes}
 use Rattle.vt_spec.proofs.Found.{find-chain_start}
 use Rattle.vt_spec.proofs.Lists.{map_alike}
@@ -61,20 +61,8 @@ module _ (world : World ℕ) (group : ℕ) (live : GroupsLiveBut group world)
     where
       by : (b : Bool) → list_any (lost_a_group nat_eq world) world.mounts ≡ b
           → regrouped_by nat_eq b world ≡ hand_on world group
-      by true e = λ i. record world {
-        mounts = map_alike (inheriting nat_eq world) (mount_handed_on group (world.master group)) world.mounts
-            (λ mount m. ap (λ kind. record mount { propagation = kind }) (inherited_handed_on mount.propagation
-            (passes (λ x. list_all (is_group_or_lives world group)
-            (option_to_list (source_of x.propagation))) world.mounts live.of_mounts mount m))) i;
-        master = λ other. heir_handed_on (world.master other) (live.of_groups other) i;
-      }
-      by false e = λ i. record world {
-        mounts = sym (map_same (mount_handed_on group (world.master group)) world.mounts
-            (λ mount m. ap (λ kind. record mount { propagation = kind }) (no_slave mount.propagation
-            (or_parts (is_lost_group nat_eq world (source_of mount.propagation)) _
-            (fails (lost_a_group nat_eq world) world.mounts e mount m)).0))) i;
-        master = λ other. sym (no_lower e other) i;
-      }
+      by true e = grind (arith, common_steps, map_alike, inherited_handed_on, passes, heir_handed_on)
+      by false e = grind (arith, common_steps, map_same, no_slave, or_parts, fails, no_lower)
 
 pub one_group_is_handed_on : OneGroupIsHandedOn
 one_group_is_handed_on world group live empty = one_handed_on world group live empty
